@@ -33,6 +33,7 @@ pub struct GoCommand<A: Allocator> {
     ranks: Ranks,
     walk: PvWalk,
     bestmove: HeldBestmove,
+    best_moves: [Option<Move>; 2],
     search: Box<Search, A>,
 }
 
@@ -85,8 +86,21 @@ fn first_root_move(question: &Question, first: Move) -> Option<Move>
     Some(first)
 }
 
-/// Begins with the first search of a depth.
-fn search_first(question: &Question, first: Move, depths_done: u8, search: &mut Search)
+/// The second of these moves, and the first move of a pv.
+fn and_first_of(moves: &[Option<Move>; 2], walk: &PvWalk) -> [Option<Move>; 2]
+    requires whole { walk.now.plies ≡ 0 }
+{
+    [moves[1], move_to_play(walk.moves())]
+}
+
+/// Begins with the first search of a depth. With one line its root visits these moves first.
+fn search_first(
+    question: &Question,
+    first: Move,
+    depths_done: u8,
+    best_moves: &[Option<Move>; 2],
+    search: &mut Search,
+)
     requires question { IsQuestionInRange question.now }
     requires first { IsFirst question.now.position first }
     requires more { depths_done < question.now.depth }
@@ -94,6 +108,7 @@ fn search_first(question: &Question, first: Move, depths_done: u8, search: &mut 
 {
     if question.multi_pv == 1 {
         search.restart_below(&question.position, question.eval, depths_done + 1, INFINITY);
+        search.advise([best_moves[0], best_moves[1]]);
         return;
     }
     first.validity();
@@ -221,7 +236,7 @@ impl<A: Allocator> GoCommand<A> {
         let asked = question;
         first.validity();
         let mut search = Search::start(&asked.position, asked.eval, 0);
-        search_first(&asked, first, 0, &mut search);
+        search_first(&asked, first, 0, &[None, None], &mut search);
         let search = Box::new(alloc, search)?;
         let bestmove = HeldBestmove {
             best: None,
@@ -240,6 +255,7 @@ impl<A: Allocator> GoCommand<A> {
             ranks,
             walk,
             bestmove,
+            best_moves: [None, None],
             search,
         })
     }
@@ -360,7 +376,8 @@ impl<A: Allocator> GoCommand<A> {
         self.lines_done = lines_done;
     }
 
-    /// Continues with the next depth.
+    /// Continues with the next depth. With one line its root visits first the best moves of the two
+    /// depths before.
     fn next_depth(&mut self)
         requires whole { is_searching self.old ≡ false }
         requires more { self.old.depths_done + 1 ≢ self.old.question.depth }
@@ -374,7 +391,14 @@ impl<A: Allocator> GoCommand<A> {
         let root_move = first_root_move(&asked, first);
         let walk = PvWalk::new(&asked.position, asked.eval, depths_done + 1);
         let ranks = Ranks::new(asked.multi_pv as usize);
-        search_first(&asked, first, depths_done, &mut self.search);
+        self.best_moves = and_first_of(&self.best_moves, &self.walk);
+        search_first(
+            &asked,
+            first,
+            depths_done,
+            &self.best_moves,
+            &mut self.search,
+        );
         self.walk = walk;
         self.ranks = ranks;
         self.root_move = root_move;

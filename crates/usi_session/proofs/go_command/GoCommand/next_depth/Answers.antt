@@ -6,6 +6,12 @@ use Rattle.usi_session.proofs.Reports.{reported_depth}
 use Rattle.usi_session.proofs.NextSearch.{begun, next_depth_cost, whole_line, IsWholeLine}
 use Rattle.usi_session.proofs.go_command.GoCommand.next_depth.Goals as goal
 
+pub and_first_of-self-inside-requires : goal.and_first_of-self-inside-requires
+and_first_of-self-inside-requires g c =
+    let s = c.self.inside in
+    let w : IsWholeLine s.question s.depths_done s.lines_done s.root_move s.ranks s.walk s.bestmove = whole_line s.question s.depths_done s.lines_done s.root_move s.ranks s.walk s.bestmove s.search.value c.self.invariant.at_depth (ap is_searching c.self.view_is ∙ c.requires.whole) in
+    record { whole = w.plies_is }
+
 pub invariant_of-self : goal.invariant_of-self
 invariant_of-self g c =
     let s = c.self.inside in
