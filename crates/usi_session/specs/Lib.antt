@@ -9,3 +9,4 @@ pub mod RunningGo
 pub mod Walked
 pub mod Due
 pub mod WholeLines
+pub mod Numbers

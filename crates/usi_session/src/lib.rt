@@ -3,6 +3,7 @@
 
 mod answer;
 mod go_command;
+mod laws;
 mod limits;
 mod options;
 mod position_command;
@@ -13,5 +14,6 @@ mod session;
 mod state;
 mod text;
 
+pub use laws::numbers;
 pub use limits::{CHUNK_MAX, QUEUE_FULL};
 pub use session::{Session, SessionFault};
