@@ -1,5 +1,5 @@
-//! The front end of a session, as whose calls come in one order: what it sends is read, and what it takes is written
-//! and flushed.
+//! The front end of a session: what it sends is read, what it takes is written and flushed, and its
+//! calls come in one order.
 
 ghost use Rattle.std.specs.Prelude.{None};
 ghost use Rattle.usi_stdio.specs.Calls.{Report, nothing_reported, Reads, Writes, Flushes};

@@ -148,7 +148,8 @@ fn answer_line<A: Allocator + Copy, M: Memo, T: FrontEnd>(
     requires most { length line.now ≤ CHUNK_MAX }
     requires one { IsOneLine line.now }
     ensures ok { OnOk result
-        (Answers session.old session.new line.now (T.report front_end.old) (T.report front_end.new)) }
+        (Answers session.old session.new line.now
+        (T.report front_end.old) (T.report front_end.new)) }
     ensures err { IfErr result
         (SaysPrefixOfDue (T.report front_end.old) (T.report front_end.new) session.old line.now) }
 {
@@ -168,7 +169,8 @@ fn answer_chunk<A: Allocator + Copy, M: Memo, T: FrontEnd>(
     requires empty { session.old.queued ≡ [] }
     requires most { length chunk.now ≤ CHUNK_MAX }
     ensures ok { OnOk result
-        (Answers session.old session.new chunk.now (T.report front_end.old) (T.report front_end.new)) }
+        (Answers session.old session.new chunk.now
+        (T.report front_end.old) (T.report front_end.new)) }
     ensures err { IfErr result
         (SaysPrefix (T.report front_end.old) (T.report front_end.new) (due session.old chunk.now)) }
 {
