@@ -470,7 +470,9 @@ fn is_threat(p: &Position, from: Square, target: Square) -> bool {
         && taken.color == p.side()
         && !piece.role.is_king()
         && p.reaches(from, target)
-        && !piece.role.is_immobile(piece.color, target.rank().saturating_sub(1))
+        && !piece
+            .role
+            .is_immobile(piece.color, target.rank().saturating_sub(1))
         && !is_on_a_line_with_king(p, piece.color, from)
 }
 
