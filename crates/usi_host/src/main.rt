@@ -135,10 +135,10 @@ fn run_socket(
         return Err(ServeFault::ReadFailed);
     };
     let mut host = Host::new(rt.alloc(), slots, entries, hasher)?;
-    let mut wire = bound(rt, socket)?;
     let Ok(mut connections) = Loop::new(rt.alloc(), slice) else {
         return Err(ServeFault::OutOfMemory);
     };
+    let mut wire = bound(rt, socket)?;
     serve(&mut host, &mut connections, &mut wire, turns)?;
     Ok(())
 }
