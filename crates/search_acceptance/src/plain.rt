@@ -579,7 +579,7 @@ fn far_answer(depth: u8, alpha: i32, beta: i32) -> Option<Known> {
 
 /// The position after the legal move of a code.
 fn after(alloc: Global, p: &Position, code: Option<u16>) -> Result<Option<Position>, AllocError> {
-    for branch in branches_of(alloc, p, None)?.as_slice() {
+    for branch in branches_of(alloc, p, [None; 6])?.as_slice() {
         if code == Some(branch.code) {
             return Ok(Some(branch.position));
         }

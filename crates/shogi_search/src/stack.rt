@@ -207,7 +207,7 @@ impl Stack {
         ensures capacity { M.capacity memo.new ≡ M.capacity memo.old }
     {
         let root = &self.frames[0];
-        if root.depth < LINE_DEPTH_MIN {
+        if root.depth < LINE_DEPTH_MIN || !root.is_next() {
             return;
         }
         let mut node = root.node;

@@ -32,6 +32,18 @@ fn is_held<S: Duplex, A: Allocator + Copy>(places: &[Option<Peer<S, A>>], number
     }
 }
 
+/// Whether a connection is held under this number of which nothing is kept, and whose stream has said
+/// that it has nothing.
+pub fn is_quiet<S: Duplex, A: Allocator + Copy>(
+    places: &[Option<Peer<S, A>>],
+    number: u64,
+) -> bool {
+    match places.get(place_of(number)) {
+        Some(Some(peer)) => peer.number == number && !peer.may_give && peer.kept.is_empty(),
+        _ => false,
+    }
+}
+
 /// Takes the connection of this number out of its place.
 pub fn take_out<S: Duplex, A: Allocator + Copy>(
     places: &mut Vec<Option<Peer<S, A>>, A>,

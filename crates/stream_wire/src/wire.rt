@@ -10,7 +10,7 @@ ghost use Rattle.stream_wire.specs.declared.peer.TheConstants.{PLACES};
 
 use crate::listener::{Listener, Ready};
 use crate::peer::{PLACES, Peer};
-use crate::places::{free_place, number_at, put, take_out, wake};
+use crate::places::{free_place, is_quiet, number_at, put, take_out, wake};
 use std::alloc::Allocator;
 use std::io;
 use std::io::ErrorKind;
@@ -167,6 +167,27 @@ impl<L: Listener, A: Allocator + Copy> StreamWire<L, A> {
         }
         accepted
     }
+
+    /// Reads from the connection of this number, where it may have something.
+    fn read_from(&mut self, number: u64, buf: &mut [u8]) -> Result<Got, WireFault>
+        ensures bound { self.new.next ≡ self.old.next }
+        ensures read { Reads
+            (⟦<StreamWire<L, A> as Wire>⟧.report self.old)
+            (⟦<StreamWire<L, A> as Wire>⟧.report self.new)
+            number result buf.new }
+        ensures line { IsOneLine (bytes_read result buf.new) }
+        ensures cause { HasCause self.old.failed self.new.failed result }
+        ensures waits { L.waits self.new.listener ≡ L.waits self.old.listener }
+    {
+        let Some(mut peer) = take_out(&mut self.places, number) else {
+            return self.answer(number, Err(WireFault::Device));
+        };
+        let got = peer.read(self.alloc, buf);
+        self.has_more = self.has_more | !peer.kept.is_empty();
+        self.is_unsure = self.is_unsure | (peer.may_give && matches!(got, Ok(Got::Nothing)));
+        put(&mut self.places, peer);
+        self.answer(number, got)
+    }
 }
 
 impl<L: Listener, A: Allocator + Copy> Wire for StreamWire<L, A> {
@@ -207,14 +228,10 @@ impl<L: Listener, A: Allocator + Copy> Wire for StreamWire<L, A> {
         ensures cause { HasCause self.old.failed self.new.failed result }
         ensures waits { L.waits self.new.listener ≡ L.waits self.old.listener }
     {
-        let Some(mut peer) = take_out(&mut self.places, number) else {
-            return self.answer(number, Err(WireFault::Device));
-        };
-        let got = peer.read(self.alloc, buf);
-        self.has_more = self.has_more | !peer.kept.is_empty();
-        self.is_unsure = self.is_unsure | (peer.may_give && matches!(got, Ok(Got::Nothing)));
-        put(&mut self.places, peer);
-        self.answer(number, got)
+        if is_quiet(self.places.as_slice(), number) {
+            return Ok(Got::Nothing);
+        }
+        self.read_from(number, buf)
     }
 
     fn write(&mut self, number: u64, buf: &[u8]) -> Result<usize, WireFault>
