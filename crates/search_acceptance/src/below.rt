@@ -238,6 +238,20 @@ fn steps_of_one_search_after_another(rt: HostRuntime) -> Result<(), Fail> {
     Ok(())
 }
 
+// The code of a move, where there is one.
+fn code_of(m: &Option<Move>) -> Option<u16> {
+    match m {
+        Some(m) => Some(m.code()),
+        None => None,
+    }
+}
+
+// Advises both of the same moves.
+fn advise(search: &mut Search, notes: &mut Notes, best_moves: &[Option<Move>; 2]) {
+    search.advise([best_moves[0], best_moves[1]]);
+    notes.advised = [code_of(&best_moves[0]), code_of(&best_moves[1])];
+}
+
 // One search in the room of another, each a ply deeper, with the best moves of the two before to visit
 // first, as a `go` makes them: each takes the steps and the calls of the plain one.
 fn assert_deeper<M: Memo + Drop>(
@@ -253,16 +267,14 @@ fn assert_deeper<M: Memo + Drop>(
     let mut recorder = Recorder::sparing(alloc, memo);
     let mut search = Search::start(p, Eval::Plain, 0);
     let mut steps: u64 = 0;
-    let (mut before_last, mut last): (Option<Move>, Option<Move>) = (None, None);
+    let mut best_moves = [None; 2];
     for depth in 1..=deepest {
         search.restart(p, Eval::Plain, depth);
-        search.advise([before_last, last]);
-        notes.advised = [before_last.map(|m| m.code()), last.map(|m| m.code())];
+        advise(&mut search, &mut notes, &best_moves);
         let found = search.advance(&mut recorder, u64::MAX).ok_or("an end")?;
         steps = steps.saturating_add(found.steps);
         let plain = search_on(alloc, p, Eval::Plain, depth, INFINITY, &mut notes)?;
-        before_last = last;
-        last = found.best;
+        best_moves = [best_moves[1], found.best];
         holds!(*rt; plain == Some((found.value, found.best.map(|m| m.code()))), depth);
         same!(*rt; steps, notes.steps, depth);
         same!(*rt; recorder.calls().len(), notes.calls, depth);

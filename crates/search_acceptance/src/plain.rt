@@ -38,7 +38,7 @@ pub struct Notes {
     replies: [Option<u16>; 17],
     /// The codes of the moves that cut off the last nodes so many plies from the root, from depth 3 on,
     /// the last one first.
-    killers: [[Option<u16>; 4]; 17],
+    killers: [Option<u16>; 68],
     /// The codes of moves that the root visits first.
     pub advised: [Option<u16>; 2],
     /// Nodes entered, nodes left, and nodes answered by a note or at once.
@@ -56,7 +56,7 @@ impl Notes {
             asks_all,
             whole: 0,
             replies: [None; 17],
-            killers: [[None; 4]; 17],
+            killers: [None; 68],
             advised: [None; 2],
             steps: 0,
             calls: 0,
@@ -86,8 +86,11 @@ impl Notes {
 
     /// The moves that cut off the last nodes of the depth, where they are kept.
     fn killers_at(&self, depth: u8) -> [Option<u16>; 4] {
-        match self.killers.get(self.plies_to(depth)) {
-            Some(killers) if depth > 2 => *killers,
+        let first = self.plies_to(depth).saturating_mul(4);
+        match self.killers.get(first..first.saturating_add(4)) {
+            Some(killers) if depth > 2 && killers.len() == 4 => {
+                [killers[0], killers[1], killers[2], killers[3]]
+            }
             _ => [None; 4],
         }
     }
@@ -95,9 +98,12 @@ impl Notes {
     /// Takes the move that cut off a node of the depth.
     fn keep_killer(&mut self, depth: u8, code: u16) {
         let last = self.killers_at(depth);
-        let place = self.plies_to(depth);
-        if depth > 2 && place < 17 && last[0] != Some(code) {
-            self.killers[place] = [Some(code), last[0], last[1], last[2]];
+        let first = self.plies_to(depth).saturating_mul(4);
+        if depth > 2 && first < 65 && last[0] != Some(code) {
+            self.killers[first] = Some(code);
+            for place in 0..3usize {
+                self.killers[first + 1 + place] = last[place];
+            }
         }
     }
 
@@ -595,12 +601,15 @@ fn keep_line(
     best: Option<u16>,
     notes: &mut Notes,
 ) -> Result<(), AllocError> {
-    let (mut depth, mut at, mut next) = (notes.whole, *root, best);
-    'line: while depth > 2 && notes.serves(depth - 1) {
+    let (whole, mut at, mut next) = (notes.whole, *root, best);
+    for plies in 1..whole {
+        let depth = whole.saturating_sub(plies);
+        if depth < 2 || !notes.serves(depth) {
+            return Ok(());
+        }
         let Some(position) = after(alloc, &at, next)? else {
             return Ok(());
         };
-        depth -= 1;
         at = position;
         next = match notes.ask(&at, e, depth)? {
             Some(Known::Exact(_, best)) => best,
@@ -745,7 +754,7 @@ pub fn search_plainly_below(
     notes: &mut Notes,
 ) -> Result<Option<(i32, Option<u16>)>, AllocError> {
     notes.replies = [None; 17];
-    notes.killers = [[None; 4]; 17];
+    notes.killers = [None; 68];
     search_on(alloc, p, e, depth, beta, notes)
 }
 
