@@ -25,6 +25,7 @@ use shogi_sfen::read_position;
 use socket_loop::Loop;
 use std::hash::{BuildHasherDefault, FoldHasher};
 use std::test::Fail;
+use usi_stdio::Duplex;
 use wires::{MemoryWire, Wire, WireFault};
 
 #[test]
@@ -165,13 +166,26 @@ fn a_path_without_a_name(rt: HostRuntime) -> Result<(), Fail> {
 
 #[test]
 fn streams(rt: HostRuntime) -> Result<(), Fail> {
-    let mut reader: &[u8] = b"isready\nquit\n";
-    let mut writer = Vec::new(rt.alloc());
-    answer_all(rt.alloc(), &mut reader, &mut writer)?;
-    assert_eq!(rt; writer.as_slice(), b"readyok\n".as_slice());
-    let mut reader: &[u8] = b"+A\nA isready\n";
-    let mut writer = Vec::new(rt.alloc());
-    replay_script(rt.alloc(), &mut reader, &mut writer)?;
-    assert_eq!(rt; writer.as_slice(), b"== A\nreadyok\n".as_slice());
+    let sent: &[u8] = b"isready\nquit\n";
+    let mut ends = Duplex {
+        input: sent,
+        output: Vec::new(rt.alloc()),
+    };
+    answer_all(rt.alloc(), &mut ends)?;
+    let Duplex { input: _, output } = ends;
+    assert_eq!(rt; output.as_slice(), b"readyok\n".as_slice());
+    Ok(())
+}
+
+#[test]
+fn scripts(rt: HostRuntime) -> Result<(), Fail> {
+    let sent: &[u8] = b"+A\nA isready\n";
+    let mut ends = Duplex {
+        input: sent,
+        output: Vec::new(rt.alloc()),
+    };
+    replay_script(rt.alloc(), &mut ends)?;
+    let Duplex { input: _, output } = ends;
+    assert_eq!(rt; output.as_slice(), b"== A\nreadyok\n".as_slice());
     Ok(())
 }
