@@ -3,7 +3,7 @@ _usi_host() {
     local word=${COMP_WORDS[COMP_CWORD]} before=${COMP_WORDS[COMP_CWORD - 1]}
     COMPREPLY=()
     case $before in
-        --socket)
+        --socket | --status)
             compopt -o default
             return
             ;;
@@ -18,7 +18,7 @@ _usi_host() {
         case ${COMP_WORDS[1]} in
             stdio) words='--entries -h --help' ;;
             replay) words='--slots --entries --slice -h --help' ;;
-            serve) words='--socket --slots --entries --slice --turns -h --help' ;;
+            serve) words='--socket --status --slots --entries --slice --turns -h --help' ;;
             help) words='stdio replay serve' ;;
         esac
     fi

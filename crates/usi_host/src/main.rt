@@ -158,6 +158,7 @@ fn main(rt: HostRuntime) -> ExitCode {
         Ok(
             Job::Serve {
                 socket,
+                status: _,
                 slots,
                 entries,
                 slice,

@@ -121,12 +121,12 @@ pub line_asked : (words : List Text) (parsed : Result ArgMatches Error) (r : Res
     → IfOk r (IsAskedBy words)
 line_asked words (Ok m) (Ok (Stdio entries)) line is = (line.kinds, subst (λ (c : Option (Text × List Row)). NamesJob c (Stdio entries)) line.matches is)
 line_asked words (Ok m) (Ok (Replay slots entries slice)) line is = (line.kinds, subst (λ (c : Option (Text × List Row)). NamesJob c (Replay slots entries slice)) line.matches is)
-line_asked words (Ok m) (Ok (Serve socket slots entries slice turns)) line is = (line.kinds, subst (λ (c : Option (Text × List Row)). NamesJob c (Serve socket slots entries slice turns)) line.matches is)
+line_asked words (Ok m) (Ok (Serve socket status slots entries slice turns)) line is = (line.kinds, subst (λ (c : Option (Text × List Row)). NamesJob c (Serve socket status slots entries slice turns)) line.matches is)
 line_asked words (Ok m) (Ok (Help text)) line is = absurd (no_help (subcommand_rows_of m) (Help text) text refl is)
 line_asked words (Ok m) (Ok Version) line is = absurd (no_version (subcommand_rows_of m) Version refl is)
 line_asked words (Err e) (Ok (Stdio entries)) line is = absurd is
 line_asked words (Err e) (Ok (Replay slots entries slice)) line is = absurd is
-line_asked words (Err e) (Ok (Serve socket slots entries slice turns)) line is = absurd is
+line_asked words (Err e) (Ok (Serve socket status slots entries slice turns)) line is = absurd is
 line_asked words (Err e) (Ok (Help text)) line is = elim line.kinds [
   | inl memory ↦ let bad : kinds.DisplayHelp ≡ kinds.OutOfMemory = sym is ∙ memory in cc
   | inr among ↦ subst (λ (k : ErrorKind). IsAmong k (faults_of words)) is among
@@ -156,7 +156,7 @@ gives : (words : List Text) (job : Job) (r : Result Job WordsFault) → faults_o
     → IfOk r (IsAskedBy words) → IfErr r (IsRefusedFor words) → Gives job r
 gives words job (Ok (Stdio entries)) none names range only asked refused = inl (ap Ok (only (Stdio entries) asked.1))
 gives words job (Ok (Replay slots entries slice)) none names range only asked refused = inl (ap Ok (only (Replay slots entries slice) asked.1))
-gives words job (Ok (Serve socket slots entries slice turns)) none names range only asked refused = inl (ap Ok (only (Serve socket slots entries slice turns) asked.1))
+gives words job (Ok (Serve socket status slots entries slice turns)) none names range only asked refused = inl (ap Ok (only (Serve socket status slots entries slice turns) asked.1))
 gives words job (Ok (Help text)) none names range only asked refused = absurd (rw none at asked)
 gives words job (Ok Version) none names range only asked refused = absurd (rw none at asked)
 gives words job (Err OutOfMemory) none names range only asked refused = inr refl
@@ -194,7 +194,7 @@ stdio_entries = (codes "4096", refl, is_4096)
 stdio_only : (job : Job) → IsStdioOf stdio_rows job → job ≡ Stdio 4096
 stdio_only (Stdio entries) is = ap Stdio (names_once (codes "entries") stdio_rows entries 4096 is stdio_entries)
 stdio_only (Replay slots entries slice) is = absurd is
-stdio_only (Serve socket slots entries slice turns) is = absurd is
+stdio_only (Serve socket status slots entries slice turns) is = absurd is
 stdio_only (Help text) is = absurd is
 stdio_only Version is = absurd is
 
@@ -225,7 +225,7 @@ replay_only (Replay slots entries slice) is =
     let b : entries ≡ 4096 = names_once (codes "entries") replay_rows entries 4096 is.1 replay_entries in
     let c : slice ≡ 500 = names_once (codes "slice") replay_rows slice 500 is.2 replay_slice in
     λ k. Replay (a k) (b k) (c k)
-replay_only (Serve socket slots entries slice turns) is = absurd is
+replay_only (Serve socket status slots entries slice turns) is = absurd is
 replay_only (Help text) is = absurd is
 replay_only Version is = absurd is
 
@@ -261,7 +261,7 @@ gives_help_of : (words : List Text) (r : Result Job WordsFault) → faults_of wo
 gives_help_of words (Ok (Help text)) is asked refused = tt
 gives_help_of words (Ok (Stdio entries)) is asked refused = let bad : kinds.DisplayHelp ∷ [] ≡ [] = sym is ∙ asked.0 in cc
 gives_help_of words (Ok (Replay slots entries slice)) is asked refused = let bad : kinds.DisplayHelp ∷ [] ≡ [] = sym is ∙ asked.0 in cc
-gives_help_of words (Ok (Serve socket slots entries slice turns)) is asked refused = let bad : kinds.DisplayHelp ∷ [] ≡ [] = sym is ∙ asked.0 in cc
+gives_help_of words (Ok (Serve socket status slots entries slice turns)) is asked refused = let bad : kinds.DisplayHelp ∷ [] ≡ [] = sym is ∙ asked.0 in cc
 gives_help_of words (Ok Version) is asked refused =
     let bad : kinds.DisplayVersion ≡ kinds.DisplayHelp = among_one kinds.DisplayHelp kinds.DisplayVersion (subst (λ (k : Kinds). IsAmong kinds.DisplayVersion k) is asked) in cc
 gives_help_of words (Err OutOfMemory) is asked refused = tt
@@ -273,7 +273,7 @@ gives_version_of : (words : List Text) (r : Result Job WordsFault) → faults_of
 gives_version_of words (Ok Version) is asked refused = inl refl
 gives_version_of words (Ok (Stdio entries)) is asked refused = let bad : kinds.DisplayVersion ∷ [] ≡ [] = sym is ∙ asked.0 in cc
 gives_version_of words (Ok (Replay slots entries slice)) is asked refused = let bad : kinds.DisplayVersion ∷ [] ≡ [] = sym is ∙ asked.0 in cc
-gives_version_of words (Ok (Serve socket slots entries slice turns)) is asked refused = let bad : kinds.DisplayVersion ∷ [] ≡ [] = sym is ∙ asked.0 in cc
+gives_version_of words (Ok (Serve socket status slots entries slice turns)) is asked refused = let bad : kinds.DisplayVersion ∷ [] ≡ [] = sym is ∙ asked.0 in cc
 gives_version_of words (Ok (Help text)) is asked refused =
     let bad : kinds.DisplayHelp ≡ kinds.DisplayVersion = among_one kinds.DisplayVersion kinds.DisplayHelp (subst (λ (k : Kinds). IsAmong kinds.DisplayHelp k) is asked) in cc
 gives_version_of words (Err OutOfMemory) is asked refused = inr refl

@@ -5,7 +5,7 @@ use Rattle.clap.specs.declared.error.Error.{Error}
 use Rattle.clap.specs.declared.error.kind.ErrorKind.{ErrorKind}
 use Rattle.clap.specs.declared.error.kind.ErrorKind.TheVariants as kinds
 use Rattle.clap.specs.declared.parser.matches.ArgMatches.{ArgMatches}
-use Rattle.usi_words.specs.CommandLine.{IsFromOne, NamesNumber, NamesText, command_of, faults_of}
+use Rattle.usi_words.specs.CommandLine.{IsFromOne, NamesNumber, NamesText, NamesTextIfAny, command_of, faults_of}
 use Rattle.usi_words.specs.Texts.{not_digits}
 use Rattle.usi_words.specs.declared.words.Job.{Job}
 use Rattle.usi_words.specs.declared.words.Job.TheVariants.{Stdio, Replay, Serve, Help, Version}
@@ -23,7 +23,7 @@ abbrev pub HasRanges : Job → Type 0
 HasRanges (Stdio entries) = IsFromOne 1000000 entries
 HasRanges (Replay slots entries slice) =
     IsFromOne 1024 slots × IsFromOne 1000000 entries × IsFromOne 1000000000 slice
-HasRanges (Serve socket slots entries slice turns) = HasServeRanges slots entries slice turns
+HasRanges (Serve socket status slots entries slice turns) = HasServeRanges slots entries slice turns
 HasRanges (Help text) = ⊤
 HasRanges Version = ⊤
 
@@ -56,10 +56,11 @@ HasNoNumbers options =
     (slots entries slice turns : ℕ) → HasServeRanges slots entries slice turns
     → NamesNumbers options slots entries slice turns → ⊥
 
--- the job is `serve`, with the path and the numbers that these options name
+-- the job is `serve`, with the paths and the numbers that these options name
 abbrev pub IsServeOf : List Row → Job → Type 0
-IsServeOf options (Serve socket slots entries slice turns) =
+IsServeOf options (Serve socket status slots entries slice turns) =
     NamesText (codes "socket") options (string_bytes socket)
+    × NamesTextIfAny (codes "status") options status
     × NamesNumbers options slots entries slice turns
 IsServeOf options _ = ⊥
 

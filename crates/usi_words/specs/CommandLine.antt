@@ -1,5 +1,5 @@
 -- What the words after the program's name ask for, as `clap` reads them (own choice).
-use Rattle.std.specs.Prelude.{◌≡◌, ◌∷◌, ◌≤◌, ◌-◌, ◌^◌, ℕ, true, List, [], Option, Some, codes}
+use Rattle.std.specs.Prelude.{◌≡◌, ◌∷◌, ◌≤◌, ◌-◌, ◌^◌, ℕ, true, List, [], Option, Some, String, codes, option_map, string_bytes}
 use Rattle.std.specs.Str.Parse.{IsNumeral, digits_value}
 use Rattle.clap.specs.Words.{App, Kinds, Row, Rule, Text, fault_of, first_of, found_of, new_app, new_rule, rows_of, subcommand_of, with_rule, with_subcommand}
 use Rattle.clap.specs.declared.builder.value_parser.ValueParser.TheVariants as parser
@@ -48,14 +48,22 @@ replay_command =
     with_rule (with_rule (with_rule (new_app (codes "replay")) slots_option) entries_option)
     slice_option
 
--- the command `serve` with its first options
+-- where a second socket is made, for the status: `--status PATH`, which may be left out
+abbrev pub status_option : Rule
+status_option = record (new_rule (codes "status")) {
+  long = Some (codes "status");
+  value_names = 1;
+}
+
+-- the command `serve` with the options that name its sockets
 abbrev pub socket_command : App
-socket_command = with_rule (with_rule (new_app (codes "serve")) socket_option) slots_option
+socket_command = with_rule (with_rule (new_app (codes "serve")) socket_option) status_option
 
 -- the command `serve`
 abbrev pub serve_command : App
 serve_command =
-    with_rule (with_rule (with_rule socket_command entries_option) slice_option) turns_option
+    with_rule (with_rule (with_rule (with_rule socket_command slots_option) entries_option) slice_option)
+    turns_option
 
 -- the program without a command; it has a version, so `--version` and `-V` ask for it
 abbrev pub bare_line : App
@@ -89,6 +97,10 @@ IsNumber text n = IsNumeral 10 text × (n ≡ digits_value 10 text)
 -- the option of this name has this text
 abbrev pub NamesText : Text → List Row → Text → Type 0
 NamesText name options text = first_of name options ≡ Some text
+
+-- the option of this name has this text, or it is left out and there is none
+abbrev pub NamesTextIfAny : {A : Type 0} → Text → List Row → Option (String A) → Type 0
+NamesTextIfAny name options text = first_of name options ≡ option_map string_bytes text
 
 -- the option of this name has the number n
 abbrev pub NamesNumber : Text → List Row → ℕ → Type 0

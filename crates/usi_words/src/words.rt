@@ -1,9 +1,9 @@
 //! The words of the command line.
-ghost use Rattle.std.specs.Prelude.{◌≡◌, ◌<◌, ◌^◌, ℕ, false, [], IfErr, IfNone, IfOk, IfSome, map};
+ghost use Rattle.std.specs.Prelude.{◌≡◌, ◌<◌, ◌^◌, ℕ, false, [], IfErr, IfNone, IfOk, IfSome, codes, map};
 ghost use Rattle.clap.specs.Words.{app_of, kind_of, rule_of, subcommand_rows_of};
 ghost use Rattle.clap.specs.declared.builder.command.Command.TheViews.{out-Command as fields_of};
 ghost use Rattle.usi_words.specs.Answers.{AreHelpWords, AreReplayWords, AreServeNumbers, AreStdioWords, AreVersionWords, Gives, GivesHelp, HasNoNumbers, HasRanges, IsAnswerTo, IsAnswerToParsed, IsAskedBy, IsJobIn, IsJobOf, IsRefusedFor, IsReplayOf, IsServeIn, IsStdioOf, NamesNoJob, NamesNoReplay, NamesNoServe, NamesNoStdio};
-ghost use Rattle.usi_words.specs.CommandLine.{HasNone, HasNumber, IsNumber, command_line, entries_option, options_in, replay_command, replay_line, serve_command, slice_option, slots_option, socket_command, socket_option, stdio_command, stdio_line, turns_option};
+ghost use Rattle.usi_words.specs.CommandLine.{HasNone, HasNumber, IsNumber, NamesTextIfAny, command_line, entries_option, options_in, replay_command, replay_line, serve_command, slice_option, slots_option, socket_command, socket_option, status_option, stdio_command, stdio_line, turns_option};
 ghost use Rattle.usi_words.specs.declared.words.Job.TheVariants.{Stdio, Replay, Version};
 ghost use Rattle.usi_words.specs.declared.words.WordsFault.TheVariants.{OutOfMemory};
 
@@ -42,11 +42,12 @@ pub enum Job {
         entries: usize,
         slice: u64,
     },
-    /// The host on a Unix socket at the path `socket`, for `turns` turns, at least 1: at most
-    /// `slots` sessions, 1 to 1,024, that share a table of `entries` entries, 1 to 1,000,000; in
+    /// The host on a Unix socket at the path `socket`, and its status on one at the path `status`,
+    /// where there is one, for `turns` turns, at least 1: at most `slots` sessions, 1 to 1,024, that share a table of `entries` entries, 1 to 1,000,000; in
     /// each turn a session makes at most `slice` steps of search, 1 to 1,000,000,000.
     Serve {
         socket: String,
+        status: Option<String>,
         slots: usize,
         entries: usize,
         slice: u64,
@@ -79,8 +80,8 @@ impl From<AllocError> for WordsFault {
 
 /// Reads the words that follow the program's name: none or `stdio` for one session, with `--entries
 /// N` after `stdio`; `replay` for a script, with `--slots N`, `--entries N` and `--slice N`;
-/// `serve` for a Unix socket, with `--socket PATH`, which has to be there, these three and `--turns
-/// N`; `--help`, `-h` or `help` for help; and `--version` or `-V` for the version. A number is
+/// `serve` for a Unix socket, with `--socket PATH`, which has to be there, these three, `--turns N`
+/// and `--status PATH`; `--help`, `-h` or `help` for help; and `--version` or `-V` for the version. A number is
 /// written in decimal digits alone. Every other line is `NotAccepted`. The texts of help are those
 /// of `clap`, and so are those of refusals but for a number with a sign.
 pub fn read_words<'a, S: AsStr>(alloc: Global, words: &'a [S]) -> Result<Job, WordsFault>
@@ -193,13 +194,25 @@ fn serve_job(alloc: Global, options: &ArgMatches<'_>) -> Result<Option<Job>, All
         return Ok(None);
     };
     let socket = String::from_str(alloc, text)?;
+    let status = status_path(alloc, options)?;
     Ok(Some(Job::Serve {
         socket,
+        status,
         slots,
         entries,
         slice,
         turns,
     }))
+}
+
+/// Where the second socket is made, if anywhere.
+fn status_path(alloc: Global, options: &ArgMatches<'_>) -> Result<Option<String>, AllocError>
+    ensures { IfOk result (NamesTextIfAny (codes "status") (options_in options.now)) }
+{
+    match options.get_str("status") {
+        Some(text) => Ok(Some(String::from_str(alloc, text)?)),
+        None => Ok(None),
+    }
 }
 
 /// The slots, the entries, the slice and the turns.
@@ -305,12 +318,13 @@ fn serve_command<'a>(alloc: Global) -> Result<Command<'a>, AllocError>
     ensures local { IfOk result (λ command. (fields_of command).has_globals ≡ false) }
 {
     socket_command(alloc)?
+        .arg(slots_option(alloc))?
         .arg(entries_option(alloc))?
         .arg(slice_option(alloc))?
         .arg(turns_option(alloc))
 }
 
-/// `serve` with its first two options.
+/// `serve` with the options that name its sockets.
 fn socket_command<'a>(alloc: Global) -> Result<Command<'a>, AllocError>
     ensures app { IfOk result (λ command. app_of command ≡ socket_command) }
     ensures local { IfOk result (λ command. (fields_of command).has_globals ≡ false) }
@@ -320,7 +334,7 @@ fn socket_command<'a>(alloc: Global) -> Result<Command<'a>, AllocError>
         .after_help(SERVE_HELP)
         .after_long_help(SERVE_LONG_HELP)
         .arg(socket_option(alloc))?
-        .arg(slots_option(alloc))
+        .arg(status_option(alloc))
 }
 
 fn socket_option<'a>(alloc: Global) -> Arg<'a>
@@ -332,6 +346,16 @@ fn socket_option<'a>(alloc: Global) -> Arg<'a>
         .value_name("PATH")
         .required(true)
         .help("Where the socket is made: a path of 1 to 107 bytes, which must not exist")
+}
+
+fn status_option<'a>(alloc: Global) -> Arg<'a>
+    ensures rule { rule_of result ≡ status_option }
+    ensures local { result.global ≡ false }
+{
+    Arg::new(alloc, "status")
+        .long("status")
+        .value_name("PATH")
+        .help("Where a second socket is made, which tells the status: a path like that of --socket")
 }
 
 fn turns_option<'a>(alloc: Global) -> Arg<'a>
@@ -449,7 +473,9 @@ const SERVE_HELP: &str = "Each connection is a session of its own.";
 const SERVE_LONG_HELP: &str =
     "Each connection is a session of its own. It ends when the client sends `quit`, or when the
 client closes its side and has its answers. A client that finds all slots taken is sent
-`info string host full`. The file of the socket stays when the program ends.
+`info string host full`. The file of a socket stays when the program ends.
+Whoever connects to the socket of --status is sent one line of JSON, with what the host counts, and
+is closed.
 An idle host does not end by --turns: each turn is followed by a wait, which may last until a
 client comes.
 
@@ -459,4 +485,4 @@ Exit statuses:
      for; standard error says which
 
 Example:
-  usi_host serve --socket /tmp/shogi.socket --slots 256 --entries 100000";
+  usi_host serve --socket /tmp/shogi.socket --status /tmp/shogi.status --slots 256";

@@ -14,4 +14,4 @@ returns-in_default-serve_numbers-clause-none c = no_numbers (options_in c.args.o
 
 pub returns-clause-some : goal.returns-clause-some
 returns-clause-some c = let numbers = c.in-Some-serve_numbers.ensures.some in
-    (numbers.0, (sym (first_value-rows (found_of c.args.options.now) (codes "socket")) ∙ sym c.get_str.ensures ∙ ap (option_map (λ s. s.now)) c.in-Some.is ∙ ap Some (sym c.in_ok-socket.ensures.ok), numbers.1))
+    (numbers.0, (sym (first_value-rows (found_of c.args.options.now) (codes "socket")) ∙ sym c.get_str.ensures ∙ ap (option_map (λ s. s.now)) c.in-Some.is ∙ ap Some (sym c.in_ok-socket.ensures.ok), c.in_ok-status.ensures, numbers.1))
