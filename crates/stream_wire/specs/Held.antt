@@ -1,9 +1,13 @@
 -- The connections that a wire holds, and what it reports of them and of all others (own choice).
-use Rattle.std.specs.Prelude.{◌≡◌, ◌≢◌, ◌==◌, ◌%◌, cond, ℕ, List, Option, None, Some, slice_index_or}
+use Rattle.std.specs.Prelude.{◌≡◌, ◌≢◌, ◌==◌, ◌%◌, ◌+◌, ◌-◌, ◌^◌, cond, length, min, ℕ, List, Option, None, Some, slice_index_or}
 use Rattle.std.specs.Io.KnownBytes.{prepend_known}
 use Rattle.wires.specs.Report.{Report}
 use Rattle.stream_wire.specs.declared.peer.Peer.{Peer}
 use Rattle.stream_wire.specs.declared.peer.TheConstants.{PLACES}
+
+-- these bytes were counted too; the count stays at the greatest number once it is there
+abbrev pub counted : ℕ → List ℕ → ℕ
+counted count bytes = min (count + length bytes) (2 ^ 64 - 1)
 
 module _ {S A : Type 0} where
   -- what has a place, where it has the number

@@ -9,5 +9,5 @@ mod sockets;
 mod wire;
 
 pub use listener::{Duplex, Listener, Ready};
-pub use sockets::{MioListener, MioWire};
+pub use sockets::{MioListener, MioWire, watch_again};
 pub use wire::StreamWire;

@@ -6,7 +6,7 @@ ghost use Rattle.wires.specs.declared.wire.WireFault.TheVariants.{Device};
 use crate::listener::{Duplex, Listener, Ready};
 use crate::wire::StreamWire;
 use mio::net::{UnixListener, UnixStream};
-use mio::{Events, Interest, Poll, Token};
+use mio::{Events, Interest, Poll, Registry, Token};
 use std::alloc::Allocator;
 use std::fs::Files;
 use std::io;
@@ -15,11 +15,15 @@ use std::net::Net;
 use std::time::Duration;
 use wires::WireFault;
 
-/// How many events a poll may give: one for each connection of a full host, and one for the listener.
-const EVENTS: usize = 1025;
+/// How many events a poll may give: one for each connection of a full host, one for the listener, and one
+/// for a listener that is watched.
+const EVENTS: usize = 1026;
 
 /// The token of the listener. Those of streams are their numbers.
 const LISTENER: Token = Token(usize::MAX);
+
+/// The token of a listener that is watched beside it.
+const WATCHED: Token = Token(usize::MAX - 1);
 
 impl Duplex for UnixStream {
     fn receive(&mut self, buf: &mut [u8]) -> io::Result<usize> {
@@ -48,6 +52,9 @@ impl<A: Allocator + Copy> MioListener<A> {
         self.poll.poll(&mut self.events, patience)?;
         for event in self.events.iter() {
             let token = event.token();
+            if token == WATCHED {
+                continue;
+            }
             let _kept = self.ready.push(if token == LISTENER {
                 Ready::Listener
             } else {
@@ -56,6 +63,19 @@ impl<A: Allocator + Copy> MioListener<A> {
         }
         Ok(())
     }
+
+    /// Has a wait end too where somebody comes to this other listener, which names nobody. One listener
+    /// may be watched. The registry is for `watch_again`.
+    pub fn watch(&self, other: &mut UnixListener) -> io::Result<Registry> {
+        let registry = self.poll.registry();
+        registry.register(other, WATCHED, Interest::READABLE)?;
+        registry.try_clone()
+    }
+}
+
+/// Has the next wait end at once where somebody waits at the listener that is watched.
+pub fn watch_again(registry: &Registry, other: &mut UnixListener) -> io::Result<()> {
+    registry.reregister(other, WATCHED, Interest::READABLE)
 }
 
 impl<A: Allocator + Copy> Listener for MioListener<A> {

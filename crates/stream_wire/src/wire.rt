@@ -1,10 +1,10 @@
 //! A wire over a listener.
 
-ghost use Rattle.std.specs.Prelude.{◌≡◌, ◌≤◌, ◌-◌, ◌^◌, false, true, OnErr};
+ghost use Rattle.std.specs.Prelude.{◌≡◌, ◌≤◌, ◌-◌, ◌^◌, false, true, length, IfOk, OnErr};
 ghost use Rattle.usi_lines.specs.OneLine.{IsOneLine};
-ghost use Rattle.wires.specs.Report.{GivesNumber, HasCause, HasRisen, KeepsAll, Reads, Shuts, Writes, bytes_read};
+ghost use Rattle.wires.specs.Report.{GivesNumber, HasCause, HasRisen, IsWithin, KeepsAll, Reads, Shuts, Writes, bytes_read, bytes_written};
 ghost use Rattle.wires.specs.declared.wire.WireFault.TheVariants.{Device};
-ghost use Rattle.stream_wire.specs.Held.{AreAlike};
+ghost use Rattle.stream_wire.specs.Held.{AreAlike, counted};
 ghost use Rattle.stream_wire.specs.Streams.{Notes};
 ghost use Rattle.stream_wire.specs.declared.peer.TheConstants.{PLACES};
 
@@ -45,6 +45,32 @@ pub struct StreamWire<L: Listener, A: Allocator> {
     // The number of the next connection is this one or a greater one.
     next: u64,
     failed: u64,
+    /// How many bytes reads gave. It stays at the greatest number once it is there.
+    pub received: u64,
+    /// How many bytes writes took. It stays at the greatest number once it is there.
+    pub sent: u64,
+}
+
+/// How many bytes a read gave.
+fn given_by(got: &Result<Got, WireFault>, buf: &[u8]) -> u64
+    requires { IsWithin got.now (length buf.now) }
+    ensures { result ≡ length (bytes_read got.now buf.now) }
+{
+    match got {
+        Ok(Got::Bytes(n)) => *n as u64,
+        _ => 0,
+    }
+}
+
+/// How many bytes a write took.
+fn taken_by(taken: &Result<usize, WireFault>, buf: &[u8]) -> u64
+    requires { IfOk taken.now (λ n. n ≤ length buf.now) }
+    ensures { result ≡ length (bytes_written taken.now buf.now) }
+{
+    match taken {
+        Ok(n) => *n as u64,
+        Err(_) => 0,
+    }
 }
 
 impl<L: Listener, A: Allocator + Copy> StreamWire<L, A> {
@@ -52,6 +78,7 @@ impl<L: Listener, A: Allocator + Copy> StreamWire<L, A> {
     pub fn new(alloc: A, listener: L) -> StreamWire<L, A>
         ensures bound { ⟦<StreamWire<L, A> as Wire>⟧.bound result ≡ 0 }
         ensures failed { ⟦<StreamWire<L, A> as Wire>⟧.failed result ≡ 0 }
+        ensures none { (result.received ≡ 0) × (result.sent ≡ 0) }
         ensures report { KeepsAll (L.told listener) (⟦<StreamWire<L, A> as Wire>⟧.report result) }
     {
         StreamWire {
@@ -63,6 +90,8 @@ impl<L: Listener, A: Allocator + Copy> StreamWire<L, A> {
             is_unsure: false,
             next: 0,
             failed: 0,
+            received: 0,
+            sent: 0,
         }
     }
 
@@ -75,6 +104,8 @@ impl<L: Listener, A: Allocator + Copy> StreamWire<L, A> {
         ensures places { self.new.places ≡ self.old.places }
         ensures next { self.new.next ≡ self.old.next }
         ensures unsure { self.new.is_unsure ≡ self.old.is_unsure }
+        ensures received { self.new.received ≡ self.old.received }
+        ensures sent { self.new.sent ≡ self.old.sent }
     {
         self.failed = self.failed.saturating_add(1);
         WireFault::Device
@@ -88,6 +119,8 @@ impl<L: Listener, A: Allocator + Copy> StreamWire<L, A> {
         ensures waits { L.waits self.new.listener ≡ L.waits self.old.listener }
         ensures places { self.new.places ≡ self.old.places }
         ensures next { self.new.next ≡ self.old.next }
+        ensures received { self.new.received ≡ self.old.received }
+        ensures sent { self.new.sent ≡ self.old.sent }
     {
         match found {
             Ok(value) => Ok(value),
@@ -107,6 +140,8 @@ impl<L: Listener, A: Allocator + Copy> StreamWire<L, A> {
         ensures listener { self.new.listener ≡ self.old.listener }
         ensures alike { AreAlike self.old.places.items self.new.places.items }
         ensures next { self.new.next ≡ self.old.next }
+        ensures received { self.new.received ≡ self.old.received }
+        ensures sent { self.new.sent ≡ self.old.sent }
     {
         if looked.is_err() {
             return Err(self.fault());
@@ -127,6 +162,8 @@ impl<L: Listener, A: Allocator + Copy> StreamWire<L, A> {
         ensures number { GivesNumber self.old.next self.new.next result }
         ensures cause { HasCause self.old.failed self.new.failed result }
         ensures waits { L.waits self.new.listener ≡ L.waits self.old.listener }
+        ensures received { self.new.received ≡ self.old.received }
+        ensures sent { self.new.sent ≡ self.old.sent }
         ensures kept { KeepsAll
             (⟦<StreamWire<L, A> as Wire>⟧.report self.old)
             (⟦<StreamWire<L, A> as Wire>⟧.report self.new) }
@@ -160,6 +197,8 @@ impl<L: Listener, A: Allocator + Copy> StreamWire<L, A> {
             (⟦<StreamWire<L, A> as Wire>⟧.report self.old)
             (⟦<StreamWire<L, A> as Wire>⟧.report self.new) }
         ensures unsure { OnErr result (self.new.is_unsure ≡ true) }
+        ensures received { self.new.received ≡ self.old.received }
+        ensures sent { self.new.sent ≡ self.old.sent }
     {
         let accepted = self.accept_next();
         if accepted.is_err() {
@@ -178,6 +217,8 @@ impl<L: Listener, A: Allocator + Copy> StreamWire<L, A> {
         ensures line { IsOneLine (bytes_read result buf.new) }
         ensures cause { HasCause self.old.failed self.new.failed result }
         ensures waits { L.waits self.new.listener ≡ L.waits self.old.listener }
+        ensures received { self.new.received ≡ self.old.received }
+        ensures sent { self.new.sent ≡ self.old.sent }
     {
         let Some(mut peer) = take_out(&mut self.places, number) else {
             return self.answer(number, Err(WireFault::Device));
@@ -187,6 +228,27 @@ impl<L: Listener, A: Allocator + Copy> StreamWire<L, A> {
         self.is_unsure = self.is_unsure | (peer.may_give && matches!(got, Ok(Got::Nothing)));
         put(&mut self.places, peer);
         self.answer(number, got)
+    }
+
+    /// Writes to the connection of this number.
+    fn write_to(&mut self, number: u64, buf: &[u8]) -> Result<usize, WireFault>
+        ensures bound { self.new.next ≡ self.old.next }
+        ensures written { Writes
+            (⟦<StreamWire<L, A> as Wire>⟧.report self.old)
+            (⟦<StreamWire<L, A> as Wire>⟧.report self.new)
+            number result buf.now }
+        ensures cause { HasCause self.old.failed self.new.failed result }
+        ensures waits { L.waits self.new.listener ≡ L.waits self.old.listener }
+        ensures received { self.new.received ≡ self.old.received }
+        ensures sent { self.new.sent ≡ self.old.sent }
+    {
+        let Some(mut peer) = take_out(&mut self.places, number) else {
+            return self.answer(number, Err(WireFault::Device));
+        };
+        let taken = peer.write(buf);
+        self.is_unsure = self.is_unsure | (peer.may_take && matches!(taken, Ok(0)));
+        put(&mut self.places, peer);
+        self.answer(number, taken)
     }
 }
 
@@ -206,6 +268,8 @@ impl<L: Listener, A: Allocator + Copy> Wire for StreamWire<L, A> {
             (⟦<StreamWire<L, A> as Wire>⟧.report self.new) }
         ensures cause { HasCause self.old.failed self.new.failed result }
         ensures waits { L.waits self.new.listener ≡ L.waits self.old.listener }
+        ensures received { self.new.received ≡ self.old.received }
+        ensures sent { self.new.sent ≡ self.old.sent }
     {
         if self.next > u64::MAX - PLACES {
             return Err(self.fault());
@@ -227,11 +291,17 @@ impl<L: Listener, A: Allocator + Copy> Wire for StreamWire<L, A> {
         ensures line { IsOneLine (bytes_read result buf.new) }
         ensures cause { HasCause self.old.failed self.new.failed result }
         ensures waits { L.waits self.new.listener ≡ L.waits self.old.listener }
+        ensures received { self.new.received
+            ≡ counted self.old.received (bytes_read result buf.new) }
+        ensures sent { self.new.sent ≡ self.old.sent }
     {
+        let received = self.received;
         if is_quiet(self.places.as_slice(), number) {
             return Ok(Got::Nothing);
         }
-        self.read_from(number, buf)
+        let got = self.read_from(number, buf);
+        self.received = received.saturating_add(given_by(&got, buf));
+        got
     }
 
     fn write(&mut self, number: u64, buf: &[u8]) -> Result<usize, WireFault>
@@ -242,14 +312,13 @@ impl<L: Listener, A: Allocator + Copy> Wire for StreamWire<L, A> {
             number result buf.now }
         ensures cause { HasCause self.old.failed self.new.failed result }
         ensures waits { L.waits self.new.listener ≡ L.waits self.old.listener }
+        ensures sent { self.new.sent ≡ counted self.old.sent (bytes_written result buf.now) }
+        ensures received { self.new.received ≡ self.old.received }
     {
-        let Some(mut peer) = take_out(&mut self.places, number) else {
-            return self.answer(number, Err(WireFault::Device));
-        };
-        let taken = peer.write(buf);
-        self.is_unsure = self.is_unsure | (peer.may_take && matches!(taken, Ok(0)));
-        put(&mut self.places, peer);
-        self.answer(number, taken)
+        let sent = self.sent;
+        let taken = self.write_to(number, buf);
+        self.sent = sent.saturating_add(taken_by(&taken, buf));
+        taken
     }
 
     fn shut(&mut self, number: u64)
@@ -260,6 +329,8 @@ impl<L: Listener, A: Allocator + Copy> Wire for StreamWire<L, A> {
             number }
         ensures faults { self.old.failed ≤ self.new.failed }
         ensures waits { L.waits self.new.listener ≡ L.waits self.old.listener }
+        ensures received { self.new.received ≡ self.old.received }
+        ensures sent { self.new.sent ≡ self.old.sent }
     {
         self.listener.shut(number);
         if let Some(peer) = take_out(&mut self.places, number) {
@@ -275,6 +346,8 @@ impl<L: Listener, A: Allocator + Copy> Wire for StreamWire<L, A> {
             (⟦<StreamWire<L, A> as Wire>⟧.report self.new) }
         ensures cause { HasCause self.old.failed self.new.failed result }
         ensures waits { idle ≡ false → L.waits self.new.listener ≡ L.waits self.old.listener }
+        ensures received { self.new.received ≡ self.old.received }
+        ensures sent { self.new.sent ≡ self.old.sent }
     {
         if !idle {
             return Ok(());

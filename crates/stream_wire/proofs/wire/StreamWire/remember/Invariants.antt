@@ -9,4 +9,6 @@ invariant-loop-place g l = record {
   alike : AreAlike l.fn.self.places.items l.self.places.items;
   next : l.self.next ≡ l.fn.self.next;
   failed : l.self.failed ≡ l.fn.self.failed;
+  received : l.self.received ≡ l.fn.self.received;
+  sent : l.self.sent ≡ l.fn.self.sent;
 }
