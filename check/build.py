@@ -3,8 +3,8 @@
 other are proved side by side, as many as there are processors and memory; the one with the longest chain
 of crates that wait for it may use all processors, each other half of them and only what the first leaves.
 Standard error tells how far it is: which crates are done, after how many seconds, what is under way, and
-about how long is left, once a crate of the longest chain was proved from nothing. What the toolchain says
-of a crate is kept in the file `build.log` of its `out/`, and shown where it fails. A build that was cut off
+about how long is left, once a crate of the longest chain was proved from nothing or takes longer than is
+usual. What the toolchain says of a crate is kept in the file `build.log` of its `out/`, and shown where it fails. A build that was cut off
 goes on with the crates that are not done."""
 
 import fcntl
@@ -302,14 +302,16 @@ class Build:
         return max(*chains(self.crates, own).values(), sum(own.values()) / self.lanes)
 
     def left(self):
-        """How long is left, by the crates that are done, and by one under way that takes longer than they."""
-        if not self.expected or not (self.waiting or self.running):
+        """How long is left, by the crates that are done, and by one under way that takes longer than they, or
+        than is usual where none is done."""
+        if not (self.waiting or self.running):
             return ""
-        paces = [self.took / self.expected]
+        paces = [self.took / self.expected] if self.expected else []
         for run in self.running:
-            if run.is_first:
-                paces.append((self.took + run.age()) / (self.expected + self.usual[run.crate]))
-        return f", {minutes(self.rest(max(paces)))} left"
+            usual = self.usual[run.crate]
+            if run.is_first and (self.expected or run.age() > usual and run.is_from_nothing()):
+                paces.append((self.took + run.age()) / (self.expected + usual))
+        return f", {minutes(self.rest(max(paces)))} left" if paces else ""
 
     def ready(self):
         """The crates that wait for no other, the one with the longest chain behind it first."""
