@@ -4,8 +4,8 @@ other are proved side by side, as many as there are processors and memory; the o
 of crates that wait for it may use all processors, each other half of them and only what the first leaves.
 Standard error tells how far it is: which crates are done, after how many seconds, what is under way, and
 about how long is left, once a crate of the longest chain was proved from nothing or takes longer than is
-usual. What the toolchain says of a crate is kept in the file `build.log` of its `out/`, and shown where it fails. A build that was cut off
-goes on with the crates that are not done."""
+usual. What the toolchain says of a crate is kept in the file `build.log` of its `out/`, and shown where
+it fails. A build that was cut off goes on with the crates that are not done."""
 
 import fcntl
 import os
