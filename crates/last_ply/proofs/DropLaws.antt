@@ -1,9 +1,9 @@
 -- Drops after which the other side's king has an escape left.
 use Rattle.std.proofs.Common.{◌≡◌, ◌≢◌, ◌<◌, ◌^◌, ◌-◌, ℕ, [], ◌∷◌, List, Bool, true, false, not, Option, Some, None, bit_and, bit_or, refl, sym, ap, ◌∙◌, subst, set, arith, inl, inr}
-use Rattle.std.specs.Prelude.{◌==◌, ◌&&◌, ◌||◌, is_none}
+use Rattle.std.specs.Prelude.{◌==◌, ◌||◌}
 use Rattle.std.specs.List.{list_any, list_all}
 use Rattle.std.specs.Int.{trailing_zeros, w128}
-use Rattle.std.proofs.lemmas.Bool.{and_parts, and_from, or_cases, or_left, or_right, or_parts, cases_Bool, cases_eq, both_ways, false_from_ne_true, true_from_ne_false, eq-eqb, ne_eqb}
+use Rattle.std.proofs.lemmas.Bool.{and_parts, and_from, or_cases, or_parts, cases_eq, both_ways, false_from_ne_true, true_from_ne_false, eq-eqb, ne_eqb}
 use Rattle.shogi_core.specs.declared.moves.Move.TheVariants.{Board, Drop}
 use Rattle.shogi_core.specs.declared.offset.Offset.{Offset}
 use Rattle.shogi_core.specs.declared.piece.Color.{Color}
@@ -15,7 +15,7 @@ use Rattle.shogi_core.specs.declared.piece.Role.TheVariants.{King}
 use Rattle.shogi_core.specs.Bits.{has_bit, mask_below}
 use Rattle.shogi_core.specs.Cell.{is_king, is_sliding_role}
 use Rattle.shogi_core.specs.Lines.{are_aligned, back}
-use Rattle.shogi_core.specs.Movement.{piece_at, cell_reaches, has_step, has_slide, leads, for_side, steps_of, slides, slides_of, Cells}
+use Rattle.shogi_core.specs.Movement.{piece_at, cell_reaches, has_step, has_slide, leads, for_side, steps_of, slides}
 use Rattle.shogi_core.specs.Pieces.{opponent_of}
 use Rattle.shogi_core.specs.Position.{Shogi}
 use Rattle.shogi_core.specs.Validity.{IsValid}
@@ -23,9 +23,8 @@ use Rattle.shogi_core.proofs.BitLaws.{has_bit-none, has_bit-and, has_bit-or, has
 use Rattle.shogi_core.proofs.LineBits.{lowest_set, has_bit-not}
 use Rattle.shogi_core.proofs.SeenLaws.{leads_back, slide_seen, lined_aligned, slides_role}
 use Rattle.shogi_core.proofs.Uncovered.{same_way, same_way_is, list_any_kept}
-use Rattle.shogi_moves.specs.After.{dropped, after, piece_moved}
-use Rattle.shogi_moves.specs.Escapes.{AreEscapes, HasOpenEscape, ReachesWithin}
-use Rattle.shogi_moves.specs.Legal.{is_legal}
+use Rattle.shogi_moves.specs.After.{dropped, piece_moved}
+use Rattle.shogi_moves.specs.Escapes.{AreEscapes}
 use Rattle.shogi_moves.specs.Replies.{IsAnswered}
 use Rattle.shogi_moves.proofs.EscapeLaws.{escaped_board, escaped_drop}
 use Rattle.shogi_moves.proofs.KingReplies.{taken_drop}

@@ -40,10 +40,6 @@ quiet_end p e from targets enters foe zone n promote v hf h tb eb fb zb out l = 
     go true l = absurd (both_ways (has_bit zone n) (off true l).1 (zb n h ∙ (legal_parts p from n true hf h l).2))
     go false l = score_quiet p e from n v hf h l (sym (fb n h) ∙ (off false l).0)
 
--- of the squares gone through none has a move that scores this
-abbrev pub NoneScoresAmong : Evaluated → ℤ → ℕ → ℕ → Type 0
-NoneScoresAmong node v from left = (n : ℕ) (promote : Bool) → n < 81 → has_bit left n ≡ false → is_legal_code node.position (code_of (Board from n promote)) ≡ true → Scores node v (code_of (Board from n promote)) → ⊥
-
 -- what scores less does not score this
 pub not_so_much : (node : Evaluated) (v w : ℤ) (from : ℕ) → ScoresFromAtMost node.position node.eval from w → w <ℤ v → NoneScoresFrom node v from
 not_so_much node v w from most less n promote h l s = (let m : _ = most n promote h l in omega (arith, ints, m, s, less))

@@ -72,6 +72,12 @@ NoneScoresFrom node v from = (n : ℕ) (promote : Bool) → n < 81
     → is_legal_code node.position (code_of (Board from n promote)) ≡ true
     → Scores node v (code_of (Board from n promote)) → ⊥
 
+-- and none of those to a square that the mask lacks
+abbrev pub NoneScoresAmong : Evaluated → ℤ → ℕ → ℕ → Type 0
+NoneScoresAmong node v from mask = (n : ℕ) (promote : Bool) → n < 81 → has_bit mask n ≡ false
+    → is_legal_code node.position (code_of (Board from n promote)) ≡ true
+    → Scores node v (code_of (Board from n promote)) → ⊥
+
 -- of the legal moves of what stands on the square that score this, the code is the least
 pub record IsFirstFrom (node : Evaluated) (v : ℤ) (from code : ℕ) : Type 0 where
   pub listed : is_legal_code node.position code ≡ true

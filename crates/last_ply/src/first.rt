@@ -1,20 +1,23 @@
 //! The legal move of least code that meets something.
 
-ghost use Rattle.std.specs.Prelude.{◌≡◌, ◌≤ℤ◌, ◌<ℤ◌, ℤ, true, false, IfSome, IsNone};
+ghost use Rattle.std.specs.Prelude.{◌≡◌, ◌<◌, ◌^◌, ◌≤ℤ◌, ◌<ℤ◌, ℕ, ℤ, true, false, IfSome, IsNone};
 ghost use Rattle.shogi_core.specs.declared.moves.Move.TheVariants as moves;
+ghost use Rattle.shogi_core.specs.Bits.{has_bit};
 ghost use Rattle.shogi_core.specs.Cell.{is_piece_of};
 ghost use Rattle.shogi_core.specs.Codes.{code_of};
 ghost use Rattle.shogi_core.specs.Movement.{piece_at, reaches};
+ghost use Rattle.shogi_moves.specs.Destinations.{AreEnterable, IsWithin};
 ghost use Rattle.shogi_moves.specs.Legal.{is_legal_code};
 ghost use Rattle.shogi_eval.specs.Material.{material_of};
 ghost use Rattle.minimax.specs.Entries.{IsCutoff};
-ghost use Rattle.last_ply.specs.LastPly.{HasNoMate, IsFirstFrom, IsLeast, LeavesNone, NoneMeets, NoneScoresFrom, Scores, NodeHasScore, NodeScoresAtMost, IsTrueOf};
+ghost use Rattle.last_ply.specs.LastPly.{HasNoMate, IsFirstFrom, IsLeast, LeavesNone, NoneMeets, NoneScoresAmong, NoneScoresFrom, Scores, NodeHasScore, NodeScoresAtMost, IsTrueOf};
 
+use crate::mates::Outlook;
 use crate::scene::Scene;
 use minimax::{Entry, INFINITY, MATE};
 use shogi_core::bits::{lowest, without_lowest};
 use shogi_core::{Move, Square};
-use shogi_moves::{Replies, Walk, enterable, promoting_squares};
+use shogi_moves::{Walk, promoting_squares};
 
 impl Scene<'_> {
     /// The legal move of least code that leaves the other side without one.
@@ -23,10 +26,10 @@ impl Scene<'_> {
             (LeavesNone self.now.node.now.position) (code_of m)) }
         ensures none { IsNone result → HasNoMate self.now.node.now.position }
     {
-        let replies = Replies::of(self.node.as_position());
+        let outlook = Outlook::of(self);
         let mut walk = Walk::new(self.node.as_position());
         'moves: while let Some(m) = walk.next() {
-            if self.mates_past(&replies, &m) {
+            if outlook.mates_past(&m) {
                 return Some(m);
             }
         }
@@ -52,19 +55,33 @@ impl Scene<'_> {
         self.score_to(from, to, promote) == score && self.is_end(from, to, promote)
     }
 
-    /// The move of least code of one of the side's pieces that is legal and scores this, more than
-    /// the node has.
-    fn first_from(&self, from: Square, score: i32) -> Option<Move>
-        requires own { is_piece_of self.now.node.now.position.side
-            (piece_at self.now.node.now.position.cells from) ≡ true }
-        requires gain { material_of self.now.node.now.position self.now.node.now.eval <ℤ score }
-        ensures some { IfSome result (λ m. IsFirstFrom self.now.node.now score from (code_of m)) }
-        ensures none { IsNone result → NoneScoresFrom self.now.node.now score from }
+    /// The squares at which a legal move of one of the side's pieces may score this, no less than the
+    /// node has: where it is more, those of captures and promotions.
+    fn ends_scoring(&self, from: Square, score: i32) -> u128
+        ensures reached { AreEnterable self.now.node.now.position from result }
+        ensures others { material_of self.now.node.now.position self.now.node.now.eval ≤ℤ score
+            → NoneScoresAmong self.now.node.now score from result }
+        ensures fits { result < 2 ^ 81 }
     {
         from.validity();
         let p = self.node.as_position();
-        let reach = p.as_board().targets(from) & enterable(p);
-        let mut left = reach & (self.foe | promoting_squares(p.at(from), from));
+        let reach = p.as_board().targets(from) & self.enterable();
+        if score <= self.node.score() {
+            return reach;
+        }
+        reach & (self.foe | promoting_squares(p.at(from), from))
+    }
+
+    /// The move of least code of one of the side's pieces that is legal and scores this, no less
+    /// than the node has.
+    fn first_from(&self, from: Square, score: i32) -> Option<Move>
+        requires own { is_piece_of self.now.node.now.position.side
+            (piece_at self.now.node.now.position.cells from) ≡ true }
+        requires least { material_of self.now.node.now.position self.now.node.now.eval ≤ℤ score }
+        ensures some { IfSome result (λ m. IsFirstFrom self.now.node.now score from (code_of m)) }
+        ensures none { IsNone result → NoneScoresFrom self.now.node.now score from }
+    {
+        let mut left = self.ends_scoring(from, score);
         while left != 0 {
             let square = lowest(left);
             let to = Square::of_index(square);
@@ -87,15 +104,31 @@ impl Scene<'_> {
         None
     }
 
-    /// The legal move of least code that scores this, more than the node has.
-    fn first_gain(&self, score: i32) -> Option<Move>
-        requires { material_of self.now.node.now.position self.now.node.now.eval <ℤ score }
+    /// Those of the side's pieces of which a legal move may score this, no less than the node has:
+    /// where it is more, those that may take or promote.
+    fn pieces_scoring(&self, score: i32) -> u128
+        requires { material_of self.now.node.now.position self.now.node.now.eval ≤ℤ score }
+        ensures within { IsWithin result self.now.own }
+        ensures fits { result < 2 ^ 81 }
+        ensures others { (n : ℕ) → n < 81 → has_bit self.now.own n ≡ true → has_bit result n ≡ false
+            → NoneScoresFrom self.now.node.now score n }
+    {
+        if score <= self.node.score() {
+            return self.own;
+        }
+        self.gainers(score - 1)
+    }
+
+    /// The legal move on the board of least code that scores this, no less than the node has.
+    fn first_on_board(&self, score: i32) -> Option<Move>
+        requires { material_of self.now.node.now.position self.now.node.now.eval ≤ℤ score }
         ensures some { IfSome result (λ m. IsLeast self.now.node.now.position
             (Scores self.now.node.now score) (code_of m)) }
-        ensures none { IsNone result → NoneMeets self.now.node.now.position
-            (Scores self.now.node.now score) }
+        ensures none { IsNone result
+            → material_of self.now.node.now.position self.now.node.now.eval <ℤ score
+            → NoneMeets self.now.node.now.position (Scores self.now.node.now score) }
     {
-        let mut left = self.gainers(score - 1);
+        let mut left = self.pieces_scoring(score);
         while left != 0 {
             let from = lowest(left);
             if let Some(m) = self.first_from(Square::of_index(from), score) {
@@ -113,8 +146,12 @@ impl Scene<'_> {
         ensures none { IsNone result → NoneMeets self.now.node.now.position
             (Scores self.now.node.now score) }
     {
-        if score > self.node.score() {
-            return self.first_gain(score);
+        let base = self.node.score();
+        if score >= base {
+            let found = self.first_on_board(score);
+            if found.is_some() || score > base {
+                return found;
+            }
         }
         let mut walk = Walk::new(self.node.as_position());
         'moves: while let Some(m) = walk.next() {
@@ -141,16 +178,17 @@ impl Scene<'_> {
     }
 
     /// The value and the best move of a node with few legal moves: they are gone through once.
+    #[inline(never)]
     pub fn by_one_walk(&self) -> Entry
         ensures truth { IsTrueOf self.now.node.now result }
         ensures cutoff { (alpha beta : ℤ) → IsCutoff alpha beta result }
     {
-        let replies = Replies::of(self.node.as_position());
+        let outlook = Outlook::of(self);
         let mut walk = Walk::new(self.node.as_position());
         let mut most = -INFINITY;
         let mut first = None;
         'moves: while let Some(m) = walk.next() {
-            if self.mates_past(&replies, &m) {
+            if outlook.mates_past(&m) {
                 m.validity();
                 return Entry::Exact(MATE, Some(m));
             }

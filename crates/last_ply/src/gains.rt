@@ -21,7 +21,7 @@ use crate::scene::Scene;
 use shogi_core::bits::{has, lowest, with, without_lowest};
 use shogi_core::{Color, Move, Piece, Role, Square, aligned_squares, step_squares};
 use shogi_eval::{Eval, taken_gain};
-use shogi_moves::{enterable, legal_destinations, promoting_squares, squares_near_zone, takers};
+use shogi_moves::{legal_destinations, promoting_squares, squares_near_zone, takers};
 
 /// The most that a promotion gains, that of a pawn.
 pub const PROMOTION_GAIN_MAX: u32 = 500;
@@ -165,6 +165,7 @@ impl Scene<'_> {
 
     /// The most that a legal move of one of the side's pieces to these squares, which it reaches,
     /// scores, promoting or not, or the floor where that is no less.
+    #[inline(always)]
     fn most_among(&self, from: Square, promote: bool, ends: u128, floor: i32) -> i32
         requires own { is_piece_of self.now.node.now.position.side
             (piece_at self.now.node.now.position.cells from) ≡ true }
@@ -198,7 +199,7 @@ impl Scene<'_> {
     {
         from.validity();
         let p = self.node.as_position();
-        let reach = p.as_board().targets(from) & enterable(p);
+        let reach = p.as_board().targets(from) & self.enterable();
         let takes = reach & self.foe;
         let promoting = reach & promoting_squares(p.at(from), from);
         if takes | promoting == 0 {

@@ -19,8 +19,8 @@ use crate::scene::Scene;
 use shogi_core::bits::{ALL_SQUARES, has, lowest, with, without_lowest};
 use shogi_core::{Kind, Move, Piece, Position, Role, Square, aligned_squares, step_squares};
 use shogi_moves::{
-    Destinations, Replies, drop_destinations, drop_squares, enterable, escape_squares, has_legal,
-    is_legal, king_takes, leaves_escape, leaves_king_move, promoting_squares,
+    Destinations, Replies, drop_destinations, drop_squares, escape_squares, has_legal, is_legal,
+    king_takes, leaves_escape, leaves_king_move, promoting_squares,
 };
 
 /// A scene, and what shows of most moves that the other side surely has one after them.
@@ -148,17 +148,6 @@ impl Scene<'_> {
         !has_legal(next.as_position())
     }
 
-    /// The same; where these replies tell of one, the move is not made.
-    pub fn mates_past(&self, replies: &Replies, m: &Move) -> bool
-        requires legal { is_legal self.now.node.now.position m.now ≡ true }
-        requires kept { IsReplies self.now.node.now.position replies.now.sight replies.now.spare }
-        ensures mated { result ≡ true → LeavesNone self.now.node.now.position (code_of m.now) }
-        ensures none { result ≡ false → LeavesSome self.now.node.now.position (code_of m.now) }
-    {
-        m.validity();
-        !replies.is_certain(self.node.as_position(), m) && self.mates(m)
-    }
-
     /// Whether some legal move leaves the other side without one.
     pub fn has_mate(&self) -> bool
         ensures some { result ≡ true → HasMate self.now.node.now.position }
@@ -171,7 +160,8 @@ impl Scene<'_> {
 
 impl Outlook<'_> {
     /// The outlook of the scene.
-    fn of<'a>(scene: &Scene<'a>) -> Outlook<'a>
+    #[inline(always)]
+    pub fn of<'a>(scene: &Scene<'a>) -> Outlook<'a>
         ensures { result.scene.node.now ≡ scene.now.node.now }
     {
         let p = scene.node.as_position();
@@ -195,8 +185,11 @@ impl Outlook<'_> {
 
     /// Whether the legal move leaves the other side without one; where its king surely has a way, the
     /// move is not made.
+    #[inline(always)]
     fn tries(&self, m: &Move) -> bool
         requires { is_legal self.now.scene.node.now.position m.now ≡ true }
+        ensures mated { result ≡ true
+            → LeavesNone self.now.scene.node.now.position (code_of m.now) }
         ensures some { result ≡ true → HasMate self.now.scene.node.now.position }
         ensures none { result ≡ false
             → LeavesSome self.now.scene.node.now.position (code_of m.now) }
@@ -206,6 +199,18 @@ impl Outlook<'_> {
             return false;
         }
         self.scene.mates(m)
+    }
+
+    /// The same; where a reply shows after a move that gives no check, nothing more is asked.
+    pub fn mates_past(&self, m: &Move) -> bool
+        requires { is_legal self.now.scene.node.now.position m.now ≡ true }
+        ensures mated { result ≡ true
+            → LeavesNone self.now.scene.node.now.position (code_of m.now) }
+        ensures none { result ≡ false
+            → LeavesSome self.now.scene.node.now.position (code_of m.now) }
+    {
+        m.validity();
+        !self.replies.is_certain(self.scene.node.as_position(), m) && self.tries(m)
     }
 
     /// Whether one of the legal moves of what stands on the square to these does.
@@ -276,6 +281,7 @@ impl Outlook<'_> {
 
     /// Those of the ends from which what moves there from the square, this piece, may reach each
     /// escape on no line with that square, and those on one: elsewhere the king has one left.
+    #[inline(always)]
     fn closing_ends(&self, from: Square, promote: bool, piece: Piece, ends: u128) -> u128
         requires { piece_moved promote
             (piece_at self.now.scene.node.now.position.cells from) ≡ Some piece }
@@ -311,7 +317,7 @@ impl Outlook<'_> {
         }
         from.validity();
         let p = self.scene.node.as_position();
-        let ends = p.as_board().targets(from) & enterable(p);
+        let ends = p.as_board().targets(from) & self.scene.enterable();
         if self.is_unseen(from, ends) {
             return true;
         }
@@ -327,6 +333,9 @@ impl Outlook<'_> {
             role: piece.role.promoted(),
         };
         let promotions = ends & promoting_squares(cell, from);
+        if promotions == 0 {
+            return true;
+        }
         let promoting = self.closing_ends(from, true, promoted, promotions);
         promoting
             & !self
@@ -417,15 +426,13 @@ impl Outlook<'_> {
         kept
     }
 
-    /// Whether a legal drop of the kind leaves the other side without a legal move.
-    fn mates_by(&self, kind: Kind) -> bool
+    /// Whether a legal drop of the kind, if that is held, leaves the other side without a legal move.
+    #[inline(never)]
+    fn mates_by_held(&self, kind: Kind) -> bool
         ensures some { result ≡ true → HasMate self.now.scene.node.now.position }
         ensures none { result ≡ false → DropsLeaveSome self.now.scene.node.now.position kind }
     {
         let p = self.scene.node.as_position();
-        if p.hand(p.side(), kind) == 0 {
-            return false;
-        }
         let closing = self.closing_drops(kind, self.squares);
         if closing == 0 {
             return false;
@@ -437,6 +444,19 @@ impl Outlook<'_> {
         }
         let ends = drop_destinations(p, self.squares, kind);
         self.mates_by_drops(kind, ends & doubtful)
+    }
+
+    /// Whether a legal drop of the kind leaves the other side without a legal move.
+    #[inline(always)]
+    fn mates_by(&self, kind: Kind) -> bool
+        ensures some { result ≡ true → HasMate self.now.scene.node.now.position }
+        ensures none { result ≡ false → DropsLeaveSome self.now.scene.node.now.position kind }
+    {
+        let p = self.scene.node.as_position();
+        if p.hand(p.side(), kind) == 0 {
+            return false;
+        }
+        self.mates_by_held(kind)
     }
 
     /// Whether a legal drop leaves the other side without a legal move.

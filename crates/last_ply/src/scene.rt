@@ -10,7 +10,7 @@ ghost use Rattle.shogi_moves.specs.CheckInfo.{IsCheckInfoOf};
 
 use shogi_core::Square;
 use shogi_eval::Node;
-use shogi_moves::{CheckInfo, Destinations, check_info_of, enterable, legal_destinations};
+use shogi_moves::{CheckInfo, Destinations, check_info_of, legal_destinations};
 
 /// A node, and what is known of it: of checks, which squares the pieces of the side to move stand
 /// on, and those of the other side.
@@ -47,6 +47,16 @@ impl Scene<'_> {
         }
     }
 
+    /// The squares on which none of the side's pieces stands.
+    #[inline(always)]
+    #[tactic(auto, using(shogi_moves::proofs::DestinationLaws::entering_bits))]
+    pub fn enterable(&self) -> u128
+        ensures { HasBits result (λ n. not (is_piece_of self.now.node.now.position.side
+            (piece_at self.now.node.now.position.cells n))) }
+    {
+        !self.own
+    }
+
     /// The legal destinations of one of the side's pieces.
     pub fn destinations(&self, from: Square) -> Destinations
         requires { is_piece_of self.now.node.now.position.side
@@ -57,7 +67,7 @@ impl Scene<'_> {
     {
         let p = self.node.as_position();
         from.validity();
-        let among = p.as_board().targets(from) & enterable(p);
+        let among = p.as_board().targets(from) & self.enterable();
         legal_destinations(p, &self.info, from, among)
     }
 }

@@ -1,4 +1,4 @@
-use Rattle.std.proofs.Common.{◌≡◌, ◌∙◌, refl, sym, arith, inl, inr, Some}
+use Rattle.std.proofs.Common.{◌∙◌, refl, sym, arith, inl, inr}
 use Rattle.std.proofs.lemmas.Bool.{cases_Bool, and_parts, not-true}
 use Rattle.shogi_core.specs.Bits.{has_bit}
 use Rattle.shogi_core.proofs.BitLaws.{has_bit-and}

@@ -10,27 +10,27 @@ use Rattle.last_ply.proofs.scene.Scene.by_one_walk.Goals as goal
 
 pub moves-init : goal.moves-init
 moves-init c = record {
-  position = c.new-walk.ensures.position ∙ c.as_position-2.ensures;
-  walked = walked_none _ _ _ _ (c.new-walk.ensures.codes ∙ ap legal_codes c.as_position-2.ensures) (omega (arith, ints));
+  position = c.new-walk.ensures.position ∙ c.as_position.ensures;
+  walked = walked_none _ _ _ _ (c.new-walk.ensures.codes ∙ ap legal_codes c.as_position.ensures) (omega (arith, ints));
 }
 
 pub returns-then-mates_past-clause-truth : goal.returns-then-mates_past-clause-truth
 returns-then-mates_past-clause-truth c =
     let p = c.args.self.now.node.now.position in
     let f : _ = mate_found p c.args.self.now.node.now.eval c.in-Some.m c.args.self.now.valid c.validity.ensures.back
-    (found_least p (LeavesNone p) c.moves.walk.codes c.next.new.self.codes (code_of c.in-Some.m) c.in-Some.ensures.next c.moves.invariant.walked.quiet (c.if-mates_past.ensures.mated refl)) in
+    (found_least p (LeavesNone p) c.moves.walk.codes c.next.new.self.codes (code_of c.in-Some.m) c.in-Some.ensures.next c.moves.invariant.walked.quiet (rw c.of-outlook.ensures at (c.if-mates_past.ensures.mated refl))) in
     (f.value_is, f.best_is)
 
 pub moves-preserved-then-score-most : goal.moves-preserved-then-score-most
 moves-preserved-then-score-most c = record {
   position = c.in-Some.ensures.position ∙ c.moves.invariant.position;
-  walked = walked_raised _ _ c.moves.walk.codes c.next.new.self.codes c.in-Some.m _ c.score_with-score.result _ _ _ c.moves.invariant.walked c.in-Some.ensures.next (c.if-mates_past.ensures.none refl) c.score_with-score.ensures.value (omega (arith, ints, c.if-score-most.true)) (omega (arith, ints)) refl;
+  walked = walked_raised _ _ c.moves.walk.codes c.next.new.self.codes c.in-Some.m _ c.score_with-score.result _ _ _ c.moves.invariant.walked c.in-Some.ensures.next (rw c.of-outlook.ensures at (c.if-mates_past.ensures.none refl)) c.score_with-score.ensures.value (omega (arith, ints, c.if-score-most.true)) (omega (arith, ints)) refl;
 }
 
 pub moves-preserved : goal.moves-preserved
 moves-preserved c = record {
   position = c.in-Some.ensures.position ∙ c.moves.invariant.position;
-  walked = walked_on _ _ c.moves.walk.codes c.next.new.self.codes c.in-Some.m _ c.score_with-score.result _ c.moves.invariant.walked c.in-Some.ensures.next (c.if-mates_past.ensures.none refl) c.score_with-score.ensures.value c.score_with-score.ensures.least (omega (arith, ints, c.if-score-most.false));
+  walked = walked_on _ _ c.moves.walk.codes c.next.new.self.codes c.in-Some.m _ c.score_with-score.result _ c.moves.invariant.walked c.in-Some.ensures.next (rw c.of-outlook.ensures at (c.if-mates_past.ensures.none refl)) c.score_with-score.ensures.value c.score_with-score.ensures.least (omega (arith, ints, c.if-score-most.false));
 }
 
 pub returns-in-None-clause-truth : goal.returns-in-None-clause-truth

@@ -1,6 +1,6 @@
 use Rattle.std.proofs.Common.{◌<◌, ◌^◌}
 use Rattle.shogi_moves.specs.Destinations.{AreEnterable}
-use Rattle.last_ply.proofs.Firsts.{NoneScoresAmong}
+use Rattle.last_ply.specs.LastPly.{NoneScoresAmong}
 use Rattle.last_ply.proofs.scene.Scene.first_from.Given as goal
 
 abbrev pub invariant-loop-left : goal.invariant-loop-left

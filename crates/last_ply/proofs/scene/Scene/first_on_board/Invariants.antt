@@ -3,7 +3,7 @@ use Rattle.shogi_core.specs.Bits.{has_bit}
 use Rattle.shogi_core.specs.Cell.{is_piece_of}
 use Rattle.shogi_core.specs.Movement.{piece_at}
 use Rattle.last_ply.specs.LastPly.{NoneScoresFrom}
-use Rattle.last_ply.proofs.scene.Scene.first_gain.Given as goal
+use Rattle.last_ply.proofs.scene.Scene.first_on_board.Given as goal
 
 abbrev pub invariant-loop-left : goal.invariant-loop-left
 invariant-loop-left l = record {

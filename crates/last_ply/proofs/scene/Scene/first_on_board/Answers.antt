@@ -1,0 +1,27 @@
+use Rattle.std.proofs.Common.{◌≡◌, ℤ, to_z, of_z, arith, ap, sym, ◌∙◌, subst, w32}
+use Rattle.std.proofs.lemmas.Int.{ints, to_z-of_z}
+use Rattle.std.proofs.lemmas.Bool.{false_from_ne_true}
+use Rattle.shogi_core.specs.Bits.{has_bit}
+use Rattle.shogi_core.specs.Codes.{code_of}
+use Rattle.shogi_core.proofs.BitLaws.{has_bit-none}
+use Rattle.last_ply.specs.LastPly.{IsFirstFrom}
+use Rattle.last_ply.proofs.Firsts.{first_of_all, none_of_all}
+use Rattle.last_ply.proofs.scene.Scene.first_on_board.Goals as goal
+
+pub loop-left-init : goal.loop-left-init
+loop-left-init c = record {
+  passed = λ n h own out m promote hm legal same. c.pieces_scoring-left.ensures.others n h (c.args.self.now.owns.0 n h ∙ own) out m promote hm legal (omega (arith, ints, same));
+  within = λ n h set. sym (c.args.self.now.owns.0 n h) ∙ c.pieces_scoring-left.ensures.within n set;
+  fits = c.pieces_scoring-left.ensures.fits;
+}
+
+pub returns-in-Some-clause-some : goal.returns-in-Some-clause-some
+returns-in-Some-clause-some c =
+    let value : to_z w32 (of_z w32 c.args.score) ≡ c.args.score = to_z-of_z w32 c.args.score c.ranges.score in
+    first_of_all c.args.self.now.node.now c.args.score c.lowest-from.result (code_of c.in-Some.m) c.lowest-from.ensures.range
+    (subst (λ (v : ℤ). IsFirstFrom c.args.self.now.node.now v c.lowest-from.result (code_of c.in-Some.m)) value (rw c.of_index.ensures at c.in-Some.ensures.some))
+    (λ n below own m promote h legal same. c.loop-left.invariant.passed n (omega (arith, below, c.lowest-from.ensures.range)) own (false_from_ne_true (has_bit c.loop-left.left n) (λ set. absurd (omega (arith, below, c.lowest-from.ensures.least n set)))) m promote h legal (omega (arith, ints, same)))
+
+pub returns-clause-none : goal.returns-clause-none
+returns-clause-none c = λ _ more. none_of_all c.args.self.now.node.now c.args.score c.args.self.now.valid more
+    (λ n h own m promote hm legal same. c.loop-left.invariant.passed n h own (ap (λ x. has_bit x n) (omega (arith, c.loop-left-test.false)) ∙ has_bit-none n) m promote hm legal (omega (arith, ints, same)))
