@@ -1,7 +1,7 @@
 //! A host of sessions.
 
 ghost use Rattle.std.specs.Prelude.{◌≡◌, ◌≤◌, IfOk, IsErrOf, OnErr, Err, true, length, take};
-ghost use Rattle.session_slots.specs.Slots.{find, IsBelow, OthersKept};
+ghost use Rattle.session_slots.specs.Slots.{count, find, IsBelow, OthersKept};
 ghost use Rattle.shared_table.specs.Recent.{AreTrue};
 ghost use Rattle.host_core.specs.ById.{IsQueue, pending_of, wants_input_of, is_over_of, is_still_of};
 ghost use Rattle.host_core.specs.Events.{Open, Feed, Work, Take, Close, Opened, Worked, Gave};
@@ -69,11 +69,13 @@ impl<S: BuildHasher, A: Allocator + Copy> Host<S, A> {
     }
 
     /// States that each entry of the table is true, that there are at most as many as its capacity,
-    /// and that each id which finds a session has a generation below the next one.
+    /// that each id which finds a session has a generation below the next one, and that at most 1,024
+    /// sessions are open.
     pub fn validity(&self)
         ensures truth { AreTrue self.now.table.pairs }
         ensures fits { length self.now.table.pairs ≤ self.now.table.capacity }
         ensures below { IsBelow self.now.slots }
+        ensures few { count self.now.slots ≤ SESSIONS_MAX }
     {
         self.table.validity();
         self.slots.validity();

@@ -64,9 +64,11 @@ impl<A: Allocator + Copy> Slots<A> {
         }
     }
 
-    /// States that each id which finds a session has a generation below the next one.
+    /// States that each id which finds a session has a generation below the next one, and that no more
+    /// sessions are open than may be.
     pub fn validity(&self)
-        ensures { IsBelow self.now }
+        ensures below { IsBelow self.now }
+        ensures few { count self.now ≤ SESSIONS_MAX }
     {
         let _ = &self.next;
     }

@@ -21,7 +21,7 @@ use Rattle.wires.specs.Report.{Report, KeepsPeer, KeepsAll, Writes, Shuts, bytes
 use Rattle.socket_loop.specs.Links.{Ties, IsTied, IsAmong, IsApart, links_of}
 use Rattle.socket_loop.specs.Parts.{AreAll, IsAdmission, IsClosing, closes}
 use Rattle.wires.specs.Moves.{AllMove}
-use Rattle.socket_loop.specs.Turns.{Fits, Accepted, AreNumbered, HasSession, IsOneOf, IsRejected, IsAway, IsNew, Accepts, Admits, openings, rejection_text}
+use Rattle.socket_loop.specs.Turns.{Fits, Accepted, AreNumbered, HasSession, HaveSessions, IsOneOf, IsRejected, IsAway, IsNew, Accepts, Admits, openings, rejection_text}
 use Rattle.wires.proofs.Peers.{kept_same, kept_then, all_kept, moves_then, away_moves, stays_raised, rises_then, stays_rise, reported_failure, raised_rises, Consumes-none, Appends-none, Keeps-Appends}
 use Rattle.wires.specs.Asked.{Call, Accept, Asks}
 use Rattle.socket_loop.specs.Calls.{AllAccepted, OneAdmitted, AsksAll, GivesNobody}
@@ -294,14 +294,6 @@ numbered_then : (f m t : ℕ) (xs ys : List Accepted) → AreNumbered f xs m →
 numbered_then f m t [] ys p q = numbered_from f m t ys p q
 numbered_then f m t (x ∷ xs) ys p q = (p.0, numbered_then (x.number + 1) m t xs ys p.1 q)
 
-numbered_below : (f m : ℕ) (xs : List Accepted) (x : Accepted) → AreNumbered f xs m → IsOneOf xs x → x.number < m
-numbered_below f m [] x p one = absurd one
-numbered_below f m (y ∷ ys) x p (inl same) =
-    let u : y.number + 1 ≤ m = numbered_end (y.number + 1) m ys p.1 in
-    let e : x.number ≡ y.number = ap (λ (z : Accepted). z.number) same in
-    omega arith
-numbered_below f m (y ∷ ys) x p (inr one) = numbered_below (y.number + 1) m ys x p.1 one
-
 -- rejected, and nothing after that
 turned_then : (f m t : ℕ) (x y : List Accepted) (a b c : Report) (n : ℕ) → m ≤ t → IsRejected f m x a b n → KeepsPeer b c n → IsRejected f t (x ++ y) a c n
 turned_then f m t x y a b c n v w k =
@@ -440,14 +432,14 @@ some_stop n moved ls ms f m t a b c h i old mid new answer lt p u k q g =
     record {
       accepts = accepts_stop ls ms f m t a b c h i p.accepts u k;
       none = λ e. ap (λ (xs : List Accepted). xs ++ []) (p.none e);
-      asked = subst (λ (xs : List Accepted). AsksAll ms xs old new) (sym (append-nil p.accepts.accepted)) (asks_stop ms p.accepts.accepted old mid new answer count p.asked q g);
+      asked = subst (λ (xs : List Accepted). AsksAll h ls ms xs old new) (sym (append-nil p.accepts.accepted)) (asks_stop h ls ms p.accepts.accepted old mid new answer count p.asked q g);
     }
 
 -- as many were accepted as may be, or there is no place
-pub some_full : (n : ℕ) (moved : Bool) (ls ms : List Link) (f m : ℕ) (a b : Report) (h i : HostState) (old new : Option (List Call)) → (n ≡ 16) ⊎ (1025 ≤ length ms) → AcceptsSome n moved ls f a h ms m b i old new → AllAccepted moved ls f a h ms m b i old new
+pub some_full : (n : ℕ) (moved : Bool) (ls ms : List Link) (f m : ℕ) (a b : Report) (h i : HostState) (old new : Option (List Call)) → (n ≡ 16) ⊎ ¬ HaveSessions h ls → AcceptsSome n moved ls f a h ms m b i old new → AllAccepted moved ls f a h ms m b i old new
 some_full n moved ls ms f m a b h i old new e p =
-    let full : (length p.accepts.accepted ≡ 16) ⊎ (1025 ≤ length ms) = elim e [ inl most ↦ inl (p.counted ∙ most) | inr held ↦ inr held ] in
-    record { accepts = p.accepts; none = p.none; asked = asks_full ms p.accepts.accepted old new full p.asked }
+    let full : (length p.accepts.accepted ≡ 16) ⊎ ¬ HaveSessions h ls = elim e [ inl most ↦ inl (p.counted ∙ most) | inr lacks ↦ inr lacks ] in
+    record { accepts = p.accepts; none = p.none; asked = asks_full h ls ms p.accepts.accepted old new full p.asked }
 
 pub some_more : (n : ℕ) (moved : Bool) (ls ms ns : List Link) (f m number t : ℕ) (a b c d : Report) (h i j : HostState) (old mid asked new : Option (List Call)) → AcceptsSome n moved ls f a h ms m b i old mid → m ≤ number → number < t → KeepsAll b c → Asks mid asked (Accept (Ok (Some number)) ∷ []) → OneAdmitted ms c i number t ns d j asked new → AcceptsSome (n + 1) true ls f a h ns t d j old new
 unfolding accepts_more accepts_then

@@ -14,10 +14,10 @@ use Rattle.wires.specs.Asked.{Call, Accept, Read, Write, Shut, Asks, IsCalled}
 use Rattle.socket_loop.specs.declared.connection.Link.{Link}
 use Rattle.socket_loop.specs.Links.{links_of, IsAmong, IsApart}
 use Rattle.socket_loop.specs.Parts.{IsClosing}
-use Rattle.socket_loop.specs.Calls.{IsOf, IsVisit, Visits, is_to_read, is_to_write, is_to_shut, reads_of, writes_of, ends_of, AreVisitedTo, AsksTo, AsksEach, IsAdmittedAs, IsAdmitted, AreAccepted, AsksAdmission, AsksAll, GivesNobody, shuts_of}
+use Rattle.socket_loop.specs.Calls.{IsOf, IsVisit, Visits, is_to_read, is_to_write, is_to_shut, reads_of, writes_of, ends_of, AreVisitedTo, AsksTo, AsksEach, IsAdmittedAs, IsAdmitted, AreAccepted, AsksAdmission, AsksAll, EndsAccepting, GivesNobody, shuts_of}
 use Rattle.host_core.specs.declared.event.HostFault.{HostFault}
 use Rattle.host_core.specs.declared.event.HostFault.TheVariants.{Full, OutOfMemory, UnknownSession, NotReady}
-use Rattle.socket_loop.specs.Turns.{Accepted, IsOneOf, KeepsMade}
+use Rattle.socket_loop.specs.Turns.{Accepted, HaveSessions, IsOneOf, KeepsMade}
 use Rattle.session_slots.specs.Slots.{find}
 use Rattle.host_core.specs.ById.{queued_of}
 use Rattle.socket_loop.proofs.Stirs.{made_same}
@@ -197,17 +197,19 @@ asks_accept met items item a b c d p q r = record {
 }
 
 -- an accept gave nobody
-pub asks_stop : (met : List Link) (items : List Accepted) (a b c : Option (List Call)) (answer : Result (Option ℕ) WireFault) → length items < 16 → AsksAccepts met items a b → Asks b c (Accept answer ∷ []) → GivesNobody answer → AsksAll met items a c
-asks_stop met items a b c answer lt p q g = record {
+pub asks_stop : (host : HostState) (ls met : List Link) (items : List Accepted) (a b c : Option (List Call)) (answer : Result (Option ℕ) WireFault) → length items < 16 → AsksAccepts met items a b → Asks b c (Accept answer ∷ []) → GivesNobody answer → AsksAll host ls met items a c
+asks_stop host ls met items a b c answer lt p q g = record {
   first = p.calls;
   last = Accept answer ∷ [];
   accepted = p.accepted;
-  ends = inr (lt, (answer, (g, refl)));
+  ends = inl (inr (lt, (answer, (g, refl))));
   asked = asks_then a b c p.calls (Accept answer ∷ []) p.asked q;
 }
 
-pub asks_full : (met : List Link) (items : List Accepted) (a b : Option (List Call)) → (length items ≡ 16) ⊎ (1025 ≤ length met) → AsksAccepts met items a b → AsksAll met items a b
-asks_full met items a b e p = record { first = p.calls; last = []; accepted = p.accepted; ends = inl (e, refl); asked = rw (append-nil p.calls) p.asked }
+pub asks_full : (host : HostState) (ls met : List Link) (items : List Accepted) (a b : Option (List Call)) → (length items ≡ 16) ⊎ ¬ HaveSessions host ls → AsksAccepts met items a b → AsksAll host ls met items a b
+asks_full host ls met items a b e p =
+    let ends_ : EndsAccepting items [] ⊎ (([] ≡ []) × ¬ HaveSessions host ls) = elim e [ inl most ↦ inl (inl (most, refl)) | inr lacks ↦ inr (refl, lacks) ] in
+    record { first = p.calls; last = []; accepted = p.accepted; ends = ends_; asked = rw (append-nil p.calls) p.asked }
 
 -- an allocation failed for a session
 pub refused_admitted : (met : List Link) (number : ℕ) (fault : HostFault) → (fault ≡ Full → ⊥) → IsAdmitted met (record { number = number; outcome = Refused fault }) (Shut number ∷ [])

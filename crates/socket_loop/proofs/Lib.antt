@@ -15,3 +15,4 @@ pub mod Endings
 pub mod Left
 pub mod Loads
 pub mod Each
+mod Few

@@ -225,7 +225,7 @@ turn_with slice p q r s w held accepted_ read_ written_ last f t a b c d e h i j
 
 -- the calls of a turn
 pub asks_turn : (slice : ℕ) (moved : Bool) (before after : Scene) (met read written last : List Connection) (i j k l : HostState) (admissions : List Step) (items : List Accepted) (accepted asked_reads asked_writes : Option (List Call)) → TurnWith slice moved before after admissions (links_of met) j k written items
-    → AsksAll (links_of met) items before.asked accepted → IsRun before.host admissions i → Grows before.held met → (IsRising (links_of before.held) → IsRising (links_of met)) → AsksEach reads_of IsInput i met read accepted asked_reads j → AsksEach writes_of IsOutput k read written asked_reads asked_writes l → AsksEach ends_of IsEnd l written last asked_writes after.asked after.host
+    → AsksAll before.host (links_of before.held) (links_of met) items before.asked accepted → IsRun before.host admissions i → Grows before.held met → (IsRising (links_of before.held) → IsRising (links_of met)) → AsksEach reads_of IsInput i met read accepted asked_reads j → AsksEach writes_of IsOutput k read written asked_reads asked_writes l → AsksEach ends_of IsEnd l written last asked_writes after.asked after.host
     → after.held ≡ filter (λ x. not x.is_shut) last → AsksTurn slice moved before after
 asks_turn slice moved before after met read written last i j k l admissions items accepted asked_reads asked_writes w accepts run grows rising reads writes ends left = record {
   turn = w.turn;

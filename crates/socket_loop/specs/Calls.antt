@@ -13,13 +13,13 @@ use Rattle.wires.specs.declared.wire.Wire.{Ghosts}
 use Rattle.wires.specs.declared.wire.WireFault.{WireFault}
 use Rattle.socket_loop.specs.declared.connection.Link.{Link}
 use Rattle.socket_loop.specs.declared.connection.Connection.{Connection}
-use Rattle.socket_loop.specs.declared.turn.TheConstants.{ACCEPTS, PLACES}
+use Rattle.socket_loop.specs.declared.turn.TheConstants.{ACCEPTS}
 use Rattle.usi_session.specs.declared.limits.TheConstants.{CHUNK_MAX}
 use Rattle.wires.specs.Asked.{Call, Accept, Read, Write, Shut, Asks, IsCalled}
 use Rattle.socket_loop.specs.Links.{links_of, unshut_of, IsApart, IsRising}
 use Rattle.socket_loop.specs.Scenes.{Scene}
 use Rattle.socket_loop.specs.Parts.{AreAll, Grows, HoldsMore, IsInput, IsOutput, IsEnd, is_finished}
-use Rattle.socket_loop.specs.Turns.{host_full, Accepted, Accepts, Admits, Fits, ContinuesServing, HasMoved, HasSession, IsOpening, IsQuiet, IsTurn, KeepsMade, LoopState, Over, ServesNew}
+use Rattle.socket_loop.specs.Turns.{host_full, Accepted, Accepts, Admits, ContinuesServing, HasMoved, HasSession, HaveSessions, IsQuiet, IsTurn, KeepsMade, LoopState, Over, ServesNew}
 
 -- ---- one connection
 
@@ -160,16 +160,21 @@ pub record AdmitsOne (number : ℕ) (before after : Scene) : Type 0 where
   pub more : HoldsMore before.held before.failed after.held after.failed
   pub bound : after.bound ≡ before.bound
 
--- connections were accepted until one accept gave nobody, or ACCEPTS of them were, or as many were met as there are places for
-pub record AsksAll (met : List Link) (items : List Accepted) (old new : Option (List Call))
-    : Type 0 where
+-- so many were accepted as are accepted in a turn, or fewer, and one accept gave nobody
+abbrev pub EndsAccepting : List Accepted → List Call → Type 0
+EndsAccepting items last =
+    ((length items ≡ ACCEPTS) × (last ≡ []))
+    ⊎ ((length items < ACCEPTS)
+    × ((answer : Result (Option ℕ) WireFault)
+    × (GivesNobody answer × (last ≡ Accept answer ∷ []))))
+
+-- connections were accepted until one accept gave nobody, or ACCEPTS of them were; it may end before that only where not each connection that was held had an open session of its own, as another closed it
+pub record AsksAll (host : HostState) (links met : List Link) (items : List Accepted)
+    (old new : Option (List Call)) : Type 0 where
   pub first : List Call
   pub last : List Call
   pub accepted : AreAccepted met items first
-  pub ends : (((length items ≡ ACCEPTS) ⊎ (PLACES ≤ length met)) × (last ≡ []))
-      ⊎ ((length items < ACCEPTS)
-      × ((answer : Result (Option ℕ) WireFault)
-      × (GivesNobody answer × (last ≡ Accept answer ∷ []))))
+  pub ends : EndsAccepting items last ⊎ ((last ≡ []) × ¬ HaveSessions host links)
   pub asked : Asks old new (first ++ last)
 
 -- connections were accepted, with all calls
@@ -178,7 +183,7 @@ pub record AllAccepted (moved : Bool) (links : List Link) (from : ℕ) (old : Re
     (old_calls new_calls : Option (List Call)) : Type 0 where
   pub accepts : Accepts links from old before met to new after
   pub none : moved ≡ false → accepts.accepted ≡ []
-  pub asked : AsksAll met accepts.accepted old_calls new_calls
+  pub asked : AsksAll before links met accepts.accepted old_calls new_calls
 
 -- connections were accepted, if any; where none was, all that is reported stays
 pub record AcceptsAll (moved : Bool) (before after : Scene) : Type 0 where
@@ -194,7 +199,8 @@ pub record AcceptsAll (moved : Bool) (before after : Scene) : Type 0 where
 pub record AsksTurn (slice : ℕ) (moved : Bool) (before after : Scene) : Type 0 where
   pub turn : IsTurn slice moved before after
   pub accepted : Option (List Call)
-  pub accepts : AsksAll turn.met turn.accepted before.asked accepted
+  pub accepts : AsksAll before.host (links_of before.held) turn.met turn.accepted
+      before.asked accepted
   pub middle : HostState
   pub to_middle : IsRun before.host turn.admissions middle
   pub met : List Connection

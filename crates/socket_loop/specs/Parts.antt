@@ -130,7 +130,8 @@ pub record Finished (marks : List Connection) (before : HostState) (steps : List
   pub finished : is_finished_with has_ended (find moment.slots link.id) ≡ true
 
 -- why a connection is shut: a read or a write of it failed, a `Feed` of its session was refused for memory, or it was finished with
-abbrev pub Cause : List Connection → Report → HostState → List Step → Report → HostState → Link → Type 0
+abbrev pub Cause : List Connection → Report → HostState → List Step → Report → HostState → Link
+    → Type 0
 Cause marks old before steps new after link =
     IsRaised (old.has_failed link.number) (new.has_failed link.number)
     ⊎ ((starves link.id steps ≡ true) ⊎ Finished marks before steps after link)
@@ -183,8 +184,8 @@ pub record ServesLinks (kind : Event → Type 0) (marks : List Connection) (boun
 -- the same of the connections that are held
 abbrev pub Serves : (Event → Type 0) → List Connection → Scene → Scene → Type 0
 Serves kind marks before after =
-    ServesLinks kind marks before.bound (links_of before.held) before.report before.host after.report
-    after.host
+    ServesLinks kind marks before.bound (links_of before.held) before.report before.host
+    after.report after.host
 
 -- ---- marks
 

@@ -46,6 +46,11 @@ pub record FitsOne (links : List Link) (bound : ℕ) (host : HostState) (link : 
 abbrev pub Fits : List Link → ℕ → HostState → Type 0
 Fits links bound host = (link : Link) → IsAmong links link → FitsOne links bound host link
 
+-- each of these has an open session of its own
+pub record HaveSessions (host : HostState) (links : List Link) : Type 0 where
+  pub once : AreOnce links
+  pub open_all : (link : Link) → IsAmong links link → IsSome (find host.slots link.id)
+
 -- ---- new connections
 
 -- a connection that was accepted, and how the host answered its `Open`
@@ -148,23 +153,16 @@ pub record Accepts (links : List Link) (from : ℕ) (old : Report) (before : Hos
   pub fits : Fits links from before → Fits met to after
   pub once : Fits links from before → AreOnce links → AreOnce met
 
--- a session was opened, or not
-abbrev pub opening_of : Result SessionId HostFault → Outcome
-opening_of (Ok id) = Opened id
-opening_of (Err fault) = Refused fault
-
-abbrev pub IsOpening : HostState → Result SessionId HostFault → HostState → Type 0
-IsOpening old result new = IsStep old (record { event = Open; outcome = opening_of result }) new
-
 -- these connections were accepted
 pub record AcceptsThese (items : List Accepted) (links : List Link) (from : ℕ) (old : Report)
-    (before : HostState) (met : List Link) (to : ℕ) (new : Report) (after : HostState) : Type 0 where
+    (before : HostState) (met : List Link) (to : ℕ) (new : Report) (after : HostState)
+    : Type 0 where
   pub accepts : Accepts links from old before met to new after
   pub items_are : accepts.accepted ≡ items
 
 -- of a new connection, from any state of the wire that reported the same
-abbrev pub Admits : List Link → Report → HostState → ℕ → Outcome → ℕ → List Link → Report → HostState
-    → Type 0
+abbrev pub Admits : List Link → Report → HostState → ℕ → Outcome → ℕ → List Link → Report
+    → HostState → Type 0
 Admits links report before number outcome to met new after =
     (from : ℕ) (old : Report) → KeepsAll old report → from ≤ number → number < to
     → AcceptsThese (record { number = number; outcome = outcome } ∷ []) links from old before met to
@@ -173,8 +171,8 @@ Admits links report before number outcome to met new after =
 -- ---- a turn
 
 -- what was read from a connection, and written to it: all that its session owes to what was read, but for what it owes still; or, where it is closed, a prefix of it
-pub record Served (owes : List ℕ → List ℕ) (old new : Report) (number : ℕ) (now : Option SessionView)
-    : Type 0 where
+pub record Served (owes : List ℕ → List ℕ) (old new : Report) (number : ℕ)
+    (now : Option SessionView) : Type 0 where
   pub read : List ℕ
   pub lost : List ℕ
   pub written : List ℕ

@@ -114,7 +114,8 @@ Ends wires moved = OverOne wires (EndsOne moved)
 -- or took at least one byte, ended or was shut, and else all that is reported stays, and they are as they were
 pub record VisitsTo (n : ℕ) (due : HostState → Connection → Connection → List Call)
     (kind : Event → Type 0) (moved : Bool) (before after : Scene) : Type 0 where
-  pub asked : AsksTo n due kind before.host before.held after.held before.asked after.asked after.host
+  pub asked : AsksTo n due kind before.host before.held after.held before.asked after.asked
+      after.host
   pub quiet : IsQuiet moved before.report before.held after.report after.held
   pub stirs : moved ≡ true → Stirs before.report before.held after.report after.held
   pub marks : KeepsAllMarks before.bound before.report before.held after.report after.held

@@ -8,11 +8,13 @@ ghost use Rattle.wires.specs.Moves.{StaysKnown};
 ghost use Rattle.wires.specs.Asked.{Write, Shut};
 ghost use Rattle.wires.specs.Wires.{IsAsked};
 ghost use Rattle.socket_loop.specs.Calls.{AcceptsAll, AdmitsOne, Turned};
-ghost use Rattle.socket_loop.specs.declared.turn.TheConstants.{ACCEPTS, PLACES};
+ghost use Rattle.socket_loop.specs.declared.turn.TheConstants.{ACCEPTS};
+ghost use Rattle.session_slots.specs.declared.limits.TheConstants.{SESSIONS_MAX};
 
 use crate::connection::{Connection, Link};
 use crate::visit::{close_if_finished, read_from, write_to};
 use host_core::{Host, HostFault};
+use session_slots::SESSIONS_MAX;
 use std::alloc::{AllocError, Allocator};
 use std::hash::BuildHasher;
 use std::marker::Model;
@@ -21,9 +23,6 @@ use wires::Wire;
 
 /// The most connections that are accepted in a turn.
 pub const ACCEPTS: usize = 16;
-
-/// The most connections that are held: one more than a host has sessions at most.
-pub const PLACES: usize = 1025;
 
 /// What a turn did.
 #[derive(Clone, Copy, Debug, PartialEq, Eq)]
@@ -41,15 +40,15 @@ pub struct Loop<A: Allocator + Copy> {
 }
 
 impl<A: Allocator + Copy> Model for Loop<A> {
-    ghost use Rattle.std.specs.Prelude.{◌≤◌, vec_capacity};
+    ghost use Rattle.std.specs.Prelude.{◌<◌, vec_capacity};
     ghost use Rattle.socket_loop.specs.Turns.{LoopState};
-    ghost use Rattle.socket_loop.specs.declared.turn.TheConstants.{PLACES};
+    ghost use Rattle.session_slots.specs.declared.limits.TheConstants.{SESSIONS_MAX};
 
     ghost Value = { LoopState };
 
     ghost view = { λ l. record { slice = l.slice; held = l.held.items } };
 
-    ghost invariant = { λ l. PLACES ≤ vec_capacity l.held };
+    ghost invariant = { λ l. SESSIONS_MAX < vec_capacity l.held };
 }
 
 /// The place for a connection whose session has this slot.
@@ -86,19 +85,20 @@ fn reject<W: Wire>(wire: &mut W, number: u64)
 }
 
 impl<A: Allocator + Copy> Loop<A> {
-    /// No connection yet. Each round has this budget, which is at least 1. The places for connections
-    /// are made now, in 32 bytes each, so that a turn takes no memory for them.
+    /// No connection yet. Each round has this budget, which is at least 1. A place for each session that
+    /// a host may have, and one more, is made now, in 32 bytes each, so that a turn takes no memory for
+    /// them.
     pub fn new(alloc: A, slice: u64) -> Result<Loop<A>, AllocError>
         requires { 1 ≤ slice }
         ensures { IfOk result (λ l. l ≡ record { slice = slice; held = [] }) }
     {
-        let held = Vec::with_capacity(alloc, PLACES)?;
+        let held = Vec::with_capacity(alloc, SESSIONS_MAX + 1)?;
         Ok(Loop { slice, held })
     }
 
     /// Holds a new connection with its session, where there is a place.
     fn hold(&mut self, link: Link)
-        requires room { length self.old.held < PLACES }
+        requires room { length self.old.held ≤ SESSIONS_MAX }
         ensures held { self.new.held ≡ with_connection self.old.held (new_connection link) }
         ensures slice { self.new.slice ≡ self.old.slice }
     {
@@ -116,7 +116,7 @@ impl<A: Allocator + Copy> Loop<A> {
     /// Opens a session for a new connection, which is held with it. Where the host is full it is written
     /// so and shut; where there is no memory for a session it is shut without a word.
     fn admit<W: Wire, S: BuildHasher>(&mut self, host: &mut Host<S, A>, wire: &mut W, number: u64)
-        requires room { length self.old.held < PLACES }
+        requires room { length self.old.held ≤ SESSIONS_MAX }
         ensures { Over W.Wire (AdmitsOne number)
             self.old host.old wire.old self.new host.new wire.new }
     {
@@ -127,14 +127,17 @@ impl<A: Allocator + Copy> Loop<A> {
         }
     }
 
-    /// Accepts new connections, at most `ACCEPTS`, while there is a place. True where one was accepted.
+    /// Accepts new connections, at most `ACCEPTS`, while there is a place, as there is where each that is
+    /// held has an open session of its own. True where one was accepted.
     fn accept_all<W: Wire, S: BuildHasher>(&mut self, host: &mut Host<S, A>, wire: &mut W) -> bool
+        requires fits { Fits (links_of self.old.held) (W.bound wire.old) host.old }
         ensures { Over W.Wire (AcceptsAll result)
             self.old host.old wire.old self.new host.new wire.new }
     {
         let mut moved = false;
         for _ in 0..ACCEPTS {
-            if self.held.len() >= PLACES {
+            if self.held.len() > SESSIONS_MAX {
+                host.validity();
                 return moved;
             }
             let Ok(Some(number)) = wire.accept() else {

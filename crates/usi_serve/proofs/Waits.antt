@@ -5,6 +5,7 @@ use Rattle.session_slots.specs.Slots.{find}
 use Rattle.usi_session.specs.Due.{SessionView, is_pending, load}
 use Rattle.host_core.specs.ById.{pending_of}
 use Rattle.host_core.specs.Steps.{HostState}
+use Rattle.socket_loop.specs.declared.connection.Link.{Link}
 use Rattle.socket_loop.specs.Links.{links_of}
 use Rattle.socket_loop.specs.Turns.{Fits}
 use Rattle.socket_loop.proofs.Loads.{Nearer, near_turn}
@@ -12,7 +13,10 @@ use Rattle.socket_loop.proofs.Runs.{next_rises}
 use Rattle.socket_loop.specs.Scenes.{Scene}
 use Rattle.usi_serve.specs.Serving.{AreTurns, IsTurnAndWait}
 use Rattle.usi_serve.proofs.Lives.{lives_turns}
-use Rattle.usi_serve.specs.Patience.{IsThroughOnce, IsNearer, AnswersFrom, AnswersInTime}
+use Rattle.usi_serve.specs.Patience.{before_last, IsThroughInLast, IsNearer, IsWaiting, AnswersInLast, AnswersInTime}
+
+abbrev FitsScene : Scene → Type 0
+FitsScene scene = Fits (links_of scene.held) scene.bound scene.host
 
 -- the generation of the next id never falls
 nexts : (slice n : ℕ) (a b : Scene) → AreTurns slice n a b → a.host.slots.next ≤ b.host.slots.next
@@ -38,57 +42,51 @@ made_by : (slice n : ℕ) (s t : SessionView) (b : Scene) (id : SessionId) (foun
 made_by slice n s t b id None e p near = inl (ap pending_of e)
 made_by slice n s t b id (Some u) e p near = more_made slice n s t u b id (is_pending u) refl e p near
 
-next_made : (slice n : ℕ) (a m b : Scene) (s : SessionView) (id : SessionId) (so_far : AreTurns slice n a m) (last : IsTurnAndWait slice m b) → id.generation < m.host.slots.next → IsNearer slice n s m id → IsThroughOnce slice (suc n) a b (m, so_far, last) id ⊎ IsNearer slice (suc n) s b id
-next_made slice n a m b s id so_far last lt k =
+-- the generation of the next id, from before the last turns on
+nexts_last : (slice n more : ℕ) (a b : Scene) (turns : AreTurns slice n a b) → (before_last slice n more a b turns).host.slots.next ≤ b.host.slots.next
+nexts_last slice n zero a b turns = omega arith
+nexts_last slice zero (suc more) a b e = nexts slice zero a b e
+nexts_last slice (suc n) (suc more) a b (m, so_far, last) =
+    let u : (before_last slice n more a m so_far).host.slots.next ≤ m.host.slots.next = nexts_last slice n more a m so_far in
+    let v : m.host.slots.next ≤ b.host.slots.next = nexts slice 1 m b (m, refl, last) in
+    omega arith
+
+fits_last : (slice n more : ℕ) (a b : Scene) (turns : AreTurns slice n a b) → Fits (links_of a.held) a.bound a.host → FitsScene (before_last slice n more a b turns)
+fits_last slice n zero a b turns fit = (lives_turns slice n a b fit turns).fits
+fits_last slice zero (suc more) a b e fit = fit
+fits_last slice (suc n) (suc more) a b (m, so_far, last) fit = fits_last slice n more a m so_far fit
+
+next_made : (slice n more : ℕ) (a m b : Scene) (s : SessionView) (id : SessionId) (so_far : AreTurns slice n a m) (last : IsTurnAndWait slice m b) → id.generation < m.host.slots.next → IsNearer slice more s m id → IsThroughInLast slice (suc n) (suc more) a b (m, so_far, last) id ⊎ IsNearer slice (suc more) s b id
+next_made slice n more a m b s id so_far last lt k =
     elim (near_turn slice last.turn.moved m last.middle last.turn.turned.asked.turn id k.session lt k.finds k.pending) [
       | inl refused ↦ inl (inr (inr refused))
-      | inr near ↦ elim (made_by slice n s k.session b id (find b.host.slots id) refl k.made (rw last.wait.host near)) [
+      | inr near ↦ elim (made_by slice more s k.session b id (find b.host.slots id) refl k.made (rw last.wait.host near)) [
         | inl none ↦ inl (inr (inl none))
-        | inr more ↦ inr more
+        | inr more_ ↦ inr more_
       ]
     ]
 
-pub waits : (slice n : ℕ) (a b : Scene) (turns : AreTurns slice n a b) (id : SessionId) (s : SessionView) → id.generation < a.host.slots.next → find a.host.slots id ≡ Some s → is_pending s ≡ true → IsThroughOnce slice n a b turns id ⊎ IsNearer slice n s b id
-waits slice zero a b e id s lt f p = inr (record { session = s; finds = ap (λ (x : Scene). find x.host.slots id) e ∙ f; pending = p; made = omega arith })
-waits slice (suc n) a b (m, so_far, last) id s lt f p =
-    let u : a.host.slots.next ≤ m.host.slots.next = nexts slice n a m so_far in
-    elim (waits slice n a m so_far id s lt f p) [
+waits : (slice n more : ℕ) (a b : Scene) (turns : AreTurns slice n a b) (l : Link) (s : SessionView) → more ≤ n → l.id.generation < (before_last slice n more a b turns).host.slots.next → IsWaiting (before_last slice n more a b turns) l s → IsThroughInLast slice n more a b turns l.id ⊎ IsNearer slice more s b l.id
+waits slice n zero a b turns l s le lt w = inr (record { session = s; finds = w.finds; pending = w.pending; made = omega arith })
+waits slice zero (suc more) a b turns l s le lt w = absurd (omega arith)
+waits slice (suc n) (suc more) a b (m, so_far, last) l s le lt w =
+    let u : (before_last slice n more a m so_far).host.slots.next ≤ m.host.slots.next = nexts_last slice n more a m so_far in
+    elim (waits slice n more a m so_far l s (omega arith) lt w) [
       | inl through ↦ inl (inl through)
-      | inr near ↦ next_made slice n a m b s id so_far last (omega arith) near
+      | inr near ↦ next_made slice n more a m b s l.id so_far last (omega arith) near
     ]
 
-enough : (slice n : ℕ) (a b : Scene) (turns : AreTurns slice n a b) (id : SessionId) (s : SessionView) → load s < n * slice → IsThroughOnce slice n a b turns id ⊎ IsNearer slice n s b id → IsThroughOnce slice n a b turns id
-enough slice n a b turns id s lt (inl through) = through
-enough slice n a b turns id s lt (inr near) = (let m : n * slice + load near.session ≤ load s = near.made in absurd (omega arith))
+enough : (slice n more : ℕ) (a b : Scene) (turns : AreTurns slice n a b) (id : SessionId) (s : SessionView) → load s < more * slice → IsThroughInLast slice n more a b turns id ⊎ IsNearer slice more s b id → IsThroughInLast slice n more a b turns id
+enough slice n more a b turns id s lt (inl through) = through
+enough slice n more a b turns id s lt (inr near) = (let m : more * slice + load near.session ≤ load s = near.made in absurd (omega arith))
 
--- turns in two parts
-record Parts (slice first more : ℕ) (a b : Scene) : Type 0 where
-  middle : Scene
-  earlier : AreTurns slice first a middle
-  later : AreTurns slice more middle b
-
-in_parts : (slice first more n : ℕ) (a b : Scene) → first + more ≡ n → AreTurns slice n a b → Parts slice first more a b
-in_parts slice first zero n a b e turns =
-    let same : n ≡ first = omega arith in
-    record { middle = b; earlier = rw same at turns; later = refl }
-in_parts slice first (suc more) zero a b e turns = absurd (omega arith)
-in_parts slice first (suc more) (suc n) a b e turns =
-    let parts = in_parts slice first more n a turns.0 (omega arith) turns.1 in
-    record { middle = parts.middle; earlier = parts.earlier; later = (turns.0, parts.later, turns.2) }
-
-answers_from : (slice first more : ℕ) (a b : Scene) → Fits (links_of a.held) a.bound a.host → Parts slice first more a b → AnswersFrom slice first more a b
-answers_from slice first more a b fit parts =
-    let fits = (lives_turns slice first a parts.middle fit parts.earlier).fits in
+answers_in_last : (slice n more : ℕ) (a b : Scene) (turns : AreTurns slice n a b) → Fits (links_of a.held) a.bound a.host → more ≤ n → AnswersInLast slice n more a b turns
+answers_in_last slice n more a b turns fit le =
+    let fits = fits_last slice n more a b turns fit in
     record {
-      middle = parts.middle;
-      earlier = parts.earlier;
-      later = parts.later;
-      nearer = λ l s among f p. waits slice more parts.middle b parts.later l.id s (fits l among).opened f p;
-      in_time = λ l s among f p lt. enough slice more parts.middle b parts.later l.id s lt (waits slice more parts.middle b parts.later l.id s (fits l among).opened f p);
+      nearer = λ l s w. waits slice n more a b turns l s le (fits l w.held).opened w;
+      in_time = λ l s w lt. enough slice n more a b turns l.id s lt (waits slice n more a b turns l s le (fits l w.held).opened w);
     }
 
 pub in_time : (slice n : ℕ) (a b : Scene) → Fits (links_of a.held) a.bound a.host → AreTurns slice n a b → AnswersInTime slice n a b
-in_time slice n a b fit turns = record {
-  turns = turns;
-  from = λ first more e. answers_from slice first more a b fit (in_parts slice first more n a b e turns);
-}
+in_time slice n a b fit turns = record { turns = turns; from = λ more le. answers_in_last slice n more a b turns fit le }

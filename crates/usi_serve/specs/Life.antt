@@ -66,7 +66,8 @@ IsHeldOrGone before after link =
 
 -- the bytes that were read from a connection and those that were written to it: what was written is a prefix of what is owed to what was read, and all of it where its session is open with nothing pending and nothing queued; its session is over, once all is answered, exactly where these bytes end it; where it is closed, it has ended for a cause of its own
 pub record IsAnswered (duty : Duty) (before after : Scene) (link : Link) : Type 0 where
-  pub served : Served duty.owes before.report after.report link.number (find after.host.slots link.id)
+  pub served : Served duty.owes before.report after.report link.number
+      (find after.host.slots link.id)
   pub prefix : IsPrefixOf served.written (duty.owes served.read)
   pub all : IsSettled (find after.host.slots link.id)
       → queued_of (find after.host.slots link.id) ≡ [] → served.written ≡ duty.owes served.read

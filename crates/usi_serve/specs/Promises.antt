@@ -25,8 +25,8 @@ pub record IsStopped (slice turns : ℕ) (before after : Scene) (fault : WireFau
       → IsAccountedFor before after number
 
 -- so many turns were taken, each with a wait after it, or a wait failed; and what became of each connection
-pub record ServesTurns (slice turns : ℕ) (result : Result (Unit {0}) WireFault) (before after : Scene)
-    : Type 0 where
+pub record ServesTurns (slice turns : ℕ) (result : Result (Unit {0}) WireFault)
+    (before after : Scene) : Type 0 where
   pub done : IfOk result (λ _. IsDone slice turns before after)
   pub stopped : IfErr result (λ fault. IsStopped slice turns before after fault)
   pub whole : Lives before after

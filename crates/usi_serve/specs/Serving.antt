@@ -23,7 +23,8 @@ pub record IsTurnTo (slice : ℕ) (before after : Scene) : Type 0 where
   pub finished : AreOnce (links_of before.held) → NoneFinished after.host after.held
 
 -- a wait after a turn, with this answer: the connections, the host and all that is reported stay, and the one call that is asked for is a wait so answered, which lasts until something may be ready exactly where the turn did not move
-pub record IsWait (moved : Bool) (answer : Result (Unit {0}) WireFault) (before after : Scene) : Type 0 where
+pub record IsWait (moved : Bool) (answer : Result (Unit {0}) WireFault) (before after : Scene)
+    : Type 0 where
   pub held : after.held ≡ before.held
   pub bound : after.bound ≡ before.bound
   pub report : KeepsAll before.report after.report

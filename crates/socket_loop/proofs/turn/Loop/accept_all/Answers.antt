@@ -3,6 +3,7 @@ use Rattle.std.proofs.lemmas.List.{length-map}
 use Rattle.socket_loop.specs.declared.connection.Connection.{Connection}
 use Rattle.socket_loop.specs.Links.{links_of}
 use Rattle.socket_loop.proofs.Accepting.{some_start, some_stop, some_full, some_more, number_rises}
+use Rattle.socket_loop.proofs.Few.{few_met}
 use Rattle.socket_loop.proofs.Marks.{more_same, more_then}
 use Rattle.wires.proofs.Peers.{kept_same}
 use Rattle.socket_loop.proofs.Quiet.{quiet_stop}
@@ -27,21 +28,21 @@ returns-in_default g c = record {
 }
 
 -- there is no place
-pub returns-then-len-ge-PLACES : goal.returns-then-len-ge-PLACES
-returns-then-len-ge-PLACES g c = record {
+pub returns-then-len-gt-SESSIONS_MAX : goal.returns-then-len-gt-SESSIONS_MAX
+returns-then-len-gt-SESSIONS_MAX g c = record {
   slice = search rules;
   scenes = record {
-    accepts = some_full c.loop.counter _ _ _ _ _ _ _ _ _ _ _ (inr (full c.loop.self.held (
+    accepts = some_full c.loop.counter _ _ _ _ _ _ _ _ _ _ _ (inr (few_met _ _ _ _ 1024 _ _ _ _ c.requires.fits c.loop.invariant.so_far.accepts c.validity.ensures.few (full c.loop.self.held (
         let same : c.self.inside.held.items ≡ c.loop.self.held = search rules in
-        let most : 1025 ≤ length c.self.inside.held.items = search rules in
-        rw (sym same) most))) c.loop.invariant.so_far;
+        let most : 1024 < length c.self.inside.held.items = search rules in
+        rw (sym same) most)))) c.loop.invariant.so_far;
     quiet = c.loop.invariant.quiet;
     accepted = c.loop.invariant.accepted;
     more = c.loop.invariant.more;
   };
 }
   where
-    full : (held : List Connection) → 1025 ≤ length held → 1025 ≤ length (links_of held)
+    full : (held : List Connection) → 1024 < length held → 1024 < length (links_of held)
     full held le = rw (length-map held (λ (c : Connection). c.link)) le
 
 pub loop-preserved : goal.loop-preserved
