@@ -9,7 +9,7 @@ use Rattle.usi_session.specs.Due.{SessionView, due, state_due, wants_input, new_
 use Rattle.usi_session.specs.Replies.{replies, state_from, is_over_after}
 use Rattle.usi_session.proofs.Settled.{due-over, due-wanting, state_due-over, state_due-wanting, wants_after, new_wants, initial_state_alive}
 use Rattle.usi_session.specs.declared.limits.TheConstants.{CHUNK_MAX}
-use Rattle.usi_stdio.specs.Calls.{Call, Read, FailedRead, Report, Reads, IsCalled}
+use Rattle.usi_stdio.specs.Calls.{Call, Read, FailedRead, Report, Reads, Makes}
 use Rattle.usi_stdio.specs.Dialogue.{Talk, Talks, IsDialogue, IsFront, EndsAs, MayFollow, after_call, after_calls, asked_by_read, no_call}
 use Rattle.usi_stdio.specs.Saying.{quiet, SaysTo, SaysPrefix, Answers, asked_by}
 use Rattle.usi_stdio.specs.Stdio.{StopsInTime, IsServed, IsLeft}
@@ -24,7 +24,7 @@ pub record IsBetween (before now : Report) (s : SessionView) (reads : ℕ) : Typ
   pub made : List ℕ
   pub written : Appends before.written now.written made
   pub calls : List Call
-  pub called : IsCalled before.calls now.calls calls
+  pub called : Makes before.calls now.calls calls
   pub dialogue : IsDialogue no_call calls
   pub stands : after_calls no_call calls ≡ quiet read reads made
   pub owed : (x : List ℕ) → made ++ due s x ≡ replies (read ++ x)
@@ -39,7 +39,7 @@ pub record IsRead (before now : Report) (s : SessionView) (reads : ℕ) (chunk :
   pub consumed : Consumes before.unread now.unread (b.read ++ chunk)
   pub written : Appends before.written now.written b.made
   pub calls : List Call
-  pub called : IsCalled before.calls now.calls calls
+  pub called : Makes before.calls now.calls calls
   pub dialogue : IsDialogue no_call calls
   pub stands : after_calls no_call calls ≡ record (quiet (b.read ++ chunk) (reads + 1) b.made) { outcome = asked_by_read chunk }
 
@@ -69,7 +69,7 @@ stops_between before now s reads b =
     rw (append-nil b.read) at all
 
 -- calls that are a dialogue up to this state, at which the run ends
-talks_at : (old new : Option (List Call)) (calls : List Call) (t : Talk) (result : Result (Unit {0}) StdioFault) → IsCalled old new calls → IsDialogue no_call calls → after_calls no_call calls ≡ t → IsFront t → EndsAs t result → Talks old new result
+talks_at : (old new : Option (List Call)) (calls : List Call) (t : Talk) (result : Result (Unit {0}) StdioFault) → Makes old new calls → IsDialogue no_call calls → after_calls no_call calls ≡ t → IsFront t → EndsAs t result → Talks old new result
 talks_at old new calls t result called dialogue stands front ended = record {
   calls = calls;
   called = called;
@@ -92,9 +92,6 @@ left_start r = record {
   written = (replies [], record { done = []; appended = Appends-nil r.written; split = refl });
   stops = record { prefix = []; chunk = []; split = refl; most = omega arith; alive = initial_state_alive };
 }
-
-pub talks_start : (r : Report) → Talks r.calls r.calls (Err OutOfMemory)
-talks_start r = talks_at r.calls r.calls [] no_call (Err OutOfMemory) (called_none r.calls) tt refl (replies [], refl) refl
 
 -- before the first read
 pub between_start : (r : Report) (s : SessionView) → s ≡ new_session → ((x : List ℕ) → due s x ≡ replies x) → ((x : List ℕ) → state_due s x ≡ state_from initial_state (lines x)) → IsBetween r r s 0

@@ -1,20 +1,20 @@
 -- Calls after calls.
 use Rattle.std.proofs.Common.{◌≡◌, ◌<◌, ℕ, List, [], ◌∷◌, ◌++◌, Bool, true, false, Option, None, Some, Result, Err, refl, sym, ap, ◌∙◌, append_assoc, append-nil, length, arith}
 use Rattle.std.proofs.KnownBytes.{Appends-nil, Appends-trans}
-use Rattle.usi_stdio.specs.Calls.{Call, Write, Flush, FailedWrite, FailedFlush, IsCalled, Report}
+use Rattle.usi_stdio.specs.Calls.{Call, Write, Flush, FailedWrite, FailedFlush, Makes, Report}
 use Rattle.usi_stdio.specs.Dialogue.{Talk, after_call, after_calls, asked_by_read, asked_by_write, MayFollow, IsDialogue}
 use Rattle.usi_stdio.specs.Saying.{quiet, Speaks, SaysTo, Says}
 use Rattle.usi_stdio.specs.declared.streams.StdioFault.{StdioFault}
 use Rattle.usi_stdio.specs.declared.streams.StdioFault.TheVariants.{WriteFailed}
 
-pub called_none : (a : Option (List Call)) → IsCalled a a []
+pub called_none : (a : Option (List Call)) → Makes a a []
 called_none None = tt
 called_none (Some before) = ap (λ (l : List Call). Some l) (sym (append-nil before))
 
-pub called_then : (a b c : Option (List Call)) (x y : List Call) → IsCalled a b x → IsCalled b c y → IsCalled a c (x ++ y)
+pub called_then : (a b c : Option (List Call)) (x y : List Call) → Makes a b x → Makes b c y → Makes a c (x ++ y)
 called_then None b c x y p q = tt
 called_then (Some before) b c x y p q =
-    let r : IsCalled (Some (before ++ x)) c y = rw p at q in
+    let r : Makes (Some (before ++ x)) c y = rw p at q in
     r ∙ ap (λ (l : List Call). Some l) (append_assoc before x y)
 
 -- the calls of two stretches, one after the other

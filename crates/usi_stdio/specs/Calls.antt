@@ -22,9 +22,9 @@ abbrev pub nothing_reported : Report
 nothing_reported = record { unread = None; written = None; calls = None }
 
 -- where calls are reported, these were made since
-abbrev pub IsCalled : Option (List Call) → Option (List Call) → List Call → Type 0
-IsCalled None new calls = ⊤
-IsCalled (Some before) new calls = new ≡ Some (before ++ calls)
+abbrev pub Makes : Option (List Call) → Option (List Call) → List Call → Type 0
+Makes None new calls = ⊤
+Makes (Some before) new calls = new ≡ Some (before ++ calls)
 
 abbrev pub read_call : {E : Type 0} → Result ℕ E → List ℕ → Call
 read_call (Ok n) buf = Read (take n buf)
@@ -43,7 +43,7 @@ pub record Reads {E : Type 0} (old new : Report) (result : Result ℕ E) (buf : 
   pub within : IfOk result (λ n. n ≤ length buf)
   pub consumed : ReadConsumes old.unread new.unread result buf
   pub written : Keeps old.written new.written
-  pub called : IsCalled old.calls new.calls (read_call result buf ∷ [])
+  pub called : Makes old.calls new.calls (read_call result buf ∷ [])
 
 -- a write took the first bytes, or failed and took none; nothing else changed
 pub record Writes {E : Type 0} (old new : Report) (result : Result ℕ E) (bytes : List ℕ)
@@ -51,10 +51,10 @@ pub record Writes {E : Type 0} (old new : Report) (result : Result ℕ E) (bytes
   pub within : IfOk result (λ n. n ≤ length bytes)
   pub appended : WriteAppends old.written new.written result bytes
   pub unread : new.unread ≡ old.unread
-  pub called : IsCalled old.calls new.calls (write_call result bytes ∷ [])
+  pub called : Makes old.calls new.calls (write_call result bytes ∷ [])
 
 -- a flush, or one that failed; no byte moved
 pub record Flushes {E : Type 0} (old new : Report) (result : Result (Unit {0}) E) : Type 0 where
   pub unread : new.unread ≡ old.unread
   pub written : Keeps old.written new.written
-  pub called : IsCalled old.calls new.calls (flush_call result ∷ [])
+  pub called : Makes old.calls new.calls (flush_call result ∷ [])

@@ -1,7 +1,7 @@
 -- The calls of a run in their order: what is due is written and flushed before more is read, and the result is what the last call asks for (own choice).
 use Rattle.std.specs.Prelude.{◌≡◌, ◌+◌, ◌-◌, ◌^◌, ◌⊎◌, ℕ, List, [], ◌∷◌, ◌++◌, Bool, true, false, Option, None, Some, Result, Ok, Err}
 use Rattle.usi_session.specs.Replies.{replies, is_over_after}
-use Rattle.usi_stdio.specs.Calls.{Call, Read, Write, Flush, FailedRead, FailedWrite, FailedFlush, IsCalled}
+use Rattle.usi_stdio.specs.Calls.{Call, Read, Write, Flush, FailedRead, FailedWrite, FailedFlush, Makes}
 use Rattle.usi_stdio.specs.declared.streams.StdioFault.{StdioFault}
 use Rattle.usi_stdio.specs.declared.streams.StdioFault.TheVariants as fault
 
@@ -87,7 +87,7 @@ IsFront talk = (left : List ℕ) × (replies talk.read ≡ talk.written ++ left)
 pub record Talks (old new : Option (List Call)) (result : Result (Unit {0}) StdioFault)
     : Type 0 where
   pub calls : List Call
-  pub called : IsCalled old new calls
+  pub called : Makes old new calls
   pub dialogue : IsDialogue no_call calls
   pub front : IsFront (after_calls no_call calls)
   pub ended : EndsAs (after_calls no_call calls) result

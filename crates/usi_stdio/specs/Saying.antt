@@ -2,7 +2,7 @@
 use Rattle.std.specs.Prelude.{◌≡◌, ◌+◌, ◌*◌, ℕ, List, [], ◌++◌, Bool, true, false, cond, Option, None, Some, Result, Err}
 use Rattle.std.specs.Io.KnownBytes.{Appends}
 use Rattle.usi_session.specs.Due.{SessionView, due, state_due, load, is_pending}
-use Rattle.usi_stdio.specs.Calls.{Call, Report, IsCalled}
+use Rattle.usi_stdio.specs.Calls.{Call, Report, Makes}
 use Rattle.usi_stdio.specs.Dialogue.{Talk, after_calls, IsDialogue}
 use Rattle.usi_stdio.specs.declared.streams.StdioFault.{StdioFault}
 use Rattle.usi_stdio.specs.declared.streams.StdioFault.TheVariants.{OutOfMemory, ReadFailed, WriteFailed}
@@ -38,7 +38,7 @@ pub record SaysTo (is_flushed : Bool) (outcome : Option (Result (Unit {0}) Stdio
   pub unread : new.unread ≡ old.unread
   pub written : Appends old.written new.written bytes
   pub calls : List Call
-  pub called : IsCalled old.calls new.calls calls
+  pub called : Makes old.calls new.calls calls
   pub spoken : Speaks calls bytes is_flushed outcome
 
 -- the front end took these bytes, and all is flushed
