@@ -7,7 +7,7 @@ MAN = $(DESTDIR)$(PREFIX)/share/man/man1
 FOR_BASH = $(DESTDIR)$(PREFIX)/share/bash-completion/completions
 FOR_ZSH = $(DESTDIR)$(PREFIX)/share/zsh/site-functions
 
-.PHONY: try run build install uninstall check dist test bench clean help
+.PHONY: try run build library install uninstall check dist test bench clean help
 .DEFAULT_GOAL = help
 
 # Runs the program on the lines of standard input, or of the terminal, without a proof.
@@ -23,6 +23,11 @@ run: build
 build:
 	@check/build.py
 
+# Proves the library for C, and makes crates/usi_library/out/libusi.a and libusi.so; share/library has
+# its header.
+library: build
+	@check/build_library.sh
+
 # Puts the built program, its man page and its completions below PREFIX. It builds nothing, so that
 # it leaves no files of root among the sources.
 install:
@@ -37,11 +42,12 @@ install:
 uninstall:
 	rm -f "$(BIN)/usi_host" "$(MAN)/usi_host.1" "$(FOR_BASH)/usi_host" "$(FOR_ZSH)/_usi_host"
 
-# Runs the scripts that try the built program as its users run it.
-check: build
+# Runs the scripts that try the built program, and the library for C, as their users do.
+check: build library
 	check/program.py
 	check/serve.py
 	check/examples.py
+	check/library.py
 
 # Makes a tarball of the program and what goes with it, which is used without the toolchain.
 dist: build
@@ -69,6 +75,7 @@ help:
 	@echo 'make try        tries the program on standard input, unproved, in about a minute'
 	@echo 'make run        starts the program on standard input and output; builds it first'
 	@echo 'make build      proves and builds what is not built yet'
+	@echo 'make library    the library for C, static and shared'
 	@echo 'make install    puts the built usi_host, its man page and completions below PREFIX (/usr/local)'
 	@echo 'make uninstall  takes it away again from PREFIX'
 	@echo 'make check      tries the built program as its users run it'

@@ -1,7 +1,7 @@
 #!/usr/bin/env bash
 # The gate. First what the READMEs show, and `rt ci`: every proof, each edit that must be refused, each
 # test, each program; what an earlier run passed on this machine is kept there by checksums. Then the
-# program is built and run as its users run it. At the end, or where it is cut off, it tells what it cost,
+# program and the library for C are built and used as their users do. At the end, or where it is cut off, it tells what it cost,
 # and shows again what failed. The last line counts all of it.
 set -uo pipefail
 cd "$(dirname "$0")/.."
@@ -13,10 +13,11 @@ status=0
 check/readmes.py | tee "$log" || status=1
 rt ci | tee -a "$log" || status=1
 if [ $status -eq 0 ]; then
-    if make --no-print-directory build; then
+    if make --no-print-directory library; then
         check/program.py | tee -a "$log" || status=1
         check/serve.py | tee -a "$log" || status=1
         check/examples.py | tee -a "$log" || status=1
+        check/library.py | tee -a "$log" || status=1
     else
         echo '0 passed, 1 failed' | tee -a "$log"
         status=1

@@ -1,0 +1,15 @@
+#!/usr/bin/env bash
+# Proves the library for C and makes two files of it in crates/usi_library/out: libusi.a, which a program
+# is linked with, and libusi.so, which is loaded. Both have the toolchain's calls of malloc and free in them.
+set -euo pipefail
+cd "$(dirname "$0")/../crates/usi_library"
+heap=$(dirname "$(dirname "$(readlink -f "$(command -v rt)")")")/c/liblibc_c.a
+mkdir -p out
+rt lib >out/build.log 2>&1 || { cat out/build.log; exit 1; }
+cd out
+folder=$(mktemp -d)
+trap 'rm -rf "$folder"' EXIT
+cp libusi_library.a "$folder/libusi.a"
+(cd "$folder" && ar x "$heap" && ar rs libusi.a ./*.o)
+"${CC:-cc}" -shared -o "$folder/libusi.so" -Wl,--whole-archive "$folder/libusi.a" -Wl,--no-whole-archive
+mv "$folder/libusi.a" "$folder/libusi.so" .

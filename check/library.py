@@ -1,0 +1,91 @@
+#!/usr/bin/env python3
+"""Tries the library for C that `make library` makes: from C, whose programs are compiled here, and from
+Python. Its last line is `N passed, M failed`."""
+
+import os
+import subprocess
+import sys
+import tempfile
+
+from checks import DEPTH_THREE, TOP, Wrong, run_all, want
+
+LIBRARY = os.path.join(TOP, "share", "library")
+OUT = os.path.join(TOP, "crates", "usi_library", "out")
+sys.path.insert(0, LIBRARY)
+sys.dont_write_bytecode = True
+
+from usi_library import CLOSED, NOT_WANTED, OUT_OF_RANGE, TOO_LONG, Refused, Session, load  # noqa: E402
+
+SCRIPT = b"position startpos\ngo depth 3\nquit\n"
+LOADED = load(os.path.join(OUT, "libusi.so"))
+
+
+def compiled(folder, source, *flags):
+    """The program that cc makes of the source with the library."""
+    program = os.path.join(folder, "program")
+    words = ["-std=c99", "-Wall", "-Wextra", "-Werror", "-I", LIBRARY, "-o", program, source]
+    subprocess.run([os.environ.get("CC", "cc"), *words, *flags, os.path.join(OUT, "libusi.a")], check=True)
+    return program
+
+
+def calls_of_c():
+    with tempfile.TemporaryDirectory() as folder:
+        program = compiled(
+            folder, os.path.join(TOP, "check", "library.c"), "-Wl,--wrap=malloc,--wrap=realloc,--wrap=free"
+        )
+        ran = subprocess.run([program], stdout=subprocess.PIPE, timeout=300)
+    want((ran.returncode, ran.stdout), (0, b"refused\n"), "what the calls answer")
+
+
+def engine_in_c():
+    with tempfile.TemporaryDirectory() as folder:
+        program = compiled(folder, os.path.join(LIBRARY, "engine.c"))
+        for script in (SCRIPT, SCRIPT.removesuffix(b"quit\n")):
+            ran = subprocess.run([program], input=script, stdout=subprocess.PIPE, timeout=60)
+            want((ran.returncode, ran.stdout), (0, DEPTH_THREE), "the engine")
+
+
+def script_of_python():
+    words = [os.path.join(LIBRARY, "usi_library.py"), os.path.join(OUT, "libusi.so")]
+    ran = subprocess.run(words, input=SCRIPT, stdout=subprocess.PIPE, timeout=60)
+    want((ran.returncode, ran.stdout), (0, DEPTH_THREE), "the script")
+
+
+def sessions_of_python():
+    """Two sessions by turns, which know nothing of each other."""
+    with Session(LOADED) as one, Session(LOADED, entries=1) as other:
+        one.feed(b"setoption name Depth value 1\nposition sfen 4k4/9/4P4/9/9/9/9/9/9 b G 1\ngo\n")
+        other.feed(b"go depth 3\n")
+        said = [b"", b""]
+        while one.look().is_pending or other.look().is_pending:
+            for number, session in enumerate((one, other)):
+                session.work(100)
+                said[number] += session.take()
+        want(said[0], b"info depth 1 score mate 1 pv G*5b\nbestmove G*5b\n", "the first session")
+        want(said[1], DEPTH_THREE, "the other session")
+
+
+def refusals_of_python():
+    def status_of(call, *words):
+        try:
+            call(*words)
+        except Refused as why:
+            return why.status
+        raise Wrong(f"{call.__name__} was not refused")
+
+    for entries in (0, 1_000_001, -1):
+        want(status_of(Session, LOADED, entries), OUT_OF_RANGE, f"{entries} entries")
+    session = Session(LOADED)
+    want(status_of(session.feed, b" " * 4097), TOO_LONG, "4,097 bytes")
+    session.feed(b"isready\n")
+    want(status_of(session.feed, b"usi\n"), NOT_WANTED, "while something is pending")
+    session.close()
+    session.close()
+    want(status_of(session.work, 1), CLOSED, "closed")
+    want(status_of(session.take), CLOSED, "closed")
+
+
+if __name__ == "__main__":
+    sys.exit(
+        run_all("library", [calls_of_c, engine_in_c, script_of_python, sessions_of_python, refusals_of_python])
+    )

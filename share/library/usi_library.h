@@ -1,0 +1,102 @@
+/* USI sessions for programs in C. A session is fed bytes and gives bytes, and does nothing by itself:
+ * no thread, no clock, no file. Each one searches over a table of its own.
+ *
+ *     struct usi_session session = USI_SESSION_CLOSED;
+ *     usi_open(&session, 4096);
+ *     usi_feed(&session, "go depth 3\n", 11);
+ *     while (usi_look(&session).is_pending) usi_work(&session, 1000);
+ *     struct usi_answer taken = usi_take(&session, buffer, sizeof buffer);
+ *     usi_close(&session);
+ *
+ * What is asked of the caller, and checked by nothing:
+ *
+ * - No pointer is null, also where the length is 0; USI_NOT_NULL has compilers warn. What is behind one
+ *   stays where it is, and nobody else reads or writes it, until the call returns. Behind `bytes` and
+ *   `buffer` there are `length` bytes.
+ * - A session begins as USI_SESSION_CLOSED, or as a struct of zeros, and is changed by these calls alone.
+ *   It is not copied while it is open: a copy would free the same memory again.
+ * - A session stays on the thread that opened it. Sessions know nothing of each other, so that each thread
+ *   may have its own.
+ * - Memory comes from malloc, realloc and free, which are of one allocator. A block is aligned to each power
+ *   of two up to 16 that divides its size.
+ * - No call is made from a signal handler, or from a forked child of a process with threads.
+ *
+ * What the calls promise else is proved: crates/usi_library/README.md. */
+#ifndef USI_LIBRARY_H
+#define USI_LIBRARY_H
+
+#include <stdbool.h>
+#include <stddef.h>
+#include <stdint.h>
+
+#ifdef __cplusplus
+extern "C" {
+#endif
+
+#ifdef __GNUC__
+#define USI_NOT_NULL __attribute__((nonnull))
+#else
+#define USI_NOT_NULL
+#endif
+
+/* What a call answers. Where it is not USI_OK, nothing was changed, but by usi_work. */
+enum usi_status {
+    USI_OK = 0,
+    USI_CLOSED = 1,        /* the session is closed */
+    USI_IS_OPEN = 2,       /* usi_open: it is open already */
+    USI_OUT_OF_RANGE = 3,  /* usi_open: a table has 1 to 1,000,000 entries */
+    USI_OUT_OF_MEMORY = 4, /* memory was refused; after usi_work, the next call continues */
+    USI_TOO_LONG = 5,      /* usi_feed: more than 4,096 bytes at once */
+    USI_NOT_WANTED = 6     /* usi_feed: look says that no input is wanted */
+};
+
+/* The most bytes of one usi_feed, and the most entries of a table. */
+#define USI_CHUNK_MAX 4096
+#define USI_ENTRIES_MAX 1000000
+
+/* A session, open or closed. Its fields are for the library alone. */
+struct usi_session {
+    void *held;
+    bool is_open;
+};
+#define USI_SESSION_CLOSED {0, false}
+
+struct usi_answer {
+    uint32_t status; /* USI_OK, or why it was not done */
+    uint64_t count;  /* steps made, or bytes taken; 0 where it was not done */
+};
+
+/* What there is of a session; all zero where it is closed. */
+struct usi_look {
+    uint64_t queued;  /* the bytes that usi_take would give, were there room */
+    bool is_open;
+    bool wants_input; /* alive, nothing pending, and fewer than 65,536 bytes queued */
+    bool is_pending;  /* alive, with a running go or an unread line */
+    bool is_over;     /* after quit, or a line of more than 65,535 bytes */
+};
+
+/* Opens a closed session over an empty table: the opening position, each option at its default. A table
+ * takes about 35 bytes an entry at once, and 112 more for each position that it keeps. */
+uint32_t usi_open(struct usi_session *session, size_t entries) USI_NOT_NULL;
+
+/* Gives the memory of a session back. What was queued is gone. */
+uint32_t usi_close(struct usi_session *session) USI_NOT_NULL;
+
+/* Stores at most USI_CHUNK_MAX bytes, and answers nothing yet. */
+uint32_t usi_feed(struct usi_session *session, const void *bytes, size_t length) USI_NOT_NULL;
+
+/* Answers what is pending, with at most so many steps of search.
+ * Where something is pending still, all of the steps were made. */
+struct usi_answer usi_work(struct usi_session *session, uint64_t steps) USI_NOT_NULL;
+
+/* Moves queued bytes to the front of a buffer: as many as there are, and as it has room for. */
+struct usi_answer usi_take(struct usi_session *session, void *buffer, size_t length) USI_NOT_NULL;
+
+/* What there is of a session. It changes nothing. */
+struct usi_look usi_look(struct usi_session *session) USI_NOT_NULL;
+
+#ifdef __cplusplus
+}
+#endif
+
+#endif
