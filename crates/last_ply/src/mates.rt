@@ -16,11 +16,11 @@ ghost use Rattle.shogi_moves.specs.Replies.{IsAnswered, IsReplies};
 ghost use Rattle.last_ply.specs.LastPly.{HasMate, HasNoMate, LeavesNone, LeavesSome, AreLegalEnds, LeaveSomeAmong, LeaveSomeFrom, DropsLeaveSome, IsOutOfReach, HasOthers};
 
 use crate::scene::Scene;
-use shogi_core::bits::{ALL_SQUARES, has, lowest, with, without_lowest};
+use shogi_core::bits::{has, lowest, with, without_lowest};
 use shogi_core::{Kind, Move, Piece, Position, Role, Square, aligned_squares, step_squares};
 use shogi_moves::{
-    Destinations, Replies, drop_destinations, drop_squares, escape_squares, has_legal, is_legal,
-    king_takes, leaves_escape, leaves_king_move, promoting_squares,
+    Replies, drop_destinations, drop_squares, has_legal, is_legal, king_takes, leaves_escape,
+    leaves_king_move, promoting_squares, some_escapes,
 };
 
 /// A scene, and what shows of most moves that the other side surely has one after them.
@@ -28,7 +28,7 @@ use shogi_moves::{
 pub struct Outlook<'a> {
     pub scene: Scene<'a>,
     pub replies: Replies,
-    /// Squares to which the other side's king may go.
+    /// Three of the squares to which the other side's king may go, or fewer where there are no more.
     pub escapes: u128,
     /// The empty squares on which a held piece may be dropped.
     pub squares: u128,
@@ -169,7 +169,7 @@ impl Outlook<'_> {
         Outlook {
             scene: *scene,
             replies,
-            escapes: escape_squares(p),
+            escapes: some_escapes(p),
             squares: drop_squares(p, &scene.info),
             spared: has_two(replies.spare),
         }
@@ -373,12 +373,7 @@ impl Outlook<'_> {
         ensures { (n : ℕ) → n < 81 → has_bit result n ≡ true
             → LeaveSomeFrom self.now.scene.node.now.position n }
     {
-        let p = self.scene.node.as_position();
-        let all = Destinations {
-            plain: ALL_SQUARES,
-            promoting: ALL_SQUARES,
-        };
-        self.replies.far_pieces(p, true, &all) & self.replies.far_pieces(p, false, &all)
+        self.replies.remote_pieces(self.scene.node.as_position())
     }
 
     /// Whether a legal move on the board leaves the other side without one.

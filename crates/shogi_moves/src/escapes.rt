@@ -53,6 +53,30 @@ fn first_unattacked(board: &Board, by: Color, squares: u128) -> u128
     0
 }
 
+/// Three of the squares that the side does not attack, or fewer where there are no more.
+#[tactic(auto, using(crate::proofs::DestinationLaws::sifting))]
+fn some_unattacked(board: &Board, by: Color, squares: u128) -> u128
+    requires { squares < 2 ^ 81 }
+    ensures safe { (n : ℕ) → n < 81 → has_bit result n ≡ true
+        → (has_bit squares n ≡ true) × (is_attacked board.now by n ≡ false) }
+    ensures fits { result < 2 ^ 81 }
+{
+    let mut left = squares;
+    let mut kept = squares;
+    let mut found = 0u8;
+    while left != 0 && found < 3 {
+        let square = lowest(left);
+        let to = Square::of_index(square);
+        if board.is_attacked(by, to) {
+            kept = cleared(kept, square);
+        } else {
+            found += 1;
+        }
+        left = without_lowest(left, square);
+    }
+    kept & !left
+}
+
 /// Squares next to the king of the side that is not to move, where it has just one and none of its
 /// own pieces stands.
 fn king_steps(p: &Position) -> u128
@@ -74,6 +98,14 @@ pub fn escape_squares(p: &Position) -> u128
 {
     p.validity();
     unattacked(p.as_board(), p.side(), king_steps(p))
+}
+
+/// Three of those squares, or fewer where there are no more.
+pub fn some_escapes(p: &Position) -> u128
+    ensures { AreEscapes p.now result }
+{
+    p.validity();
+    some_unattacked(p.as_board(), p.side(), king_steps(p))
 }
 
 /// One of those squares among the ones of the mask, if there is one.

@@ -35,7 +35,7 @@ pub use count::perft;
 pub use destinations::{
     Destinations, drop_destinations, drop_squares, enterable, legal_destinations,
 };
-pub use escapes::{escape_squares, king_takes, leaves_escape, leaves_king_move};
+pub use escapes::{escape_squares, king_takes, leaves_escape, leaves_king_move, some_escapes};
 pub use existence::has_legal;
 pub use legal::{is_legal, play, play_in_place};
 pub use movers::takers;

@@ -1,16 +1,17 @@
 //! Whether the other side surely has a legal move after a move, without making it.
 
 ghost use Rattle.std.specs.Prelude.{◌≡◌, ◌≢◌, ◌<◌, ◌^◌, ℕ, Bool, [], true, false, bit_and};
+ghost use Rattle.shogi_core.specs.declared.moves.Move.TheVariants as moves;
 ghost use Rattle.shogi_core.specs.Below.{some_below};
 ghost use Rattle.shogi_core.specs.Bits.{has_bit};
-ghost use Rattle.shogi_core.specs.Movement.{piece_at};
+ghost use Rattle.shogi_core.specs.Movement.{piece_at, reaches};
 ghost use Rattle.shogi_core.specs.Pieces.{opponent_of};
 ghost use Rattle.shogi_moves.specs.After.{after};
 ghost use Rattle.shogi_moves.specs.Destinations.{IsWithin};
 ghost use Rattle.shogi_moves.specs.Escapes.{AreEscapes};
 ghost use Rattle.shogi_moves.specs.Legal.{is_legal, may_promote};
 ghost use Rattle.shogi_moves.specs.LegalMoves.{legal_codes};
-ghost use Rattle.shogi_moves.specs.Replies.{ChecksAmong, holds_free, is_open_step, is_spare, Sees, Aligns, IsReplies, IsHarmless, IsOpen, StaysCovered, UncoversWithin, AreAnswered, AreDropsAnswered, HasCertainMoves};
+ghost use Rattle.shogi_moves.specs.Replies.{ChecksAmong, holds_free, is_open_step, is_spare, Sees, Aligns, IsReplies, IsHarmless, IsOpen, StaysCovered, UncoversWithin, AreAnswered, AreDropsAnswered, HasCertainMoves, IsAnswered};
 ghost use Rattle.shogi_moves.specs.Threats.{KeepsThreats};
 
 use crate::after::{dropped, piece_moved};
@@ -313,6 +314,20 @@ impl Replies {
         }
         let promotes = ends & !among.promoting == 0;
         far_pieces(p, self.sight, promotes)
+    }
+
+    /// Pieces of the side to move of which each move, promoting or not, leaves the other side a legal
+    /// move, since they are far from its kings.
+    pub fn remote_pieces(&self, p: &Position) -> u128
+        requires kept { IsReplies p.now self.now.sight self.now.spare }
+        ensures { (a n : ℕ) (promote : Bool) → a < 81 → n < 81 → has_bit result a ≡ true
+            → reaches p.now.cells a n ≡ true → IsAnswered p.now (moves.Board a n promote) }
+    {
+        p.validity();
+        if ALL_SQUARES & !self.open_squares(0) != 0 {
+            return 0;
+        }
+        far_pieces(p, self.sight, true)
     }
 
     /// Whether each move of the kind of what stands on the square surely leaves the other side a
