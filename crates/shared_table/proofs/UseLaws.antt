@@ -1,4 +1,4 @@
--- What a table still answers after further uses.
+-- What a table still answers after further calls.
 use Rattle.std.proofs.Common.{◌≡◌, ◌≢◌, ◌∙◌, ◌<◌, ◌⊎◌, ℕ, zero, suc, Bool, true, false, cond, ◌||◌, List, [], ◌∷◌, Option, Some, None, Contains, refl, sym, ap, subst, inl, inr, arith, length, take}
 use Rattle.std.specs.List.{AllByRecursion}
 use Rattle.std.specs.Set.{is_member, remove_key}
@@ -6,9 +6,10 @@ use Rattle.std.proofs.lemmas.Map.Made.{length-remove_key}
 use Rattle.std.proofs.lemmas.Map.Views.{list_any-from_Contains}
 use Rattle.minimax.specs.declared.entry.Entry.{Entry}
 use Rattle.shared_table.specs.KeyLaws.{key_equivalence, key_same}
-use Rattle.shared_table.specs.Keys.{Key, is_same_key}
+use Rattle.shared_table.specs.Keys.{Key, is_same_key, key_of}
+use Rattle.shogi_search.specs.Calls.{AreCalled, Call, Note, Probe}
 use Rattle.shared_table.specs.Recent.{Pair, Table, entry_of, probed, without}
-use Rattle.shared_table.specs.Uses.{AreUsed, IsFresh, IsOfOthers, IsUsed, Note, Probe, Use}
+use Rattle.shared_table.specs.Uses.{IsUsed, IsFresh, IsOfOthers}
 
 both_bools : {b : Bool} → b ≡ true → b ≡ false → ⊥
 both_bools e f = let bad : true ≡ false = sym e ∙ f in cc
@@ -155,28 +156,28 @@ is_among : (key : Key) (keys : List Key) → Contains keys key → has keys key 
 unfolding has
 is_among key keys at = list_any-from_Contains key_equivalence key keys at
 
--- it stands there after a use of another key, or a probe, and the capacity stays
-stands_used : (key : Key) (entry : Entry) (others : List Key) (old : Table) (step : Use) (new : Table)
-    → length others < old.capacity → IsOfOthers key others step → IsUsed old step new
+-- it stands there after a call for another key, or a probe, and the capacity stays
+stands_called : (key : Key) (entry : Entry) (others : List Key) (old : Table) (call : Call) (new : Table)
+    → length others < old.capacity → IsOfOthers key others call → IsUsed old call new
     → Stands key entry others old.pairs → Stands key entry others new.pairs × (new.capacity ≡ old.capacity)
-stands_used key entry others old (Probe other) new room of_others used at =
-    let within : (other ≡ key) ⊎ (has others other ≡ true) =
-    elim of_others [ inl is ↦ inl is | inr there ↦ inr (is_among other others there) ] in
-    rw used (stands_probed key entry other others old.pairs within at, refl)
-stands_used key entry others old (Note other of_other) new room of_others (inl kept) at =
-    let behind = stands_behind key entry other of_other others old.pairs of_others.0 (is_among other others of_others.1) at in
-    rw kept (among_first old.capacity key entry others ((other, of_other) ∷ without other old.pairs) room behind, refl)
-stands_used key entry others old (Note other of_other) new room of_others (inr not) at =
+stands_called key entry others old (Probe p e d answer) new room of_others called at =
+    let within : (key_of p e d ≡ key) ⊎ (has others (key_of p e d) ≡ true) =
+    elim of_others [ inl is ↦ inl is | inr there ↦ inr (is_among (key_of p e d) others there) ] in
+    rw called.1 (stands_probed key entry (key_of p e d) others old.pairs within at, refl)
+stands_called key entry others old (Note p e d of_other) new room of_others (inl kept) at =
+    let behind = stands_behind key entry (key_of p e d) of_other others old.pairs of_others.0 (is_among (key_of p e d) others of_others.1) at in
+    rw kept (among_first old.capacity key entry others ((key_of p e d, of_other) ∷ without (key_of p e d) old.pairs) room behind, refl)
+stands_called key entry others old (Note p e d of_other) new room of_others (inr not) at =
     rw not.1 (at, refl)
 
-stands_after : (key : Key) (entry : Entry) (others : List Key) (old : Table) (uses : List Use) (new : Table)
-    → length others < old.capacity → AllByRecursion (IsOfOthers key others) uses → AreUsed old uses new
+stands_after : (key : Key) (entry : Entry) (others : List Key) (old : Table) (calls : List Call) (new : Table)
+    → length others < old.capacity → AllByRecursion (IsOfOthers key others) calls → AreCalled IsUsed old calls new
     → Stands key entry others old.pairs → Stands key entry others new.pairs
-unfolding AreUsed
-stands_after key entry others old [] new room all used at = rw used at
-stands_after key entry others old (step ∷ rest) new room all used at =
-    let one = stands_used key entry others old step used.0 room all.0 used.1 at in
-    stands_after key entry others used.0 rest new (rw one.1 room) all.1 used.2 one.0
+unfolding AreCalled
+stands_after key entry others old [] new room all called at = rw called at
+stands_after key entry others old (call ∷ rest) new room all called at =
+    let one = stands_called key entry others old call called.0 room all.0 called.1.0 at in
+    stands_after key entry others called.0 rest new (rw one.1 room) all.1 called.1.1 one.0
 
 -- it stands first where it was noted or answered
 stands_fresh : (old fresh : Table) (key : Key) (entry : Entry) (others : List Key)
@@ -189,10 +190,10 @@ stands_fresh old fresh key entry others room (inl kept) =
 stands_fresh old fresh key entry others room (inr found) =
     rw (found.1, found.0) (inl refl, refl)
 
-pub remembers : (old fresh new : Table) (key : Key) (entry : Entry) (uses : List Use) (others : List Key)
-    → IsFresh old key entry fresh → AreUsed fresh uses new → AllByRecursion (IsOfOthers key others) uses
+pub remembers : (old fresh new : Table) (key : Key) (entry : Entry) (calls : List Call) (others : List Key)
+    → IsFresh old key entry fresh → AreCalled IsUsed fresh calls new → AllByRecursion (IsOfOthers key others) calls
     → length others < old.capacity → entry_of new.pairs key ≡ Some entry
-remembers old fresh new key entry uses others is_fresh used all room =
+remembers old fresh new key entry calls others is_fresh called all room =
     let first = stands_fresh old fresh key entry others room is_fresh in
     answered key entry others new.pairs
-    (stands_after key entry others fresh uses new (rw first.1 room) all used first.0)
+    (stands_after key entry others fresh calls new (rw first.1 room) all called first.0)

@@ -1,29 +1,23 @@
--- What a table still answers after further uses (own choice).
+-- What a call leaves of a table, and what it still answers after further ones (own choice).
 use Rattle.std.specs.Prelude.{◌≡◌, ◌≢◌, ◌<◌, ◌⊎◌, ◌∷◌, List, [], Some, Contains, length}
 use Rattle.std.specs.List.{AllByRecursion}
-use Rattle.shared_table.specs.Keys.{Key}
+use Rattle.shared_table.specs.Keys.{Key, key_of}
 use Rattle.shared_table.specs.Recent.{IsNoted, Table, entry_of, with_note, with_probe}
 use Rattle.minimax.specs.declared.entry.Entry.{Entry}
+use Rattle.shogi_search.specs.Calls.{Call, Probe, Note, AreCalled}
 
--- a probe for a key, or a note of an entry under it
-pub data Use : Type 0 where
-  Probe : (key : Key) → Use
-  Note : (key : Key) (entry : Entry) → Use
+-- the table before and after a call: it answers with the entry under the key, which is used, or the entry is noted under it
+abbrev pub IsUsed : Table → Call → Table → Type 0
+IsUsed old (Probe p e d answer) new =
+    (answer ≡ entry_of old.pairs (key_of p e d)) × (new ≡ with_probe old (key_of p e d))
+IsUsed old (Note p e d entry) new = IsNoted old (key_of p e d) entry new
 
--- the table before and after a use
-abbrev pub IsUsed : Table → Use → Table → Type 0
-IsUsed old (Probe key) new = new ≡ with_probe old key
-IsUsed old (Note key entry) new = IsNoted old key entry new
-
--- the table before and after some uses, one after another
-unfoldable pub AreUsed : Table → List Use → Table → Type 0
-AreUsed old [] new = new ≡ old
-AreUsed old (first ∷ rest) new = (mid : Table) × IsUsed old first mid × AreUsed mid rest new
-
--- the use is of one of these other keys, or a probe for the key
-abbrev pub IsOfOthers : Key → List Key → Use → Type 0
-IsOfOthers key others (Probe other) = (other ≡ key) ⊎ Contains others other
-IsOfOthers key others (Note other entry) = (other ≢ key) × Contains others other
+-- the call is for one of these other keys, or a probe for the key
+abbrev pub IsOfOthers : Key → List Key → Call → Type 0
+IsOfOthers key others (Probe p e d answer) =
+    (key_of p e d ≡ key) ⊎ Contains others (key_of p e d)
+IsOfOthers key others (Note p e d entry) =
+    (key_of p e d ≢ key) × Contains others (key_of p e d)
 
 -- the entry was noted under the key, or a probe for the key answered it
 abbrev pub IsFresh : Table → Key → Entry → Table → Type 0
@@ -31,12 +25,12 @@ IsFresh old key entry new =
     (new ≡ with_note old key entry)
     ⊎ ((entry_of old.pairs key ≡ Some entry) × (new ≡ with_probe old key))
 
--- what was noted or answered is answered after any further uses of fewer other keys than the capacity, until another entry is noted under its key
+-- what was noted or answered is answered after any further calls for fewer other keys than the capacity, until another entry is noted under its key
 abbrev pub RemembersRecent : Type 0
 RemembersRecent =
-    (old fresh new : Table) (key : Key) (entry : Entry) (uses : List Use) (others : List Key)
+    (old fresh new : Table) (key : Key) (entry : Entry) (calls : List Call) (others : List Key)
     → IsFresh old key entry fresh
-    → AreUsed fresh uses new
-    → AllByRecursion (IsOfOthers key others) uses
+    → AreCalled IsUsed fresh calls new
+    → AllByRecursion (IsOfOthers key others) calls
     → length others < old.capacity
     → entry_of new.pairs key ≡ Some entry

@@ -121,10 +121,13 @@ impl<S: BuildHasher, A: Allocator> SharedTable<S, A> {
 impl<S: BuildHasher, A: Allocator + Clone> Memo for SharedTable<S, A> {
     ghost use Rattle.std.specs.Prelude.{IfSome};
     ghost use Rattle.minimax.specs.Minimax.{IsTrueEntry};
+    ghost use Rattle.shared_table.specs.Uses.{IsUsed};
 
     ghost answers = { λ table p e d. entry_of table.pairs (key_of p e d) };
 
     ghost capacity = { λ table. table.capacity };
+
+    ghost called = { IsUsed };
 
     /// From depth 3 on: a node of depth 2 is searched about as fast as it is looked up.
     fn serves(&self, d: u8) -> bool

@@ -7,7 +7,9 @@ pub mod Nodes
 pub mod Ahead
 pub mod Passed
 pub mod Chains
+pub mod CallLaws
 pub mod Places
+pub mod SearchCallLaws
 pub mod Known
 pub mod RankedLaws
 pub mod RankedUse

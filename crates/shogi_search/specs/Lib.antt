@@ -6,6 +6,8 @@ pub mod Frames
 pub mod Stack
 pub mod Entered
 pub mod Progress
+pub mod Calls
+pub mod SearchCalls
 pub mod SlicedSearch
 pub mod Threats
 pub mod Ranked

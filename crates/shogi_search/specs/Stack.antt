@@ -1,5 +1,5 @@
 -- The stack of a search in slices: the nodes that wait for a child, from the root on, and the node on top.
-use Rattle.std.specs.Prelude.{◌≡◌, ◌≤◌, ℕ, ◌+◌, ◌*◌, ◌-◌, ◌<◌, ℤ, List, [], ◌∷◌, sum_by, take, slice_get, IsSomeAnd, IfNone, Option, MatchOption}
+use Rattle.std.specs.Prelude.{◌≡◌, ◌≤◌, ℕ, ◌+◌, ◌*◌, ◌-◌, ◌<◌, ℤ, List, [], ◌∷◌, sum_by, take, slice_get, IsSomeAnd, IfNone, Option, Some, None, MatchOption}
 use Rattle.shogi_core.specs.declared.moves.Move.{Move}
 use Rattle.shogi_core.specs.Codes.{code_of}
 use Rattle.shogi_core.specs.Position.{Shogi}
@@ -13,6 +13,7 @@ use Rattle.minimax.specs.declared.entry.Entry.{Entry}
 use Rattle.shogi_search.specs.declared.stack.Stack.{Stack}
 use Rattle.shogi_search.specs.Frames.{position_after, threshold_of}
 use Rattle.minimax.specs.Minimax.{negated, sum_of_tree_sizes, tree_size, IsTrueEntry}
+use Rattle.shogi_search.specs.Calls.{Call, Note}
 use Rattle.shogi_search.specs.Order.{todo}
 use Rattle.shogi_search.specs.Visits.{IsFree}
 use Rattle.minimax.specs.declared.bounds.TheConstants.{SEARCH_DEPTH_MAX, INFINITY}
@@ -135,3 +136,12 @@ steps_left s = sum_by left_of_frame (frames_of s)
 abbrev pub UsesSteps : Stack → Stack → Move → ℕ → Type 0
 UsesSteps old new m made =
     OnTop old (λ top. steps_left new + made ≤ steps_left old + steps_after top m)
+
+-- a note of the root
+abbrev pub note_of_root : Stack → Entry → Call
+note_of_root s entry = Note s.root s.eval s.depth entry
+
+-- how many nodes are entered and not left: none once the root is left
+abbrev pub entered_unless : Option Entry → Stack → ℕ
+entered_unless None s = s.height + 1
+entered_unless (Some entry) s = 0

@@ -1,11 +1,13 @@
 //! A search in slices.
 
-ghost use Rattle.std.specs.Prelude.{◌≡◌, ◌≤◌, ◌<◌, ◌+◌, ◌*◌, ◌-◌, ◌^◌, ◌≤ℤ◌, ◌<ℤ◌, true, false, Some, None, IfSome, IfNone, OnSome, IsSome, ◌↔◌, min};
+ghost use Rattle.std.specs.Prelude.{◌≡◌, ◌≤◌, ◌<◌, ◌+◌, ◌*◌, ◌-◌, ◌^◌, ◌≤ℤ◌, ◌<ℤ◌, [], true, false, Some, None, IfSome, IfNone, OnSome, IsSome, ◌↔◌, min};
 ghost use Rattle.std.specs.List.{All};
 ghost use Rattle.std.specs.Option.{ForSome};
 ghost use Rattle.minimax.specs.Minimax.{tree_size, IsTrueEntry, negated};
 ghost use Rattle.shogi_search.specs.Entered.{IsKnownNode};
 ghost use Rattle.minimax.specs.Entries.{IsCutoff};
+ghost use Rattle.shogi_search.specs.Calls.{Asks};
+ghost use Rattle.shogi_search.specs.SearchCalls.{CallsBetween, CallsOfSearch, Says, TellsRoot};
 ghost use Rattle.shogi_search.specs.Progress.{untouched, untouched_below, left_of, HasPath, IsAnsweredBy, EndsWhereAnswered, EndsWhereKnown, KeepsQuestion, IsFoundBelow, IsFoundBy, FindsValue, FindsBest};
 ghost use Rattle.minimax.specs.declared.bounds.TheConstants.{SEARCH_DEPTH_MAX, INFINITY};
 
@@ -58,6 +60,7 @@ fn found_of(entry: &Entry, root: &Position, e: Eval, depth: u8, beta: i32, steps
     requires cutoff { IsCutoff (negated INFINITY) beta entry.now }
     ensures below { IsFoundBelow root.now e depth beta result }
     ensures steps { result.steps ≡ steps }
+    ensures says { Says entry.now result }
 {
     root.validity();
     match entry {
@@ -174,6 +177,7 @@ impl Search {
         ensures begun { self.new.started ≡ true }
         ensures found { self.new.found ≡ None }
         ensures same { KeepsQuestion self.old self.new }
+        ensures calls { CallsBetween M.called memo.old memo.new self.old self.new 0 }
         ensures capacity { M.capacity memo.new ≡ M.capacity memo.old }
         ensures steps { self.new.steps ≡ min (self.old.steps + 1) (2 ^ 64 - 1) }
         ensures left { left_of self.new < left_of self.old }
@@ -201,9 +205,12 @@ impl Search {
         ensures counted { IfSome result (λ f. f.steps ≡ self.new.steps) }
         ensures range { IfSome result (λ f. f.steps ≤ 2 * tree_size self.old.root self.old.depth) }
         ensures same { KeepsQuestion self.old self.new }
+        ensures calls { CallsBetween M.called memo.old memo.new self.old self.new 0 }
+        ensures told { IfSome result (TellsRoot M.called memo.old memo.new self.old) }
         ensures capacity { M.capacity memo.new ≡ M.capacity memo.old }
         ensures found { self.new.found ≡ result }
         ensures over { OnSome result (self.new.left ≡ 0) }
+        ensures left_all { OnSome result (self.new.entered ≡ []) }
         ensures steps { self.new.steps ≡ self.old.steps + 1 }
         ensures fell { self.new.steps + left_of self.new ≤ self.old.steps + left_of self.old }
     {
@@ -227,10 +234,14 @@ impl Search {
         ensures counted { IfSome result (λ f. f.steps ≡ self.new.steps) }
         ensures range { IfSome result (λ f. f.steps ≤ 2 * tree_size self.old.root self.old.depth) }
         ensures same { KeepsQuestion self.old self.new }
+        ensures calls { CallsBetween M.called memo.old memo.new self.old self.new 0 }
+        ensures told { IfSome result (TellsRoot M.called memo.old memo.new self.old) }
         ensures capacity { M.capacity memo.new ≡ M.capacity memo.old }
         ensures found { self.new.found ≡ result }
         ensures over { OnSome result (self.new.left ≡ 0) }
+        ensures left_all { OnSome result (self.new.entered ≡ []) }
         ensures unfinished { IfNone result (0 < self.new.left) }
+        ensures begun { self.new.started ≡ true }
 
         // Until the end the whole budget is used.
         ensures all { IfNone result (self.new.steps ≡ min (self.old.steps + budget) (2 ^ 64 - 1)) }
@@ -251,6 +262,8 @@ impl Search {
         ensures below { IfSome result (IsFoundBy self.now) }
         ensures steps { IfSome result (λ f. f.steps ≡ self.now.steps) }
         ensures enough { IsSome result ↔ IsAnsweredBy (M.answers memo.old) self.now }
+        ensures asked { Asks M.called memo.old memo.new 1 }
+        ensures told { IfSome result (TellsRoot M.called memo.old memo.new self.now) }
         ensures capacity { M.capacity memo.new ≡ M.capacity memo.old }
     {
         let (root, e, depth) = (&self.stack.root, self.stack.eval, self.stack.depth);
@@ -272,6 +285,10 @@ impl Search {
         ensures eval { self.new.eval ≡ self.old.eval }
         ensures beta { self.new.beta ≡ self.old.beta }
         ensures capacity { M.capacity memo.new ≡ M.capacity memo.old }
+        ensures calls { CallsOfSearch M.called memo.old memo.new self.old self.new }
+        // Its last call says what it found of the root.
+        ensures told { self.old.found ≡ None
+            → IfSome result (TellsRoot M.called memo.old memo.new self.old) }
         ensures found { self.new.found ≡ result }
 
         // Until the end the whole budget is used.
@@ -285,7 +302,9 @@ impl Search {
         ensures idle { IsSome self.old.found → memo.new ≡ memo.old }
         // Once it has ended nothing is left, and until then something is.
         ensures over { OnSome result (self.new.left ≡ 0) }
+        ensures left_all { OnSome result (self.new.entered ≡ []) }
         ensures unfinished { IfNone result (0 < self.new.left) }
+        ensures begun { 0 < budget → IfNone result (self.new.started ≡ true) }
         // Before the first step an answer for the root that says enough ends it.
         ensures enough { EndsWhereAnswered (M.answers memo.old) result self.old self.new }
         ensures known { EndsWhereKnown (M.answers memo.old) result self.old self.new }

@@ -1,12 +1,13 @@
 //! The stack of a search in slices.
 
-ghost use Rattle.std.specs.Prelude.{◌≡◌, ◌≤◌, ◌<ℤ◌, ◌<◌, ◌+◌, ◌*◌, ◌-◌, ◌^◌, true, false, None, Some, IfSome, IfNone, IsSome, min, IsTrue, ◌↔◌};
+ghost use Rattle.std.specs.Prelude.{◌≡◌, ◌≤◌, ◌<ℤ◌, ◌<◌, ◌+◌, ◌*◌, ◌-◌, ◌^◌, true, false, None, Some, IfSome, IfNone, OnSome, IsSome, min, IsTrue, ◌↔◌};
 ghost use Rattle.std.specs.Option.{ForSome};
 ghost use Rattle.minimax.specs.Minimax.{negated, IsTrueEntry};
 ghost use Rattle.minimax.specs.Entries.{IsCutoff, IsEnough, move_in};
 ghost use Rattle.shogi_search.specs.Visits.{IsFree};
 ghost use Rattle.shogi_search.specs.Frames.{IsTrueOf, IsToBeLeft};
-ghost use Rattle.shogi_search.specs.Stack.{IsStack, OnTop, IsTrueAnywhere, IsTrueOfRoot, KeepsGoal, UsesSteps, steps_left};
+ghost use Rattle.shogi_search.specs.Stack.{IsStack, OnTop, IsTrueAnywhere, IsTrueOfRoot, KeepsGoal, UsesSteps, steps_left, note_of_root, entered_unless};
+ghost use Rattle.shogi_search.specs.Calls.{Probe, Asks, CallsInSteps, EndsWith, TellsOnce};
 ghost use Rattle.minimax.specs.declared.bounds.TheConstants.{SEARCH_DEPTH_MAX, INFINITY};
 
 use crate::firsts::Firsts;
@@ -58,6 +59,9 @@ pub fn probe<M: Memo>(
     ensures truth { IfSome result (IsTrueEntry p.now e depth) }
     ensures cutoff { IfSome result (IsCutoff alpha beta) }
     ensures enough { IsSome result ↔ IsEnough alpha beta (M.answers memo.old p.now e depth) }
+    ensures asked { M.called memo.old
+        (Probe p.now e depth (M.answers memo.old p.now e depth)) memo.new }
+    ensures answer { OnSome result (result ≡ M.answers memo.old p.now e depth) }
     ensures capacity { M.capacity memo.new ≡ M.capacity memo.old }
 {
     let entry = memo.probe(p, e, depth)?;
@@ -99,11 +103,13 @@ fn far_answer(depth: u8, alpha: i32, beta: i32) -> Option<Entry>
 
 /// What is known of a child that is not entered: one with one ply left or none, or one of which the
 /// memo knows enough, where its depth serves the memo.
+#[tactic(auto, using(crate::proofs::CallLaws::asks_none, crate::proofs::CallLaws::asks_one))]
 fn answer_of<M: Memo>(node: &Node, depth: u8, alpha: i32, beta: i32, memo: &mut M) -> Option<Entry>
     requires open { alpha <ℤ beta }
     ensures truth { IfSome result (IsTrueEntry node.now.position node.now.eval depth) }
     ensures cutoff { IfSome result (IsCutoff alpha beta) }
     ensures deep { IfNone result (2 ≤ depth) }
+    ensures asked { Asks M.called memo.old memo.new 1 }
     ensures capacity { M.capacity memo.new ≡ M.capacity memo.old }
 {
     if depth < 2 {
@@ -116,9 +122,11 @@ fn answer_of<M: Memo>(node: &Node, depth: u8, alpha: i32, beta: i32, memo: &mut 
 }
 
 /// The best move one ply less deep, where the memo has it.
+#[tactic(auto, using(crate::proofs::CallLaws::asks_none, crate::proofs::CallLaws::asks_one))]
 pub fn hash_move_of<M: Memo>(p: &Position, e: Eval, depth: u8, memo: &mut M) -> Option<Move>
     ensures shallow { depth < 2 → result ≡ None }
     ensures deep { 2 ≤ depth → result ≡ move_in (M.answers memo.old p.now e (depth - 1)) }
+    ensures asked { Asks M.called memo.old memo.new 1 }
     ensures capacity { M.capacity memo.new ≡ M.capacity memo.old }
 {
     if depth < 2 {
@@ -131,8 +139,10 @@ pub fn hash_move_of<M: Memo>(p: &Position, e: Eval, depth: u8, memo: &mut M) -> 
 }
 
 /// The same for a node below the root, where the depth below it serves the memo.
+#[tactic(auto, using(crate::proofs::CallLaws::asks_none))]
 fn child_hash_move_of<M: Memo>(p: &Position, e: Eval, depth: u8, memo: &mut M) -> Option<Move>
     requires { 0 < depth }
+    ensures asked { Asks M.called memo.old memo.new 1 }
     ensures capacity { M.capacity memo.new ≡ M.capacity memo.old }
 {
     if !memo.serves(depth - 1) {
@@ -154,6 +164,8 @@ impl Stack {
         ensures cutoff { result ≡ false → IsCutoff (negated INFINITY) self.old.beta entry.now }
         ensures most { steps_left self.new ≤ steps_left self.old }
         ensures none { result ≡ false → self.new ≡ self.old }
+        ensures below { result ≡ true → self.old.height ≡ self.new.height + 1 }
+        ensures root { result ≡ false → self.old.height ≡ 0 }
         ensures same { KeepsGoal self.old self.new }
     {
         if self.height == 0 {
@@ -178,6 +190,8 @@ impl Stack {
         ensures free { OnTop self.new (λ top. IsFree top.waiting) }
         ensures left { UsesSteps self.old self.new current.now 1 }
         ensures same { KeepsGoal self.old self.new }
+        ensures calls { CallsInSteps M.called memo.old memo.new 0 1
+            (self.old.height + 1) (self.new.height + 1) 0 }
         ensures capacity { M.capacity memo.new ≡ M.capacity memo.old }
     {
         let top = &self.frames[self.height];
@@ -204,6 +218,7 @@ impl Stack {
     /// Asks the memo for the nodes along the best line so far, so that they stay in use.
     #[inline(never)]
     fn keep_line<M: Memo>(&self, memo: &mut M)
+        ensures asked { Asks M.called memo.old memo.new 14 }
         ensures capacity { M.capacity memo.new ≡ M.capacity memo.old }
     {
         let root = &self.frames[0];
@@ -227,6 +242,21 @@ impl Stack {
         }
     }
 
+    /// Tells the memo what is known of the node on top, where that is the root or serves the memo.
+    fn note_top<M: Memo>(&self, entry: &Entry, memo: &mut M)
+        requires stack { IsStack self.now }
+        requires truth { OnTop self.now (λ top. IsTrueOf top entry.now) }
+        ensures root { self.now.height ≡ 0
+            → M.called memo.old (note_of_root self.now entry.now) memo.new }
+        ensures told { TellsOnce M.called memo.old memo.new }
+        ensures capacity { M.capacity memo.new ≡ M.capacity memo.old }
+    {
+        let top = &self.frames[self.height];
+        if self.height == 0 || memo.serves(top.depth) {
+            memo.note(top.node.as_position(), top.node.eval(), top.depth, *entry);
+        }
+    }
+
     /// Leaves the node on top, and gives what is known of the root where that was it.
     #[inline(always)]
     fn leave<M: Memo>(&mut self, memo: &mut M) -> Option<Entry>
@@ -238,20 +268,22 @@ impl Stack {
         ensures truth { IfSome result (IsTrueOfRoot self.old) }
         ensures cutoff { IfSome result (IsCutoff (negated INFINITY) self.old.beta) }
         ensures same { KeepsGoal self.old self.new }
+        ensures calls { CallsInSteps M.called memo.old memo.new 0 1
+            (self.old.height + 1) (entered_unless result self.new) 0 }
+        ensures told { IfSome result (λ entry.
+            EndsWith M.called memo.old memo.new (note_of_root self.old entry)) }
         ensures capacity { M.capacity memo.new ≡ M.capacity memo.old }
     {
-        let top = &self.frames[self.height];
-        let entry = top.to_entry();
-        if self.height == 0 || memo.serves(top.depth) {
-            memo.note(top.node.as_position(), top.node.eval(), top.depth, entry);
+        let entry = self.frames[self.height].to_entry();
+        self.note_top(&entry, memo);
+        if !self.pop(&entry) {
+            return Some(entry);
         }
-        if self.pop(&entry) {
-            if self.height == 0 {
-                self.keep_line(memo);
-            }
+        if self.height == 0 {
+            self.keep_line(memo);
             return None;
         }
-        Some(entry)
+        None
     }
 
     /// Makes one step; gives what is known of the root where that was left.
@@ -264,6 +296,10 @@ impl Stack {
         ensures truth { IfSome result (IsTrueOfRoot self.old) }
         ensures cutoff { IfSome result (IsCutoff (negated INFINITY) self.old.beta) }
         ensures same { KeepsGoal self.old self.new }
+        ensures calls { CallsInSteps M.called memo.old memo.new 0 1
+            (self.old.height + 1) (entered_unless result self.new) 0 }
+        ensures told { IfSome result (λ entry.
+            EndsWith M.called memo.old memo.new (note_of_root self.old entry)) }
         ensures capacity { M.capacity memo.new ≡ M.capacity memo.old }
     {
         let top = &mut self.frames[self.height];
@@ -291,6 +327,10 @@ impl Stack {
         ensures truth { IfSome result (IsTrueOfRoot self.old) }
         ensures cutoff { IfSome result (IsCutoff (negated INFINITY) self.old.beta) }
         ensures same { KeepsGoal self.old self.new }
+        ensures calls { CallsInSteps M.called memo.old memo.new steps.old steps.new
+            (self.old.height + 1) (entered_unless result self.new) 0 }
+        ensures told { IfSome result (λ entry.
+            EndsWith M.called memo.old memo.new (note_of_root self.old entry)) }
         ensures capacity { M.capacity memo.new ≡ M.capacity memo.old }
     {
         let mut made = 0;

@@ -1,4 +1,6 @@
-use Rattle.std.proofs.Common.{◌≡◌, ◌<◌, ℕ, Bool, false, Option, None, Some, rules, arith}
+use Rattle.std.proofs.Common.{◌≡◌, ◌<◌, ℕ, Bool, false, Option, None, Some, refl, rules, arith}
+use Rattle.shogi_search.proofs.CallLaws.{stays, asked_first, steps_and_steps}
+use Rattle.shogi_search.proofs.SearchCallLaws.{with_root, told_after}
 use Rattle.std.specs.Prelude.{is_some}
 use Rattle.shogi_search.specs.declared.found.Found.{Found}
 use Rattle.shogi_search.specs.SlicedSearch.{left_in}
@@ -21,3 +23,27 @@ returns-then-is_some-clause-value g c = rw (← c.self.view_is) (known_value c.s
 
 pub returns-then-is_some-clause-best : goal.returns-then-is_some-clause-best
 returns-then-is_some-clause-best g c = rw (← c.self.view_is) (known_best c.self.inside c.self.inside.found c.self.invariant.known)
+
+pub returns-then-is_some-clause-calls : goal.returns-then-is_some-clause-calls
+returns-then-is_some-clause-calls g c = rw (← c.self.view_is) (stays g.M.Memo.called _ c.self.inside.steps _ _ (omega (arith, c.self.ranges)))
+
+pub returns-then-self-lt2-clause-calls : goal.returns-then-self-lt2-clause-calls
+returns-then-self-lt2-clause-calls g c =
+    with_root g.M.Memo.called _ _ _ _ _ _ c.args.self.now.started (search rules)
+    (asked_first g.M.Memo.called _ _ _ _ _ _ _ 1 0 c.probe_root.ensures.asked c.answer_root.ensures.calls)
+
+pub returns-then-self-lt2-clause-told : goal.returns-then-self-lt2-clause-told
+returns-then-self-lt2-clause-told g c = λ _.
+    told_after g.M.Memo.called _ _ _ _ _ _ _ _ c.args.self.now c.args.self.now c.answer_root.result c.probe_root.ensures.asked (refl, (refl, (refl, refl))) c.answer_root.ensures.told
+
+pub returns-clause-calls : goal.returns-clause-calls
+returns-clause-calls g c =
+    with_root g.M.Memo.called _ _ _ _ _ _ c.args.self.now.started (search rules)
+    (asked_first g.M.Memo.called _ _ _ _ _ _ _ 1 0 c.probe_root.ensures.asked
+    (steps_and_steps g.M.Memo.called _ _ _ _ _ _ _ _ _ 0 0 c.enter_root.ensures.calls c.resume-2.ensures.calls))
+
+pub returns-clause-told : goal.returns-clause-told
+returns-clause-told g c = λ _.
+    told_after g.M.Memo.called _ _ _ _ _ _ _ _ c.args.self.now c.enter_root.new.self c.resume-2.result
+    (asked_first g.M.Memo.called _ _ _ _ _ _ _ 1 0 c.probe_root.ensures.asked c.enter_root.ensures.calls)
+    c.enter_root.ensures.same c.resume-2.ensures.told

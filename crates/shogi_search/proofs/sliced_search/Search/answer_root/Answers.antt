@@ -1,7 +1,9 @@
-use Rattle.std.proofs.Common.{◌≡◌, ◌≤◌, ◌<◌, ◌+◌, ◌*◌, ℕ, Bool, true, false, Option, None, Some, rules, refl, arith, subst, sym}
+use Rattle.std.proofs.Common.{◌≡◌, ◌≤◌, ◌+◌, ℕ, Bool, true, false, Option, None, Some, rules, refl, arith, inl}
 use Rattle.std.proofs.lemmas.Int.{ints}
-use Rattle.minimax.specs.Minimax.{tree_size}
-use Rattle.shogi_search.specs.Progress.{IsFoundBelow}
+use Rattle.minimax.specs.Minimax.{tree_size, negated}
+use Rattle.minimax.specs.declared.bounds.TheConstants.{INFINITY}
+use Rattle.shogi_search.proofs.CallLaws.{as_counted, notes_root, ends_at_once}
+use Rattle.shogi_search.proofs.SearchCallLaws.{cutoff_as, none_entered}
 use Rattle.shogi_search.proofs.Searches.{known_found}
 use Rattle.minimax.proofs.MinimaxLaws.{tree_size-positive}
 use Rattle.shogi_search.specs.declared.found.Found.{Found}
@@ -48,3 +50,18 @@ returns-clause-fell g c =
     let some : 1 ≤ tree_size s.stack.root s.stack.depth = tree_size-positive s.stack.root s.stack.depth in
     let left : left_in s.found s.started (steps_of_tree s.stack) (steps_left s.stack) ≡ steps_of_tree s.stack = all_left s.found s.started (steps_of_tree s.stack) (steps_left s.stack) (search rules) (search rules) in
     rw (← c.self.view_is) (omega (arith, zero, some, left, c.saturating_add-self-inside.ensures))
+
+pub returns-clause-calls : goal.returns-clause-calls
+returns-clause-calls g c =
+    rw (← c.self.view_is)
+    (as_counted g.M.Memo.called _ _ _ _ _ _ _ _ _ _ _
+    (notes_root g.M.Memo.called _ _ _ _ _ _ c.self.inside.steps c.saturating_add-self-inside.result c.note.ensures.called c.saturating_add-self-inside.ensures)
+    refl refl (none_entered c.self.inside.found c.self.inside.started _ (search rules) (search rules)) refl)
+
+pub returns-clause-told : goal.returns-clause-told
+returns-clause-told g c = rw (← c.self.view_is) (record {
+  entry = c.answer_at_once-entry.result;
+  says = c.found_of.ensures.says;
+  enough = cutoff_as _ _ (negated INFINITY) c.self.inside.stack.beta c.answer_at_once-entry.result c.answer_at_once-entry.ensures.cutoff (omega (arith, ints)) (omega (arith, ints));
+  last = inl (ends_at_once g.M.Memo.called _ _ _ c.note.ensures.called);
+})

@@ -1,4 +1,6 @@
-use Rattle.std.proofs.Common.{rules, arith, ◌<◌, ◌*◌, ◌∙◌}
+use Rattle.std.proofs.Common.{rules, arith, refl, true, ◌<◌, ◌*◌, ◌∙◌}
+use Rattle.shogi_search.proofs.CallLaws.{as_counted, asks_in_step}
+use Rattle.shogi_search.proofs.SearchCallLaws.{entered_count, none_entered}
 use Rattle.shogi_search.specs.declared.frame.Frame.{Frame}
 use Rattle.minimax.specs.Minimax.{negated, tree_size}
 use Rattle.shogi_search.specs.Stack.{IsAt, steps_left}
@@ -22,3 +24,16 @@ invariant_of-self g c =
       free = λ _ _. on_with s 0 c.enter.new.self (λ (top : Frame). IsFree top.waiting) (omega arith) (free_next _ c.enter.ensures.waiting);
       counted = search rules;
     }
+
+pub returns-clause-calls : goal.returns-clause-calls
+returns-clause-calls g c =
+    let s = c.self.inside.stack in
+    let at = c.enter.ensures.place in
+    let root : IsAt s.root s.eval s.depth (negated INFINITY) s.beta c.enter.new.self = record { position = at.position ∙ search rules; eval = at.eval ∙ search rules; depth = at.depth; alpha_is = search rules; beta_is = search rules } in
+    rw (← c.self.view_is)
+    (as_counted g.M.Memo.called _ _ _ _ _ _ _ _ _ _ _
+    (asks_in_step g.M.Memo.called _ _ c.self.inside.steps c.saturating_add-self-inside.result 0 1 1 c.hash_move_of-hash_move.ensures.asked c.saturating_add-self-inside.ensures (omega arith) (omega arith))
+    refl refl
+    (none_entered c.self.inside.found c.self.inside.started _ (search rules) (search rules))
+    (entered_count c.self.inside.found true (with_frame s 0 c.enter.new.self) (search rules) refl
+    (stack_with s 0 c.enter.new.self (omega arith) (omega arith) c.self.invariant.shallow root)))

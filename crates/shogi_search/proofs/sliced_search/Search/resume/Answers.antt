@@ -1,4 +1,6 @@
-use Rattle.std.proofs.Common.{◌≡◌, ◌<◌, ℕ, Bool, true, false, Option, None, Some, rules, refl, arith}
+use Rattle.std.proofs.Common.{◌≡◌, ◌<◌, ℕ, Bool, true, false, Option, None, Some, rules, refl, arith, inl}
+use Rattle.shogi_search.proofs.CallLaws.{as_counted}
+use Rattle.shogi_search.proofs.SearchCallLaws.{entered_count}
 use Rattle.std.specs.Prelude.{IfNone}
 use Rattle.std.proofs.lemmas.Int.{ints}
 use Rattle.shogi_search.proofs.Searches.{known_found}
@@ -26,3 +28,25 @@ invariant_of-self-2 g c = record {
   free = λ e. absurd (cc);
   counted = search rules;
 }
+
+pub returns-in_err-entry-clause-calls : goal.returns-in_err-entry-clause-calls
+returns-in_err-entry-clause-calls g c =
+    rw (← c.self.view_is)
+    (as_counted g.M.Memo.called _ _ _ _ _ _ _ _ _ _ _ c.in_err-entry.ensures.calls refl refl
+    (entered_count c.self.inside.found c.self.inside.started c.self.inside.stack (search rules) (search rules) (c.self.invariant.chain (search rules) (search rules)))
+    (entered_count c.self.inside.found c.self.inside.started c.run.new.self (search rules) (search rules) c.in_err-entry.ensures.stack))
+
+pub returns-clause-calls : goal.returns-clause-calls
+returns-clause-calls g c =
+    rw (← c.self.view_is)
+    (as_counted g.M.Memo.called _ _ _ _ _ _ _ _ _ _ _ c.in_ok-entry.ensures.calls refl refl
+    (entered_count c.self.inside.found c.self.inside.started c.self.inside.stack (search rules) (search rules) (c.self.invariant.chain (search rules) (search rules)))
+    refl)
+
+pub returns-clause-told : goal.returns-clause-told
+returns-clause-told g c = rw (← c.self.view_is) (record {
+  entry = c.in_ok-entry.entry;
+  says = c.found_of.ensures.says;
+  enough = c.in_ok-entry.ensures.cutoff;
+  last = inl c.in_ok-entry.ensures.told;
+})

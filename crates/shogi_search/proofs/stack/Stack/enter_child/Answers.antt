@@ -1,4 +1,4 @@
-use Rattle.std.proofs.Common.{arith, get_or, rules, subst, sym, Some, ◌≡◌, ◌<◌, ◌≤◌, ◌-◌, ◌+◌, ◌∙◌}
+use Rattle.std.proofs.Common.{arith, get_or, rules, refl, subst, sym, Some, ◌≡◌, ◌<◌, ◌≤◌, ◌-◌, ◌+◌, ◌∙◌}
 use Rattle.std.proofs.lemmas.Int.{ints}
 use Rattle.shogi_moves.proofs.LegalLaws.{listed_to_legal}
 use Rattle.shogi_search.specs.Frames.{position_after, threshold_of}
@@ -14,6 +14,7 @@ use Rattle.shogi_core.specs.Codes.{code_of}
 use Rattle.shogi_search.specs.declared.stack.Stack.{Stack}
 use Rattle.shogi_search.proofs.Nodes.{asked, waits}
 use Rattle.shogi_search.proofs.Places.{IsTop, read_top, on_top, on_with, changed, room, stack_entered, left_child, left_visited, free_next}
+use Rattle.shogi_search.proofs.CallLaws.{asks_in_step, asks_and_asks, asks_none}
 use Rattle.shogi_search.proofs.stack.Stack.enter_child.Goals as goal
 
 pub advance-requires : goal.advance-requires
@@ -151,3 +152,15 @@ returns-clause-left g c =
       beta_is = omega (arith, ints, c.enter.ensures.place.beta_is, c.window-alpha.ensures.beta, c.window-alpha.ensures.least, c.window-alpha.ensures.«open», c.window-alpha.ensures.most);
     } in
     left_child c.args.self.now f c.enter.new.self c.args.current.now _ _ _ is (omega (arith, above)) window (search rules)
+
+pub returns-in-Some-clause-calls : goal.returns-in-Some-clause-calls
+returns-in-Some-clause-calls g c = asks_in_step g.M.Memo.called _ _ 0 1 _ _ 0 (asks_none g.M.Memo.called _ 0) refl (omega arith) (omega arith)
+
+pub returns-in-Some-answer_of-clause-calls : goal.returns-in-Some-answer_of-clause-calls
+returns-in-Some-answer_of-clause-calls g c = asks_in_step g.M.Memo.called _ _ 0 1 _ _ 1 c.answer_of.ensures.asked refl (omega arith) (omega arith)
+
+pub returns-clause-calls : goal.returns-clause-calls
+returns-clause-calls g c =
+    asks_in_step g.M.Memo.called _ _ 0 1 _ _ 2
+    (asks_and_asks g.M.Memo.called _ _ _ 1 1 2 c.answer_of.ensures.asked c.child_hash_move_of-hash_move.ensures.asked (omega arith))
+    refl (omega arith) (omega arith)

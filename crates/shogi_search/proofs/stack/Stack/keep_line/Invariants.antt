@@ -1,8 +1,14 @@
-use Rattle.std.proofs.Common.{◌≡◌}
+use Rattle.std.proofs.Common.{◌≡◌, ◌≤◌, ◌-◌}
+use Rattle.shogi_search.specs.Calls.{Asks}
 use Rattle.shogi_search.proofs.stack.Stack.keep_line.Given as goal
 
 abbrev pub invariant-line : goal.invariant-line
-invariant-line g l = record { capacity : g.M.Memo.capacity l.memo ≡ g.M.Memo.capacity l.fn.memo }
+invariant-line g l = record {
+  capacity : g.M.Memo.capacity l.memo ≡ g.M.Memo.capacity l.fn.memo;
+  fewer : l.depth ≤ l.initial.depth;
+  above : 2 ≤ l.depth;
+  asked : Asks g.M.Memo.called l.fn.memo l.memo (l.initial.depth - l.depth);
+}
 
 abbrev pub decreases-line : goal.decreases-line
 decreases-line g l = l.depth

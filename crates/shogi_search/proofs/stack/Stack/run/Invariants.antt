@@ -1,4 +1,6 @@
-use Rattle.std.proofs.Common.{◌≡◌, ◌≤◌, ◌+◌, ◌-◌}
+use Rattle.std.proofs.Common.{◌≡◌, ◌≤◌, ◌+◌, ◌-◌, ◌^◌}
+use Rattle.std.specs.Prelude.{min}
+use Rattle.shogi_search.specs.Calls.{CallsInSteps}
 use Rattle.shogi_search.specs.Visits.{IsFree}
 use Rattle.shogi_search.specs.Stack.{IsStack, KeepsGoal, OnTop, steps_left}
 use Rattle.shogi_search.proofs.stack.Stack.run.Given as goal
@@ -11,6 +13,7 @@ invariant-steps g l = record {
   left : steps_left l.self + l.made ≤ steps_left l.fn.self;
   within : l.made ≤ l.budget;
   counted : l.steps ≡ l.fn.steps;
+  calls : CallsInSteps g.M.Memo.called l.fn.memo l.memo l.fn.steps (min (l.fn.steps + l.made) (2 ^ 64 - 1)) (l.fn.self.height + 1) (l.self.height + 1) 0;
   capacity : g.M.Memo.capacity l.memo ≡ g.M.Memo.capacity l.fn.memo;
 }
 

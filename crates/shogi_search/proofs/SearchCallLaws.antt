@@ -1,0 +1,80 @@
+-- What a search asks and tells, by its nodes that are entered and not left.
+use Rattle.std.proofs.Common.{◌≡◌, ◌∙◌, ◌<◌, ◌+◌, ℕ, ℤ, Bool, true, false, List, map, length, Option, Some, None, refl, subst, inl, inr, arith}
+use Rattle.std.specs.Prelude.{IfSome}
+use Rattle.std.proofs.lemmas.List.{length-map, length-take-le}
+use Rattle.std.proofs.lemmas.Option.{slice_get_within}
+use Rattle.minimax.specs.Entries.{IsCutoff}
+use Rattle.minimax.specs.Minimax.{negated}
+use Rattle.minimax.specs.declared.bounds.TheConstants.{INFINITY}
+use Rattle.minimax.specs.declared.entry.Entry.{Entry}
+use Rattle.shogi_search.specs.Calls.{Call, Probe, Note, CallsInSteps, EndsWith}
+use Rattle.shogi_search.specs.Entered.{Entered}
+use Rattle.shogi_search.specs.Progress.{Progress, KeepsQuestion}
+use Rattle.shogi_search.specs.SearchCalls.{TellsRoot, asked_before}
+use Rattle.shogi_search.specs.SlicedSearch.{entered_in, entered_of}
+use Rattle.shogi_search.specs.Stack.{IsChain, IsStack, KeepsGoal, frames_of, note_of_root, parents_of}
+use Rattle.shogi_search.specs.declared.found.Found.{Found}
+use Rattle.shogi_search.specs.declared.stack.Stack.{Stack}
+use Rattle.shogi_search.proofs.CallLaws.{ends_after}
+use Rattle.shogi_search.proofs.Places.{HasTop, has_top}
+
+-- so many frames are on the way down
+frames_count : (s : Stack) → IsStack s → length (frames_of s) ≡ s.height + 1
+frames_count s k =
+    let t : HasTop s (IsChain s.root s.eval s.depth (negated INFINITY) s.beta (parents_of s)) = has_top s _ k.chain in
+    let fits : s.height < length s.frames = slice_get_within s.frames s.height t.top t.is in
+    length-take-le (s.height + 1) s.frames (omega arith)
+
+-- so many nodes are entered and not left
+pub entered_count : (found : Option Found) (started : Bool) (s : Stack) → found ≡ None → started ≡ true
+    → IsStack s → length (entered_in found started (map entered_of (frames_of s))) ≡ s.height + 1
+entered_count None true s e f k = length-map (frames_of s) entered_of ∙ frames_count s k
+entered_count None false s e f k = absurd (cc)
+entered_count (Some x) started s e f k = absurd (cc)
+
+-- and none before the root is entered
+pub none_entered : (found : Option Found) (started : Bool) (nodes : List Entered) → found ≡ None
+    → started ≡ false → length (entered_in found started nodes) ≡ 0
+none_entered None false nodes e f = refl
+none_entered None true nodes e f = absurd (cc)
+none_entered (Some x) started nodes e f = absurd (cc)
+
+-- the root is asked for before the first step
+pub with_root : {M : Type 0} (called : M → Call → M → Type 0) (a b : M) (s t x y : ℕ) (started : Bool)
+    → started ≡ false → CallsInSteps called a b s t x y 1
+    → CallsInSteps called a b s t x y (asked_before started)
+with_root called a b s t x y false e k = k
+with_root called a b s t x y true e k = absurd (cc)
+
+-- a note of the root is one of the same root
+pub same_note : (s t : Stack) (entry : Entry) → KeepsGoal s t → note_of_root t entry ≡ note_of_root s entry
+same_note s t entry k = cc
+
+-- an entry says enough for the same window
+pub cutoff_as : (a b a' b' : ℤ) (entry : Entry) → IsCutoff a b entry → a ≡ a' → b ≡ b' → IsCutoff a' b' entry
+cutoff_as a b a' b' entry k e f =
+    subst (λ (x : ℤ). IsCutoff a' x entry) f (subst (λ (x : ℤ). IsCutoff x b entry) e k)
+
+-- the root is told of after further calls
+pub told_after : {M : Type 0} (called : M → Call → M → Type 0) (a b c : M) (s t x y p : ℕ)
+    (search later : Progress) (found : Option Found)
+    → CallsInSteps called a b s t x y p → KeepsQuestion search later
+    → IfSome found (TellsRoot called b c later) → IfSome found (TellsRoot called a c search)
+told_after called a b c s t x y p search later None first same told = tt
+told_after called a b c s t x y p search later (Some f) first same told = record {
+  entry = told.entry;
+  says = told.says;
+  enough = subst (λ (beta : ℤ). IsCutoff (negated INFINITY) beta told.entry) same.1.1.1 told.enough;
+  last = elim told.last [
+    | inl note ↦ inl (ends_after called a b c s t x y p _ first
+        (subst (λ (call : Call). EndsWith called b c call) (same_call_note told.entry) note))
+    | inr probe ↦ inr (ends_after called a b c s t x y p _ first
+        (subst (λ (call : Call). EndsWith called b c call) (same_call_probe told.entry) probe))
+  ];
+}
+  where
+    same_call_note : (entry : Entry) → Note later.root later.eval later.depth entry ≡ Note search.root search.eval search.depth entry
+    same_call_note entry = cc
+
+    same_call_probe : (entry : Entry) → Probe later.root later.eval later.depth (Some entry) ≡ Probe search.root search.eval search.depth (Some entry)
+    same_call_probe entry = cc

@@ -1,0 +1,42 @@
+-- What a search asks and tells a memory (own choice).
+use Rattle.std.specs.Prelude.{◌≡◌, ◌⊎◌, ℕ, Bool, true, false, None, Some, length}
+use Rattle.minimax.specs.declared.entry.Entry.{Entry}
+use Rattle.minimax.specs.declared.entry.Entry.TheVariants.{Exact, AtLeast, AtMost}
+use Rattle.minimax.specs.Entries.{IsEnoughBelow}
+use Rattle.shogi_search.specs.declared.found.Found.{Found}
+use Rattle.shogi_search.specs.Calls.{Call, Probe, Note, CallsInSteps, EndsWith}
+use Rattle.shogi_search.specs.Progress.{Progress}
+
+-- before the first step the root is asked for
+abbrev pub asked_before : Bool → ℕ
+asked_before false = 1
+asked_before true = 0
+
+-- the calls by which a search comes from one state to the other, with so many questions besides
+abbrev pub CallsBetween : {M : Type 0} → (M → Call → M → Type 0) → M → M → Progress → Progress → ℕ
+    → Type 0
+CallsBetween called old new before after besides =
+    CallsInSteps called old new before.steps after.steps (length before.entered)
+    (length after.entered) besides
+
+-- the same, where the root is asked for before the first step
+abbrev pub CallsOfSearch : {M : Type 0} → (M → Call → M → Type 0) → M → M → Progress → Progress
+    → Type 0
+CallsOfSearch called old new before after =
+    CallsBetween called old new before after (asked_before before.started)
+
+-- the entry says what was found
+abbrev pub Says : Entry → Found → Type 0
+Says (Exact v m) f = (f.value ≡ v) × (f.best ≡ m)
+Says (AtLeast v) f = (f.value ≡ v) × (f.best ≡ None)
+Says (AtMost v) f = ⊥
+
+-- the last thing that the memory was told, or answered, is what was found of the root, and ends the same search without a step
+pub record TellsRoot {M : Type 0} (called : M → Call → M → Type 0) (old new : M)
+    (search : Progress) (f : Found) : Type 0 where
+  pub entry : Entry
+  pub says : Says entry f
+  pub enough : IsEnoughBelow search.beta (Some entry)
+  pub last :
+      EndsWith called old new (Note search.root search.eval search.depth entry)
+      ⊎ EndsWith called old new (Probe search.root search.eval search.depth (Some entry))
