@@ -1,5 +1,5 @@
 -- What a search asks and tells, by its nodes that are entered and not left.
-use Rattle.std.proofs.Common.{◌≡◌, ◌∙◌, ◌<◌, ◌+◌, ℕ, ℤ, Bool, true, false, List, map, length, Option, Some, None, refl, subst, inl, inr, arith}
+use Rattle.std.proofs.Common.{◌≡◌, ◌∙◌, ◌<◌, ◌+◌, ℕ, ℤ, Bool, true, false, List, [], map, length, Option, Some, None, refl, sym, ap, subst, inl, inr, arith}
 use Rattle.std.specs.Prelude.{IfSome}
 use Rattle.std.proofs.lemmas.List.{length-map, length-take-le}
 use Rattle.std.proofs.lemmas.Option.{slice_get_within}
@@ -7,15 +7,17 @@ use Rattle.minimax.specs.Entries.{IsCutoff}
 use Rattle.minimax.specs.Minimax.{negated}
 use Rattle.minimax.specs.declared.bounds.TheConstants.{INFINITY}
 use Rattle.minimax.specs.declared.entry.Entry.{Entry}
+use Rattle.shogi_core.specs.Position.{Shogi}
+use Rattle.shogi_eval.specs.declared.eval.Eval.{Eval}
 use Rattle.shogi_search.specs.Calls.{Call, Probe, Note, CallsInSteps, EndsWith}
 use Rattle.shogi_search.specs.Entered.{Entered}
-use Rattle.shogi_search.specs.Progress.{Progress, KeepsQuestion}
-use Rattle.shogi_search.specs.SearchCalls.{TellsRoot, asked_before}
+use Rattle.shogi_search.specs.Progress.{Progress, KeepsQuestion, untouched_below}
+use Rattle.shogi_search.specs.SearchCalls.{CallsOfSearch, CallsOfWhole, TellsRoot, asked_before}
 use Rattle.shogi_search.specs.SlicedSearch.{entered_in, entered_of}
 use Rattle.shogi_search.specs.Stack.{IsChain, IsStack, KeepsGoal, frames_of, note_of_root, parents_of}
 use Rattle.shogi_search.specs.declared.found.Found.{Found}
 use Rattle.shogi_search.specs.declared.stack.Stack.{Stack}
-use Rattle.shogi_search.proofs.CallLaws.{ends_after}
+use Rattle.shogi_search.proofs.CallLaws.{as_counted, ends_after, steps_and_steps}
 use Rattle.shogi_search.proofs.Places.{HasTop, has_top}
 
 -- so many frames are on the way down
@@ -78,3 +80,34 @@ told_after called a b c s t x y p search later (Some f) first same told = record
 
     same_call_probe : (entry : Entry) → Probe later.root later.eval later.depth (Some entry) ≡ Probe search.root search.eval search.depth (Some entry)
     same_call_probe entry = cc
+
+-- a search that was just started has entered nothing
+pub from_start : {M : Type 0} (called : M → Call → M → Type 0) (a b : M) (search later : Progress)
+    (p : Shogi) (e : Eval) (d : ℕ) (beta : ℤ) → CallsOfSearch called a b search later
+    → search ≡ untouched_below p e d beta
+    → CallsInSteps called a b 0 later.steps 0 (length later.entered) 1
+from_start called a b search later p e d beta k is =
+    subst (λ (s : Progress). CallsOfSearch called a b s later) is k
+
+-- a search that has begun goes on
+pub goes_on : {M : Type 0} (called : M → Call → M → Type 0) (a b c : M) (search later : Progress)
+    → CallsInSteps called a b 0 search.steps 0 (length search.entered) 1 → search.started ≡ true
+    → CallsOfSearch called b c search later
+    → CallsInSteps called a c 0 later.steps 0 (length later.entered) 1
+goes_on called a b c search later first begun second =
+    steps_and_steps called a b c 0 search.steps later.steps 0 (length search.entered) (length later.entered) 1 0
+    first (once_begun search.started begun second)
+  where
+    once_begun : (started : Bool) → started ≡ true
+        → CallsInSteps called b c search.steps later.steps (length search.entered) (length later.entered) (asked_before started)
+        → CallsInSteps called b c search.steps later.steps (length search.entered) (length later.entered) 0
+    once_begun true e k = k
+    once_begun false e k = absurd (cc)
+
+-- and has entered nothing once it has ended
+pub whole_calls : {M : Type 0} (called : M → Call → M → Type 0) (a b : M) (later : Progress) (f : Found)
+    → CallsInSteps called a b 0 later.steps 0 (length later.entered) 1 → f.steps ≡ later.steps
+    → later.entered ≡ [] → CallsOfWhole called a b f
+whole_calls called a b later f k steps none =
+    as_counted called a b 0 0 later.steps f.steps 0 0 (length later.entered) 0 1 k refl steps refl
+    (sym (ap (λ (nodes : List Entered). length nodes) none))

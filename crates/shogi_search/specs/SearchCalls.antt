@@ -40,3 +40,7 @@ pub record TellsRoot {M : Type 0} (called : M → Call → M → Type 0) (old ne
   pub last :
       EndsWith called old new (Note search.root search.eval search.depth entry)
       ⊎ EndsWith called old new (Probe search.root search.eval search.depth (Some entry))
+
+-- the calls of a whole search, from before its first step to its end
+abbrev pub CallsOfWhole : {M : Type 0} → (M → Call → M → Type 0) → M → M → Found → Type 0
+CallsOfWhole called old new f = CallsInSteps called old new 0 f.steps 0 0 1

@@ -6,7 +6,8 @@ ghost use Rattle.shogi_moves.specs.LegalMoves.{legal_codes};
 ghost use Rattle.minimax.specs.Entries.{IsExactly, IsEnoughBelow};
 ghost use Rattle.minimax.specs.Minimax.{value, best, tree_size, lost_value, negated};
 ghost use Rattle.minimax.specs.declared.bounds.TheConstants.{SEARCH_DEPTH_MAX, INFINITY};
-ghost use Rattle.shogi_search.specs.Progress.{IsFoundBelow};
+ghost use Rattle.shogi_search.specs.Progress.{IsFoundBelow, untouched, untouched_below};
+ghost use Rattle.shogi_search.specs.SearchCalls.{CallsOfWhole, TellsRoot};
 
 use crate::found::Found;
 use crate::memo::Memo;
@@ -29,6 +30,8 @@ pub fn search_below<M: Memo>(p: &Position, e: Eval, d: u8, beta: i32, memo: &mut
     ensures steps { result.steps ≤ 2 * tree_size p.now d }
     ensures enough { IsEnoughBelow beta (M.answers memo.old p.now e d) → result.steps ≡ 0 }
     ensures known { IsExactly (M.answers memo.old p.now e d) → result.steps ≡ 0 }
+    ensures calls { CallsOfWhole M.called memo.old memo.new result }
+    ensures told { TellsRoot M.called memo.old memo.new (untouched_below p.now e d beta) result }
     ensures capacity { M.capacity memo.new ≡ M.capacity memo.old }
 {
     let mut search = Search::start_below(p, e, d, beta);
@@ -54,6 +57,8 @@ pub fn search<M: Memo>(p: &Position, e: Eval, d: u8, memo: &mut M) -> Found
     ensures legal { IfSome result.best (λ m. is_legal p.now m ≡ true) }
     ensures steps { result.steps ≤ 2 * tree_size p.now d }
     ensures known { IsExactly (M.answers memo.old p.now e d) → result.steps ≡ 0 }
+    ensures calls { CallsOfWhole M.called memo.old memo.new result }
+    ensures told { TellsRoot M.called memo.old memo.new (untouched p.now e d) result }
     ensures capacity { M.capacity memo.new ≡ M.capacity memo.old }
 {
     p.validity();

@@ -1,4 +1,5 @@
-use Rattle.std.proofs.Common.{◌≡◌}
+use Rattle.std.proofs.Common.{◌≡◌, true, None, length}
+use Rattle.shogi_search.specs.Calls.{CallsInSteps}
 use Rattle.minimax.specs.Entries.{IsExactly, IsEnough}
 use Rattle.minimax.specs.Minimax.{negated}
 use Rattle.minimax.specs.declared.bounds.TheConstants.{INFINITY}
@@ -11,6 +12,9 @@ invariant-slices g l = record {
   eval : l.search.eval ≡ l.fn.e;
   depth : l.search.depth ≡ l.fn.d;
   beta : l.search.beta ≡ l.fn.beta;
+  calls : CallsInSteps g.M.Memo.called l.fn.memo l.memo 0 l.search.steps 0 (length l.search.entered) 1;
+  begun : l.search.started ≡ true;
+  none_found : l.search.found ≡ None;
   capacity : g.M.Memo.capacity l.memo ≡ g.M.Memo.capacity l.fn.memo;
   enough : IsEnough (negated INFINITY) l.fn.beta (g.M.Memo.answers l.fn.memo l.fn.p l.fn.e l.fn.d) → ⊥;
   unknown : IsExactly (g.M.Memo.answers l.fn.memo l.fn.p l.fn.e l.fn.d) → ⊥;
