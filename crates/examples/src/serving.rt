@@ -9,7 +9,7 @@ use std::alloc::Allocator;
 use std::fs::Files;
 use std::hash::BuildHasher;
 use std::net::Net;
-use usi_serve::{MioWire, serve};
+use usi_serve::{MioWire, Unseen, serve};
 use wires::WireFault;
 
 /// Makes a socket at the path, and serves those who connect for so many turns.
@@ -24,5 +24,5 @@ pub fn serve_at<R: Files + Net, S: BuildHasher, A: Allocator + Copy>(
 {
     let mut wire = MioWire::bind(rt, alloc, path)?;
     let mut connections = Loop::new(alloc, 1000)?;
-    serve(host, &mut connections, &mut wire, turns)
+    serve(host, &mut connections, &mut wire, &mut Unseen, turns)
 }

@@ -89,6 +89,13 @@ impl<S: BuildHasher, A: Allocator + Copy> Host<S, A> {
         self.table.refused()
     }
 
+    /// How many entries the table has.
+    pub fn entries(&self) -> usize
+        ensures { result ≡ length self.now.table.pairs }
+    {
+        self.table.len()
+    }
+
     /// Opens a session at its start: `Full` where as many are open as may be, or no id is left.
     pub fn open(&mut self) -> Result<SessionId, HostFault>
         ensures opened { Stepped self.old Open (as_outcome Opened result) self.new }

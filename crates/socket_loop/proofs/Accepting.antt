@@ -1,7 +1,7 @@
 -- New connections.
 use Rattle.std.proofs.Common.{◌≡◌, ◌≢◌, ◌⊎◌, ℕ, zero, suc, ◌+◌, ◌<◌, ◌≤◌, Bool, true, false, List, [], ◌∷◌, ◌++◌, Option, Some, None, Result, Ok, Err, map, drop, refl, sym, ap, ◌∙◌, subst, arith, take-append-drop, inl, inr, length, append-nil, length-append}
 use Rattle.std.specs.Prelude.{insert, ◌||◌}
-use Rattle.std.proofs.lemmas.Bool.{cases_eq, or_cases}
+use Rattle.std.proofs.lemmas.Bool.{cases_eq}
 use Rattle.std.proofs.lemmas.List.{map-append}
 use Rattle.std.proofs.KnownBytes.{Appends-kept, Keeps-trans}
 use Rattle.session_slots.specs.declared.id.SessionId.{SessionId}
@@ -9,17 +9,20 @@ use Rattle.session_slots.specs.Slots.{Opens}
 use Rattle.host_core.specs.Steps.{HostState}
 use Rattle.host_core.specs.declared.event.HostFault.{HostFault}
 use Rattle.host_core.specs.Events.{Outcome, Opened, Refused, Open}
-use Rattle.host_core.specs.Made.{Step, own, taken, is_opened, is_same_id}
-use Rattle.host_core.specs.Runs.{IsStep, IsRun}
+use Rattle.host_core.specs.Made.{Step, is_opened}
+use Rattle.host_core.specs.Runs.{IsStep}
 use Rattle.host_core.specs.Headline.{IsPrefixOf}
 use Rattle.host_core.proofs.Chains.{run-start}
-use Rattle.host_core.proofs.Ids.{same_id, is_same_id-refl}
+use Rattle.host_core.proofs.Ids.{is_same_id-refl}
 use Rattle.socket_loop.specs.declared.connection.Link.{Link}
+use Rattle.socket_loop.specs.declared.tally.Arrivals.{Arrivals}
+use Rattle.socket_loop.specs.declared.tally.Admission.{Admission}
+use Rattle.socket_loop.specs.Tallies.{AreArrivals, full_of, fulls, unopened_of, unopeneds, with_one}
 use Rattle.socket_loop.specs.declared.connection.Connection.{Connection}
 use Rattle.wires.specs.declared.wire.WireFault.{WireFault}
 use Rattle.wires.specs.Report.{Report, KeepsPeer, KeepsAll, Writes, Shuts, bytes_written, GivesNumber}
 use Rattle.socket_loop.specs.Links.{Ties, IsTied, IsAmong, IsApart, links_of}
-use Rattle.socket_loop.specs.Parts.{AreAll, IsAdmission, IsClosing, closes}
+use Rattle.socket_loop.specs.Parts.{IsAdmission}
 use Rattle.wires.specs.Moves.{AllMove}
 use Rattle.socket_loop.specs.Turns.{Fits, Accepted, AreNumbered, HasSession, HaveSessions, IsOneOf, IsRejected, IsAway, IsNew, Accepts, Admits, openings, rejection_text}
 use Rattle.wires.proofs.Peers.{kept_same, kept_then, all_kept, moves_then, away_moves, stays_raised, rises_then, stays_rise, reported_failure, raised_rises, Consumes-none, Appends-none, Keeps-Appends}
@@ -27,7 +30,7 @@ use Rattle.wires.specs.Asked.{Call, Accept, Asks}
 use Rattle.socket_loop.specs.Calls.{AllAccepted, OneAdmitted, AsksAll, GivesNobody}
 use Rattle.socket_loop.proofs.Calls.{AsksAccepts, asks_accept, asks_full, asks_no_accept, asks_on, asks_stop}
 use Rattle.socket_loop.proofs.Left.{once_insert}
-use Rattle.socket_loop.proofs.Runs.{run-one, run-two, run-append, own-append, taken-append, openings-append, closes_neither, closes_either, all_append, next_rises, step_rises, opened_left, opened_right}
+use Rattle.socket_loop.proofs.Runs.{run-one, run-append, own-append, taken-append, openings-append, all_append, next_rises, step_rises, opened_left, opened_right}
 
 -- ---- rejected
 
@@ -411,44 +414,65 @@ accepts_more ls ms ns f m number t o a b c d h i j p u v k q = accepts_then ls m
 length_one : (xs : List Accepted) (x : Accepted) → length (xs ++ (x ∷ [])) ≡ length xs + 1
 length_one xs x = length-append xs (x ∷ [])
 
+fulls-append : (xs ys : List Accepted) → fulls (xs ++ ys) ≡ fulls xs + fulls ys
+fulls-append [] ys = omega arith
+fulls-append (x ∷ xs) ys = let more : fulls (xs ++ ys) ≡ fulls xs + fulls ys = fulls-append xs ys in omega arith
+
+unopeneds-append : (xs ys : List Accepted) → unopeneds (xs ++ ys) ≡ unopeneds xs + unopeneds ys
+unopeneds-append [] ys = omega arith
+unopeneds-append (x ∷ xs) ys = let more : unopeneds (xs ++ ys) ≡ unopeneds xs + unopeneds ys = unopeneds-append xs ys in omega arith
+
+one_more : (xs : List Accepted) (x : Accepted) (arrivals : Arrivals) (one : Admission) → AreArrivals xs arrivals → one.full ≡ full_of x.outcome → one.unopened ≡ unopened_of x.outcome → AreArrivals (xs ++ (x ∷ [])) (with_one arrivals one)
+one_more xs x arrivals one are full unopened =
+    let all : fulls (xs ++ (x ∷ [])) ≡ fulls xs + (full_of x.outcome + 0) = fulls-append xs (x ∷ []) in
+    let none : unopeneds (xs ++ (x ∷ [])) ≡ unopeneds xs + (unopened_of x.outcome + 0) = unopeneds-append xs (x ∷ []) in
+    let len : length (xs ++ (x ∷ [])) ≡ length xs + 1 = length_one xs x in
+    let a : arrivals.accepted ≡ length xs = are.accepted in
+    let b : arrivals.full ≡ fulls xs = are.full in
+    let c : arrivals.unopened ≡ unopeneds xs = are.unopened in
+    record { accepted = omega arith; full = omega arith; unopened = omega arith }
+
 -- so many connections were accepted, with their calls
-pub record AcceptsSome (count : ℕ) (moved : Bool) (links : List Link) (from : ℕ) (old : Report)
+pub record AcceptsSome (count : ℕ) (arrivals : Arrivals) (links : List Link) (from : ℕ) (old : Report)
     (before : HostState) (met : List Link) (to : ℕ) (new : Report) (after : HostState)
     (old_calls new_calls : Option (List Call)) : Type 0 where
   pub accepts : Accepts links from old before met to new after
-  pub none : moved ≡ false → accepts.accepted ≡ []
+  pub none : arrivals.moved ≡ false → accepts.accepted ≡ []
+  pub numbers : AreArrivals accepts.accepted arrivals
   pub counted : length accepts.accepted ≡ count
   pub asked : AsksAccepts met accepts.accepted old_calls new_calls
 
-pub some_start : (moved : Bool) (ls : List Link) (from : ℕ) (a : Report) (h : HostState) (calls : Option (List Call)) → AcceptsSome 0 moved ls from a h ls from a h calls calls
+pub some_start : (moved : Bool) (ls : List Link) (from : ℕ) (a : Report) (h : HostState) (calls : Option (List Call)) → AcceptsSome 0 (record { moved = moved; accepted = 0; full = 0; unopened = 0 }) ls from a h ls from a h calls calls
 unfolding accepts_start accepts_none
-some_start moved ls from a h calls = record { accepts = accepts_start ls from a h; none = λ e. refl; counted = refl; asked = asks_no_accept ls calls }
+some_start moved ls from a h calls = record { accepts = accepts_start ls from a h; none = λ e. refl; numbers = record { accepted = refl; full = refl; unopened = refl }; counted = refl; asked = asks_no_accept ls calls }
 
 -- no connection waits, or the wire fails
-pub some_stop : (n : ℕ) (moved : Bool) (ls ms : List Link) (f m : ℕ) (t : ℕ) (a b c : Report) (h i : HostState) (old mid new : Option (List Call)) (answer : Result (Option ℕ) WireFault) → n < 16 → AcceptsSome n moved ls f a h ms m b i old mid → m ≤ t → KeepsAll b c → Asks mid new (Accept answer ∷ []) → GivesNobody answer → AllAccepted moved ls f a h ms t c i old new
+pub some_stop : (n : ℕ) (moved : Arrivals) (ls ms : List Link) (f m : ℕ) (t : ℕ) (a b c : Report) (h i : HostState) (old mid new : Option (List Call)) (answer : Result (Option ℕ) WireFault) → n < 16 → AcceptsSome n moved ls f a h ms m b i old mid → m ≤ t → KeepsAll b c → Asks mid new (Accept answer ∷ []) → GivesNobody answer → AllAccepted moved ls f a h ms t c i old new
 unfolding accepts_stop accepts_then accepts_none
 some_stop n moved ls ms f m t a b c h i old mid new answer lt p u k q g =
     let count : length p.accepts.accepted < 16 = (let e : length p.accepts.accepted ≡ n = p.counted in omega arith) in
     record {
       accepts = accepts_stop ls ms f m t a b c h i p.accepts u k;
       none = λ e. ap (λ (xs : List Accepted). xs ++ []) (p.none e);
+      numbers = subst (λ (xs : List Accepted). AreArrivals xs moved) (sym (append-nil p.accepts.accepted)) p.numbers;
       asked = subst (λ (xs : List Accepted). AsksAll h ls ms xs old new) (sym (append-nil p.accepts.accepted)) (asks_stop h ls ms p.accepts.accepted old mid new answer count p.asked q g);
     }
 
 -- as many were accepted as may be, or there is no place
-pub some_full : (n : ℕ) (moved : Bool) (ls ms : List Link) (f m : ℕ) (a b : Report) (h i : HostState) (old new : Option (List Call)) → (n ≡ 16) ⊎ ¬ HaveSessions h ls → AcceptsSome n moved ls f a h ms m b i old new → AllAccepted moved ls f a h ms m b i old new
+pub some_full : (n : ℕ) (moved : Arrivals) (ls ms : List Link) (f m : ℕ) (a b : Report) (h i : HostState) (old new : Option (List Call)) → (n ≡ 16) ⊎ ¬ HaveSessions h ls → AcceptsSome n moved ls f a h ms m b i old new → AllAccepted moved ls f a h ms m b i old new
 some_full n moved ls ms f m a b h i old new e p =
     let full : (length p.accepts.accepted ≡ 16) ⊎ ¬ HaveSessions h ls = elim e [ inl most ↦ inl (p.counted ∙ most) | inr lacks ↦ inr lacks ] in
-    record { accepts = p.accepts; none = p.none; asked = asks_full h ls ms p.accepts.accepted old new full p.asked }
+    record { accepts = p.accepts; none = p.none; numbers = p.numbers; asked = asks_full h ls ms p.accepts.accepted old new full p.asked }
 
-pub some_more : (n : ℕ) (moved : Bool) (ls ms ns : List Link) (f m number t : ℕ) (a b c d : Report) (h i j : HostState) (old mid asked new : Option (List Call)) → AcceptsSome n moved ls f a h ms m b i old mid → m ≤ number → number < t → KeepsAll b c → Asks mid asked (Accept (Ok (Some number)) ∷ []) → OneAdmitted ms c i number t ns d j asked new → AcceptsSome (n + 1) true ls f a h ns t d j old new
+pub some_more : (n : ℕ) (moved : Arrivals) (one : Admission) (ls ms ns : List Link) (f m number t : ℕ) (a b c d : Report) (h i j : HostState) (old mid asked new : Option (List Call)) → AcceptsSome n moved ls f a h ms m b i old mid → m ≤ number → number < t → KeepsAll b c → Asks mid asked (Accept (Ok (Some number)) ∷ []) → OneAdmitted one ms c i number t ns d j asked new → AcceptsSome (n + 1) (with_one moved one) ls f a h ns t d j old new
 unfolding accepts_more accepts_then
-some_more n moved ls ms ns f m number t a b c d h i j old mid asked new p u v k q r =
+some_more n moved one ls ms ns f m number t a b c d h i j old mid asked new p u v k q r =
     let item : Accepted = record { number = number; outcome = r.outcome } in
     let items : p.accepts.accepted ++ (r.admits m b k u v).accepts.accepted ≡ p.accepts.accepted ++ (item ∷ []) = ap (λ (xs : List Accepted). p.accepts.accepted ++ xs) (r.admits m b k u v).items_are in
     record {
       accepts = accepts_more ls ms ns f m number t r.outcome a b c d h i j p.accepts u v k r.admits;
       none = λ e. absurd (cc);
+      numbers = subst (λ (xs : List Accepted). AreArrivals xs (with_one moved one)) (sym items) (one_more p.accepts.accepted item moved one p.numbers r.full r.unopened);
       counted = ap length items ∙ (length_one p.accepts.accepted item ∙ ap (λ (x : ℕ). x + 1) p.counted);
       asked = subst (λ (xs : List Accepted). AsksAccepts ns xs old new) (sym items) (asks_accept ns p.accepts.accepted item old mid asked new (asks_on ms ns p.accepts.accepted old mid (r.admits m b k u v).accepts.stay p.asked) q r.asked);
     }

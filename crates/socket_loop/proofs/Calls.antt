@@ -1,5 +1,5 @@
 -- The calls of a turn, one after the other.
-use Rattle.std.proofs.Common.{◌≡◌, ◌⊎◌, ℕ, zero, suc, ◌+◌, ◌<◌, ◌≤◌, Bool, true, false, cond, List, [], ◌∷◌, ◌++◌, length, take, get_or, set, Option, Some, None, Result, Ok, refl, sym, ap, ◌∙◌, arith, append_assoc, append-nil, inl, inr}
+use Rattle.std.proofs.Common.{◌≡◌, ◌⊎◌, ℕ, zero, suc, ◌+◌, ◌<◌, Bool, true, false, cond, List, [], ◌∷◌, ◌++◌, length, take, get_or, set, Option, Some, None, Result, Ok, refl, sym, ap, ◌∙◌, arith, append_assoc, append-nil, inl, inr}
 use Rattle.std.proofs.lemmas.List.{length-map}
 use Rattle.std.proofs.Math.Seq.{take-append_seam}
 use Rattle.session_slots.specs.declared.id.SessionId.{SessionId}
@@ -12,12 +12,12 @@ use Rattle.wires.proofs.Asked.{asks_none, asks_then}
 use Rattle.socket_loop.specs.declared.connection.Connection.{Connection}
 use Rattle.wires.specs.Asked.{Call, Accept, Read, Write, Shut, Asks, IsCalled}
 use Rattle.socket_loop.specs.declared.connection.Link.{Link}
-use Rattle.socket_loop.specs.Links.{links_of, IsAmong, IsApart}
+use Rattle.socket_loop.specs.Links.{links_of, IsAmong}
 use Rattle.socket_loop.specs.Parts.{IsClosing}
 use Rattle.socket_loop.specs.Calls.{IsOf, IsVisit, Visits, is_to_read, is_to_write, is_to_shut, reads_of, writes_of, ends_of, AreVisitedTo, AsksTo, AsksEach, IsAdmittedAs, IsAdmitted, AreAccepted, AsksAdmission, AsksAll, EndsAccepting, GivesNobody, shuts_of}
 use Rattle.host_core.specs.declared.event.HostFault.{HostFault}
 use Rattle.host_core.specs.declared.event.HostFault.TheVariants.{Full, OutOfMemory, UnknownSession, NotReady}
-use Rattle.socket_loop.specs.Turns.{Accepted, HaveSessions, IsOneOf, KeepsMade}
+use Rattle.socket_loop.specs.Turns.{Accepted, HaveSessions, KeepsMade}
 use Rattle.session_slots.specs.Slots.{find}
 use Rattle.host_core.specs.ById.{queued_of}
 use Rattle.socket_loop.proofs.Stirs.{made_same}

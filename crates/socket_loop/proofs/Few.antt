@@ -1,11 +1,10 @@
 -- No more connections are held than there are open sessions, where each has one of its own.
 use Rattle.std.proofs.Common.{◌≡◌, ◌≢◌, ◌⊎◌, ℕ, zero, suc, ◌+◌, ◌<◌, ◌≤◌, cond, List, [], ◌∷◌, Option, Some, None, set, length, refl, sym, ap, ◌∙◌, arith, inl, inr}
 use Rattle.std.specs.Prelude.{count_by, is_some, slice_index_or, IsSome}
-use Rattle.std.proofs.lemmas.Bool.{cases_eq}
 use Rattle.std.proofs.lemmas.List.{get_or-set_other}
 use Rattle.std.proofs.lemmas.List.Sums.{sum_by-cons}
 use Rattle.session_slots.specs.declared.id.SessionId.{SessionId}
-use Rattle.session_slots.specs.Slots.{OpenSession, OpenSessions, count, find, of_generation}
+use Rattle.session_slots.specs.Slots.{OpenSession, OpenSessions, count, find}
 use Rattle.session_slots.proofs.Finds.{IsAt, found_at}
 use Rattle.host_core.specs.Steps.{HostState}
 use Rattle.socket_loop.specs.declared.connection.Link.{Link}

@@ -16,3 +16,4 @@ pub mod Left
 pub mod Loads
 pub mod Each
 mod Few
+pub mod Tallies

@@ -24,6 +24,9 @@ use Rattle.wires.specs.Asked.{Call}
 use Rattle.socket_loop.specs.Calls.{AllAccepted, AsksAll, AsksEach, AsksTurn, Turns, reads_of, writes_of, ends_of}
 use Rattle.socket_loop.specs.Turns.{FitsOne, Fits, Accepted, HasSession, Joins, IsRejected, IsNew, Accepts, HasMoved, IsQuiet, IsTurn, IsRemoved, Served, ContinuesServing, ServesNew}
 use Rattle.socket_loop.specs.Scenes.{Scene}
+use Rattle.socket_loop.specs.declared.tally.Tally.{Tally}
+use Rattle.socket_loop.specs.declared.tally.Arrivals.{Arrivals}
+use Rattle.socket_loop.specs.Tallies.{IsTally}
 use Rattle.wires.proofs.Peers.{kept_then, moves_then, emptied_move, raised_rises, rises_then, stays_rise}
 use Rattle.socket_loop.proofs.Runs.{run-append, next_rises, opened_left, starves-admissions, closes-admissions, alone_then}
 use Rattle.socket_loop.proofs.Parts.{carried_nothing, carried_then, carries_then, carries_round}
@@ -107,13 +110,13 @@ starts_one ls f t x g marks a b h m first steps l r c up (inr new) = inr (served
 -- ---- all parts
 
 -- accept, read, work, write, shut
-turned : (slice : ℕ) (p q r s w : Bool) (held accepted_ read_ written_ last : List Connection) (f t : ℕ) (a b c d e : Report) (h i j k l m : HostState) (worked refused : ℕ) (calls asked_calls last_calls : Option (List Call)) (u v : ℕ) → Fits (links_of held) f h
+turned : (slice : ℕ) (p : Arrivals) (q r s w : Bool) (held accepted_ read_ written_ last : List Connection) (f t : ℕ) (a b c d e : Report) (h i j k l m : HostState) (worked refused : ℕ) (calls asked_calls last_calls : Option (List Call)) (u v : ℕ) → Fits (links_of held) f h
     → AllAccepted p (links_of held) f a h (links_of accepted_) t b i calls asked_calls → ((n : ℕ) → AddsNoMark held accepted_ n)
     → ServesLinks IsInput written_ t (links_of accepted_) b i c j → KeepsAllMarks t b accepted_ c read_
     → IsRound j slice (pending_ids j) worked refused k
     → ServesLinks IsOutput written_ t (links_of accepted_) c k d l → KeepsAllMarks t c read_ d written_
     → ServesLinks IsEnd written_ t (links_of accepted_) d l e m → KeepsAllMarks t d written_ e last → ((n : ℕ) → IsMarked reads_ended last n → IsMarked reads_ended written_ n)
-    → links_of last ≡ links_of accepted_ → ShutsAll held accepted_ last m → IsTurn slice ((((p || q) || r) || s) || w)
+    → links_of last ≡ links_of accepted_ → ShutsAll held accepted_ last m → IsTurn slice ((((p.moved || q) || r) || s) || w)
     (record { held = held; bound = f; report = a; asked = calls; failed = u; host = h })
     (record { held = filter (λ x. not x.is_shut) last; bound = t; report = e; asked = last_calls; failed = v; host = m })
 turned slice p q r s w held accepted_ read_ written_ last f t a b c d e h i j k l m worked refused calls asked_calls last_calls u v fit some adds reads reads_mark round writes writes_mark shuts shuts_mark stay_ended same shutting =
@@ -163,7 +166,7 @@ turned slice p q r s w held accepted_ read_ written_ last f t a b c d e h i j k 
       accepted = accepts.accepted;
       numbered = accepts.numbered;
       answers = accepts.answers;
-      still = λ none. some.none (either_false p q (either_false (p || q) r (either_false ((p || q) || r) s (either_false (((p || q) || r) || s) w none).first).first).first).first;
+      still = λ none. some.none (either_false p.moved q (either_false (p.moved || q) r (either_false ((p.moved || q) || r) s (either_false (((p.moved || q) || r) || s) w none).first).first).first).first;
       marks = written_;
       marked = λ n mark. over_marks n ((marks_d n).ended mark);
       ended = λ n mark. stay_ended n (marked_filter reads_ended (λ y. not y.is_shut) last n mark);
@@ -200,7 +203,7 @@ turned slice p q r s w held accepted_ read_ written_ last f t a b c d e h i j k 
     over_marks n (inr empty) = inr (emptied_move a d e n empty shuts.carries.all)
 
 -- a turn with what it met, and the states between its parts
-pub record TurnWith (slice : ℕ) (moved : Bool) (before after : Scene) (admissions : List Step) (met : List Link) (start end : HostState) (marks : List Connection) (accepted : List Accepted) : Type 0 where
+pub record TurnWith (slice : ℕ) (moved : Bool) (before after : Scene) (admissions : List Step) (met : List Link) (start end : HostState) (marks : List Connection) (accepted : List Accepted) (refused : ℕ) : Type 0 where
   pub turn : IsTurn slice moved before after
   pub admissions_are : turn.admissions ≡ admissions
   pub met_are : turn.met ≡ met
@@ -208,26 +211,27 @@ pub record TurnWith (slice : ℕ) (moved : Bool) (before after : Scene) (admissi
   pub end_is : turn.end ≡ end
   pub marks_are : turn.marks ≡ marks
   pub accepted_are : turn.accepted ≡ accepted
+  pub refused_is : turn.refused ≡ refused
 
-pub turn_with : (slice : ℕ) (p q r s w : Bool) (held accepted_ read_ written_ last : List Connection) (f t : ℕ) (a b c d e : Report) (h i j k l m : HostState) (worked refused : ℕ) (calls asked_calls last_calls : Option (List Call)) (u v : ℕ) → Fits (links_of held) f h
+pub turn_with : (slice : ℕ) (p : Arrivals) (q r s w : Bool) (held accepted_ read_ written_ last : List Connection) (f t : ℕ) (a b c d e : Report) (h i j k l m : HostState) (worked refused : ℕ) (calls asked_calls last_calls : Option (List Call)) (u v : ℕ) → Fits (links_of held) f h
     → (x : AllAccepted p (links_of held) f a h (links_of accepted_) t b i calls asked_calls) → ((n : ℕ) → AddsNoMark held accepted_ n)
     → ServesLinks IsInput written_ t (links_of accepted_) b i c j → KeepsAllMarks t b accepted_ c read_
     → IsRound j slice (pending_ids j) worked refused k
     → ServesLinks IsOutput written_ t (links_of accepted_) c k d l → KeepsAllMarks t c read_ d written_
     → ServesLinks IsEnd written_ t (links_of accepted_) d l e m → KeepsAllMarks t d written_ e last → ((n : ℕ) → IsMarked reads_ended last n → IsMarked reads_ended written_ n)
-    → links_of last ≡ links_of accepted_ → ShutsAll held accepted_ last m → TurnWith slice ((((p || q) || r) || s) || w)
+    → links_of last ≡ links_of accepted_ → ShutsAll held accepted_ last m → TurnWith slice ((((p.moved || q) || r) || s) || w)
     (record { held = held; bound = f; report = a; asked = calls; failed = u; host = h })
     (record { held = filter (λ x. not x.is_shut) last; bound = t; report = e; asked = last_calls; failed = v; host = m })
-    x.accepts.steps (links_of accepted_) j k written_ x.accepts.accepted
+    x.accepts.steps (links_of accepted_) j k written_ x.accepts.accepted refused
 unfolding turned
 turn_with slice p q r s w held accepted_ read_ written_ last f t a b c d e h i j k l m worked refused calls asked_calls last_calls u v fit some adds reads reads_mark round writes writes_mark shuts shuts_mark stay_ended same shutting =
-    record { turn = turned slice p q r s w held accepted_ read_ written_ last f t a b c d e h i j k l m worked refused calls asked_calls last_calls u v fit some adds reads reads_mark round writes writes_mark shuts shuts_mark stay_ended same shutting; admissions_are = refl; met_are = refl; start_is = refl; end_is = refl; marks_are = refl; accepted_are = refl }
+    record { turn = turned slice p q r s w held accepted_ read_ written_ last f t a b c d e h i j k l m worked refused calls asked_calls last_calls u v fit some adds reads reads_mark round writes writes_mark shuts shuts_mark stay_ended same shutting; admissions_are = refl; met_are = refl; start_is = refl; end_is = refl; marks_are = refl; accepted_are = refl; refused_is = refl }
 
 -- the calls of a turn
-pub asks_turn : (slice : ℕ) (moved : Bool) (before after : Scene) (met read written last : List Connection) (i j k l : HostState) (admissions : List Step) (items : List Accepted) (accepted asked_reads asked_writes : Option (List Call)) → TurnWith slice moved before after admissions (links_of met) j k written items
+pub asks_turn : (slice : ℕ) (moved : Bool) (tally : Tally) (before after : Scene) (met read written last : List Connection) (i j k l : HostState) (admissions : List Step) (items : List Accepted) (accepted asked_reads asked_writes : Option (List Call)) (refused : ℕ) → TurnWith slice moved before after admissions (links_of met) j k written items refused
     → AsksAll before.host (links_of before.held) (links_of met) items before.asked accepted → IsRun before.host admissions i → Grows before.held met → (IsRising (links_of before.held) → IsRising (links_of met)) → AsksEach reads_of IsInput i met read accepted asked_reads j → AsksEach writes_of IsOutput k read written asked_reads asked_writes l → AsksEach ends_of IsEnd l written last asked_writes after.asked after.host
-    → after.held ≡ filter (λ x. not x.is_shut) last → AsksTurn slice moved before after
-asks_turn slice moved before after met read written last i j k l admissions items accepted asked_reads asked_writes w accepts run grows rising reads writes ends left = record {
+    → after.held ≡ filter (λ x. not x.is_shut) last → IsTally items met read written last refused tally → AsksTurn slice moved tally before after
+asks_turn slice moved tally before after met read written last i j k l admissions items accepted asked_reads asked_writes refused w accepts run grows rising reads writes ends left tallied = record {
   turn = w.turn;
   accepted = accepted;
   accepts = rw (w.met_are, w.accepted_are) accepts;
@@ -246,6 +250,7 @@ asks_turn slice moved before after met read written last i j k l admissions item
   last = last;
   ends = rw w.marks_are ends;
   left = left;
+  tallied = rw (w.accepted_are, w.marks_are, w.refused_is) tallied;
 }
 
 continues : (slice : ℕ) (moved : Bool) (before after : Scene) → IsTurn slice moved before after → ContinuesServing before after
@@ -256,8 +261,8 @@ starts : (slice : ℕ) (moved : Bool) (before after : Scene) → IsTurn slice mo
 starts slice moved before after turn = λ l among. turn.starts l (turn.left l among)
 
 -- all of a turn, by its calls
-pub turns : (slice : ℕ) (moved : Bool) (before after : Scene) → AsksTurn slice moved before after → (moved ≡ true → HasMoved before after) → IsQuiet moved before.report (unshut_of before.held) after.report after.held → Turns slice moved before after
-turns slice moved before after asked moves quiet =
+pub turns : (slice : ℕ) (moved : Bool) (tally : Tally) (before after : Scene) → AsksTurn slice moved tally before after → (moved ≡ true → HasMoved before after) → IsQuiet moved before.report (unshut_of before.held) after.report after.held → Turns slice moved tally before after
+turns slice moved tally before after asked moves quiet =
     record { asked = asked; moves = moves; quiet = quiet; continues = continues slice moved before after asked.turn; starts = starts slice moved before after asked.turn }
 
 -- ---- what is removed

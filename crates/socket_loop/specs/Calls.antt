@@ -1,5 +1,5 @@
 -- The calls of a turn, in order (own choice).
-use Rattle.std.specs.Prelude.{◌≡◌, ◌⊎◌, ◌↔◌, true, false, ℕ, suc, zero, ◌<◌, ◌≤◌, List, [], ◌∷◌, ◌++◌, length, nat_lt, Bool, not, cond, ◌&&◌, Option, None, Some, Result, Ok, Err}
+use Rattle.std.specs.Prelude.{◌≡◌, ◌⊎◌, ◌↔◌, true, false, ℕ, suc, zero, ◌<◌, List, [], ◌∷◌, ◌++◌, length, nat_lt, Bool, not, cond, ◌&&◌, Option, None, Some, Result, Ok, Err}
 use Rattle.session_slots.specs.declared.id.SessionId.{SessionId}
 use Rattle.session_slots.specs.Slots.{find}
 use Rattle.host_core.specs.declared.event.HostFault.TheVariants.{Full}
@@ -16,8 +16,12 @@ use Rattle.socket_loop.specs.declared.connection.Connection.{Connection}
 use Rattle.socket_loop.specs.declared.turn.TheConstants.{ACCEPTS}
 use Rattle.usi_session.specs.declared.limits.TheConstants.{CHUNK_MAX}
 use Rattle.wires.specs.Asked.{Call, Accept, Read, Write, Shut, Asks, IsCalled}
-use Rattle.socket_loop.specs.Links.{links_of, unshut_of, IsApart, IsRising}
+use Rattle.socket_loop.specs.Links.{links_of, unshut_of, IsRising}
 use Rattle.socket_loop.specs.Scenes.{Scene}
+use Rattle.socket_loop.specs.declared.tally.Tally.{Tally}
+use Rattle.socket_loop.specs.declared.tally.Arrivals.{Arrivals}
+use Rattle.socket_loop.specs.declared.tally.Admission.{Admission}
+use Rattle.socket_loop.specs.Tallies.{AreArrivals, IsTally, full_of, unopened_of}
 use Rattle.socket_loop.specs.Parts.{AreAll, Grows, HoldsMore, IsInput, IsOutput, IsEnd, is_finished}
 use Rattle.socket_loop.specs.Turns.{host_full, Accepted, Accepts, Admits, ContinuesServing, HasMoved, HasSession, HaveSessions, IsQuiet, IsTurn, KeepsMade, LoopState, Over, ServesNew}
 
@@ -146,16 +150,18 @@ pub record AsksAdmission (met : List Link) (number : ℕ) (outcome : Outcome)
   pub asked : Asks old new calls
 
 -- a connection was admitted, with its calls
-pub record OneAdmitted (links : List Link) (report : Report) (before : HostState) (number to : ℕ)
+pub record OneAdmitted (admission : Admission) (links : List Link) (report : Report) (before : HostState) (number to : ℕ)
     (met : List Link) (new : Report) (after : HostState) (old_calls new_calls : Option (List Call))
     : Type 0 where
   pub outcome : Outcome
   pub admits : Admits links report before number outcome to met new after
   pub asked : AsksAdmission met number outcome old_calls new_calls
+  pub full : admission.full ≡ full_of outcome
+  pub unopened : admission.unopened ≡ unopened_of outcome
 
 -- a new connection of this number was admitted
-pub record AdmitsOne (number : ℕ) (before after : Scene) : Type 0 where
-  pub admits : OneAdmitted (links_of before.held) before.report before.host number before.bound
+pub record AdmitsOne (number : ℕ) (admission : Admission) (before after : Scene) : Type 0 where
+  pub admits : OneAdmitted admission (links_of before.held) before.report before.host number before.bound
       (links_of after.held) after.report after.host before.asked after.asked
   pub more : HoldsMore before.held before.failed after.held after.failed
   pub bound : after.bound ≡ before.bound
@@ -177,26 +183,27 @@ pub record AsksAll (host : HostState) (links met : List Link) (items : List Acce
   pub ends : EndsAccepting items last ⊎ ((last ≡ []) × ¬ HaveSessions host links)
   pub asked : Asks old new (first ++ last)
 
--- connections were accepted, with all calls
-pub record AllAccepted (moved : Bool) (links : List Link) (from : ℕ) (old : Report)
+-- connections were accepted, with all calls and with their numbers
+pub record AllAccepted (arrivals : Arrivals) (links : List Link) (from : ℕ) (old : Report)
     (before : HostState) (met : List Link) (to : ℕ) (new : Report) (after : HostState)
     (old_calls new_calls : Option (List Call)) : Type 0 where
   pub accepts : Accepts links from old before met to new after
-  pub none : moved ≡ false → accepts.accepted ≡ []
+  pub none : arrivals.moved ≡ false → accepts.accepted ≡ []
+  pub numbers : AreArrivals accepts.accepted arrivals
   pub asked : AsksAll before links met accepts.accepted old_calls new_calls
 
 -- connections were accepted, if any; where none was, all that is reported stays
-pub record AcceptsAll (moved : Bool) (before after : Scene) : Type 0 where
-  pub accepts : AllAccepted moved (links_of before.held) before.bound before.report before.host
+pub record AcceptsAll (arrivals : Arrivals) (before after : Scene) : Type 0 where
+  pub accepts : AllAccepted arrivals (links_of before.held) before.bound before.report before.host
       (links_of after.held) after.bound after.report after.host before.asked after.asked
-  pub quiet : IsQuiet moved before.report before.held after.report after.held
-  pub accepted : moved ≡ true → before.bound < after.bound
+  pub quiet : IsQuiet arrivals.moved before.report before.held after.report after.held
+  pub accepted : arrivals.moved ≡ true → before.bound < after.bound
   pub more : HoldsMore before.held before.failed after.held after.failed
 
 -- ---- a turn
 
 -- a turn, and its calls: accepts, then a read for each connection that is to be read, a round, a write for each that is to be written, and a shut for each that is finished with
-pub record AsksTurn (slice : ℕ) (moved : Bool) (before after : Scene) : Type 0 where
+pub record AsksTurn (slice : ℕ) (moved : Bool) (tally : Tally) (before after : Scene) : Type 0 where
   pub turn : IsTurn slice moved before after
   pub accepted : Option (List Call)
   pub accepts : AsksAll before.host (links_of before.held) turn.met turn.accepted
@@ -216,17 +223,18 @@ pub record AsksTurn (slice : ℕ) (moved : Bool) (before after : Scene) : Type 0
   pub last : List Connection
   pub ends : AsksEach ends_of IsEnd passed turn.marks last asked_writes after.asked after.host
   pub left : after.held ≡ unshut_of last
+  pub tallied : IsTally turn.accepted met read turn.marks last turn.refused tally
 
--- a turn, its calls, and what it did: where it moved and where it did not, and which bytes it served
-pub record Turns (slice : ℕ) (moved : Bool) (before after : Scene) : Type 0 where
-  pub asked : AsksTurn slice moved before after
+-- a turn, its calls, its numbers, and what it did: where it moved and where it did not, and which bytes it served
+pub record Turns (slice : ℕ) (moved : Bool) (tally : Tally) (before after : Scene) : Type 0 where
+  pub asked : AsksTurn slice moved tally before after
   pub moves : moved ≡ true → HasMoved before after
   pub quiet : IsQuiet moved before.report (unshut_of before.held) after.report after.held
   pub continues : ContinuesServing before after
   pub starts : ServesNew before (links_of after.held) after
 
 -- a loop took a turn, with its own budget, over a wire and with a host
-abbrev pub Turned : {W : Type 0} → Ghosts W → Bool → LoopState → HostState → W
+abbrev pub Turned : {W : Type 0} → Ghosts W → Bool → Tally → LoopState → HostState → W
     → LoopState → HostState → W → Type 0
-Turned wires moved old before from new after to =
-    Over wires (Turns old.slice moved) old before from new after to
+Turned wires moved tally old before from new after to =
+    Over wires (Turns old.slice moved tally) old before from new after to

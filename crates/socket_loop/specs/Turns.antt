@@ -1,5 +1,5 @@
 -- A turn of a loop (own choice).
-use Rattle.std.specs.Prelude.{◌≡◌, ◌+◌, ◌<◌, ◌≤◌, ◌⊎◌, ⊤, ℕ, List, [], ◌∷◌, ◌++◌, codes, map, true, IsSome, Option, Some, Bool, false, ◌||◌, Result, Ok, Err}
+use Rattle.std.specs.Prelude.{◌≡◌, ◌+◌, ◌<◌, ◌≤◌, ◌⊎◌, ⊤, ℕ, List, [], ◌∷◌, ◌++◌, codes, map, true, IsSome, Option, Some, Bool, false, ◌||◌}
 use Rattle.std.specs.Io.KnownBytes.{Keeps, Appends, Consumes}
 use Rattle.session_slots.specs.declared.id.SessionId.{SessionId}
 use Rattle.session_slots.specs.Slots.{find}
@@ -11,7 +11,7 @@ use Rattle.host_core.specs.Steps.{HostState}
 use Rattle.host_core.specs.ById.{pending_of}
 use Rattle.host_core.specs.Events.{Event, Outcome, Opened, Refused, Open, Feed, Work, Take, Close}
 use Rattle.host_core.specs.Made.{Step, own, taken, is_opened}
-use Rattle.host_core.specs.Runs.{IsStep, IsRun}
+use Rattle.host_core.specs.Runs.{IsRun}
 use Rattle.host_core.specs.Rounds.{IsRound, works, pending_ids}
 use Rattle.host_core.specs.Headline.{EndsFrom, IsPrefixOf}
 use Rattle.socket_loop.specs.declared.connection.Link.{Link}

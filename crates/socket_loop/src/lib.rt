@@ -2,8 +2,10 @@
 #![tactic(auto)]
 
 mod connection;
+mod tally;
 mod turn;
 mod visit;
 
 pub use connection::{Connection, Link};
+pub use tally::Tally;
 pub use turn::{Loop, Turn};

@@ -1,8 +1,9 @@
 //! A loop that serves the sessions of a host to the connections of a wire.
 
-ghost use Rattle.std.specs.Prelude.{false, ◌≡◌, ◌≤◌, ◌<◌, [], ◌∷◌, length, IfOk, vec_capacity};
+ghost use Rattle.std.specs.Prelude.{false, ◌≡◌, ◌≤◌, ◌<◌, [], ◌∷◌, ◌+◌, length, IfOk, vec_capacity};
 ghost use Rattle.socket_loop.specs.Links.{links_of, new_connection, place_for, unshut_of, with_connection, AreOnce, IsRising};
 ghost use Rattle.socket_loop.specs.Turns.{any_pending, host_full, NoneFinished, Fits, IsAway, Over};
+ghost use Rattle.socket_loop.specs.Tallies.{pending_count, shut_count};
 ghost use Rattle.socket_loop.specs.Visits.{EndsEach, ReadsEach, WritesEach};
 ghost use Rattle.wires.specs.Moves.{StaysKnown};
 ghost use Rattle.wires.specs.Asked.{Write, Shut};
@@ -12,6 +13,7 @@ ghost use Rattle.socket_loop.specs.declared.turn.TheConstants.{ACCEPTS};
 ghost use Rattle.session_slots.specs.declared.limits.TheConstants.{SESSIONS_MAX};
 
 use crate::connection::{Connection, Link};
+use crate::tally::{Admission, Arrivals, Tally, Visited, newly_shut, one_if};
 use crate::visit::{close_if_finished, read_from, write_to};
 use host_core::{Host, HostFault};
 use session_slots::SESSIONS_MAX;
@@ -30,6 +32,8 @@ pub struct Turn {
     /// A connection was accepted, gave or took at least one byte, ended or was shut, or the session of
     /// a connection is still pending.
     pub moved: bool,
+    /// What it counted.
+    pub tally: Tally,
 }
 
 /// The connections that are served, by rising slot of their sessions, and the budget of each round.
@@ -115,78 +119,128 @@ impl<A: Allocator + Copy> Loop<A> {
 
     /// Opens a session for a new connection, which is held with it. Where the host is full it is written
     /// so and shut; where there is no memory for a session it is shut without a word.
-    fn admit<W: Wire, S: BuildHasher>(&mut self, host: &mut Host<S, A>, wire: &mut W, number: u64)
+    fn admit<W: Wire, S: BuildHasher>(
+        &mut self,
+        host: &mut Host<S, A>,
+        wire: &mut W,
+        number: u64,
+    ) -> Admission
         requires room { length self.old.held ≤ SESSIONS_MAX }
-        ensures { Over W.Wire (AdmitsOne number)
+        ensures admits { Over W.Wire (AdmitsOne number result)
             self.old host.old wire.old self.new host.new wire.new }
+        ensures most { result.full + result.unopened ≤ 1 }
     {
         match host.open() {
-            Ok(id) => self.hold(Link { number, id }),
-            Err(HostFault::Full) => reject(wire, number),
-            Err(_) => wire.shut(number),
+            Ok(id) => {
+                self.hold(Link { number, id });
+                Admission {
+                    full: 0,
+                    unopened: 0,
+                }
+            }
+            Err(HostFault::Full) => {
+                reject(wire, number);
+                Admission {
+                    full: 1,
+                    unopened: 0,
+                }
+            }
+            Err(_) => {
+                wire.shut(number);
+                Admission {
+                    full: 0,
+                    unopened: 1,
+                }
+            }
         }
     }
 
     /// Accepts new connections, at most `ACCEPTS`, while there is a place, as there is where each that is
-    /// held has an open session of its own. True where one was accepted.
-    fn accept_all<W: Wire, S: BuildHasher>(&mut self, host: &mut Host<S, A>, wire: &mut W) -> bool
+    /// held has an open session of its own.
+    fn accept_all<W: Wire, S: BuildHasher>(
+        &mut self,
+        host: &mut Host<S, A>,
+        wire: &mut W,
+    ) -> Arrivals
         requires fits { Fits (links_of self.old.held) (W.bound wire.old) host.old }
         ensures { Over W.Wire (AcceptsAll result)
             self.old host.old wire.old self.new host.new wire.new }
     {
-        let mut moved = false;
+        let mut arrivals = Arrivals {
+            moved: false,
+            accepted: 0,
+            full: 0,
+            unopened: 0,
+        };
         for _ in 0..ACCEPTS {
             if self.held.len() > SESSIONS_MAX {
                 host.validity();
-                return moved;
+                return arrivals;
             }
             let Ok(Some(number)) = wire.accept() else {
-                return moved;
+                return arrivals;
             };
-            self.admit(host, wire, number);
-            moved = true;
+            let admission = self.admit(host, wire, number);
+            arrivals = Arrivals {
+                moved: true,
+                accepted: arrivals.accepted + 1,
+                full: arrivals.full + admission.full,
+                unopened: arrivals.unopened + admission.unopened,
+            };
         }
-        moved
+        arrivals
     }
 
-    /// One read for each connection whose session wants input. True where something moved.
-    fn read_all<W: Wire, S: BuildHasher>(&mut self, host: &mut Host<S, A>, wire: &mut W) -> bool
-        ensures { Over W.Wire (ReadsEach result)
+    /// One read for each connection whose session wants input.
+    fn read_all<W: Wire, S: BuildHasher>(&mut self, host: &mut Host<S, A>, wire: &mut W) -> Visited
+        ensures reads { Over W.Wire (ReadsEach result.moved)
             self.old host.old wire.old self.new host.new wire.new }
+        ensures shut { result.shut + shut_count self.old.held ≡ shut_count self.new.held }
     {
         let mut moved = false;
+        let mut shut = 0;
         let mut chunk = [0u8; CHUNK_MAX];
         for connection in self.held.iter_mut() {
+            let was_shut = connection.is_shut;
             let has_moved = read_from(connection, host, wire, &mut chunk);
+            shut += newly_shut(was_shut, connection.is_shut);
             moved = moved | has_moved;
         }
-        moved
+        Visited { moved, shut }
     }
 
-    /// One write for each connection with queued bytes. True where something moved.
-    fn write_all<W: Wire, S: BuildHasher>(&mut self, host: &mut Host<S, A>, wire: &mut W) -> bool
-        ensures { Over W.Wire (WritesEach result)
+    /// One write for each connection with queued bytes.
+    fn write_all<W: Wire, S: BuildHasher>(&mut self, host: &mut Host<S, A>, wire: &mut W) -> Visited
+        ensures writes { Over W.Wire (WritesEach result.moved)
             self.old host.old wire.old self.new host.new wire.new }
+        ensures shut { result.shut + shut_count self.old.held ≡ shut_count self.new.held }
     {
         let mut moved = false;
+        let mut shut = 0;
         for connection in self.held.iter_mut() {
+            let was_shut = connection.is_shut;
             let has_moved = write_to(connection, host, wire);
+            shut += newly_shut(was_shut, connection.is_shut);
             moved = moved | has_moved;
         }
-        moved
+        Visited { moved, shut }
     }
 
-    /// Shuts each connection that is finished with. True where one was shut.
-    fn close_all<W: Wire, S: BuildHasher>(&mut self, host: &mut Host<S, A>, wire: &mut W) -> bool
-        ensures { Over W.Wire (EndsEach result)
+    /// Shuts each connection that is finished with.
+    fn close_all<W: Wire, S: BuildHasher>(&mut self, host: &mut Host<S, A>, wire: &mut W) -> Visited
+        ensures ends { Over W.Wire (EndsEach result.moved)
             self.old host.old wire.old self.new host.new wire.new }
+        ensures shut { result.shut + shut_count self.old.held ≡ shut_count self.new.held }
     {
         let mut moved = false;
+        let mut shut = 0;
         for connection in self.held.iter_mut() {
+            let was_shut = connection.is_shut;
             let has_moved = close_if_finished(connection, host, wire);
+            shut += newly_shut(was_shut, connection.is_shut);
             moved = moved | has_moved;
         }
-        moved
+        Visited { moved, shut }
     }
 
     /// Removes the connections that were shut.
@@ -208,6 +262,24 @@ impl<A: Allocator + Copy> Loop<A> {
         is_pending
     }
 
+    /// How many connections are held.
+    pub fn count(&self) -> usize
+        ensures { result ≡ length self.now.held }
+    {
+        self.held.len()
+    }
+
+    /// How many connections are held whose session is pending.
+    pub fn count_pending<S: BuildHasher>(&self, host: &Host<S, A>) -> usize
+        ensures { result ≡ pending_count host.now (links_of self.now.held) }
+    {
+        let mut count = 0;
+        for connection in self.held.as_slice() {
+            count += one_if(host.pending(connection.link.id));
+        }
+        count
+    }
+
     /// Accepts, reads, works, writes and shuts, in this order. Each connection is accepted from this
     /// wire and each session opened in this host, from the first turn on.
     ///
@@ -218,7 +290,7 @@ impl<A: Allocator + Copy> Loop<A> {
     /// it failed, a feed of its session was refused for memory, or it was finished with.
     pub fn turn<W: Wire, S: BuildHasher>(&mut self, host: &mut Host<S, A>, wire: &mut W) -> Turn
         requires fits { Fits (links_of self.old.held) (W.bound wire.old) host.old }
-        ensures turned { Turned W.Wire result.moved
+        ensures turned { Turned W.Wire result.moved result.tally
             self.old host.old wire.old self.new host.new wire.new }
         ensures pending { result.moved ≡ false
             → any_pending host.new (links_of self.new.held) ≡ false }
@@ -229,15 +301,24 @@ impl<A: Allocator + Copy> Loop<A> {
         ensures finished { AreOnce (links_of self.old.held) → NoneFinished host.new self.new.held }
         ensures rising { IsRising (links_of self.old.held) → IsRising (links_of self.new.held) }
     {
-        let has_accepted = self.accept_all(host, wire);
-        let has_read = self.read_all(host, wire);
-        let _round = host.round(self.slice);
-        let has_written = self.write_all(host, wire);
-        let has_shut = self.close_all(host, wire);
+        let arrivals = self.accept_all(host, wire);
+        let read = self.read_all(host, wire);
+        let round = host.round(self.slice);
+        let written = self.write_all(host, wire);
+        let closed = self.close_all(host, wire);
         self.remove_shut();
         let is_pending = self.is_pending(host);
         Turn {
-            moved: has_accepted | has_read | has_written | has_shut | is_pending,
+            moved: arrivals.moved | read.moved | written.moved | closed.moved | is_pending,
+            tally: Tally {
+                accepted: arrivals.accepted,
+                full: arrivals.full,
+                unopened: arrivals.unopened,
+                ended_reading: read.shut,
+                ended_writing: written.shut,
+                finished: closed.shut,
+                refused: round.refused,
+            },
         }
     }
 }

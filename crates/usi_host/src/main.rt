@@ -19,7 +19,7 @@ use std::hash::RandomState;
 use std::process::ExitCode;
 use std::{env, io};
 use usi_replay::{ReplayFault, replay};
-use usi_serve::{MioWire, serve};
+use usi_serve::{MioWire, Unseen, serve};
 use usi_stdio::{Duplex, stdio};
 use usi_words::{Job, WordsFault, read_words, unread_words, version_text};
 use wires::WireFault;
@@ -139,7 +139,7 @@ fn run_socket(
         return Err(ServeFault::OutOfMemory);
     };
     let mut wire = bound(rt, socket)?;
-    serve(&mut host, &mut connections, &mut wire, turns)?;
+    serve(&mut host, &mut connections, &mut wire, &mut Unseen, turns)?;
     Ok(())
 }
 

@@ -6,6 +6,7 @@ use Rattle.wires.specs.Report.{HasCause, KeepsAll}
 use Rattle.wires.specs.Moves.{StaysKnown}
 use Rattle.socket_loop.specs.Links.{links_of, AreOnce, IsRising}
 use Rattle.socket_loop.specs.Scenes.{Scene}
+use Rattle.socket_loop.specs.declared.tally.Tally.{Tally}
 use Rattle.socket_loop.specs.Turns.{any_pending, Accepted, Fits, IsOneOf, NoneFinished}
 use Rattle.host_core.specs.Events.{Outcome}
 use Rattle.socket_loop.specs.Calls.{Turns}
@@ -13,7 +14,8 @@ use Rattle.socket_loop.specs.Calls.{Turns}
 -- a turn: all that is promised of one
 pub record IsTurnTo (slice : ℕ) (before after : Scene) : Type 0 where
   pub moved : Bool
-  pub turned : Turns slice moved before after
+  pub tally : Tally
+  pub turned : Turns slice moved tally before after
   pub pending : moved ≡ false → any_pending after.host (links_of after.held) ≡ false
   pub known : StaysKnown before.report after.report
   pub fits : Fits (links_of after.held) after.bound after.host

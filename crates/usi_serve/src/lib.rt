@@ -5,5 +5,5 @@ mod laws;
 mod serving;
 
 pub use laws::{answers_as_alone, isolation};
-pub use serving::serve;
+pub use serving::{Monitor, Unseen, serve};
 pub use stream_wire::MioWire;

@@ -5,18 +5,33 @@ ghost use Rattle.socket_loop.specs.Turns.{Fits};
 ghost use Rattle.usi_serve.specs.Promises.{Served};
 
 use host_core::Host;
-use socket_loop::Loop;
+use socket_loop::{Loop, Turn};
 use std::alloc::Allocator;
 use std::hash::BuildHasher;
 use wires::{Wire, WireFault};
 
-/// Takes so many turns, and waits after each of them, the last one too: until something may be ready
+/// Is shown each turn of a host, and what it left, before the wait that follows.
+pub trait Monitor<W, S: BuildHasher, A: Allocator + Copy> {
+    /// A turn was taken, of this host, these connections and this wire.
+    fn see(&mut self, turn: &Turn, host: &Host<S, A>, peers: &Loop<A>, wire: &W);
+}
+
+/// A monitor that looks at nothing.
+#[derive(Clone, Copy, Debug, PartialEq, Eq)]
+pub struct Unseen;
+
+impl<W, S: BuildHasher, A: Allocator + Copy> Monitor<W, S, A> for Unseen {
+    fn see(&mut self, _turn: &Turn, _host: &Host<S, A>, _peers: &Loop<A>, _wire: &W) {}
+}
+
+/// Takes so many turns, shows each to the monitor, and waits after each of them, the last one too: until something may be ready
 /// where the turn did not move, and not at all where it did. A wait that fails ends it, with its fault.
 /// Each connection of the loop is accepted from this wire and each session opened in this host.
-pub fn serve<W: Wire, S: BuildHasher, A: Allocator + Copy>(
+pub fn serve<W: Wire, S: BuildHasher, A: Allocator + Copy, M: Monitor<W, S, A>>(
     host: &mut Host<S, A>,
     peers: &mut Loop<A>,
     wire: &mut W,
+    monitor: &mut M,
     turns: u64,
 ) -> Result<(), WireFault>
     requires fits { Fits (links_of peers.old.held) (W.bound wire.old) host.old }
@@ -26,6 +41,7 @@ pub fn serve<W: Wire, S: BuildHasher, A: Allocator + Copy>(
 {
     for _ in 0..turns {
         let turn = peers.turn(host, wire);
+        monitor.see(&turn, host, peers, wire);
         wire.wait(!turn.moved)?;
     }
     Ok(())

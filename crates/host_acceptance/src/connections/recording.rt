@@ -10,7 +10,7 @@ ghost use Rattle.host_acceptance.specs.Calls.{call_of};
 use crate::connections::call::Call;
 use crate::connections::scene::{ANSWER, GO_AND_QUIT, HOST_FULL, SeedlessHost};
 use host_core::Host;
-use socket_loop::Loop;
+use socket_loop::{Loop, Turn};
 use std::alloc::Global;
 use std::hash::{BuildHasherDefault, FoldHasher};
 use std::process::Abort;
@@ -98,9 +98,9 @@ fn turn_over<R: Abort>(
     turns: &mut Loop<Global>,
     host: &mut SeedlessHost,
     wire: &mut RecordingWire<'_, R>,
-) -> bool
+) -> Turn
     requires fits { Fits (links_of turns.old.held) wire.old.wire.accepted host.old }
-    ensures asked { AsksTurn turns.old.slice result
+    ensures asked { AsksTurn turns.old.slice result.moved result.tally
         (record {
           held = turns.old.held;
           bound = wire.old.wire.accepted;
@@ -119,7 +119,7 @@ fn turn_over<R: Abort>(
         }) }
     ensures fits { Fits (links_of turns.new.held) wire.new.wire.accepted host.new }
 {
-    turns.turn(host, wire).moved
+    turns.turn(host, wire)
 }
 
 /// A call that is expected.
@@ -185,9 +185,9 @@ fn the_calls_of_three_turns(rt: HostRuntime) -> Result<(), Fail> {
     let mut turns = Loop::new(rt.alloc(), 1000)?;
     let hasher = BuildHasherDefault::<FoldHasher>::new();
     let mut host = Host::new(rt.alloc(), 1, 4096, hasher)?;
-    holds!(rt; turn_over(&mut turns, &mut host, &mut wire));
-    holds!(rt; turn_over(&mut turns, &mut host, &mut wire));
-    holds!(rt; !turn_over(&mut turns, &mut host, &mut wire));
+    holds!(rt; turn_over(&mut turns, &mut host, &mut wire).moved);
+    holds!(rt; turn_over(&mut turns, &mut host, &mut wire).moved);
+    holds!(rt; !turn_over(&mut turns, &mut host, &mut wire).moved);
     let calls = CALLS;
     same!(rt; wire.calls.len(), calls.len());
     for (call, due) in wire.calls.as_slice().iter().zip(calls) {

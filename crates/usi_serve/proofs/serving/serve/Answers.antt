@@ -16,6 +16,7 @@ loop-preserved g c = record {
     middle = scene g.W.Wire c.turn-turn.new.self.held c.turn-turn.new.wire c.turn-turn.new.host;
     turn = record {
       moved = c.turn-turn.result.moved;
+      tally = c.turn-turn.result.tally;
       turned = rw c.loop.invariant.slice at c.turn-turn.ensures.turned.scenes;
       pending = c.turn-turn.ensures.pending;
       known = c.turn-turn.ensures.known;
@@ -38,6 +39,7 @@ returns-in_err-wait-clause-all g c =
     let turn : IsTurnTo c.args.peers.now.slice (scene g.W.Wire c.loop.peers.held c.loop.wire c.loop.host) middle =
     record {
       moved = c.turn-turn.result.moved;
+      tally = c.turn-turn.result.tally;
       turned = rw c.loop.invariant.slice at c.turn-turn.ensures.turned.scenes;
       pending = c.turn-turn.ensures.pending;
       known = c.turn-turn.ensures.known;

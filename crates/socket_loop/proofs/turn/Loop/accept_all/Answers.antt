@@ -10,7 +10,7 @@ use Rattle.socket_loop.proofs.Quiet.{quiet_stop}
 use Rattle.socket_loop.proofs.turn.Loop.accept_all.Goals as goal
 
 pub loop-init : goal.loop-init
-loop-init g c = record { so_far = some_start _ _ _ _ _ _; more = more_same _ _; quiet = λ q. (kept_same _, search rules); accepted = λ e. absurd (cc); slice = search rules }
+loop-init g c = record { so_far = some_start _ _ _ _ _ _; more = more_same _ _; quiet = λ q. (kept_same _, search rules); accepted = λ e. absurd (cc); slice = search rules; count = search rules; few = omega arith }
 
 -- no connection waits, or the wire fails
 pub returns-in_default : goal.returns-in_default
@@ -47,16 +47,18 @@ returns-then-len-gt-SESSIONS_MAX g c = record {
 
 pub loop-preserved : goal.loop-preserved
 loop-preserved g c = record {
-  so_far = rw c.admit.ensures.scenes.bound (some_more c.loop.counter _ _ _ _ _ _ c.in-Ok-Some.number _ _ _ _ _ _ _ _ _ _ _ _ c.loop.invariant.so_far (search rules) (search rules) c.accept.ensures.kept (rw c.in-Ok-Some.field-0-is at c.in-Ok-Some.ensures.asked) c.admit.ensures.scenes.admits);
-  more = more_then _ _ _ _ _ _ _ c.loop.invariant.more c.accept.ensures.cause.0 c.admit.ensures.scenes.more;
+  so_far = rw c.admit-admission.ensures.admits.scenes.bound (some_more c.loop.counter _ _ _ _ _ _ _ c.in-Ok-Some.number _ _ _ _ _ _ _ _ _ _ _ _ c.loop.invariant.so_far (search rules) (search rules) c.accept.ensures.kept (rw c.in-Ok-Some.field-0-is at c.in-Ok-Some.ensures.asked) c.admit-admission.ensures.admits.scenes.admits);
+  more = more_then _ _ _ _ _ _ _ c.loop.invariant.more c.accept.ensures.cause.0 c.admit-admission.ensures.admits.scenes.more;
   quiet = λ q. absurd (cc);
   accepted = λ e. (
       let u : g.W.Wire.bound c.args.wire.now ≤ g.W.Wire.bound c.loop.wire = c.loop.invariant.so_far.accepts.rises in
       let v : g.W.Wire.bound c.loop.wire ≤ c.in-Ok-Some.number = search rules in
       let w : c.in-Ok-Some.number < g.W.Wire.bound c.accept.new.self = search rules in
-      let x : g.W.Wire.bound c.admit.new.wire ≡ g.W.Wire.bound c.accept.new.self = c.admit.ensures.scenes.bound in
+      let x : g.W.Wire.bound c.admit-admission.new.wire ≡ g.W.Wire.bound c.accept.new.self = c.admit-admission.ensures.admits.scenes.bound in
       omega arith);
   slice = search rules;
+  count = omega arith;
+  few = omega arith;
 }
 
 pub returns : goal.returns

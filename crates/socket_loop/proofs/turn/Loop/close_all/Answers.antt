@@ -1,4 +1,4 @@
-use Rattle.std.proofs.Common.{rules, ◌≡◌, ◌∙◌, sym, inl, [], drop, length}
+use Rattle.std.proofs.Common.{rules, arith, ◌≡◌, ◌∙◌, sym, inl, [], drop, length}
 use Rattle.socket_loop.specs.Parts.{IsEnd}
 use Rattle.socket_loop.specs.Scenes.{scene}
 use Rattle.socket_loop.specs.Links.{reads_ended}
@@ -6,6 +6,7 @@ use Rattle.socket_loop.specs.Calls.{ends_of}
 use Rattle.socket_loop.proofs.Parts.{serves_same, serves_next}
 use Rattle.socket_loop.proofs.Marks.{marked_at, ended_visit}
 use Rattle.socket_loop.proofs.Calls.{all_taken, visit_ends}
+use Rattle.socket_loop.proofs.Tallies.{shut_next}
 use Rattle.socket_loop.proofs.Each.{visits_start, visits_next, visits_end}
 use Rattle.socket_loop.proofs.Left.{left_next, left_end}
 use Rattle.socket_loop.proofs.turn.Loop.close_all.Goals as goal
@@ -13,7 +14,7 @@ use Rattle.socket_loop.proofs.turn.Loop.close_all.Goals as goal
 pub loop-connection-init : goal.loop-connection-init
 loop-connection-init g c =
     let same : c.deref_mut-connection-items.result.now ≡ c.args.self.now.held = search rules in
-    record { visits = rw same (visits_start ends_of IsEnd (scene g.W.Wire c.args.self.now.held c.args.wire.now c.args.host.now)); serves = serves_same _ _ _ _ _ _; ended = rw same (λ n m. m); left = λ once. tt }
+    record { visits = rw same (visits_start ends_of IsEnd (scene g.W.Wire c.args.self.now.held c.args.wire.now c.args.host.now)); serves = serves_same _ _ _ _ _ _; ended = rw same (λ n m. m); left = λ once. tt; count = rw same (omega arith); few = omega arith }
 
 pub loop-connection-preserved : goal.loop-connection-preserved
 loop-connection-preserved g c = record {
@@ -23,10 +24,12 @@ loop-connection-preserved g c = record {
   serves = serves_next IsEnd c.args.self.now.held _ c.loop-connection.connection-items _ c.loop-connection.connection-index _ _ _ _ _ _ _ (search rules) c.loop-connection.invariant.visits.links c.loop-connection.invariant.serves (rw c.loop-connection.invariant.visits.bound at (c.close_if_finished-has_moved.ensures.ends.serves c.args.self.now.held (λ e. c.loop-connection.invariant.ended _ (marked_at reads_ended c.loop-connection.connection-items c.loop-connection.connection-index _ (search rules) e))));
   ended = ended_visit _ c.loop-connection.connection-items c.loop-connection.connection-index _ _ (search rules) c.close_if_finished-has_moved.ensures.ends.visited.visit.link c.close_if_finished-has_moved.ensures.ended c.loop-connection.invariant.ended;
   left = left_next IsEnd _ c.loop-connection.connection-items c.loop-connection.connection-index _ _ _ _ (search rules) c.loop-connection.invariant.visits.links c.loop-connection.invariant.left c.close_if_finished-has_moved.ensures.ends.visited.visit.steps c.close_if_finished-has_moved.ensures.left;
+  count = shut_next c.loop-connection.shut c.newly_shut-shut.result _ c.loop-connection.connection-items c.loop-connection.connection-index _ _ (search rules) c.loop-connection.invariant.count c.close_if_finished-has_moved.ensures.ends.visited.visit.made.shut c.newly_shut-shut.ensures.count;
+  few = omega arith;
 }
 
-pub returns : goal.returns
-returns g c = record {
+pub returns-clause-ends : goal.returns-clause-ends
+returns-clause-ends g c = record {
   slice = search rules;
   scenes = record {
     visited = visits_end c.loop-connection.connection-index c.self.inside.held.len ends_of IsEnd c.loop-connection.moved (scene g.W.Wire c.args.self.now.held c.args.wire.now c.args.host.now) (scene g.W.Wire c.loop-connection.connection-items c.loop-connection.wire c.loop-connection.host) (drop (length c.loop-connection.connection-items) c.self.inside.held.items) (search rules) (search rules) c.loop-connection.invariant.visits;
@@ -35,3 +38,7 @@ returns g c = record {
     left = left_end c.loop-connection.connection-index c.self.inside.held.len c.args.self.now.held c.loop-connection.connection-items _ c.loop-connection.host (search rules) (search rules) c.loop-connection.invariant.left;
   };
 }
+
+pub returns-clause-shut : goal.returns-clause-shut
+returns-clause-shut g c =
+    rw (all_taken c.self.inside.held.len c.loop-connection.connection-items (drop (length c.loop-connection.connection-items) c.self.inside.held.items) (search rules)) c.loop-connection.invariant.count

@@ -1,0 +1,11 @@
+use Rattle.std.proofs.Common.{◌≡◌, ◌≤◌, take}
+use Rattle.socket_loop.specs.Links.{links_of}
+use Rattle.socket_loop.specs.Tallies.{pending_count}
+use Rattle.socket_loop.proofs.turn.Loop.count_pending.Given as goal
+
+-- how many so far are pending
+abbrev pub invariant-loop-connection : goal.invariant-loop-connection
+invariant-loop-connection g l = record {
+  count : l.count ≡ pending_count l.host (links_of (take l.connection-index l.connection-items));
+  few : l.count ≤ l.connection-index;
+}
