@@ -3,8 +3,11 @@
 
 #[cfg(test)]
 mod assertions;
+mod call;
 #[cfg(test)]
 mod flushes;
+#[cfg(test)]
+mod memory;
 #[cfg(test)]
 mod rows;
 #[cfg(test)]
@@ -13,3 +16,5 @@ mod session;
 mod slices;
 #[cfg(test)]
 mod streams;
+#[cfg(test)]
+mod telling;
