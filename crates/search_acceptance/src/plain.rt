@@ -240,6 +240,8 @@ pub struct Branch {
     /// Where the move begins, if it is of a piece on the board.
     from: Option<Square>,
     to: Square,
+    /// What it puts on the square where it ends.
+    put: Option<Piece>,
     pub position: Position,
     pub turn: u8,
     /// Whether the other side surely is in no check after it and has a legal move.
@@ -391,6 +393,7 @@ pub fn branches_of(
             code: m.code(),
             from,
             to,
+            put: piece_of(p, &m),
             position: apply(p, tried),
             turn: turn_of(p, &m, firsts),
             is_certain,
@@ -434,7 +437,8 @@ fn most_worth(branch: &Branch, e: Eval) -> i32 {
     )
 }
 
-/// A piece of the side that is not to move and one that it may take, with what that gains.
+/// A piece of the side that is not to move and one that it may take, promoting or not, with what that
+/// gains.
 #[derive(Clone, Copy, Debug)]
 struct Threat {
     from: Square,
@@ -465,39 +469,127 @@ fn is_on_a_line_with_king(p: &Position, side: Color, at: Square) -> bool {
     false
 }
 
-/// Whether the piece on the one square may take one of the side to move on the other, wherever that
-/// side's other pieces go: it is no king of the other side and on no line with one, reaches it, and
-/// can move again from there without promotion.
-fn is_threat(p: &Position, from: Square, target: Square) -> bool {
-    let (Some(piece), Some(taken)) = (p.at(from), p.at(target)) else {
-        return false;
-    };
-    piece.color != p.side()
-        && taken.color == p.side()
-        && !piece.role.is_king()
-        && p.reaches(from, target)
-        && !piece
-            .role
-            .is_immobile(piece.color, target.rank().saturating_sub(1))
-        && !is_on_a_line_with_king(p, piece.color, from)
-}
-
-/// The threat that gains most; among equal ones that of the first square, and to the first square.
-fn greatest_threat(p: &Position, e: Eval) -> Option<Threat> {
-    let mut best = None;
-    for from in 0..81u8 {
-        for target in 0..81u8 {
-            let threat = Threat {
-                from: square(from),
-                target: square(target),
-                gain: taken_gain(e, p.at(square(target))) as i32,
-            };
-            if is_threat(p, threat.from, threat.target) {
-                best = greater(best, threat);
+/// Whether a piece of the other side that slides and is on a line with a king of the side is on a line with
+/// the square, whatever stands between.
+fn is_sniped(p: &Position, side: Color, at: Square) -> bool {
+    for number in 0..81u8 {
+        let other = square(number);
+        if let Some(piece) = p.at(other) {
+            if piece.color != side
+                && piece.role.is_sliding()
+                && is_on_a_line_with_king(p, side, other)
+                && are_on_a_line(other, at)
+            {
+                return true;
             }
         }
     }
+    false
+}
+
+/// Whether such a piece may pin what stands on the square, which is on a line with its king too.
+fn is_pinnable(p: &Position, side: Color, at: Square) -> bool {
+    is_on_a_line_with_king(p, side, at) && is_sniped(p, side, at)
+}
+
+/// Whether the role lets the piece go there: with promotion where it may promote, and without it where it
+/// can move again.
+fn may_go(piece: Piece, from: Square, to: Square, promote: bool) -> bool {
+    if promote {
+        return may_promote(piece, from, to);
+    }
+    !piece
+        .role
+        .is_immobile(piece.color, to.rank().saturating_sub(1))
+}
+
+/// Whether the piece on the one square goes to the other, promoting or not, wherever the pieces of the side
+/// to move go: it is one of the other side, no king, and not to be pinned, and reaches it.
+fn is_attack(p: &Position, from: Square, to: Square, promote: bool) -> bool {
+    let Some(piece) = p.at(from) else {
+        return false;
+    };
+    piece.color != p.side()
+        && !piece.role.is_king()
+        && from != to
+        && p.reaches(from, to)
+        && may_go(piece, from, to, promote)
+        && !is_pinnable(p, piece.color, from)
+}
+
+/// Whether the square is on one of the last three ranks as the side sees them.
+fn is_far(side: Color, at: Square) -> bool {
+    match side {
+        Color::Black => at.rank() <= 3,
+        Color::White => at.rank() >= 7,
+    }
+}
+
+/// Whether the piece may promote on the way from the one square to the other.
+fn may_promote(piece: Piece, from: Square, to: Square) -> bool {
+    piece.role.promoted() != piece.role && (is_far(piece.color, from) || is_far(piece.color, to))
+}
+
+/// What the promotion of a piece adds to the material.
+fn promotion_of(piece: Option<Piece>) -> i32 {
+    match piece {
+        Some(piece) => match piece.role {
+            Role::Pawn => 500,
+            Role::Lance | Role::Bishop | Role::Rook => 300,
+            Role::Knight => 200,
+            Role::Silver => 100,
+            _ => 0,
+        },
+        None => 0,
+    }
+}
+
+/// What taking on the one square with the piece on the other gains.
+fn gain_of(p: &Position, e: Eval, from: Square, target: Square, promote: bool) -> i32 {
+    let more = if promote { promotion_of(p.at(from)) } else { 0 };
+    more.saturating_add(taken_gain(e, p.at(target)) as i32)
+}
+
+/// The greatest threat by the piece on the square, promoting or not, and of one more.
+fn greatest_from(
+    p: &Position,
+    e: Eval,
+    from: Square,
+    promote: bool,
+    first: Option<Threat>,
+) -> Option<Threat> {
+    let mut best = first;
+    for number in 0..81u8 {
+        let target = square(number);
+        let is_theirs = matches!(p.at(target), Some(piece) if piece.color == p.side());
+        if is_theirs && is_attack(p, from, target, promote) {
+            let gain = gain_of(p, e, from, target, promote);
+            best = greater(best, Threat { from, target, gain });
+        }
+    }
     best
+}
+
+/// The threat that gains most; among equal ones that of the first square, without promotion before with it,
+/// and to the first square.
+fn greatest_threat(p: &Position, e: Eval) -> Option<Threat> {
+    let mut best = None;
+    for number in 0..81u8 {
+        let from = square(number);
+        best = greatest_from(p, e, from, false, best);
+        best = greatest_from(p, e, from, true, best);
+    }
+    best
+}
+
+/// Whether the other side takes what comes to the square, without promotion.
+fn is_retaken(p: &Position, at: Square) -> bool {
+    for from in 0..81u8 {
+        if is_attack(p, square(from), at, false) {
+            return true;
+        }
+    }
+    false
 }
 
 /// The one that gains more, else the first one.
@@ -508,11 +600,32 @@ fn greater(first: Option<Threat>, other: Threat) -> Option<Threat> {
     }
 }
 
-/// Whether a move lets the piece, its target and the squares that it reaches be.
+/// Whether a move lets the piece, its target and the squares that it reaches be, and puts nothing that
+/// slides on a line with a king of the other side, where the piece is on one too.
 fn is_left(p: &Position, threat: &Threat, branch: &Branch) -> bool {
+    let side = p.side().opponent();
+    let is_slider = matches!(branch.put, Some(piece) if piece.role.is_sliding());
+    let may_pin = is_slider
+        && is_on_a_line_with_king(p, side, threat.from)
+        && (is_on_a_line_with_king(p, side, branch.to));
     branch.from != Some(threat.target)
         && branch.to != threat.from
         && !p.reaches(threat.from, branch.to)
+        && !may_pin
+}
+
+/// What the other side gains by taking what a move puts on its square, or else by its greatest threat, where
+/// that gains more and the move leaves it.
+fn gain_after(p: &Position, e: Eval, threat: &Option<Threat>, branch: &Branch) -> i32 {
+    let retake = if is_retaken(p, branch.to) {
+        taken_gain(e, branch.put) as i32
+    } else {
+        0
+    };
+    match threat {
+        Some(threat) if threat.gain > retake && is_left(p, threat, branch) => threat.gain,
+        _ => retake,
+    }
 }
 
 /// What shows that moves of a node two plies before the end are not worth enough: whether one of them
@@ -525,18 +638,16 @@ struct Outlook {
 }
 
 impl Outlook {
-    /// The greatest threat. It is looked for once a move was not worth enough, or where the material
-    /// alone is not.
-    fn look(&mut self, p: &Position, e: Eval, beta: i32) -> Option<Threat> {
+    /// Looks for the greatest threat, once a move was not worth enough, or where the material alone is not.
+    fn look(&mut self, p: &Position, e: Eval, beta: i32) {
         if !self.is_looked_for && (self.has_weak || material(p, e) < beta) {
             self.threat = greatest_threat(p, e);
             self.is_looked_for = true;
         }
-        self.threat
     }
 
     /// Whether a move is left out: it surely is answered, and not worth enough by its answer's material; or it
-    /// leaves the other side in no check and its greatest threat, and is not worth enough by what that gains.
+    /// leaves the other side in no check, and is not worth enough by what that gains then by a capture.
     fn leaves_out(
         &mut self,
         p: &Position,
@@ -548,15 +659,13 @@ impl Outlook {
         if most_worth(branch, e) <= threshold {
             return branch.is_answered;
         }
-        match self.look(p, e, beta) {
-            Some(threat) => {
-                let most = i32::saturating_sub(0, material(&branch.position, e));
-                branch.is_certain
-                    && is_left(p, &threat, branch)
-                    && most.saturating_sub(threat.gain) <= threshold
-            }
-            None => false,
+        self.look(p, e, beta);
+        if !self.is_looked_for || !branch.is_certain {
+            return false;
         }
+        let gain = gain_after(p, e, &self.threat, branch);
+        let most = i32::saturating_sub(0, material(&branch.position, e));
+        gain > 0 && most.saturating_sub(gain) <= threshold
     }
 }
 

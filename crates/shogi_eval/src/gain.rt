@@ -35,9 +35,9 @@ pub fn taken_gain(e: Eval, cell: Option<Piece>) -> u32
     }
 }
 
-/// What a promotion gains.
+/// What a move of the piece gains by promotion, in points: nothing where it does not promote.
 #[tactic(auto, using(crate::proofs::RoleGains::gains))]
-fn promotion_gain(cell: Option<Piece>, promote: bool) -> u32
+pub fn promotion_gain(cell: Option<Piece>, promote: bool) -> u32
     ensures value { result ≡ promotion_gain promote cell }
     ensures range { result ≤ PIECE_VALUE_MAX }
 {

@@ -7,6 +7,6 @@ mod node;
 mod points;
 
 pub use eval::Eval;
-pub use gain::{drop_gain, taken_gain};
+pub use gain::{drop_gain, promotion_gain, taken_gain};
 pub use node::Node;
 pub use points::{POINTS_MAX, material};

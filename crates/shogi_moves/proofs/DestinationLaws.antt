@@ -315,7 +315,7 @@ still n None = refl
 still n (Some piece) = refl
 
 -- a promoted piece can always move again
-alive : (from n : ℕ) (cell : Option Piece) → (may_promote cell from n && not (is_immobile n (piece_moved true cell))) ≡ may_promote cell from n
+pub alive : (from n : ℕ) (cell : Option Piece) → (may_promote cell from n && not (is_immobile n (piece_moved true cell))) ≡ may_promote cell from n
 alive from n None = refl
 alive from n (Some piece) = go piece.role (in_promotion_zone piece.color from || in_promotion_zone piece.color n)
   where

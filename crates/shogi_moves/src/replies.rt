@@ -12,7 +12,7 @@ ghost use Rattle.shogi_moves.specs.Escapes.{AreEscapes};
 ghost use Rattle.shogi_moves.specs.Legal.{is_legal, may_promote};
 ghost use Rattle.shogi_moves.specs.LegalMoves.{legal_codes};
 ghost use Rattle.shogi_moves.specs.Replies.{ChecksAmong, holds_free, is_open_step, is_spare, Sees, Aligns, IsReplies, IsHarmless, IsOpen, StaysCovered, UncoversWithin, AreAnswered, AreDropsAnswered, HasCertainMoves, IsAnswered};
-ghost use Rattle.shogi_moves.specs.Threats.{KeepsThreats};
+ghost use Rattle.shogi_moves.specs.Threats.{KeepsThreats, MayRetake};
 
 use crate::after::{dropped, piece_moved};
 use crate::destinations::{Destinations, matching_destinations};
@@ -237,13 +237,15 @@ impl Replies {
     }
 
     /// Whether it is certain that after the legal move the other side is in no check and has a
-    /// legal move. Then it may carry out each of its threats that the move leaves.
+    /// legal move. Then it may carry out each of its threats that the move leaves, and take what the
+    /// move puts on its square.
     #[inline(always)]
     pub fn is_certain(&self, p: &Position, m: &Move) -> bool
         requires kept { IsReplies p.now self.now.sight self.now.spare }
         requires legal { is_legal p.now m.now ≡ true }
         ensures replied { result ≡ true → legal_codes (after p.now m.now) ≢ [] }
         ensures threats { result ≡ true → KeepsThreats p.now m.now }
+        ensures retakes { result ≡ true → MayRetake p.now m.now }
     {
         p.validity();
         match m {

@@ -1,32 +1,73 @@
 //! Captures that the side that is not to move may make after most moves.
 
-ghost use Rattle.std.specs.Prelude.{◌≡◌, ◌<◌, ◌^◌, ℕ, true};
+ghost use Rattle.std.specs.Prelude.{◌≡◌, ◌<◌, ◌^◌, ℕ, true, false};
 ghost use Rattle.shogi_core.specs.Bits.{has_bit};
-ghost use Rattle.shogi_moves.specs.Threats.{IsUnpinnable, IsThreat};
+ghost use Rattle.shogi_core.specs.Movement.{reaches};
+ghost use Rattle.shogi_core.specs.Pieces.{opponent_of};
+ghost use Rattle.shogi_moves.specs.Replies.{Aligns};
+ghost use Rattle.shogi_moves.specs.Threats.{IsUnpinnable, IsAttack, Snipes, put_by};
 
-use crate::replies::line_squares;
-use crate::zones::dead_squares;
-use shogi_core::{Position, Square};
+use crate::after::{dropped, piece_moved};
+use crate::destinations::Destinations;
+use crate::zones::{dead_squares, promoting_squares};
+use shogi_core::bits::{lowest, without, without_lowest};
+use shogi_core::{Color, Move, Piece, Position, Square, aligned_squares};
 
-/// The pieces of the side that is not to move, without its kings, that stand on no line with a king
-/// of their own, whatever stands between. So no move can pin one.
-pub fn unpinnable_pieces(p: &Position) -> u128
+/// The squares on lines with pieces that slide and are on a line with a king of the side, and are
+/// not its own.
+#[tactic(auto, using(crate::proofs::ThreatLaws::snipings))]
+fn sniped_squares(p: &Position, side: Color) -> u128
+    ensures { Snipes p.now.cells side 0 result }
+{
+    let mut left = p.as_board().snipers(side);
+    let mut sniped = 0;
+    while left != 0 {
+        let sniper = lowest(left);
+        sniped |= aligned_squares(sniper);
+        left = without_lowest(left, sniper);
+    }
+    sniped
+}
+
+/// The pieces of the side that is not to move, without its kings, that no piece pins which stands
+/// where it does now, whatever leaves its square. The lines are those of the side's kings.
+pub fn unpinnable_pieces(p: &Position, lines: u128) -> u128
+    requires { Aligns p.now.cells (opponent_of p.now.side) 0 lines }
     ensures unpinnable { (a : ℕ) → a < 81 → has_bit result a ≡ true
         → IsUnpinnable p.now a }
     ensures fits { result < 2 ^ 81 }
 {
     let side = p.side().opponent();
-    p.as_board().own(side) & !line_squares(p, side)
+    let board = p.as_board();
+    board.own(side) & !board.kings(side) & !(lines & sniped_squares(p, side))
 }
 
-/// The pieces of the side to move that the piece on the square attacks, where that is such a piece,
-/// and from whose squares it can move again without promotion.
-pub fn threatened_by(p: &Position, from: Square) -> u128
-    requires { IsUnpinnable p.now from }
-    ensures threats { (t : ℕ) → t < 81 → has_bit result t ≡ true → IsThreat p.now from t }
-    ensures fits { result < 2 ^ 81 }
+/// Where the piece on the square may go without promotion and with it, of the squares that it
+/// reaches, whatever stands there, as far as its role goes, where that is such a piece.
+pub fn attacks_of(p: &Position, from: Square, reach: u128) -> Destinations
+    requires from { IsUnpinnable p.now from }
+    requires reach { (n : ℕ) → n < 81 → has_bit reach n ≡ reaches p.now.cells from n }
+    ensures plain { (t : ℕ) → t < 81 → has_bit result.plain t ≡ true
+        → IsAttack p.now from t false }
+    ensures promoting { (t : ℕ) → t < 81 → has_bit result.promoting t ≡ true
+        → IsAttack p.now from t true }
 {
     from.validity();
-    let board = p.as_board();
-    board.targets(from) & board.own(p.side()) & !dead_squares(p.at(from))
+    let cell = p.at(from);
+    let others = without(reach, from.index());
+    Destinations {
+        plain: others & !dead_squares(cell),
+        promoting: others & promoting_squares(cell, from),
+    }
+}
+
+/// What the move puts on the square where it ends.
+#[inline(always)]
+pub fn put_by(p: &Position, m: &Move) -> Option<Piece>
+    ensures { result ≡ put_by p.now m.now }
+{
+    match m {
+        Move::Board { from, promote, .. } => piece_moved(p.at(*from), *promote),
+        Move::Drop { kind, .. } => dropped(p.side(), *kind),
+    }
 }

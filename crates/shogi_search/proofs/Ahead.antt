@@ -1,7 +1,7 @@
 -- What a side that has a legal move is worth at least one ply before the leaves.
-use Rattle.std.proofs.Common.{◌≡◌, ◌≢◌, ◌<◌, ◌-◌, ◌/◌, ◌%◌, ◌==◌, ◌+◌, ◌≤◌, ℕ, zero, suc, ℤ, pos, ◌-ℤ◌, ◌+ℤ◌, ◌≤ℤ◌, List, [], ◌∷◌, Bool, true, false, Option, Some, inl, inr, refl, sym, ap, ◌∙◌, arith, subst}
+use Rattle.std.proofs.Common.{◌≡◌, ◌≢◌, ◌<◌, ◌-◌, ◌/◌, ◌%◌, ◌==◌, ◌+◌, ◌≤◌, ℕ, zero, suc, ℤ, pos, ◌-ℤ◌, ◌+ℤ◌, ◌≤ℤ◌, List, [], ◌∷◌, Bool, true, false, Option, Some, None, inl, inr, refl, sym, ap, ◌∙◌, arith, subst, set, get_or-set_other}
 use Rattle.std.proofs.lemmas.Int.{ints}
-use Rattle.std.proofs.lemmas.Bool.{or_left, eq-eqb, cases_lt}
+use Rattle.std.proofs.lemmas.Bool.{both_ways, or_left, eq-eqb, cases_lt}
 use Rattle.shogi_core.specs.declared.moves.TheConstants.{FIRST_DROP, MOVE_CODE_COUNT}
 use Rattle.shogi_core.specs.declared.moves.Move.{Move}
 use Rattle.shogi_core.specs.declared.moves.Move.TheVariants.{Board, Drop}
@@ -9,25 +9,28 @@ use Rattle.shogi_core.specs.declared.piece.Kind.{Kind}
 use Rattle.shogi_core.specs.declared.piece.Kind.TheVariants as kinds
 use Rattle.shogi_core.specs.declared.piece.Piece.{Piece}
 use Rattle.shogi_core.specs.Codes.{move_of, code_of, kind_at}
+use Rattle.shogi_core.specs.Cell.{is_piece_of}
 use Rattle.shogi_core.specs.Movement.{piece_at}
 use Rattle.shogi_core.specs.Pieces.{opponent_of}
 use Rattle.shogi_core.specs.Position.{Shogi}
 use Rattle.shogi_core.specs.Validity.{IsValid}
 use Rattle.shogi_core.proofs.CodesBack.{move_of-board}
-use Rattle.shogi_moves.specs.After.{after, after_code}
+use Rattle.shogi_moves.specs.After.{after, after_code, dropped, piece_moved}
 use Rattle.shogi_moves.specs.Legal.{is_legal}
 use Rattle.shogi_moves.specs.LegalMoves.{legal_codes}
 use Rattle.shogi_moves.specs.Rising.{is_in}
-use Rattle.shogi_moves.specs.Threats.{MayTake}
+use Rattle.shogi_moves.specs.Threats.{IsAttack, IsThreat, LeavesThreat, MayTake, end_of, put_by}
+use Rattle.shogi_moves.proofs.CheckInfoLaws.{other_side}
 use Rattle.shogi_moves.proofs.Keeps.{is_safe_from_legal}
 use Rattle.shogi_moves.proofs.KeepsDrop.{safe_drop}
-use Rattle.shogi_moves.proofs.ReplyLaws.{other_counts}
+use Rattle.shogi_moves.proofs.ReplyLaws.{legal_own, other_counts}
 use Rattle.shogi_moves.proofs.LegalLaws.{legal_in, legal_code_below, is_legal_code_of, after_code_at, after_code_of, legal_to_listed}
 use Rattle.shogi_eval.specs.declared.eval.Eval.{Eval}
 use Rattle.shogi_eval.specs.Material.{material_of, drop_gain, taken_gain, promotion_gain}
 use Rattle.shogi_eval.proofs.Gains.{material_after_board, material_after_drop}
 use Rattle.shogi_eval.proofs.Bounds.{material_bounds}
 use Rattle.shogi_search.specs.Losses.{LosesAtMost}
+use Rattle.shogi_search.specs.Threats.{IsAttacked, TakesAfter}
 use Rattle.minimax.specs.Minimax.{value, worth, negated, if_no_move_else, lost_value, greatest_or}
 use Rattle.minimax.specs.Window.{threshold}
 use Rattle.minimax.proofs.Greatest.{greatest_or-above}
@@ -97,14 +100,51 @@ value_least q e loss (c ∷ cs) is v h l some =
     omega (arith, ints, left, worth_so)
 
 -- and where it may take a piece, its material and what that gains, or more
-value_taking : (q : Shogi) (e : Eval) (a t : ℕ) (cell : Option Piece) → IsValid q → a < 81 → t < 81 → MayTake q a t cell → (material_of q e +ℤ pos (taken_gain e cell)) ≤ℤ value q e 1
-value_taking q e a t cell v ha ht may =
-    let back : move_of (code_of (Board a t false)) ≡ Some (Board a t false) = move_of-board a t false ha ht in
-    let law : material_of (after q (Board a t false)) e ≡ pos 0 -ℤ (material_of q e +ℤ pos (taken_gain e (piece_at q.cells t) + promotion_gain false (piece_at q.cells a))) = material_after_board q e a t false v ha ht may.legal in
+value_taking : (q : Shogi) (e : Eval) (a t : ℕ) (promote : Bool) (cell : Option Piece) → IsValid q → a < 81 → t < 81 → MayTake q a t promote cell → (material_of q e +ℤ pos (taken_gain e cell + promotion_gain promote (piece_at q.cells a))) ≤ℤ value q e 1
+value_taking q e a t promote cell v ha ht may =
+    let back : move_of (code_of (Board a t promote)) ≡ Some (Board a t promote) = move_of-board a t promote ha ht in
+    let law : material_of (after q (Board a t promote)) e ≡ pos 0 -ℤ (material_of q e +ℤ pos (taken_gain e (piece_at q.cells t) + promotion_gain promote (piece_at q.cells a))) = material_after_board q e a t promote v ha ht may.legal in
     let gain : taken_gain e (piece_at q.cells t) ≡ taken_gain e cell = ap (taken_gain e) may.stands in
-    let made : material_of (after_code q (code_of (Board a t false))) e ≡ material_of (after q (Board a t false)) e = ap (λ (r : Shogi). material_of r e) (after_code_of q (Board a t false) back) in
-    let worth_so : negated (material_of (after_code q (code_of (Board a t false))) e) ≤ℤ value q e 1 = value_reply q e (code_of (Board a t false)) v (legal_to_listed q (Board a t false) back may.legal) in
+    let made : material_of (after_code q (code_of (Board a t promote))) e ≡ material_of (after q (Board a t promote)) e = ap (λ (r : Shogi). material_of r e) (after_code_of q (Board a t promote) back) in
+    let worth_so : negated (material_of (after_code q (code_of (Board a t promote))) e) ≤ℤ value q e 1 = value_reply q e (code_of (Board a t promote)) v (legal_to_listed q (Board a t promote) back may.legal) in
     omega (arith, ints, law, gain, made, worth_so)
+
+-- a legal move leaves a valid position
+valid_after : (p : Shogi) (m : Move) → IsValid p → move_of (code_of m) ≡ Some m → is_in (code_of m) (legal_codes p) ≡ true → IsValid (after p m)
+valid_after p m v back i = subst IsValid (after_code_of p m back) (after_valid p (code_of m) v i)
+
+-- after the move of the one side what stands on a square of the other is what stood there
+kept_at : (p : Shogi) (m : Move) (a : ℕ) → is_legal p m ≡ true → is_piece_of (opponent_of p.side) (piece_at p.cells a) ≡ true → a ≢ end_of m → piece_at (after p m).cells a ≡ piece_at p.cells a
+kept_at p (Board from to promote) a legal theirs off =
+    let apart : a ≢ from = λ (same : a ≡ from). both_ways (is_piece_of (opponent_of p.side) (piece_at p.cells from)) (other_side p.side (piece_at p.cells from) (legal_own p from to promote legal)) (subst (λ (y : ℕ). is_piece_of (opponent_of p.side) (piece_at p.cells y) ≡ true) same theirs) in
+    get_or-set_other (set p.cells from None) to a (piece_moved promote (piece_at p.cells from)) None off ∙ get_or-set_other p.cells from a None None apart
+kept_at p (Drop kind to) a legal theirs off = get_or-set_other p.cells to a (dropped p.side kind) None off
+
+-- the attacker of a threat that the move leaves is not where it ends
+attacker_off : (p : Shogi) (m : Move) (a t : ℕ) → LeavesThreat p a t m → a ≢ end_of m
+attacker_off p (Board from to promote) a t leaves same = leaves.1.attacker_stays (sym same)
+attacker_off p (Drop kind to) a t leaves same = leaves.attacker_stays (sym same)
+
+-- a threat that stands after the move gains what it did
+pub threat_gain : (p : Shogi) (e : Eval) (m : Move) (a t gain : ℕ) (promote : Bool) → IsValid p → move_of (code_of m) ≡ Some m → is_legal p m ≡ true → IsThreat p a t promote → gain ≡ taken_gain e (piece_at p.cells t) + promotion_gain promote (piece_at p.cells a) → LeavesThreat p a t m → TakesAfter p e m gain
+threat_gain p e m a t gain promote v back legal threat is leaves = λ keeps retakes.
+    let valid : IsValid (after p m) = valid_after p m v back (legal_to_listed p m back legal) in
+    let least : (material_of (after p m) e +ℤ pos (taken_gain e (piece_at p.cells t) + promotion_gain promote (piece_at (after p m).cells a))) ≤ℤ value (after p m) e 1 = value_taking (after p m) e a t promote (piece_at p.cells t) valid threat.attack.attacker.on_board threat.attack.on_board (keeps a t promote threat leaves) in
+    let same : promotion_gain promote (piece_at (after p m).cells a) ≡ promotion_gain promote (piece_at p.cells a) = ap (promotion_gain promote) (kept_at p m a legal threat.attack.attacker.theirs (attacker_off p m a t leaves)) in
+    omega (arith, ints, least, same, is)
+
+unpromoted : (cell : Option Piece) → promotion_gain false cell ≡ 0
+unpromoted None = refl
+unpromoted (Some piece) = refl
+
+-- and so does an attack on the square where it ends, by what it puts there
+pub retake_gain : (p : Shogi) (e : Eval) (m : Move) (to gain : ℕ) → IsValid p → move_of (code_of m) ≡ Some m → is_legal p m ≡ true → end_of m ≡ to → IsAttacked p to → gain ≡ taken_gain e (put_by p m) → TakesAfter p e m gain
+retake_gain p e m to gain v back legal ends attacked is = λ keeps retakes.
+    let valid : IsValid (after p m) = valid_after p m v back (legal_to_listed p m back legal) in
+    let attack : IsAttack p attacked.0 (end_of m) false = subst (λ (n : ℕ). IsAttack p attacked.0 n false) (sym ends) attacked.1 in
+    let least : (material_of (after p m) e +ℤ pos (taken_gain e (put_by p m) + promotion_gain false (piece_at (after p m).cells attacked.0))) ≤ℤ value (after p m) e 1 = value_taking (after p m) e attacked.0 (end_of m) false (put_by p m) valid attack.attacker.on_board attack.on_board (retakes attacked.0 false attack) in
+    let none : promotion_gain false (piece_at (after p m).cells attacked.0) ≡ 0 = unpromoted (piece_at (after p m).cells attacked.0) in
+    omega (arith, ints, least, none, is)
 
 -- ---- what a move is worth at most two plies before the leaves
 
@@ -113,10 +153,6 @@ worth_below : (p : Shogi) (e : Eval) (m : Move) (least : ℤ) → move_of (code_
 worth_below p e m least back h =
     let same : value (after_code p (code_of m)) e 1 ≡ value (after p m) e 1 = ap (λ (q : Shogi). value q e 1) (after_code_of p m back) in
     omega (arith, ints, h, same)
-
--- a legal move leaves a valid position
-valid_after : (p : Shogi) (m : Move) → IsValid p → move_of (code_of m) ≡ Some m → is_in (code_of m) (legal_codes p) ≡ true → IsValid (after p m)
-valid_after p m v back i = subst IsValid (after_code_of p m back) (after_valid p (code_of m) v i)
 
 pub worth_most : (p : Shogi) (e : Eval) (loss : ℤ) (m : Move) → IsValid p → move_of (code_of m) ≡ Some m → is_in (code_of m) (legal_codes p) ≡ true → pos 0 ≤ℤ loss → LosesAtMost p.hands (opponent_of p.side) e loss → legal_codes (after p m) ≢ [] → worth p e 1 (code_of m) ≤ℤ negated (material_of (after p m) e -ℤ loss)
 worth_most p e loss m v back i h l some = worth_below p e m (material_of (after p m) e -ℤ loss) back (value_least (after p m) e loss (legal_codes (after p m)) refl (valid_after p m v back i) h (loses_after p e loss m l) some)
@@ -127,9 +163,11 @@ worth_ahead p e d loss m v back legal last h l some =
     let one : d - 1 ≡ 1 = omega arith in
     subst (λ (n : ℕ). worth p e n (code_of m) ≤ℤ negated (material_of (after p m) e -ℤ loss)) (sym one) (worth_most p e loss m v back (legal_to_listed p m back legal) h l some)
 
-pub worth_under_threat : (p : Shogi) (e : Eval) (m : Move) (a t : ℕ) → IsValid p → move_of (code_of m) ≡ Some m → is_in (code_of m) (legal_codes p) ≡ true → a < 81 → t < 81 → MayTake (after p m) a t (piece_at p.cells t)
-    → worth p e 1 (code_of m) ≤ℤ negated (material_of (after p m) e +ℤ pos (taken_gain e (piece_at p.cells t)))
-worth_under_threat p e m a t v back i ha ht may = worth_below p e m (material_of (after p m) e +ℤ pos (taken_gain e (piece_at p.cells t))) back (value_taking (after p m) e a t (piece_at p.cells t) (valid_after p m v back i) ha ht may)
+-- the same where it takes so much then
+pub worth_under_threat : (p : Shogi) (e : Eval) (d gain : ℕ) (m : Move) → move_of (code_of m) ≡ Some m → d ≡ 2 → (material_of (after p m) e +ℤ pos gain) ≤ℤ value (after p m) e 1 → worth p e (d - 1) (code_of m) ≤ℤ negated (material_of (after p m) e +ℤ pos gain)
+worth_under_threat p e d gain m back last least =
+    let one : d - 1 ≡ 1 = omega arith in
+    subst (λ (n : ℕ). worth p e n (code_of m) ≤ℤ negated (material_of (after p m) e +ℤ pos gain)) (sym one) (worth_below p e m (material_of (after p m) e +ℤ pos gain) back least)
 
 -- what is below in a frame is below in another that differs in nothing that it speaks of
 pub still_below : (p p' : Shogi) (e e' : Eval) (d d' : ℕ) (v v' : ℤ) (b b' : Option ℕ) (m : ℕ) → p' ≡ p → e' ≡ e → d' ≡ d → v' ≡ v → b' ≡ b → worth p e (d - 1) m ≤ℤ threshold v b m → worth p' e' (d' - 1) m ≤ℤ threshold v' b' m

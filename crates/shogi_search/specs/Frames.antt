@@ -2,15 +2,13 @@
 use Rattle.std.specs.Prelude.{◌≢◌, ℕ, ◌-◌, ℤ, ◌≤ℤ◌, List, [], Option, cond, nat_lt}
 use Rattle.shogi_core.specs.declared.moves.Move.{Move}
 use Rattle.shogi_core.specs.Codes.{code_of}
-use Rattle.shogi_core.specs.Movement.{piece_at}
 use Rattle.shogi_core.specs.Pieces.{opponent_of}
 use Rattle.shogi_core.specs.Position.{Shogi}
 use Rattle.shogi_moves.specs.After.{after, after_code}
 use Rattle.shogi_moves.specs.LegalMoves.{legal_codes}
-use Rattle.shogi_moves.specs.Threats.{MayTake}
+use Rattle.shogi_moves.specs.Threats.{KeepsThreats, MayRetake}
 use Rattle.shogi_search.specs.declared.frame.Frame.{Frame}
 use Rattle.minimax.specs.declared.entry.Entry.{Entry}
-use Rattle.shogi_search.specs.declared.threat.Threat.{Threat}
 use Rattle.minimax.specs.Entries.{IsCutoff}
 use Rattle.shogi_search.specs.Losses.{LosesAtMost}
 use Rattle.minimax.specs.Minimax.{worth, IsTrueEntry, negated}
@@ -59,15 +57,10 @@ FailsLow f = WhereCurrent f.waiting (λ m. IsWorthAtMost f m (threshold_of f m))
 abbrev pub HasReply : Frame → Move → Type 0
 HasReply f m = legal_codes (after f.node.position m) ≢ []
 
--- the other side may carry out the threat after the move
-abbrev pub Survives : Frame → Threat → Move → Type 0
-Survives f threat m =
-    MayTake (after f.node.position m) threat.from threat.target
-    (piece_at f.node.position.cells threat.target)
-
--- and where it may, the move is worth no more than this
-abbrev pub IsMostUnderThreat : Frame → Threat → Move → ℤ → Type 0
-IsMostUnderThreat f threat m most = Survives f threat m → IsWorthAtMost f m most
+-- if the other side may carry out its threats after the move, that is not worth more than it has to be
+abbrev pub IsLostWhere : Frame → Move → Type 0
+IsLostWhere f m = KeepsThreats f.node.position m → MayRetake f.node.position m
+    → IsWorthAtMost f m (threshold_of f m)
 
 -- no drop of the other side takes more than this from its material
 abbrev pub RepliesLoseAtMost : Frame → ℤ → Type 0

@@ -10,7 +10,8 @@ ghost use Rattle.shogi_moves.specs.Replies.{IsReplies};
 ghost use Rattle.shogi_eval.specs.declared.points.TheConstants.{POINTS_MAX};
 ghost use Rattle.minimax.specs.Minimax.{value, negated};
 ghost use Rattle.minimax.specs.Entries.{IsCutoff};
-ghost use Rattle.shogi_search.specs.Threats.{IsThreatIn};
+ghost use Rattle.shogi_moves.specs.Threats.{KeepsThreats, MayRetake};
+ghost use Rattle.shogi_search.specs.Threats.{AreThreatsIn};
 ghost use Rattle.shogi_search.specs.Order.{codes_of, todo, IsWithinTree, IsKept, IsKept-prop};
 ghost use Rattle.shogi_search.specs.Visits.{IsKnownWhile, IsKnownWhile-prop, IsCurrent, WhereCurrent};
 ghost use Rattle.minimax.specs.Window.{code_at};
@@ -19,7 +20,7 @@ ghost use Rattle.minimax.specs.declared.bounds.TheConstants.{SEARCH_DEPTH_MAX, I
 use crate::firsts::{Firsts, KILLERS, with_killer};
 use crate::losses::{loss_of_drops, quiet_squares};
 use crate::move_picker::MovePicker;
-use crate::threat::{Threat, greatest_threat};
+use crate::threat::{Threats, threats_of};
 use crate::window::{threshold, threshold_at};
 use minimax::{Entry, MATE};
 use shogi_core::Move;
@@ -46,8 +47,8 @@ pub struct Frame {
     pub replies: Replies,
     /// Squares to which the other side's king may go, once they were looked for.
     pub escapes: Option<u128>,
-    /// A capture that the other side may make after most moves, if one was found.
-    pub threat: Option<Threat>,
+    /// Captures that the other side may make after most moves, once they were looked for.
+    pub threats: Option<Threats>,
     pub alpha: i32,
     pub beta: i32,
     pub best_value: i32,
@@ -58,8 +59,6 @@ pub struct Frame {
     pub has_move: bool,
     /// Set once the replies are those of the position.
     pub has_replies: bool,
-    /// Set once the threat was looked for.
-    pub has_threat: bool,
     /// Codes of moves that cut off the last nodes of this place, the last one first.
     pub killers: [u16; KILLERS],
     ghost valid: { IsValid node.position },
@@ -75,7 +74,7 @@ pub struct Frame {
     ghost kept: { IsKept node.position picker } by { IsKept-prop node.position picker },
     ghost replied: { IsReplies node.position replies.sight replies.spare } by { Prim.hlevel props },
     ghost escaping: { ForSome escapes (AreEscapes node.position) } by { Prim.hlevel props },
-    ghost threatened: { ForSome threat (IsThreatIn node.position node.eval) } by { Prim.hlevel props },
+    ghost threatened: { ForSome threats (AreThreatsIn node.position node.eval) } by { Prim.hlevel props },
 }
 
 /// Whether some move is legal.
@@ -96,7 +95,7 @@ pub fn leaf(node: &Node) -> i32
 }
 
 impl Frame {
-    ghost use Rattle.shogi_search.specs.Frames.{firsts_at, worth_of, threshold_of, FailsLow, IsTrueOf, IsTrueAfter, IsCutoffAfter, IsToBeLeft, HasReply, IsWorthAtMost, IsMostUnderThreat, RepliesLoseAtMost};
+    ghost use Rattle.shogi_search.specs.Frames.{firsts_at, worth_of, threshold_of, FailsLow, IsTrueOf, IsTrueAfter, IsCutoffAfter, IsToBeLeft, HasReply, IsLostWhere, IsWorthAtMost, RepliesLoseAtMost};
     ghost use Rattle.shogi_search.specs.Stack.{IsAt, IsSame, KeepsMoves, EndsVisit, AsksFor, PrunesRow};
 
     /// The moves that a node of the depth visits first that is to be entered in this place: those that
@@ -140,8 +139,7 @@ impl Frame {
         self.replies = Replies::unknown(node.as_position());
         self.has_replies = false;
         self.escapes = None;
-        self.threat = None;
-        self.has_threat = false;
+        self.threats = None;
     }
 
     /// Whether some move is legal, which the position is asked only where it is not known yet.
@@ -380,28 +378,34 @@ impl Frame {
         self.loss_after() - self.node.score_after(current)
     }
 
-    /// Looks for a threat of the other side, once a move was gone through and not good enough or
-    /// where the material alone is not enough; before that none may be needed.
-    fn look_for_threat(&mut self)
+    /// Looks for threats of the other side, once a move was gone through and not good enough or where
+    /// the material alone is not enough; before that none may be needed.
+    fn look_for_threats(&mut self)
         ensures { KeepsMoves self.old self.new }
     {
-        if !self.has_threat && (self.has_move || self.node.score() < self.beta) {
-            self.threat = greatest_threat(self.node.as_position(), self.node.eval());
-            self.has_threat = true;
+        if self.threats.is_none() && (self.has_move || self.node.score() < self.beta) {
+            self.threats = Some(threats_of(self.node.as_position(), self.node.eval()));
         }
     }
 
-    /// What the current move of a node of depth 2 is worth at most, where the other side may carry
-    /// out the threat after it.
+    /// Whether a threat makes the current move of a node of depth 2 not worth enough, if it gives no
+    /// check.
     #[inline(always)]
-    fn most_under_threat(&self, current: &Move, threat: &Threat) -> i32
+    fn loses(&self, current: &Move) -> bool
         requires current { IsCurrent self.now.waiting current.now }
         requires last { self.now.depth ≡ 2 }
-        requires threat { IsThreatIn self.now.node.position self.now.node.eval threat.now }
-        ensures most { IsMostUnderThreat self.now threat.now current.now result }
+        ensures { result ≡ true → IsLostWhere self.now current.now }
     {
+        let Some(threats) = &self.threats else {
+            return false;
+        };
         current.validity();
-        0 - self.node.score_after(current) - threat.gain as i32
+        let p = self.node.as_position();
+        let gain = threats.gain_after(p, self.node.eval(), current);
+        if gain == 0 {
+            return false;
+        }
+        0 - self.node.score_after(current) - gain as i32 <= self.threshold(current)
     }
 
     /// Passes the current move of a node of depth 2, where it is certain without making it that it
@@ -414,14 +418,8 @@ impl Frame {
         ensures picker { self.new.picker ≡ self.old.picker }
         ensures same { IsSame self.old self.new }
     {
-        self.look_for_threat();
-        let Some(threat) = self.threat else {
-            return false;
-        };
-        if self.most_under_threat(current, &threat) > self.threshold(current) {
-            return false;
-        }
-        if !threat.stands_after(current) {
+        self.look_for_threats();
+        if !self.loses(current) {
             return false;
         }
         self.look_ahead();
@@ -588,8 +586,7 @@ impl Default for Frame {
             replies: Replies::unknown(node.as_position()),
             has_replies: false,
             escapes: None,
-            threat: None,
-            has_threat: false,
+            threats: None,
             killers: [0; KILLERS],
         }
     }

@@ -1,23 +1,44 @@
-//! A capture that the other side may make after most moves.
+//! Captures that the other side may make after most moves.
 
-ghost use Rattle.std.specs.Prelude.{◌≡◌, ◌⊎◌, Some, true};
+ghost use Rattle.std.specs.Prelude.{◌≡◌, ◌≤◌, ◌<◌, ◌^◌, ◌⊎◌, ℕ, Bool, Some, true};
 ghost use Rattle.std.specs.Option.{ForSome};
-ghost use Rattle.shogi_moves.specs.Threats.{IsUnpinnable};
-ghost use Rattle.shogi_search.specs.Threats.{IsThreatIn, IsSparedAt, IsSparedBy};
+ghost use Rattle.shogi_core.specs.Bits.{has_bit};
+ghost use Rattle.shogi_core.specs.Cell.{is_slider};
+ghost use Rattle.shogi_core.specs.Pieces.{opponent_of};
+ghost use Rattle.shogi_moves.specs.Legal.{is_legal};
+ghost use Rattle.shogi_moves.specs.Replies.{Aligns};
+ghost use Rattle.shogi_moves.specs.Threats.{IsUnpinnable, IsThreat, end_of};
+ghost use Rattle.shogi_core.specs.Validity.{IsValid};
+ghost use Rattle.shogi_search.specs.Threats.{AreThreatsIn, IsAttackerIn, IsThreatIn, IsSparedAt, IsSparedBy, TakesAfter};
 
 use shogi_core::bits::{has, lowest, without_lowest};
-use shogi_core::{Move, Position, Square};
-use shogi_eval::{Eval, taken_gain};
-use shogi_moves::{threatened_by, unpinnable_pieces};
+use shogi_core::{Move, Piece, Position, Square};
+use shogi_eval::{Eval, promotion_gain, taken_gain};
+use shogi_moves::{attacks_of, line_squares, put_by, unpinnable_pieces};
 
-/// A piece of the side that is not to move and one that it attacks, with all squares that it
-/// reaches and what the capture gains.
+/// A piece of the side that is not to move that nothing pins, all squares that it reaches, and those
+/// on which a piece that slides might come to pin it.
+#[derive(Clone, Copy)]
+pub struct Attacker {
+    pub reach: u128,
+    pub line: u128,
+    pub from: Square,
+}
+
+/// Such a piece and one that it attacks, and what the capture gains, promoting or not.
 #[derive(Clone, Copy)]
 pub struct Threat {
-    pub reach: u128,
+    pub attacker: Attacker,
     pub gain: u32,
-    pub from: Square,
     pub target: Square,
+    pub promote: bool,
+}
+
+/// Squares on which some such piece takes what comes there, and a capture by one that gains most.
+#[derive(Clone, Copy)]
+pub struct Threats {
+    pub takes: u128,
+    pub greatest: Option<Threat>,
 }
 
 /// The threat that gains more, the first one where both gain the same.
@@ -33,24 +54,49 @@ fn greater(first: Option<Threat>, other: Threat) -> Option<Threat>
     Some(other)
 }
 
-/// The greatest of the threats by the piece on the square, and of one more.
-fn greatest_from(p: &Position, e: Eval, from: Square, first: Option<Threat>) -> Option<Threat>
+/// The piece on the square, where those are the lines of its king.
+#[inline(always)]
+fn attacker_at(p: &Position, from: Square, lines: u128) -> Attacker
     requires from { IsUnpinnable p.now from }
+    requires lines { Aligns p.now.cells (opponent_of p.now.side) 0 lines }
+    ensures { IsAttackerIn p.now result }
+{
+    from.validity();
+    Attacker {
+        reach: p.as_board().targets(from),
+        line: if has(lines, from.index()) { lines } else { 0 },
+        from,
+    }
+}
+
+/// The greatest of the captures by the piece on these squares, and of one more.
+#[inline(always)]
+fn greatest_among(
+    p: &Position,
+    e: Eval,
+    attacker: &Attacker,
+    promote: bool,
+    ends: u128,
+    first: Option<Threat>,
+) -> Option<Threat>
+    requires attacker { IsAttackerIn p.now attacker.now }
+    requires ends { (t : ℕ) → t < 81 → has_bit ends t ≡ true
+        → IsThreat p.now attacker.now.from t promote }
+    requires fits { ends < 2 ^ 81 }
     requires first { ForSome first (IsThreatIn p.now e) }
     ensures { ForSome result (IsThreatIn p.now e) }
 {
-    let reach = p.as_board().targets(from);
-    let mut left = threatened_by(p, from);
+    let more = promotion_gain(p.at(attacker.from), promote);
+    let mut left = ends;
     let mut best = first;
     'targets: while left != 0 {
         let square = lowest(left);
         let target = Square::of_index(square);
-        let gain = taken_gain(e, p.at(target));
         let threat = Threat {
-            from,
+            attacker: *attacker,
+            gain: taken_gain(e, p.at(target)) + more,
             target,
-            reach,
-            gain,
+            promote,
         };
         best = greater(best, threat);
         left = without_lowest(left, square);
@@ -58,39 +104,114 @@ fn greatest_from(p: &Position, e: Eval, from: Square, first: Option<Threat>) -> 
     best
 }
 
-/// The greatest threat of the side that is not to move, if it has one.
-pub fn greatest_threat(p: &Position, e: Eval) -> Option<Threat>
-    ensures { ForSome result (IsThreatIn p.now e) }
+/// These threats and those by the piece.
+#[inline(always)]
+fn with_attacker(p: &Position, e: Eval, attacker: &Attacker, threats: &Threats) -> Threats
+    requires attacker { IsAttackerIn p.now attacker.now }
+    requires threats { AreThreatsIn p.now e threats.now }
+    ensures { AreThreatsIn p.now e result }
 {
-    let mut left = unpinnable_pieces(p);
-    let mut best = None;
+    let attacks = attacks_of(p, attacker.from, attacker.reach);
+    let own = p.as_board().own(p.side());
+    let (plain, promoting) = (own & attacks.plain, own & attacks.promoting);
+    let best = greatest_among(p, e, attacker, false, plain, threats.greatest);
+    Threats {
+        takes: threats.takes | attacks.plain,
+        greatest: greatest_among(p, e, attacker, true, promoting, best),
+    }
+}
+
+/// The threats of the side that is not to move.
+pub fn threats_of(p: &Position, e: Eval) -> Threats
+    ensures { AreThreatsIn p.now e result }
+{
+    let lines = line_squares(p, p.side().opponent());
+    let mut left = unpinnable_pieces(p, lines);
+    let mut threats = Threats {
+        takes: 0,
+        greatest: None,
+    };
     'attackers: while left != 0 {
         let square = lowest(left);
-        best = greatest_from(p, e, Square::of_index(square), best);
+        let attacker = attacker_at(p, Square::of_index(square), lines);
+        threats = with_attacker(p, e, &attacker, &threats);
         left = without_lowest(left, square);
     }
-    best
+    threats
+}
+
+/// Whether it slides.
+#[inline(always)]
+fn slides(piece: Option<Piece>) -> bool
+    ensures { result ≡ is_slider piece }
+{
+    match piece {
+        Some(piece) => piece.role.is_sliding(),
+        None => false,
+    }
 }
 
 impl Threat {
-    /// Whether a move that ends on the square lets the attacker and its way to the target be.
+    /// Whether a move that puts this on the square lets the attacker and its way to the target be.
     #[inline(always)]
-    fn is_aside(&self, to: Square) -> bool
-        ensures { result ≡ true → IsSparedAt self.now to }
+    fn is_aside(&self, to: Square, put: Option<Piece>) -> bool
+        ensures { result ≡ true → IsSparedAt self.now put to }
     {
         to.validity();
-        to.index() != self.from.index() && !has(self.reach, to.index())
+        let attacker = &self.attacker;
+        to.index() != attacker.from.index()
+            && !has(attacker.reach, to.index())
+            && !(has(attacker.line, to.index()) && slides(put))
     }
 
-    /// Whether the move lets the attacker, the target and the way between them be.
+    /// Whether the move, which puts this on its square, lets the attacker, the target and the way
+    /// between them be.
     #[inline(always)]
-    pub fn stands_after(&self, m: &Move) -> bool
-        ensures { result ≡ true → IsSparedBy self.now m.now }
+    fn stands_after(&self, m: &Move, put: Option<Piece>) -> bool
+        ensures { result ≡ true → IsSparedBy self.now put m.now }
     {
         match m {
             Move::Board { from, to, .. } => from.index() != self.target.index()
-                && self.is_aside(*to),
-            Move::Drop { to, .. } => self.is_aside(*to),
+                && self.is_aside(*to, put),
+            Move::Drop { to, .. } => self.is_aside(*to, put),
+        }
+    }
+}
+
+/// Where the move ends.
+#[inline(always)]
+fn end_of(m: &Move) -> Square
+    ensures { result ≡ end_of m.now }
+{
+    match m {
+        Move::Board { to, .. } => *to,
+        Move::Drop { to, .. } => *to,
+    }
+}
+
+impl Threats {
+    /// What the other side gains at least by one of these captures after the legal move, if that
+    /// gives no check; 0 where none of them surely stands.
+    #[inline(always)]
+    pub fn gain_after(&self, p: &Position, e: Eval, m: &Move) -> u32
+        requires threats { AreThreatsIn p.now e self.now }
+        requires valid { IsValid p.now }
+        requires legal { is_legal p.now m.now ≡ true }
+        ensures gain { 0 < result → TakesAfter p.now e m.now result }
+        ensures fits { result ≤ 4000 }
+    {
+        m.validity();
+        let put = put_by(p, m);
+        let end = end_of(m);
+        end.validity();
+        let retake = if has(self.takes, end.index()) {
+            taken_gain(e, put)
+        } else {
+            0
+        };
+        match &self.greatest {
+            Some(threat) if threat.gain > retake && threat.stands_after(m, put) => threat.gain,
+            _ => retake,
         }
     }
 }

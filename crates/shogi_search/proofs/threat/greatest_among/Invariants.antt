@@ -1,13 +1,15 @@
 use Rattle.std.proofs.Common.{◌≡◌, ◌<◌, ◌^◌, ℕ, true}
 use Rattle.std.specs.Option.{ForSome}
 use Rattle.shogi_core.specs.Bits.{has_bit}
+use Rattle.shogi_core.specs.Movement.{piece_at}
+use Rattle.shogi_eval.specs.Material.{promotion_gain}
 use Rattle.shogi_moves.specs.Threats.{IsThreat}
-use Rattle.shogi_search.specs.Threats.{IsThreatIn}
-use Rattle.shogi_search.proofs.threat.greatest_from.Given as goal
+use Rattle.shogi_search.specs.Threats.{IsAttackerIn, IsThreatIn}
+use Rattle.shogi_search.proofs.threat.greatest_among.Given as goal
 
 abbrev pub invariant-targets : goal.invariant-targets
 invariant-targets l = record {
-  threats : (t : ℕ) → t < 81 → has_bit l.left t ≡ true → IsThreat l.p l.from t;
+  threats : (t : ℕ) → t < 81 → has_bit l.left t ≡ true → IsThreat l.p l.attacker.from t l.promote;
   best : ForSome l.best (IsThreatIn l.p l.e);
   left : l.left < 2 ^ 81;
 }
