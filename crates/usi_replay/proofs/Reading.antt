@@ -1,30 +1,76 @@
 -- A script that is read to its end, and its output written.
-use Rattle.std.proofs.Common.{◌≡◌, ◌<◌, ℕ, List, [], ◌++◌, Option, None, Some, Result, IsErrAnd, IfErr, Ok, Err, refl, sym, ap, ◌∙◌, length, take}
+use Rattle.std.proofs.Common.{◌≡◌, ◌<◌, ℕ, List, [], ◌∷◌, ◌++◌, Option, None, Some, Result, IsErrAnd, IfErr, Ok, Err, refl, sym, ap, ◌∙◌, length, take}
 use Rattle.std.specs.Io.KnownBytes.{Appends, Consumes, IsAtEnd, Keeps}
 use Rattle.std.proofs.KnownBytes.{Consumes-nil, Consumes-trans, Consumes-kept, Keeps-refl, Keeps-trans}
-use Rattle.usi_stdio.specs.Calls.{Report, Reads}
-use Rattle.usi_stdio.specs.Saying.{Says, SaysPrefix}
+use Rattle.usi_stdio.specs.Calls.{Call, Read, Write, Flush, FailedRead, FailedWrite, FailedFlush, Report, Reads, read_call}
+use Rattle.usi_stdio.specs.Dialogue.{Talk, after_call, after_calls, no_call}
+use Rattle.usi_stdio.specs.Saying.{quiet, Says, SaysPrefix}
+use Rattle.usi_stdio.proofs.Talking.{after_both, after_one, called_none, called_then}
 use Rattle.usi_stdio.specs.declared.streams.StdioFault.{StdioFault}
 use Rattle.usi_replay.specs.declared.fault.ReplayFault.{ReplayFault}
 use Rattle.usi_replay.specs.declared.fault.ReplayFault.TheVariants.{OutOfMemory, ReadFailed, WriteFailed, BadScript}
-use Rattle.usi_replay.specs.Replayed.{GivesAll, Replays, Leaves, IsReadFault, IsAnswerFault, IsOutputOf}
+use Rattle.usi_replay.specs.Replayed.{FlushesAll, GivesAll, Replays, Leaves, IsReadFault, IsAnswerFault, IsOutputOf}
+
+-- ---- what is flushed
+
+flushes_none : (r : Report) → FlushesAll r r
+flushes_none r = record { calls = []; called = called_none r.calls; flushed = refl }
+
+read_flushes : {E : Type 0} (t : Talk) (result : Result ℕ E) (buf : List ℕ) → (after_call t (read_call result buf)).is_flushed ≡ t.is_flushed
+read_flushes t (Ok n) buf = refl
+read_flushes t (Err error) buf = refl
+
+flushes_read : {E : Type 0} (old mid now : Report) (buf : List ℕ) (result : Result ℕ E) → FlushesAll old mid → Reads mid now result buf → FlushesAll old now
+flushes_read old mid now buf result a r = record {
+  calls = a.calls ++ (read_call result buf ∷ []);
+  called = called_then old.calls mid.calls now.calls a.calls (read_call result buf ∷ []) a.called r.called;
+  flushed = ap (λ (t : Talk). t.is_flushed) (after_one no_call a.calls (read_call result buf)) ∙ (read_flushes (after_calls no_call a.calls) result buf ∙ a.flushed);
+}
+
+one_flush : (t u : Talk) (c : Call) → t.is_flushed ≡ u.is_flushed → (after_call t c).is_flushed ≡ (after_call u c).is_flushed
+one_flush t u (Read bytes) e = e
+one_flush t u (Write bytes) e = refl
+one_flush t u Flush e = refl
+one_flush t u FailedRead e = e
+one_flush t u FailedWrite e = e
+one_flush t u FailedFlush e = e
+
+same_flushes : (t u : Talk) (calls : List Call) → t.is_flushed ≡ u.is_flushed → (after_calls t calls).is_flushed ≡ (after_calls u calls).is_flushed
+same_flushes t u [] e = e
+same_flushes t u (c ∷ rest) e = same_flushes (after_call t c) (after_call u c) rest (one_flush t u c e)
+
+pub flushes_said : (old mid now : Report) (bytes : List ℕ) → FlushesAll old mid → Says mid now bytes → FlushesAll old now
+flushes_said old mid now bytes a s = record {
+  calls = a.calls ++ s.calls;
+  called = called_then old.calls mid.calls now.calls a.calls s.calls a.called s.called;
+  flushed = ap (λ (t : Talk). t.is_flushed) (after_both no_call a.calls s.calls)
+      ∙ (same_flushes (after_calls no_call a.calls) (quiet [] 0 []) s.calls a.flushed
+      ∙ ap (λ (t : Talk). t.is_flushed) (s.spoken.after [] 0 []));
+}
+
+-- ---- the reading
 
 -- these bytes were read so far, and nothing was written
 pub record IsReading (old now : Report) (bytes : List ℕ) : Type 0 where
   pub consumed : Consumes old.unread now.unread bytes
   pub kept : Keeps old.written now.written
+  pub flushed : FlushesAll old now
 
 pub reading_start : (r : Report) (bytes : List ℕ) → bytes ≡ [] → IsReading r r bytes
-reading_start r bytes none = rw none (record { consumed = Consumes-nil r.unread; kept = Keeps-refl r.written })
+reading_start r bytes none = rw none (record { consumed = Consumes-nil r.unread; kept = Keeps-refl r.written; flushed = flushes_none r })
 
 pub reading_more : {E : Type 0} (old mid now : Report) (bytes all buf : List ℕ) (n : ℕ) → IsReading old mid bytes → Reads {E = E} mid now (Ok n) buf → all ≡ bytes ++ take n buf → IsReading old now all
 reading_more old mid now bytes all buf n a r same = rw same (record {
   consumed = Consumes-trans old.unread mid.unread now.unread bytes (take n buf) a.consumed r.consumed.0;
   kept = Keeps-trans old.written mid.written now.written a.kept r.written;
+  flushed = flushes_read old mid now buf (Ok n) a.flushed r;
 })
 
 pub reading_kept : {E : Type 0} (old mid now : Report) (bytes buf : List ℕ) (result : Result ℕ E) → IsReading old mid bytes → Reads mid now result buf → Keeps old.written now.written
 reading_kept old mid now bytes buf result a r = Keeps-trans old.written mid.written now.written a.kept r.written
+
+pub reading_flushed : {E : Type 0} (old mid now : Report) (bytes buf : List ℕ) (result : Result ℕ E) → IsReading old mid bytes → Reads mid now result buf → FlushesAll old now
+reading_flushed old mid now bytes buf result a r = flushes_read old mid now buf result a.flushed r
 
 -- a read of nothing leaves the rest as it was
 none_read : (mid now : Option (List ℕ)) (buf : List ℕ) (n : ℕ) → Consumes mid now (take n buf) → n ≡ 0 → Keeps mid now

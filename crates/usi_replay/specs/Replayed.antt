@@ -1,7 +1,8 @@
 -- What `replay` does with its front end (own choice).
-use Rattle.std.specs.Prelude.{◌≡◌, ℕ, List, Option, Result, Ok, Err, MatchResult, Vec}
+use Rattle.std.specs.Prelude.{◌≡◌, ℕ, List, true, Option, Result, Ok, Err, MatchResult, Vec}
 use Rattle.std.specs.Io.KnownBytes.{Appends, Consumes, IsAtEnd, Keeps}
-use Rattle.usi_stdio.specs.Calls.{Report}
+use Rattle.usi_stdio.specs.Calls.{Call, Makes, Report}
+use Rattle.usi_stdio.specs.Dialogue.{after_calls, no_call}
 use Rattle.usi_stdio.specs.Stdio.{TakesPrefix}
 use Rattle.usi_replay.specs.declared.fault.ReplayFault.{ReplayFault}
 use Rattle.usi_replay.specs.declared.fault.ReplayFault.TheVariants.{OutOfMemory, ReadFailed, WriteFailed, BadScript}
@@ -78,6 +79,12 @@ GivesAll old new bytes = IsAllRead old.unread new.unread bytes
 -- the script's output was written
 abbrev pub Replays : ℕ → Report → Report → Type 0
 Replays slots old new = IsReplayed slots old.unread new.unread old.written new.written
+
+-- where calls are reported, those since leave nothing that was written unflushed
+pub record FlushesAll (old new : Report) : Type 0 where
+  pub calls : List Call
+  pub called : Makes old.calls new.calls calls
+  pub flushed : (after_calls no_call calls).is_flushed ≡ true
 
 -- what a fault leaves: only a write that failed leaves anything written
 abbrev pub Leaves : ℕ → Report → Report → ReplayFault → Type 0

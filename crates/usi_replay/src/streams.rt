@@ -2,7 +2,7 @@
 
 ghost use Rattle.std.specs.Prelude.{◌≤◌, OnOk, IfOk, IfErr};
 ghost use Rattle.std.specs.Io.KnownBytes.{Keeps};
-ghost use Rattle.usi_replay.specs.Replayed.{GivesAll, IsAnswerOf, IsReadFault, Leaves, Replays};
+ghost use Rattle.usi_replay.specs.Replayed.{FlushesAll, GivesAll, IsAnswerOf, IsReadFault, Leaves, Replays};
 ghost use Rattle.session_slots.specs.declared.limits.TheConstants.{SESSIONS_MAX};
 ghost use Rattle.shared_table.specs.declared.table.TheConstants.{CAPACITY_MAX};
 
@@ -23,6 +23,7 @@ fn read_all<A: Allocator, T: FrontEnd>(
     ensures read { IfOk result (λ bytes.
         GivesAll (T.report front_end.old) (T.report front_end.new) bytes.items) }
     ensures kept { Keeps (T.report front_end.old).written (T.report front_end.new).written }
+    ensures flushed { OnOk result (FlushesAll (T.report front_end.old) (T.report front_end.new)) }
     ensures fault { IfErr result IsReadFault }
 {
     let mut bytes = Vec::new(alloc);
@@ -119,6 +120,7 @@ pub fn replay<A: Allocator + Copy, T: FrontEnd>(
     requires most_entries { entries ≤ CAPACITY_MAX }
     requires least_slice { 1 ≤ slice }
     ensures ok { OnOk result (Replays slots (T.report front_end.old) (T.report front_end.new)) }
+    ensures flushed { OnOk result (FlushesAll (T.report front_end.old) (T.report front_end.new)) }
     ensures err { IfErr result (Leaves slots (T.report front_end.old) (T.report front_end.new)) }
 {
     let script = read_all(alloc, front_end)?;

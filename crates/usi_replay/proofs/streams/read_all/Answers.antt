@@ -1,6 +1,6 @@
 use Rattle.std.proofs.Common.{rules, arith}
 use Rattle.std.proofs.lemmas.Grind.{common_steps}
-use Rattle.usi_replay.proofs.Reading.{reading_start, reading_more, reading_kept, reading_done}
+use Rattle.usi_replay.proofs.Reading.{reading_start, reading_more, reading_flushed, reading_kept, reading_done}
 use Rattle.usi_replay.proofs.streams.read_all.Goals as goal
 
 pub chunks-init : goal.chunks-init
@@ -17,6 +17,9 @@ returns-then-n-eq0-clause-read g c =
 
 pub returns-then-n-eq0-clause-kept : goal.returns-then-n-eq0-clause-kept
 returns-then-n-eq0-clause-kept g c = reading_kept _ (g.T.FrontEnd.report c.chunks.front_end) _ _ _ _ c.chunks.invariant c.read.ensures
+
+pub returns-then-n-eq0-clause-flushed : goal.returns-then-n-eq0-clause-flushed
+returns-then-n-eq0-clause-flushed g c = reading_flushed _ (g.T.FrontEnd.report c.chunks.front_end) _ _ _ _ c.chunks.invariant c.read.ensures
 
 -- memory was refused
 pub returns-then-is_err-clause-kept : goal.returns-then-is_err-clause-kept

@@ -1,4 +1,4 @@
-use Rattle.usi_replay.proofs.Reading.{replays, leaves_write, leaves_read, leaves_answer, passed_on}
+use Rattle.usi_replay.proofs.Reading.{flushes_said, replays, leaves_write, leaves_read, leaves_answer, passed_on}
 use Rattle.usi_replay.proofs.streams.replay.Goals as goal
 
 -- the script was not read
@@ -14,6 +14,10 @@ returns-in_err-out-clause-err g c =
 pub returns-in-Ok-clause-ok : goal.returns-in-Ok-clause-ok
 returns-in-Ok-clause-ok g c =
     replays c.args.slots (g.T.FrontEnd.report c.args.front_end.now) (g.T.FrontEnd.report c.read_all.new.front_end) (g.T.FrontEnd.report c.write_out.new.front_end) c.as_slice.result.now c.in_ok-out.out.items (rw c.as_slice.ensures.value c.in_ok-script.ensures.read) c.in_ok-script.ensures.kept c.in_ok-out.ensures (rw c.as_slice-2.ensures.value at c.in-Ok.ensures.ok)
+
+pub returns-in-Ok-clause-flushed : goal.returns-in-Ok-clause-flushed
+returns-in-Ok-clause-flushed g c =
+    flushes_said (g.T.FrontEnd.report c.args.front_end.now) (g.T.FrontEnd.report c.read_all.new.front_end) (g.T.FrontEnd.report c.write_out.new.front_end) _ c.in_ok-script.ensures.flushed c.in-Ok.ensures.ok
 
 -- a write failed
 pub returns-clause-err : goal.returns-clause-err
