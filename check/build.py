@@ -48,6 +48,7 @@ USUAL = {
     "socket_loop": 170,
     "usi_stdio": 80,
     "usi_serve": 133,
+    "host_status": 60,
     "usi_replay": 130,
     "usi_words": 100,
     "usi_host": 208,

@@ -393,6 +393,26 @@ def picture_of_a_game():
     want([texts.count(str(number)) >= 2 for number in range(1, 6)], [True] * 5, "a mark for each")
 
 
+def table_of_a_status():
+    with tempfile.TemporaryDirectory() as folder:
+        path = os.path.join(folder, "status")
+        script = [sys.executable, "-B", os.path.join(EXAMPLES, "status.py")]
+        gone = subprocess.run([*script, path], capture_output=True, timeout=120, check=False)
+        want((gone.returncode, gone.stdout), (1, b""), "no host")
+        with Host(os.path.join(folder, "socket"), "--status", path, "--slots", "7") as host:
+            want_opening(Client(path=host.path, patience=20))
+            ended = subprocess.run([*script, path], capture_output=True, timeout=120, check=False)
+            rows = [line.rsplit(None, 1) for line in ended.stdout.decode().splitlines()]
+            seen = {label.strip(): number for label, number in rows}
+            want((ended.returncode, len(rows)), (0, 20), ended.stderr.decode())
+            want([seen["sessions at most"], seen["connections accepted"]], ["7", "1"], "the table")
+            watch = [*script, "--watch", path]
+            with subprocess.Popen(watch, stdout=subprocess.PIPE) as watching:
+                lines = [watching.stdout.readline() for _ in range(41)]
+                want((lines[0], lines[20]), (lines[21], b"\n"), "a second table")
+                watching.terminate()
+
+
 def mates_of_a_game():
     for move, table in [("5c5b+", MATE_MISSED), ("G*5b", MATE_FOUND)]:
         line = f"position sfen {MATE_IN_ONE} moves {move}\n"
@@ -440,6 +460,7 @@ if __name__ == "__main__":
                 moves_of_another_engine,
                 game_in_three_formats,
                 picture_of_a_game,
+                table_of_a_status,
                 mates_of_a_game,
                 records_that_cannot_be_read,
                 first_positions_of_records,

@@ -123,7 +123,7 @@ SLICES = (
     b"from 1 to 1000000000",
     b"[default: 500]",
 )
-SOCKET = (b"--socket", b"1 to 107 bytes", b"--turns", b"from 1 to 18446744073709551615")
+SOCKET = (b"--socket", b"1 to 107 bytes", b"--status", b"--turns", b"from 1 to 18446744073709551615")
 SCRIPT = (b"+A ", b"A TEXT", b"-A ", b"refused 1", b"3  ", b"usi_host replay --slots 2")
 HELPS = (
     (

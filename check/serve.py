@@ -5,6 +5,7 @@ flat, and that no descriptor leaked. Every socket lies in a temporary folder. It
 program; without it, the program that `make build` makes. Its last line is `N passed, M failed`."""
 
 import contextlib
+import json
 import multiprocessing
 import os
 import random
@@ -875,6 +876,184 @@ def want_of_memory_is_told():
         want(os.path.exists(path), False, "a socket before the host was made")
 
 
+# ---- the status
+
+
+@contextlib.contextmanager
+def told(*words, **how):
+    """A host that tells its status."""
+    with folder() as place:
+        path = os.path.join(place, "status")
+        running = Host(place, "--status", path, *words, **how)
+        running.status = path
+        wait_until(lambda: os.path.exists(path), "the socket of the status")
+        try:
+            yield running
+        finally:
+            running.stop()
+
+
+def status_client(running):
+    client = socket.socket(socket.AF_UNIX, socket.SOCK_STREAM)
+    client.settimeout(PATIENCE)
+    until = time.monotonic() + PATIENCE
+    while True:
+        try:
+            client.connect(running.status)
+            return client
+        except (ConnectionRefusedError, BlockingIOError):
+            if time.monotonic() > until:
+                raise
+            time.sleep(0.01)
+
+
+def status(running):
+    with status_client(running) as client:
+        line = to_the_end(client)
+    want(line.count(b"\n"), 1, "the lines of a status")
+    return json.loads(line)
+
+
+def picked(running, **wanted):
+    """These numbers of the status."""
+    seen = status(running)
+    want({name: seen.get(name) for name in wanted}, wanted, f"of {seen}")
+
+
+def until_status(running, what, **wanted):
+    """Waits until the status has these numbers."""
+    wait_until(lambda: all(status(running).get(name) == n for name, n in wanted.items()), what)
+
+
+def a_status_counts_what_happened():
+    with told("--slots", "3", "--entries", "500", "--slice", "70") as running:
+        version = subprocess.run(
+            [PROGRAM, "--version"], capture_output=True, timeout=PATIENCE, check=True
+        )
+        name = version.stdout.decode().split()[1]
+        picked(running, version=name, slots=3, used=0, searching=0, waiting=0, entries=500)
+        picked(running, slice=70, filled=0, accepted=0, full=0, bytes_in=0, bytes_out=0, faults=0)
+        first, second = running.connect(), running.connect()
+        first.sendall(b"isready\n")
+        want(exactly(first, 8), b"readyok\n", "the first")
+        until_status(running, "two clients", used=2, waiting=2, searching=0, accepted=2)
+        second.sendall(b"go depth 16\n")
+        want(exactly(second, len(DEPTH_ONE)), DEPTH_ONE, "the second")
+        until_status(running, "a search", used=2, waiting=1, searching=1)
+        if not 0 < status(running)["filled"] <= 500:
+            raise Wrong(f"the entries that are used: {status(running)}")
+        third = running.connect()
+        until_status(running, "the third", used=3)
+        want(running.ask(b""), HOST_FULL, "who finds the host full")
+        until_status(running, "who was turned away", accepted=4, full=1, used=3, finished=0)
+        # The line of who is turned away is among the bytes.
+        first.sendall(b"usi\nquit\n")
+        want(to_the_end(first), USI, "the first")
+        until_status(running, "the first is gone", finished=1, used=2, bytes_in=8 + 12 + 9)
+        third.close()
+        until_status(running, "the third is gone", finished=2, used=1, ended_reading=0)
+        with running.connect() as fourth:
+            fourth.sendall(b"go depth 16\n")
+            want(exactly(fourth, len(DEPTH_ONE)), DEPTH_ONE, "the fourth")
+        until_status(running, "a search whose client is gone", ended_writing=1)
+        picked(running, used=1, searching=1, accepted=5, full=1, finished=2, unopened=0)
+        second.close()
+
+
+def bytes_are_counted():
+    lines = b"usi\nisready\ngo depth 1\nquit\n"
+    answer = on_standard_input(lines)
+    with told() as running:
+        for number in range(1, 4):
+            want(running.ask(lines), answer, "a client")
+            until_status(running, "its end", finished=number)
+            picked(running, bytes_in=number * len(lines), bytes_out=number * len(answer), used=0)
+
+
+def sixty_four_status_clients_at_once():
+    with told("--slots", "2") as running, running.connect() as client:
+        client.sendall(b"isready\n")
+        want(exactly(client, 8), b"readyok\n", "a client")
+        before = running.descriptors()
+        running.running.send_signal(signal.SIGSTOP)
+        clients = [status_client(running) for _ in range(64)]
+        client.sendall(b"go depth 1\n")
+        running.running.send_signal(signal.SIGCONT)
+        for seen in [to_the_end(other) for other in clients]:
+            want(json.loads(seen)["slots"], 2, "one of 64")
+        want(exactly(client, len(GO_DEPTH_ONE)), GO_DEPTH_ONE, "a client beside them")
+        for other in clients:
+            other.close()
+        wait_until(lambda: running.descriptors() == before, "each descriptor is closed")
+        before = running.seconds()
+        time.sleep(0.3)
+        if running.seconds() - before > 0.15:
+            raise Wrong("it spins after 64 status clients")
+
+
+def hostile_status_clients():
+    with told() as running:
+        picked(running, accepted=0)
+        before = running.descriptors()
+        silent = [status_client(running) for _ in range(20)]
+        for client in [status_client(running) for _ in range(20)]:
+            with contextlib.suppress(BrokenPipeError, ConnectionResetError):
+                client.sendall(b"\xff garbage\n" * 1_000)
+            want(json.loads(to_the_end(client))["used"], 0, "one that sends garbage")
+            client.close()
+        for _ in range(50):
+            status_client(running).close()
+        want(running.ask(b"go\n"), DEPTH_THREE, "a client beside them")
+        wait_until(lambda: running.descriptors() == before, "those that do not read are closed")
+        for client in silent:
+            client.close()
+        picked(running, accepted=1, used=0, bytes_in=3)
+
+
+def a_status_while_the_host_is_full():
+    with told("--slots", "2", "--slice", "7") as running, contextlib.ExitStack() as stack:
+        for _ in range(2):
+            stack.enter_context(running.connect()).sendall(b"go depth 16\n")
+        until_status(running, "two searches", used=2, searching=2)
+        for number in range(1, 4):
+            want(running.ask(b"isready\n"), HOST_FULL, "who finds it full")
+            until_status(running, "it is counted", full=number, used=2)
+
+
+def a_status_socket_that_cannot_be_made_is_told():
+    with folder() as place:
+        there = os.path.join(place, "there")
+        with open(there, "wb"):
+            pass
+        path = os.path.join(place, "socket")
+        left = os.path.join(place, "left")
+        with socket.socket(socket.AF_UNIX) as gone:
+            gone.bind(left)
+        listens = os.path.join(place, "listens")
+        listener = socket.socket(socket.AF_UNIX)
+        listener.bind(listens)
+        listener.listen(1)
+        failed = b"usi_host: status socket failed"
+        for other, why in (
+            (there, b"\n"),
+            ("", b"\n"),
+            (os.path.join(place, "no", "folder"), b"\n"),
+            (left, b": nobody listens at it; remove it, and start again\n"),
+            (listens, b": a process listens at it already; take another path\n"),
+            (path, b": a process listens at it already; take another path\n"),
+        ):
+            ended = subprocess.run(
+                [PROGRAM, "serve", "--socket", path, f"--status={other}"],
+                capture_output=True,
+                timeout=PATIENCE,
+                check=False,
+            )
+            seen = (ended.returncode, ended.stdout, ended.stderr)
+            want(seen, (1, b"", failed + why), f"a status at {other!r}")
+            os.unlink(path)
+        listener.close()
+
+
 def words_of_serve():
     with folder() as place:
         spaced = os.path.join(place, "a b")
@@ -896,6 +1075,9 @@ def words_of_serve():
         ["--socket", "s", "--entries", "0"],
         ["--socket", "s", "--slice", "1000000001"],
         ["--socket", "s", "--socket", "s"],
+        ["--socket", "s", "--status"],
+        ["--socket", "s", "--status", "t", "--status", "t"],
+        ["--status", "t"],
         ["s"],
     ):
         ended = subprocess.run(
@@ -907,7 +1089,7 @@ def words_of_serve():
     for words in (["serve", "--help"], ["help", "serve"]):
         ended = subprocess.run([PROGRAM, *words], capture_output=True, timeout=PATIENCE, check=False)
         want((ended.returncode, ended.stderr), (0, b""), f"{words}")
-        for part in (b"--socket <PATH>", b"--turns", b"host full"):
+        for part in (b"--socket <PATH>", b"--status <PATH>", b"--turns", b"host full"):
             if part not in ended.stdout:
                 raise Wrong(f"{words}: no {part} in {ended.stdout!r}")
 
@@ -938,6 +1120,12 @@ CHECKS = (
     a_socket_that_cannot_be_made_is_told,
     a_socket_that_was_left_is_told_from_a_live_one,
     want_of_memory_is_told,
+    a_status_counts_what_happened,
+    bytes_are_counted,
+    sixty_four_status_clients_at_once,
+    hostile_status_clients,
+    a_status_while_the_host_is_full,
+    a_status_socket_that_cannot_be_made_is_told,
     words_of_serve,
 )
 

@@ -42,3 +42,17 @@ IsOfSocket serving.ReadFailed = ⊥
 IsOfSocket serving.SocketFailed = Unit {0}
 IsOfSocket serving.SocketTaken = Unit {0}
 IsOfSocket serving.SocketLeft = Unit {0}
+IsOfSocket serving.StatusFailed = ⊥
+IsOfSocket serving.StatusTaken = ⊥
+IsOfSocket serving.StatusLeft = ⊥
+
+-- a fault of the socket of the status
+abbrev pub IsOfStatus : ServeFault → Type 0
+IsOfStatus serving.OutOfMemory = ⊥
+IsOfStatus serving.ReadFailed = ⊥
+IsOfStatus serving.SocketFailed = ⊥
+IsOfStatus serving.SocketTaken = ⊥
+IsOfStatus serving.SocketLeft = ⊥
+IsOfStatus serving.StatusFailed = Unit {0}
+IsOfStatus serving.StatusTaken = Unit {0}
+IsOfStatus serving.StatusLeft = Unit {0}

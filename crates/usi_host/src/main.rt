@@ -11,8 +11,9 @@ mod refusal;
 mod serving;
 
 use host_core::Host;
+use host_status::{Limits, StatusSocket};
 use refusal::{FAULT, complaint, status};
-use serving::{ServeFault, socket_fault};
+use serving::{ServeFault, socket_fault, status_fault};
 use socket_loop::Loop;
 use std::alloc::Global;
 use std::hash::RandomState;
@@ -115,11 +116,27 @@ fn bound(rt: &HostRuntime, socket: &str) -> Result<MioWire<Global>, ServeFault> 
     }
 }
 
-/// A host on a Unix socket at this path, for so many turns. Strangers share its table, so the hash of
+/// A socket for the status at the path, watched by the wire of another socket.
+fn bound_status(
+    rt: &HostRuntime,
+    status: &str,
+    limits: Limits,
+    wire: &MioWire<Global>,
+) -> Result<StatusSocket<Global>, ServeFault> {
+    match StatusSocket::bind(rt, rt.alloc(), status, limits, wire) {
+        Ok(bound) => Ok(bound),
+        Err(WireFault::Device) => Err(status_fault(rt, status)),
+        Err(WireFault::OutOfMemory) => Err(ServeFault::OutOfMemory),
+    }
+}
+
+/// A host on a Unix socket at this path, for so many turns, and where there is another path its status
+/// on one there. Strangers share its table, so the hash of
 /// the table has a seed that they can't know.
 fn run_socket(
     rt: &HostRuntime,
     socket: &str,
+    status: &Option<String>,
     slots: usize,
     entries: usize,
     slice: u64,
@@ -139,7 +156,18 @@ fn run_socket(
         return Err(ServeFault::OutOfMemory);
     };
     let mut wire = bound(rt, socket)?;
-    serve(&mut host, &mut connections, &mut wire, &mut Unseen, turns)?;
+    match status {
+        None => serve(&mut host, &mut connections, &mut wire, &mut Unseen, turns)?,
+        Some(status) => {
+            let limits = Limits {
+                slots: slots as u64,
+                entries: entries as u64,
+                slice,
+            };
+            let mut monitor = bound_status(rt, status.as_str(), limits, &wire)?;
+            serve(&mut host, &mut connections, &mut wire, &mut monitor, turns)?;
+        }
+    }
     Ok(())
 }
 
@@ -158,13 +186,13 @@ fn main(rt: HostRuntime) -> ExitCode {
         Ok(
             Job::Serve {
                 socket,
-                status: _,
+                status,
                 slots,
                 entries,
                 slice,
                 turns,
             },
-        ) => match run_socket(&rt, socket.as_str(), slots, entries, slice, turns) {
+        ) => match run_socket(&rt, socket.as_str(), &status, slots, entries, slice, turns) {
             Ok(()) => ExitCode::SUCCESS,
             Err(fault) => complain(&rt, fault.complaint(), fault.status()),
         },

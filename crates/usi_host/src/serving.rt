@@ -2,7 +2,7 @@
 
 ghost use Rattle.std.specs.Prelude.{◌≡◌};
 ghost use Rattle.usi_host.specs.Refusals.{serve_complaint};
-ghost use Rattle.usi_host.specs.Statuses.{of_host, of_wire, serve_status, IsOfSocket};
+ghost use Rattle.usi_host.specs.Statuses.{of_host, of_wire, serve_status, IsOfSocket, IsOfStatus};
 
 use crate::refusal::FAULT;
 use host_core::HostFault;
@@ -28,6 +28,12 @@ pub enum ServeFault {
     /// It could not be made: the socket at the path has nobody who listens, as that of a host that has
     /// ended.
     SocketLeft,
+    /// The socket of the status could not be made.
+    StatusFailed,
+    /// It could not be made: a process listens at the path.
+    StatusTaken,
+    /// It could not be made: the socket at the path has nobody who listens.
+    StatusLeft,
 }
 
 impl From<HostFault> for ServeFault {
@@ -75,6 +81,17 @@ pub fn socket_fault<R: Files + Net>(rt: &R, path: &str) -> ServeFault
     }
 }
 
+/// The same of the socket of the status.
+pub fn status_fault<R: Files + Net>(rt: &R, path: &str) -> ServeFault
+    ensures { IsOfStatus result }
+{
+    match socket_fault(rt, path) {
+        ServeFault::SocketTaken => ServeFault::StatusTaken,
+        ServeFault::SocketLeft => ServeFault::StatusLeft,
+        _ => ServeFault::StatusFailed,
+    }
+}
+
 impl ServeFault {
     /// The status with which the program ends.
     pub fn status(self) -> u8
@@ -96,6 +113,13 @@ impl ServeFault {
             }
             ServeFault::SocketLeft => {
                 "usi_host: socket failed: nobody listens at it; remove it, and start again\n"
+            }
+            ServeFault::StatusFailed => "usi_host: status socket failed\n",
+            ServeFault::StatusTaken => {
+                "usi_host: status socket failed: a process listens at it already; take another path\n"
+            }
+            ServeFault::StatusLeft => {
+                "usi_host: status socket failed: nobody listens at it; remove it, and start again\n"
             }
         }
     }

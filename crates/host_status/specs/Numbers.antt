@@ -1,0 +1,54 @@
+-- The numbers of a status (own choice).
+use Rattle.std.specs.Prelude.{ℕ, ◌+◌, ◌-◌, ◌^◌, length, min}
+use Rattle.host_core.specs.Steps.{HostState}
+use Rattle.socket_loop.specs.Links.{links_of}
+use Rattle.socket_loop.specs.Turns.{LoopState}
+use Rattle.socket_loop.specs.Tallies.{pending_count}
+use Rattle.socket_loop.specs.declared.tally.Tally.{Tally}
+use Rattle.host_status.specs.declared.numbers.Limits.{Limits}
+use Rattle.host_status.specs.declared.numbers.Totals.{Totals}
+use Rattle.host_status.specs.declared.numbers.Status.{Status}
+
+-- so many more; the sum stays at the greatest number once it is there
+abbrev pub plus : ℕ → ℕ → ℕ
+plus sum more = min (sum + more) (2 ^ 64 - 1)
+
+-- no turn yet
+abbrev pub no_totals : Totals
+no_totals = record {
+  turns = 0;
+  accepted = 0;
+  full = 0;
+  unopened = 0;
+  ended_reading = 0;
+  ended_writing = 0;
+  finished = 0;
+  refused_work = 0;
+}
+
+-- one more turn, of these numbers
+abbrev pub counted : Totals → Tally → Totals
+counted totals tally = record {
+  turns = plus totals.turns 1;
+  accepted = plus totals.accepted tally.accepted;
+  full = plus totals.full tally.full;
+  unopened = plus totals.unopened tally.unopened;
+  ended_reading = plus totals.ended_reading tally.ended_reading;
+  ended_writing = plus totals.ended_writing tally.ended_writing;
+  finished = plus totals.finished tally.finished;
+  refused_work = plus totals.refused_work tally.refused;
+}
+
+-- the numbers of a host and its connections, with what was read and written and how many calls failed
+abbrev pub status_from : Limits → Totals → HostState → LoopState → ℕ → ℕ → ℕ → Status
+status_from limits totals host peers received sent faults = record {
+  limits = limits;
+  totals = totals;
+  used = length peers.held;
+  searching = pending_count host (links_of peers.held);
+  filled = length host.table.pairs;
+  refused_notes = host.table.refused;
+  received = received;
+  sent = sent;
+  faults = faults;
+}
