@@ -95,14 +95,18 @@ impl Notes {
         }
     }
 
-    /// Takes the move that cut off a node of the depth.
+    /// Takes the move that cut off a node of the depth: in front, and the others without it behind.
     fn keep_killer(&mut self, depth: u8, code: u16) {
-        let last = self.killers_at(depth);
+        let others = self.killers_at(depth);
         let first = self.plies_to(depth).saturating_mul(4);
-        if depth > 2 && first < 65 && last[0] != Some(code) {
+        if depth > 2 && first < 65 {
             self.killers[first] = Some(code);
-            for place in 0..3usize {
-                self.killers[first + 1 + place] = last[place];
+            let mut kept = 0;
+            for killer in others {
+                if kept < 3 && killer != Some(code) {
+                    kept += 1;
+                    self.killers[first + kept] = killer;
+                }
             }
         }
     }

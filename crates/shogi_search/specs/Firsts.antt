@@ -1,5 +1,5 @@
 -- The moves that a node visits first, by their codes (own choice).
-use Rattle.std.specs.Prelude.{ℕ, ◌≡◌, ◌==◌, Bool, true, ◌&&◌, ◌||◌, not, cond, Option, Some, None, MatchOption, List, [], ◌∷◌, ◌++◌, length, filter, drop, take, slice_index}
+use Rattle.std.specs.Prelude.{ℕ, ◌≡◌, ◌==◌, Bool, true, ◌&&◌, ◌||◌, not, cond, Option, Some, None, MatchOption, List, [], ◌∷◌, ◌++◌, length, filter, drop, remove, take, slice_index}
 use Rattle.shogi_core.specs.declared.moves.Move.{Move}
 use Rattle.shogi_core.specs.Codes.{code_of}
 use Rattle.shogi_core.specs.Position.{Shogi}
@@ -27,10 +27,13 @@ abbrev pub with_each : List ℕ → List ℕ → List ℕ
 with_each codes [] = codes
 with_each codes (code ∷ more) = with_each (with_first codes code) more
 
--- the killers of a place, the last one first, once a move has cut off one more node there
+-- the killers of a place, the last one first, once a move has cut off one more node there: one of them moves to the front, and for another move the last one goes
 abbrev pub with_killer : List ℕ → ℕ → List ℕ
 with_killer killers code =
-    cond (slice_index killers 0 == code) killers (code ∷ take 3 killers)
+    cond (slice_index killers 0 == code) killers
+    (cond (slice_index killers 1 == code) (code ∷ remove killers 1)
+    (cond (slice_index killers 2 == code) (code ∷ remove killers 2)
+    (code ∷ take 3 killers)))
 
 -- the legal ones of these from a place on
 abbrev pub legal_firsts : Shogi → List ℕ → ℕ → List ℕ

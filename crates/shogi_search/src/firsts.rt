@@ -16,12 +16,19 @@ pub const FIRSTS_MAX: usize = 6;
 /// How many killers are kept of a place: moves that cut off nodes there.
 pub const KILLERS: usize = 4;
 
-/// The killers, by their codes, the last one first, once a move has cut off one more node.
+/// The killers, by their codes, the last one first, once a move has cut off one more node: one of
+/// them moves to the front, and for another move the last one goes.
 pub fn with_killer(killers: &[u16; KILLERS], code: u16) -> [u16; KILLERS]
     ensures { result ≡ with_killer killers.now code }
 {
     if killers[0] == code {
         return *killers;
+    }
+    if killers[1] == code {
+        return [code, killers[0], killers[2], killers[3]];
+    }
+    if killers[2] == code {
+        return [code, killers[0], killers[1], killers[3]];
     }
     [code, killers[0], killers[1], killers[2]]
 }
