@@ -1,8 +1,8 @@
 #!/usr/bin/env bash
 # The gate. First what the READMEs show, and `rt ci`: every proof, each edit that must be refused, each
 # test, each program; what an earlier run passed on this machine is kept there by checksums. Then the
-# program and the library for C are built and used as their users do. At the end, or where it is cut off, it tells what it cost,
-# and shows again what failed. The last line counts all of it.
+# program and the library for C are built and used as their users do. At the end, or where it is cut
+# off, it tells what it cost, and shows again what failed. The last line counts all of it.
 set -uo pipefail
 cd "$(dirname "$0")/.."
 log=$(mktemp)

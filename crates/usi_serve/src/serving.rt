@@ -24,8 +24,9 @@ impl<W, S: BuildHasher, A: Allocator + Copy> Monitor<W, S, A> for Unseen {
     fn see(&mut self, _turn: &Turn, _host: &Host<S, A>, _peers: &Loop<A>, _wire: &W) {}
 }
 
-/// Takes so many turns, shows each to the monitor, and waits after each of them, the last one too: until something may be ready
-/// where the turn did not move, and not at all where it did. A wait that fails ends it, with its fault.
+/// Takes so many turns, shows each to the monitor, and waits after each of them, the last one too:
+/// until something may be ready where the turn did not move, and not at all where it did. A wait that
+/// fails ends it, with its fault.
 /// Each connection of the loop is accepted from this wire and each session opened in this host.
 pub fn serve<W: Wire, S: BuildHasher, A: Allocator + Copy, M: Monitor<W, S, A>>(
     host: &mut Host<S, A>,
