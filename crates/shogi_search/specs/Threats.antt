@@ -43,6 +43,10 @@ pub record AreThreatsIn (p : Shogi) (e : Eval) (threats : Threats) : Type 0 wher
   pub takes : (n : ℕ) → n < 81 → has_bit threats.takes n ≡ true → ∥ IsAttacked p n ∥₁
   pub greatest : ForSome threats.greatest (IsThreatIn p e)
 
+-- threats are in the position, once they were looked for
+abbrev pub AreSomeThreats : Shogi → Eval → Option Threats → Type 0
+AreSomeThreats p e threats = ForSome threats (AreThreatsIn p e)
+
 -- in each position that has it, a move that puts this on the square lets its attacker and its way to the target be
 abbrev pub IsSparedAt : Threat → Option Piece → ℕ → Type 0
 IsSparedAt threat put to = (p : Shogi) (e : Eval) (m : Move) → IsThreatIn p e threat

@@ -5,8 +5,8 @@
 //! stands at `Search`. A step enters a node, leaves a node, or has a child or the root answered at
 //! once: a child by the memo, and either where one ply is left or none, by `last_ply`. `Search`
 //! counts them in slices. The order is `MovePicker`: some moves first (`firsts`), then captures, then
-//! the other moves, each by rising code. Moves that cannot matter are passed in `frame`, by `losses`, the
-//! window of `window` and a `threat`.
+//! the other moves, each by rising code. Moves that cannot matter are passed in `pruning`, by `losses`,
+//! the window of `window` and a `threat`.
 #![tactic(auto)]
 
 mod firsts;
@@ -16,6 +16,7 @@ mod full_search;
 mod losses;
 mod memo;
 mod move_picker;
+mod pruning;
 mod ranks;
 mod sliced_search;
 mod stack;

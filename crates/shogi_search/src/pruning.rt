@@ -1,0 +1,290 @@
+//! What is pruned at a node of depth 2: moves that surely are not worth enough.
+
+ghost use Rattle.std.specs.Prelude.{◌≡◌, ◌≤ℤ◌, pos, true, false};
+ghost use Rattle.shogi_moves.specs.Escapes.{AreEscapes};
+
+use crate::frame::{Frame, Waiting};
+use crate::losses::{loss_of_drops, quiet_squares};
+use crate::move_picker::MovePicker;
+use crate::threat::threats_of;
+use crate::window::threshold_at;
+use shogi_core::Move;
+use shogi_moves::{Replies, escape_squares, leaves_escape};
+
+impl Frame {
+    ghost use Rattle.shogi_search.specs.Frames.{HasReply, IsLostWhere, IsWorthAtMost, RepliesLoseAtMost};
+    ghost use Rattle.shogi_search.specs.Stack.{IsSame, KeepsMoves, AsksFor, PrunesRow};
+    ghost use Rattle.shogi_search.specs.Visits.{IsCurrent};
+
+    /// Notes what shows which moves surely have a reply, where it is not noted yet.
+    fn look_ahead(&mut self)
+        ensures { KeepsMoves self.old self.new }
+    {
+        if !self.has_replies {
+            self.replies = Replies::of(self.node.as_position());
+            self.has_replies = true;
+        }
+    }
+
+    /// The squares to which the other side's king may go, which are noted.
+    fn look_for_escapes(&mut self) -> u128
+        ensures escapes { AreEscapes self.old.node.position result }
+        ensures kept { KeepsMoves self.old self.new }
+    {
+        if let Some(squares) = self.escapes {
+            return squares;
+        }
+        let squares = escape_squares(self.node.as_position());
+        self.escapes = Some(squares);
+        squares
+    }
+
+    /// The squares to which the other side's king may go, where they were looked for, and else
+    /// none.
+    #[inline(always)]
+    fn known_escapes(&self) -> u128
+        ensures { AreEscapes self.now.node.position result }
+    {
+        match self.escapes {
+            Some(squares) => squares,
+            None => 0,
+        }
+    }
+
+    /// Whether it is certain without making the current move that the other side has a legal move
+    /// after it: one that it has where no check is given, or a step of its king out of that check.
+    fn is_answered(&mut self, current: &Move) -> bool
+        requires current { IsCurrent self.old.waiting current.now }
+        ensures some { result ≡ true → HasReply self.new current.now }
+        ensures kept { KeepsMoves self.old self.new }
+    {
+        self.look_ahead();
+        current.validity();
+        if self.replies.is_certain(self.node.as_position(), current) {
+            return true;
+        }
+        let escapes = self.look_for_escapes();
+        leaves_escape(self.node.as_position(), escapes, current)
+    }
+
+    /// The most that a reply takes from the material of its side: what a drop of the other side may
+    /// lose.
+    #[inline(always)]
+    fn loss_after(&self) -> i32
+        ensures loss { RepliesLoseAtMost self.now result }
+        ensures least { pos 0 ≤ℤ result }
+        ensures most { result ≤ℤ pos 100 }
+    {
+        let p = self.node.as_position();
+        loss_of_drops(p, p.side().opponent(), self.node.eval())
+    }
+
+    /// What the current move of a node of depth 2 is worth at most, where the other side has a legal
+    /// move after it: that move, whichever it is, leaves it its material, or what a drop of it loses
+    /// less.
+    #[inline(always)]
+    fn most_after(&self, current: &Move) -> i32
+        requires current { IsCurrent self.now.waiting current.now }
+        requires last { self.now.depth ≡ 2 }
+        ensures most { HasReply self.now current.now → IsWorthAtMost self.now current.now result }
+    {
+        current.validity();
+        self.loss_after() - self.node.score_after(current)
+    }
+
+    /// Looks for threats of the other side, once a move was gone through and not good enough or where
+    /// the material alone is not enough; before that none may be needed.
+    fn look_for_threats(&mut self)
+        ensures { KeepsMoves self.old self.new }
+    {
+        if self.threats.is_none() && (self.has_move || self.node.score() < self.beta) {
+            self.threats = Some(threats_of(self.node.as_position(), self.node.eval()));
+        }
+    }
+
+    /// Whether a threat makes the current move of a node of depth 2 not worth enough, if it gives no
+    /// check.
+    #[inline(always)]
+    fn loses(&self, current: &Move) -> bool
+        requires current { IsCurrent self.now.waiting current.now }
+        requires last { self.now.depth ≡ 2 }
+        ensures { result ≡ true → IsLostWhere self.now current.now }
+    {
+        let Some(threats) = &self.threats else {
+            return false;
+        };
+        current.validity();
+        let p = self.node.as_position();
+        let gain = threats.gain_after(p, self.node.eval(), current);
+        if gain == 0 {
+            return false;
+        }
+        0 - self.node.score_after(current) - gain as i32 <= self.threshold(current)
+    }
+
+    /// Passes the current move of a node of depth 2, where it is certain without making it that it
+    /// is not worth enough since a threat stands after it, and returns whether it did.
+    fn prune_under_threat(&mut self, current: &Move) -> bool
+        requires asked { self.old.waiting ≡ Waiting.Asked current.now }
+        requires last { self.old.depth ≡ 2 }
+        ensures next { result ≡ true → self.new.waiting ≡ Waiting.Next }
+        ensures asked { result ≡ false → self.new.waiting ≡ self.old.waiting }
+        ensures picker { self.new.picker ≡ self.old.picker }
+        ensures same { IsSame self.old self.new }
+    {
+        self.look_for_threats();
+        if !self.loses(current) {
+            return false;
+        }
+        self.look_ahead();
+        current.validity();
+        let certain = self.replies.is_certain(self.node.as_position(), current);
+        if !certain {
+            return false;
+        }
+        self.fail_low();
+        true
+    }
+
+    /// Passes the current move of a node of depth 2, where it is certain without making it that it
+    /// is not worth enough, and returns whether it did.
+    #[inline(always)]
+    fn prune(&mut self, current: &Move) -> bool
+        requires asked { self.old.waiting ≡ Waiting.Asked current.now }
+        requires last { self.old.depth ≡ 2 }
+        ensures next { result ≡ true → self.new.waiting ≡ Waiting.Next }
+        ensures asked { result ≡ false → self.new.waiting ≡ self.old.waiting }
+        ensures picker { self.new.picker ≡ self.old.picker }
+        ensures same { IsSame self.old self.new }
+    {
+        if self.most_after(current) > self.threshold(current) {
+            return self.prune_under_threat(current);
+        }
+        if !self.is_answered(current) {
+            return false;
+        }
+        self.fail_low();
+        true
+    }
+
+    /// Passes the next moves of a node of depth 2 on the board that take nothing, while it is certain
+    /// without making them that the other side has a legal move, where no such move is worth enough;
+    /// those that promote only where no promotion is.
+    fn prune_quiets(&mut self)
+        requires next { self.old.waiting ≡ Waiting.Next }
+        requires last { self.old.depth ≡ 2 }
+        ensures { PrunesRow self.old self.new }
+    {
+        let Some(code) = self.picker.quiets() else {
+            return;
+        };
+        let threshold = threshold_at(self.best_value, &self.best_move, code);
+        let room = threshold - self.loss_after() - self.node.score();
+        if room < 0 {
+            return;
+        }
+        let among = quiet_squares(self.node.as_position(), room as u32);
+        let escapes = self.known_escapes();
+        self.picker
+            .pass_quiets(self.node.as_position(), &among, &self.replies, escapes);
+    }
+
+    /// The same of the drops of the kind that is under way; whether none of that kind is left, and
+    /// those of another one are under way.
+    fn prune_kind(&mut self) -> bool
+        requires next { self.old.waiting ≡ Waiting.Next }
+        requires last { self.old.depth ≡ 2 }
+        ensures { PrunesRow self.old self.new }
+    {
+        let Some((kind, code)) = self.picker.drops() else {
+            return false;
+        };
+        let threshold = threshold_at(self.best_value, &self.best_move, code);
+        if self.node.score_after_drop(kind) < self.loss_after() - threshold {
+            return false;
+        }
+        let escapes = self.known_escapes();
+        self.picker
+            .pass_drops(self.node.as_position(), &self.replies, escapes);
+        self.picker.turn_to_kind(self.node.as_position())
+    }
+
+    /// The same of the drops, kind after kind.
+    fn prune_drops(&mut self)
+        requires next { self.old.waiting ≡ Waiting.Next }
+        requires last { self.old.depth ≡ 2 }
+        ensures { PrunesRow self.old self.new }
+    {
+        'kinds: for _ in 0..7u8 {
+            if !self.prune_kind() {
+                return;
+            }
+        }
+    }
+
+    /// Turns to the quiet moves where no capture is left.
+    fn turn_to_quiets(&mut self)
+        requires next { self.old.waiting ≡ Waiting.Next }
+        ensures { PrunesRow self.old self.new }
+    {
+        self.picker.turn_to_quiets(self.node.as_position());
+    }
+
+    /// Turns to the drops where no quiet move on the board is left.
+    fn turn_to_drops(&mut self)
+        requires next { self.old.waiting ≡ Waiting.Next }
+        ensures { PrunesRow self.old self.new }
+    {
+        self.picker.turn_to_drops(self.node.as_position());
+    }
+
+    /// Passes the next moves of a node of depth 2 as these do, once a move was gone through and not
+    /// good enough; each row before the first of its moves is looked for. In check few of the moves
+    /// of a row are legal, and each of these is looked at by itself.
+    #[inline(always)]
+    fn prune_rows(&mut self)
+        requires next { self.old.waiting ≡ Waiting.Next }
+        requires last { self.old.depth ≡ 2 }
+        ensures { PrunesRow self.old self.new }
+    {
+        if !self.has_move || self.picker.is_checked(self.node.as_position()) {
+            return;
+        }
+        self.turn_to_quiets();
+        if let MovePicker::Captures(_, _) = self.picker {
+            return;
+        }
+        self.prune_quiets();
+        self.turn_to_drops();
+        self.prune_drops();
+    }
+
+    /// The same at depth 2, where the moves that surely are not worth enough are passed.
+    fn worthy_move(&mut self) -> Option<Move>
+        requires next { self.old.waiting ≡ Waiting.Next }
+        requires last { self.old.depth ≡ 2 }
+        ensures { AsksFor result self.old self.new }
+    {
+        self.prune_rows();
+        'moves: while let Some(current) = self.pick_move() {
+            if !self.prune(&current) {
+                return Some(current);
+            }
+            self.prune_rows();
+        }
+        None
+    }
+
+    /// Asks for the answer of the next move, where there is one. At depth 2 the moves that surely are
+    /// not worth enough are passed.
+    #[inline(always)]
+    pub fn next_move(&mut self) -> Option<Move>
+        requires next { self.old.waiting ≡ Waiting.Next }
+        ensures { AsksFor result self.old self.new }
+    {
+        if self.depth == 2 {
+            return self.worthy_move();
+        }
+        self.pick_move()
+    }
+}
