@@ -62,6 +62,11 @@ pub record IsLeast (p : Shogi) (meets : ℕ → Type 0) (code : ℕ) : Type 0 wh
 abbrev pub NoneMeets : Shogi → (ℕ → Type 0) → Type 0
 NoneMeets p meets = (n : ℕ) → is_in n (legal_codes p) ≡ true → meets n → ⊥
 
+-- what stands on the square has no legal move
+abbrev pub HasNoneFrom : Shogi → ℕ → Type 0
+HasNoneFrom p from = (n : ℕ) (promote : Bool) → n < 81
+    → is_legal_code p (code_of (Board from n promote)) ≡ true → ⊥
+
 -- the move scores this
 abbrev pub Scores : Evaluated → ℤ → ℕ → Type 0
 Scores node v code = score_at node.position node.eval code ≡ v

@@ -38,7 +38,7 @@ impl Scene<'_> {
         ensures { result ≡ true → NodeHasScore self.now.node.now
             (material_of self.now.node.now.position self.now.node.now.eval) }
     {
-        let mut left = self.own;
+        let mut left = self.movable();
         while left != 0 {
             let square = lowest(left);
             let from = Square::of_index(square);

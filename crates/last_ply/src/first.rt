@@ -114,7 +114,7 @@ impl Scene<'_> {
             → NoneScoresFrom self.now.node.now score n }
     {
         if score <= self.node.score() {
-            return self.own;
+            return self.movable();
         }
         self.gainers(score - 1)
     }

@@ -15,7 +15,7 @@ ghost use Rattle.shogi_moves.specs.Rising.{is_in};
 ghost use Rattle.shogi_eval.specs.declared.points.TheConstants.{PIECE_VALUE_MAX, POINTS_MAX};
 ghost use Rattle.shogi_eval.specs.Material.{material_of, promotion_gain, taken_gain};
 ghost use Rattle.last_ply.specs.declared.gains.TheConstants.{PROMOTION_GAIN_MAX};
-ghost use Rattle.last_ply.specs.LastPly.{score_at, NodeHasScore, NodeScoresAtMost, ScoresFromAtMost, ScoresAmongAtMost, TakesTooLittle};
+ghost use Rattle.last_ply.specs.LastPly.{score_at, HasNoneFrom, NodeHasScore, NodeScoresAtMost, ScoresFromAtMost, ScoresAmongAtMost, TakesTooLittle};
 
 use crate::scene::Scene;
 use shogi_core::bits::{has, lowest, with, without_lowest};
@@ -209,6 +209,17 @@ impl Scene<'_> {
         self.most_among(from, true, promoting, best)
     }
 
+    /// Squares outside which nothing reaches the square.
+    fn squares_reaching(&self, square: usize) -> u128
+        requires { square < 81 }
+        ensures fits { result < 2 ^ 81 }
+        ensures others { (n : ℕ) → n < 81 → has_bit result n ≡ false
+            → reaches self.now.node.now.position.cells n square ≡ false }
+    {
+        let board = self.node.as_position().as_board();
+        near_squares(square) | board.sliders() & aligned_squares(square)
+    }
+
     /// Squares outside which nothing takes on the square; none where that scores no more than the
     /// floor, whatever takes and promotes.
     fn squares_taking(&self, square: usize, floor: i32) -> u128
@@ -223,7 +234,7 @@ impl Scene<'_> {
         if self.node.score() + (taken + PROMOTION_GAIN_MAX) as i32 <= floor {
             return 0;
         }
-        near_squares(square) | p.as_board().sliders() & aligned_squares(square)
+        self.squares_reaching(square)
     }
 
     /// Those of the side's pieces that may take one of the victims and score more than the floor.
@@ -246,9 +257,55 @@ impl Scene<'_> {
         self.own & squares
     }
 
+    /// Squares outside which nothing reaches one of these.
+    fn squares_reaching_some(&self, squares: u128) -> u128
+        requires { squares < 2 ^ 81 }
+        ensures fits { result < 2 ^ 81 }
+        ensures others { (n t : ℕ) → n < 81 → t < 81 → has_bit result n ≡ false
+            → has_bit squares t ≡ true → reaches self.now.node.now.position.cells n t ≡ true → ⊥ }
+    {
+        let mut found = 0;
+        let mut left = squares;
+        while left != 0 {
+            let square = lowest(left);
+            found |= self.squares_reaching(square);
+            left = without_lowest(left, square);
+        }
+        found
+    }
+
+    /// In check, the side's kings and those of its pieces that may reach a square where it is answered:
+    /// no other one has a legal move.
+    fn answerers(&self) -> u128
+        requires { self.now.info.checked ≡ true }
+        ensures within { IsWithin result self.now.own }
+        ensures fits { result < 2 ^ 81 }
+        ensures others { (n : ℕ) → n < 81 → has_bit self.now.own n ≡ true → has_bit result n ≡ false
+            → HasNoneFrom self.now.node.now.position n }
+    {
+        let p = self.node.as_position();
+        p.validity();
+        let answers = self.info.pinned_or_king & !self.own;
+        let reaching = self.squares_reaching_some(answers);
+        self.own & (p.as_board().kings(p.side()) | reaching)
+    }
+
+    /// The side's pieces, in check without those that surely have no legal move.
+    pub fn movable(&self) -> u128
+        ensures within { IsWithin result self.now.own }
+        ensures fits { result < 2 ^ 81 }
+        ensures others { (n : ℕ) → n < 81 → has_bit self.now.own n ≡ true → has_bit result n ≡ false
+            → HasNoneFrom self.now.node.now.position n }
+    {
+        if self.info.checked {
+            return self.answerers();
+        }
+        self.own
+    }
+
     /// Those of the side's pieces that may score more than the floor: with room for any promotion,
     /// they take something; with room for the capture of any piece that does not slide, something
-    /// dear enough, and with room for both, one that slides.
+    /// dear enough, and with room for both, one that slides. In check they may answer it.
     pub fn gainers(&self, floor: i32) -> u128
         requires { material_of self.now.node.now.position self.now.node.now.eval ≤ℤ floor }
         ensures within { IsWithin result self.now.own }
@@ -256,6 +313,9 @@ impl Scene<'_> {
         ensures others { (n : ℕ) → n < 81 → has_bit self.now.own n ≡ true → has_bit result n ≡ false
             → ScoresFromAtMost self.now.node.now.position self.now.node.now.eval n floor }
     {
+        if self.info.checked {
+            return self.answerers();
+        }
         let p = self.node.as_position();
         let sliders = p.as_board().sliders();
         let base = self.node.score();

@@ -1,11 +1,5 @@
-use Rattle.std.proofs.Common.{bit_and}
-use Rattle.shogi_core.proofs.LineBits.{and_fits}
-use Rattle.shogi_core.proofs.TargetLaws.{or_fits}
-use Rattle.last_ply.proofs.Scores.{not_taking}
+use Rattle.std.proofs.lemmas.Bool.{both_ways}
 use Rattle.last_ply.proofs.scene.Scene.squares_taking.Goals as goal
 
-pub returns-clause-fits : goal.returns-clause-fits
-returns-clause-fits c = or_fits c.near_squares.result (bit_and c.sliders.result c.aligned_squares.result) c.near_squares.ensures.1 (and_fits c.sliders.result c.aligned_squares.result c.sliders.ensures.squares.1)
-
 pub returns-clause-others : goal.returns-clause-others
-returns-clause-others c = λ n h out r. absurd (not_taking c.args.self.now.node.now.position.cells c.near_squares.result c.sliders.result c.aligned_squares.result n c.args.square h c.requires c.near_squares.ensures.0 (rw (c.as_board.ensures, c.as_position-p.ensures) at c.sliders.ensures.squares.0) c.aligned_squares.ensures.squares.0 out r)
+returns-clause-others c = λ n h out r. absurd (both_ways _ (c.squares_reaching.ensures.others n h out) r)
