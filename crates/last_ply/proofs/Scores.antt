@@ -39,11 +39,7 @@ use Rattle.shogi_eval.proofs.Gains.{material_after_board, material_after_drop}
 use Rattle.minimax.proofs.Valid.{drop_of}
 use Rattle.last_ply.specs.declared.gains.TheConstants.{PROMOTION_GAIN_MAX}
 use Rattle.last_ply.proofs.Squares.{left_clear}
-use Rattle.last_ply.specs.LastPly.{score_at, HasScore, ScoresAtMost, ScoresFromAtMost, ScoresAmongAtMost, AreLegalEnds}
-
--- ends among those of legal moves
-pub taking_legal : (p : Shogi) (from : ℕ) (promote : Bool) (ends squares : ℕ) → ((n : ℕ) → n < 81 → has_bit ends n ≡ is_legal_code p (code_of (Board from n promote))) → AreLegalEnds p from promote (bit_and ends squares)
-taking_legal p from promote ends squares bits n h e = sym (bits n h) ∙ (and_parts (has_bit ends n) (has_bit squares n) (sym (has_bit-and ends squares n) ∙ e)).0
+use Rattle.last_ply.specs.LastPly.{score_at, HasScore, ScoresAtMost, ScoresFromAtMost, ScoresAmongAtMost}
 
 -- what the move on the board of a code scores
 pub score_board : (p : Shogi) (e : Eval) (from to : ℕ) (promote : Bool) → IsValid p → from < 81 → to < 81 → is_legal_code p (code_of (Board from to promote)) ≡ true

@@ -1,5 +1,5 @@
 -- What is asked of a node with one ply left (own choice).
-use Rattle.std.specs.Prelude.{◌&&◌, ◌==◌, ◌+◌, ◌*◌, ◌≤◌, ◌+ℤ◌, pos, not, ◌≡◌, ◌≢◌, ◌<◌, ◌≤ℤ◌, ◌⊎◌, ℕ, ℤ, [], true, false, Bool, Some}
+use Rattle.std.specs.Prelude.{◌&&◌, ◌==◌, ◌+◌, ◌*◌, ◌^◌, ◌≤◌, ◌+ℤ◌, pos, not, ◌≡◌, ◌≢◌, ◌<◌, ◌≤ℤ◌, ◌⊎◌, ℕ, ℤ, [], true, false, Bool, Some}
 use Rattle.shogi_core.specs.declared.moves.Move.TheVariants.{Board, Drop}
 use Rattle.shogi_core.specs.declared.moves.TheConstants.{SQUARE_CODES}
 use Rattle.shogi_core.specs.declared.piece.Kind.{Kind}
@@ -10,6 +10,7 @@ use Rattle.shogi_core.specs.Codes.{code_of}
 use Rattle.shogi_core.specs.Movement.{Cells, cell_reaches, piece_at}
 use Rattle.shogi_core.specs.Position.{Shogi}
 use Rattle.shogi_moves.specs.After.{after_code}
+use Rattle.shogi_moves.specs.Destinations.{AreEnterable}
 use Rattle.shogi_moves.specs.Legal.{is_legal_code}
 use Rattle.shogi_moves.specs.LegalMoves.{legal_codes}
 use Rattle.shogi_moves.specs.Rising.{is_in}
@@ -129,6 +130,14 @@ abbrev pub LeaveSomeFrom : Shogi → ℕ → Type 0
 LeaveSomeFrom p from = (n : ℕ) (promote : Bool) → n < 81
     → is_legal_code p (code_of (Board from n promote)) ≡ true
     → LeavesSome p (code_of (Board from n promote))
+
+-- what stands on the square may go to each square of the mask, promoting or not, and each of its legal moves elsewhere leaves the other side one
+pub record AreDoubtfulEnds (p : Shogi) (from : ℕ) (promote : Bool) (mask : ℕ) : Type 0 where
+  pub enterable : AreEnterable p from mask
+  pub fits : mask < 2 ^ 81
+  pub others : (n : ℕ) → n < 81 → has_bit mask n ≡ false
+      → is_legal_code p (code_of (Board from n promote)) ≡ true
+      → LeavesSome p (code_of (Board from n promote))
 
 -- and each move to a square of the mask, promoting or not
 abbrev pub LeaveSomeAmong : Shogi → ℕ → Bool → ℕ → Type 0

@@ -13,14 +13,14 @@ ghost use Rattle.shogi_moves.specs.Escapes.{AreEscapes};
 ghost use Rattle.shogi_moves.specs.LegalMoves.{legal_codes};
 ghost use Rattle.shogi_moves.specs.Legal.{is_legal, is_legal_code};
 ghost use Rattle.shogi_moves.specs.Replies.{IsAnswered, IsReplies};
-ghost use Rattle.last_ply.specs.LastPly.{HasMate, HasNoMate, LeavesNone, LeavesSome, AreLegalEnds, LeaveSomeAmong, LeaveSomeFrom, DropsLeaveSome, IsOutOfReach, HasOthers};
+ghost use Rattle.last_ply.specs.LastPly.{HasMate, HasNoMate, LeavesNone, LeavesSome, AreDoubtfulEnds, AreLegalEnds, LeaveSomeAmong, LeaveSomeFrom, DropsLeaveSome, IsOutOfReach, HasOthers};
 
 use crate::scene::Scene;
 use shogi_core::bits::{has, lowest, with, without_lowest};
 use shogi_core::{Kind, Move, Piece, Position, Role, Square, aligned_squares, step_squares};
 use shogi_moves::{
-    Replies, drop_destinations, drop_squares, has_legal, is_legal, king_takes, leaves_escape,
-    leaves_king_move, promoting_squares, some_escapes,
+    Destinations, Replies, drop_destinations, drop_squares, has_legal, is_legal, king_takes,
+    leaves_escape, leaves_king_move, legal_destinations, promoting_squares, some_escapes,
 };
 
 /// A scene, and what shows of most moves that the other side surely has one after them.
@@ -283,9 +283,12 @@ impl Outlook<'_> {
     /// escape on no line with that square, and those on one: elsewhere the king has one left.
     #[inline(always)]
     fn closing_ends(&self, from: Square, promote: bool, piece: Piece, ends: u128) -> u128
-        requires { piece_moved promote
+        requires moved { piece_moved promote
             (piece_at self.now.scene.node.now.position.cells from) ≡ Some piece }
-        ensures { (n : ℕ) → n < 81 → has_bit ends n ≡ true → has_bit result n ≡ false
+        requires fits { ends < 2 ^ 81 }
+        ensures within { IsWithin result ends }
+        ensures fits { result < 2 ^ 81 }
+        ensures answered { (n : ℕ) → n < 81 → has_bit ends n ≡ true → has_bit result n ≡ false
             → IsAnswered self.now.scene.node.now.position (moves.Board from n promote) }
     {
         let _ = promote;
@@ -305,43 +308,56 @@ impl Outlook<'_> {
         kept
     }
 
-    /// Whether the other side surely has a legal move after each move of the piece, legal or not. In
-    /// check few are, and this is not asked.
-    fn is_sure(&self, from: Square) -> bool
-        requires own { is_piece_of self.now.scene.node.now.position.side
-            (piece_at self.now.scene.node.now.position.cells from) ≡ true }
-        ensures { result ≡ true → LeaveSomeFrom self.now.scene.node.now.position from }
+    /// Those of the ends after which, once this piece has moved there from the square, it is not
+    /// certain that the other side has a legal move.
+    fn doubtful_among(&self, from: Square, promote: bool, piece: Piece, ends: u128) -> u128
+        requires moved { piece_moved promote
+            (piece_at self.now.scene.node.now.position.cells from) ≡ Some piece }
+        requires fits { ends < 2 ^ 81 }
+        ensures within { IsWithin result ends }
+        ensures fits { result < 2 ^ 81 }
+        ensures answered { (n : ℕ) → n < 81 → has_bit ends n ≡ true → has_bit result n ≡ false
+            → IsAnswered self.now.scene.node.now.position (moves.Board from n promote) }
     {
-        if self.scene.info.checked {
-            return false;
-        }
+        let p = self.scene.node.as_position();
+        let closing = self.closing_ends(from, promote, piece, ends);
+        closing
+            & !self
+                .replies
+                .certain_destinations(p, 0, from, promote, closing)
+    }
+
+    /// Where what stands on the square may go, without promotion and with it, legally or not, so that
+    /// it is not certain that the other side has a legal move after it.
+    fn doubtful_ends(&self, from: Square) -> Destinations
+        ensures plain { AreDoubtfulEnds self.now.scene.node.now.position from false result.plain }
+        ensures promoting { AreDoubtfulEnds self.now.scene.node.now.position from true
+            result.promoting }
+    {
         from.validity();
         let p = self.scene.node.as_position();
         let ends = p.as_board().targets(from) & self.scene.enterable();
         if self.is_unseen(from, ends) {
-            return true;
+            return Destinations {
+                plain: 0,
+                promoting: 0,
+            };
         }
         let cell = p.at(from);
-        let Some(piece) = cell else { return false };
-        let plain = self.closing_ends(from, false, piece, ends);
-        let certain = self.replies.certain_destinations(p, 0, from, false, plain);
-        if plain & !certain != 0 {
-            return false;
-        }
+        let promotions = ends & promoting_squares(cell, from);
+        let Some(piece) = cell else {
+            return Destinations {
+                plain: ends,
+                promoting: promotions,
+            }
+        };
         let promoted = Piece {
             color: piece.color,
             role: piece.role.promoted(),
         };
-        let promotions = ends & promoting_squares(cell, from);
-        if promotions == 0 {
-            return true;
-        }
-        let promoting = self.closing_ends(from, true, promoted, promotions);
-        promoting
-            & !self
-                .replies
-                .certain_destinations(p, 0, from, true, promoting)
-            == 0
+        let plain = self.doubtful_among(from, false, piece, ends);
+        let promoting = self.doubtful_among(from, true, promoted, promotions);
+        Destinations { plain, promoting }
     }
 
     /// Whether a legal move of one of the side's pieces leaves the other side without one.
@@ -351,20 +367,16 @@ impl Outlook<'_> {
         ensures some { result ≡ true → HasMate self.now.scene.node.now.position }
         ensures none { result ≡ false → LeaveSomeFrom self.now.scene.node.now.position from }
     {
-        if self.is_sure(from) {
+        from.validity();
+        let doubtful = self.doubtful_ends(from);
+        let among = doubtful.plain | doubtful.promoting;
+        if among == 0 {
             return false;
         }
-        from.validity();
         let p = self.scene.node.as_position();
-        let ends = self.scene.destinations(from);
-        let plain = self
-            .replies
-            .certain_destinations(p, self.escapes, from, false, ends.plain);
-        let promoting = self
-            .replies
-            .certain_destinations(p, self.escapes, from, true, ends.promoting);
-        self.mates_among(from, false, ends.plain & !plain)
-            || self.mates_among(from, true, ends.promoting & !promoting)
+        let ends = legal_destinations(p, &self.scene.info, from, among);
+        self.mates_among(from, false, ends.plain & doubtful.plain)
+            || self.mates_among(from, true, ends.promoting & doubtful.promoting)
     }
 
     /// Pieces of the side that are far from the other side's king, after each of whose moves that
@@ -384,7 +396,7 @@ impl Outlook<'_> {
             (piece_at self.now.scene.node.now.position.cells from) ≡ true
             → LeaveSomeFrom self.now.scene.node.now.position from }
     {
-        let mut left = self.scene.own & !self.far_pieces();
+        let mut left = self.scene.movable() & !self.far_pieces();
         while left != 0 {
             let from = lowest(left);
             if self.mates_from(Square::of_index(from)) {

@@ -12,7 +12,9 @@ loop-left-init c = record {
   all = λ n h e out. absurd (both_ways _ out e);
   within = λ n e. (and_parts _ _ (sym (has_bit-and c.args.self.now.escapes _ n) ∙ e)).0;
   apart = λ n h e. sym ((rw c.index.ensures.index at c.aligned_squares.ensures.squares.0) n h) ∙ not-true _ (sym (has_bit-not c.aligned_squares.result n (omega (arith, c.aligned_squares.ensures.squares.1)) (omega arith)) ∙ (and_parts _ _ (sym (has_bit-and c.args.self.now.escapes _ n) ∙ e)).1);
+  among = λ n e. e;
   fits = and_fits c.args.self.now.escapes _ c.args.self.now.escaping.fits;
+  kept_fit = c.requires.fits;
 }
 
 pub loop-left-preserved : goal.loop-left-preserved
@@ -23,10 +25,12 @@ loop-left-preserved c = record {
         answered_board c.args.self.now.scene.node.now.position c.args.from c.args.promote c.args.self.now.escapes c.kings-kings.result n c.lowest-escape.result c.args.piece c.args.self.now.scene.valid c.args.self.now.escaping
         (rw (c.opponent.ensures, c.side.ensures, c.as_board.ensures, c.as_position-p.ensures) at c.kings-kings.ensures.squares.0) c.kings-kings.ensures.squares.1 c.if-kings-eq0.false c.validity.ensures h c.lowest-escape.ensures.range
         (c.loop-left.invariant.within _ c.lowest-escape.ensures.set) (c.loop-left.invariant.apart _ c.lowest-escape.ensures.range c.lowest-escape.ensures.set)
-        c.requires off.1 off.2 (c.closing_squares.ensures n h off.0))
+        c.requires.moved off.1 off.2 (c.closing_squares.ensures n h off.0))
     | inr gone ↦ c.loop-left.invariant.all n h e gone
   ];
   within = λ n e. c.loop-left.invariant.within n (left_set c.loop-left.left c.without_lowest-left.result c.lowest-escape.result n c.without_lowest-left.ensures.bits e);
   apart = λ n h e. c.loop-left.invariant.apart n h (left_set c.loop-left.left c.without_lowest-left.result c.lowest-escape.result n c.without_lowest-left.ensures.bits e);
+  among = λ n e. c.loop-left.invariant.among n (and_parts (has_bit c.loop-left.kept n) _ (sym (has_bit-and c.loop-left.kept _ n) ∙ e)).0;
   fits = omega (arith, c.without_lowest-left.ensures.less, c.loop-left.invariant.fits);
+  kept_fit = and_fits c.loop-left.kept _ c.loop-left.invariant.kept_fit;
 }

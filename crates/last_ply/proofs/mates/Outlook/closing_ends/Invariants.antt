@@ -10,7 +10,9 @@ invariant-loop-left l = record {
   all : (n : ℕ) → n < 81 → has_bit l.fn.ends n ≡ true → has_bit l.kept n ≡ false → IsAnswered l.self.scene.node.now.position (Board l.fn.from n l.fn.promote);
   within : (n : ℕ) → has_bit l.left n ≡ true → has_bit l.self.escapes n ≡ true;
   apart : (n : ℕ) → n < 81 → has_bit l.left n ≡ true → are_aligned l.fn.from n ≡ false;
+  among : (n : ℕ) → has_bit l.kept n ≡ true → has_bit l.fn.ends n ≡ true;
   fits : l.left < 2 ^ 81;
+  kept_fit : l.kept < 2 ^ 81;
 }
 
 abbrev pub decreases-loop-left : goal.decreases-loop-left
