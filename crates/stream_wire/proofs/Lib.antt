@@ -1,2 +1,4 @@
 pub mod Giving
 pub mod Reports
+pub mod Waking
+pub mod Asked

@@ -5,7 +5,7 @@ use Rattle.std.specs.Io.KnownBytes.{Keeps, prepend_known}
 use Rattle.std.proofs.KnownBytes.{Keeps-refl}
 use Rattle.wires.specs.Report.{Report, KeepsAll, KeepsOthers, KeepsPeer, Shuts}
 use Rattle.wires.proofs.Peers.{kept_same, kept_then, raised_rise, raised_rises, stays_rise, stays_then}
-use Rattle.stream_wire.specs.declared.peer.Peer.{Peer}
+use Rattle.stream_wire.specs.declared.connection.Connection.{Connection}
 use Rattle.stream_wire.specs.Streams.{HandsOut, HasBack, IsToldShut}
 use Rattle.stream_wire.specs.Held.{AreAlike, HoldsOthers, IsAlike, bytes_of, held, reported, unread_of, written_of}
 
@@ -17,38 +17,38 @@ keeps_nil (Some x) (Some y) k = k
 module _ {S A : Type 0} where
   -- ---- of one number
 
-  keeps_at : (f : Peer S A → Option (List ℕ)) (t u : Option (List ℕ)) (h : Option (Peer S A)) → Keeps t u → Keeps (bytes_of f t h) (bytes_of f u h)
+  keeps_at : (f : Connection S A → Option (List ℕ)) (t u : Option (List ℕ)) (h : Option (Connection S A)) → Keeps t u → Keeps (bytes_of f t h) (bytes_of f u h)
   keeps_at f t u None k = k
   keeps_at f t u (Some p) k = Keeps-refl (f p)
 
-  keeps_is : (f : Peer S A → Option (List ℕ)) (t u : Option (List ℕ)) (a b : Option (Peer S A)) → b ≡ a → Keeps t u → Keeps (bytes_of f t a) (bytes_of f u b)
+  keeps_is : (f : Connection S A → Option (List ℕ)) (t u : Option (List ℕ)) (a b : Option (Connection S A)) → b ≡ a → Keeps t u → Keeps (bytes_of f t a) (bytes_of f u b)
   keeps_is f t u a b e k = subst (λ x. Keeps (bytes_of f t a) (bytes_of f u x)) (sym e) (keeps_at f t u a k)
 
-  at_end : (P : Option (List ℕ) → Option (List ℕ) → Type 0) (f : Peer S A → Option (List ℕ)) (t u : Option (List ℕ)) (a b : Option (Peer S A)) (p : Peer S A) → a ≡ Some p → b ≡ None → P (f p) u → P (bytes_of f t a) (bytes_of f u b)
+  at_end : (P : Option (List ℕ) → Option (List ℕ) → Type 0) (f : Connection S A → Option (List ℕ)) (t u : Option (List ℕ)) (a b : Option (Connection S A)) (p : Connection S A) → a ≡ Some p → b ≡ None → P (f p) u → P (bytes_of f t a) (bytes_of f u b)
   at_end P f t u a b p d e h = subst (λ x. P (bytes_of f t x) (bytes_of f u b)) (sym d) (subst (λ x. P (f p) (bytes_of f u x)) (sym e) h)
 
-  at_start : (P : Option (List ℕ) → Option (List ℕ) → Type 0) (f : Peer S A → Option (List ℕ)) (t u : Option (List ℕ)) (a b : Option (Peer S A)) (q : Peer S A) → a ≡ None → b ≡ Some q → P t (f q) → P (bytes_of f t a) (bytes_of f u b)
+  at_start : (P : Option (List ℕ) → Option (List ℕ) → Type 0) (f : Connection S A → Option (List ℕ)) (t u : Option (List ℕ)) (a b : Option (Connection S A)) (q : Connection S A) → a ≡ None → b ≡ Some q → P t (f q) → P (bytes_of f t a) (bytes_of f u b)
   at_start P f t u a b q d e h = subst (λ x. P (bytes_of f t x) (bytes_of f u b)) (sym d) (subst (λ x. P t (bytes_of f u x)) (sym e) h)
 
-  same_unread : (r : S → Option (List ℕ)) (p q : Peer S A) → q.stream ≡ p.stream → q.kept ≡ p.kept → Keeps (unread_of r p) (unread_of r q)
+  same_unread : (r : S → Option (List ℕ)) (p q : Connection S A) → q.stream ≡ p.stream → q.kept ≡ p.kept → Keeps (unread_of r p) (unread_of r q)
   same_unread r p q s k = subst (λ x. Keeps (unread_of r p) x) (sym (ap (λ x. prepend_known q.kept (r x)) s ∙ ap (λ x. prepend_known x (r p.stream)) k)) (Keeps-refl (unread_of r p))
 
-  same_written : (c : S → Option (List ℕ)) (p q : Peer S A) → q.stream ≡ p.stream → Keeps (written_of c p) (written_of c q)
+  same_written : (c : S → Option (List ℕ)) (p q : Connection S A) → q.stream ≡ p.stream → Keeps (written_of c p) (written_of c q)
   same_written c p q s = subst (λ x. Keeps (written_of c p) x) (sym (ap c s)) (Keeps-refl (written_of c p))
 
-  alike_unread : (r : S → Option (List ℕ)) (t u : Option (List ℕ)) (a b : Option (Peer S A)) → IsAlike a b → Keeps t u → Keeps (bytes_of (unread_of r) t a) (bytes_of (unread_of r) u b)
+  alike_unread : (r : S → Option (List ℕ)) (t u : Option (List ℕ)) (a b : Option (Connection S A)) → IsAlike a b → Keeps t u → Keeps (bytes_of (unread_of r) t a) (bytes_of (unread_of r) u b)
   alike_unread r t u None b e k = keeps_is (unread_of r) t u None b e k
   alike_unread r t u (Some p) None e k = absurd e
   alike_unread r t u (Some p) (Some q) e k = same_unread r p q e.0 e.1
 
-  alike_written : (c : S → Option (List ℕ)) (t u : Option (List ℕ)) (a b : Option (Peer S A)) → IsAlike a b → Keeps t u → Keeps (bytes_of (written_of c) t a) (bytes_of (written_of c) u b)
+  alike_written : (c : S → Option (List ℕ)) (t u : Option (List ℕ)) (a b : Option (Connection S A)) → IsAlike a b → Keeps t u → Keeps (bytes_of (written_of c) t a) (bytes_of (written_of c) u b)
   alike_written c t u None b e k = keeps_is (written_of c) t u None b e k
   alike_written c t u (Some p) None e k = absurd e
   alike_written c t u (Some p) (Some q) e k = same_written c p q e.0
 
   -- ---- of all numbers
 
-  others_kept : (r c : S → Option (List ℕ)) (t u : Report) (old new : List (Option (Peer S A))) (number : ℕ) → HoldsOthers old new number → KeepsOthers t u number → KeepsOthers (reported r c t old) (reported r c u new) number
+  others_kept : (r c : S → Option (List ℕ)) (t u : Report) (old new : List (Option (Connection S A))) (number : ℕ) → HoldsOthers old new number → KeepsOthers t u number → KeepsOthers (reported r c t old) (reported r c u new) number
   others_kept r c t u old new number holds kept other apart = record {
     unread = keeps_is (unread_of r) (t.unread other) (u.unread other) (held old other) (held new other) (holds other apart) (kept other apart).unread;
     written = keeps_is (written_of c) (t.written other) (u.written other) (held old other) (held new other) (holds other apart) (kept other apart).written;
@@ -56,7 +56,7 @@ module _ {S A : Type 0} where
     failed = (kept other apart).failed;
   }
 
-  pub alike_keeps : (r c : S → Option (List ℕ)) (t u : Report) (old new : List (Option (Peer S A))) → AreAlike old new → KeepsAll t u → KeepsAll (reported r c t old) (reported r c u new)
+  pub alike_keeps : (r c : S → Option (List ℕ)) (t u : Report) (old new : List (Option (Connection S A))) → AreAlike old new → KeepsAll t u → KeepsAll (reported r c t old) (reported r c u new)
   alike_keeps r c t u old new alike kept n = record {
     unread = alike_unread r (t.unread n) (u.unread n) (held old n) (held new n) (alike n) (kept n).unread;
     written = alike_written c (t.written n) (u.written n) (held old n) (held new n) (alike n) (kept n).written;
@@ -65,7 +65,7 @@ module _ {S A : Type 0} where
   }
 
   -- a stream comes, under its number
-  pub comes : (r c : S → Option (List ℕ)) (t u : Report) (old mid new : List (Option (Peer S A))) (number : ℕ) (q : Peer S A) → AreAlike old mid → held mid number ≡ None → held new number ≡ Some q → HoldsOthers mid new number
+  pub comes : (r c : S → Option (List ℕ)) (t u : Report) (old mid new : List (Option (Connection S A))) (number : ℕ) (q : Connection S A) → AreAlike old mid → held mid number ≡ None → held new number ≡ Some q → HoldsOthers mid new number
       → HandsOut t u number (r q.stream) (c q.stream) → q.kept ≡ [] → KeepsAll (reported r c t old) (reported r c u new)
   comes r c t u old mid new number q alike none some holds out nil n =
       kept_then (reported r c t old) (reported r c t mid) (reported r c u new) n
@@ -81,7 +81,7 @@ module _ {S A : Type 0} where
       ])
 
   -- a connection is shut
-  pub shuts_held : (r c : S → Option (List ℕ)) (t u v : Report) (old new : List (Option (Peer S A))) (number bound : ℕ) (p : Peer S A) → held old number ≡ Some p → held new number ≡ None → HoldsOthers old new number → IsToldShut t u number → HasBack u v number (unread_of r p) (written_of c p) → Shuts bound (reported r c t old) (reported r c v new) number
+  pub shuts_held : (r c : S → Option (List ℕ)) (t u v : Report) (old new : List (Option (Connection S A))) (number bound : ℕ) (p : Connection S A) → held old number ≡ Some p → held new number ≡ None → HoldsOthers old new number → IsToldShut t u number → HasBack u v number (unread_of r p) (written_of c p) → Shuts bound (reported r c t old) (reported r c v new) number
   shuts_held r c t u v old new number bound p d e holds told back =
       let raised = raised_rises (t.is_shut number) (u.is_shut number) (v.is_shut number) told.shut (stays_rise (u.is_shut number) (v.is_shut number) back.shut) in
       record {

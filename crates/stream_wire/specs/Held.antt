@@ -1,9 +1,9 @@
 -- The connections that a wire holds, and what it reports of them and of all others (own choice).
-use Rattle.std.specs.Prelude.{◌≡◌, ◌≢◌, ◌==◌, ◌%◌, ◌+◌, ◌-◌, ◌^◌, cond, length, min, ℕ, List, Option, None, Some, slice_index_or}
+use Rattle.std.specs.Prelude.{◌≡◌, ◌≢◌, ◌==◌, ◌%◌, ◌+◌, ◌-◌, ◌^◌, cond, length, min, nat_eq, not, ℕ, Bool, List, [], Option, None, Some, slice_index_or}
 use Rattle.std.specs.Io.KnownBytes.{prepend_known}
 use Rattle.wires.specs.Report.{Report}
-use Rattle.stream_wire.specs.declared.peer.Peer.{Peer}
-use Rattle.stream_wire.specs.declared.peer.TheConstants.{PLACES}
+use Rattle.stream_wire.specs.declared.connection.Connection.{Connection}
+use Rattle.stream_wire.specs.declared.connection.TheConstants.{PLACES}
 
 -- these bytes were counted too; the count stays at the greatest number once it is there
 abbrev pub counted : ℕ → List ℕ → ℕ
@@ -11,31 +11,31 @@ counted count bytes = min (count + length bytes) (2 ^ 64 - 1)
 
 module _ {S A : Type 0} where
   -- what has a place, where it has the number
-  abbrev pub of_number : ℕ → Option (Peer S A) → Option (Peer S A)
+  abbrev pub of_number : ℕ → Option (Connection S A) → Option (Connection S A)
   of_number number None = None
-  of_number number (Some peer) = cond (peer.number == number) (Some peer) None
+  of_number number (Some connection) = cond (connection.number == number) (Some connection) None
 
   -- the connection that is held under this number; it has the place of its remainder
-  abbrev pub held : List (Option (Peer S A)) → ℕ → Option (Peer S A)
+  abbrev pub held : List (Option (Connection S A)) → ℕ → Option (Connection S A)
   held places number = of_number number (slice_index_or places (number % PLACES) None)
 
   -- the bytes that reads of it will give: those that are kept, and those that the stream has
-  abbrev pub unread_of : (S → Option (List ℕ)) → Peer S A → Option (List ℕ)
-  unread_of remaining peer = prepend_known peer.kept (remaining peer.stream)
+  abbrev pub unread_of : (S → Option (List ℕ)) → Connection S A → Option (List ℕ)
+  unread_of remaining connection = prepend_known connection.kept (remaining connection.stream)
 
   -- the bytes that writes to it took
-  abbrev pub written_of : (S → Option (List ℕ)) → Peer S A → Option (List ℕ)
-  written_of contents peer = contents peer.stream
+  abbrev pub written_of : (S → Option (List ℕ)) → Connection S A → Option (List ℕ)
+  written_of contents connection = contents connection.stream
 
   -- of a connection that is held its bytes, and else what is told
-  abbrev pub bytes_of : (Peer S A → Option (List ℕ)) → Option (List ℕ) → Option (Peer S A)
-      → Option (List ℕ)
+  abbrev pub bytes_of : (Connection S A → Option (List ℕ)) → Option (List ℕ)
+      → Option (Connection S A) → Option (List ℕ)
   bytes_of bytes told None = told
-  bytes_of bytes told (Some peer) = bytes peer
+  bytes_of bytes told (Some connection) = bytes connection
 
   -- what is reported of each number, by what streams have left and hold, and by what the listener tells
   abbrev pub reported : (remaining contents : S → Option (List ℕ)) → Report
-      → List (Option (Peer S A)) → Report
+      → List (Option (Connection S A)) → Report
   reported remaining contents told places = record {
     unread = λ number. bytes_of (unread_of remaining) (told.unread number) (held places number);
     written = λ number. bytes_of (written_of contents) (told.written number) (held places number);
@@ -43,17 +43,33 @@ module _ {S A : Type 0} where
     has_failed = told.has_failed;
   }
 
+  -- the bytes that were read under this number and are not given
+  abbrev pub kept_in : Option (Connection S A) → List ℕ
+  kept_in None = []
+  kept_in (Some connection) = connection.kept
+
+  abbrev pub kept_of : List (Option (Connection S A)) → ℕ → List ℕ
+  kept_of places number = kept_in (held places number)
+
+  abbrev pub has_kept : List (Option (Connection S A)) → ℕ → Bool
+  has_kept places number = not (nat_eq (length (kept_of places number)) 0)
+
   -- ---- what calls do to what is held
 
   -- under these numbers is the same, but for what was seen of a stream
-  abbrev pub IsAlike : Option (Peer S A) → Option (Peer S A) → Type 0
+  abbrev pub IsAlike : Option (Connection S A) → Option (Connection S A) → Type 0
   IsAlike None new = new ≡ None
-  IsAlike (Some peer) None = ⊥
-  IsAlike (Some peer) (Some after) = (after.stream ≡ peer.stream) × (after.kept ≡ peer.kept)
+  IsAlike (Some connection) None = ⊥
+  IsAlike (Some old) (Some new) = (new.stream ≡ old.stream) × (new.kept ≡ old.kept)
 
-  abbrev pub AreAlike : List (Option (Peer S A)) → List (Option (Peer S A)) → Type 0
+  abbrev pub AreAlike : List (Option (Connection S A)) → List (Option (Connection S A)) → Type 0
   AreAlike old new = (number : ℕ) → IsAlike (held old number) (held new number)
 
+  -- under all numbers is the same
+  abbrev pub HoldsAll : List (Option (Connection S A)) → List (Option (Connection S A)) → Type 0
+  HoldsAll old new = (number : ℕ) → held new number ≡ held old number
+
   -- under all other numbers is the same
-  abbrev pub HoldsOthers : List (Option (Peer S A)) → List (Option (Peer S A)) → ℕ → Type 0
+  abbrev pub HoldsOthers : List (Option (Connection S A)) → List (Option (Connection S A)) → ℕ
+      → Type 0
   HoldsOthers old new number = (other : ℕ) → other ≢ number → held new other ≡ held old other

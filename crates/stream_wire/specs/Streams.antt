@@ -1,8 +1,27 @@
--- What a listener tells of the connections that a wire does not hold, and what each of its calls does to that (own choice).
-use Rattle.std.specs.Prelude.{ℕ, List, Option, Result}
+-- What a listener tells of the connections that a wire does not hold, and what each of its calls does to that; and what it
+-- and its streams are asked for (own choice).
+use Rattle.std.specs.Prelude.{◌≡◌, ◌+◌, ⊤, ℕ, Bool, List, Option, None, Some, Result, slice_get}
 use Rattle.std.specs.Io.KnownBytes.{Keeps}
 use Rattle.wires.specs.declared.wire.WireFault.{WireFault}
 use Rattle.wires.specs.Report.{Report, IsRaised, KeepsOthers, ReportsFailure, Stays}
+use Rattle.stream_wire.specs.declared.listener.Ready.{Ready}
+use Rattle.stream_wire.specs.declared.listener.Ready.TheVariants.{Listener}
+
+-- a call of a listener: who waits first, who may be ready now, and who may be ready, waited for no longer than for some
+-- time, or for any
+pub data Ask : Type 0 where
+  Accept : Ask
+  Look : Ask
+  Wait : (is_bounded : Bool) → Ask
+
+-- a look or a wait has named the listener: somebody may wait to be accepted
+abbrev pub NamesListener : List Ready → Type 0
+NamesListener named = (place : ℕ) × (slice_get named place ≡ Some Listener)
+
+-- a stream that tells how often it was called was called once
+abbrev pub IsCalledOnce : Option ℕ → Option ℕ → Type 0
+IsCalledOnce None new = ⊤
+IsCalledOnce (Some count) new = new ≡ Some (count + 1)
 
 -- it has handed out the stream of this number, which has the bytes that were told of it, those to be read and those that it took
 pub record HandsOut (old new : Report) (number : ℕ) (left taken : Option (List ℕ)) : Type 0 where

@@ -21,7 +21,8 @@ impl<A: Allocator> Model for Kept<A> {
 
     ghost view = { λ kept. drop kept.start kept.bytes.items };
 
-    ghost invariant = { λ kept. (kept.start ≤ vec_len kept.bytes) × (kept.start ≡ vec_len kept.bytes → vec_capacity kept.bytes ≡ 0) };
+    ghost invariant = { λ kept. (kept.start ≤ vec_len kept.bytes)
+        × (kept.start ≡ vec_len kept.bytes → vec_capacity kept.bytes ≡ 0) };
 }
 
 impl<A: Allocator> Kept<A> {

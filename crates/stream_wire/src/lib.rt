@@ -1,9 +1,9 @@
 //! A wire over any listener and its streams, and over a Unix socket.
 #![tactic(auto)]
 
+mod connection;
 mod kept;
 mod listener;
-mod peer;
 mod places;
 mod sockets;
 mod wire;

@@ -1,10 +1,12 @@
 //! What a wire is made over: streams, and the listener that gives them.
 
-ghost use Rattle.std.specs.Prelude.{◌≡◌, ℕ, IfOk, OnErr, Option, List};
+ghost use Rattle.std.specs.Prelude.{◌≡◌, ℕ, [], ◌∷◌, length, is_some, slice_get, IfOk, OnErr, Option, None, List};
 ghost use Rattle.std.specs.Io.{ReadsAtMost, WritesAtMost};
 ghost use Rattle.std.specs.Io.KnownBytes.{Keeps, ReadConsumes, WriteAppends, prepend_known};
+ghost use Rattle.wires.specs.Asked.{Asks};
 ghost use Rattle.wires.specs.Report.{Report, KeepsAll, nothing_reported};
-ghost use Rattle.stream_wire.specs.Streams.{HandsOut, HasBack, IsToldFailed, IsToldShut};
+ghost use Rattle.stream_wire.specs.Streams.{Accept, Ask, HandsOut, HasBack, IsCalledOnce, IsToldFailed, IsToldShut, Look, Wait};
+ghost use Rattle.stream_wire.specs.declared.listener.Ready.{Ready};
 
 use std::io;
 use std::io::{Read, Write};
@@ -12,17 +14,24 @@ use std::time::Duration;
 
 /// A stream both ways, where a read leaves what was written, and a write what is to be read.
 pub trait Duplex: Read + Write + Drop {
+    /// How often it was asked to give or to take bytes. It may not tell.
+    ghost calls: { Self → Option ℕ } = { λ _. None };
+
     /// A `read` of the stream.
     fn receive(&mut self, buf: &mut [u8]) -> io::Result<usize>
         ensures bound { ReadsAtMost result buf.new }
-        ensures bytes { ReadConsumes (Self.remaining self.old) (Self.remaining self.new) result buf.new }
-        ensures written { Keeps (Self.contents self.old) (Self.contents self.new) };
+        ensures bytes { ReadConsumes
+            (Self.remaining self.old) (Self.remaining self.new) result buf.new }
+        ensures written { Keeps (Self.contents self.old) (Self.contents self.new) }
+        ensures called { IsCalledOnce (calls self.old) (calls self.new) };
 
     /// A `write` of the stream.
     fn send(&mut self, buf: &[u8]) -> io::Result<usize>
         ensures bound { WritesAtMost result buf.now }
-        ensures bytes { WriteAppends (Self.contents self.old) (Self.contents self.new) result buf.now }
-        ensures unread { Keeps (Self.remaining self.old) (Self.remaining self.new) };
+        ensures bytes { WriteAppends
+            (Self.contents self.old) (Self.contents self.new) result buf.now }
+        ensures unread { Keeps (Self.remaining self.old) (Self.remaining self.new) }
+        ensures called { IsCalledOnce (calls self.old) (calls self.new) };
 }
 
 /// Who may be ready.
@@ -42,8 +51,11 @@ pub trait Listener: Drop {
     /// that it has back. It may tell nothing.
     ghost told: { Self → Report } = { λ _. nothing_reported };
 
-    /// How many times it was waited for.
-    ghost waits: { Self → ℕ } = { λ _. 0 };
+    /// The calls of `accept`, `look` and `wait` that it was asked for. It may tell none.
+    ghost asked: { Self → Option (List Ask) } = { λ _. None };
+
+    /// Whom the last look or wait has found.
+    ghost named: { Self → List Ready };
 
     /// The stream of who waits first, which is named by this number from then on; `WouldBlock` where
     /// nobody waits.
@@ -51,36 +63,40 @@ pub trait Listener: Drop {
         ensures given { IfOk result (λ stream. HandsOut (told self.old) (told self.new) number
             (Self.Stream.remaining stream) (Self.Stream.contents stream)) }
         ensures err { OnErr result (KeepsAll (told self.old) (told self.new)) }
-        ensures waits { waits self.new ≡ waits self.old };
+        ensures asked { Asks (asked self.old) (asked self.new) (Accept ∷ []) }
+        ensures named { named self.new ≡ named self.old };
 
     /// Looks who may be ready now.
     fn look(&mut self) -> io::Result<()>
         ensures kept { KeepsAll (told self.old) (told self.new) }
-        ensures waits { waits self.new ≡ waits self.old };
+        ensures asked { Asks (asked self.old) (asked self.new) (Look ∷ []) };
 
     /// Waits until somebody may be ready, at most so long.
     fn wait(&mut self, patience: Option<Duration>) -> io::Result<()>
-        ensures kept { KeepsAll (told self.old) (told self.new) };
+        ensures kept { KeepsAll (told self.old) (told self.new) }
+        ensures asked { Asks (asked self.old) (asked self.new) (Wait (is_some patience) ∷ []) };
 
     /// How many the last look or wait found.
-    fn found(&self) -> usize;
+    fn found(&self) -> usize
+        ensures { result ≡ length (named self.now) };
 
     /// One of those.
-    fn ready(&self, place: usize) -> Option<Ready>;
+    fn ready(&self, place: usize) -> Option<Ready>
+        ensures { result ≡ slice_get (named self.now) place };
 
     /// A read or a write of this number has failed.
     fn fail(&mut self, number: u64)
         ensures failed { IsToldFailed (told self.old) (told self.new) number }
-        ensures waits { waits self.new ≡ waits self.old };
+        ensures asked { asked self.new ≡ asked self.old };
 
     /// The connection of this number is shut.
     fn shut(&mut self, number: u64)
         ensures shut { IsToldShut (told self.old) (told self.new) number }
-        ensures waits { waits self.new ≡ waits self.old };
+        ensures asked { asked self.new ≡ asked self.old };
 
     /// Takes the stream of a number back, with the bytes that were read from it and are not given.
     fn take_back(&mut self, number: u64, stream: Self::Stream, kept: &[u8])
         ensures back { HasBack (told self.old) (told self.new) number
             (prepend_known kept.now (Self.Stream.remaining stream)) (Self.Stream.contents stream) }
-        ensures waits { waits self.new ≡ waits self.old };
+        ensures asked { asked self.new ≡ asked self.old };
 }

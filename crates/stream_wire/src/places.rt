@@ -2,11 +2,12 @@
 
 ghost use Rattle.std.specs.Prelude.{◌≡◌, ◌<◌, ◌≤◌, ◌%◌, ◌^◌, ◌+◌, ◌-◌, None, Some, IfErr, IfOk, IfSome, is_some, true, length, slice_index_or, vec_len};
 ghost use Rattle.wires.specs.declared.wire.WireFault.TheVariants.{OutOfMemory};
-ghost use Rattle.stream_wire.specs.Held.{AreAlike, HoldsOthers, held};
-ghost use Rattle.stream_wire.specs.declared.peer.TheConstants.{PLACES};
+ghost use Rattle.stream_wire.specs.Asking.{IsAwake, IsQuiet};
+ghost use Rattle.stream_wire.specs.Held.{AreAlike, HoldsAll, HoldsOthers, held};
+ghost use Rattle.stream_wire.specs.declared.connection.TheConstants.{PLACES};
 
+use crate::connection::{Connection, PLACES};
 use crate::listener::Duplex;
-use crate::peer::{PLACES, Peer};
 use std::alloc::Allocator;
 use wires::WireFault;
 
@@ -18,7 +19,7 @@ fn place_of(number: u64) -> usize
 }
 
 /// Whether a connection is held under this number.
-fn is_held<S: Duplex, A: Allocator + Copy>(places: &[Option<Peer<S, A>>], number: u64) -> bool
+fn is_held<S: Duplex, A: Allocator + Copy>(places: &[Option<Connection<S, A>>], number: u64) -> bool
     ensures held { result ≡ is_some (held places.now number) }
     ensures room { result ≡ true → number % PLACES < length places.now }
 {
@@ -27,7 +28,7 @@ fn is_held<S: Duplex, A: Allocator + Copy>(places: &[Option<Peer<S, A>>], number
         return false;
     }
     match &places[place] {
-        Some(peer) => peer.number == number,
+        Some(connection) => connection.number == number,
         None => false,
     }
 }
@@ -35,26 +36,30 @@ fn is_held<S: Duplex, A: Allocator + Copy>(places: &[Option<Peer<S, A>>], number
 /// Whether a connection is held under this number of which nothing is kept, and whose stream has said
 /// that it has nothing.
 pub fn is_quiet<S: Duplex, A: Allocator + Copy>(
-    places: &[Option<Peer<S, A>>],
+    places: &[Option<Connection<S, A>>],
     number: u64,
-) -> bool {
+) -> bool
+    ensures { result ≡ true → IsQuiet (held places.now number) }
+{
     match places.get(place_of(number)) {
-        Some(Some(peer)) => peer.number == number && !peer.may_give && peer.kept.is_empty(),
+        Some(Some(connection)) => connection.number == number
+            && !connection.may_give
+            && connection.kept.is_empty(),
         _ => false,
     }
 }
 
 /// Takes the connection of this number out of its place.
 pub fn take_out<S: Duplex, A: Allocator + Copy>(
-    places: &mut Vec<Option<Peer<S, A>>, A>,
+    places: &mut Vec<Option<Connection<S, A>>, A>,
     number: u64,
-) -> Option<Peer<S, A>>
+) -> Option<Connection<S, A>>
     ensures out { result ≡ held places.old.items number }
-    ensures number { IfSome result (λ peer. peer.number ≡ number) }
+    ensures number { IfSome result (λ connection. connection.number ≡ number) }
     ensures others { HoldsOthers places.old.items places.new.items number }
     ensures none { held places.new.items number ≡ None }
-    ensures room { IfSome result (λ peer. number % PLACES < vec_len places.new) }
-    ensures free { IfSome result (λ peer.
+    ensures room { IfSome result (λ connection. number % PLACES < vec_len places.new) }
+    ensures free { IfSome result (λ connection.
         slice_index_or places.new.items (number % PLACES) None ≡ None) }
 {
     if !is_held(places.as_slice(), number) {
@@ -65,37 +70,42 @@ pub fn take_out<S: Duplex, A: Allocator + Copy>(
 
 /// Puts a connection into its place, which is free.
 pub fn put<S: Duplex, A: Allocator + Copy>(
-    places: &mut Vec<Option<Peer<S, A>>, A>,
-    peer: Peer<S, A>,
+    places: &mut Vec<Option<Connection<S, A>>, A>,
+    connection: Connection<S, A>,
 )
-    requires room { peer.number % PLACES < vec_len places.old }
-    requires free { slice_index_or places.old.items (peer.number % PLACES) None ≡ None }
-    ensures held { held places.new.items peer.number ≡ Some peer }
-    ensures others { HoldsOthers places.old.items places.new.items peer.number }
-    ensures none { held places.old.items peer.number ≡ None }
+    requires room { connection.number % PLACES < vec_len places.old }
+    requires free { slice_index_or places.old.items (connection.number % PLACES) None ≡ None }
+    ensures held { held places.new.items connection.number ≡ Some connection }
+    ensures others { HoldsOthers places.old.items places.new.items connection.number }
+    ensures none { held places.old.items connection.number ≡ None }
 {
-    let place = place_of(peer.number);
-    places[place] = Some(peer);
+    let place = place_of(connection.number);
+    places[place] = Some(connection);
 }
 
 /// The stream of this number may be ready.
-pub fn wake<S: Duplex, A: Allocator + Copy>(places: &mut Vec<Option<Peer<S, A>>, A>, number: u64)
+pub fn wake<S: Duplex, A: Allocator + Copy>(
+    places: &mut Vec<Option<Connection<S, A>>, A>,
+    number: u64,
+)
     ensures alike { AreAlike places.old.items places.new.items }
+    ensures awake { IsAwake (held places.new.items number) }
+    ensures others { HoldsOthers places.old.items places.new.items number }
 {
-    if let Some(mut peer) = take_out(places, number) {
-        peer.may_give = true;
-        peer.may_take = true;
-        put(places, peer);
+    if let Some(mut connection) = take_out(places, number) {
+        connection.may_give = true;
+        connection.may_take = true;
+        put(places, connection);
     }
 }
 
 /// A place that is free: the first one, or one more.
 pub fn free_place<S: Duplex, A: Allocator + Copy>(
-    places: &mut Vec<Option<Peer<S, A>>, A>,
+    places: &mut Vec<Option<Connection<S, A>>, A>,
 ) -> Result<usize, WireFault>
     ensures room { IfOk result (λ place. place < vec_len places.new) }
     ensures free { IfOk result (λ place. slice_index_or places.new.items place None ≡ None) }
-    ensures alike { AreAlike places.old.items places.new.items }
+    ensures same { HoldsAll places.old.items places.new.items }
     ensures memory { IfErr result (λ fault. fault ≡ OutOfMemory) }
 {
     for place in 0..places.len() {

@@ -81,6 +81,8 @@ pub fn watch_again(registry: &Registry, other: &mut UnixListener) -> io::Result<
 impl<A: Allocator + Copy> Listener for MioListener<A> {
     type Stream = UnixStream;
 
+    ghost named = { λ listener. listener.ready.items };
+
     fn accept(&mut self, number: u64) -> io::Result<UnixStream> {
         let (mut stream, _) = self.listener.accept()?;
         let both_ways = Interest::READABLE | Interest::WRITABLE;

@@ -1,15 +1,18 @@
 //! A wire over a listener.
 
-ghost use Rattle.std.specs.Prelude.{◌≡◌, ◌≤◌, ◌-◌, ◌^◌, false, true, length, IfOk, OnErr};
+ghost use Rattle.std.specs.Prelude.{◌≡◌, ◌≢◌, ◌≤◌, ◌-◌, ◌^◌, ◌&&◌, ◌||◌, ℕ, not, false, true, length, is_some, IfOk, None, Ok, Some, OnErr, OnOk};
 ghost use Rattle.usi_lines.specs.OneLine.{IsOneLine};
 ghost use Rattle.wires.specs.Report.{GivesNumber, HasCause, HasRisen, IsWithin, KeepsAll, Reads, Shuts, Writes, bytes_read, bytes_written};
 ghost use Rattle.wires.specs.declared.wire.WireFault.TheVariants.{Device};
-ghost use Rattle.stream_wire.specs.Held.{AreAlike, counted};
-ghost use Rattle.stream_wire.specs.Streams.{Notes};
-ghost use Rattle.stream_wire.specs.declared.peer.TheConstants.{PLACES};
+ghost use Rattle.wires.specs.Asked.{Asks};
+ghost use Rattle.stream_wire.specs.Asking.{AreAwake, AreAwakeStill, AsksToGive, AsksToTake, GivesKept, IsAskedForNext, IsAskedToAccept, IsAwake, OfHeld, StaysOpen, waits_for};
+ghost use Rattle.stream_wire.specs.Held.{AreAlike, counted, has_kept, held, kept_of};
+ghost use Rattle.stream_wire.specs.Streams.{NamesListener, Notes};
+ghost use Rattle.stream_wire.specs.declared.listener.Ready.TheVariants as who;
+ghost use Rattle.stream_wire.specs.declared.connection.TheConstants.{PLACES};
 
+use crate::connection::{Connection, PLACES};
 use crate::listener::{Listener, Ready};
-use crate::peer::{PLACES, Peer};
 use crate::places::{free_place, is_quiet, number_at, put, take_out, wake};
 use std::alloc::Allocator;
 use std::io;
@@ -37,7 +40,7 @@ pub struct StreamWire<L: Listener, A: Allocator> {
     // The last accept found somebody or failed, or a look has named the listener since.
     may_accept: bool,
     // By the place of each one's number.
-    places: Vec<Option<Peer<L::Stream, A>>, A>,
+    places: Vec<Option<Connection<L::Stream, A>>, A>,
     // A read has left something to be given, and no wait has returned at once since.
     has_more: bool,
     // A call failed or was interrupted, and nothing may say when to make it again.
@@ -49,6 +52,17 @@ pub struct StreamWire<L: Listener, A: Allocator> {
     pub received: u64,
     /// How many bytes writes took. It stays at the greatest number once it is there.
     pub sent: u64,
+}
+
+/// How long a wait lasts at most: for a while, where nothing may say when somebody is ready.
+fn patience_for(is_unsure: bool) -> Option<Duration>
+    ensures { is_some result ≡ is_unsure }
+{
+    if is_unsure {
+        Some(Duration::from_millis(PATIENCE))
+    } else {
+        None
+    }
 }
 
 /// How many bytes a read gave.
@@ -79,6 +93,7 @@ impl<L: Listener, A: Allocator + Copy> StreamWire<L, A> {
         ensures bound { ⟦<StreamWire<L, A> as Wire>⟧.bound result ≡ 0 }
         ensures failed { ⟦<StreamWire<L, A> as Wire>⟧.failed result ≡ 0 }
         ensures none { (result.received ≡ 0) × (result.sent ≡ 0) }
+        ensures opens { result.may_accept ≡ true }
         ensures report { KeepsAll (L.told listener) (⟦<StreamWire<L, A> as Wire>⟧.report result) }
     {
         StreamWire {
@@ -103,6 +118,8 @@ impl<L: Listener, A: Allocator + Copy> StreamWire<L, A> {
         ensures listener { self.new.listener ≡ self.old.listener }
         ensures places { self.new.places ≡ self.old.places }
         ensures next { self.new.next ≡ self.old.next }
+        ensures opens { self.new.may_accept ≡ self.old.may_accept }
+        ensures more { self.new.has_more ≡ self.old.has_more }
         ensures unsure { self.new.is_unsure ≡ self.old.is_unsure }
         ensures received { self.new.received ≡ self.old.received }
         ensures sent { self.new.sent ≡ self.old.sent }
@@ -116,9 +133,12 @@ impl<L: Listener, A: Allocator + Copy> StreamWire<L, A> {
         ensures same { result ≡ found }
         ensures noted { Notes (L.told self.old.listener) (L.told self.new.listener) number result }
         ensures cause { HasCause self.old.failed self.new.failed result }
-        ensures waits { L.waits self.new.listener ≡ L.waits self.old.listener }
+        ensures asks { L.asked self.new.listener ≡ L.asked self.old.listener }
         ensures places { self.new.places ≡ self.old.places }
         ensures next { self.new.next ≡ self.old.next }
+        ensures opens { self.new.may_accept ≡ self.old.may_accept }
+        ensures more { self.new.has_more ≡ self.old.has_more }
+        ensures unsure { self.new.is_unsure ≡ self.old.is_unsure }
         ensures received { self.new.received ≡ self.old.received }
         ensures sent { self.new.sent ≡ self.old.sent }
     {
@@ -134,12 +154,42 @@ impl<L: Listener, A: Allocator + Copy> StreamWire<L, A> {
         }
     }
 
+    /// Remembers one who may be ready.
+    fn note(&mut self, found: Option<Ready>)
+        ensures awake { (number : ℕ) → found ≡ Some (who.Stream number)
+            → IsAwake (held self.new.places.items number) }
+        ensures still { AreAwakeStill self.old.places.items self.new.places.items }
+        ensures named { found ≡ Some who.Listener → self.new.may_accept ≡ true }
+        ensures opens { self.old.may_accept ≡ true → self.new.may_accept ≡ true }
+        ensures alike { AreAlike self.old.places.items self.new.places.items }
+        ensures listener { self.new.listener ≡ self.old.listener }
+        ensures next { self.new.next ≡ self.old.next }
+        ensures failed { self.new.failed ≡ self.old.failed }
+        ensures more { self.new.has_more ≡ self.old.has_more }
+        ensures unsure { self.new.is_unsure ≡ self.old.is_unsure }
+        ensures received { self.new.received ≡ self.old.received }
+        ensures sent { self.new.sent ≡ self.old.sent }
+    {
+        match found {
+            Some(Ready::Listener) => self.may_accept = true,
+            Some(Ready::Stream(number)) => wake(&mut self.places, number),
+            None => {}
+        }
+    }
+
     /// Remembers who may be ready, by what a look or a wait has found.
     fn remember(&mut self, looked: io::Result<()>) -> Result<(), WireFault>
         ensures cause { HasCause self.old.failed self.new.failed result }
         ensures listener { self.new.listener ≡ self.old.listener }
         ensures alike { AreAlike self.old.places.items self.new.places.items }
+        ensures awake { OnOk result
+            (AreAwake (L.named self.new.listener) self.new.places.items) }
+        ensures named { OnOk result
+            (NamesListener (L.named self.new.listener) → self.new.may_accept ≡ true) }
+        ensures opens { self.old.may_accept ≡ true → self.new.may_accept ≡ true }
         ensures next { self.new.next ≡ self.old.next }
+        ensures more { self.new.has_more ≡ self.old.has_more }
+        ensures unsure { self.new.is_unsure ≡ self.old.is_unsure }
         ensures received { self.new.received ≡ self.old.received }
         ensures sent { self.new.sent ≡ self.old.sent }
     {
@@ -147,11 +197,8 @@ impl<L: Listener, A: Allocator + Copy> StreamWire<L, A> {
             return Err(self.fault());
         }
         for place in 0..self.listener.found() {
-            match self.listener.ready(place) {
-                Some(Ready::Listener) => self.may_accept = true,
-                Some(Ready::Stream(number)) => wake(&mut self.places, number),
-                None => {}
-            }
+            let found = self.listener.ready(place);
+            self.note(found);
         }
         Ok(())
     }
@@ -161,7 +208,13 @@ impl<L: Listener, A: Allocator + Copy> StreamWire<L, A> {
         requires left { self.old.next ≤ 2 ^ 64 - 1 - PLACES }
         ensures number { GivesNumber self.old.next self.new.next result }
         ensures cause { HasCause self.old.failed self.new.failed result }
-        ensures waits { L.waits self.new.listener ≡ L.waits self.old.listener }
+        ensures asks { IsAskedForNext
+            (L.asked self.old.listener) (L.asked self.new.listener) result }
+        ensures named { L.named self.new.listener ≡ L.named self.old.listener }
+        ensures awake { AreAwakeStill self.old.places.items self.new.places.items }
+        ensures opens { result ≢ Ok None → self.new.may_accept ≡ self.old.may_accept }
+        ensures more { self.new.has_more ≡ self.old.has_more }
+        ensures unsure { self.new.is_unsure ≡ self.old.is_unsure }
         ensures received { self.new.received ≡ self.old.received }
         ensures sent { self.new.sent ≡ self.old.sent }
         ensures kept { KeepsAll
@@ -175,7 +228,10 @@ impl<L: Listener, A: Allocator + Copy> StreamWire<L, A> {
         let number = number_at(self.next, place as u64);
         match self.listener.accept(number) {
             Ok(stream) => {
-                put(&mut self.places, Peer::new(self.alloc, number, stream));
+                put(
+                    &mut self.places,
+                    Connection::new(self.alloc, number, stream),
+                );
                 self.next = number + 1;
                 Ok(Some(number))
             }
@@ -192,7 +248,12 @@ impl<L: Listener, A: Allocator + Copy> StreamWire<L, A> {
         requires left { self.old.next ≤ 2 ^ 64 - 1 - PLACES }
         ensures number { GivesNumber self.old.next self.new.next result }
         ensures cause { HasCause self.old.failed self.new.failed result }
-        ensures waits { L.waits self.new.listener ≡ L.waits self.old.listener }
+        ensures asks { IsAskedForNext
+            (L.asked self.old.listener) (L.asked self.new.listener) result }
+        ensures named { L.named self.new.listener ≡ L.named self.old.listener }
+        ensures awake { AreAwakeStill self.old.places.items self.new.places.items }
+        ensures opens { result ≢ Ok None → self.new.may_accept ≡ self.old.may_accept }
+        ensures more { self.new.has_more ≡ self.old.has_more }
         ensures kept { KeepsAll
             (⟦<StreamWire<L, A> as Wire>⟧.report self.old)
             (⟦<StreamWire<L, A> as Wire>⟧.report self.new) }
@@ -216,17 +277,24 @@ impl<L: Listener, A: Allocator + Copy> StreamWire<L, A> {
             number result buf.new }
         ensures line { IsOneLine (bytes_read result buf.new) }
         ensures cause { HasCause self.old.failed self.new.failed result }
-        ensures waits { L.waits self.new.listener ≡ L.waits self.old.listener }
+        ensures first { GivesKept (kept_of self.old.places.items number) result buf.new }
+        ensures asks { L.asked self.new.listener ≡ L.asked self.old.listener }
+        ensures gives { OfHeld
+            (λ before after. AsksToGive L.Stream.calls before after (length buf.old) result)
+            (held self.old.places.items number) (held self.new.places.items number) }
+        ensures opens { self.new.may_accept ≡ self.old.may_accept }
+        ensures more { self.new.has_more
+            ≡ (self.old.has_more || has_kept self.new.places.items number) }
         ensures received { self.new.received ≡ self.old.received }
         ensures sent { self.new.sent ≡ self.old.sent }
     {
-        let Some(mut peer) = take_out(&mut self.places, number) else {
+        let Some(mut connection) = take_out(&mut self.places, number) else {
             return self.answer(number, Err(WireFault::Device));
         };
-        let got = peer.read(self.alloc, buf);
-        self.has_more = self.has_more | !peer.kept.is_empty();
-        self.is_unsure = self.is_unsure | (peer.may_give && matches!(got, Ok(Got::Nothing)));
-        put(&mut self.places, peer);
+        let got = connection.read(self.alloc, buf);
+        self.has_more = self.has_more | !connection.kept.is_empty();
+        self.is_unsure = self.is_unsure | (connection.may_give && matches!(got, Ok(Got::Nothing)));
+        put(&mut self.places, connection);
         self.answer(number, got)
     }
 
@@ -238,16 +306,20 @@ impl<L: Listener, A: Allocator + Copy> StreamWire<L, A> {
             (⟦<StreamWire<L, A> as Wire>⟧.report self.new)
             number result buf.now }
         ensures cause { HasCause self.old.failed self.new.failed result }
-        ensures waits { L.waits self.new.listener ≡ L.waits self.old.listener }
+        ensures asks { L.asked self.new.listener ≡ L.asked self.old.listener }
+        ensures takes { OfHeld (λ before after. AsksToTake L.Stream.calls before after result)
+            (held self.old.places.items number) (held self.new.places.items number) }
+        ensures opens { self.new.may_accept ≡ self.old.may_accept }
+        ensures more { self.new.has_more ≡ self.old.has_more }
         ensures received { self.new.received ≡ self.old.received }
         ensures sent { self.new.sent ≡ self.old.sent }
     {
-        let Some(mut peer) = take_out(&mut self.places, number) else {
+        let Some(mut connection) = take_out(&mut self.places, number) else {
             return self.answer(number, Err(WireFault::Device));
         };
-        let taken = peer.write(buf);
-        self.is_unsure = self.is_unsure | (peer.may_take && matches!(taken, Ok(0)));
-        put(&mut self.places, peer);
+        let taken = connection.write(buf);
+        self.is_unsure = self.is_unsure | (connection.may_take && matches!(taken, Ok(0)));
+        put(&mut self.places, connection);
         self.answer(number, taken)
     }
 }
@@ -255,7 +327,8 @@ impl<L: Listener, A: Allocator + Copy> StreamWire<L, A> {
 impl<L: Listener, A: Allocator + Copy> Wire for StreamWire<L, A> {
     ghost use Rattle.stream_wire.specs.Held.{reported};
 
-    ghost report = { λ wire. reported L.Stream.remaining L.Stream.contents (L.told wire.listener) wire.places.items };
+    ghost report = { λ wire. reported L.Stream.remaining L.Stream.contents
+        (L.told wire.listener) wire.places.items };
 
     ghost bound = { λ wire. wire.next };
 
@@ -267,7 +340,12 @@ impl<L: Listener, A: Allocator + Copy> Wire for StreamWire<L, A> {
             (⟦<StreamWire<L, A> as Wire>⟧.report self.old)
             (⟦<StreamWire<L, A> as Wire>⟧.report self.new) }
         ensures cause { HasCause self.old.failed self.new.failed result }
-        ensures waits { L.waits self.new.listener ≡ L.waits self.old.listener }
+        ensures asks { IsAskedToAccept self.old.may_accept (L.named self.new.listener)
+            (L.asked self.old.listener) (L.asked self.new.listener) result }
+        ensures opens { StaysOpen result self.old.may_accept self.new.may_accept }
+        ensures awake { OnOk result
+            (AreAwake (L.named self.new.listener) self.new.places.items) }
+        ensures more { self.new.has_more ≡ self.old.has_more }
         ensures received { self.new.received ≡ self.old.received }
         ensures sent { self.new.sent ≡ self.old.sent }
     {
@@ -290,7 +368,14 @@ impl<L: Listener, A: Allocator + Copy> Wire for StreamWire<L, A> {
             number result buf.new }
         ensures line { IsOneLine (bytes_read result buf.new) }
         ensures cause { HasCause self.old.failed self.new.failed result }
-        ensures waits { L.waits self.new.listener ≡ L.waits self.old.listener }
+        ensures first { GivesKept (kept_of self.old.places.items number) result buf.new }
+        ensures asks { L.asked self.new.listener ≡ L.asked self.old.listener }
+        ensures gives { OfHeld
+            (λ before after. AsksToGive L.Stream.calls before after (length buf.old) result)
+            (held self.old.places.items number) (held self.new.places.items number) }
+        ensures opens { self.new.may_accept ≡ self.old.may_accept }
+        ensures more { self.new.has_more
+            ≡ (self.old.has_more || has_kept self.new.places.items number) }
         ensures received { self.new.received
             ≡ counted self.old.received (bytes_read result buf.new) }
         ensures sent { self.new.sent ≡ self.old.sent }
@@ -311,7 +396,11 @@ impl<L: Listener, A: Allocator + Copy> Wire for StreamWire<L, A> {
             (⟦<StreamWire<L, A> as Wire>⟧.report self.new)
             number result buf.now }
         ensures cause { HasCause self.old.failed self.new.failed result }
-        ensures waits { L.waits self.new.listener ≡ L.waits self.old.listener }
+        ensures asks { L.asked self.new.listener ≡ L.asked self.old.listener }
+        ensures takes { OfHeld (λ before after. AsksToTake L.Stream.calls before after result)
+            (held self.old.places.items number) (held self.new.places.items number) }
+        ensures opens { self.new.may_accept ≡ self.old.may_accept }
+        ensures more { self.new.has_more ≡ self.old.has_more }
         ensures sent { self.new.sent ≡ counted self.old.sent (bytes_written result buf.now) }
         ensures received { self.new.received ≡ self.old.received }
     {
@@ -328,13 +417,15 @@ impl<L: Listener, A: Allocator + Copy> Wire for StreamWire<L, A> {
             (⟦<StreamWire<L, A> as Wire>⟧.report self.new)
             number }
         ensures faults { self.old.failed ≤ self.new.failed }
-        ensures waits { L.waits self.new.listener ≡ L.waits self.old.listener }
+        ensures asks { L.asked self.new.listener ≡ L.asked self.old.listener }
+        ensures opens { self.new.may_accept ≡ self.old.may_accept }
+        ensures more { self.new.has_more ≡ self.old.has_more }
         ensures received { self.new.received ≡ self.old.received }
         ensures sent { self.new.sent ≡ self.old.sent }
     {
         self.listener.shut(number);
-        if let Some(peer) = take_out(&mut self.places, number) {
-            let Peer { stream, kept, .. } = peer;
+        if let Some(connection) = take_out(&mut self.places, number) {
+            let Connection { stream, kept, .. } = connection;
             self.listener.take_back(number, stream, kept.as_slice());
         }
     }
@@ -345,7 +436,12 @@ impl<L: Listener, A: Allocator + Copy> Wire for StreamWire<L, A> {
             (⟦<StreamWire<L, A> as Wire>⟧.report self.old)
             (⟦<StreamWire<L, A> as Wire>⟧.report self.new) }
         ensures cause { HasCause self.old.failed self.new.failed result }
-        ensures waits { idle ≡ false → L.waits self.new.listener ≡ L.waits self.old.listener }
+        ensures asks { Asks (L.asked self.old.listener) (L.asked self.new.listener)
+            (waits_for idle self.old.has_more self.old.is_unsure) }
+        ensures awake { OnOk result (idle ≡ true → self.old.has_more ≡ false
+            → AreAwake (L.named self.new.listener) self.new.places.items) }
+        ensures opens { self.old.may_accept ≡ true → self.new.may_accept ≡ true }
+        ensures more { self.new.has_more ≡ (self.old.has_more && not idle) }
         ensures received { self.new.received ≡ self.old.received }
         ensures sent { self.new.sent ≡ self.old.sent }
     {
@@ -356,13 +452,9 @@ impl<L: Listener, A: Allocator + Copy> Wire for StreamWire<L, A> {
             self.has_more = false;
             return Ok(());
         }
-        let patience = if self.is_unsure {
-            Some(Duration::from_millis(PATIENCE))
-        } else {
-            None
-        };
+        let is_unsure = self.is_unsure;
         self.is_unsure = false;
-        let looked = self.listener.wait(patience);
+        let looked = self.listener.wait(patience_for(is_unsure));
         self.remember(looked)
     }
 

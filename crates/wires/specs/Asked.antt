@@ -10,8 +10,8 @@ pub data Call : Type 0 where
   Shut : (number : ℕ) → Call
   Wait : (idle : Bool) (answer : Result (Unit {0}) WireFault) → Call
 
--- a wire that reports which calls it was asked for was asked for these since, in this order
-abbrev pub Asks : Option (List Call) → Option (List Call) → List Call → Type 0
+-- what reports which calls it was asked for, as a wire of these calls, was asked for these since, in this order
+abbrev pub Asks : {C : Type 0} → Option (List C) → Option (List C) → List C → Type 0
 Asks None new calls = ⊤
 Asks (Some before) new calls = new ≡ Some (before ++ calls)
 

@@ -28,7 +28,12 @@ impl<A: Allocator + Copy> Model for MemoryWire<A> {
 
     ghost Value = { WireState };
 
-    ghost view = { λ w. record { peers = w.peers.items; accepted = w.accepted; failed = w.failed; fails_in = w.fails_in } };
+    ghost view = { λ w. record {
+      peers = w.peers.items;
+      accepted = w.accepted;
+      failed = w.failed;
+      fails_in = w.fails_in;
+    } };
 
     ghost invariant = { λ w. w.accepted ≤ vec_len w.peers };
 }

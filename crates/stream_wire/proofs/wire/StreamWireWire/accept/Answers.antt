@@ -1,5 +1,6 @@
 use Rattle.wires.proofs.Peers.{kept_then}
 use Rattle.stream_wire.specs.Held.{reported}
+use Rattle.stream_wire.proofs.Asked.{asked_next}
 use Rattle.stream_wire.proofs.Reports.{alike_keeps}
 use Rattle.stream_wire.proofs.wire.StreamWireWire.accept.Goals as goal
 
@@ -12,3 +13,7 @@ returns-clause-kept g c =
     let old = c.args.self.now in
     let looked = alike_keeps r t (told old.listener) (told c.look-looked.new.self) old.places.items c.remember.new.self.places.items c.remember.ensures.alike c.look-looked.ensures.kept in
     λ n. kept_then (reported r t (told old.listener) old.places.items) (reported r t (told c.look-looked.new.self) c.remember.new.self.places.items) (reported r t (told c.take_in.new.self.listener) c.take_in.new.self.places.items) n (looked n) (rw c.remember.ensures.listener at c.take_in.ensures.kept n)
+
+-- a look, and then the next one who waits
+pub returns-clause-asks : goal.returns-clause-asks
+returns-clause-asks g c = asked_next _ _ _ _ _ _ c.look-looked.ensures.asked (rw c.remember.ensures.listener at c.take_in.ensures.asks)

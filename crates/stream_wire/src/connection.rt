@@ -1,15 +1,20 @@
 //! A connection that is held.
 
-ghost use Rattle.std.specs.Prelude.{◌≡◌, ◌≢◌, ◌<◌, [], length, OnOk, IfOk, ◌≤◌};
+ghost use Rattle.std.specs.Prelude.{◌≡◌, ◌≢◌, ◌<◌, ◌⊎◌, ◌≤◌, [], true, length, Some, Ok, Err, IfOk};
 ghost use Rattle.std.specs.Io.KnownBytes.{Appends, Consumes, Keeps};
 ghost use Rattle.usi_lines.specs.OneLine.{IsOneLine};
 ghost use Rattle.wires.specs.Report.{EndsAt, IsWithin, bytes_read, bytes_written};
+ghost use Rattle.wires.specs.declared.wire.Got.TheVariants.{Nothing};
+ghost use Rattle.wires.specs.declared.wire.WireFault.TheVariants.{OutOfMemory};
+ghost use Rattle.stream_wire.specs.Asking.{AsksToGive, AsksToTake, GivesKept, IsAwake};
 ghost use Rattle.stream_wire.specs.Held.{unread_of, written_of};
+ghost use Rattle.stream_wire.specs.Streams.{IsCalledOnce};
 
 use crate::kept::Kept;
 use crate::listener::Duplex;
 use std::alloc::Allocator;
 use std::io::ErrorKind;
+use usi_lines::cut_line;
 use wires::{Got, WireFault};
 
 /// Each number has one of so many places: its remainder. Numbers are chosen so that the places of open
@@ -18,7 +23,7 @@ pub const PLACES: u64 = 1_048_576;
 
 /// A connection, and what the last calls and looks showed of it.
 #[derive(Drop)]
-pub struct Peer<S: Drop, A: Allocator> {
+pub struct Connection<S: Drop, A: Allocator> {
     pub number: u64,
     pub stream: S,
     // What was read and is not given yet.
@@ -29,14 +34,15 @@ pub struct Peer<S: Drop, A: Allocator> {
     pub may_take: bool,
 }
 
-impl<S: Duplex, A: Allocator + Copy> Peer<S, A> {
+impl<S: Duplex, A: Allocator + Copy> Connection<S, A> {
     /// Nothing is kept.
-    pub fn new(alloc: A, number: u64, stream: S) -> Peer<S, A>
+    pub fn new(alloc: A, number: u64, stream: S) -> Connection<S, A>
         ensures number { result.number ≡ number }
         ensures stream { result.stream ≡ stream }
         ensures kept { result.kept ≡ [] }
+        ensures awake { IsAwake (Some result) }
     {
-        Peer {
+        Connection {
             number,
             stream,
             kept: Kept::new(alloc),
@@ -45,14 +51,18 @@ impl<S: Duplex, A: Allocator + Copy> Peer<S, A> {
         }
     }
 
-    /// Reads once, and keeps what came. Room for it is asked for before.
-    fn fill(&mut self, alloc: A, buf: &mut [u8]) -> Result<Got, WireFault>
+    /// Reads once, and gives the first line of what came, or all of it where no line has ended. The rest
+    /// is kept, in room that is asked for before.
+    fn read_stream(&mut self, alloc: A, buf: &mut [u8]) -> Result<Got, WireFault>
         requires { self.old.kept ≡ [] }
         ensures number { self.new.number ≡ self.old.number }
-        ensures len { length buf.new ≡ length buf.old }
-        ensures unread { Keeps (unread_of S.remaining self.old) (unread_of S.remaining self.new) }
+        ensures within { IsWithin result (length buf.new) }
+        ensures line { IsOneLine (bytes_read result buf.new) }
+        ensures unread { Consumes (unread_of S.remaining self.old)
+            (unread_of S.remaining self.new) (bytes_read result buf.new) }
         ensures written { Keeps (written_of S.contents self.old) (written_of S.contents self.new) }
         ensures ended { EndsAt result (unread_of S.remaining self.new) }
+        ensures asked { AsksToGive S.calls self.old self.new (length buf.old) result }
     {
         if buf.is_empty() || !self.may_give {
             return Ok(Got::Nothing);
@@ -61,8 +71,11 @@ impl<S: Duplex, A: Allocator + Copy> Peer<S, A> {
         match self.stream.receive(buf) {
             Ok(0) => Ok(Got::Ended),
             Ok(n) => {
-                self.kept = Kept::within(room, buf.split_at(n).0);
-                Ok(Got::Bytes(n))
+                let (line, rest) = cut_line(buf.split_at(n).0);
+                if !rest.is_empty() {
+                    self.kept = Kept::within(room, rest);
+                }
+                Ok(Got::Bytes(line.len()))
             }
             Err(error) if error.kind() == ErrorKind::WouldBlock => {
                 self.may_give = false;
@@ -73,7 +86,7 @@ impl<S: Duplex, A: Allocator + Copy> Peer<S, A> {
         }
     }
 
-    /// Gives the first line, or a part of it, of what is kept; where nothing is, reads once before.
+    /// Gives the first line, or a part of it, of what is kept; where nothing is, of what the stream has.
     pub fn read(&mut self, alloc: A, buf: &mut [u8]) -> Result<Got, WireFault>
         ensures number { self.new.number ≡ self.old.number }
         ensures within { IsWithin result (length buf.new) }
@@ -82,12 +95,11 @@ impl<S: Duplex, A: Allocator + Copy> Peer<S, A> {
             (unread_of S.remaining self.new) (bytes_read result buf.new) }
         ensures written { Keeps (written_of S.contents self.old) (written_of S.contents self.new) }
         ensures ended { EndsAt result (unread_of S.remaining self.new) }
+        ensures first { GivesKept self.old.kept result buf.new }
+        ensures asked { AsksToGive S.calls self.old self.new (length buf.old) result }
     {
         if self.kept.is_empty() {
-            match self.fill(alloc, buf)? {
-                Got::Bytes(_) => {}
-                other => return Ok(other),
-            }
+            return self.read_stream(alloc, buf);
         }
         match self.kept.give_line(buf) {
             0 => Ok(Got::Nothing),
@@ -102,6 +114,8 @@ impl<S: Duplex, A: Allocator + Copy> Peer<S, A> {
         ensures unread { Keeps (unread_of S.remaining self.old) (unread_of S.remaining self.new) }
         ensures written { Appends (written_of S.contents self.old)
             (written_of S.contents self.new) (bytes_written result buf.now) }
+        ensures kept { self.new.kept ≡ self.old.kept }
+        ensures asked { AsksToTake S.calls self.old self.new result }
     {
         if !self.may_take {
             return Ok(0);

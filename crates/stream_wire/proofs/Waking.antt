@@ -1,0 +1,62 @@
+-- Those that a look or a wait has named are awake.
+use Rattle.std.proofs.Common.{◌≡◌, ◌≢◌, ℕ, Bool, true, ◌+◌, ◌<◌, List, Option, Some, None, refl, sym, ap, subst, ◌∙◌, inl, inr, arith}
+use Rattle.std.proofs.lemmas.Bool.{cases_eq}
+use Rattle.std.proofs.lemmas.Option.{slice_get_within}
+use Rattle.std.specs.Prelude.{slice_get, length}
+use Rattle.stream_wire.specs.declared.listener.Ready.{Ready}
+use Rattle.stream_wire.specs.declared.listener.Ready.TheVariants.{Listener, Stream}
+use Rattle.stream_wire.specs.declared.connection.Connection.{Connection}
+use Rattle.stream_wire.specs.Streams.{NamesListener}
+use Rattle.stream_wire.specs.Held.{AreAlike, HoldsAll, HoldsOthers, IsAlike, held}
+use Rattle.stream_wire.specs.Asking.{AreAwake, AreAwakeStill, IsAwake}
+
+module _ {S A : Type 0} where
+  -- the first so many are awake
+  abbrev pub AwakeTo : ℕ → List Ready → List (Option (Connection S A)) → Type 0
+  AwakeTo n named places = (place number : ℕ) → place < n → slice_get named place ≡ Some (Stream number) → IsAwake (held places number)
+
+  -- what holds the same is awake still
+  pub still_same : (old new : List (Option (Connection S A))) → HoldsAll old new → AreAwakeStill old new
+  still_same old new same m awake = subst (λ x. IsAwake x) (sym (same m)) awake
+
+  -- where one is awake and the others are as they were
+  pub still_one : (old new : List (Option (Connection S A))) (number : ℕ) → HoldsOthers old new number → IsAwake (held new number) → AreAwakeStill old new
+  still_one old new number others awake m before = elim (cases_eq m number) [
+    | inl same ↦ subst (λ (k : ℕ). IsAwake (held new k)) (sym same) awake
+    | inr apart ↦ subst (λ x. IsAwake x) (sym (others m apart)) before
+  ]
+
+  pub awake_still : (named : List Ready) (old new : List (Option (Connection S A))) → AreAwakeStill old new → AreAwake named old → AreAwake named new
+  awake_still named old new still awake place number is = still number (awake place number is)
+
+  -- one more was remembered
+  pub awake_more : (n : ℕ) (named : List Ready) (found : Option Ready) (old new : List (Option (Connection S A))) → found ≡ slice_get named n → ((number : ℕ) → found ≡ Some (Stream number) → IsAwake (held new number)) → AreAwakeStill old new → AwakeTo n named old → AwakeTo (n + 1) named new
+  awake_more n named found old new is one still awake place number lt e = elim (cases_eq place n) [
+    | inl same ↦ one number (is ∙ (ap (λ (k : ℕ). slice_get named k) (sym same) ∙ e))
+    | inr apart ↦ still number (awake place number (let a : place ≢ n = apart in omega arith) e)
+  ]
+
+  -- what holds the same is alike
+  alike_refl : (a : Option (Connection S A)) → IsAlike a a
+  alike_refl None = refl
+  alike_refl (Some p) = (refl, refl)
+
+  pub same_alike : (old new : List (Option (Connection S A))) → HoldsAll old new → AreAlike old new
+  same_alike old new same n = subst (λ x. IsAlike (held old n) x) (sym (same n)) (alike_refl (held old n))
+
+  -- all of them
+  pub awake_all : (n : ℕ) (named : List Ready) (places : List (Option (Connection S A))) → n ≡ length named → AwakeTo n named places → AreAwake named places
+  awake_all n named places e awake place number is = awake place number (let lt : place < length named = slice_get_within named place (Stream number) is in omega arith) is
+
+-- where one of the first so many is the listener, it is so
+abbrev pub NamedTo : ℕ → List Ready → Bool → Type 0
+NamedTo n named now = (place : ℕ) → place < n → slice_get named place ≡ Some Listener → now ≡ true
+
+pub named_more : (n : ℕ) (named : List Ready) (found : Option Ready) (old new : Bool) → found ≡ slice_get named n → (found ≡ Some Listener → new ≡ true) → (old ≡ true → new ≡ true) → NamedTo n named old → NamedTo (n + 1) named new
+named_more n named found old new is one still before place lt e = elim (cases_eq place n) [
+  | inl same ↦ one (is ∙ (ap (λ (k : ℕ). slice_get named k) (sym same) ∙ e))
+  | inr apart ↦ still (before place (let a : place ≢ n = apart in omega arith) e)
+]
+
+pub named_all : (n : ℕ) (named : List Ready) (now : Bool) → n ≡ length named → NamedTo n named now → NamesListener named → now ≡ true
+named_all n named now e before names = before names.0 (let lt : names.0 < length named = slice_get_within named names.0 Listener names.1 in omega arith) names.1
