@@ -27,7 +27,7 @@ use Rattle.wires.specs.Moves.{AllMove}
 use Rattle.socket_loop.specs.Turns.{Fits, Accepted, AreNumbered, HasSession, HaveSessions, IsOneOf, IsRejected, IsAway, IsNew, Accepts, Admits, openings, rejection_text}
 use Rattle.wires.proofs.Peers.{kept_same, kept_then, all_kept, moves_then, away_moves, stays_raised, rises_then, stays_rise, reported_failure, raised_rises, Consumes-none, Appends-none, Keeps-Appends}
 use Rattle.wires.specs.Asked.{Call, Accept, Asks}
-use Rattle.socket_loop.specs.Calls.{AllAccepted, OneAdmitted, AsksAll, GivesNobody}
+use Rattle.socket_loop.specs.Calls.{AllAccepted, AsksAdmission, AsksAll, GivesNobody}
 use Rattle.socket_loop.proofs.Calls.{AsksAccepts, asks_accept, asks_full, asks_no_accept, asks_on, asks_stop}
 use Rattle.socket_loop.proofs.Left.{once_insert}
 use Rattle.socket_loop.proofs.Runs.{run-one, run-append, own-append, taken-append, openings-append, all_append, next_rises, step_rises, opened_left, opened_right}
@@ -464,17 +464,17 @@ some_full n moved ls ms f m a b h i old new e p =
     let full : (length p.accepts.accepted ≡ 16) ⊎ ¬ HaveSessions h ls = elim e [ inl most ↦ inl (p.counted ∙ most) | inr lacks ↦ inr lacks ] in
     record { accepts = p.accepts; none = p.none; numbers = p.numbers; asked = asks_full h ls ms p.accepts.accepted old new full p.asked }
 
-pub some_more : (n : ℕ) (moved : Arrivals) (one : Admission) (ls ms ns : List Link) (f m number t : ℕ) (a b c d : Report) (h i j : HostState) (old mid asked new : Option (List Call)) → AcceptsSome n moved ls f a h ms m b i old mid → m ≤ number → number < t → KeepsAll b c → Asks mid asked (Accept (Ok (Some number)) ∷ []) → OneAdmitted one ms c i number t ns d j asked new → AcceptsSome (n + 1) (with_one moved one) ls f a h ns t d j old new
+pub some_more : (n : ℕ) (moved : Arrivals) (one : Admission) (o : Outcome) (ls ms ns : List Link) (f m number t : ℕ) (a b c d : Report) (h i j : HostState) (old mid asked new : Option (List Call)) → AcceptsSome n moved ls f a h ms m b i old mid → m ≤ number → number < t → KeepsAll b c → Asks mid asked (Accept (Ok (Some number)) ∷ []) → Admits ms c i number o t ns d j → AsksAdmission ns number o asked new → one.full ≡ full_of o → one.unopened ≡ unopened_of o → AcceptsSome (n + 1) (with_one moved one) ls f a h ns t d j old new
 unfolding accepts_more accepts_then
-some_more n moved one ls ms ns f m number t a b c d h i j old mid asked new p u v k q r =
-    let item : Accepted = record { number = number; outcome = r.outcome } in
-    let items : p.accepts.accepted ++ (r.admits m b k u v).accepts.accepted ≡ p.accepts.accepted ++ (item ∷ []) = ap (λ (xs : List Accepted). p.accepts.accepted ++ xs) (r.admits m b k u v).items_are in
+some_more n moved one o ls ms ns f m number t a b c d h i j old mid asked new p u v k q r asks full unopened =
+    let item : Accepted = record { number = number; outcome = o } in
+    let items : p.accepts.accepted ++ (r m b k u v).accepts.accepted ≡ p.accepts.accepted ++ (item ∷ []) = ap (λ (xs : List Accepted). p.accepts.accepted ++ xs) (r m b k u v).items_are in
     record {
-      accepts = accepts_more ls ms ns f m number t r.outcome a b c d h i j p.accepts u v k r.admits;
+      accepts = accepts_more ls ms ns f m number t o a b c d h i j p.accepts u v k r;
       none = λ e. absurd (cc);
-      numbers = subst (λ (xs : List Accepted). AreArrivals xs (with_one moved one)) (sym items) (one_more p.accepts.accepted item moved one p.numbers r.full r.unopened);
+      numbers = subst (λ (xs : List Accepted). AreArrivals xs (with_one moved one)) (sym items) (one_more p.accepts.accepted item moved one p.numbers full unopened);
       counted = ap length items ∙ (length_one p.accepts.accepted item ∙ ap (λ (x : ℕ). x + 1) p.counted);
-      asked = subst (λ (xs : List Accepted). AsksAccepts ns xs old new) (sym items) (asks_accept ns p.accepts.accepted item old mid asked new (asks_on ms ns p.accepts.accepted old mid (r.admits m b k u v).accepts.stay p.asked) q r.asked);
+      asked = subst (λ (xs : List Accepted). AsksAccepts ns xs old new) (sym items) (asks_accept ns p.accepts.accepted item old mid asked new (asks_on ms ns p.accepts.accepted old mid (r m b k u v).accepts.stay p.asked) q asks);
     }
 
 pub number_rises : (old new : ℕ) (r : Result (Option ℕ) WireFault) → GivesNumber old new r → old ≤ new

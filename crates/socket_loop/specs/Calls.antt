@@ -149,20 +149,14 @@ pub record AsksAdmission (met : List Link) (number : ℕ) (outcome : Outcome)
   pub admitted : IsAdmitted met (record { number = number; outcome = outcome }) calls
   pub asked : Asks old new calls
 
--- a connection was admitted, with its calls
-pub record OneAdmitted (admission : Admission) (links : List Link) (report : Report) (before : HostState) (number to : ℕ)
-    (met : List Link) (new : Report) (after : HostState) (old_calls new_calls : Option (List Call))
-    : Type 0 where
+-- a new connection of this number was admitted, with its calls
+pub record AdmitsOne (number : ℕ) (admission : Admission) (before after : Scene) : Type 0 where
   pub outcome : Outcome
-  pub admits : Admits links report before number outcome to met new after
-  pub asked : AsksAdmission met number outcome old_calls new_calls
+  pub admits : Admits (links_of before.held) before.report before.host number outcome before.bound
+      (links_of after.held) after.report after.host
+  pub asked : AsksAdmission (links_of after.held) number outcome before.asked after.asked
   pub full : admission.full ≡ full_of outcome
   pub unopened : admission.unopened ≡ unopened_of outcome
-
--- a new connection of this number was admitted
-pub record AdmitsOne (number : ℕ) (admission : Admission) (before after : Scene) : Type 0 where
-  pub admits : OneAdmitted admission (links_of before.held) before.report before.host number before.bound
-      (links_of after.held) after.report after.host before.asked after.asked
   pub more : HoldsMore before.held before.failed after.held after.failed
   pub bound : after.bound ≡ before.bound
 

@@ -39,33 +39,36 @@ pub fn shut_down<W: Wire, S: BuildHasher, A: Allocator + Copy>(
 
 /// Feeds a session what its connection gave; where allocation fails, both end.
 fn feed_from<W: Wire, S: BuildHasher, A: Allocator + Copy>(
-    peer: &mut Connection,
+    connection: &mut Connection,
     host: &mut Host<S, A>,
     wire: &mut W,
     chunk: &[u8],
 )
-    requires wants { wants_input_of (find host.old.slots peer.old.link.id) ≡ true }
+    requires wants { wants_input_of (find host.old.slots connection.old.link.id) ≡ true }
     requires few { length chunk.now ≤ CHUNK_MAX }
     requires some { 1 ≤ length chunk.now }
     ensures fed { Feeds W.Wire chunk.now
-        peer.old host.old wire.old peer.new host.new wire.new }
-    ensures ended { peer.new.has_ended ≡ peer.old.has_ended }
+        connection.old host.old wire.old connection.new host.new wire.new }
+    ensures ended { connection.new.has_ended ≡ connection.old.has_ended }
 {
-    if host.feed(peer.link.id, chunk).is_ok() {
+    if host.feed(connection.link.id, chunk).is_ok() {
         return;
     }
-    shut_down(peer.link, host, wire);
-    peer.is_shut = true;
+    shut_down(connection.link, host, wire);
+    connection.is_shut = true;
 }
 
 /// Whether a connection is to be read.
-fn is_to_read<S: BuildHasher, A: Allocator + Copy>(peer: &Connection, host: &Host<S, A>) -> bool
-    ensures test { result ≡ is_to_read host.now peer.now }
+fn is_to_read<S: BuildHasher, A: Allocator + Copy>(
+    connection: &Connection,
+    host: &Host<S, A>,
+) -> bool
+    ensures test { result ≡ is_to_read host.now connection.now }
     ensures wants { result ≡ true
-        → wants_input_of (find host.now.slots peer.now.link.id) ≡ true }
-    ensures open { result ≡ true → peer.now.is_shut ≡ false }
+        → wants_input_of (find host.now.slots connection.now.link.id) ≡ true }
+    ensures open { result ≡ true → connection.now.is_shut ≡ false }
 {
-    !peer.has_ended && !peer.is_shut && host.wants_input(peer.link.id)
+    !connection.has_ended && !connection.is_shut && host.wants_input(connection.link.id)
 }
 
 /// One read into the chunk for a connection whose session wants input, and what it gave is fed. What the
@@ -73,34 +76,35 @@ fn is_to_read<S: BuildHasher, A: Allocator + Copy>(peer: &Connection, host: &Hos
 /// the connection and its session. True where something was read, or the reads ended, or the connection
 /// was shut.
 pub fn read_from<W: Wire, S: BuildHasher, A: Allocator + Copy>(
-    peer: &mut Connection,
+    connection: &mut Connection,
     host: &mut Host<S, A>,
     wire: &mut W,
     chunk: &mut [u8; CHUNK_MAX],
 ) -> bool
     ensures reads { Reads W.Wire result
-        peer.old host.old wire.old peer.new host.new wire.new }
-    ensures still { is_to_read host.old peer.old ≡ false → result ≡ false }
-    ensures ended { EndsEmptied peer.old peer.new (W.report wire.old) (W.report wire.new) }
+        connection.old host.old wire.old connection.new host.new wire.new }
+    ensures still { is_to_read host.old connection.old ≡ false → result ≡ false }
+    ensures ended { EndsEmptied connection.old connection.new
+        (W.report wire.old) (W.report wire.new) }
 {
-    let link = peer.link;
-    if !is_to_read(peer, host) {
+    let link = connection.link;
+    if !is_to_read(connection, host) {
         return false;
     }
     match wire.read(link.number, chunk) {
         Ok(Got::Bytes(n)) => {
             let (bytes, _) = chunk.split_at(n);
-            feed_from(peer, host, wire, bytes);
+            feed_from(connection, host, wire, bytes);
             true
         }
         Ok(Got::Nothing) => false,
         Ok(Got::Ended) => {
-            peer.has_ended = true;
+            connection.has_ended = true;
             true
         }
         Err(_) => {
             shut_down(link, host, wire);
-            peer.is_shut = true;
+            connection.is_shut = true;
             true
         }
     }
@@ -110,17 +114,17 @@ pub fn read_from<W: Wire, S: BuildHasher, A: Allocator + Copy>(
 /// write that fails ends the connection and its session. True where something was written, or the
 /// connection was shut.
 pub fn write_to<W: Wire, S: BuildHasher, A: Allocator + Copy>(
-    peer: &mut Connection,
+    connection: &mut Connection,
     host: &mut Host<S, A>,
     wire: &mut W,
 ) -> bool
     ensures writes { Writes W.Wire result
-        peer.old host.old wire.old peer.new host.new wire.new }
-    ensures still { is_to_write host.old peer.old ≡ false → result ≡ false }
-    ensures ended { peer.new.has_ended ≡ peer.old.has_ended }
+        connection.old host.old wire.old connection.new host.new wire.new }
+    ensures still { is_to_write host.old connection.old ≡ false → result ≡ false }
+    ensures ended { connection.new.has_ended ≡ connection.old.has_ended }
 {
-    let link = peer.link;
-    if peer.is_shut {
+    let link = connection.link;
+    if connection.is_shut {
         return false;
     }
     let Some(bytes) = host.output(link.id) else {
@@ -136,7 +140,7 @@ pub fn write_to<W: Wire, S: BuildHasher, A: Allocator + Copy>(
         }
         Err(_) => {
             shut_down(link, host, wire);
-            peer.is_shut = true;
+            connection.is_shut = true;
             true
         }
     }
@@ -144,35 +148,38 @@ pub fn write_to<W: Wire, S: BuildHasher, A: Allocator + Copy>(
 
 /// Whether a connection is to be shut: the host no longer has its session; or the session is over, or
 /// the reads have ended, and nothing is pending or queued.
-fn is_finished<S: BuildHasher, A: Allocator + Copy>(peer: &Connection, host: &Host<S, A>) -> bool
-    ensures { result ≡ is_finished host.now peer.now }
+fn is_finished<S: BuildHasher, A: Allocator + Copy>(
+    connection: &Connection,
+    host: &Host<S, A>,
+) -> bool
+    ensures { result ≡ is_finished host.now connection.now }
 {
-    let id = peer.link.id;
+    let id = connection.link.id;
     let Some(bytes) = host.output(id) else {
         return true;
     };
-    let has_ended = peer.has_ended || host.is_over(id);
+    let has_ended = connection.has_ended || host.is_over(id);
     has_ended && bytes.is_empty() && !host.pending(id)
 }
 
 /// Shuts a connection that is finished with, and closes its session. True where it was shut.
 pub fn close_if_finished<W: Wire, S: BuildHasher, A: Allocator + Copy>(
-    peer: &mut Connection,
+    connection: &mut Connection,
     host: &mut Host<S, A>,
     wire: &mut W,
 ) -> bool
     ensures ends { Ends W.Wire result
-        peer.old host.old wire.old peer.new host.new wire.new }
-    ensures finished { result ≡ is_to_shut host.old peer.old }
-    ensures shuts { result ≡ true → peer.new.is_shut ≡ true }
+        connection.old host.old wire.old connection.new host.new wire.new }
+    ensures finished { result ≡ is_to_shut host.old connection.old }
+    ensures shuts { result ≡ true → connection.new.is_shut ≡ true }
     ensures unchanged { result ≡ false → host.new ≡ host.old }
-    ensures left { IsLeft host.new peer.new }
-    ensures ended { peer.new.has_ended ≡ peer.old.has_ended }
+    ensures left { IsLeft host.new connection.new }
+    ensures ended { connection.new.has_ended ≡ connection.old.has_ended }
 {
-    if peer.is_shut || !is_finished(peer, host) {
+    if connection.is_shut || !is_finished(connection, host) {
         return false;
     }
-    shut_down(peer.link, host, wire);
-    peer.is_shut = true;
+    shut_down(connection.link, host, wire);
+    connection.is_shut = true;
     true
 }

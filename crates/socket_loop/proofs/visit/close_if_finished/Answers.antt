@@ -6,8 +6,8 @@ use Rattle.socket_loop.proofs.Calls.{visits_closing}
 use Rattle.socket_loop.proofs.Each.{visit_none}
 use Rattle.socket_loop.proofs.visit.close_if_finished.Goals as goal
 
-pub returns-then-peer-clause-ends : goal.returns-then-peer-clause-ends
-returns-then-peer-clause-ends g c = record { visited = visit_none _ _ _ _ (search rules); serves = λ marks marked. serves_same _ _ _ _ _ _ }
+pub returns-then-connection-clause-ends : goal.returns-then-connection-clause-ends
+returns-then-connection-clause-ends g c = record { visited = visit_none _ _ _ _ (search rules); serves = λ marks marked. serves_same _ _ _ _ _ _ }
 
 pub returns-clause-ends : goal.returns-clause-ends
 returns-clause-ends g c = record {
@@ -17,5 +17,5 @@ returns-clause-ends g c = record {
     quiet = search rules;
     stirs = search rules;
   };
-  serves = λ marks marked. serves_finished marks _ c.args.peer.now.link _ _ _ _ c.args.peer.now.has_ended marked (search rules) c.shut_down.ensures.shuts c.shut_down.ensures.closed;
+  serves = λ marks marked. serves_finished marks _ c.args.connection.now.link _ _ _ _ c.args.connection.now.has_ended marked (search rules) c.shut_down.ensures.shuts c.shut_down.ensures.closed;
 }

@@ -47,7 +47,9 @@ returns-then-len-gt-SESSIONS_MAX g c = record {
 
 pub loop-preserved : goal.loop-preserved
 loop-preserved g c = record {
-  so_far = rw c.admit-admission.ensures.admits.scenes.bound (some_more c.loop.counter _ _ _ _ _ _ _ c.in-Ok-Some.number _ _ _ _ _ _ _ _ _ _ _ _ c.loop.invariant.so_far (search rules) (search rules) c.accept.ensures.kept (rw c.in-Ok-Some.field-0-is at c.in-Ok-Some.ensures.asked) c.admit-admission.ensures.admits.scenes.admits);
+  so_far =
+      let one = c.admit-admission.ensures.admits.scenes in
+      rw one.bound (some_more c.loop.counter _ _ one.outcome _ _ _ _ _ c.in-Ok-Some.number _ _ _ _ _ _ _ _ _ _ _ _ c.loop.invariant.so_far (search rules) (search rules) c.accept.ensures.kept (rw c.in-Ok-Some.field-0-is at c.in-Ok-Some.ensures.asked) one.admits one.asked one.full one.unopened);
   more = more_then _ _ _ _ _ _ _ c.loop.invariant.more c.accept.ensures.cause.0 c.admit-admission.ensures.admits.scenes.more;
   quiet = λ q. absurd (cc);
   accepted = λ e. (

@@ -35,13 +35,11 @@ returns-in-Ok-clause-admits g c =
     record {
       slice = search rules;
       scenes = record {
-        admits = record {
-          outcome = Opened c.in-Ok.id;
-          admits = rw c.hold.ensures.held (admits_new c.args.self.now.held place new _ _ _ _ (record { below = c.open.ensures.below; stepped = rw c.in-Ok.is at c.open.ensures.opened }));
-          asked = asks_held _ link _ _ (rw c.hold.ensures.held (insert_in c.args.self.now.held place new)) refl;
-          full = refl;
-          unopened = refl;
-        };
+        outcome = Opened c.in-Ok.id;
+        admits = rw c.hold.ensures.held (admits_new c.args.self.now.held place new _ _ _ _ (record { below = c.open.ensures.below; stepped = rw c.in-Ok.is at c.open.ensures.opened }));
+        asked = asks_held _ link _ _ (rw c.hold.ensures.held (insert_in c.args.self.now.held place new)) refl;
+        full = refl;
+        unopened = refl;
         more = record {
           grows = rw c.hold.ensures.held (grows_insert c.args.self.now.held place new refl refl);
           marks = rw c.hold.ensures.held (adds_insert c.args.self.now.held place new refl refl);
@@ -56,13 +54,11 @@ pub returns-in-Err-Full-clause-admits : goal.returns-in-Err-Full-clause-admits
 returns-in-Err-Full-clause-admits g c = record {
   slice = search rules;
   scenes = record {
-    admits = record {
-      outcome = Refused Full;
-      admits = admits_away _ _ _ _ _ c.args.number _ Full c.reject.ensures.away (record { below = c.open.ensures.below; stepped = rw c.in-Err-Full.field-0-is at (rw c.in-Err-Full.is at c.open.ensures.opened) });
-      asked = record { calls = Write c.args.number host_full ∷ Shut c.args.number ∷ []; admitted = refl; asked = c.reject.ensures.asked };
-      full = refl;
-      unopened = refl;
-    };
+    outcome = Refused Full;
+    admits = admits_away _ _ _ _ _ c.args.number _ Full c.reject.ensures.away (record { below = c.open.ensures.below; stepped = rw c.in-Err-Full.field-0-is at (rw c.in-Err-Full.is at c.open.ensures.opened) });
+    asked = record { calls = Write c.args.number host_full ∷ Shut c.args.number ∷ []; admitted = refl; asked = c.reject.ensures.asked };
+    full = refl;
+    unopened = refl;
     more = more_then _ _ _ _ _ _ _ (more_same _ _) c.reject.ensures.faults (more_same _ _);
     bound = c.reject.ensures.bound;
   };
@@ -72,13 +68,11 @@ pub returns-in-Err-clause-admits : goal.returns-in-Err-clause-admits
 returns-in-Err-clause-admits g c = record {
   slice = search rules;
   scenes = record {
-    admits = record {
-      outcome = Refused c.in-Err.field-0;
-      admits = admits_away _ _ _ _ _ c.args.number _ _ (away_mute _ _ _ c.args.number _ c.shut.ensures.shut) (record { below = c.open.ensures.below; stepped = rw c.in-Err.is at c.open.ensures.opened });
-      asked = record { calls = Shut c.args.number ∷ []; admitted = refused_admitted (links_of c.args.self.now.held) c.args.number c.in-Err.field-0 (search rules); asked = c.shut.ensures.asked };
-      full = other_full c.in-Err.field-0 (search rules);
-      unopened = other_unopened c.in-Err.field-0 (search rules);
-    };
+    outcome = Refused c.in-Err.field-0;
+    admits = admits_away _ _ _ _ _ c.args.number _ _ (away_mute _ _ _ c.args.number _ c.shut.ensures.shut) (record { below = c.open.ensures.below; stepped = rw c.in-Err.is at c.open.ensures.opened });
+    asked = record { calls = Shut c.args.number ∷ []; admitted = refused_admitted (links_of c.args.self.now.held) c.args.number c.in-Err.field-0 (search rules); asked = c.shut.ensures.asked };
+    full = other_full c.in-Err.field-0 (search rules);
+    unopened = other_unopened c.in-Err.field-0 (search rules);
     more = more_then _ _ _ _ _ _ _ (more_same _ _) c.shut.ensures.faults (more_same _ _);
     bound = c.shut.ensures.bound;
   };

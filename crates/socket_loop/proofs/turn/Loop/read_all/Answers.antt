@@ -15,7 +15,7 @@ loop-connection-init g c =
 
 pub loop-connection-preserved : goal.loop-connection-preserved
 loop-connection-preserved g c = record {
-  visits = visits_next c.loop-connection.connection-index reads_of IsInput c.loop-connection.moved _ (scene g.W.Wire c.args.self.now.held c.args.wire.now c.args.host.now) (scene g.W.Wire c.loop-connection.connection-items c.loop-connection.wire c.loop-connection.host) (scene g.W.Wire [] c.read_from-has_moved.new.wire c.read_from-has_moved.new.host) c.read_from-has_moved.new.peer _ (search rules) c.loop-connection.invariant.visits
+  visits = visits_next c.loop-connection.connection-index reads_of IsInput c.loop-connection.moved _ (scene g.W.Wire c.args.self.now.held c.args.wire.now c.args.host.now) (scene g.W.Wire c.loop-connection.connection-items c.loop-connection.wire c.loop-connection.host) (scene g.W.Wire [] c.read_from-has_moved.new.wire c.read_from-has_moved.new.host) c.read_from-has_moved.new.connection _ (search rules) c.loop-connection.invariant.visits
       (c.loop-connection.invariant.serves []).carries.all (c.read_from-has_moved.ensures.reads.serves []).carries.all c.read_from-has_moved.ensures.reads.visited c.read_from-has_moved.ensures.ended
       (visit_reads c.loop-connection.host c.read_from-has_moved.new.host _ _ c.read_from-has_moved.ensures.reads.visited.visit.link c.read_from-has_moved.ensures.reads.visited.visit.made c.read_from-has_moved.ensures.reads.visited.visit.closed (λ e. (c.read_from-has_moved.ensures.reads.visited.quiet (c.read_from-has_moved.ensures.still e)).1));
   serves = λ marks. serves_next IsInput marks _ c.loop-connection.connection-items _ c.loop-connection.connection-index _ _ _ _ _ _ _ (search rules) c.loop-connection.invariant.visits.links (c.loop-connection.invariant.serves marks) (rw c.loop-connection.invariant.visits.bound at c.read_from-has_moved.ensures.reads.serves marks);

@@ -15,7 +15,7 @@ loop-connection-init g c =
 
 pub loop-connection-preserved : goal.loop-connection-preserved
 loop-connection-preserved g c = record {
-  visits = visits_next c.loop-connection.connection-index writes_of IsOutput c.loop-connection.moved _ (scene g.W.Wire c.args.self.now.held c.args.wire.now c.args.host.now) (scene g.W.Wire c.loop-connection.connection-items c.loop-connection.wire c.loop-connection.host) (scene g.W.Wire [] c.write_to-has_moved.new.wire c.write_to-has_moved.new.host) c.write_to-has_moved.new.peer _ (search rules) c.loop-connection.invariant.visits
+  visits = visits_next c.loop-connection.connection-index writes_of IsOutput c.loop-connection.moved _ (scene g.W.Wire c.args.self.now.held c.args.wire.now c.args.host.now) (scene g.W.Wire c.loop-connection.connection-items c.loop-connection.wire c.loop-connection.host) (scene g.W.Wire [] c.write_to-has_moved.new.wire c.write_to-has_moved.new.host) c.write_to-has_moved.new.connection _ (search rules) c.loop-connection.invariant.visits
       (c.loop-connection.invariant.serves []).carries.all (c.write_to-has_moved.ensures.writes.serves []).carries.all c.write_to-has_moved.ensures.writes.visited (λ e. inl (sym c.write_to-has_moved.ensures.ended ∙ e))
       (visit_writes c.loop-connection.host c.write_to-has_moved.new.host _ _ c.write_to-has_moved.ensures.writes.visited.visit.link c.write_to-has_moved.ensures.writes.visited.visit.made c.write_to-has_moved.ensures.ended c.write_to-has_moved.ensures.writes.visited.visit.closed (λ e. (c.write_to-has_moved.ensures.writes.visited.quiet (c.write_to-has_moved.ensures.still e)).1));
   serves = λ marks. serves_next IsOutput marks _ c.loop-connection.connection-items _ c.loop-connection.connection-index _ _ _ _ _ _ _ (search rules) c.loop-connection.invariant.visits.links (c.loop-connection.invariant.serves marks) (rw c.loop-connection.invariant.visits.bound at c.write_to-has_moved.ensures.writes.serves marks);
