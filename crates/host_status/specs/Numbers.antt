@@ -41,11 +41,11 @@ counted totals tally = record {
 
 -- the numbers of a host and its connections, with what was read and written and how many calls failed
 abbrev pub status_from : Limits → Totals → HostState → LoopState → ℕ → ℕ → ℕ → Status
-status_from limits totals host peers received sent faults = record {
+status_from limits totals host connections received sent faults = record {
   limits = limits;
   totals = totals;
-  used = length peers.held;
-  searching = pending_count host (links_of peers.held);
+  used = length connections.held;
+  searching = pending_count host (links_of connections.held);
   filled = length host.table.pairs;
   refused_notes = host.table.refused;
   received = received;

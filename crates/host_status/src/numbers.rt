@@ -100,17 +100,17 @@ pub fn status_of<S: BuildHasher, A: Allocator + Copy>(
     limits: Limits,
     totals: Totals,
     host: &Host<S, A>,
-    peers: &Loop<A>,
+    connections: &Loop<A>,
     wire: &MioWire<A>,
 ) -> Status
-    ensures { result ≡ status_from limits totals host.now peers.now
+    ensures { result ≡ status_from limits totals host.now connections.now
         wire.now.received wire.now.sent wire.now.failed }
 {
     Status {
         limits,
         totals,
-        used: peers.count() as u64,
-        searching: peers.count_pending(host) as u64,
+        used: connections.count() as u64,
+        searching: connections.count_pending(host) as u64,
         filled: host.entries() as u64,
         refused_notes: host.refused_notes(),
         received: wire.received,

@@ -84,10 +84,10 @@ impl<A: Allocator + Copy> StatusSocket<A> {
     }
 
     /// Makes the line of now. There is none where memory is refused.
-    fn tell<S: BuildHasher>(&mut self, host: &Host<S, A>, peers: &Loop<A>, wire: &MioWire<A>)
+    fn tell<S: BuildHasher>(&mut self, host: &Host<S, A>, connections: &Loop<A>, wire: &MioWire<A>)
         ensures { self.new.totals ≡ self.old.totals }
     {
-        let status = status_of(self.limits, self.totals, host, peers, wire);
+        let status = status_of(self.limits, self.totals, host, connections, wire);
         if write_line(&mut self.line, &status).is_err() {
             self.line.clear();
         }
@@ -95,14 +95,14 @@ impl<A: Allocator + Copy> StatusSocket<A> {
 }
 
 impl<S: BuildHasher, A: Allocator + Copy> Monitor<MioWire<A>, S, A> for StatusSocket<A> {
-    fn see(&mut self, turn: &Turn, host: &Host<S, A>, peers: &Loop<A>, wire: &MioWire<A>)
+    fn see(&mut self, turn: &Turn, host: &Host<S, A>, connections: &Loop<A>, wire: &MioWire<A>)
         ensures { self.new.totals ≡ counted self.old.totals turn.now.tally }
     {
         self.totals.count(&turn.tally);
         let Ok((first, _)) = self.listener.accept() else {
             return;
         };
-        self.tell(host, peers, wire);
+        self.tell(host, connections, wire);
         answer(first, self.line.as_slice());
         if answer_more(&self.listener, self.line.as_slice()) {
             let _watched = watch_again(&self.registry, &mut self.listener);

@@ -13,7 +13,7 @@ use wires::{Wire, WireFault};
 /// Is shown each turn of a host, and what it left, before the wait that follows.
 pub trait Monitor<W, S: BuildHasher, A: Allocator + Copy> {
     /// A turn was taken, of this host, these connections and this wire.
-    fn see(&mut self, turn: &Turn, host: &Host<S, A>, peers: &Loop<A>, wire: &W);
+    fn see(&mut self, turn: &Turn, host: &Host<S, A>, connections: &Loop<A>, wire: &W);
 }
 
 /// A monitor that looks at nothing.
@@ -30,19 +30,19 @@ impl<W, S: BuildHasher, A: Allocator + Copy> Monitor<W, S, A> for Unseen {
 /// Each connection of the loop is accepted from this wire and each session opened in this host.
 pub fn serve<W: Wire, S: BuildHasher, A: Allocator + Copy, M: Monitor<W, S, A>>(
     host: &mut Host<S, A>,
-    peers: &mut Loop<A>,
+    connections: &mut Loop<A>,
     wire: &mut W,
     monitor: &mut M,
     turns: u64,
 ) -> Result<(), WireFault>
-    requires fits { Fits (links_of peers.old.held) (W.bound wire.old) host.old }
+    requires fits { Fits (links_of connections.old.held) (W.bound wire.old) host.old }
     ensures all { Served W.Wire turns result
-        peers.old host.old wire.old peers.new host.new wire.new }
-    ensures fits { Fits (links_of peers.new.held) (W.bound wire.new) host.new }
+        connections.old host.old wire.old connections.new host.new wire.new }
+    ensures fits { Fits (links_of connections.new.held) (W.bound wire.new) host.new }
 {
     for _ in 0..turns {
-        let turn = peers.turn(host, wire);
-        monitor.see(&turn, host, peers, wire);
+        let turn = connections.turn(host, wire);
+        monitor.see(&turn, host, connections, wire);
         wire.wait(!turn.moved)?;
     }
     Ok(())
