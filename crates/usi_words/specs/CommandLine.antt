@@ -42,11 +42,14 @@ socket_option = record (new_rule (codes "socket")) {
 abbrev pub stdio_command : App
 stdio_command = with_rule (new_app (codes "stdio")) entries_option
 
+-- a command with the options of a host: how many sessions, how many entries and how many steps
+abbrev pub with_host_options : App → App
+with_host_options command =
+    with_rule (with_rule (with_rule command slots_option) entries_option) slice_option
+
 -- the command `replay`
 abbrev pub replay_command : App
-replay_command =
-    with_rule (with_rule (with_rule (new_app (codes "replay")) slots_option) entries_option)
-    slice_option
+replay_command = with_host_options (new_app (codes "replay"))
 
 -- where a second socket is made, for the status: `--status PATH`, which may be left out
 abbrev pub status_option : Rule
@@ -61,9 +64,7 @@ socket_command = with_rule (with_rule (new_app (codes "serve")) socket_option) s
 
 -- the command `serve`
 abbrev pub serve_command : App
-serve_command =
-    with_rule (with_rule (with_rule (with_rule socket_command slots_option) entries_option) slice_option)
-    turns_option
+serve_command = with_rule (with_host_options socket_command) turns_option
 
 -- the program without a command; it has a version, so `--version` and `-V` ask for it
 abbrev pub bare_line : App
