@@ -1,6 +1,6 @@
 -- In check, a piece that reaches no square where the check is answered has no legal move.
 use Rattle.std.proofs.Common.{◌≡◌, ◌<◌, ◌-◌, ◌^◌, ℕ, Bool, true, false, not, bit_and, bit_or, sym, ap, ◌∙◌, arith}
-use Rattle.std.proofs.lemmas.Bool.{and_parts, and_from, both_ways, false_from_ne_true, or_parts, true_from_ne_false}
+use Rattle.std.proofs.lemmas.Bool.{and_parts, and_from, both_ways, or_parts, true_from_ne_false}
 use Rattle.shogi_core.specs.declared.moves.Move.TheVariants.{Board}
 use Rattle.shogi_core.specs.Bits.{has_bit, IsMaskOf}
 use Rattle.shogi_core.specs.Cell.{is_king, is_piece_of}

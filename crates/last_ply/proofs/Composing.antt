@@ -18,10 +18,9 @@ use Rattle.shogi_eval.proofs.Bounds.{material_bounds}
 use Rattle.minimax.specs.declared.bounds.TheConstants.{MATE}
 use Rattle.minimax.specs.Minimax.{value, worth, lost_value, greatest_or}
 use Rattle.minimax.specs.Window.{IsCovered, threshold}
-use Rattle.minimax.proofs.MinimaxLaws.{value-above, value_within, Within, leaf_some, leaf_none}
+use Rattle.minimax.proofs.MinimaxLaws.{value-above, value_within, Within, leaf_some, leaf_none, cut}
 use Rattle.minimax.proofs.Greatest.{greatest_or-least}
 use Rattle.minimax.proofs.Left.{IsFound, found_best, left_lost}
-use Rattle.minimax.proofs.MinimaxLaws.{cut}
 use Rattle.minimax.proofs.Valid.{after_valid}
 use Rattle.last_ply.specs.LastPly.{score_at, LeavesNone, LeavesSome, HasScore, ScoresAtMost, HasMate, HasNoMate, IsLeast, IsNoLoss}
 

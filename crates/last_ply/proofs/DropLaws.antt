@@ -25,9 +25,9 @@ use Rattle.shogi_core.proofs.SeenLaws.{leads_back, slide_seen, lined_aligned, sl
 use Rattle.shogi_core.proofs.Uncovered.{same_way, same_way_is, list_any_kept}
 use Rattle.shogi_moves.specs.After.{dropped, piece_moved}
 use Rattle.shogi_moves.specs.Escapes.{AreEscapes}
-use Rattle.shogi_moves.specs.Replies.{IsAnswered}
-use Rattle.shogi_moves.proofs.EscapeLaws.{escaped_board, escaped_drop}
-use Rattle.shogi_moves.proofs.KingReplies.{taken_drop}
+use Rattle.shogi_replies.specs.Replies.{IsAnswered}
+use Rattle.shogi_replies.proofs.EscapeLaws.{escaped_board, escaped_drop}
+use Rattle.shogi_replies.proofs.KingReplies.{taken_drop}
 use Rattle.shogi_moves.proofs.Keeps.{is_safe_from_legal}
 use Rattle.shogi_moves.proofs.KeepsDrop.{IsSafeDrop, safe_drop}
 use Rattle.last_ply.specs.LastPly.{IsOutOfReach}

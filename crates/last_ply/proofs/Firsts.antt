@@ -14,7 +14,8 @@ use Rattle.shogi_core.specs.Position.{Shogi}
 use Rattle.shogi_core.specs.Validity.{IsValid}
 use Rattle.shogi_core.proofs.BitLaws.{has_bit-and, has_bit-or}
 use Rattle.shogi_core.proofs.CodesBack.{code_of-board, move_of-drop}
-use Rattle.shogi_moves.specs.Legal.{is_legal_code, may_promote}
+use Rattle.shogi_moves.specs.Legal.{is_legal_code}
+use Rattle.shogi_core.specs.Zones.{may_promote}
 use Rattle.shogi_moves.proofs.LegalLaws.{in_legal, legal_in, no_piece}
 use Rattle.shogi_eval.specs.declared.eval.Eval.{Eval}
 use Rattle.shogi_eval.specs.Evaluated.{Evaluated}

@@ -24,11 +24,11 @@ use Rattle.shogi_core.proofs.BitLaws.{has_bit-and, has_bit-none, has_bit-or}
 use Rattle.shogi_core.proofs.SeenLaws.{lined_aligned, reaches_near}
 use Rattle.shogi_core.proofs.CodesBack.{move_of-board, code_of-board}
 use Rattle.shogi_moves.specs.After.{after, after_code}
-use Rattle.shogi_moves.specs.Legal.{is_legal, is_legal_code, may_promote, is_pseudo_legal_board_move}
+use Rattle.shogi_moves.specs.Legal.{is_legal, is_legal_code, is_pseudo_legal_board_move}
+use Rattle.shogi_core.specs.Zones.{may_promote, is_near_zone}
 use Rattle.shogi_moves.specs.Destinations.{AreEnterable, HasMovers, is_destination, is_unchecked}
-use Rattle.shogi_moves.specs.Replies.{is_near_zone}
 use Rattle.shogi_moves.proofs.DestinationLaws.{all_ways, legal_board}
-use Rattle.shogi_moves.proofs.MoverLaws.{far_plain}
+use Rattle.shogi_replies.proofs.FarLaws.{far_plain}
 use Rattle.shogi_moves.proofs.Keeps.{is_safe_from_legal}
 use Rattle.shogi_moves.proofs.KeepsBoard.{IsSafeBoardMove, safe_board_move}
 use Rattle.shogi_moves.proofs.LegalLaws.{in_legal, legal_in, legal_code_below, is_legal_code_of, after_code_at, no_piece}

@@ -16,8 +16,9 @@ use crate::mates::Outlook;
 use crate::scene::Scene;
 use minimax::{Entry, INFINITY, MATE};
 use shogi_core::bits::{lowest, without_lowest};
+use shogi_core::zones::promoting_squares;
 use shogi_core::{Move, Square};
-use shogi_moves::{Walk, promoting_squares};
+use shogi_moves::Walk;
 
 impl Scene<'_> {
     /// The legal move of least code that leaves the other side without one.

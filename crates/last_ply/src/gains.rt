@@ -19,9 +19,10 @@ ghost use Rattle.last_ply.specs.LastPly.{score_at, HasNoneFrom, NodeHasScore, No
 
 use crate::scene::Scene;
 use shogi_core::bits::{has, lowest, with, without_lowest};
+use shogi_core::zones::{promoting_squares, squares_near_zone};
 use shogi_core::{Color, Move, Piece, Role, Square, aligned_squares, step_squares};
 use shogi_eval::{Eval, taken_gain};
-use shogi_moves::{legal_destinations, promoting_squares, squares_near_zone, takers};
+use shogi_moves::{legal_destinations, takers};
 
 /// The most that a promotion gains, that of a pawn.
 pub const PROMOTION_GAIN_MAX: u32 = 500;

@@ -12,16 +12,17 @@ ghost use Rattle.shogi_moves.specs.Destinations.{AreDropSquares, IsWithin};
 ghost use Rattle.shogi_moves.specs.Escapes.{AreEscapes};
 ghost use Rattle.shogi_moves.specs.LegalMoves.{legal_codes};
 ghost use Rattle.shogi_moves.specs.Legal.{is_legal, is_legal_code};
-ghost use Rattle.shogi_moves.specs.Replies.{IsAnswered, IsReplies};
+ghost use Rattle.shogi_replies.specs.Replies.{IsAnswered, IsReplies};
 ghost use Rattle.last_ply.specs.LastPly.{HasMate, HasNoMate, LeavesNone, LeavesSome, AreDoubtfulEnds, AreLegalEnds, LeaveSomeAmong, LeaveSomeFrom, DropsLeaveSome, IsOutOfReach, HasOthers};
 
 use crate::scene::Scene;
 use shogi_core::bits::{has, lowest, with, without_lowest};
+use shogi_core::zones::promoting_squares;
 use shogi_core::{Kind, Move, Piece, Position, Role, Square, aligned_squares, step_squares};
 use shogi_moves::{
-    Destinations, Replies, drop_destinations, drop_squares, has_legal, is_legal, king_takes,
-    leaves_escape, leaves_king_move, legal_destinations, promoting_squares, some_escapes,
+    Destinations, drop_destinations, drop_squares, has_legal, is_legal, legal_destinations,
 };
+use shogi_replies::{Replies, king_takes, leaves_escape, leaves_king_move, some_escapes};
 
 /// A scene, and what shows of most moves that the other side surely has one after them.
 #[derive(Clone, Copy)]

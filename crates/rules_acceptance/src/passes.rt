@@ -4,7 +4,8 @@ use crate::legal_moves::{position, read};
 use shogi_core::Color::Black;
 use shogi_core::bits::{ALL_SQUARES, with};
 use shogi_core::{Move, Position, Square};
-use shogi_moves::{BoardSweep, Destinations, DropSweep, Replies, check_info_of, escape_squares};
+use shogi_moves::{BoardSweep, Destinations, DropSweep, check_info_of};
+use shogi_replies::{Replies, escape_squares};
 use std::test::Fail;
 
 /// The first move on the board of the kind that is not passed, where moves without promotion may end on
@@ -12,7 +13,7 @@ use std::test::Fail;
 fn first_left(p: &Position, capture: bool, plain: u128, promoting: u128) -> Option<Move> {
     let mut sweep = BoardSweep::new(p, check_info_of(p), capture);
     let among = Destinations { plain, promoting };
-    sweep.pass_certain(p, capture, &among, &Replies::of(p), escape_squares(p));
+    Replies::of(p).pass_moves(p, capture, &among, escape_squares(p), &mut sweep);
     sweep.next(p, capture)
 }
 
@@ -75,7 +76,7 @@ fn quiet_moves_of_a_slider(rt: HostRuntime) -> Result<(), Fail> {
 fn first_drop(board: &[u8]) -> Result<Option<Move>, Fail> {
     let p = position(board, b"P", Black)?;
     let mut sweep = DropSweep::new(&p, check_info_of(&p));
-    sweep.pass_certain(&p, &Replies::of(&p), escape_squares(&p));
+    Replies::of(&p).pass_drops(&p, escape_squares(&p), &mut sweep);
     Ok(sweep.next(&p))
 }
 

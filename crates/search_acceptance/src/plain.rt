@@ -2,7 +2,8 @@
 
 use shogi_core::{Board, Color, KINDS, Move, Piece, Position, Role, Square};
 use shogi_eval::{Eval, drop_gain, material, taken_gain};
-use shogi_moves::{Replies, Walk, apply, has_legal};
+use shogi_moves::{Walk, apply, has_legal};
+use shogi_replies::Replies;
 use shogi_search::{Found, INFINITY, MATE};
 use std::alloc::{AllocError, Global};
 

@@ -231,6 +231,9 @@ falling_end d low high = sym (rays_right d 0 high (omega arith)) ∙ zeroth d lo
 pub and_fits : (a b : ℕ) → a < 2 ^ 81 → bit_and a b < 2 ^ 81
 and_fits a b h = omega (arith, and_le_l a b)
 
+pub or_fits : (a b : ℕ) → a < 2 ^ 81 → b < 2 ^ 81 → bit_or a b < 2 ^ 81
+or_fits a b h l = or_lt 81 a b h l
+
 pub or_one : (a : ℕ) → bit_or a 1 ≢ 0
 or_one a e = both_ways (has_bit (bit_or a 1) 0) (ap (λ x. has_bit x 0) e ∙ has_bit-none 0) (has_bit-or a 1 0 ∙ or_right (has_bit a 0) (has_bit 1 0) (has_bit-one 0 0))
 

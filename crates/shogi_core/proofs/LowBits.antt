@@ -1,15 +1,16 @@
 -- The lowest bit of a number, by what one less than the number is.
 use Rattle.std.proofs.Common.{◌≡◌, ◌≢◌, ℕ, ◌+◌, ◌-◌, ◌*◌, ◌/◌, ◌%◌, ◌^◌, ◌<◌, ◌≤◌, Bool, true, false, not, refl, sym, ap, ◌∙◌, arith, bit_and, min, inl, inr, pow_pos}
-use Rattle.std.specs.Prelude.{zero, suc, ◌==◌, ◌&&◌, bit_xor}
+use Rattle.std.specs.Prelude.{zero, suc, ◌==◌, ◌&&◌, ◌||◌, bit_xor}
 use Rattle.std.specs.Int.{bit_at, trailing_zeros, w128}
 use Rattle.std.proofs.Math.Nat.{mod-lt}
 use Rattle.std.proofs.lemmas.Nat.{and_le_r, div-add-mod'}
 use Rattle.std.proofs.lemmas.Nat.Bits.{bit_at_and, bit_at_xor, bit_at-lt, bit_at-zero, bit_at-suc, bit_at_lowest, bit_at_cat_low, bit_at_cat_high, bit_at_ones, bit_at-trailing_zeros, same_from_bits_below}
-use Rattle.std.proofs.lemmas.Bool.{cases_lt, cases_eq, eq-eqb, ne_eqb, eqb-true, both_ways, not_from_false, not-true}
+use Rattle.std.proofs.lemmas.Bool.{cases_lt, cases_eq, eq-eqb, ne_eqb, eqb-true, both_ways, not_from_false, not-true, or_right}
 use Rattle.shogi_core.specs.Below.{some_below}
 use Rattle.shogi_core.specs.Bits.{has_bit}
 use Rattle.shogi_core.proofs.Below.{some_below_at, some_below_no}
-use Rattle.shogi_core.proofs.BitLaws.{has_bit-none}
+use Rattle.shogi_core.proofs.BitLaws.{has_bit-none, has_bit-and}
+use Rattle.shogi_core.proofs.LineBits.{has_bit-not}
 
 -- ---- one less than a number whose lowest bit is k
 
@@ -137,3 +138,30 @@ some_bit m n set = elim (cases_eq m 0) [
 ]
 
 pub ruleset low_bits = (up_to_bits, without_bits, without_less, some_bit)
+
+-- ---- the bits above a place
+
+-- the one bit that is set in a mask of one
+one_set : (m n i : ℕ) → ((j : ℕ) → has_bit m j ≡ (has_bit 0 j || (j == n))) → i ≡ n → has_bit m i ≡ true
+one_set m n i bits same = bits i ∙ or_right (has_bit 0 i) (i == n) (eq-eqb i n same)
+
+one_clear : (m n i : ℕ) → ((j : ℕ) → has_bit m j ≡ (has_bit 0 j || (j == n))) → i ≢ n → has_bit m i ≡ false
+one_clear m n i bits other = bits i ∙ (rw (has_bit-none i, ne_eqb i n other) refl)
+
+pub bits_above-above : (mask one low n i : ℕ) → ((j : ℕ) → has_bit one j ≡ (has_bit 0 j || (j == n))) → ((j : ℕ) → j < 81 → has_bit low j ≡ not (some_below j (has_bit one))) → low < 2 ^ 128 → i < 81 → n < i
+    → has_bit (bit_and mask (2 ^ 128 - 1 - low)) i ≡ has_bit mask i
+bits_above-above mask one low n i ones lows fits h up =
+    has_bit-and mask (2 ^ 128 - 1 - low) i ∙ (rw (has_bit-not low i fits (omega arith), lows i h, some_below_at i (has_bit one) n up (one_set one n n ones refl)) (kept (has_bit mask i)))
+  where
+    kept : (a : Bool) → (a && not (not true)) ≡ a
+    kept true = refl
+    kept false = refl
+
+pub bits_above-below : (mask one low n i : ℕ) → ((j : ℕ) → has_bit one j ≡ (has_bit 0 j || (j == n))) → ((j : ℕ) → j < 81 → has_bit low j ≡ not (some_below j (has_bit one))) → low < 2 ^ 128 → i < 81 → i ≤ n
+    → has_bit (bit_and mask (2 ^ 128 - 1 - low)) i ≡ false
+bits_above-below mask one low n i ones lows fits h down =
+    has_bit-and mask (2 ^ 128 - 1 - low) i ∙ (rw (has_bit-not low i fits (omega arith), lows i h, some_below_no i (has_bit one) (λ j l. one_clear one n j ones (omega arith))) (gone (has_bit mask i)))
+  where
+    gone : (a : Bool) → (a && not (not false)) ≡ false
+    gone true = refl
+    gone false = refl

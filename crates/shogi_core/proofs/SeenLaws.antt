@@ -18,7 +18,7 @@ use Rattle.shogi_core.specs.Cell.{is_piece_of, is_king, is_slider, is_sliding_ro
 use Rattle.shogi_core.specs.Movement.{Cells, leads, offset_by, jump_left, jump_right, slides, slides_across, is_step_empty, for_side, slides_of, steps_of, has_slide, has_step, cell_reaches, reaches, piece_at, straight, diagonal}
 use Rattle.shogi_core.proofs.BitLaws.{has_bit-and, has_bit-or, has_bit-none, has_bit-without}
 use Rattle.shogi_core.proofs.Below.{all_below_none, some_below_at, some_below_no, some_below_found}
-use Rattle.shogi_core.proofs.LineBits.{and_fits}
+use Rattle.shogi_core.proofs.LineBits.{and_fits, or_fits}
 use Rattle.shogi_core.proofs.RayLaws.{slides_bare}
 use Rattle.shogi_core.specs.Lines.{back, around, are_aligned, are_lined, is_jump, is_near, is_seen}
 use Rattle.shogi_core.proofs.Back.{away_back, leads_is, is_leads, slides_past_back}
@@ -44,10 +44,7 @@ pub seen_bits : (cells : Cells) (a b m n : ℕ) → has_bit m b ≡ are_lined ce
 unfolding is_seen
 seen_bits cells a b m n p q = has_bit-or m n b ∙ (rw (p, q) refl)
 
-pub or_fits_again : (a b : ℕ) → a < 2 ^ 81 → b < 2 ^ 81 → bit_or a b < 2 ^ 81
-or_fits_again a b h l = or_lt 81 a b h l
-
-pub ruleset seen = (lined_bits, seen_bits, or_fits_again)
+pub ruleset seen = (lined_bits, seen_bits, or_fits)
 
 -- ---- from the other end
 

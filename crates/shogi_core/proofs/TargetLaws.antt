@@ -1,8 +1,7 @@
 -- Masks of what a piece reaches.
-use Rattle.std.proofs.Common.{◌≡◌, ◌<◌, ◌+◌, ◌^◌, ℕ, Bool, true, false, refl, sym, ap, ◌∙◌, bit_or}
+use Rattle.std.proofs.Common.{◌≡◌, ◌+◌, ℕ, Bool, true, false, refl, sym, ap, ◌∙◌, bit_or}
 use Rattle.std.specs.Prelude.{◌||◌}
 use Rattle.std.specs.List.{list_any}
-use Rattle.std.proofs.lemmas.Nat.{or_lt}
 use Rattle.shogi_core.specs.declared.offset.Offset.{Offset}
 use Rattle.shogi_core.specs.declared.piece.Color.{Color}
 use Rattle.shogi_core.specs.declared.piece.Color.TheVariants.{Black, White}
@@ -10,6 +9,7 @@ use Rattle.shogi_core.specs.Bits.{has_bit}
 use Rattle.shogi_core.specs.Movement.{Cells, up, down, left, right, up_left, up_right, down_left, down_right, slides, has_slide, for_side, straight, diagonal}
 use Rattle.shogi_core.specs.Rays.{direction_at}
 use Rattle.shogi_core.proofs.BitLaws.{has_bit-or, has_bit-none}
+use Rattle.shogi_core.proofs.LineBits.{or_fits}
 use Rattle.shogi_core.proofs.SeenLaws.{slides_role}
 use Rattle.shogi_core.specs.Cell.{is_sliding_role}
 use Rattle.shogi_core.specs.declared.piece.Piece.{Piece}
@@ -58,9 +58,6 @@ bits_four a b c d n p q r s e f g h = has_bit-or (bit_or (bit_or a b) c) d n ∙
 pub straight_bits : (cells : Cells) (color : Color) (from n a b c d : ℕ) → has_bit a n ≡ slides cells up from n → has_bit b n ≡ slides cells down from n → has_bit c n ≡ slides cells left from n → has_bit d n ≡ slides cells right from n
     → has_bit (bit_or (bit_or (bit_or a b) c) d) n ≡ list_any (λ o. slides cells (for_side color o) from n) straight
 straight_bits cells color from n a b c d e f g h = bits_four a b c d n (slides cells up from n) (slides cells down from n) (slides cells left from n) (slides cells right from n) e f g h ∙ any_straight color (λ o. slides cells o from n)
-
-pub or_fits : (a b : ℕ) → a < 2 ^ 81 → b < 2 ^ 81 → bit_or a b < 2 ^ 81
-or_fits a b h l = or_lt 81 a b h l
 
 mixed : (a b c d : Bool) → (((a || b) || c) || d) ≡ (((b || d) || c) || a)
 mixed true true true true = refl

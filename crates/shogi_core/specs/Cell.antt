@@ -1,5 +1,5 @@
 -- What stands on a square: whose piece, a king, an unpromoted pawn, a piece that could never move again (JSA playing rules).
-use Rattle.std.specs.Prelude.{ℕ, ◌%◌, ◌&&◌, Bool, true, false, Option, Some, None, nat_lt}
+use Rattle.std.specs.Prelude.{ℕ, ◌≡◌, ◌≢◌, ◌<◌, ◌%◌, ◌&&◌, Bool, true, false, Option, Some, None, nat_lt}
 use Rattle.shogi_core.specs.declared.piece.Color.{Color}
 use Rattle.shogi_core.specs.declared.piece.Color.TheVariants.{Black, White}
 use Rattle.shogi_core.specs.declared.piece.Role.{Role}
@@ -65,3 +65,12 @@ is_immobile square (Some piece) = is_immobile_role piece.color piece.role (squar
 -- the square holds a dead piece
 abbrev pub is_immobile_on : Cells → ℕ → Bool
 is_immobile_on cells square = is_immobile square (piece_at cells square)
+
+-- no king of the side stands on another square
+abbrev pub HasNoOtherKing : Cells → Color → ℕ → Type 0
+HasNoOtherKing cells side king =
+    (x : ℕ) → x < 81 → x ≢ king → is_king side (piece_at cells x) ≡ false
+
+-- no king of the side stands on the board
+abbrev pub HasNoKing : Cells → Color → Type 0
+HasNoKing cells side = (n : ℕ) → n < 81 → is_king side (piece_at cells n) ≡ false

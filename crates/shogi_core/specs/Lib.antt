@@ -3,6 +3,7 @@ pub mod Squares
 pub mod Pieces
 pub mod Movement
 pub mod Cell
+pub mod Zones
 pub mod Attack
 pub mod Position
 pub mod Same
@@ -11,6 +12,7 @@ pub mod Start
 pub mod Codes
 pub mod Bits
 pub mod Masks
+pub mod Sets
 pub mod Words
 pub mod Lines
 pub mod Rays

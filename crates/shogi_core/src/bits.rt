@@ -1,6 +1,6 @@
 //! Sets of squares as the bits of a number: bit n is the square of index n.
 
-ghost use Rattle.std.specs.Prelude.{◌≡◌, ◌≢◌, ◌<◌, ◌≤◌, ◌^◌, ◌%◌, ◌==◌, ◌&&◌, ◌||◌, not, true, ℕ};
+ghost use Rattle.std.specs.Prelude.{◌≡◌, ◌≢◌, ◌<◌, ◌≤◌, ◌^◌, ◌%◌, ◌==◌, ◌&&◌, ◌||◌, not, true, false, ℕ};
 ghost use Rattle.shogi_core.specs.Below.{some_below};
 ghost use Rattle.shogi_core.specs.Bits.{HasBits, has_bit};
 
@@ -105,4 +105,30 @@ pub fn without_lowest(mask: u128, n: usize) -> u128
 {
     let _ = n;
     mask & (mask - 1)
+}
+
+/// Those bits of the mask that are above bit n.
+pub fn bits_above(mask: u128, n: usize) -> u128
+    requires n { n < 81 }
+    requires fits { mask < 2 ^ 81 }
+    ensures fits { result < 2 ^ 81 }
+    ensures above { (i : ℕ) → i < 81 → n < i → has_bit result i ≡ has_bit mask i }
+    ensures below { (i : ℕ) → i < 81 → i ≤ n → has_bit result i ≡ false }
+{
+    mask & !up_to_lowest(with(0, n))
+}
+
+/// Those bits of the mask that are not below bit n.
+pub fn bits_from(mask: u128, n: usize) -> u128
+    requires n { n ≤ 81 }
+    requires fits { mask < 2 ^ 81 }
+    ensures fits { result < 2 ^ 81 }
+    ensures from { (i : ℕ) → i < 81 → n ≤ i → has_bit result i ≡ has_bit mask i }
+    ensures below { (i : ℕ) → i < n → has_bit result i ≡ false }
+{
+    if n == 0 {
+        mask
+    } else {
+        bits_above(mask, n - 1)
+    }
 }

@@ -22,12 +22,14 @@ mod position;
 mod ray_table;
 mod rays;
 mod square;
+pub mod squares;
 mod start;
 mod step_table;
 mod steps;
 mod targets;
 mod validity;
 mod words;
+pub mod zones;
 
 pub use board::Board;
 pub use cell::{is_immobile, is_pawn, is_piece_of};

@@ -1,6 +1,6 @@
 //! Moves.
 
-ghost use Rattle.std.specs.Prelude.{◌≡◌, ◌<◌, ◌≤◌, ◌↔◌, IsNone, IfSome, Some};
+ghost use Rattle.std.specs.Prelude.{◌≡◌, ◌<◌, ◌≤◌, ◌+◌, ◌↔◌, IsNone, IfSome, Some};
 ghost use Rattle.shogi_core.specs.declared.moves.TheConstants.{MOVE_CODE_COUNT};
 ghost use Rattle.shogi_core.specs.Codes.{code_of, move_of, kind_at};
 
@@ -71,6 +71,14 @@ impl Move {
             }
             Move::Drop { kind, to } => FIRST_DROP + (kind.number() * 81 + to.index()) as u16,
         }
+    }
+
+    /// The first code above that of the move.
+    pub fn code_above(&self) -> u16
+        ensures code { result ≡ code_of self.now + 1 }
+        ensures range { result ≤ MOVE_CODE_COUNT }
+    {
+        self.code() + 1
     }
 
     /// Gives proofs that the code is that of this move and no other, and does nothing.

@@ -1,6 +1,6 @@
 //! Pieces: a colour and a role.
 
-ghost use Rattle.std.specs.Prelude.{◌≡◌, ◌<◌};
+ghost use Rattle.std.specs.Prelude.{◌≡◌, ◌<◌, ◌+◌, MatchOption};
 ghost use Rattle.shogi_core.specs.Pieces.{opponent_of, kind_number, set_size, kind_of, is_same_color, role_of, promoted};
 ghost use Rattle.shogi_core.specs.Cell.{is_king_role, is_pawn_role, is_sliding_role, is_immobile_role};
 
@@ -97,6 +97,22 @@ impl Kind {
             Kind::Gold => 4,
             Kind::Bishop => 5,
             Kind::Rook => 6,
+        }
+    }
+
+    /// The kind after this one in the order of their numbers.
+    pub fn next(self) -> Option<Kind>
+        ensures { MatchOption result (kind_number self ≡ 6)
+            (λ k. kind_number k ≡ kind_number self + 1) }
+    {
+        match self {
+            Kind::Pawn => Some(Kind::Lance),
+            Kind::Lance => Some(Kind::Knight),
+            Kind::Knight => Some(Kind::Silver),
+            Kind::Silver => Some(Kind::Gold),
+            Kind::Gold => Some(Kind::Bishop),
+            Kind::Bishop => Some(Kind::Rook),
+            Kind::Rook => None,
         }
     }
 

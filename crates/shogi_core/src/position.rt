@@ -1,11 +1,13 @@
 //! Positions: what stands on the board, what each side holds, and whose turn it is.
 
-ghost use Rattle.std.specs.Prelude.{◌≡◌, ◌↔◌, IsTrue, Ok, Err, None, Some, MatchOption};
+ghost use Rattle.std.specs.Prelude.{◌≡◌, ◌↔◌, true, IsTrue, Ok, Err, None, Some, MatchOption, IfSome, IsNone};
+ghost use Rattle.shogi_core.specs.Cell.{is_king, HasNoKing, HasNoOtherKing};
 ghost use Rattle.shogi_core.specs.Movement.{reaches, piece_at};
 ghost use Rattle.shogi_core.specs.Position.{Shogi, count_in_hand, with_piece_moved, with_piece_dropped};
 ghost use Rattle.shogi_core.specs.Same.{is_same_position};
 ghost use Rattle.shogi_core.specs.Validity.{IsValid, fault_of};
 
+use crate::bits::lowest;
 use crate::board::Board;
 use crate::hands::Hands;
 use crate::piece::{Color, Kind, Piece};
@@ -136,6 +138,22 @@ impl Position {
         ensures { result ≡ piece_at self.now.cells square }
     {
         self.board.at(square)
+    }
+
+    /// The square of the side's king, if it has one.
+    #[inline(always)]
+    #[tactic(auto, using(crate::proofs::Kings::one_king))]
+    pub fn king(&self, side: Color) -> Option<Square>
+        ensures king { IfSome result (λ k. is_king side (piece_at self.now.cells k) ≡ true) }
+        ensures lone { IfSome result (HasNoOtherKing self.now.cells side) }
+        ensures none { IsNone result → HasNoKing self.now.cells side }
+    {
+        self.validity();
+        let kings = self.board.kings(side);
+        if kings == 0 {
+            return None;
+        }
+        Some(Square::of_index(lowest(kings)))
     }
 
     /// Whether the piece on the one square has a step, a jump or a free slide to the other;

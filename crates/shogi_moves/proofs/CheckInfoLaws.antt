@@ -1,8 +1,8 @@
 -- Moves that cannot leave the mover's king attacked.
 use Rattle.std.proofs.Common.{◌≡◌, ◌≢◌, ℕ, ◌<◌, ◌^◌, ◌⊎◌, Bool, true, false, refl, sym, ap, subst, ◌∙◌, arith, inl, inr, Option, Some, None, set, length, get_or-set_same, get_or-set_other, length-set, bit_or}
-use Rattle.std.specs.Prelude.{◌==◌, ◌&&◌, not, is_none}
+use Rattle.std.specs.Prelude.{◌&&◌, not, is_none}
 use Rattle.std.proofs.lemmas.Nat.{or_lt}
-use Rattle.std.proofs.lemmas.Bool.{cases_eq, false_from_ne_true, both_ways, and_parts, and_from, or_left, or_right, or_parts, not_from_false, not-true, ne_eqb}
+use Rattle.std.proofs.lemmas.Bool.{cases_eq, false_from_ne_true, both_ways, and_parts, or_parts, not-true}
 use Rattle.shogi_core.specs.declared.piece.Color.{Color}
 use Rattle.shogi_core.specs.declared.piece.Color.TheVariants.{Black, White}
 use Rattle.shogi_core.specs.declared.piece.Kind.{Kind}
@@ -12,35 +12,16 @@ use Rattle.shogi_core.specs.declared.moves.Move.TheVariants.{Board, Drop}
 use Rattle.shogi_core.specs.Attack.{in_check, is_attacked, is_open_king, StaysInCheck}
 use Rattle.shogi_core.specs.Bits.{has_bit}
 use Rattle.shogi_core.specs.Cell.{is_piece_of, is_king, is_king_role}
-use Rattle.shogi_core.specs.Lines.{are_lined, is_line_to_king, is_lined_with_king}
+use Rattle.shogi_core.specs.Lines.{is_lined_with_king}
 use Rattle.shogi_core.specs.Movement.{Cells, piece_at}
 use Rattle.shogi_core.specs.Pieces.{opponent_of, is_same_color, role_of}
 use Rattle.shogi_core.specs.Position.{Shogi}
 use Rattle.shogi_core.proofs.Below.{some_below_no}
-use Rattle.shogi_core.proofs.BitLaws.{has_bit-or, has_bit-none}
+use Rattle.shogi_core.proofs.BitLaws.{has_bit-or}
 use Rattle.shogi_core.proofs.Uncovered.{check_was, attacked_was}
-use Rattle.shogi_core.proofs.SeenLaws.{lined_back}
 use Rattle.shogi_moves.specs.After.{cells_after, piece_moved, dropped}
-use Rattle.shogi_moves.specs.CheckInfo.{IsCheckInfo, CoversKingLines}
+use Rattle.shogi_moves.specs.CheckInfo.{IsCheckInfo}
 use Rattle.shogi_moves.proofs.MovedPieces.{is_king-piece_moved}
-
--- ---- the squares that are on open lines with a king
-
-pub king_lines_first : (cells : Cells) (side : Color) (m : ℕ) → ((n : ℕ) → n < 81 → has_bit m n ≡ is_king side (piece_at cells n)) → CoversKingLines cells side m m
-king_lines_first cells side m bits = record {
-  kings = λ n h e. bits n h ∙ e;
-  lines = λ k n h l e out lined. absurd (both_ways (has_bit m k) out (bits k h ∙ e));
-}
-
-pub king_lines_more : (cells : Cells) (side : Color) (left next covered king line : ℕ) → CoversKingLines cells side left covered → ((i : ℕ) → has_bit next i ≡ (has_bit left i && not (i == king)))
-    → ((n : ℕ) → n < 81 → has_bit line n ≡ are_lined cells king n) → CoversKingLines cells side next (bit_or covered line)
-king_lines_more cells side left next covered king line h bits lined = record {
-  kings = λ n l e. has_bit-or covered line n ∙ or_left _ _ (h.kings n l e);
-  lines = λ k n l r e out on. has_bit-or covered line n ∙ elim (cases_eq k king) [
-    | inl same ↦ or_right (has_bit covered n) (has_bit line n) (lined n r ∙ subst (λ (j : ℕ). are_lined cells j n ≡ true) same on)
-    | inr other ↦ or_left _ _ (h.lines k n l r e (false_from_ne_true (has_bit left k) (λ set. both_ways (has_bit next k) out (bits k ∙ and_from _ _ set (not_from_false _ (ne_eqb k king other))))) on)
-  ];
-}
 
 -- ---- a piece that moves
 
@@ -62,42 +43,7 @@ pub own_some : (side : Color) (cell : Option Piece) → is_piece_of side cell �
 own_some side None e = absurd (cc)
 own_some side (Some piece) e = refl
 
--- ---- a piece that is lifted off
-
--- off the king's lines that opens no check
-lifted_unchecked : (cells : Cells) (side : Color) (n : ℕ) → length cells ≡ 81 → n < 81 → is_lined_with_king cells side n ≡ false → in_check cells side ≡ false → in_check (set cells n None) side ≡ false
-lifted_unchecked cells side n len h off safe =
-    check_was cells (set cells n None) (λ x. x ≡ n)
-    (λ x e. elim (cases_eq x n) [ inl here ↦ inr here | inr other ↦ inl (ap is_none (sym (get_or-set_other cells n x None None other)) ∙ e) ])
-    side
-    (λ a e. elim (cases_eq a n) [
-      | inl here ↦ absurd (let clash : false ≡ true = ap (is_piece_of (opponent_of side)) (sym (lifted_at a here)) ∙ e in cc)
-      | inr other ↦ sym (get_or-set_other cells n a None None other)
-    ])
-    (λ k e. elim (cases_eq k n) [
-      | inl here ↦ absurd (let clash : false ≡ true = ap (is_king side) (sym (lifted_at k here)) ∙ e in cc)
-      | inr other ↦ sym (get_or-set_other cells n k None None other)
-    ])
-    (λ x left. subst (λ (y : ℕ). is_lined_with_king cells side y ≡ false) (sym left) off)
-    safe
-  where
-    lifted_at : (x : ℕ) → x ≡ n → piece_at (set cells n None) x ≡ None
-    lifted_at x here = rw here (get_or-set_same cells n None None (omega arith))
-
-pub check_info_from : (p : Shogi) (checked : Bool) (pinned_or_king : ℕ) → length p.cells ≡ 81 → CoversKingLines p.cells p.side 0 pinned_or_king → pinned_or_king < 2 ^ 81 → checked ≡ false → checked ≡ in_check p.cells p.side → IsCheckInfo p checked pinned_or_king
-unfolding is_lined_with_king
-check_info_from p checked pinned_or_king len h fits safe e = record {
-  check = e;
-  kings = λ n l out. false_from_ne_true _ (λ king. both_ways (has_bit pinned_or_king n) out (h.kings n l king));
-  stays = λ c. absurd (both_ways checked safe c);
-  free = λ c n l out own. lifted_unchecked p.cells p.side n len l (off_lines n l out) (sym e ∙ c);
-  fits = fits;
-}
-  where
-    off_lines : (n : ℕ) → n < 81 → has_bit pinned_or_king n ≡ false → is_lined_with_king p.cells p.side n ≡ false
-    off_lines n l out = some_below_no 81 (is_line_to_king p.cells p.side n) (λ k r. false_from_ne_true _ (λ line. (
-        let parts : (is_king p.side (piece_at p.cells k) ≡ true) × (are_lined p.cells n k ≡ true) = and_parts _ _ line in
-        both_ways (has_bit pinned_or_king n) out (h.lines k n r l parts.0 (has_bit-none k) (lined_back p.cells n k l parts.1)))))
+-- ---- a piece more on the board
 
 -- a piece of the side on a square more opens no line
 pub filled : (cells : Cells) (side : Color) (to : ℕ) (v : Option Piece) → length cells ≡ 81 → to < 81 → is_piece_of side v ≡ true → is_king side v ≡ false → in_check cells side ≡ false → in_check (set cells to v) side ≡ false
@@ -342,11 +288,6 @@ pub unpinned_safe : (p : Shogi) (checked : Bool) (pinned_or_king from to : ℕ) 
     → in_check (cells_after p.cells p.side (Board from to promote)) p.side ≡ false
 unpinned_safe p checked pinned_or_king from to promote g len hf ht own unpinned off =
     filled (set p.cells from None) p.side to (piece_moved promote (piece_at p.cells from)) (length-set p.cells from None ∙ len) ht (is_piece_of-piece_moved p.side promote (piece_at p.cells from) ∙ own) (is_king-piece_moved p.side promote (piece_at p.cells from) ∙ g.kings from hf off) (g.free unpinned from hf off own)
-
-pub king_lines_fit : (a b : ℕ) → a < 2 ^ 81 → b < 2 ^ 81 → bit_or a b < 2 ^ 81
-king_lines_fit a b h l = or_lt 81 a b h l
-
-pub ruleset covering_king_lines = (king_lines_first, king_lines_more, king_lines_fit)
 
 pub unpinned_parts : (a b : Bool) → (not a && not b) ≡ true → (a ≡ false) × (b ≡ false)
 unpinned_parts a b e = let parts : (not a ≡ true) × (not b ≡ true) = and_parts (not a) (not b) e in (not-true a parts.0, not-true b parts.1)

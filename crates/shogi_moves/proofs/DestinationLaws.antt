@@ -1,5 +1,5 @@
 -- Where a piece may legally end.
-use Rattle.std.proofs.Common.{◌≡◌, ◌≢◌, ℕ, ◌-◌, ◌^◌, ◌<◌, Bool, true, false, not, Option, Some, None, refl, sym, ap, ◌∙◌, arith, inl, inr, bit_and, bit_or, length, cond, set, get_or-set_same, get_or-set_other, length-set, ◌⊎◌}
+use Rattle.std.proofs.Common.{◌≡◌, ℕ, ◌-◌, ◌^◌, ◌<◌, Bool, true, false, not, Option, Some, None, refl, sym, ap, ◌∙◌, arith, inl, inr, bit_and, bit_or, length, cond, set, get_or-set_same, get_or-set_other, length-set, ◌⊎◌}
 use Rattle.std.specs.Prelude.{◌&&◌, ◌||◌, ◌==◌, is_none, is_some, ◌%◌, ◌/◌, nat_lt}
 use Rattle.std.proofs.lemmas.Bool.{cases_Bool, cases_eq, ne_eqb, eq-eqb, and_parts, and_from, both_ways, le-ltb, lt-ltb, ltb-false, not-true}
 use Rattle.shogi_core.specs.declared.bits.TheConstants.{ALL_SQUARES}
@@ -28,12 +28,13 @@ use Rattle.shogi_moves.specs.After.{piece_moved, cells_after, dropped}
 use Rattle.shogi_moves.specs.Captures.{captures, matches, is_matching}
 use Rattle.shogi_moves.specs.Destinations.{is_destination, is_unchecked, AreDropSquares}
 use Rattle.shogi_moves.specs.CheckInfo.{IsCheckInfo}
-use Rattle.shogi_moves.specs.Legal.{is_safe, is_legal, is_legal_code, is_pseudo_legal_board_move, may_promote, is_promotable, in_promotion_zone, is_pawn_kind, is_pawn_drop_mate}
+use Rattle.shogi_moves.specs.Legal.{is_safe, is_legal, is_legal_code, is_pseudo_legal_board_move, is_pawn_kind, is_pawn_drop_mate}
+use Rattle.shogi_core.specs.Zones.{may_promote, is_promotable, in_promotion_zone}
 use Rattle.shogi_moves.proofs.CaptureLaws.{matches_kind_of}
 use Rattle.shogi_moves.proofs.CheckInfoLaws.{unpinned_safe, filled, quiet_drop, same_drop, stays_set, stays_drop, unpinned_parts}
 use Rattle.shogi_moves.proofs.LegalLaws.{is_legal_code_of}
 use Rattle.shogi_moves.proofs.MovedPieces.{is_king-piece_moved}
-use Rattle.shogi_moves.proofs.ZoneLaws.{all_squares}
+use Rattle.shogi_core.proofs.ZoneLaws.{all_squares}
 
 -- of the first squares, those are kept that pass or are still to be tried
 pub record Sifts (first left kept : ℕ) (test : ℕ → Bool) : Type 0 where
@@ -162,15 +163,6 @@ free_kept p destinations from n len hf hn own plain free =
     (ap not (filled (set p.cells from None) p.side n (piece_moved false (piece_at p.cells from)) (length-set p.cells from None ∙ len) hn (moved_own p.side false (piece_at p.cells from) ∙ own) (is_king-piece_moved p.side false (piece_at p.cells from) ∙ plain) (not-true _ free)))
 
 -- ---- the king, and answers to a check
-
--- no other king of the side
-pub lone_king : (p : Shogi) (kings rest from : ℕ) → ((n : ℕ) → n < 81 → has_bit kings n ≡ is_king p.side (piece_at p.cells n)) → ((i : ℕ) → has_bit rest i ≡ (has_bit kings i && not (i == from))) → rest ≡ 0 → (x : ℕ) → x < 81 → x ≢ from → is_king p.side (piece_at p.cells x) ≡ false
-lone_king p kings rest from b r none x h other =
-    sym (b x h) ∙ go (has_bit kings x) (x == from) (ne_eqb x from other) (sym (r x) ∙ (ap (λ m. has_bit m x) none ∙ has_bit-none x))
-  where
-    go : (a e : Bool) → e ≡ false → (a && not e) ≡ false → a ≡ false
-    go true e f h = absurd (both_ways (not e) h (ap not f))
-    go false e f h = refl
 
 -- what no answer can be is left out
 pub narrowed : (destinations pinned_or_king n : ℕ) (u : Bool) → (has_bit destinations n ≡ true → has_bit pinned_or_king n ≡ false → u ≡ false) → (has_bit (bit_and destinations pinned_or_king) n && u) ≡ (has_bit destinations n && u)

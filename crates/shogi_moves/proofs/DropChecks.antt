@@ -1,7 +1,7 @@
 -- A drop uncovers nothing: the other king is attacked after it by the dropped piece or not at all.
-use Rattle.std.proofs.Common.{◌≡◌, ℕ, ◌<◌, ◌⊎◌, Bool, true, false, None, refl, sym, ap, ◌∙◌, arith, inl, inr, length, bit_or, subst, get_or-set_same, get_or-set_other}
-use Rattle.std.specs.Prelude.{is_none, ◌&&◌, ◌||◌, ◌==◌, not}
-use Rattle.std.proofs.lemmas.Bool.{cases_eq, both_ways, false_from_ne_true, and_from, or_left, or_right, not_from_false, ne_eqb}
+use Rattle.std.proofs.Common.{◌≡◌, ℕ, ◌<◌, ◌⊎◌, Bool, true, false, None, refl, sym, ap, ◌∙◌, arith, inl, inr, length, subst, get_or-set_same, get_or-set_other}
+use Rattle.std.specs.Prelude.{is_none, ◌||◌}
+use Rattle.std.proofs.lemmas.Bool.{cases_eq, both_ways, false_from_ne_true}
 use Rattle.shogi_core.specs.declared.piece.Color.{Color}
 use Rattle.shogi_core.specs.declared.piece.Color.TheVariants.{Black, White}
 use Rattle.shogi_core.specs.declared.piece.Kind.{Kind}
@@ -11,10 +11,9 @@ use Rattle.shogi_core.specs.declared.piece.Role.TheVariants.{Pawn}
 use Rattle.shogi_core.specs.Attack.{in_check}
 use Rattle.shogi_core.specs.Bits.{has_bit}
 use Rattle.shogi_core.specs.Validity.{IsValid}
-use Rattle.shogi_core.proofs.BitLaws.{has_bit-or, has_bit-none}
 use Rattle.shogi_core.proofs.Faults.{faultless_from}
-use Rattle.shogi_core.specs.Cell.{is_king}
-use Rattle.shogi_core.specs.Movement.{Cells, piece_at, reaches, has_step, leads, up, down, left}
+use Rattle.shogi_core.specs.Cell.{is_king, HasNoKing, HasNoOtherKing}
+use Rattle.shogi_core.specs.Movement.{Cells, piece_at, reaches, has_step, leads, up, down}
 use Rattle.shogi_core.specs.Pieces.{opponent_of}
 use Rattle.shogi_core.specs.Position.{Shogi}
 use Rattle.shogi_core.specs.Lines.{back}
@@ -23,7 +22,6 @@ use Rattle.shogi_core.proofs.Uncovered.{check_was_but}
 use Rattle.shogi_core.proofs.SeenLaws.{leads_back}
 use Rattle.shogi_moves.specs.After.{cells_after, dropped}
 use Rattle.shogi_moves.specs.Legal.{is_pawn_drop_mate}
-use Rattle.shogi_moves.proofs.ZoneLaws.{more_fits}
 
 pub no_king : (side : Color) (kind : Kind) → is_king (opponent_of side) (dropped side kind) ≡ false
 no_king Black kind = refl
@@ -78,30 +76,23 @@ pub pawn_back : (side : Color) (n k : ℕ) → n < 81 → has_step (record { col
 pawn_back Black n k h e = step_back up n k h e
 pawn_back White n k h e = step_back down n k h e
 
--- all squares are among the faces that a pawn may attack a king from which is not left
-pub record IsFacing (p : Shogi) (left faces : ℕ) : Type 0 where
-  pub all : (k n : ℕ) → k < 81 → n < 81 → is_king (opponent_of p.side) (piece_at p.cells k) ≡ true → has_bit left k ≡ false → has_step (record { color = opponent_of p.side; role = Pawn }) k n ≡ true → has_bit faces n ≡ true
+-- a king of the other side after the drop was one before it
+old_king : (p : Shogi) (to : ℕ) → length p.cells ≡ 81 → to < 81 → (k : ℕ) → is_king (opponent_of p.side) (piece_at (cells_after p.cells p.side (Drop kinds.Pawn to)) k) ≡ true → is_king (opponent_of p.side) (piece_at p.cells k) ≡ true
+old_king p to len ht k e = elim (look p.cells p.side kinds.Pawn to len ht k) [
+  | inl there ↦ absurd (both_ways (is_king (opponent_of p.side) (dropped p.side kinds.Pawn)) (no_king p.side kinds.Pawn) (ap (is_king (opponent_of p.side)) (sym there.1) ∙ e))
+  | inr same ↦ ap (is_king (opponent_of p.side)) (sym same) ∙ e
+]
 
-pub facing_first : (p : Shogi) (kings : ℕ) → ((k : ℕ) → k < 81 → has_bit kings k ≡ is_king (opponent_of p.side) (piece_at p.cells k)) → IsFacing p kings 0
-facing_first p kings bits = record { all = λ k n h l king out step. absurd (both_ways (has_bit kings k) out (bits k h ∙ king)) }
-
-pub facing_more : (p : Shogi) (left next faces king steps : ℕ) → IsFacing p left faces → ((i : ℕ) → has_bit next i ≡ (has_bit left i && not (i == king))) → ((n : ℕ) → n < 81 → has_bit steps n ≡ has_step (record { color = opponent_of p.side; role = Pawn }) king n) → IsFacing p next (bit_or faces steps)
-facing_more p left next faces king steps f bits s = record {
-  all = λ k n h l crown out step. has_bit-or faces steps n ∙ elim (cases_eq k king) [
-    | inl same ↦ or_right (has_bit faces n) (has_bit steps n) (s n l ∙ subst (λ (j : ℕ). has_step (record { color = opponent_of p.side; role = Pawn }) j n ≡ true) same step)
-    | inr other ↦ or_left _ _ (f.all k n h l crown (false_from_ne_true (has_bit left k) (λ set. both_ways (has_bit next k) out (bits k ∙ and_from _ _ set (not_from_false _ (ne_eqb k king other))))) step)
-  ];
-}
-
-pub far_pawn : (p : Shogi) (to faces : ℕ) → IsValid p → to < 81 → IsFacing p 0 faces → has_bit faces to ≡ false → not (is_pawn_drop_mate p (Drop kinds.Pawn to)) ≡ true
-far_pawn p to faces v ht f out = ap not (non_mating_pawn p to v.cells_fit ht (faultless_from p v.no_fault).shut (λ k h king.
+-- a pawn mates the king alone from the square to which a pawn on the king's square would step
+pub far_pawn : (p : Shogi) (to king faces : ℕ) → IsValid p → to < 81 → HasNoOtherKing p.cells (opponent_of p.side) king → ((n : ℕ) → n < 81 → has_bit faces n ≡ has_step (record { color = opponent_of p.side; role = Pawn }) king n) → has_bit faces to ≡ false → is_pawn_drop_mate p (Drop kinds.Pawn to) ≡ false
+far_pawn p to king faces v ht lone bits out = non_mating_pawn p to v.cells_fit ht (faultless_from p v.no_fault).shut (λ k h crown.
     pawn_reaches p.cells p.side to k v.cells_fit ht
-    ∙ false_from_ne_true (has_step (record { color = p.side; role = Pawn }) to k) (λ step. both_ways (has_bit faces to) out (f.all k to h ht (old_king k king) (has_bit-none k) (pawn_back p.side to k ht step)))))
-  where
-    old_king : (k : ℕ) → is_king (opponent_of p.side) (piece_at (cells_after p.cells p.side (Drop kinds.Pawn to)) k) ≡ true → is_king (opponent_of p.side) (piece_at p.cells k) ≡ true
-    old_king k e = elim (look p.cells p.side kinds.Pawn to v.cells_fit ht k) [
-      | inl there ↦ absurd (both_ways (is_king (opponent_of p.side) (dropped p.side kinds.Pawn)) (no_king p.side kinds.Pawn) (ap (is_king (opponent_of p.side)) (sym there.1) ∙ e))
-      | inr same ↦ ap (is_king (opponent_of p.side)) (sym same) ∙ e
-    ]
+    ∙ false_from_ne_true (has_step (record { color = p.side; role = Pawn }) to k) (λ step. elim (cases_eq k king) [
+      | inl same ↦ both_ways (has_bit faces to) out (bits to ht ∙ subst (λ (j : ℕ). has_step (record { color = opponent_of p.side; role = Pawn }) j to ≡ true) same (pawn_back p.side to k ht step))
+      | inr other ↦ both_ways (is_king (opponent_of p.side) (piece_at p.cells k)) (lone k h other) (old_king p to v.cells_fit ht k crown)
+    ]))
 
-pub ruleset facing = (facing_first, far_pawn, more_fits)
+pub no_mate : (p : Shogi) (to : ℕ) → IsValid p → to < 81 → HasNoKing p.cells (opponent_of p.side) → is_pawn_drop_mate p (Drop kinds.Pawn to) ≡ false
+no_mate p to v ht none = non_mating_pawn p to v.cells_fit ht (faultless_from p v.no_fault).shut (λ k h crown. absurd (both_ways (is_king (opponent_of p.side) (piece_at p.cells k)) (none k h) (old_king p to v.cells_fit ht k crown)))
+
+pub ruleset facing = (far_pawn, no_mate)

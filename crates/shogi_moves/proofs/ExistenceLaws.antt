@@ -25,9 +25,10 @@ use Rattle.shogi_core.proofs.Below.{some_below_at, some_below_no}
 use Rattle.shogi_core.proofs.BitLaws.{has_bit-or, has_bit-none}
 use Rattle.shogi_core.proofs.CodesBack.{move_of-board, move_of-drop}
 use Rattle.shogi_core.proofs.Faults.{number_below}
-use Rattle.shogi_core.proofs.LineBits.{lowest_set}
+use Rattle.shogi_core.proofs.LineBits.{lowest_set, or_fits}
 use Rattle.shogi_moves.specs.Captures.{is_matching}
-use Rattle.shogi_moves.specs.Destinations.{is_unchecked}
+use Rattle.shogi_moves.specs.declared.destinations.Destinations.{Destinations}
+use Rattle.shogi_moves.specs.Destinations.{is_unchecked, AreAllDestinations}
 use Rattle.shogi_moves.specs.CheckInfo.{IsCheckInfo}
 use Rattle.shogi_moves.specs.Legal.{is_safe, is_some_and_safe, is_safe_code, is_legal, is_legal_code, is_pawn_kind, is_pseudo_legal_board_move}
 use Rattle.shogi_moves.specs.LegalMoves.{legal_from, legal_codes}
@@ -36,7 +37,7 @@ use Rattle.shogi_moves.proofs.DestinationLaws.{drop_matching, legal_board, still
 use Rattle.shogi_moves.proofs.KingLaws.{king_own}
 use Rattle.shogi_moves.proofs.LegalLaws.{in_legal, legal_in, legal_in_above, legal_code_below, is_legal_code_of, run_without, board_code, drop_code, legal_code_unsafe}
 use Rattle.shogi_moves.proofs.SweepLaws.{either, at_code}
-use Rattle.shogi_moves.proofs.ZoneLaws.{all_squares, more_fits}
+use Rattle.shogi_core.proofs.ZoneLaws.{all_squares}
 
 -- where every piece may be pinned, nothing is claimed of any
 pub check_info_rough : (p : Shogi) (checked : Bool) → checked ≡ in_check p.cells p.side → IsCheckInfo p checked ALL_SQUARES
@@ -49,14 +50,12 @@ check_info_rough p checked e = record {
 }
 
 -- a piece without an end has no move
-pub piece_without : (p : Shogi) (from plain promoting : ℕ) → from < 81
-    → ((n : ℕ) → n < 81 → has_bit plain n ≡ is_legal_code p (code_of (Board from n false))) → ((n : ℕ) → n < 81 → has_bit promoting n ≡ is_legal_code p (code_of (Board from n true)))
-    → bit_or plain promoting ≡ 0 → legal_from p (from * SQUARE_CODES) ≡ legal_from p ((from + 1) * SQUARE_CODES)
-piece_without p from plain promoting hf pb qb none = run_without p (from * SQUARE_CODES) ((from + 1) * SQUARE_CODES) (omega arith) (omega arith) (λ c low high. (
-    let out = either plain promoting (c / 2 % 81) none in
+pub piece_without : (p : Shogi) (from : ℕ) (d : Destinations) → from < 81 → AreAllDestinations p from d → bit_or d.plain d.promoting ≡ 0 → legal_from p (from * SQUARE_CODES) ≡ legal_from p ((from + 1) * SQUARE_CODES)
+piece_without p from d hf all none = run_without p (from * SQUARE_CODES) ((from + 1) * SQUARE_CODES) (omega arith) (omega arith) (λ c low high. (
+    let out = either d.plain d.promoting (c / 2 % 81) none in
     elim (at_code from c low (omega arith)) [
-      | inl at ↦ ap (is_legal_code p) at ∙ (sym (pb (c / 2 % 81) (omega arith)) ∙ out.0)
-      | inr at ↦ ap (is_legal_code p) at ∙ (sym (qb (c / 2 % 81) (omega arith)) ∙ out.1)
+      | inl at ↦ ap (is_legal_code p) at ∙ (sym (all.plain.0 (c / 2 % 81) (omega arith)) ∙ out.0)
+      | inr at ↦ ap (is_legal_code p) at ∙ (sym (all.promoting.0 (c / 2 % 81) (omega arith)) ∙ out.1)
     ]))
 
 -- a kind without an end has no drop
@@ -76,14 +75,13 @@ pub some_legal : (p : Shogi) (code : ℕ) → is_legal_code p code ≡ true → 
 some_legal p code e none = let clash : false ≡ true = ap (λ codes. is_in code codes) (sym none) ∙ in_legal p 0 code (omega arith) e in cc
 
 -- a piece with an end has a move
-pub piece_with : (p : Shogi) (from plain promoting : ℕ) → plain < 2 ^ 81 → promoting < 2 ^ 81
-    → ((n : ℕ) → n < 81 → has_bit plain n ≡ is_legal_code p (code_of (Board from n false))) → ((n : ℕ) → n < 81 → has_bit promoting n ≡ is_legal_code p (code_of (Board from n true)))
-    → bit_or plain promoting ≢ 0 → legal_codes p ≢ []
-piece_with p from plain promoting pf qf pb qb some =
-    let low = lowest_set (bit_or plain promoting) some (more_fits plain promoting pf qf) in
-    elim (or_cases (has_bit plain (trailing_zeros w128 (bit_or plain promoting))) (has_bit promoting (trailing_zeros w128 (bit_or plain promoting))) (sym (has_bit-or plain promoting (trailing_zeros w128 (bit_or plain promoting))) ∙ low.1)) [
-      | inl here ↦ some_legal p (code_of (Board from (trailing_zeros w128 (bit_or plain promoting)) false)) (sym (pb (trailing_zeros w128 (bit_or plain promoting)) low.0) ∙ here)
-      | inr here ↦ some_legal p (code_of (Board from (trailing_zeros w128 (bit_or plain promoting)) true)) (sym (qb (trailing_zeros w128 (bit_or plain promoting)) low.0) ∙ here)
+pub piece_with : (p : Shogi) (from : ℕ) (d : Destinations) → AreAllDestinations p from d → bit_or d.plain d.promoting ≢ 0 → legal_codes p ≢ []
+piece_with p from d all some =
+    let to : ℕ = trailing_zeros w128 (bit_or d.plain d.promoting) in
+    let low = lowest_set (bit_or d.plain d.promoting) some (or_fits d.plain d.promoting all.plain.1 all.promoting.1) in
+    elim (or_cases (has_bit d.plain to) (has_bit d.promoting to) (sym (has_bit-or d.plain d.promoting to) ∙ low.1)) [
+      | inl here ↦ some_legal p (code_of (Board from to false)) (sym (all.plain.0 to low.0) ∙ here)
+      | inr here ↦ some_legal p (code_of (Board from to true)) (sym (all.promoting.0 to low.0) ∙ here)
     ]
 
 -- a kind with an end has a drop

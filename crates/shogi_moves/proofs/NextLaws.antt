@@ -1,7 +1,7 @@
 -- The least legal move from a code on, by the destinations of a piece or of a held kind.
 use Rattle.std.proofs.Common.{◌≡◌, ℕ, ◌+◌, ◌*◌, ◌^◌, ◌<◌, ◌≤◌, Bool, true, false, not, List, [], ◌∷◌, Option, None, Some, refl, sym, ◌∙◌, arith, inl, inr, bit_or, ap}
-use Rattle.std.specs.Prelude.{MatchOption, IsNone}
-use Rattle.std.proofs.lemmas.Bool.{cases_Bool, or_cases, both_ways}
+use Rattle.std.specs.Prelude.{MatchOption, IsNone, IfSome}
+use Rattle.std.proofs.lemmas.Bool.{cases_Bool, cases_lt, or_cases, both_ways}
 use Rattle.shogi_core.specs.declared.moves.TheConstants.{MOVE_CODE_COUNT, FIRST_DROP, SQUARE_CODES}
 use Rattle.shogi_core.specs.declared.moves.Move.{Move}
 use Rattle.shogi_core.specs.declared.moves.Move.TheVariants.{Board, Drop}
@@ -10,18 +10,15 @@ use Rattle.shogi_core.specs.Bits.{has_bit}
 use Rattle.shogi_core.specs.Cell.{is_piece_of}
 use Rattle.shogi_core.specs.Codes.{move_of, code_of}
 use Rattle.shogi_core.specs.Movement.{piece_at}
-use Rattle.shogi_core.specs.Pieces.{kind_number}
 use Rattle.shogi_core.specs.Position.{Shogi}
 use Rattle.shogi_core.proofs.BitLaws.{has_bit-none, has_bit-or}
-use Rattle.shogi_core.proofs.CodesBack.{move_of-board, move_of-drop}
-use Rattle.shogi_core.proofs.Faults.{number_below}
+use Rattle.shogi_core.proofs.CodesBack.{move_of-board}
 use Rattle.shogi_moves.specs.Captures.{is_matching}
 use Rattle.shogi_moves.specs.Legal.{is_legal, is_legal_code}
-use Rattle.shogi_moves.specs.LegalMoves.{legal_from}
-use Rattle.shogi_moves.specs.Sweeps.{Keeps, matching_from}
-use Rattle.shogi_moves.proofs.DestinationLaws.{drop_matching}
+use Rattle.shogi_moves.specs.LegalMoves.{legal_from, IsFirstFrom}
+use Rattle.shogi_moves.specs.Sweeps.{Keeps, KeepsDrop, matching_from}
 use Rattle.shogi_moves.proofs.LegalLaws.{is_legal_code_of, legal_from_found, no_piece, run_without}
-use Rattle.shogi_moves.proofs.SweepLaws.{keeps_first, keeps_from, fails_all, fails_to_plain, fails_to_promoting, fails_drops, fails_to_drop, all_drops}
+use Rattle.shogi_moves.proofs.SweepLaws.{keeps_first, keeps_from, fails_all, fails_to_plain, fails_to_promoting, all_drops}
 
 -- the first legal move from a code on
 pub record IsLeast (p : Shogi) (code : ℕ) (m : Move) : Type 0 where
@@ -74,24 +71,26 @@ pub on_board : (from to : ℕ) (promote : Bool) → from < 81 → to < 81 → co
 on_board from to true hf ht = omega arith
 on_board from to false hf ht = omega arith
 
--- the same of a kind
-pub drops_from : (p : Shogi) (kind : Kind) (code destinations less to : ℕ) → less < 2 ^ 81 → destinations < 2 ^ 81 → ((n : ℕ) → n < 81 → has_bit destinations n ≡ is_matching p false (code_of (Drop kind n))) → code ≡ code_of (Drop kind to)
-    → ((i : ℕ) → i < 81 → to ≤ i → has_bit less i ≡ has_bit destinations i) → ((i : ℕ) → i < to → has_bit less i ≡ false) → Keeps (is_legal_code p) (λ n. code_of (Drop kind n)) code less
-drops_from p kind code destinations less to fits all bits at same none =
-    keeps_from (is_legal_code p) (λ n. code_of (Drop kind n)) (FIRST_DROP + kind_number kind * 81) code destinations less to
-    (keeps_first (is_legal_code p) (λ n. code_of (Drop kind n)) (FIRST_DROP + kind_number kind * 81) destinations all (λ n h. bits n h ∙ drop_matching p kind n h) (λ n. omega arith)) fits (omega arith) (λ n h. omega arith) (λ n h. omega arith) same none
+-- the first of the drops from a code on, as a sweep of them finds it
+pub first_drop : (p : Shogi) (first old new : ℕ) (found : Option Move) → FIRST_DROP ≤ old → FIRST_DROP ≤ new → legal_from p first ≡ legal_from p old → MatchOption found (matching_from p false old ≡ []) (λ m. matching_from p false old ≡ code_of m ∷ matching_from p false new) → IfSome found (λ m. new ≡ code_of m + 1) → IsFirstFrom p found first
+first_drop p first old new None low up same next at = same ∙ (sym (all_drops p old low) ∙ next)
+first_drop p first old new (Some m) low up same next at = same ∙ (sym (all_drops p old low) ∙ (next ∙ ap (λ (xs : List ℕ). code_of m ∷ xs) (all_drops p new up ∙ ap (legal_from p) at)))
 
-module _ (p : Shogi) (kind : Kind) (code destinations : ℕ) (low : FIRST_DROP + kind_number kind * 81 ≤ code) (a : Keeps (is_legal_code p) (λ n. code_of (Drop kind n)) code destinations) where
-  pub no_drop : code ≤ FIRST_DROP + 81 + kind_number kind * 81 → destinations ≡ 0 → legal_from p code ≡ legal_from p (FIRST_DROP + 81 + kind_number kind * 81)
-  no_drop high none =
-      let seven : kind_number kind < 7 = number_below kind in
-      run_without p code (FIRST_DROP + 81 + kind_number kind * 81) high (omega arith) (fails_drops (is_legal_code p) kind code destinations low a none)
-
-  pub least_drop : (to : ℕ) → to < 81 → ((n : ℕ) → has_bit destinations n ≡ true → to ≤ n) → has_bit destinations to ≡ true → IsLeast p code (Drop kind to)
-  least_drop to ht least set =
-      let seven : kind_number kind < 7 = number_below kind in
-      let at : (code ≤ code_of (Drop kind to)) × (is_legal_code p (code_of (Drop kind to)) ≡ true) = a.set to ht set in
-      least_at p code (Drop kind to) (move_of-drop kind to ht) (omega arith) at.0 at.1 (fails_to_drop (is_legal_code p) kind code destinations low a to ht least)
+-- what is left of a kind above a drop
+pub drops_above : (p : Shogi) (kind : Kind) (destinations less to : ℕ) → to < 81 → destinations < 2 ^ 81 → ((n : ℕ) → n < 81 → has_bit destinations n ≡ is_matching p false (code_of (Drop kind n))) → less < 2 ^ 81 → ((i : ℕ) → i < 81 → to < i → has_bit less i ≡ has_bit destinations i) → ((i : ℕ) → i < 81 → i ≤ to → has_bit less i ≡ false)
+    → KeepsDrop p kind (code_of (Drop kind to) + 1) less
+drops_above p kind destinations less to ht all bits fits same none = record {
+  low = omega arith;
+  high = omega arith;
+  drops = record {
+    fits = fits;
+    set = λ n h e. elim (cases_lt to n) [
+      | inl up ↦ (omega arith, sym (bits n h) ∙ (sym (same n h up) ∙ e))
+      | inr down ↦ absurd (both_ways (has_bit less n) (none n h down) e)
+    ];
+    clear = λ n h e l. sym (bits n h) ∙ (sym (same n h (omega arith)) ∙ e);
+  };
+}
 
 -- the next of a walk whose moves on the board are over
 pub next_drop : (p : Shogi) (codes : List ℕ) (old new : ℕ) (found : Option Move) → FIRST_DROP ≤ old → FIRST_DROP ≤ new → codes ≡ legal_from p old → MatchOption found (matching_from p false old ≡ []) (λ m. matching_from p false old ≡ code_of m ∷ matching_from p false new) → (IsNone found → matching_from p false new ≡ [])

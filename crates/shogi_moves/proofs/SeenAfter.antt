@@ -8,14 +8,13 @@ use Rattle.shogi_core.specs.declared.piece.Piece.{Piece}
 use Rattle.shogi_core.specs.declared.moves.Move.TheVariants.{Board, Drop}
 use Rattle.shogi_core.specs.Attack.{in_check, is_attacked, is_open_king, IsSeenAs}
 use Rattle.shogi_core.specs.Bits.{has_bit}
-use Rattle.shogi_core.specs.Cell.{is_piece_of, is_king}
+use Rattle.shogi_core.specs.Cell.{is_piece_of, is_king, HasNoOtherKing}
 use Rattle.shogi_core.specs.Movement.{Cells, piece_at}
 use Rattle.shogi_core.specs.Pieces.{opponent_of}
 use Rattle.shogi_core.specs.Position.{Shogi}
 use Rattle.shogi_core.proofs.Below.{some_below_at, some_below_no}
 use Rattle.shogi_moves.specs.After.{piece_moved, dropped}
 use Rattle.shogi_moves.specs.Destinations.{is_unchecked}
-use Rattle.shogi_moves.specs.Escapes.{HasNoOtherKing}
 use Rattle.shogi_moves.proofs.CheckInfoLaws.{other_side, own_some, is_piece_of-piece_moved, dropped_of, dropped_plain}
 use Rattle.shogi_moves.proofs.KingLaws.{king_own}
 use Rattle.shogi_moves.proofs.MovedPieces.{is_king-piece_moved}

@@ -1,24 +1,19 @@
 -- Ways through the legal moves of a kind.
 use Rattle.std.proofs.Common.{◌≡◌, ◌≢◌, ℕ, ◌+◌, ◌-◌, ◌*◌, ◌/◌, ◌%◌, ◌^◌, ◌<◌, ◌≤◌, ◌⊎◌, Bool, true, false, not, Some, List, [], filter, bit_and, ◌∷◌, refl, sym, ap, ◌∙◌, arith, inl, inr, subst, bit_or}
-use Rattle.std.proofs.Common.{get_or}
-use Rattle.std.specs.Prelude.{◌&&◌, ◌||◌, ◌==◌, zero, suc}
-use Rattle.shogi_core.specs.declared.piece.Kind.TheVariants as kinds
-use Rattle.shogi_core.specs.declared.piece.TheConstants.{KINDS}
+use Rattle.std.specs.Prelude.{◌&&◌, ◌==◌}
 use Rattle.std.proofs.lemmas.Bool.{cases_eq, ne_eqb, eq-eqb, and_parts, both_ways, and_from, cases_lt, or_left, or_right, or_parts, or_cases, false_from_ne_true, true_from_ne_false, cond-true}
 use Rattle.shogi_core.specs.declared.moves.TheConstants.{MOVE_CODE_COUNT, FIRST_DROP, SQUARE_CODES}
 use Rattle.shogi_core.specs.declared.moves.Move.{Move}
 use Rattle.shogi_core.specs.declared.moves.Move.TheVariants.{Board, Drop}
 use Rattle.shogi_core.specs.declared.piece.Kind.{Kind}
-use Rattle.shogi_core.specs.Below.{some_below}
 use Rattle.shogi_core.specs.Bits.{has_bit}
 use Rattle.shogi_core.specs.Cell.{is_piece_of}
 use Rattle.shogi_core.specs.Codes.{move_of, code_of}
 use Rattle.shogi_core.specs.Movement.{piece_at, reaches}
 use Rattle.shogi_core.specs.Pieces.{kind_number}
 use Rattle.shogi_core.specs.Position.{Shogi}
-use Rattle.shogi_core.proofs.BitLaws.{has_bit-or, has_bit-and, has_bit-none}
-use Rattle.shogi_core.proofs.Below.{some_below_at, some_below_no}
-use Rattle.shogi_core.proofs.LineBits.{has_bit-not, and_fits}
+use Rattle.shogi_core.proofs.BitLaws.{has_bit-or, has_bit-none}
+use Rattle.shogi_core.proofs.LineBits.{has_bit-not, and_fits, or_fits}
 use Rattle.shogi_core.proofs.CodesBack.{move_of-board, move_of-drop}
 use Rattle.shogi_core.proofs.Faults.{number_below}
 use Rattle.shogi_moves.specs.Captures.{captures, matches, matches_kind, is_matching}
@@ -30,7 +25,6 @@ use Rattle.shogi_moves.specs.Sweeps.{matching_from, Keeps, KeepsBoard, KeepsDrop
 use Rattle.shogi_moves.proofs.CaptureLaws.{HasMatchingOn, HasNoneMatching, matches_kind_of, none_square, none_drop, none_join, matching_jumps, matching_found, matching_end}
 use Rattle.shogi_moves.proofs.DestinationLaws.{matching_move, matching_among}
 use Rattle.shogi_moves.proofs.LegalLaws.{drop_code, legal_in, legal_in_above, legal_code_below}
-use Rattle.shogi_moves.proofs.ZoneLaws.{more_fits}
 
 -- ---- no piece of the side stands on the square
 
@@ -223,31 +217,6 @@ module _ (p : Shogi) (capture : Bool) (from code plain promoting to : ℕ) (k : 
 
 -- ---- from one piece to the next
 
--- the one bit that is set in a mask of one
-one_set : (m n i : ℕ) → ((j : ℕ) → has_bit m j ≡ (has_bit 0 j || (j == n))) → i ≡ n → has_bit m i ≡ true
-one_set m n i bits same = bits i ∙ or_right (has_bit 0 i) (i == n) (eq-eqb i n same)
-
-one_clear : (m n i : ℕ) → ((j : ℕ) → has_bit m j ≡ (has_bit 0 j || (j == n))) → i ≢ n → has_bit m i ≡ false
-one_clear m n i bits other = bits i ∙ (rw (has_bit-none i, ne_eqb i n other) refl)
-
-pub bits_above-above : (mask one low n i : ℕ) → ((j : ℕ) → has_bit one j ≡ (has_bit 0 j || (j == n))) → ((j : ℕ) → j < 81 → has_bit low j ≡ not (some_below j (has_bit one))) → low < 2 ^ 128 → i < 81 → n < i
-    → has_bit (bit_and mask (2 ^ 128 - 1 - low)) i ≡ has_bit mask i
-bits_above-above mask one low n i ones lows fits h up =
-    has_bit-and mask (2 ^ 128 - 1 - low) i ∙ (rw (has_bit-not low i fits (omega arith), lows i h, some_below_at i (has_bit one) n up (one_set one n n ones refl)) (kept (has_bit mask i)))
-  where
-    kept : (a : Bool) → (a && not (not true)) ≡ a
-    kept true = refl
-    kept false = refl
-
-pub bits_above-below : (mask one low n i : ℕ) → ((j : ℕ) → has_bit one j ≡ (has_bit 0 j || (j == n))) → ((j : ℕ) → j < 81 → has_bit low j ≡ not (some_below j (has_bit one))) → low < 2 ^ 128 → i < 81 → i ≤ n
-    → has_bit (bit_and mask (2 ^ 128 - 1 - low)) i ≡ false
-bits_above-below mask one low n i ones lows fits h down =
-    has_bit-and mask (2 ^ 128 - 1 - low) i ∙ (rw (has_bit-not low i fits (omega arith), lows i h, some_below_no i (has_bit one) (λ j l. one_clear one n j ones (omega arith))) (gone (has_bit mask i)))
-  where
-    gone : (a : Bool) → (a && not (not false)) ≡ false
-    gone true = refl
-    gone false = refl
-
 -- the present piece has no move left
 pub on_first : (p : Shogi) (capture : Bool) (own left from code plain promoting : ℕ) → from < 81 → KeepsBoard p capture from code plain promoting → bit_or plain promoting ≡ 0
     → ((n : ℕ) → n < 81 → has_bit own n ≡ is_piece_of p.side (piece_at p.cells n)) → ((n : ℕ) → n < 81 → from < n → has_bit left n ≡ has_bit own n) → HasMatchingOn p capture code left
@@ -366,18 +335,40 @@ all_drops p code low = filter_all (matches_kind p false) (legal_from p code) (λ
     let under : n < MOVE_CODE_COUNT = legal_code_below p n (legal_in p code n h) in
     ap not (matches_kind_of p n _ (drop_code n (omega arith) under)))
 
-pub ruleset sweeping = (keeps_square, more_fits, matching_jumps, and_fits)
+-- ---- what is kept of a mask whose first bits are passed
 
--- ---- the kinds in their order
+keeps_nothing : (test : ℕ → Bool) (place : ℕ → ℕ) (code : ℕ) → ((n : ℕ) → n < 81 → place n < code) → Keeps test place code 0
+keeps_nothing test place code over = record {
+  fits = omega arith;
+  set = λ n h e. absurd (both_ways (has_bit 0 n) (has_bit-none n) e);
+  clear = λ n h e l. absurd (let less : place n < code = over n h in omega arith);
+}
 
-pub kind_in_order : (k : ℕ) → k < 7 → kind_number (get_or KINDS k kinds.Pawn) ≡ k
-kind_in_order zero h = refl
-kind_in_order (suc zero) h = refl
-kind_in_order (suc (suc zero)) h = refl
-kind_in_order (suc (suc (suc zero))) h = refl
-kind_in_order (suc (suc (suc (suc zero)))) h = refl
-kind_in_order (suc (suc (suc (suc (suc zero))))) h = refl
-kind_in_order (suc (suc (suc (suc (suc (suc zero)))))) h = refl
-kind_in_order (suc (suc (suc (suc (suc (suc (suc k))))))) h = absurd (omega arith)
+pub ends_passed : (p : Shogi) (capture : Bool) (from code plain promoting less least to : ℕ) → KeepsBoard p capture from code plain promoting → to ≤ 81 → code ≤ from * SQUARE_CODES + 2 * to
+    → less < 2 ^ 81 → ((i : ℕ) → i < 81 → to ≤ i → has_bit less i ≡ has_bit plain i) → ((i : ℕ) → i < to → has_bit less i ≡ false)
+    → least < 2 ^ 81 → ((i : ℕ) → i < 81 → to ≤ i → has_bit least i ≡ has_bit promoting i) → ((i : ℕ) → i < to → has_bit least i ≡ false)
+    → KeepsBoard p capture from (from * SQUARE_CODES + 2 * to) less least
+ends_passed p capture from code plain promoting less least to k ht up fits same none fits_promoting same_promoting none_promoting = record {
+  low = omega arith;
+  high = omega arith;
+  plains = keeps_from (is_matching p capture) (λ n. code_of (Board from n false)) code (from * SQUARE_CODES + 2 * to) plain less to k.plains fits up (λ n h. omega arith) (λ n h. omega arith) same none;
+  promotings = keeps_from (is_matching p capture) (λ n. code_of (Board from n true)) code (from * SQUARE_CODES + 2 * to) promoting least to k.promotings fits_promoting up (λ n h. omega arith) (λ n h. omega arith) same_promoting none_promoting;
+}
 
-pub ruleset kinds_in_order = (kind_in_order)
+pub no_destinations_kept : (p : Shogi) (capture : Bool) (from : ℕ) → KeepsBoard p capture from (from * SQUARE_CODES + SQUARE_CODES) 0 0
+no_destinations_kept p capture from = record {
+  low = omega arith;
+  high = omega arith;
+  plains = keeps_nothing (is_matching p capture) (λ n. code_of (Board from n false)) (from * SQUARE_CODES + SQUARE_CODES) (λ n h. omega arith);
+  promotings = keeps_nothing (is_matching p capture) (λ n. code_of (Board from n true)) (from * SQUARE_CODES + SQUARE_CODES) (λ n h. omega arith);
+}
+
+pub drop_ends_passed : (p : Shogi) (kind : Kind) (code destinations less to : ℕ) → KeepsDrop p kind code destinations → to ≤ 81 → code ≤ FIRST_DROP + kind_number kind * 81 + to → less < 2 ^ 81 → ((i : ℕ) → i < 81 → to ≤ i → has_bit less i ≡ has_bit destinations i) → ((i : ℕ) → i < to → has_bit less i ≡ false)
+    → KeepsDrop p kind (FIRST_DROP + kind_number kind * 81 + to) less
+drop_ends_passed p kind code destinations less to k ht up fits same none = record {
+  low = omega arith;
+  high = omega arith;
+  drops = keeps_from (is_matching p false) (λ n. code_of (Drop kind n)) code (FIRST_DROP + kind_number kind * 81 + to) destinations less to k.drops fits up (λ n h. omega arith) (λ n h. omega arith) same none;
+}
+
+pub ruleset sweeping = (keeps_square, or_fits, matching_jumps, and_fits)

@@ -1,11 +1,9 @@
 -- What is known of checks in a position, so that most of its moves need no look at them.
 use Rattle.std.specs.Prelude.{ℕ, ◌≡◌, ◌<◌, ◌^◌, Bool, true, false}
-use Rattle.shogi_core.specs.declared.piece.Color.{Color}
 use Rattle.shogi_core.specs.Attack.{in_check, OthersAreUnpinned, StaysInCheck}
 use Rattle.shogi_core.specs.Bits.{has_bit}
 use Rattle.shogi_core.specs.Cell.{is_king}
-use Rattle.shogi_core.specs.Lines.{are_lined}
-use Rattle.shogi_core.specs.Movement.{Cells, piece_at}
+use Rattle.shogi_core.specs.Movement.{piece_at}
 use Rattle.shogi_core.specs.Position.{Shogi}
 use Rattle.shogi_moves.specs.declared.check_info.CheckInfo.{CheckInfo}
 
@@ -21,9 +19,3 @@ pub record IsCheckInfo (p : Shogi) (checked : Bool) (pinned_or_king : ℕ) : Typ
 -- such a test and such a mask of the position
 abbrev pub IsCheckInfoOf : CheckInfo → Shogi → Type 0
 IsCheckInfoOf info p = IsCheckInfo p info.checked info.pinned_or_king
-
--- the mask has the kings of a side, and the squares on open lines with those of them that are not left
-pub record CoversKingLines (cells : Cells) (side : Color) (left covered : ℕ) : Type 0 where
-  pub kings : (n : ℕ) → n < 81 → is_king side (piece_at cells n) ≡ true → has_bit covered n ≡ true
-  pub lines : (k n : ℕ) → k < 81 → n < 81 → is_king side (piece_at cells k) ≡ true
-      → has_bit left k ≡ false → are_lined cells k n ≡ true → has_bit covered n ≡ true

@@ -15,6 +15,7 @@ use Rattle.shogi_core.specs.Pieces.{opponent_of}
 use Rattle.shogi_core.specs.Position.{Shogi, count_in_hand}
 use Rattle.shogi_moves.specs.After.{cells_after}
 use Rattle.shogi_moves.specs.declared.check_info.CheckInfo.{CheckInfo}
+use Rattle.shogi_moves.specs.declared.destinations.Destinations.{Destinations}
 use Rattle.shogi_moves.specs.Legal.{is_legal_code, is_pawn_drop_mate}
 
 -- where captures end, and where the other moves do
@@ -35,6 +36,11 @@ AreUncheckedDestinations p from destinations mask =
 abbrev pub AreLegalDestinations : Shogi → ℕ → Bool → ℕ → ℕ → Type 0
 AreLegalDestinations p from promote destinations mask =
     HasBits mask (λ n. has_bit destinations n && is_legal_code p (code_of (Board from n promote)))
+
+-- the masks have the destinations at which the move of the piece is legal, without promotion and with it
+pub record AreAllDestinations (p : Shogi) (from : ℕ) (destinations : Destinations) : Type 0 where
+  pub plain : IsMaskOf destinations.plain (λ n. is_legal_code p (code_of (Board from n false)))
+  pub promoting : IsMaskOf destinations.promoting (λ n. is_legal_code p (code_of (Board from n true)))
 
 -- the mask has those of the squares on which a dropped pawn leaves its king unattacked
 abbrev pub AreUncheckedDrops : Shogi → ℕ → ℕ → Type 0

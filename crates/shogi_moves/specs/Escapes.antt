@@ -1,19 +1,12 @@
 -- Squares to which the king of the side that is not to move may go, should a move give it check (own choice).
-use Rattle.std.specs.Prelude.{ℕ, ◌≡◌, ◌≢◌, ◌<◌, ◌^◌, true, false, Option, None, slice_set}
+use Rattle.std.specs.Prelude.{ℕ, ◌≡◌, ◌≢◌, ◌<◌, ◌^◌, true, false, None, slice_set}
 use Rattle.shogi_core.specs.declared.piece.Color.{Color}
-use Rattle.shogi_core.specs.declared.piece.Piece.{Piece}
-use Rattle.shogi_core.specs.Attack.{is_attacked, is_sniper}
+use Rattle.shogi_core.specs.Attack.{is_attacked}
 use Rattle.shogi_core.specs.Bits.{has_bit}
-use Rattle.shogi_core.specs.Cell.{is_king, is_piece_of}
-use Rattle.shogi_core.specs.Movement.{Cells, piece_at, reaches, cell_reaches}
+use Rattle.shogi_core.specs.Cell.{is_king, is_piece_of, HasNoOtherKing}
+use Rattle.shogi_core.specs.Movement.{Cells, piece_at, reaches}
 use Rattle.shogi_core.specs.Pieces.{opponent_of}
 use Rattle.shogi_core.specs.Position.{Shogi}
-use Rattle.shogi_core.specs.Rays.{direction_at, is_on_ray}
-
--- no king of the side stands on another square
-abbrev pub HasNoOtherKing : Cells → Color → ℕ → Type 0
-HasNoOtherKing cells side king =
-    (x : ℕ) → x < 81 → x ≢ king → is_king side (piece_at cells x) ≡ false
 
 -- the king of the side on k is its only one and steps to e, where none of its own stands
 pub record IsKingStep (cells : Cells) (side : Color) (k e : ℕ) : Type 0 where
@@ -25,28 +18,6 @@ pub record IsKingStep (cells : Cells) (side : Color) (k e : ℕ) : Type 0 where
 pub record IsEscape (cells : Cells) (side : Color) (k e : ℕ) : Type 0 where
   pub step : IsKingStep cells side k e
   pub safe : is_attacked (slice_set cells k None) (opponent_of side) e ≡ false
-
--- the mask has what the direction leads to from both squares
-abbrev pub HasRaysBehind : ℕ → ℕ → ℕ → ℕ → Type 0
-HasRaysBehind d from over mask = (n : ℕ) → n < 81 → is_on_ray (direction_at d) from n ≡ true
-    → is_on_ray (direction_at d) over n ≡ true → has_bit mask n ≡ true
-
--- the mask has the squares behind the only king of the side that is not to move, as seen from the square
-abbrev pub HasKingsRays : Shogi → ℕ → ℕ → Type 0
-HasKingsRays p from mask = (k d : ℕ) → k < 81 → d < 8
-    → is_king (opponent_of p.side) (piece_at p.cells k) ≡ true
-    → HasNoOtherKing p.cells (opponent_of p.side) k → HasRaysBehind d from k mask
-
--- off the mask, what stands on the square reaches nothing once the only king of the side that is not to move has left its own
-abbrev pub ReachesWithin : Shogi → Option Piece → ℕ → ℕ → Type 0
-ReachesWithin p cell to mask = (k n : ℕ) → k < 81 → n < 81
-    → is_king (opponent_of p.side) (piece_at p.cells k) ≡ true
-    → HasNoOtherKing p.cells (opponent_of p.side) k → has_bit mask n ≡ false
-    → cell_reaches (slice_set p.cells k None) cell to n ≡ false
-
--- no piece of the side that slides is on a line with the square, whatever stands between
-abbrev pub HasNoSniper : Cells → Color → ℕ → Type 0
-HasNoSniper cells side square = (a : ℕ) → a < 81 → is_sniper cells side square a ≡ false
 
 -- a mask of squares to which the king of the side that is not to move so steps
 pub record AreKingSteps (p : Shogi) (mask : ℕ) : Type 0 where

@@ -1,13 +1,9 @@
 -- Which moves are legal (JSA playing rules: moves, promotion, drops, check, prohibited moves). Repetition and perpetual check are not judged.
-use Rattle.std.specs.Prelude.{ℕ, ◌/◌, ◌%◌, ◌&&◌, ◌||◌, Bool, true, false, not, Option, Some, None, is_none, nat_lt}
+use Rattle.std.specs.Prelude.{ℕ, ◌/◌, ◌&&◌, ◌||◌, Bool, true, false, not, Option, Some, None, is_none, nat_lt}
 use Rattle.shogi_core.specs.declared.moves.TheConstants.{MOVE_CODE_COUNT}
 use Rattle.shogi_core.specs.declared.piece.Color.{Color}
-use Rattle.shogi_core.specs.declared.piece.Color.TheVariants.{Black, White}
 use Rattle.shogi_core.specs.declared.piece.Kind.{Kind}
 use Rattle.shogi_core.specs.declared.piece.Kind.TheVariants as kinds
-use Rattle.shogi_core.specs.declared.piece.Role.{Role}
-use Rattle.shogi_core.specs.declared.piece.Role.TheVariants.{Pawn, Lance, Knight, Silver, Bishop, Rook}
-use Rattle.shogi_core.specs.declared.piece.Piece.{Piece}
 use Rattle.shogi_core.specs.declared.moves.Move.{Move}
 use Rattle.shogi_core.specs.declared.moves.Move.TheVariants.{Board, Drop}
 use Rattle.shogi_core.specs.Below.{some_below}
@@ -17,31 +13,10 @@ use Rattle.shogi_core.specs.Position.{Shogi, HandCounts, count_in_hand}
 use Rattle.shogi_core.specs.Attack.{in_check}
 use Rattle.shogi_core.specs.Cell.{is_piece_of, is_immobile}
 use Rattle.shogi_core.specs.Validity.{pawns_on_file}
+use Rattle.shogi_core.specs.Zones.{may_promote}
 use Rattle.shogi_moves.specs.After.{after, piece_moved, dropped}
 
 -- A `Kind` is a piece as it lies in hand, and a `Role` what stands on the board, promoted or not. A move is `Board from to promote` or `Drop kind to`.
-
--- a role that can promote
-abbrev pub is_promotable : Role → Bool
-is_promotable Pawn = true
-is_promotable Lance = true
-is_promotable Knight = true
-is_promotable Silver = true
-is_promotable Bishop = true
-is_promotable Rook = true
-is_promotable _ = false
-
--- the promotion zone: the three ranks farthest from the side
-abbrev pub in_promotion_zone : Color → ℕ → Bool
-in_promotion_zone Black square = nat_lt (square % 9) 3
-in_promotion_zone White square = nat_lt 5 (square % 9)
-
--- a piece that can promote may do so by a move that begins or ends in the zone
-abbrev pub may_promote : Option Piece → ℕ → ℕ → Bool
-may_promote None from to = false
-may_promote (Some piece) from to =
-    is_promotable piece.role
-    && (in_promotion_zone piece.color from || in_promotion_zone piece.color to)
 
 -- the kind is the pawn
 abbrev pub is_pawn_kind : Kind → Bool

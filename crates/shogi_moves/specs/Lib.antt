@@ -11,6 +11,4 @@ pub mod CheckInfo
 pub mod Walks
 pub mod Destinations
 pub mod Sweeps
-pub mod Replies
-pub mod Threats
 pub mod Escapes

@@ -3,11 +3,11 @@
 ghost use Rattle.std.specs.Prelude.{true, ◌≡◌, ◌<◌, ◌^◌, ◌&&◌, not, false};
 ghost use Rattle.shogi_core.specs.Attack.{in_check, OthersAreUnpinned};
 ghost use Rattle.shogi_core.specs.Bits.{has_bit};
-ghost use Rattle.shogi_moves.specs.CheckInfo.{IsCheckInfoOf, CoversKingLines};
+ghost use Rattle.shogi_moves.specs.CheckInfo.{IsCheckInfoOf};
 
 use crate::attack::in_check;
-use shogi_core::bits::{ALL_SQUARES, has, lowest, without_lowest};
-use shogi_core::{Color, Position, Square};
+use shogi_core::bits::{ALL_SQUARES, has};
+use shogi_core::{Position, Square};
 
 /// Whether the side to move is in check, and a mask with its king: in check also squares of which a
 /// move of another piece has to end on one to answer it, and else the pieces that may be pinned.
@@ -15,23 +15,6 @@ use shogi_core::{Color, Position, Square};
 pub struct CheckInfo {
     pub checked: bool,
     pub pinned_or_king: u128,
-}
-
-/// The squares of kings of the side, and of open lines with them.
-#[tactic(auto, using(crate::proofs::CheckInfoLaws::covering_king_lines))]
-fn king_line_squares(p: &Position, side: Color) -> u128
-    ensures fits { result < 2 ^ 81 }
-    ensures all { CoversKingLines p.now.cells side 0 result }
-{
-    let board = p.as_board();
-    let mut left = board.kings(side);
-    let mut covered = left;
-    while left != 0 {
-        let king = lowest(left);
-        covered |= board.lined(Square::of_index(king));
-        left = without_lowest(left, king);
-    }
-    covered
 }
 
 /// What is kept where there is a check.
@@ -44,22 +27,6 @@ fn checked_info(p: &Position) -> CheckInfo
     CheckInfo {
         checked: true,
         pinned_or_king: board.kings(p.side()) | board.answers(p.side()),
-    }
-}
-
-/// What is kept of a position of which it is known whether the side to move is in check.
-#[tactic(auto, using(crate::proofs::CheckInfoLaws::check_info_from))]
-pub fn full_check_info(p: &Position, checked: bool) -> CheckInfo
-    requires { checked ≡ in_check p.now.cells p.now.side }
-    ensures { IsCheckInfoOf result p.now }
-{
-    if checked {
-        return checked_info(p);
-    }
-    p.validity();
-    CheckInfo {
-        checked,
-        pinned_or_king: king_line_squares(p, p.side()),
     }
 }
 
@@ -83,9 +50,20 @@ pub fn check_info_of(p: &Position) -> CheckInfo
     ensures { IsCheckInfoOf result p.now }
 {
     match p.as_board().pinned(p.side()) {
-        None => full_check_info(p, true),
+        None => checked_info(p),
         Some(pinned) => unchecked_info(p, pinned),
     }
+}
+
+/// What is kept of a position of which it is known whether the side to move is in check.
+pub fn full_check_info(p: &Position, checked: bool) -> CheckInfo
+    requires { checked ≡ in_check p.now.cells p.now.side }
+    ensures { IsCheckInfoOf result p.now }
+{
+    if checked {
+        return checked_info(p);
+    }
+    check_info_of(p)
 }
 
 /// What is kept where no piece is looked for that may leave its square: each may be pinned.

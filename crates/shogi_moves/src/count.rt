@@ -9,12 +9,12 @@ ghost use Rattle.shogi_moves.specs.Destinations.{AreDropSquares};
 
 use crate::after::advance;
 use crate::check_info::{CheckInfo, check_info_of};
-use crate::destinations::{
-    drop_destinations, drop_squares, enterable, legal_by_marks, marked_squares,
-};
+use crate::destinations::{enterable, legal_by_marks, marked_squares};
+use crate::drops::drop_squares;
+use crate::pawn_drop::drop_destinations;
 use crate::walk::Walk;
-use crate::zones::zone_squares;
 use shogi_core::bits::{lowest, without_lowest};
+use shogi_core::zones::zone_squares;
 use shogi_core::{Kind, Position, Square};
 
 /// How many board moves are legal.

@@ -3,53 +3,16 @@
 ghost use Rattle.std.specs.Prelude.{◌≡◌, ◌↔◌, IsTrue, true, false, if◌then◌else◌, Some, None};
 ghost use Rattle.shogi_core.specs.Codes.{code_of};
 ghost use Rattle.shogi_moves.specs.After.{after};
-ghost use Rattle.shogi_moves.specs.Legal.{is_legal, is_safe, is_pseudo_legal, is_pseudo_legal_board_move, is_pseudo_legal_drop, may_promote, is_pawn_kind, is_mated_by_drop, is_pawn_drop, is_pawn_drop_mate, is_promotable, in_promotion_zone};
+ghost use Rattle.shogi_moves.specs.Legal.{is_legal, is_safe, is_pseudo_legal, is_pseudo_legal_board_move, is_pseudo_legal_drop};
 ghost use Rattle.shogi_moves.specs.LegalMoves.{legal_codes};
 ghost use Rattle.shogi_moves.specs.Rising.{is_in};
 
-use crate::after::{advance, apply, apply_safe, dropped, piece_moved};
-use crate::attack::in_check;
-use crate::existence::has_safe;
+use crate::after::{advance, apply, dropped, piece_moved};
+use crate::drops::is_pawn_kind;
+use crate::pawn_drop::is_pawn_drop_mate;
 use crate::unchecked::leaves_unchecked;
-use shogi_core::{Color, Kind, Move, Piece, Position, Role, Square, is_immobile, is_piece_of};
-
-/// Whether a piece of the role can promote.
-pub fn is_promotable(role: Role) -> bool
-    ensures { result ≡ is_promotable role }
-{
-    matches!(
-        role,
-        Role::Pawn | Role::Lance | Role::Knight | Role::Silver | Role::Bishop | Role::Rook
-    )
-}
-
-/// Whether the square lies on the three ranks in which the side promotes.
-pub fn in_promotion_zone(color: Color, square: Square) -> bool
-    ensures { result ≡ in_promotion_zone color square }
-{
-    match color {
-        Color::Black => square.rank() < 4,
-        Color::White => square.rank() > 6,
-    }
-}
-
-/// Whether what stands there may promote by a move between the squares.
-fn may_promote(cell: Option<Piece>, from: Square, to: Square) -> bool
-    ensures { result ≡ may_promote cell from to }
-{
-    match cell {
-        None => false,
-        Some(piece) => is_promotable(piece.role)
-            && (in_promotion_zone(piece.color, from) || in_promotion_zone(piece.color, to)),
-    }
-}
-
-/// Whether it is the pawn.
-pub fn is_pawn_kind(kind: Kind) -> bool
-    ensures { result ≡ is_pawn_kind kind }
-{
-    matches!(kind, Kind::Pawn)
-}
+use shogi_core::zones::may_promote;
+use shogi_core::{Kind, Move, Position, Square, is_immobile, is_piece_of};
 
 /// Whether the move of a piece on the board obeys the rules, apart from checks.
 fn is_pseudo_legal_board_move(p: &Position, from: Square, to: Square, promote: bool) -> bool
@@ -91,31 +54,6 @@ fn is_safe(p: &Position, m: &Move) -> bool
     ensures { result ≡ is_safe p.now m.now }
 {
     is_pseudo_legal(p, m) && leaves_unchecked(p, m)
-}
-
-/// Whether the side to move is in check and has no safe move.
-fn is_mated_by_drop(p: &Position) -> bool
-    ensures { result ≡ is_mated_by_drop p.now }
-{
-    in_check(p) && !has_safe(p)
-}
-
-/// Whether the move is the drop of a pawn.
-fn is_pawn_drop(m: &Move) -> bool
-    ensures { result ≡ is_pawn_drop m.now }
-{
-    match m {
-        Move::Board { .. } => false,
-        Move::Drop { kind, .. } => is_pawn_kind(*kind),
-    }
-}
-
-/// Whether the safe move mates by the drop of a pawn.
-pub fn is_pawn_drop_mate(p: &Position, m: &Move) -> bool
-    requires { is_safe p.now m.now ≡ true }
-    ensures { result ≡ is_pawn_drop_mate p.now m.now }
-{
-    is_pawn_drop(m) && is_mated_by_drop(&apply_safe(p, m))
 }
 
 /// As `is_legal`, of a move that is lent.

@@ -1,34 +1,23 @@
 //! The legal moves in the order of their codes.
 
 ghost use Rattle.std.specs.Prelude.{◌≡◌, ◌≤◌, ◌<◌, ◌+◌, ◌*◌, true, false, [], ◌∷◌, IfSome, MatchOption, Some};
-ghost use Rattle.shogi_core.specs.declared.moves.TheConstants.{MOVE_CODE_COUNT, FIRST_DROP, SQUARE_CODES};
+ghost use Rattle.shogi_core.specs.declared.moves.TheConstants.{FIRST_DROP, SQUARE_CODES};
 ghost use Rattle.shogi_core.specs.declared.moves.Move.TheVariants as moves;
 ghost use Rattle.shogi_core.specs.Cell.{is_piece_of};
 ghost use Rattle.shogi_core.specs.Codes.{code_of};
 ghost use Rattle.shogi_core.specs.Movement.{piece_at};
-ghost use Rattle.shogi_core.specs.Pieces.{kind_number};
 ghost use Rattle.shogi_moves.specs.CheckInfo.{IsCheckInfoOf};
-ghost use Rattle.shogi_moves.specs.Legal.{is_legal, is_legal_code};
+ghost use Rattle.shogi_moves.specs.Legal.{is_legal};
 ghost use Rattle.shogi_moves.specs.LegalMoves.{legal_above, legal_codes, IsFirstFrom, IsLeastFrom};
-ghost use Rattle.shogi_moves.specs.Places.{code_past, IsAtSquare, IsAtKind};
+ghost use Rattle.shogi_moves.specs.Places.{IsAtSquare};
 ghost use Rattle.shogi_moves.specs.Rising.{IsRising};
-ghost use Rattle.shogi_moves.specs.Sweeps.{AreKept, Keeps, KeepsLegal};
+ghost use Rattle.shogi_moves.specs.Sweeps.{AreKept, KeepsLegal};
 
 use crate::check_info::{CheckInfo, check_info_of};
-use crate::destinations::{
-    Destinations, drop_destinations, drop_squares, enterable, legal_destinations,
-};
-use crate::sweep::bits_from;
-use shogi_core::bits::{has, lowest};
+use crate::destinations::{Destinations, all_destinations, enterable};
+use crate::sweep::DropSweep;
+use shogi_core::bits::{bits_from, has, lowest};
 use shogi_core::{FIRST_DROP, Kind, Move, Position, SQUARE_CODES, Square, is_piece_of};
-
-/// The first code above that of the move.
-pub fn code_above(m: &Move) -> u16
-    ensures code { result ≡ code_of m.now + 1 }
-    ensures range { result ≤ MOVE_CODE_COUNT }
-{
-    m.code() + 1
-}
 
 /// The legal destinations of what stands on a square, kept from one move of it to the next.
 #[derive(Clone, Copy, Debug)]
@@ -53,8 +42,10 @@ pub fn kept_at(p: &Position, info: &CheckInfo, from: Square) -> KeptDestinations
             },
         };
     }
-    let destinations = legal_destinations(p, info, from, p.as_board().targets(from) & enterable(p));
-    KeptDestinations { from, destinations }
+    KeptDestinations {
+        from,
+        destinations: all_destinations(p, info, from, enterable(p)),
+    }
 }
 
 /// Keeps those of what stands on the square, if it is another than before.
@@ -147,87 +138,28 @@ pub fn least_board(
     None
 }
 
-/// Where one of the held pieces may legally be dropped, those from a code on.
-fn drops_left(p: &Position, info: &CheckInfo, kind: Kind, code: u16) -> u128
-    requires info { IsCheckInfoOf info.now p.now }
-    requires code { IsAtKind kind code }
-    ensures { Keeps (is_legal_code p.now) (λ n. code_of (moves.Drop kind n)) code result }
-{
-    let passed = (code - FIRST_DROP) as usize - kind.number() * 81;
-    bits_from(drop_destinations(p, drop_squares(p, info), kind), passed)
-}
-
-/// The legal drop of the kind of least code from the given one on.
-fn least_drop(p: &Position, info: &CheckInfo, kind: Kind, code: u16) -> Option<Move>
-    requires info { IsCheckInfoOf info.now p.now }
-    requires code { IsAtKind kind code }
-    ensures next { IsLeastFrom p.now result code (FIRST_DROP + 81 + kind_number kind * 81) }
-    ensures legal { IfSome result (λ m. is_legal p.now m ≡ true) }
-{
-    let destinations = drops_left(p, info, kind, code);
-    if destinations == 0 {
-        return None;
-    }
-    let to = lowest(destinations);
-    Some(Move::Drop {
-        kind,
-        to: Square::of_index(to),
-    })
-}
-
-/// The legal move of least code from that of the move on, among those from the same square or of
-/// the same kind.
-fn least_beside(p: &Position, info: &CheckInfo, m: &Move) -> Option<Move>
-    requires info { IsCheckInfoOf info.now p.now }
-    ensures next { IsLeastFrom p.now result (code_of m.now) (code_past m.now) }
-    ensures legal { IfSome result (λ found. is_legal p.now found ≡ true) }
-{
-    match m {
-        Move::Board { from, to, .. } => {
-            to.validity();
-            least_destination(p, info, *from, m.code(), &mut kept_at(p, info, *from))
-        }
-        Move::Drop { kind, to } => {
-            to.validity();
-            least_drop(p, info, *kind, m.code())
-        }
-    }
-}
-
-/// The first code above those of the moves from the same square, or of the same kind.
-fn code_past(m: &Move) -> u16
-    ensures code { result ≡ code_past m.now }
-    ensures range { (code_of m.now < result) × (result ≤ MOVE_CODE_COUNT) }
-{
-    match m {
-        Move::Board { from, to, .. } => {
-            from.validity();
-            to.validity();
-            from.index() as u16 * SQUARE_CODES + SQUARE_CODES
-        }
-        Move::Drop { kind, to } => {
-            to.validity();
-            FIRST_DROP + 81 + kind.number() as u16 * 81
-        }
-    }
-}
-
-/// The legal move of least code from the given one on: square by square, and then kind by kind.
-pub fn least_from(p: &Position, info: &CheckInfo, first: u16) -> Option<Move>
-    requires first { first ≤ MOVE_CODE_COUNT }
-    requires info { IsCheckInfoOf info.now p.now }
+/// The legal move of least code from the given one on, which is none of a drop but the first; the
+/// destinations of what stands on the square are at hand.
+fn least_from(p: &Position, info: CheckInfo, first: u16, from: Square) -> Option<Move>
+    requires first { first ≤ FIRST_DROP }
+    requires info { IsCheckInfoOf info p.now }
     ensures next { IsFirstFrom p.now result first }
     ensures legal { IfSome result (λ m. is_legal p.now m ≡ true) }
 {
-    let mut code = first;
-    'codes: while let Some(m) = Move::of_code(code) {
-        let found = least_beside(p, info, &m);
-        if found.is_some() {
-            return found;
-        }
-        code = code_past(&m);
-    }
-    None
+    let Some(m) = least_board(p, &info, first, &mut kept_at(p, &info, from)) else {
+        return DropSweep::new(p, info).next(p)
+    };
+    Some(m)
+}
+
+/// The legal drop of least code above that of a drop.
+fn least_drop(p: &Position, info: CheckInfo, kind: Kind, to: Square) -> Option<Move>
+    requires { IsCheckInfoOf info p.now }
+    ensures next { IsFirstFrom p.now result (code_of (moves.Drop kind to) + 1) }
+    ensures legal { IfSome result (λ m. is_legal p.now m ≡ true) }
+{
+    to.validity();
+    DropSweep::above(p, info, kind, to).next(p)
 }
 
 /// The legal move of least code above that of `after`, or of least code where that is `None`;
@@ -240,8 +172,16 @@ pub fn next_legal(p: &Position, after: Option<Move>) -> Option<Move>
     ensures legal { IfSome result (λ m. is_legal p.now m ≡ true) }
     ensures rising { IsRising (legal_codes p.now) }
 {
-    match after {
-        None => least_from(p, &check_info_of(p), 0),
-        Some(m) => least_from(p, &check_info_of(p), m.code() + 1),
+    let info = check_info_of(p);
+    let Some(m) = after else {
+        return least_from(p, info, 0, Square::of_index(0))
+    };
+    match m {
+        Move::Board { from, to, .. } => {
+            from.validity();
+            to.validity();
+            least_from(p, info, m.code_above(), from)
+        }
+        Move::Drop { kind, to } => least_drop(p, info, kind, to),
     }
 }

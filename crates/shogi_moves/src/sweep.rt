@@ -2,25 +2,22 @@
 
 ghost use Rattle.std.specs.Prelude.{◌≡◌, ◌≢◌, ◌<◌, ◌≤◌, ◌+◌, ◌*◌, ◌^◌, ◌∷◌, [], ℕ, true, false, IfSome, IsNone, MatchOption, bit_or};
 ghost use Rattle.shogi_core.specs.declared.moves.TheConstants.{FIRST_DROP};
+ghost use Rattle.shogi_core.specs.declared.moves.Move.TheVariants as moves;
 ghost use Rattle.shogi_core.specs.Bits.{has_bit};
 ghost use Rattle.shogi_core.specs.Cell.{is_piece_of};
 ghost use Rattle.shogi_core.specs.Codes.{code_of};
 ghost use Rattle.shogi_core.specs.Pieces.{kind_number};
-ghost use Rattle.shogi_moves.specs.Escapes.{AreEscapes};
 ghost use Rattle.shogi_moves.specs.CheckInfo.{IsCheckInfoOf};
 ghost use Rattle.shogi_moves.specs.Legal.{is_legal};
-ghost use Rattle.shogi_moves.specs.Replies.{IsReplies};
-ghost use Rattle.shogi_moves.specs.Sweeps.{matching_drops, board_left, drops_left, AreMatchingDestinations, IsBoardSweep, IsDropSweep, HasDestination, ContinuesBoard, ContinuesDrops, IsNextOnBoard, IsNextDrop, IsPassedTo, PassesBoard, PassesDrops};
+ghost use Rattle.shogi_moves.specs.Sweeps.{matching_drops, board_left, drops_left, AreMatchingDestinations, IsBoardSweep, IsDropSweep, HasDestination, ContinuesBoard, ContinuesDrops, IsNextOnBoard, IsNextDrop};
 
 use crate::check_info::CheckInfo;
-use crate::destinations::{
-    Destinations, drop_destinations, drop_squares, legal_destinations, matching_destinations,
-};
-use crate::movers::movers;
-use crate::next::code_above;
-use crate::replies::Replies;
-use shogi_core::bits::{has, lowest, up_to_lowest, with, without_lowest};
-use shogi_core::{FIRST_DROP, KINDS, Kind, Move, Position, SQUARE_CODES, Square, is_piece_of};
+use crate::destinations::{Destinations, legal_destinations, matching_destinations};
+use crate::drops::drop_squares;
+use crate::movers::matching_movers;
+use crate::pawn_drop::drop_destinations;
+use shogi_core::bits::{bits_above, bits_from, has, lowest, without_lowest};
+use shogi_core::{FIRST_DROP, Kind, Move, Position, SQUARE_CODES, Square, is_piece_of};
 
 /// What is still to come of the board moves of a kind, in the order of codes: the legal
 /// destinations of the piece on one square, and all of those above it.
@@ -60,32 +57,6 @@ fn destinations_on(p: &Position, info: &CheckInfo, capture: bool, from: Square) 
             plain: 0,
             promoting: 0,
         }
-    }
-}
-
-/// Those bits of the mask that are above bit n.
-fn bits_above(mask: u128, n: usize) -> u128
-    requires n { n < 81 }
-    requires fits { mask < 2 ^ 81 }
-    ensures fits { result < 2 ^ 81 }
-    ensures above { (i : ℕ) → i < 81 → n < i → has_bit result i ≡ has_bit mask i }
-    ensures below { (i : ℕ) → i < 81 → i ≤ n → has_bit result i ≡ false }
-{
-    mask & !up_to_lowest(with(0, n))
-}
-
-/// Those bits of the mask that are not below bit n.
-pub fn bits_from(mask: u128, n: usize) -> u128
-    requires n { n ≤ 81 }
-    requires fits { mask < 2 ^ 81 }
-    ensures fits { result < 2 ^ 81 }
-    ensures from { (i : ℕ) → i < 81 → n ≤ i → has_bit result i ≡ has_bit mask i }
-    ensures below { (i : ℕ) → i < n → has_bit result i ≡ false }
-{
-    if n == 0 {
-        mask
-    } else {
-        bits_above(mask, n - 1)
     }
 }
 
@@ -131,8 +102,9 @@ impl BoardSweep {
                 to: end,
                 promote: false,
             };
+            let code = m.code_above();
             self.destinations.plain = without_lowest(plain, to);
-            self.code = code_above(&m);
+            self.code = code;
             return m;
         }
         let m = Move::Board {
@@ -140,8 +112,9 @@ impl BoardSweep {
             to: end,
             promote: true,
         };
+        let code = m.code_above();
         self.destinations.promoting = without_lowest(promoting, to);
-        self.code = code_above(&m);
+        self.code = code;
         m
     }
 
@@ -161,7 +134,7 @@ impl BoardSweep {
         let matching = matching_destinations(p, capture);
         let board = p.as_board();
         let pieces = bits_above(board.own(p.side()), self.from.index());
-        let mut left = movers(p, capture, pieces);
+        let mut left = matching_movers(p, capture, pieces);
         'squares: while left != 0 {
             let square = lowest(left);
             let from = Square::of_index(square);
@@ -212,123 +185,40 @@ impl BoardSweep {
         Some(self.take(p, capture))
     }
 
-    /// Passes the destinations of the present piece, up to the first one that is not among the
-    /// squares, or after which it is not certain that the other side has a legal move.
-    fn pass_destinations(
-        &mut self,
-        p: &Position,
-        capture: bool,
-        among: &Destinations,
-        replies: &Replies,
-        escapes: u128,
-    )
+    /// Passes the moves of the present piece to squares below this one, and all where it is 81.
+    #[inline(always)]
+    pub fn pass_ends(&mut self, p: &Position, capture: bool, to: usize)
         requires kept { IsBoardSweep p.now capture self.old }
-        requires replies { IsReplies p.now replies.now.sight replies.now.spare }
-        requires escapes { AreEscapes p.now escapes }
+        requires to { to ≤ 81 }
+        requires ahead { self.old.code ≤ self.old.from * SQUARE_CODES + 2 * to }
         ensures kept { IsBoardSweep p.now capture self.new }
-        ensures passed { IsPassedTo p.now capture among.now self.old.code self.new.code }
+        ensures code { self.new.code ≡ self.old.from * SQUARE_CODES + 2 * to }
     {
-        let (from, plain, promoting) = (
-            self.from,
-            self.destinations.plain,
-            self.destinations.promoting,
-        );
-        from.validity();
-        let first = from.index() as u16 * SQUARE_CODES;
-        let certain = replies.certain_destinations(p, escapes, from, false, plain);
-        let promoted = replies.certain_destinations(p, escapes, from, true, promoting);
-        let uncertain = plain & !(among.plain & certain)
-            | promoting & !(among.promoting & promoted);
-        if uncertain == 0 {
-            self.destinations.plain = 0;
-            self.destinations.promoting = 0;
-            self.code = first + SQUARE_CODES;
-            return;
-        }
-        let to = lowest(uncertain);
-        let code = first + 2 * to as u16;
-        if code > self.code {
-            self.destinations.plain = bits_from(plain, to);
-            self.destinations.promoting = bits_from(promoting, to);
-            self.code = code;
-        }
+        let _ = p;
+        let _ = capture;
+        self.from.validity();
+        self.destinations.plain = bits_from(self.destinations.plain, to);
+        self.destinations.promoting = bits_from(self.destinations.promoting, to);
+        self.code = self.from.index() as u16 * SQUARE_CODES + 2 * to as u16;
     }
 
-    /// Passes all moves of the next pieces, as long as each of them ends on one of the squares and
-    /// it is certain that the other side has a legal move after it. Pieces that are far are not
-    /// looked at one by one.
-    fn pass_pieces(
-        &mut self,
-        p: &Position,
-        capture: bool,
-        among: &Destinations,
-        replies: &Replies,
-        escapes: u128,
-    )
+    /// Passes the moves of the pieces on squares below this one, and all where it is 81.
+    #[inline(always)]
+    pub fn pass_pieces(&mut self, p: &Position, capture: bool, square: usize)
         requires kept { IsBoardSweep p.now capture self.old }
-        requires none { (self.old.destinations.plain ≡ 0)
-            × (self.old.destinations.promoting ≡ 0) }
-        requires replies { IsReplies p.now replies.now.sight replies.now.spare }
-        requires escapes { AreEscapes p.now escapes }
+        requires ahead { self.old.from < square }
+        requires square { square ≤ 81 }
         ensures kept { IsBoardSweep p.now capture self.new }
-        ensures passed { IsPassedTo p.now capture among.now self.old.code self.new.code }
+        ensures code { self.new.code ≡ square * SQUARE_CODES }
     {
-        p.validity();
-        let far = replies.far_pieces(p, capture, among);
-        let pieces = bits_above(p.as_board().own(p.side()), self.from.index());
-        let moving = movers(p, capture, pieces);
-        let mut left = moving & !far;
-        'squares: while left != 0 {
-            let square = lowest(left);
-            let from = Square::of_index(square);
-            if !replies.has_certain_moves(p, capture, among, escapes, from) {
-                self.from = Square::of_index(square - 1);
-                self.code = square as u16 * SQUARE_CODES;
-                return;
-            }
-            left = without_lowest(left, square);
-        }
-        self.from = Square::of_index(80);
-        self.code = FIRST_DROP;
-    }
-
-    /// Passes the next of the moves, as long as they end on one of the squares for moves without
-    /// promotion, or for those with it, and it is certain by a look at squares alone that the other
-    /// side has a legal move after them.
-    pub fn pass_certain(
-        &mut self,
-        p: &Position,
-        capture: bool,
-        among: &Destinations,
-        replies: &Replies,
-        escapes: u128,
-    )
-        requires kept { IsBoardSweep p.now capture self.old }
-        requires replies { IsReplies p.now replies.now.sight replies.now.spare }
-        requires escapes { AreEscapes p.now escapes }
-        ensures kept { IsBoardSweep p.now capture self.new }
-        ensures passed { PassesBoard p.now capture among.now self.old self.new }
-    {
-        self.pass_destinations(p, capture, among, replies, escapes);
-        if self.destinations.plain == 0 {
-            if self.destinations.promoting == 0 {
-                self.pass_pieces(p, capture, among, replies, escapes);
-            }
-        }
-    }
-}
-
-/// The kind after this one in the order of kinds.
-#[tactic(auto, using(crate::proofs::SweepLaws::kinds_in_order))]
-pub fn next_kind(kind: Kind) -> Option<Kind>
-    ensures { MatchOption result (kind_number kind ≡ 6)
-        (λ k. kind_number k ≡ kind_number kind + 1) }
-{
-    let number = kind.number() + 1;
-    if number < 7 {
-        Some(KINDS[number])
-    } else {
-        None
+        let _ = p;
+        let _ = capture;
+        self.from = Square::of_index(square - 1);
+        self.destinations = Destinations {
+            plain: 0,
+            promoting: 0,
+        };
+        self.code = square as u16 * SQUARE_CODES;
     }
 }
 
@@ -349,6 +239,22 @@ impl DropSweep {
         }
     }
 
+    /// Through the drops above one.
+    pub fn above(p: &Position, info: CheckInfo, kind: Kind, to: Square) -> DropSweep
+        requires info { IsCheckInfoOf info p.now }
+        ensures kept { IsDropSweep p.now result }
+        ensures code { result.code ≡ code_of (moves.Drop kind to) + 1 }
+    {
+        to.validity();
+        let squares = drop_squares(p, &info);
+        DropSweep {
+            squares,
+            kind,
+            destinations: bits_above(drop_destinations(p, squares, kind), to.index()),
+            code: Move::Drop { kind, to }.code_above(),
+        }
+    }
+
     /// The next of the destinations of the present kind.
     #[inline(always)]
     fn take(&mut self, p: &Position) -> Move
@@ -356,14 +262,16 @@ impl DropSweep {
         requires some { self.old.destinations ≢ 0 }
         ensures kept { IsDropSweep p.now self.new }
         ensures next { drops_left p.now self.old ≡ code_of result ∷ drops_left p.now self.new }
+        ensures code { self.new.code ≡ code_of result + 1 }
         ensures legal { is_legal p.now result ≡ true }
     {
         let (kind, destinations) = (self.kind, self.destinations);
         let to = lowest(destinations);
         let end = Square::of_index(to);
         let m = Move::Drop { kind, to: end };
+        let code = m.code_above();
         self.destinations = without_lowest(destinations, to);
-        self.code = code_above(&m);
+        self.code = code;
         m
     }
 
@@ -379,7 +287,7 @@ impl DropSweep {
     {
         let squares = self.squares;
         let mut kind = self.kind;
-        'kinds: while let Some(next) = next_kind(kind) {
+        'kinds: while let Some(next) = kind.next() {
             let destinations = drop_destinations(p, squares, next);
             if destinations != 0 {
                 self.kind = next;
@@ -414,6 +322,7 @@ impl DropSweep {
         requires kept { IsDropSweep p.now self.old }
         ensures kept { IsDropSweep p.now self.new }
         ensures next { IsNextDrop p.now result self.old self.new }
+        ensures code { IfSome result (λ m. self.new.code ≡ code_of m + 1) }
         ensures end { IsNone result → drops_left p.now self.new ≡ [] }
         ensures legal { IfSome result (λ m. is_legal p.now m ≡ true) }
     {
@@ -423,25 +332,17 @@ impl DropSweep {
         Some(self.take(p))
     }
 
-    /// Passes the drops of the present kind, up to the first after which it is not certain by a
-    /// look at squares alone that the other side has a legal move.
-    pub fn pass_certain(&mut self, p: &Position, replies: &Replies, escapes: u128)
+    /// Passes the drops of the present kind on squares below this one, and all where it is 81.
+    #[inline(always)]
+    pub fn pass_ends(&mut self, p: &Position, to: usize)
         requires kept { IsDropSweep p.now self.old }
-        requires replies { IsReplies p.now replies.now.sight replies.now.spare }
-        requires escapes { AreEscapes p.now escapes }
+        requires to { to ≤ 81 }
+        requires ahead { self.old.code ≤ FIRST_DROP + kind_number self.old.kind * 81 + to }
         ensures kept { IsDropSweep p.now self.new }
-        ensures passed { PassesDrops p.now self.old self.new }
+        ensures code { self.new.code ≡ FIRST_DROP + kind_number self.old.kind * 81 + to }
     {
-        let destinations = self.destinations;
-        let first = FIRST_DROP + self.kind.number() as u16 * 81;
-        let uncertain = destinations & !replies.certain_drops(p, escapes, self.kind, destinations);
-        if uncertain == 0 {
-            self.destinations = 0;
-            self.code = first + 81;
-            return;
-        }
-        let to = lowest(uncertain);
-        self.destinations = bits_from(destinations, to);
-        self.code = first + to as u16;
+        let _ = p;
+        self.destinations = bits_from(self.destinations, to);
+        self.code = FIRST_DROP + self.kind.number() as u16 * 81 + to as u16;
     }
 }

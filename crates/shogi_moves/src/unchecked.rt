@@ -1,16 +1,21 @@
-//! Whether a move leaves the mover's king unattacked, without making it.
+//! Whether a move leaves the mover's king unattacked, without making it where the side has a king.
 
 ghost use Rattle.std.specs.Prelude.{◌≡◌, true};
-ghost use Rattle.shogi_core.specs.Cell.{is_king};
+ghost use Rattle.shogi_core.specs.Cell.{is_king, HasNoOtherKing};
 ghost use Rattle.shogi_core.specs.Movement.{piece_at};
 ghost use Rattle.shogi_moves.specs.Destinations.{is_unchecked};
-ghost use Rattle.shogi_moves.specs.Escapes.{HasNoOtherKing};
 ghost use Rattle.shogi_moves.specs.Legal.{is_pseudo_legal};
 
-use crate::attack::only_king;
-use crate::destinations::is_unchecked;
+use crate::after::is_checked_after;
 use shogi_core::bits::{with, without};
 use shogi_core::{Move, Position, Square};
+
+/// Whether the move, which is made on a board of its own, leaves the mover's king unattacked.
+pub fn is_unchecked(p: &Position, m: &Move) -> bool
+    ensures { result ≡ is_unchecked p.now m.now }
+{
+    !is_checked_after(p.as_board(), p.side(), m)
+}
 
 /// Whether the only king of the side to move, which stands there, is unattacked after the move: it
 /// or its new square is looked at where the move leaves the squares empty and occupied.
@@ -51,7 +56,7 @@ pub fn leaves_unchecked(p: &Position, m: &Move) -> bool
     requires { is_pseudo_legal p.now m.now ≡ true }
     ensures { result ≡ is_unchecked p.now m.now }
 {
-    match only_king(p.as_board(), p.side()) {
+    match p.king(p.side()) {
         None => is_unchecked(p, m),
         Some(king) => is_king_unattacked(p, king, m),
     }

@@ -6,7 +6,7 @@ ghost use Rattle.shogi_moves.specs.LegalMoves.{legal_codes};
 ghost use Rattle.shogi_moves.specs.Walks.{TakesNext};
 
 use crate::check_info::{CheckInfo, check_info_of};
-use crate::next::{KeptDestinations, code_above, kept_at, least_board};
+use crate::next::{KeptDestinations, kept_at, least_board};
 use crate::sweep::DropSweep;
 use shogi_core::{FIRST_DROP, Move, Position, Square};
 use std::marker::Model;
@@ -78,7 +78,7 @@ impl Walk {
             &mut self.destinations,
         );
         if let Some(m) = &found {
-            self.code = code_above(m);
+            self.code = m.code_above();
             return found;
         }
         self.code = FIRST_DROP;

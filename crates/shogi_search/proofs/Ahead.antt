@@ -19,11 +19,11 @@ use Rattle.shogi_moves.specs.After.{after, after_code, dropped, piece_moved}
 use Rattle.shogi_moves.specs.Legal.{is_legal}
 use Rattle.shogi_moves.specs.LegalMoves.{legal_codes}
 use Rattle.shogi_moves.specs.Rising.{is_in}
-use Rattle.shogi_moves.specs.Threats.{IsAttack, IsThreat, LeavesThreat, MayTake, end_of, put_by}
+use Rattle.shogi_replies.specs.Threats.{IsAttack, IsThreat, LeavesThreat, MayTake, end_of, put_by}
 use Rattle.shogi_moves.proofs.CheckInfoLaws.{other_side}
 use Rattle.shogi_moves.proofs.Keeps.{is_safe_from_legal}
 use Rattle.shogi_moves.proofs.KeepsDrop.{safe_drop}
-use Rattle.shogi_moves.proofs.ReplyLaws.{legal_own, other_counts}
+use Rattle.shogi_replies.proofs.ReplyLaws.{legal_own, other_counts}
 use Rattle.shogi_moves.proofs.LegalLaws.{legal_in, legal_code_below, is_legal_code_of, after_code_at, after_code_of, legal_to_listed}
 use Rattle.shogi_eval.specs.declared.eval.Eval.{Eval}
 use Rattle.shogi_eval.specs.Material.{material_of, drop_gain, taken_gain, promotion_gain}

@@ -9,7 +9,8 @@ use Rattle.shogi_core.specs.Position.{Shogi}
 use Rattle.shogi_moves.specs.Captures.{matches_kind}
 use Rattle.shogi_moves.specs.LegalMoves.{legal_from}
 use Rattle.shogi_moves.specs.Rising.{is_in}
-use Rattle.shogi_moves.specs.Sweeps.{matching_from, IsPassed}
+use Rattle.shogi_moves.specs.Sweeps.{matching_from}
+use Rattle.shogi_replies.specs.Passes.{IsPassed}
 use Rattle.shogi_moves.proofs.SweepLaws.{no_captures}
 use Rattle.shogi_search.specs.Firsts.{is_distinct}
 use Rattle.shogi_search.specs.Order.{matches_other, matching_others_from}

@@ -21,7 +21,7 @@ use Rattle.shogi_moves.specs.Legal.{is_legal, is_legal_code}
 use Rattle.shogi_moves.specs.LegalMoves.{legal_codes}
 use Rattle.shogi_moves.specs.Captures.{is_matching}
 use Rattle.shogi_moves.specs.declared.destinations.Destinations.{Destinations}
-use Rattle.shogi_moves.specs.Sweeps.{IsCertainMove, IsCertainDrop, IsPassed}
+use Rattle.shogi_replies.specs.Passes.{IsCertainMove, IsCertainDrop, IsPassed}
 use Rattle.shogi_moves.proofs.DestinationLaws.{matching_move}
 use Rattle.shogi_moves.proofs.LegalLaws.{is_legal_code_of, after_code_of}
 use Rattle.shogi_eval.specs.declared.eval.Eval.{Eval}

@@ -6,7 +6,7 @@ use Rattle.shogi_core.specs.Pieces.{opponent_of}
 use Rattle.shogi_core.specs.Position.{Shogi}
 use Rattle.shogi_moves.specs.After.{after, after_code}
 use Rattle.shogi_moves.specs.LegalMoves.{legal_codes}
-use Rattle.shogi_moves.specs.Threats.{KeepsThreats, MayRetake}
+use Rattle.shogi_replies.specs.Threats.{KeepsThreats, MayRetake}
 use Rattle.shogi_search.specs.declared.frame.Frame.{Frame}
 use Rattle.minimax.specs.declared.entry.Entry.{Entry}
 use Rattle.minimax.specs.Entries.{IsCutoff}

@@ -8,7 +8,8 @@ use Rattle.shogi_core.specs.Position.{Shogi}
 use Rattle.shogi_moves.specs.Captures.{matches_kind}
 use Rattle.shogi_moves.specs.LegalMoves.{legal_from}
 use Rattle.shogi_moves.specs.Rising.{is_in}
-use Rattle.shogi_moves.specs.Sweeps.{IsBoardSweep, IsDropSweep, IsPassed, IsCertainMove, IsCertainDrop}
+use Rattle.shogi_moves.specs.Sweeps.{IsBoardSweep, IsDropSweep}
+use Rattle.shogi_replies.specs.Passes.{IsPassed, IsCertainMove, IsCertainDrop}
 use Rattle.shogi_moves.specs.Walks.{IsNextOf, TakesNext}
 use Rattle.shogi_moves.specs.declared.destinations.Destinations.{Destinations}
 use Rattle.shogi_moves.specs.declared.sweep.BoardSweep.{BoardSweep}

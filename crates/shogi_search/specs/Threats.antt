@@ -8,8 +8,8 @@ use Rattle.shogi_core.specs.Movement.{piece_at, reaches}
 use Rattle.shogi_core.specs.Pieces.{opponent_of}
 use Rattle.shogi_core.specs.Position.{Shogi}
 use Rattle.shogi_moves.specs.After.{after}
-use Rattle.shogi_moves.specs.Replies.{is_aligned_with_king}
-use Rattle.shogi_moves.specs.Threats.{IsUnpinnable, IsAttack, IsThreat, EndsAside, KeepsThreats, LeavesThreat, MayRetake, end_of, put_by}
+use Rattle.shogi_replies.specs.Replies.{is_aligned_with_king}
+use Rattle.shogi_replies.specs.Threats.{IsUnpinnable, IsAttack, IsThreat, EndsAside, KeepsThreats, LeavesThreat, MayRetake, end_of, put_by}
 use Rattle.shogi_eval.specs.declared.eval.Eval.{Eval}
 use Rattle.shogi_eval.specs.Material.{material_of, promotion_gain, taken_gain}
 use Rattle.minimax.specs.Minimax.{value}

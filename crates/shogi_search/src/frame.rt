@@ -6,7 +6,7 @@ ghost use Rattle.std.proofs.Props.{props};
 ghost use Rattle.shogi_core.specs.Validity.{IsValid};
 ghost use Rattle.shogi_moves.specs.Escapes.{AreEscapes};
 ghost use Rattle.shogi_moves.specs.LegalMoves.{legal_codes};
-ghost use Rattle.shogi_moves.specs.Replies.{IsReplies};
+ghost use Rattle.shogi_replies.specs.Replies.{IsReplies};
 ghost use Rattle.shogi_eval.specs.declared.points.TheConstants.{POINTS_MAX};
 ghost use Rattle.minimax.specs.Minimax.{value, negated};
 ghost use Rattle.minimax.specs.Entries.{IsCutoff};
@@ -23,7 +23,8 @@ use crate::window::threshold;
 use minimax::{Entry, MATE};
 use shogi_core::Move;
 use shogi_eval::{Eval, Node};
-use shogi_moves::{Replies, has_legal};
+use shogi_moves::has_legal;
+use shogi_replies::Replies;
 
 /// What a node waits for.
 #[derive(Clone, Copy)]

@@ -5,13 +5,14 @@ ghost use Rattle.shogi_core.specs.Attack.{in_check};
 ghost use Rattle.shogi_core.specs.Codes.{code_of};
 ghost use Rattle.shogi_moves.specs.Escapes.{AreEscapes};
 ghost use Rattle.shogi_moves.specs.CheckInfo.{IsCheckInfoOf};
-ghost use Rattle.shogi_moves.specs.Replies.{IsReplies};
+ghost use Rattle.shogi_replies.specs.Replies.{IsReplies};
 ghost use Rattle.shogi_moves.specs.Sweeps.{IsBoardSweep, IsDropSweep};
 ghost use Rattle.shogi_search.specs.Order.{codes_of, drops_to_come, others_to_come, quiets_to_come, todo, todo_after, IsAtDrops, IsAtQuiets, IsKept, PassesDrops, PassesQuiets, TakesBoardPick, TakesDropPick, TakesFirst, TakesFromSweep};
 
 use crate::firsts::Firsts;
 use shogi_core::{Kind, Move, Position};
-use shogi_moves::{BoardSweep, CheckInfo, Destinations, DropSweep, Replies, check_info_of};
+use shogi_moves::{BoardSweep, CheckInfo, Destinations, DropSweep, check_info_of};
+use shogi_replies::Replies;
 
 /// How far the visits of a node's moves have come: the first moves from a place on, and what is
 /// still to come of the captures, of the quiet board moves and of the drops.
@@ -244,7 +245,7 @@ impl MovePicker {
         ensures passed { PassesQuiets p.now among.now self.old self.new }
     {
         if let MovePicker::Quiets(_, sweep) = self {
-            sweep.pass_certain(p, false, among, replies, escapes);
+            replies.pass_moves(p, false, among, escapes, sweep);
         }
     }
 
@@ -269,7 +270,7 @@ impl MovePicker {
         ensures passed { PassesDrops p.now self.old self.new }
     {
         if let MovePicker::Drops(_, sweep) = self {
-            sweep.pass_certain(p, replies, escapes);
+            replies.pass_drops(p, escapes, sweep);
         }
     }
 

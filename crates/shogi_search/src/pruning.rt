@@ -9,7 +9,7 @@ use crate::move_picker::MovePicker;
 use crate::threat::threats_of;
 use crate::window::threshold_at;
 use shogi_core::Move;
-use shogi_moves::{Replies, escape_squares, leaves_escape};
+use shogi_replies::{Replies, escape_squares, leaves_escape};
 
 impl Frame {
     ghost use Rattle.shogi_search.specs.Frames.{HasReply, IsLostWhere, IsWorthAtMost, RepliesLoseAtMost};

@@ -6,15 +6,15 @@ ghost use Rattle.shogi_core.specs.Bits.{has_bit};
 ghost use Rattle.shogi_core.specs.Cell.{is_slider};
 ghost use Rattle.shogi_core.specs.Pieces.{opponent_of};
 ghost use Rattle.shogi_moves.specs.Legal.{is_legal};
-ghost use Rattle.shogi_moves.specs.Replies.{Aligns};
-ghost use Rattle.shogi_moves.specs.Threats.{IsUnpinnable, IsThreat, end_of};
+ghost use Rattle.shogi_replies.specs.Replies.{Aligns};
+ghost use Rattle.shogi_replies.specs.Threats.{IsUnpinnable, IsThreat, end_of};
 ghost use Rattle.shogi_core.specs.Validity.{IsValid};
 ghost use Rattle.shogi_search.specs.Threats.{AreThreatsIn, IsAttackerIn, IsThreatIn, IsSparedAt, IsSparedBy, TakesAfter};
 
 use shogi_core::bits::{has, lowest, without_lowest};
 use shogi_core::{Move, Piece, Position, Square};
 use shogi_eval::{Eval, promotion_gain, taken_gain};
-use shogi_moves::{attacks_of, line_squares, put_by, unpinnable_pieces};
+use shogi_replies::{attacks_of, line_squares, put_by, unpinnable_pieces};
 
 /// A piece of the side that is not to move that nothing pins, all squares that it reaches, and those
 /// on which a piece that slides might come to pin it.

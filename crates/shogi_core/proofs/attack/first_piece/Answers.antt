@@ -1,4 +1,4 @@
-use Rattle.std.proofs.Common.{◌≡◌, ℕ, ◌<◌, Option, Some, None, true, false}
+use Rattle.std.proofs.Common.{◌≡◌, ℕ, Option, Some, None, true, false}
 use Rattle.std.specs.Prelude.{IfSome, is_none, not}
 use Rattle.shogi_core.specs.Bits.{HasBits}
 use Rattle.shogi_core.specs.Movement.{Cells, piece_at, slides}

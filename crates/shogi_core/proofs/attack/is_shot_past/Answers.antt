@@ -1,5 +1,4 @@
 use Rattle.std.proofs.Common.{rules, refl, sym, ap, ◌∙◌, ◌≡◌, true}
-use Rattle.std.proofs.lemmas.Bool.{not-true}
 use Rattle.shogi_core.specs.Attack.{cell_slides_back}
 use Rattle.shogi_core.specs.Bits.{has_bit}
 use Rattle.shogi_core.specs.Movement.{piece_at}

@@ -1,4 +1,5 @@
-use Rattle.shogi_core.proofs.TargetLaws.{diagonal_second, or_fits, straight_second}
+use Rattle.shogi_core.proofs.TargetLaws.{diagonal_second, straight_second}
+use Rattle.shogi_core.proofs.LineBits.{or_fits}
 use Rattle.shogi_core.proofs.targets.four_slides.Goals as goal
 
 pub returns-clause-straight : goal.returns-clause-straight

@@ -2,20 +2,17 @@ use Rattle.std.proofs.Common.{◌≡◌, arith, rules, sym, ◌∙◌, false}
 use Rattle.shogi_core.specs.declared.moves.Move.TheVariants.{Board}
 use Rattle.shogi_core.specs.Bits.{has_bit}
 use Rattle.shogi_moves.specs.Destinations.{is_unchecked}
-use Rattle.shogi_moves.proofs.DestinationLaws.{lone_king, narrowed, no_answer}
+use Rattle.shogi_moves.proofs.DestinationLaws.{narrowed, no_answer}
 use Rattle.shogi_moves.proofs.destinations.may_be_pinned_destinations.Goals as goal
-
-pub king_destinations-requires-clause-lone : goal.king_destinations-requires-clause-lone
-king_destinations-requires-clause-lone c = lone_king c.args.p.now c.kings-kings.result c.cleared.result c.args.from (rw (c.side.ensures, c.as_board-board.ensures) at c.kings-kings.ensures.squares.0) (rw c.index-then-has.ensures.index at c.cleared.ensures.bits) c.if-cleared-eq0.true
 
 pub returns-then-info : goal.returns-then-info
 returns-then-info c = record {
   squares = (
     λ n h. (
-        let off : has_bit c.kings-kings.result c.args.from ≡ false = search rules in
-        c.tried_destinations-then-info.ensures.squares.0 n h
+        let off : has_bit c.kings.result c.args.from ≡ false = search rules in
+        c.tried_destinations.ensures.squares.0 n h
         ∙ narrowed c.args.destinations c.args.info.now.pinned_or_king n (is_unchecked c.args.p.now (Board c.args.from n false))
-        (λ _ out. no_answer c.args.p.now c.args.info.now.checked c.args.info.now.pinned_or_king c.args.from n c.requires.info c.if-info.true c.validity.ensures.cells_fit (omega arith) h c.requires.own (sym (rw (c.side.ensures, c.as_board-board.ensures) at c.kings-kings.ensures.squares.0 c.args.from (omega arith)) ∙ off) out)),
-    c.tried_destinations-then-info.ensures.squares.1,
+        (λ _ out. no_answer c.args.p.now c.args.info.now.checked c.args.info.now.pinned_or_king c.args.from n c.requires.info c.if-info.true c.validity.ensures.cells_fit (omega arith) h c.requires.own (sym (rw (c.side.ensures, c.as_board.ensures) at c.kings.ensures.squares.0 c.args.from (omega arith)) ∙ off) out)),
+    c.tried_destinations.ensures.squares.1,
   );
 }

@@ -2,11 +2,10 @@ use Rattle.std.proofs.Common.{◌≡◌, ◌∙◌, ℕ, true, not, sym, subst}
 use Rattle.std.proofs.lemmas.Bool.{and_parts, not-true}
 use Rattle.shogi_core.specs.declared.moves.Move.{Move}
 use Rattle.shogi_core.specs.declared.moves.Move.TheVariants.{Board, Drop}
-use Rattle.shogi_core.specs.Cell.{is_king}
+use Rattle.shogi_core.specs.Cell.{is_king, HasNoOtherKing}
 use Rattle.shogi_core.specs.Movement.{piece_at}
 use Rattle.shogi_core.specs.Pieces.{opponent_of}
 use Rattle.shogi_moves.specs.Destinations.{is_unchecked}
-use Rattle.shogi_moves.specs.Escapes.{HasNoOtherKing}
 use Rattle.shogi_moves.specs.Legal.{is_pseudo_legal}
 use Rattle.shogi_moves.proofs.SeenAfter.{king_goes, king_left, king_left_by_drop, board_seen, drop_seen, moved, with_drop}
 use Rattle.shogi_moves.proofs.unchecked.is_king_unattacked.Goals as goal

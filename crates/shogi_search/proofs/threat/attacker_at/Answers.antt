@@ -2,8 +2,8 @@ use Rattle.std.proofs.Common.{◌≡◌, ◌<◌, ℕ, false, true, ap, sym, sub
 use Rattle.std.proofs.lemmas.Bool.{both_ways}
 use Rattle.shogi_core.specs.Bits.{has_bit}
 use Rattle.shogi_core.specs.Pieces.{opponent_of}
-use Rattle.shogi_moves.specs.Replies.{is_aligned_with_king}
-use Rattle.shogi_moves.proofs.ReplyLaws.{unaligned}
+use Rattle.shogi_replies.specs.Replies.{is_aligned_with_king}
+use Rattle.shogi_replies.proofs.ReplyLaws.{unaligned}
 use Rattle.shogi_search.proofs.threat.attacker_at.Goals as goal
 use Rattle.shogi_search.proofs.threat.attacker_at.Goals.{then-has, else-has}
 

@@ -3,7 +3,7 @@ use Rattle.std.specs.Option.{ForSome}
 use Rattle.shogi_core.specs.Bits.{has_bit}
 use Rattle.shogi_core.specs.Movement.{piece_at}
 use Rattle.shogi_eval.specs.Material.{promotion_gain}
-use Rattle.shogi_moves.specs.Threats.{IsThreat}
+use Rattle.shogi_replies.specs.Threats.{IsThreat}
 use Rattle.shogi_search.specs.Threats.{IsAttackerIn, IsThreatIn}
 use Rattle.shogi_search.proofs.threat.greatest_among.Given as goal
 

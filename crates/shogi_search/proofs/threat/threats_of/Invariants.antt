@@ -1,6 +1,6 @@
 use Rattle.std.proofs.Common.{◌≡◌, ◌<◌, ◌^◌, ℕ, true}
 use Rattle.shogi_core.specs.Bits.{has_bit}
-use Rattle.shogi_moves.specs.Threats.{IsUnpinnable}
+use Rattle.shogi_replies.specs.Threats.{IsUnpinnable}
 use Rattle.shogi_search.specs.Threats.{AreThreatsIn}
 use Rattle.shogi_search.proofs.threat.threats_of.Given as goal
 

@@ -7,7 +7,7 @@ use Rattle.shogi_core.specs.Cell.{is_piece_of}
 use Rattle.shogi_core.specs.Movement.{piece_at}
 use Rattle.shogi_core.specs.Position.{Shogi}
 use Rattle.shogi_core.proofs.BitLaws.{has_bit-and, has_bit-or}
-use Rattle.shogi_moves.specs.Threats.{IsAttack, IsThreat}
+use Rattle.shogi_replies.specs.Threats.{IsAttack, IsThreat}
 use Rattle.shogi_search.proofs.threat.with_attacker.Goals as goal
 
 -- an attack on one of the squares of the mover is a threat

@@ -1,7 +1,7 @@
 use Rattle.std.proofs.Common.{◌≡◌, ◌<◌, ◌^◌, true, false, ℕ}
 use Rattle.shogi_core.specs.declared.moves.Move.TheVariants.{Drop}
 use Rattle.shogi_core.specs.Bits.{has_bit}
-use Rattle.shogi_moves.specs.Replies.{IsAnswered}
+use Rattle.shogi_replies.specs.Replies.{IsAnswered}
 use Rattle.last_ply.proofs.mates.Outlook.closing_drops.Given as goal
 
 abbrev pub invariant-loop-left : goal.invariant-loop-left

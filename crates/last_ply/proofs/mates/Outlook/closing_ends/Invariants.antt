@@ -2,7 +2,7 @@ use Rattle.std.proofs.Common.{◌≡◌, ◌<◌, ◌^◌, true, false, ℕ}
 use Rattle.shogi_core.specs.declared.moves.Move.TheVariants.{Board}
 use Rattle.shogi_core.specs.Bits.{has_bit}
 use Rattle.shogi_core.specs.Lines.{are_aligned}
-use Rattle.shogi_moves.specs.Replies.{IsAnswered}
+use Rattle.shogi_replies.specs.Replies.{IsAnswered}
 use Rattle.last_ply.proofs.mates.Outlook.closing_ends.Given as goal
 
 abbrev pub invariant-loop-left : goal.invariant-loop-left

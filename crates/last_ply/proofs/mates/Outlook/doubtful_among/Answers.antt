@@ -1,5 +1,5 @@
-use Rattle.std.proofs.Common.{◌-◌, ◌^◌, ◌∙◌, inl, inr, sym}
-use Rattle.std.proofs.lemmas.Bool.{and_parts, cases_Bool}
+use Rattle.std.proofs.Common.{◌∙◌, sym}
+use Rattle.std.proofs.lemmas.Bool.{and_parts}
 use Rattle.shogi_core.specs.Bits.{has_bit}
 use Rattle.shogi_core.proofs.BitLaws.{has_bit-and}
 use Rattle.shogi_core.proofs.LineBits.{and_fits}

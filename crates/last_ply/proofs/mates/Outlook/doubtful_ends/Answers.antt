@@ -1,4 +1,4 @@
-use Rattle.std.proofs.Common.{◌≡◌, ◌∙◌, ap, bit_and, ℕ, sym, true, false, not}
+use Rattle.std.proofs.Common.{◌∙◌, ap, bit_and, ℕ, sym, true, false, not}
 use Rattle.std.proofs.lemmas.Bool.{and_from, and_parts, both_ways}
 use Rattle.shogi_core.specs.Bits.{has_bit}
 use Rattle.shogi_core.proofs.BitLaws.{has_bit-and}

@@ -1,4 +1,4 @@
-use Rattle.std.proofs.Common.{◌∙◌, arith, bit_or, sym}
+use Rattle.std.proofs.Common.{◌∙◌, bit_or, sym}
 use Rattle.std.proofs.lemmas.Bool.{and_parts}
 use Rattle.shogi_core.specs.Bits.{has_bit}
 use Rattle.shogi_core.proofs.BitLaws.{has_bit-and}

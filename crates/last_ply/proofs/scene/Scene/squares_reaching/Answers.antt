@@ -1,8 +1,7 @@
 use Rattle.std.proofs.Common.{bit_and}
 use Rattle.std.proofs.lemmas.Bool.{false_from_ne_true}
 use Rattle.shogi_core.specs.Movement.{reaches}
-use Rattle.shogi_core.proofs.LineBits.{and_fits}
-use Rattle.shogi_core.proofs.TargetLaws.{or_fits}
+use Rattle.shogi_core.proofs.LineBits.{and_fits, or_fits}
 use Rattle.last_ply.proofs.Scores.{not_taking}
 use Rattle.last_ply.proofs.scene.Scene.squares_reaching.Goals as goal
 

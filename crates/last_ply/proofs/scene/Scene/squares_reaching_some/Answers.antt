@@ -2,7 +2,7 @@ use Rattle.std.proofs.Common.{◌∙◌, arith, ap}
 use Rattle.std.proofs.lemmas.Bool.{both_ways}
 use Rattle.shogi_core.specs.Bits.{has_bit}
 use Rattle.shogi_core.proofs.BitLaws.{has_bit-none}
-use Rattle.shogi_core.proofs.TargetLaws.{or_fits}
+use Rattle.shogi_core.proofs.LineBits.{or_fits}
 use Rattle.last_ply.proofs.Squares.{one_victim_more}
 use Rattle.last_ply.proofs.scene.Scene.squares_reaching_some.Goals as goal
 

@@ -3,7 +3,7 @@ use Rattle.std.proofs.lemmas.Int.{ints}
 use Rattle.std.proofs.lemmas.Bool.{and_parts}
 use Rattle.shogi_core.specs.Bits.{has_bit}
 use Rattle.shogi_core.proofs.BitLaws.{has_bit-and, has_bit-none}
-use Rattle.shogi_core.proofs.TargetLaws.{or_fits}
+use Rattle.shogi_core.proofs.LineBits.{or_fits}
 use Rattle.last_ply.specs.LastPly.{TakesTooLittle}
 use Rattle.last_ply.proofs.Squares.{one_victim_more, out_within}
 use Rattle.last_ply.proofs.scene.Scene.takers_above.Goals as goal

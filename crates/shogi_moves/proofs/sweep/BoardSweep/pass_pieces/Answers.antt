@@ -1,68 +1,9 @@
-use Rattle.std.proofs.Common.{◌≡◌, ◌<◌, ◌+◌, ◌-◌, ◌*◌, ◌^◌, ◌∙◌, ℕ, false, refl, sym, subst, arith, inl, inr}
-use Rattle.std.proofs.lemmas.Bool.{and_parts, cases_eq, false_from_ne_true}
+use Rattle.std.proofs.Common.{◌≡◌, ◌+◌, ◌-◌, ◌*◌, sym, arith}
 use Rattle.shogi_core.specs.declared.moves.TheConstants.{SQUARE_CODES}
-use Rattle.shogi_core.specs.Bits.{has_bit}
-use Rattle.shogi_core.proofs.BitLaws.{has_bit-and, has_bit-none}
-use Rattle.shogi_core.proofs.LineBits.{and_fits}
-use Rattle.shogi_moves.specs.Replies.{HasCertainMoves}
-use Rattle.shogi_moves.proofs.Passes.{row_passed_to, not_uncertain, out_before, no_destinations_of}
-use Rattle.shogi_moves.proofs.MoverLaws.{on_movers}
-use Rattle.shogi_moves.proofs.SweepLaws.{on_first, mine_first}
+use Rattle.shogi_moves.proofs.SweepLaws.{no_destinations_kept}
 use Rattle.shogi_moves.proofs.sweep.BoardSweep.pass_pieces.Goals as goal
 
-pub squares-init : goal.squares-init
-squares-init c =
-    let mine : _ = mine_first c.args.p.now c.own.result c.bits_above-pieces.result c.args.self.now.from (rw (c.side.ensures, c.as_board.ensures) at c.own.ensures.squares.0) (rw c.index.ensures.index at c.bits_above-pieces.ensures.above) (rw c.index.ensures.index at c.bits_above-pieces.ensures.below) in
-    record {
-      same = refl;
-      matching = on_movers c.args.p.now c.args.capture c.bits_above-pieces.result c.movers-moving.result c.args.self.now.code c.validity.ensures.cells_fit
-          (on_first c.args.p.now c.args.capture c.own.result c.bits_above-pieces.result c.args.self.now.from c.args.self.now.code c.args.self.now.destinations.plain c.args.self.now.destinations.promoting (omega (arith, c.index.ensures.range, c.index.ensures.index)) c.requires.kept.destinations (rw (c.requires.none.0, c.requires.none.1) refl)
-          (rw (c.side.ensures, c.as_board.ensures) at c.own.ensures.squares.0) (rw c.index.ensures.index at c.bits_above-pieces.ensures.above))
-          (λ n h set. (mine n h set).1) c.movers-moving.ensures.none;
-      mine = λ n h set. mine n h (c.movers-moving.ensures.within n set);
-      certain = λ n h set out. c.far_pieces-far.ensures n h (not_uncertain c.movers-moving.result c.far_pieces-far.result n (omega arith) h out set);
-      within = λ n set. (and_parts _ _ (sym (has_bit-and c.movers-moving.result (2 ^ 128 - 1 - c.far_pieces-far.result) n) ∙ set)).0;
-      fits = and_fits c.movers-moving.result (2 ^ 128 - 1 - c.far_pieces-far.result) c.movers-moving.ensures.fits;
-    }
-
-pub squares-preserved : goal.squares-preserved
-squares-preserved c = record {
-  same = c.squares.invariant.same;
-  matching = c.squares.invariant.matching;
-  mine = c.squares.invariant.mine;
-  certain = λ n h set out. elim (cases_eq n c.lowest-square.result) [
-    | inl here ↦ subst (λ (x : ℕ). HasCertainMoves c.args.p.now c.args.capture c.args.among.now x) (sym here) ((rw c.of_index-from.ensures at c.has_certain_moves.ensures) c.if-not-has_certain_moves.false)
-    | inr other ↦ c.squares.invariant.certain n h set (out_before c.squares.left c.without_lowest-left.result c.lowest-square.result n c.without_lowest-left.ensures.bits out other)
-  ];
-  within = λ n set. c.squares.invariant.within n (and_parts _ _ (sym (c.without_lowest-left.ensures.bits n) ∙ set)).0;
-  fits = omega (arith, c.without_lowest-left.ensures.less, c.squares.invariant.fits);
-}
-
-pub returns-then-not-has_certain_moves-clause-kept : goal.returns-then-not-has_certain_moves-clause-kept
-returns-then-not-has_certain_moves-clause-kept c =
-    let above : c.args.self.now.from < c.lowest-square.result = (c.squares.invariant.mine c.lowest-square.result c.lowest-square.ensures.range (c.squares.invariant.within c.lowest-square.result c.lowest-square.ensures.set)).0 in
-    let code : (c.lowest-square.result - 1) * SQUARE_CODES + SQUARE_CODES ≡ c.lowest-square.result * SQUARE_CODES = omega (arith, above) in
-    rw (c.squares.invariant.same, c.of_index-self.ensures, sym code) (record {
-      info = c.requires.kept.info;
-      destinations = no_destinations_of c.args.p.now c.args.capture (c.lowest-square.result - 1) c.args.self.now.destinations.plain c.args.self.now.destinations.promoting c.requires.none.0 c.requires.none.1;
-    })
-
-pub returns-then-not-has_certain_moves-clause-passed : goal.returns-then-not-has_certain_moves-clause-passed
-returns-then-not-has_certain_moves-clause-passed c =
-    let above : c.args.self.now.from < c.lowest-square.result = (c.squares.invariant.mine c.lowest-square.result c.lowest-square.ensures.range (c.squares.invariant.within c.lowest-square.result c.lowest-square.ensures.set)).0 in
-    row_passed_to c.args.p.now c.args.capture c.args.among.now c.args.self.now.code c.movers-moving.result c.lowest-square.result c.validity.ensures.cells_fit (omega (arith, c.lowest-square.ensures.range)) c.squares.invariant.matching
-    (λ n h set. (c.squares.invariant.mine n h set).1)
-    (λ n h below set. c.squares.invariant.certain n h set (false_from_ne_true (has_bit c.squares.left n) (λ there. absurd (let le : _ = c.lowest-square.ensures.least n there in omega (arith, le, below)))))
-    (omega (arith, above, c.requires.kept.destinations.high))
-
 pub returns-clause-kept : goal.returns-clause-kept
-returns-clause-kept c = rw (c.squares.invariant.same, c.of_index-self-2.ensures) (record {
-  info = c.requires.kept.info;
-  destinations = no_destinations_of c.args.p.now c.args.capture 80 c.args.self.now.destinations.plain c.args.self.now.destinations.promoting c.requires.none.0 c.requires.none.1;
-})
-
-pub returns-clause-passed : goal.returns-clause-passed
-returns-clause-passed c = row_passed_to c.args.p.now c.args.capture c.args.among.now c.args.self.now.code c.movers-moving.result 81 c.validity.ensures.cells_fit (omega arith) c.squares.invariant.matching
-    (λ n h set. (c.squares.invariant.mine n h set).1)
-    (λ n h below set. c.squares.invariant.certain n h set (subst (λ (m : ℕ). has_bit m n ≡ false) (sym c.squares-test.false) (has_bit-none n)))
-    (omega (arith, c.index.ensures.range, c.index.ensures.index, c.requires.kept.destinations.high))
+returns-clause-kept c =
+    let code : (c.args.square - 1) * SQUARE_CODES + SQUARE_CODES ≡ c.args.square * SQUARE_CODES = omega (arith, c.requires.ahead) in
+    rw (c.of_index-self.ensures, sym code) (record { info = c.requires.kept.info; destinations = no_destinations_kept c.args.p.now c.args.capture (c.args.square - 1) })

@@ -15,12 +15,12 @@ squares-init c =
     record {
       kept = c.requires.kept;
       same = refl;
-      matching = on_movers c.args.p.now c.args.capture c.bits_above-pieces.result c.movers-left.result c.args.self.now.code c.validity.ensures.cells_fit
+      matching = on_movers c.args.p.now c.args.capture c.bits_above-pieces.result c.matching_movers-left.result c.args.self.now.code c.validity.ensures.cells_fit
           (on_first c.args.p.now c.args.capture c.own.result c.bits_above-pieces.result c.args.self.now.from c.args.self.now.code c.args.self.now.destinations.plain c.args.self.now.destinations.promoting (omega (arith, c.index.ensures.range, c.index.ensures.index)) c.requires.kept.destinations c.requires.none
           (rw (c.side.ensures, c.as_board-board.ensures) at c.own.ensures.squares.0) (rw c.index.ensures.index at c.bits_above-pieces.ensures.above))
-          (λ n h set. (mine n h set).1) c.movers-left.ensures.none;
-      fits = c.movers-left.ensures.fits;
-      mine = λ n h set. mine n h (c.movers-left.ensures.within n set);
+          (λ n h set. (mine n h set).1) c.matching_movers-left.ensures.none;
+      fits = c.matching_movers-left.ensures.fits;
+      mine = λ n h set. mine n h (c.matching_movers-left.ensures.within n set);
     }
 
 pub legal_destinations-destinations-requires-clause-among : goal.legal_destinations-destinations-requires-clause-among

@@ -6,7 +6,7 @@ use Rattle.shogi_moves.proofs.sweep.BoardSweep.take.Goals as goal
 pub returns-then-has-clause-kept : goal.returns-then-has-clause-kept
 returns-then-has-clause-kept c =
     let set : has_bit c.args.self.now.destinations.plain c.lowest-to.result ≡ true = search rules in
-    rw (c.code_above-self.ensures.code, c.of_index-end.ensures)
+    rw (c.code_above-code.ensures.code, c.of_index-end.ensures)
     (record {
       info = c.requires.kept.info;
       destinations = plain_kept c.args.p.now c.args.capture c.args.self.now.from c.args.self.now.code c.args.self.now.destinations.plain c.args.self.now.destinations.promoting c.lowest-to.result c.requires.kept.destinations (omega arith) c.lowest-to.ensures.range c.lowest-to.ensures.least c.without_lowest-self.result set c.without_lowest-self.ensures.less c.without_lowest-self.ensures.bits;
@@ -15,7 +15,7 @@ returns-then-has-clause-kept c =
 pub returns-then-has-clause-next : goal.returns-then-has-clause-next
 returns-then-has-clause-next c =
     let set : has_bit c.args.self.now.destinations.plain c.lowest-to.result ≡ true = search rules in
-    rw (c.code_above-self.ensures.code, c.of_index-end.ensures) ((plain_taken c.args.p.now c.args.capture c.args.self.now.from c.args.self.now.code c.args.self.now.destinations.plain c.args.self.now.destinations.promoting c.lowest-to.result c.requires.kept.destinations (omega arith) c.lowest-to.ensures.range c.lowest-to.ensures.least set).next)
+    rw (c.code_above-code.ensures.code, c.of_index-end.ensures) ((plain_taken c.args.p.now c.args.capture c.args.self.now.from c.args.self.now.code c.args.self.now.destinations.plain c.args.self.now.destinations.promoting c.lowest-to.result c.requires.kept.destinations (omega arith) c.lowest-to.ensures.range c.lowest-to.ensures.least set).next)
 
 pub returns-then-has-clause-legal : goal.returns-then-has-clause-legal
 returns-then-has-clause-legal c =
@@ -36,7 +36,7 @@ without_lowest-self-requires-2-clause-least c = least_promoting c.args.self.now.
 pub returns-clause-kept : goal.returns-clause-kept
 returns-clause-kept c =
     let out : has_bit c.args.self.now.destinations.plain c.lowest-to.result ≡ false = search rules in
-    rw (c.code_above-self-2.ensures.code, c.of_index-end.ensures)
+    rw (c.code_above-code-2.ensures.code, c.of_index-end.ensures)
     (record {
       info = c.requires.kept.info;
       destinations = promoting_kept c.args.p.now c.args.capture c.args.self.now.from c.args.self.now.code c.args.self.now.destinations.plain c.args.self.now.destinations.promoting c.lowest-to.result c.requires.kept.destinations (omega arith) c.lowest-to.ensures.range c.lowest-to.ensures.least c.without_lowest-self-2.result out (promoting_set c.args.p.now c.args.capture c.args.self.now.from c.args.self.now.code c.args.self.now.destinations.plain c.args.self.now.destinations.promoting c.lowest-to.result c.requires.kept.destinations (omega arith) c.lowest-to.ensures.range c.lowest-to.ensures.least c.requires.some c.lowest-to.ensures.set out) c.without_lowest-self-2.ensures.less c.without_lowest-self-2.ensures.bits;
@@ -45,7 +45,7 @@ returns-clause-kept c =
 pub returns-clause-next : goal.returns-clause-next
 returns-clause-next c =
     let out : has_bit c.args.self.now.destinations.plain c.lowest-to.result ≡ false = search rules in
-    rw (c.code_above-self-2.ensures.code, c.of_index-end.ensures) ((promoting_taken c.args.p.now c.args.capture c.args.self.now.from c.args.self.now.code c.args.self.now.destinations.plain c.args.self.now.destinations.promoting c.lowest-to.result c.requires.kept.destinations (omega arith) c.lowest-to.ensures.range c.lowest-to.ensures.least out (promoting_set c.args.p.now c.args.capture c.args.self.now.from c.args.self.now.code c.args.self.now.destinations.plain c.args.self.now.destinations.promoting c.lowest-to.result c.requires.kept.destinations (omega arith) c.lowest-to.ensures.range c.lowest-to.ensures.least c.requires.some c.lowest-to.ensures.set out)).next)
+    rw (c.code_above-code-2.ensures.code, c.of_index-end.ensures) ((promoting_taken c.args.p.now c.args.capture c.args.self.now.from c.args.self.now.code c.args.self.now.destinations.plain c.args.self.now.destinations.promoting c.lowest-to.result c.requires.kept.destinations (omega arith) c.lowest-to.ensures.range c.lowest-to.ensures.least out (promoting_set c.args.p.now c.args.capture c.args.self.now.from c.args.self.now.code c.args.self.now.destinations.plain c.args.self.now.destinations.promoting c.lowest-to.result c.requires.kept.destinations (omega arith) c.lowest-to.ensures.range c.lowest-to.ensures.least c.requires.some c.lowest-to.ensures.set out)).next)
 
 pub returns-clause-legal : goal.returns-clause-legal
 returns-clause-legal c =

@@ -1,6 +1,6 @@
 use Rattle.std.proofs.Common.{refl, ◌≡◌, ◌≤ℤ◌, ◌-ℤ◌, arith, rules, FitsSigned, w32}
 use Rattle.std.proofs.lemmas.Int.{ints, to_z-of_z}
-use Rattle.shogi_moves.specs.Sweeps.{IsCertainDrop, IsPassed}
+use Rattle.shogi_replies.specs.Passes.{IsCertainDrop, IsPassed}
 use Rattle.shogi_search.specs.Order.{todo}
 use Rattle.minimax.specs.Window.{threshold, code_at}
 use Rattle.shogi_search.proofs.Passed.{known_next, next_known, drops_covered, left_passed, threshold_within}

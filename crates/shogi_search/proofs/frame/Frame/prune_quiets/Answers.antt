@@ -1,6 +1,6 @@
 use Rattle.std.proofs.Common.{refl, ◌≡◌, false, arith, rules, FitsSigned, w32}
 use Rattle.std.proofs.lemmas.Int.{ints, to_z-of_z}
-use Rattle.shogi_moves.specs.Sweeps.{IsCertainMove, IsPassed}
+use Rattle.shogi_replies.specs.Passes.{IsCertainMove, IsPassed}
 use Rattle.shogi_search.specs.Order.{todo}
 use Rattle.minimax.specs.Window.{threshold, code_at}
 use Rattle.shogi_search.proofs.Passed.{known_next, next_known, quiets_covered, left_passed, threshold_within}

@@ -4,7 +4,7 @@ use Rattle.shogi_core.specs.Codes.{code_of}
 use Rattle.shogi_core.specs.Position.{Shogi}
 use Rattle.shogi_search.specs.Frames.{worth_of, threshold_of}
 use Rattle.shogi_moves.specs.Legal.{is_legal}
-use Rattle.shogi_moves.specs.Threats.{KeepsThreats, MayRetake}
+use Rattle.shogi_replies.specs.Threats.{KeepsThreats, MayRetake}
 use Rattle.shogi_moves.proofs.LegalLaws.{listed_to_legal}
 use Rattle.shogi_eval.specs.Evaluated.{Evaluated}
 use Rattle.minimax.specs.Minimax.{worth}

@@ -1,7 +1,7 @@
 use Rattle.std.proofs.Common.{◌≡◌, ◌≢◌, refl, sym, subst, ap, ◌∙◌, arith}
 use Rattle.shogi_core.specs.declared.moves.Move.{Move}
 use Rattle.shogi_core.specs.declared.moves.Move.TheVariants.{Board, Drop}
-use Rattle.shogi_moves.specs.Threats.{LeavesThreat, put_by}
+use Rattle.shogi_replies.specs.Threats.{LeavesThreat, put_by}
 use Rattle.shogi_search.proofs.threat.Threat.stands_after.Goals as goal
 
 pub returns-then-index : goal.returns-then-index

@@ -1,9 +1,0 @@
-use Rattle.std.proofs.Common.{ℕ, ◌<◌, ◌^◌}
-use Rattle.shogi_moves.specs.Escapes.{HasRaysBehind}
-use Rattle.shogi_moves.proofs.escapes.squares_behind.Given as goal
-
-abbrev pub invariant-loop-direction : goal.invariant-loop-direction
-invariant-loop-direction l = record {
-  far : (d : ℕ) → d < l.direction → HasRaysBehind d l.from l.over l.behind;
-  fits : l.behind < 2 ^ 81;
-}

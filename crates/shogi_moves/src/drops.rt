@@ -1,0 +1,90 @@
+//! Where held pieces may be dropped, apart from mate by a pawn.
+
+ghost use Rattle.std.specs.Prelude.{◌≡◌, ◌<◌, ◌^◌, true};
+ghost use Rattle.shogi_core.specs.declared.moves.Move.TheVariants as moves;
+ghost use Rattle.shogi_core.specs.declared.piece.Kind.{Kind};
+ghost use Rattle.shogi_core.specs.Bits.{IsMaskOf};
+ghost use Rattle.shogi_core.specs.Position.{count_in_hand};
+ghost use Rattle.shogi_moves.specs.CheckInfo.{IsCheckInfoOf};
+ghost use Rattle.shogi_moves.specs.Destinations.{AreUncheckedDrops, AreDropSquares};
+ghost use Rattle.shogi_moves.specs.Legal.{is_pawn_kind, is_safe};
+
+use crate::after::dropped;
+use crate::check_info::CheckInfo;
+use crate::unchecked::is_unchecked;
+use shogi_core::squares::sift;
+use shogi_core::zones::{dead_squares, pawn_files};
+use shogi_core::{Kind, Move, Position, Square};
+
+/// Whether it is the pawn.
+pub fn is_pawn_kind(kind: Kind) -> bool
+    ensures { result ≡ is_pawn_kind kind }
+{
+    matches!(kind, Kind::Pawn)
+}
+
+/// Those of the squares on which a dropped pawn leaves the king unattacked, each of them tried.
+#[inline(never)]
+fn tried_drops(p: &Position, squares: u128) -> u128
+    requires { squares < 2 ^ 81 }
+    ensures squares { AreUncheckedDrops p.now squares result }
+{
+    sift(squares, |to| {
+        let m = Move::Drop {
+            kind: Kind::Pawn,
+            to,
+        };
+        is_unchecked(p, &m)
+    })
+}
+
+/// Whether the side to move holds no piece.
+fn holds_none(p: &Position) -> bool
+    ensures { result ≡ true
+        → (kind : Kind) → count_in_hand p.now.hands p.now.side kind ≡ 0 }
+{
+    let side = p.side();
+    p.hand(side, Kind::Pawn) == 0
+        && p.hand(side, Kind::Lance) == 0
+        && p.hand(side, Kind::Knight) == 0
+        && p.hand(side, Kind::Silver) == 0
+        && p.hand(side, Kind::Gold) == 0
+        && p.hand(side, Kind::Bishop) == 0
+        && p.hand(side, Kind::Rook) == 0
+}
+
+/// The empty squares on which a held piece leaves the king unattacked, whatever its kind.
+pub fn drop_squares(p: &Position, info: &CheckInfo) -> u128
+    requires info { IsCheckInfoOf info.now p.now }
+    ensures { AreDropSquares p.now result }
+{
+    p.validity();
+    let board = p.as_board();
+    let free = board.free();
+    if !info.checked {
+        return free;
+    }
+    if holds_none(p) {
+        return 0;
+    }
+    tried_drops(p, free & info.pinned_or_king)
+}
+
+/// Where one of the held pieces may be dropped, apart from mate by a pawn.
+#[inline(always)]
+#[tactic(auto, using(crate::proofs::DestinationLaws::safe_dropping))]
+pub fn safe_drops(p: &Position, squares: u128, kind: Kind) -> u128
+    requires squares { AreDropSquares p.now squares }
+    ensures squares { IsMaskOf result (λ n. is_safe p.now (moves.Drop kind n)) }
+{
+    let side = p.side();
+    if p.hand(side, kind) == 0 {
+        return 0;
+    }
+    let destinations = squares & !dead_squares(dropped(side, kind));
+    if is_pawn_kind(kind) {
+        destinations & !pawn_files(p, side)
+    } else {
+        destinations
+    }
+}

@@ -1,0 +1,112 @@
+//! Whether some move is safe: legal but for mate by the drop of a pawn.
+
+ghost use Rattle.std.specs.Prelude.{◌≡◌, ◌+◌, ◌<◌, ◌^◌, ◌≢◌, true, false, []};
+ghost use Rattle.shogi_core.specs.declared.moves.TheConstants.{MOVE_CODE_COUNT, FIRST_DROP};
+ghost use Rattle.shogi_core.specs.Attack.{in_check};
+ghost use Rattle.shogi_core.specs.Below.{some_below};
+ghost use Rattle.shogi_core.specs.Cell.{is_king};
+ghost use Rattle.shogi_core.specs.Movement.{piece_at};
+ghost use Rattle.shogi_moves.specs.CheckInfo.{IsCheckInfoOf};
+ghost use Rattle.shogi_moves.specs.Destinations.{AreDropSquares, AreEnterable};
+ghost use Rattle.shogi_moves.specs.Legal.{is_safe_code};
+ghost use Rattle.shogi_moves.specs.LegalMoves.{legal_from, legal_codes};
+
+use crate::check_info::{CheckInfo, full_check_info};
+use crate::destinations::{all_destinations, enterable, is_king_safe};
+use crate::drops::{drop_squares, safe_drops};
+use shogi_core::bits::{lowest, without_lowest};
+use shogi_core::squares::find;
+use shogi_core::{Kind, Position, Square};
+
+/// Whether the king of the side to move may go to one of the squares, which it reaches and where no
+/// piece of its own stands.
+fn king_escapes(p: &Position, from: Square, destinations: u128) -> bool
+    requires king { is_king p.now.side (piece_at p.now.cells from) ≡ true }
+    requires destinations { AreEnterable p.now from destinations }
+    requires fits { destinations < 2 ^ 81 }
+    ensures { result ≡ true → legal_codes p.now ≢ [] }
+{
+    from.validity();
+    let mut lifted = *p.as_board();
+    lifted.set(from, None);
+    let Some(to) = find(destinations, |to| is_king_safe(p, &lifted, from, to)) else {
+        return false
+    };
+    to.validity();
+    true
+}
+
+/// Whether the king of the side to move has a legal move.
+pub fn has_king_move(p: &Position) -> bool
+    ensures { result ≡ true → legal_codes p.now ≢ [] }
+{
+    p.validity();
+    let board = p.as_board();
+    let Some(from) = p.king(p.side()) else {
+        return false
+    };
+    let own = board.own(p.side());
+    king_escapes(p, from, board.targets(from) & !own)
+}
+
+/// Whether a piece on the board has a legal move.
+fn has_board_move(p: &Position, info: &CheckInfo) -> bool
+    requires { IsCheckInfoOf info.now p.now }
+    ensures some { result ≡ true → legal_codes p.now ≢ [] }
+    ensures none { result ≡ false → legal_codes p.now ≡ legal_from p.now FIRST_DROP }
+{
+    let squares = enterable(p);
+    let mut left = p.as_board().own(p.side());
+    'pieces: while left != 0 {
+        let square = lowest(left);
+        let from = Square::of_index(square);
+        let destinations = all_destinations(p, info, from, squares);
+        if destinations.plain | destinations.promoting != 0 {
+            return true;
+        }
+        left = without_lowest(left, square);
+    }
+    false
+}
+
+/// Whether a held piece other than a pawn has a legal drop.
+pub fn has_piece_drop(p: &Position, squares: u128) -> bool
+    requires { AreDropSquares p.now squares }
+    ensures some { result ≡ true → legal_codes p.now ≢ [] }
+    ensures none { result ≡ false → legal_from p.now (FIRST_DROP + 81) ≡ [] }
+{
+    let mut kind = Kind::Pawn;
+    'kinds: while let Some(next) = kind.next() {
+        if safe_drops(p, squares, next) != 0 {
+            return true;
+        }
+        kind = next;
+    }
+    false
+}
+
+/// Whether some move is legal other than the drop of a pawn.
+pub fn has_other_move(p: &Position, info: &CheckInfo) -> bool
+    requires { IsCheckInfoOf info.now p.now }
+    ensures some { result ≡ true → legal_codes p.now ≢ [] }
+    ensures board { result ≡ false → legal_codes p.now ≡ legal_from p.now FIRST_DROP }
+    ensures drops { result ≡ false → legal_from p.now (FIRST_DROP + 81) ≡ [] }
+{
+    has_board_move(p, info) || has_piece_drop(p, drop_squares(p, info))
+}
+
+/// Whether some move of a side in check is safe. The king, which most often has a way out, is asked
+/// first.
+pub fn has_safe(p: &Position) -> bool
+    requires { in_check p.now.cells p.now.side ≡ true }
+    ensures { result ≡ some_below MOVE_CODE_COUNT (is_safe_code p.now) }
+{
+    if has_king_move(p) {
+        return true;
+    }
+    let info = full_check_info(p, true);
+    if has_other_move(p, &info) {
+        return true;
+    }
+    safe_drops(p, drop_squares(p, &info), Kind::Pawn) != 0
+}

@@ -1,0 +1,169 @@
+-- A king that is given check goes away where what moves uncovers nothing, or takes what moved.
+use Rattle.std.proofs.Common.{◌≡◌, ◌≢◌, ◌^◌, ℕ, ◌<◌, Bool, true, false, Option, Some, None, [], sym, ap, subst, ◌∙◌, arith, inl, inr, set, length, length-set, get_or-set_same, get_or-set_other, bit_and}
+use Rattle.std.specs.Prelude.{is_none}
+use Rattle.std.specs.Int.{trailing_zeros, w128}
+use Rattle.std.proofs.lemmas.Bool.{cases_eq, false_from_ne_true, both_ways, or_cases}
+use Rattle.shogi_core.specs.declared.moves.Move.TheVariants.{Board, Drop}
+use Rattle.shogi_core.specs.declared.piece.Color.{Color}
+use Rattle.shogi_core.specs.declared.piece.Kind.{Kind}
+use Rattle.shogi_core.specs.declared.piece.Piece.{Piece}
+use Rattle.shogi_core.specs.Attack.{is_attacked, is_sniper}
+use Rattle.shogi_core.specs.Bits.{has_bit}
+use Rattle.shogi_core.specs.Cell.{is_piece_of, is_king, is_slider, is_sliding_role, HasNoOtherKing}
+use Rattle.shogi_core.specs.Lines.{are_aligned}
+use Rattle.shogi_core.specs.Movement.{Cells, piece_at, reaches, cell_reaches, has_step, has_slide, slides, for_side}
+use Rattle.shogi_core.specs.Pieces.{opponent_of}
+use Rattle.shogi_core.specs.Position.{Shogi, HandCounts}
+use Rattle.shogi_core.specs.Validity.{IsValid}
+use Rattle.shogi_core.proofs.BitLaws.{has_bit-none}
+use Rattle.shogi_core.proofs.LineBits.{lowest_set}
+use Rattle.shogi_core.proofs.SeenLaws.{slides_role, sniper_bits}
+use Rattle.shogi_core.proofs.Uncovered.{attacked_was_but}
+use Rattle.shogi_moves.specs.After.{after, cells_after, piece_moved, dropped}
+use Rattle.shogi_moves.specs.Escapes.{IsEscape, AreEscapes, HasOpenEscape}
+use Rattle.shogi_replies.specs.Escapes.{HasNoSniper}
+use Rattle.shogi_moves.specs.Legal.{is_legal}
+use Rattle.shogi_moves.specs.LegalMoves.{legal_codes}
+use Rattle.shogi_moves.proofs.CheckInfoLaws.{look, other_side, own_some, is_piece_of-piece_moved, dropped_of}
+use Rattle.shogi_moves.proofs.EscapeLaws.{escape_legal, king_reach, crowned}
+use Rattle.shogi_replies.proofs.EscapeLaws.{escaped_covered}
+use Rattle.shogi_moves.proofs.KingLaws.{king_own, unreached}
+use Rattle.shogi_moves.proofs.MovedPieces.{opponent_twice}
+use Rattle.shogi_replies.proofs.ReplyLaws.{legal_own}
+
+-- ---- the king goes away
+
+pub no_sniper_on : (cells : Cells) (side : Color) (square own sliders line : ℕ) → ((a : ℕ) → a < 81 → has_bit own a ≡ is_piece_of side (piece_at cells a)) → ((a : ℕ) → a < 81 → has_bit sliders a ≡ is_slider (piece_at cells a)) → ((a : ℕ) → a < 81 → has_bit line a ≡ are_aligned square a)
+    → bit_and (bit_and own sliders) line ≡ 0 → HasNoSniper cells side square
+no_sniper_on cells side square own sliders line o s l none a ha =
+    sym (sniper_bits cells side square own sliders line a (o a ha) (s a ha) (l a ha)) ∙ (ap (λ (m : ℕ). has_bit m a) none ∙ has_bit-none a)
+
+-- a king of the other side stands where no piece of the mover's does
+king_off : (p : Shogi) (from k : ℕ) → is_piece_of p.side (piece_at p.cells from) ≡ true → is_king (opponent_of p.side) (piece_at p.cells k) ≡ true → k ≢ from
+king_off p from k own crown at =
+    both_ways (is_piece_of (opponent_of p.side) (piece_at p.cells from)) (other_side p.side (piece_at p.cells from) own)
+    (subst (λ (x : ℕ). is_piece_of (opponent_of p.side) (piece_at p.cells x) ≡ true) at (king_own (opponent_of p.side) (piece_at p.cells k) crown))
+
+-- a piece that does not slide reaches by its steps alone
+stepping : (piece : Piece) (to n : ℕ) → is_sliding_role piece.role ≡ false → has_step piece to n ≡ false → (cells : Cells) → cell_reaches cells (Some piece) to n ≡ false
+stepping piece to n still short cells = false_from_ne_true (cell_reaches cells (Some piece) to n) (λ r. elim (or_cases (has_step piece to n) (has_slide cells piece to n) r) [
+  | inl step ↦ both_ways (has_step piece to n) short step
+  | inr slide ↦ both_ways (is_sliding_role piece.role) still (slides_role piece.role (λ o. slides cells (for_side piece.color o) to n) slide)
+])
+
+-- what moves does not slide on, and no piece of its side slides from the lines of the square that it leaves
+pub covered_board : (p : Shogi) (from to steps : ℕ) (promote : Bool) (piece : Piece) → IsValid p → from < 81 → to < 81 → is_legal p (Board from to promote) ≡ true
+    → piece_moved promote (piece_at p.cells from) ≡ Some piece → is_sliding_role piece.role ≡ false → HasNoSniper p.cells p.side from
+    → ((n : ℕ) → n < 81 → has_bit steps n ≡ has_step piece to n) → HasOpenEscape p steps to → legal_codes (after p (Board from to promote)) ≢ []
+covered_board p from to steps promote piece v hf ht legal moved still none bits h =
+    let own : is_piece_of p.side (piece_at p.cells from) ≡ true = legal_own p from to promote legal in
+    escaped_covered p (cells_after p.cells p.side (Board from to promote)) (after p (Board from to promote)).hands (λ x. x ≡ from) to (piece_moved promote (piece_at p.cells from)) v.cells_fit
+    (length-set (set p.cells from None) to (piece_moved promote (piece_at p.cells from)) ∙ (length-set p.cells from None ∙ v.cells_fit))
+    (is_piece_of-piece_moved p.side promote (piece_at p.cells from) ∙ own)
+    (look p.cells p.side from to (piece_moved promote (piece_at p.cells from)) v.cells_fit hf ht)
+    h.king_on h.end h.on_board.0 h.on_board.1 h.king (λ at. king_off p from h.king_on own h.king at)
+    h.elsewhere h.escape still_there
+    (ap (λ (cell : Option Piece). cell_reaches (set (cells_after p.cells p.side (Board from to promote)) h.king_on None) cell to h.end) moved
+    ∙ stepping piece to h.end still (sym (bits h.end h.on_board.1) ∙ h.open_end) (set (cells_after p.cells p.side (Board from to promote)) h.king_on None))
+    (λ x at. (omega (arith, at, hf), subst (λ (y : ℕ). is_slider (piece_at (cells_after p.cells p.side (Board from to promote)) y) ≡ false) (sym at) left))
+    (λ x a at ha. subst (λ (y : ℕ). is_sniper p.cells p.side y a ≡ false) (sym at) (none a ha))
+  where
+    still_there : is_slider (piece_moved promote (piece_at p.cells from)) ≡ false
+    still_there = ap is_slider moved ∙ still
+
+    left : is_slider (piece_at (cells_after p.cells p.side (Board from to promote)) from) ≡ false
+    left = elim (cases_eq from to) [
+      | inl same ↦ ap is_slider (ap (piece_at (cells_after p.cells p.side (Board from to promote))) same ∙ get_or-set_same (set p.cells from None) to (piece_moved promote (piece_at p.cells from)) None (omega (arith, length-set p.cells from None, v.cells_fit))) ∙ still_there
+      | inr off ↦ ap is_slider (get_or-set_other (set p.cells from None) to from (piece_moved promote (piece_at p.cells from)) None off ∙ get_or-set_same p.cells from None None (omega (arith, v.cells_fit)))
+    ]
+
+-- ---- the king takes
+
+module _ (cells : Cells) (side : Color) (k to : ℕ) (v : Option Piece) (len : length cells ≡ 81) (hk : k < 81) (ht : to < 81) (crown : is_king side (piece_at cells k) ≡ true) (lone : HasNoOtherKing cells side k) (reached : reaches cells k to ≡ true)
+    (foe : is_piece_of (opponent_of side) v ≡ true) (safe : is_attacked (set cells k None) (opponent_of side) to ≡ false) where
+  apart : k ≢ to
+  apart same = both_ways (reaches cells k to) (subst (λ (y : ℕ). reaches cells k y ≡ false) same (unreached cells k hk)) reached
+
+  at_end : piece_at (set cells to v) to ≡ v
+  at_end = get_or-set_same cells to v None (omega (arith, len))
+
+  at_end_lifted : piece_at (set (set cells to v) k None) to ≡ v
+  at_end_lifted = get_or-set_other (set cells to v) k to None None (λ same. apart (sym same)) ∙ at_end
+
+  there : piece_at (set cells to v) k ≡ piece_at cells k
+  there = get_or-set_other cells to k v None apart
+
+  same_lifted : (x : ℕ) → x ≢ to → piece_at (set (set cells to v) k None) x ≡ piece_at (set cells k None) x
+  same_lifted x off = elim (cases_eq x k) [
+    | inl here ↦ (ap (piece_at (set (set cells to v) k None)) here ∙ get_or-set_same (set cells to v) k None None (omega (arith, length-set cells to v, len))) ∙ sym (ap (piece_at (set cells k None)) here ∙ get_or-set_same cells k None None (omega (arith, len)))
+    | inr other ↦ get_or-set_other (set cells to v) k x None None other ∙ (get_or-set_other cells to x v None off ∙ sym (get_or-set_other cells k x None None other))
+  ]
+
+  not_own : is_piece_of side v ≡ false
+  not_own = ap (λ (color : Color). is_piece_of color v) (sym (opponent_twice side)) ∙ other_side (opponent_of side) v foe
+
+  -- what comes to stand on the square attacks it not, and opens no line to it
+  safe_there : is_attacked (set (set cells to v) k None) (opponent_of side) to ≡ false
+  safe_there =
+      attacked_was_but (set cells k None) (set (set cells to v) k None) (λ x. ⊥)
+      (λ x f. elim (cases_eq x to) [
+        | inl at ↦ absurd (both_ways (is_none v) (own_some (opponent_of side) v foe) (ap is_none (sym (ap (piece_at (set (set cells to v) k None)) at ∙ at_end_lifted)) ∙ f))
+        | inr off ↦ inl (ap is_none (sym (same_lifted x off)) ∙ f)
+      ])
+      (opponent_of side) to
+      (λ a own. elim (cases_eq a to) [
+        | inl at ↦ inr (subst (λ (y : ℕ). reaches (set (set cells to v) k None) y to ≡ false) (sym at) (unreached (set (set cells to v) k None) to ht))
+        | inr off ↦ inl (sym (same_lifted a off))
+      ])
+      (λ x left. absurd left)
+      safe
+
+  still_lone : (x : ℕ) → x < 81 → x ≢ k → is_king side (piece_at (set cells to v) x) ≡ false
+  still_lone x h other = elim (cases_eq x to) [
+    | inl at ↦ ap (is_king side) (ap (piece_at (set cells to v)) at ∙ at_end) ∙ crowned side v not_own
+    | inr off ↦ ap (is_king side) (get_or-set_other cells to x v None off) ∙ lone x h other
+  ]
+
+  still_reached : reaches (set cells to v) k to ≡ true
+  unfolding reaches
+  still_reached = ap (λ (x : Option Piece). cell_reaches (set cells to v) x k to) there ∙ king_reach cells (set cells to v) side (piece_at cells k) k to crown reached
+
+  pub takes : (hands : HandCounts) → legal_codes (record { cells = set cells to v; hands = hands; side = side }) ≢ []
+  takes hands = escape_legal (record { cells = set cells to v; hands = hands; side = side }) k to (length-set cells to v ∙ len) hk ht (ap (is_king side) there ∙ crown)
+      (record { step = record { lone = still_lone; reached = still_reached; open_end = ap (is_piece_of side) at_end ∙ not_own }; safe = safe_there })
+
+-- the king takes what was dropped on a square to which it may go
+pub taken_drop : (p : Shogi) (kind : Kind) (escapes kings to : ℕ) → IsValid p → to < 81 → AreEscapes p escapes → kings < 2 ^ 81 → ((n : ℕ) → n < 81 → has_bit kings n ≡ is_king (opponent_of p.side) (piece_at p.cells n)) → kings ≢ 0 → has_bit escapes to ≡ true
+    → legal_codes (after p (Drop kind to)) ≢ []
+taken_drop p kind escapes kings to v ht h fits bits some among =
+    let low = lowest_set kings some fits in
+    let crown : is_king (opponent_of p.side) (piece_at p.cells (trailing_zeros w128 kings)) ≡ true = sym (bits (trailing_zeros w128 kings) low.0) ∙ low.1 in
+    let way : IsEscape p.cells (opponent_of p.side) (trailing_zeros w128 kings) to = h.escapes (trailing_zeros w128 kings) to low.0 crown ht among in
+    takes p.cells (opponent_of p.side) (trailing_zeros w128 kings) to (dropped p.side kind) v.cells_fit low.0 ht crown way.step.lone way.step.reached
+    (ap (λ (color : Color). is_piece_of color (dropped p.side kind)) (opponent_twice p.side) ∙ dropped_of p.side kind) way.safe (after p (Drop kind to)).hands
+
+-- the king takes what moved next to it, where no other piece of the mover's attacks the square
+pub taken_board : (p : Shogi) (from k to : ℕ) (promote : Bool) → IsValid p → from < 81 → k < 81 → to < 81 → is_legal p (Board from to promote) ≡ true → is_king (opponent_of p.side) (piece_at p.cells k) ≡ true → HasNoOtherKing p.cells (opponent_of p.side) k
+    → reaches p.cells k to ≡ true → is_attacked (set (set p.cells from None) k None) p.side to ≡ false → legal_codes (after p (Board from to promote)) ≢ []
+unfolding reaches
+taken_board p from k to promote v hf hk ht legal crown lone reached safe =
+    takes (set p.cells from None) (opponent_of p.side) k to (piece_moved promote (piece_at p.cells from)) (length-set p.cells from None ∙ v.cells_fit) hk ht
+    (ap (is_king (opponent_of p.side)) king_stays ∙ crown) alone reached_still
+    (ap (λ (color : Color). is_piece_of color (piece_moved promote (piece_at p.cells from))) (opponent_twice p.side) ∙ (is_piece_of-piece_moved p.side promote (piece_at p.cells from) ∙ own))
+    (ap (λ (color : Color). is_attacked (set (set p.cells from None) k None) color to) (opponent_twice p.side) ∙ safe)
+    (after p (Board from to promote)).hands
+  where
+    own : is_piece_of p.side (piece_at p.cells from) ≡ true
+    own = legal_own p from to promote legal
+
+    king_stays : piece_at (set p.cells from None) k ≡ piece_at p.cells k
+    king_stays = get_or-set_other p.cells from k None None (king_off p from k own crown)
+
+    alone : HasNoOtherKing (set p.cells from None) (opponent_of p.side) k
+    alone x h other = elim (cases_eq x from) [
+      | inl at ↦ ap (is_king (opponent_of p.side)) (ap (piece_at (set p.cells from None)) at ∙ get_or-set_same p.cells from None None (omega (arith, v.cells_fit)))
+      | inr off ↦ ap (is_king (opponent_of p.side)) (get_or-set_other p.cells from x None None off) ∙ lone x h other
+    ]
+
+    reached_still : reaches (set p.cells from None) k to ≡ true
+    reached_still = ap (λ (x : Option Piece). cell_reaches (set p.cells from None) x k to) king_stays ∙ king_reach p.cells (set p.cells from None) (opponent_of p.side) (piece_at p.cells k) k to crown reached

@@ -1,0 +1,227 @@
+-- Moves that are passed in a row.
+use Rattle.std.proofs.Common.{◌≡◌, ◌≢◌, ℕ, zero, suc, ◌+◌, ◌-◌, ◌*◌, ◌/◌, ◌%◌, ◌^◌, ◌<◌, ◌≤◌, List, [], ◌∷◌, ◌⊎◌, Bool, true, false, bit_and, bit_or, length, inl, inr, sym, ap, ◌∙◌, arith, subst, not, Some}
+use Rattle.std.specs.Prelude.{◌&&◌, ◌==◌}
+use Rattle.std.proofs.lemmas.Nat.{and_le_l}
+use Rattle.std.proofs.lemmas.Bool.{cases_Bool, both_ways, and_parts, and_from, ne_eqb, or_parts, true_from_ne_false, false_from_ne_true}
+use Rattle.shogi_core.specs.declared.moves.TheConstants.{MOVE_CODE_COUNT, FIRST_DROP, SQUARE_CODES}
+use Rattle.shogi_core.specs.declared.moves.Move.TheVariants.{Board, Drop}
+use Rattle.shogi_core.specs.declared.piece.Kind.{Kind}
+use Rattle.shogi_core.specs.Bits.{has_bit}
+use Rattle.shogi_core.specs.Cell.{is_piece_of}
+use Rattle.shogi_core.specs.Codes.{move_of, code_of}
+use Rattle.shogi_core.specs.Movement.{piece_at}
+use Rattle.shogi_core.specs.Pieces.{kind_number}
+use Rattle.shogi_core.specs.Position.{Shogi}
+use Rattle.shogi_core.proofs.BitLaws.{has_bit-and, has_bit-or, has_bit-none}
+use Rattle.shogi_core.proofs.LineBits.{has_bit-not}
+use Rattle.shogi_core.proofs.CodesBack.{move_of-board, move_of-drop}
+use Rattle.shogi_core.proofs.Faults.{number_below}
+use Rattle.shogi_moves.specs.After.{after, after_code}
+use Rattle.shogi_moves.specs.Legal.{is_legal, is_legal_code}
+use Rattle.shogi_core.specs.Zones.{may_promote}
+use Rattle.shogi_moves.specs.LegalMoves.{legal_codes}
+use Rattle.shogi_moves.specs.Captures.{is_matching}
+use Rattle.shogi_moves.specs.declared.destinations.Destinations.{Destinations}
+use Rattle.shogi_replies.specs.Replies.{HasCertainMoves, IsAnswered, is_reached}
+use Rattle.shogi_moves.specs.Sweeps.{matching_from, KeepsBoard, KeepsDrop}
+use Rattle.shogi_replies.specs.Passes.{IsCertainMove, IsCertainDrop, IsPassed, IsPassedTo}
+use Rattle.shogi_moves.proofs.CaptureLaws.{HasMatchingOn, skip_one, matching_found}
+use Rattle.shogi_moves.proofs.DestinationLaws.{matching_board}
+use Rattle.shogi_moves.proofs.LegalLaws.{is_legal_code_of, after_code_of}
+use Rattle.shogi_moves.proofs.SweepLaws.{at_code}
+
+-- none is passed
+pub passed_none : (fact : ℕ → Type 0) (codes left : List ℕ) → codes ≡ left → IsPassed fact codes left
+passed_none fact [] left e = e
+passed_none fact (c ∷ codes) left e = inl e
+
+-- first some are passed, then others
+pub passed_on : (fact : ℕ → Type 0) (codes middle left : List ℕ) → IsPassed fact codes middle → IsPassed fact middle left → IsPassed fact codes left
+passed_on fact [] middle left h k = subst (λ (xs : List ℕ). IsPassed fact xs left) (sym h) k
+passed_on fact (c ∷ codes) middle left h k = elim h [
+  | inl same ↦ subst (λ (xs : List ℕ). IsPassed fact xs left) (sym same) k
+  | inr more ↦ inr (more.0, passed_on fact codes middle left more.1 k)
+]
+
+-- one more is passed before them
+passed_first : (fact : ℕ → Type 0) (codes : List ℕ) (c : ℕ) (rest left : List ℕ) → codes ≡ c ∷ rest → fact c → IsPassed fact rest left → IsPassed fact codes left
+passed_first fact codes c rest left e f h = subst (λ (xs : List ℕ). IsPassed fact xs left) (sym e) (inr (f, h))
+
+-- all moves of the kind from a code up to another are passed
+pub passed_range : (p : Shogi) (capture : Bool) (fact : ℕ → Type 0) (n code : ℕ) → code + n ≤ MOVE_CODE_COUNT → ((c : ℕ) → code ≤ c → c < code + n → is_matching p capture c ≡ true → fact c) → IsPassed fact (matching_from p capture code) (matching_from p capture (code + n))
+passed_range p capture fact zero code fits all = passed_none fact _ _ (ap (matching_from p capture) (omega arith))
+passed_range p capture fact (suc n) code fits all =
+    let rest : IsPassed fact (matching_from p capture (code + 1)) (matching_from p capture (code + 1 + n)) = passed_range p capture fact n (code + 1) (omega arith) (λ c above below. all c (omega arith) (omega arith)) in
+    let left : IsPassed fact (matching_from p capture (code + 1)) (matching_from p capture (code + suc n)) = subst (λ (x : ℕ). IsPassed fact (matching_from p capture (code + 1)) (matching_from p capture x)) (omega arith) rest in
+    elim (cases_Bool (is_matching p capture code)) [
+      | inl here ↦ passed_first fact (matching_from p capture code) code (matching_from p capture (code + 1)) _ (matching_found p capture code (omega arith) here) (all code (omega arith) (omega arith) here) left
+      | inr other ↦ subst (λ (xs : List ℕ). IsPassed fact xs (matching_from p capture (code + suc n))) (sym (skip_one p capture code (omega arith) other)) left
+    ]
+
+pub passed_to : (p : Shogi) (capture : Bool) (fact : ℕ → Type 0) (code next : ℕ) → code ≤ next → next ≤ MOVE_CODE_COUNT → ((c : ℕ) → code ≤ c → c < next → is_matching p capture c ≡ true → fact c) → IsPassed fact (matching_from p capture code) (matching_from p capture next)
+passed_to p capture fact code next up fits all =
+    let there : code + (next - code) ≡ next = omega arith in
+    subst (λ (x : ℕ). IsPassed fact (matching_from p capture code) (matching_from p capture x)) there (passed_range p capture fact (next - code) code (omega arith) (λ c above below. all c above (omega arith)))
+
+-- ---- the destinations of a piece
+
+-- a matching move of the piece is one of its destinations, promoting or not
+destination_of : (p : Shogi) (capture : Bool) (from code plain promoting c : ℕ) → KeepsBoard p capture from code plain promoting → code ≤ c → c < from * SQUARE_CODES + SQUARE_CODES → is_matching p capture c ≡ true
+    → ((c ≡ code_of (Board from (c / 2 % 81) false)) × (has_bit plain (c / 2 % 81) ≡ true)) ⊎ ((c ≡ code_of (Board from (c / 2 % 81) true)) × (has_bit promoting (c / 2 % 81) ≡ true))
+destination_of p capture from code plain promoting c k up below matching =
+    let low : from * SQUARE_CODES ≤ code = k.low in
+    elim (at_code from c (omega arith) below) [
+      | inl at ↦ inl (at, true_from_ne_false (has_bit plain (c / 2 % 81)) (λ out. both_ways (is_matching p capture c) (ap (is_matching p capture) at ∙ k.plains.clear (c / 2 % 81) (omega arith) out (omega arith)) matching))
+      | inr at ↦ inr (at, true_from_ne_false (has_bit promoting (c / 2 % 81)) (λ out. both_ways (is_matching p capture c) (ap (is_matching p capture) at ∙ k.promotings.clear (c / 2 % 81) (omega arith) out (omega arith)) matching))
+    ]
+
+-- a matching move on the board that is answered, without promotion and with it
+certain_move : (p : Shogi) (capture : Bool) (among : Destinations) (first c from n : ℕ) → from < 81 → n < 81 → first ≤ c → c ≡ code_of (Board from n false) → is_matching p capture c ≡ true → has_bit among.plain n ≡ true → IsAnswered p (Board from n false) → IsCertainMove p capture among first c
+certain_move p capture among first c from n hf hn above at matching set answered =
+    let back : move_of (code_of (Board from n false)) ≡ Some (Board from n false) = move_of-board from n false hf hn in
+    let legal : is_legal p (Board from n false) ≡ true = sym (is_legal_code_of p c (Board from n false) (ap move_of at ∙ back)) ∙ (and_parts _ _ matching).0 in
+    let made : after_code p c ≡ after p (Board from n false) = ap (after_code p) at ∙ after_code_of p (Board from n false) back in
+    record {
+      above = above;
+      on_board = omega (arith, at);
+      plain = λ even. subst (λ (k : ℕ). has_bit among.plain k ≡ true) (omega (arith, at)) set;
+      promoting = λ odd. absurd (omega (arith, at, odd));
+      matching = matching;
+      replied = subst (λ (q : Shogi). legal_codes q ≢ []) (sym made) (answered legal);
+    }
+
+certain_promotion : (p : Shogi) (capture : Bool) (among : Destinations) (first c from n : ℕ) → from < 81 → n < 81 → first ≤ c → c ≡ code_of (Board from n true) → is_matching p capture c ≡ true → has_bit among.promoting n ≡ true → IsAnswered p (Board from n true) → IsCertainMove p capture among first c
+certain_promotion p capture among first c from n hf hn above at matching set answered =
+    let back : move_of (code_of (Board from n true)) ≡ Some (Board from n true) = move_of-board from n true hf hn in
+    let legal : is_legal p (Board from n true) ≡ true = sym (is_legal_code_of p c (Board from n true) (ap move_of at ∙ back)) ∙ (and_parts _ _ matching).0 in
+    let made : after_code p c ≡ after p (Board from n true) = ap (after_code p) at ∙ after_code_of p (Board from n true) back in
+    record {
+      above = above;
+      on_board = omega (arith, at);
+      plain = λ even. absurd (omega (arith, at, even));
+      promoting = λ odd. subst (λ (k : ℕ). has_bit among.promoting k ≡ true) (omega (arith, at)) set;
+      matching = matching;
+      replied = subst (λ (q : Shogi). legal_codes q ≢ []) (sym made) (answered legal);
+    }
+
+-- those below another code are passed, where each of them is answered
+pub destinations_passed : (p : Shogi) (capture : Bool) (among : Destinations) (from code next plain promoting first : ℕ) → from < 81 → KeepsBoard p capture from code plain promoting → first ≤ code → code ≤ next → next ≤ from * SQUARE_CODES + SQUARE_CODES
+    → ((n : ℕ) → n < 81 → has_bit plain n ≡ true → code_of (Board from n false) < next → (has_bit among.plain n ≡ true) × IsAnswered p (Board from n false))
+    → ((n : ℕ) → n < 81 → has_bit promoting n ≡ true → code_of (Board from n true) < next → (has_bit among.promoting n ≡ true) × IsAnswered p (Board from n true))
+    → IsPassed (IsCertainMove p capture among first) (matching_from p capture code) (matching_from p capture next)
+destinations_passed p capture among from code next plain promoting first hf k low up high plainly by_promotion =
+    passed_to p capture (IsCertainMove p capture among first) code next up (omega arith) (λ c above below matching.
+    let hn : c / 2 % 81 < 81 = omega arith in
+    elim (destination_of p capture from code plain promoting c k above (omega arith) matching) [
+      | inl at ↦ (let it : _ = plainly (c / 2 % 81) hn at.1 (omega (arith, at.0)) in certain_move p capture among first c from (c / 2 % 81) hf hn (omega arith) at.0 matching it.0 it.1)
+      | inr at ↦ (let it : _ = by_promotion (c / 2 % 81) hn at.1 (omega (arith, at.0)) in certain_promotion p capture among first c from (c / 2 % 81) hf hn (omega arith) at.0 matching it.0 it.1)
+    ])
+
+-- what is not uncertain is certain
+pub not_uncertain : (destinations certain n : ℕ) → certain < 2 ^ 128 → n < 81 → has_bit (bit_and destinations (2 ^ 128 - 1 - certain)) n ≡ false → has_bit destinations n ≡ true → has_bit certain n ≡ true
+not_uncertain destinations certain n fits h out set = true_from_ne_false (has_bit certain n) (λ out_of.
+    both_ways (has_bit (bit_and destinations (2 ^ 128 - 1 - certain)) n) out (has_bit-and destinations (2 ^ 128 - 1 - certain) n ∙ and_from _ _ set (has_bit-not certain n fits (omega arith) ∙ ap not out_of)))
+
+pub none_uncertain : (destinations certain n : ℕ) → certain < 2 ^ 128 → n < 81 → bit_and destinations (2 ^ 128 - 1 - certain) ≡ 0 → has_bit destinations n ≡ true → has_bit certain n ≡ true
+none_uncertain destinations certain n fits h none set = not_uncertain destinations certain n fits h (ap (λ m. has_bit m n) none ∙ has_bit-none n) set
+
+-- the first that is uncertain is an end
+pub uncertain_destination : (destinations certain to : ℕ) → has_bit (bit_and destinations (2 ^ 128 - 1 - certain)) to ≡ true → has_bit destinations to ≡ true
+uncertain_destination destinations certain to set = (and_parts (has_bit destinations to) _ (sym (has_bit-and destinations (2 ^ 128 - 1 - certain) to) ∙ set)).0
+
+-- and those below it are certain
+pub below_uncertain : (destinations certain to n : ℕ) → certain < 2 ^ 128 → n < 81 → n < to → ((i : ℕ) → has_bit (bit_and destinations (2 ^ 128 - 1 - certain)) i ≡ true → to ≤ i) → has_bit destinations n ≡ true → has_bit certain n ≡ true
+below_uncertain destinations certain to n fits h down least set = not_uncertain destinations certain n fits h (false_from_ne_true (has_bit (bit_and destinations (2 ^ 128 - 1 - certain)) n) (λ there. (let le : to ≤ n = least n there in omega arith))) set
+
+-- what is uncertain of neither sort is among the squares and certain
+pub of_both : (plain among certain promoting among_promoting promoted n : ℕ) → among < 2 ^ 128 → among_promoting < 2 ^ 128 → n < 81
+    → has_bit (bit_or (bit_and plain (2 ^ 128 - 1 - bit_and among certain)) (bit_and promoting (2 ^ 128 - 1 - bit_and among_promoting promoted))) n ≡ false
+    → (has_bit plain n ≡ true → (has_bit among n ≡ true) × (has_bit certain n ≡ true)) × (has_bit promoting n ≡ true → (has_bit among_promoting n ≡ true) × (has_bit promoted n ≡ true))
+of_both plain among certain promoting among_promoting promoted n f g h none =
+    let parts : _ = or_parts _ _ (sym (has_bit-or (bit_and plain (2 ^ 128 - 1 - bit_and among certain)) (bit_and promoting (2 ^ 128 - 1 - bit_and among_promoting promoted)) n) ∙ none) in (
+      λ set. and_parts _ _ (sym (has_bit-and among certain n) ∙ not_uncertain plain (bit_and among certain) n (omega (arith, f, and_le_l among certain)) h parts.0 set),
+      λ set. and_parts _ _ (sym (has_bit-and among_promoting promoted n) ∙ not_uncertain promoting (bit_and among_promoting promoted) n (omega (arith, g, and_le_l among_promoting promoted)) h parts.1 set),
+    )
+
+-- ---- all moves of a piece
+
+-- a matching move ends where the piece reaches, and by promotion only where it may promote
+plain_among : (p : Shogi) (capture : Bool) (from n : ℕ) → length p.cells ≡ 81 → from < 81 → n < 81 → is_piece_of p.side (piece_at p.cells from) ≡ true → is_matching p capture (code_of (Board from n false)) ≡ true → is_reached p capture from n ≡ true
+plain_among p capture from n len hf hn own matching = (and_parts _ _ (and_parts _ _ (sym (matching_board p capture false from n len hf hn own) ∙ matching)).0).0
+
+promoting_among : (p : Shogi) (capture : Bool) (from n : ℕ) → length p.cells ≡ 81 → from < 81 → n < 81 → is_piece_of p.side (piece_at p.cells from) ≡ true → is_matching p capture (code_of (Board from n true)) ≡ true
+    → (is_reached p capture from n ≡ true) × (may_promote (piece_at p.cells from) from n ≡ true)
+promoting_among p capture from n len hf hn own matching =
+    let parts = and_parts _ _ (sym (matching_board p capture true from n len hf hn own) ∙ matching) in
+    ((and_parts _ _ parts.0).0, (and_parts _ _ parts.1).0)
+
+-- no move of a piece but certain ones
+pub certain_moves : (p : Shogi) (capture : Bool) (among : Destinations) (from ends zone certain promoted : ℕ) → ((n : ℕ) → n < 81 → has_bit ends n ≡ is_reached p capture from n) → ((n : ℕ) → n < 81 → has_bit zone n ≡ may_promote (piece_at p.cells from) from n)
+    → among.plain < 2 ^ 128 → among.promoting < 2 ^ 128 → ((n : ℕ) → n < 81 → has_bit certain n ≡ true → IsAnswered p (Board from n false)) → ((n : ℕ) → n < 81 → has_bit promoted n ≡ true → IsAnswered p (Board from n true))
+    → bit_or (bit_and ends (2 ^ 128 - 1 - bit_and among.plain certain)) (bit_and (bit_and ends zone) (2 ^ 128 - 1 - bit_and among.promoting promoted)) ≡ 0 → HasCertainMoves p capture among from
+certain_moves p capture among from ends zone certain promoted ends_bits zone_bits f g answered by_promotion none =
+    let at : (n : ℕ) → n < 81 → _ = λ n h. of_both ends among.plain certain (bit_and ends zone) among.promoting promoted n f g h (ap (λ m. has_bit m n) none ∙ has_bit-none n) in
+    record {
+      plain = λ n h e. (let it : _ = (at n h).0 (ends_bits n h ∙ e) in (it.0, answered n h it.1));
+      promoting = λ n h e may. (let it : _ = (at n h).1 (has_bit-and ends zone n ∙ and_from _ _ (ends_bits n h ∙ e) (zone_bits n h ∙ may)) in (it.0, by_promotion n h it.1));
+    }
+
+-- the moves of all pieces below a square are passed, where each of them is certain
+row_passed : (p : Shogi) (capture : Bool) (among : Destinations) (first code moving end : ℕ) → length p.cells ≡ 81 → end ≤ 81 → HasMatchingOn p capture code moving
+    → ((n : ℕ) → n < 81 → has_bit moving n ≡ true → is_piece_of p.side (piece_at p.cells n) ≡ true) → ((n : ℕ) → n < 81 → n < end → has_bit moving n ≡ true → HasCertainMoves p capture among n)
+    → first ≤ code → code ≤ end * SQUARE_CODES → IsPassed (IsCertainMove p capture among first) (matching_from p capture code) (matching_from p capture (end * SQUARE_CODES))
+row_passed p capture among first code moving end len he on mine certain low up =
+    passed_to p capture (IsCertainMove p capture among first) code (end * SQUARE_CODES) up (omega arith) (λ c above below matching.
+    let hf : c / SQUARE_CODES < 81 = omega arith in
+    let hn : c / 2 % 81 < 81 = omega arith in
+    let here : has_bit moving (c / SQUARE_CODES) ≡ true = on.on c above (omega arith) matching in
+    let own : is_piece_of p.side (piece_at p.cells (c / SQUARE_CODES)) ≡ true = mine (c / SQUARE_CODES) hf here in
+    let moves : HasCertainMoves p capture among (c / SQUARE_CODES) = certain (c / SQUARE_CODES) hf (omega arith) here in
+    elim (at_code (c / SQUARE_CODES) c (omega arith) (omega arith)) [
+      | inl at ↦ (
+          let it : _ = moves.plain (c / 2 % 81) hn (plain_among p capture (c / SQUARE_CODES) (c / 2 % 81) len hf hn own (ap (is_matching p capture) (sym at) ∙ matching)) in
+          certain_move p capture among first c (c / SQUARE_CODES) (c / 2 % 81) hf hn (omega arith) at matching it.0 it.1)
+      | inr at ↦ (
+          let there : (is_reached p capture (c / SQUARE_CODES) (c / 2 % 81) ≡ true) × (may_promote (piece_at p.cells (c / SQUARE_CODES)) (c / SQUARE_CODES) (c / 2 % 81) ≡ true) = promoting_among p capture (c / SQUARE_CODES) (c / 2 % 81) len hf hn own (ap (is_matching p capture) (sym at) ∙ matching) in
+          let it : _ = moves.promoting (c / 2 % 81) hn there.0 there.1 in
+          certain_promotion p capture among first c (c / SQUARE_CODES) (c / 2 % 81) hf hn (omega arith) at matching it.0 it.1)
+    ])
+
+pub row_passed_to : (p : Shogi) (capture : Bool) (among : Destinations) (code moving end : ℕ) → length p.cells ≡ 81 → end ≤ 81 → HasMatchingOn p capture code moving
+    → ((n : ℕ) → n < 81 → has_bit moving n ≡ true → is_piece_of p.side (piece_at p.cells n) ≡ true) → ((n : ℕ) → n < 81 → n < end → has_bit moving n ≡ true → HasCertainMoves p capture among n)
+    → code ≤ end * SQUARE_CODES → IsPassedTo p capture among code (end * SQUARE_CODES)
+row_passed_to p capture among code moving end len he on mine certain up = record {
+  up = up;
+  passed = λ first low. row_passed p capture among first code moving end len he on mine certain low up;
+}
+
+-- one that is no longer left and is not the one that went was not left before
+pub out_before : (left less from n : ℕ) → ((i : ℕ) → has_bit less i ≡ (has_bit left i && not (i == from))) → has_bit less n ≡ false → n ≢ from → has_bit left n ≡ false
+out_before left less from n bits out other = false_from_ne_true (has_bit left n) (λ set. both_ways (has_bit less n) out (bits n ∙ and_from _ _ set (ap not (ne_eqb n from other))))
+
+-- ---- the drops of a kind
+
+drop_of : (p : Shogi) (kind : Kind) (code destinations c : ℕ) → KeepsDrop p kind code destinations → code ≤ c → c < FIRST_DROP + 81 + kind_number kind * 81 → is_matching p false c ≡ true → (c ≡ code_of (Drop kind (c - FIRST_DROP - kind_number kind * 81))) × (has_bit destinations (c - FIRST_DROP - kind_number kind * 81) ≡ true)
+drop_of p kind code destinations c k up below matching =
+    let low : FIRST_DROP + kind_number kind * 81 ≤ code = k.low in
+    let at : c ≡ code_of (Drop kind (c - FIRST_DROP - kind_number kind * 81)) = omega arith in
+    (at, true_from_ne_false (has_bit destinations (c - FIRST_DROP - kind_number kind * 81)) (λ out. both_ways (is_matching p false c) (ap (is_matching p false) at ∙ k.drops.clear (c - FIRST_DROP - kind_number kind * 81) (omega arith) out (omega arith)) matching))
+
+pub drops_passed : (p : Shogi) (kind : Kind) (code next destinations : ℕ) → KeepsDrop p kind code destinations → code ≤ next → next ≤ FIRST_DROP + 81 + kind_number kind * 81
+    → ((n : ℕ) → n < 81 → has_bit destinations n ≡ true → code_of (Drop kind n) < next → IsAnswered p (Drop kind n)) → IsPassed (IsCertainDrop p kind code) (matching_from p false code) (matching_from p false next)
+drops_passed p kind code next destinations k up high answered =
+    let seven : kind_number kind < 7 = number_below kind in
+    let low : FIRST_DROP + kind_number kind * 81 ≤ code = k.low in
+    passed_to p false (IsCertainDrop p kind code) code next up (omega arith) (λ c above below matching.
+    let ht : c - FIRST_DROP - kind_number kind * 81 < 81 = omega arith in
+    let at : (c ≡ code_of (Drop kind (c - FIRST_DROP - kind_number kind * 81))) × (has_bit destinations (c - FIRST_DROP - kind_number kind * 81) ≡ true) = drop_of p kind code destinations c k above (omega arith) matching in
+    let back : move_of c ≡ Some (Drop kind (c - FIRST_DROP - kind_number kind * 81)) = ap move_of at.0 ∙ move_of-drop kind (c - FIRST_DROP - kind_number kind * 81) ht in
+    let legal : is_legal_code p c ≡ true = (and_parts _ _ matching).0 in
+    let made : after_code p c ≡ after p (Drop kind (c - FIRST_DROP - kind_number kind * 81)) = ap (after_code p) at.0 ∙ after_code_of p (Drop kind (c - FIRST_DROP - kind_number kind * 81)) (move_of-drop kind (c - FIRST_DROP - kind_number kind * 81) ht) in
+    record {
+      above = above;
+      low = omega arith;
+      high = omega arith;
+      legal = legal;
+      replied = subst (λ (q : Shogi). legal_codes q ≢ []) (sym made) (answered (c - FIRST_DROP - kind_number kind * 81) ht at.1 (omega (arith, at.0)) (sym (is_legal_code_of p c (Drop kind (c - FIRST_DROP - kind_number kind * 81)) back) ∙ legal));
+    })

@@ -1,0 +1,556 @@
+-- After most moves the other side has a legal move.
+use Rattle.std.proofs.Common.{◌≡◌, ◌≢◌, ℕ, ◌+◌, ◌-◌, ◌*◌, ◌%◌, ◌^◌, ◌<◌, ◌⊎◌, Bool, true, false, not, Option, Some, None, [], refl, sym, ap, subst, ◌∙◌, arith, inl, inr, set, length, length-set, get_or-set_same, get_or-set_other, bit_and, bit_or, cond}
+use Rattle.std.specs.Prelude.{◌==◌, ◌&&◌, ◌||◌, nat_lt, is_none}
+use Rattle.std.specs.Int.{trailing_zeros, w128}
+use Rattle.std.proofs.lemmas.Bool.{cases_eq, false_from_ne_true, both_ways, and_parts, and_from, or_left, or_right, or_cases, or_parts, not-true, not_from_false, ne_eqb, eq-eqb}
+use Rattle.shogi_core.specs.declared.moves.Move.{Move}
+use Rattle.shogi_core.specs.declared.moves.Move.TheVariants.{Board, Drop}
+use Rattle.shogi_core.specs.declared.piece.Color.{Color}
+use Rattle.shogi_core.specs.declared.piece.Color.TheVariants.{Black, White}
+use Rattle.shogi_core.specs.declared.piece.Kind.{Kind}
+use Rattle.shogi_core.specs.declared.piece.Kind.TheVariants as kinds
+use Rattle.shogi_core.specs.declared.piece.Piece.{Piece}
+use Rattle.shogi_core.specs.declared.piece.Role.{Role}
+use Rattle.shogi_core.specs.declared.piece.Role.TheVariants.{King, Pawn, Lance, Knight, Silver, Gold, Bishop, Rook, PromotedPawn, PromotedLance, PromotedKnight, PromotedSilver, Horse, Dragon}
+use Rattle.shogi_core.specs.Attack.{in_check, is_sniping, cell_steps}
+use Rattle.shogi_core.specs.Below.{some_below}
+use Rattle.shogi_core.specs.Bits.{has_bit}
+use Rattle.shogi_core.specs.Cell.{is_piece_of, is_king, is_immobile, is_slider, is_sliding_role}
+use Rattle.shogi_core.specs.Codes.{code_of}
+use Rattle.shogi_core.specs.Lines.{are_aligned, are_lined, is_jump, is_line_to_king, is_lined_with_king, is_seen}
+use Rattle.shogi_core.specs.Movement.{Cells, piece_at, reaches, cell_reaches, has_step, has_slide}
+use Rattle.shogi_core.specs.Pieces.{opponent_of, kind_of, kind_number, promoted}
+use Rattle.shogi_core.specs.Position.{Shogi, HandCounts, count_in_hand, place_of}
+use Rattle.shogi_core.specs.Validity.{IsValid}
+use Rattle.shogi_core.proofs.Below.{some_below_no, some_below_not, some_below_at}
+use Rattle.shogi_core.proofs.BitLaws.{has_bit-and, has_bit-or, has_bit-none}
+use Rattle.shogi_core.proofs.CodesBack.{move_of-board}
+use Rattle.shogi_core.proofs.Uncovered.{some_below_which, reach_was}
+use Rattle.shogi_core.proofs.Faults.{faultless_from, number_below}
+use Rattle.shogi_core.proofs.LineBits.{lowest_set, and_fits, has_bit-not}
+use Rattle.shogi_core.proofs.Replies.{no_check}
+use Rattle.shogi_core.proofs.SeenLaws.{lined_back, lined_aligned, cell_seen, slide_seen}
+use Rattle.shogi_core.proofs.Snipers.{left_unpinned, stands_still}
+use Rattle.shogi_moves.specs.After.{after, cells_after, piece_moved, dropped, with_captured, with_one_more}
+use Rattle.shogi_moves.specs.Legal.{is_legal, is_safe, is_pseudo_legal_board_move, is_pseudo_legal_drop, is_pawn_kind, is_mated_by_drop}
+use Rattle.shogi_moves.specs.LegalMoves.{legal_codes}
+use Rattle.shogi_replies.specs.Replies.{holds_free, is_line_of_king, is_aligned_with_king, is_open_step, is_spare, is_way, Sees, Aligns, IsReplies, IsHarmless, IsHarmlessFrom, StaysCovered, UncoversNothing, UncoversWithin, IsOpen, IsAnswered}
+use Rattle.shogi_moves.proofs.DropChecks as drops
+use Rattle.shogi_moves.proofs.DestinationLaws.{legal_board, legal_drop, drop_matching, still}
+use Rattle.shogi_moves.proofs.ExistenceLaws.{some_legal}
+use Rattle.shogi_moves.proofs.EscapeLaws.{another, crowned}
+use Rattle.shogi_moves.proofs.CheckInfoLaws.{look, other_side, own_some, is_piece_of-piece_moved, dropped_of, quiet_board, quiet_drop}
+use Rattle.shogi_moves.proofs.LegalLaws.{is_legal_code_of}
+
+-- a kind that has a move from every square, and is no pawn
+abbrev pub is_free_kind : Kind → Bool
+is_free_kind kinds.Silver = true
+is_free_kind kinds.Gold = true
+is_free_kind kinds.Bishop = true
+is_free_kind kinds.Rook = true
+is_free_kind _ = false
+
+-- ---- what a king sees
+
+pub sees_first : (cells : Cells) (side : Color) (m : ℕ) → ((n : ℕ) → n < 81 → has_bit m n ≡ is_king side (piece_at cells n)) → Sees cells side m m
+sees_first cells side m bits = record {
+  kings = λ n h e. bits n h ∙ e;
+  squares = λ k n h l e out seen. absurd (both_ways (has_bit m k) out (bits k h ∙ e));
+}
+
+pub sees_more : (cells : Cells) (side : Color) (left next sight king squares : ℕ) → Sees cells side left sight → ((i : ℕ) → has_bit next i ≡ (has_bit left i && not (i == king)))
+    → ((n : ℕ) → n < 81 → has_bit squares n ≡ is_seen cells king n) → Sees cells side next (bit_or sight squares)
+sees_more cells side left next sight king squares h bits seen = record {
+  kings = λ n l e. has_bit-or sight squares n ∙ or_left _ _ (h.kings n l e);
+  squares = λ k n l r e out on. has_bit-or sight squares n ∙ elim (cases_eq k king) [
+    | inl same ↦ or_right (has_bit sight n) (has_bit squares n) (seen n r ∙ subst (λ (j : ℕ). is_seen cells j n ≡ true) same on)
+    | inr other ↦ or_left _ _ (h.squares k n l r e (false_from_ne_true (has_bit left k) (λ set. both_ways (has_bit next k) out (bits k ∙ and_from _ _ set (not_from_false _ (ne_eqb k king other))))) on)
+  ];
+}
+
+pub ruleset seeing = (sees_first)
+
+-- ---- the lines of a king
+
+pub aligns_first : (cells : Cells) (side : Color) (m : ℕ) → ((n : ℕ) → n < 81 → has_bit m n ≡ is_king side (piece_at cells n)) → Aligns cells side m m
+aligns_first cells side m bits = record {
+  kings = λ n h e. bits n h ∙ e;
+  squares = λ k n h l e out seen. absurd (both_ways (has_bit m k) out (bits k h ∙ e));
+}
+
+pub aligns_more : (cells : Cells) (side : Color) (left next lines king squares : ℕ) → Aligns cells side left lines → ((i : ℕ) → has_bit next i ≡ (has_bit left i && not (i == king)))
+    → ((n : ℕ) → n < 81 → has_bit squares n ≡ are_aligned king n) → Aligns cells side next (bit_or lines squares)
+aligns_more cells side left next lines king squares h bits on_line = record {
+  kings = λ n l e. has_bit-or lines squares n ∙ or_left _ _ (h.kings n l e);
+  squares = λ k n l r e out on. has_bit-or lines squares n ∙ elim (cases_eq k king) [
+    | inl same ↦ or_right (has_bit lines n) (has_bit squares n) (on_line n r ∙ subst (λ (j : ℕ). are_aligned j n ≡ true) same on)
+    | inr other ↦ or_left _ _ (h.squares k n l r e (false_from_ne_true (has_bit left k) (λ set. both_ways (has_bit next k) out (bits k ∙ and_from _ _ set (not_from_false _ (ne_eqb k king other))))) on)
+  ];
+}
+
+pub ruleset aligning = (aligns_first)
+
+-- a square on no line with a king
+pub unaligned : (cells : Cells) (side : Color) (lines n : ℕ) → Aligns cells side 0 lines → n < 81 → has_bit lines n ≡ false → is_aligned_with_king cells side n ≡ false
+unfolding is_aligned_with_king
+unaligned cells side lines n s h out = some_below_no 81 (is_line_of_king cells side n) (λ k l. false_from_ne_true (is_line_of_king cells side n k) (λ e. (
+    let parts : (is_king side (piece_at cells k) ≡ true) × (are_aligned k n ≡ true) = and_parts _ _ e in
+    both_ways (has_bit lines n) out (s.squares k n l h parts.0 (has_bit-none k) parts.1))))
+
+-- is on no open line with it, wherever the other pieces stand
+pub stays_unlined : (old new : Cells) (color : Color) (a : ℕ) → a < 81 → ((k : ℕ) → is_king color (piece_at new k) ≡ true → piece_at old k ≡ piece_at new k) → is_aligned_with_king old color a ≡ false → is_lined_with_king new color a ≡ false
+unfolding is_lined_with_king is_aligned_with_king
+stays_unlined old new color a h kings off = some_below_no 81 (is_line_to_king new color a) (λ k l. false_from_ne_true (is_line_to_king new color a k) (λ e. (
+    let parts : (is_king color (piece_at new k) ≡ true) × (are_lined new a k ≡ true) = and_parts _ _ e in
+    both_ways (is_line_of_king old color a k) (some_below_not 81 (is_line_of_king old color a) k off l)
+    (and_from _ _ (ap (is_king color) (kings k parts.0) ∙ parts.0) (lined_back [] a k h (lined_aligned new a k parts.1))))))
+
+-- ---- snipers on open lines with a square
+
+pub covered : (cells : Cells) (side : Color) (n open_lines snipers lines : ℕ) → ((a : ℕ) → a < 81 → has_bit open_lines a ≡ are_lined cells n a) → ((a : ℕ) → a < 81 → has_bit snipers a ≡ is_sniping cells side a) → ((a : ℕ) → a < 81 → has_bit lines a ≡ are_aligned n a) → bit_and open_lines (bit_and snipers lines) ≡ 0 → StaysCovered cells side n
+covered cells side n open_lines snipers lines o s l none a h sniping = false_from_ne_true (are_lined cells n a) (λ lined. both_ways (has_bit (bit_and open_lines (bit_and snipers lines)) a) (ap (λ m. has_bit m a) none ∙ has_bit-none a)
+    (has_bit-and open_lines (bit_and snipers lines) a ∙ and_from _ _ (o a h ∙ lined) (has_bit-and snipers lines a ∙ and_from _ _ (s a h ∙ sniping) (l a h ∙ lined_aligned cells n a lined))))
+
+-- the snipers that are on a line with the square, whatever stands between
+pub covered_by_none : (cells : Cells) (side : Color) (n snipers lines : ℕ) → ((a : ℕ) → a < 81 → has_bit snipers a ≡ is_sniping cells side a) → ((a : ℕ) → a < 81 → has_bit lines a ≡ are_aligned n a) → bit_and snipers lines ≡ 0 → StaysCovered cells side n
+covered_by_none cells side n snipers lines s l none a h sniping = false_from_ne_true (are_lined cells n a) (λ lined. both_ways (has_bit (bit_and snipers lines) a) (ap (λ m. has_bit m a) none ∙ has_bit-none a)
+    (has_bit-and snipers lines a ∙ and_from _ _ (s a h ∙ sniping) (l a h ∙ lined_aligned cells n a lined)))
+
+still_moved : (promote : Bool) (cell : Option Piece) → is_slider cell ≡ false → is_slider (piece_moved promote cell) ≡ false
+still_moved promote None e = refl
+still_moved promote (Some piece) e = go promote piece.role e
+  where
+    go : (promote : Bool) (role : Role) → is_sliding_role role ≡ false → is_sliding_role (cond promote (promoted role) role) ≡ false
+    go false role e = e
+    go true King e = refl
+    go true Pawn e = refl
+    go true Lance e = refl
+    go true Knight e = refl
+    go true Silver e = refl
+    go true Gold e = refl
+    go true Bishop e = absurd (cc)
+    go true Rook e = absurd (cc)
+    go true PromotedPawn e = refl
+    go true PromotedLance e = refl
+    go true PromotedKnight e = refl
+    go true PromotedSilver e = refl
+    go true Horse e = absurd (cc)
+    go true Dragon e = absurd (cc)
+
+-- off the sight of the kings: on no open line with one
+unlined : (cells : Cells) (side : Color) (sight n : ℕ) → Sees cells side 0 sight → n < 81 → has_bit sight n ≡ false → is_lined_with_king cells side n ≡ false
+unfolding is_lined_with_king is_seen
+unlined cells side sight n s h out = some_below_no 81 (is_line_to_king cells side n) (λ k l. false_from_ne_true (is_line_to_king cells side n k) (λ e. (
+    let parts : (is_king side (piece_at cells k) ≡ true) × (are_lined cells n k ≡ true) = and_parts _ _ e in
+    both_ways (has_bit sight n) out (s.squares k n l h parts.0 (has_bit-none k) (or_left (are_lined cells k n) (is_jump k n) (lined_back cells n k h parts.1))))))
+
+unseen : (cells : Cells) (side : Color) (sight n : ℕ) → Sees cells side 0 sight → n < 81 → has_bit sight n ≡ false → (k : ℕ) → k < 81 → is_king side (piece_at cells k) ≡ true → is_seen cells k n ≡ false
+unseen cells side sight n s h out k l king = false_from_ne_true (is_seen cells k n) (λ e. both_ways (has_bit sight n) out (s.squares k n l h king (has_bit-none k) e))
+
+-- off the sight of the kings nothing does
+pub harmless_far : (cells : Cells) (side : Color) (sight : ℕ) (cell : Option Piece) (to : ℕ) → Sees cells side 0 sight → to < 81 → has_bit sight to ≡ false → IsHarmless cells side cell to
+harmless_far cells side sight cell to s h out k l king = false_from_ne_true (cell_reaches cells cell to k) (λ r. both_ways (is_seen cells k to) (unseen cells side sight to s h out k l king) (cell_seen cells cell to k h r))
+
+-- nor does a piece that reaches none of them
+pub harmless_here : (cells : Cells) (side : Color) (piece : Piece) (to squares kings : ℕ) → ((n : ℕ) → n < 81 → has_bit squares n ≡ cell_reaches cells (Some piece) to n) → ((n : ℕ) → n < 81 → has_bit kings n ≡ is_king side (piece_at cells n)) → bit_and squares kings ≡ 0 → IsHarmless cells side (Some piece) to
+harmless_here cells side piece to squares kings s b none k l king =
+    false_from_ne_true (cell_reaches cells (Some piece) to k) (λ e. both_ways (has_bit (bit_and squares kings) k) (ap (λ m. has_bit m k) none ∙ has_bit-none k) (has_bit-and squares kings k ∙ and_from _ _ (s k l ∙ e) (b k l ∙ king)))
+
+-- ---- a piece that may be dropped on any empty square
+
+held_kind : (hands : HandCounts) (side : Color) → holds_free hands side ≡ true → (kind : Kind) × (is_free_kind kind ≡ true) × (nat_lt 0 (count_in_hand hands side kind) ≡ true)
+held_kind hands side e = elim (or_cases (nat_lt 0 (count_in_hand hands side kinds.Silver) || nat_lt 0 (count_in_hand hands side kinds.Gold) || nat_lt 0 (count_in_hand hands side kinds.Bishop)) (nat_lt 0 (count_in_hand hands side kinds.Rook)) e) [
+  | inl three ↦ elim (or_cases (nat_lt 0 (count_in_hand hands side kinds.Silver) || nat_lt 0 (count_in_hand hands side kinds.Gold)) (nat_lt 0 (count_in_hand hands side kinds.Bishop)) three) [
+    | inl two ↦ elim (or_cases (nat_lt 0 (count_in_hand hands side kinds.Silver)) (nat_lt 0 (count_in_hand hands side kinds.Gold)) two) [
+      | inl one ↦ (kinds.Silver, refl, one)
+      | inr one ↦ (kinds.Gold, refl, one)
+    ]
+    | inr one ↦ (kinds.Bishop, refl, one)
+  ]
+  | inr one ↦ (kinds.Rook, refl, one)
+]
+
+free_plain : (kind : Kind) → is_free_kind kind ≡ true → is_pawn_kind kind ≡ false
+free_plain kinds.Pawn e = absurd (cc)
+free_plain kinds.Lance e = absurd (cc)
+free_plain kinds.Knight e = absurd (cc)
+free_plain _ e = refl
+
+free_lands : (color : Color) (kind : Kind) (a : ℕ) → is_free_kind kind ≡ true → is_immobile a (dropped color kind) ≡ false
+free_lands color kinds.Pawn a e = absurd (cc)
+free_lands color kinds.Lance a e = absurd (cc)
+free_lands color kinds.Knight a e = absurd (cc)
+free_lands Black _ a e = refl
+free_lands White _ a e = refl
+
+free_drop : (cells : Cells) (hands : HandCounts) (color : Color) (kind : Kind) (a : ℕ) → length cells ≡ 81 → a < 81 → is_free_kind kind ≡ true → nat_lt 0 (count_in_hand hands color kind) ≡ true → is_none (piece_at cells a) ≡ true → in_check cells color ≡ false → legal_codes (record { cells = cells; hands = hands; side = color }) ≢ []
+unfolding is_safe
+free_drop cells hands color kind a len ha kin held empty shut =
+    let q : Shogi = record { cells = cells; hands = hands; side = color } in
+    let plain : is_pawn_kind kind ≡ false = free_plain kind kin in
+    let lands : is_immobile a (dropped color kind) ≡ false = free_lands color kind a kin in
+    let allowed : is_pseudo_legal_drop cells hands color kind a ≡ true = rw (held, empty, lands, plain) refl in
+    let safe : is_safe (record { cells = cells; hands = hands; side = color }) (Drop kind a) ≡ true = and_from _ _ allowed (ap not (quiet_drop cells color kind a len ha shut)) in
+    some_legal q (code_of (Drop kind a)) (sym (drop_matching q kind a ha) ∙ (legal_drop q kind a ha ∙ and_from _ _ safe (ap (λ b. not (b && is_mated_by_drop (after q (Drop kind a)))) plain)))
+
+-- a move changes nothing in the other side's hand
+other_place : (side : Color) (kind other : Kind) → place_of (opponent_of side) other ≢ place_of side kind
+other_place Black kind other e = let low : kind_number kind < 7 = number_below kind in absurd (omega (arith, low, e))
+other_place White kind other e = let low : kind_number other < 7 = number_below other in absurd (omega (arith, low, e))
+
+other_hand : (hands : HandCounts) (side : Color) (kind other : Kind) (n : ℕ) → count_in_hand (set hands (place_of side kind) n) (opponent_of side) other ≡ count_in_hand hands (opponent_of side) other
+other_hand hands side kind other n = get_or-set_other hands (place_of side kind) (place_of (opponent_of side) other) n 0 (other_place side kind other)
+
+other_captured : (hands : HandCounts) (side : Color) (cell : Option Piece) (other : Kind) → count_in_hand (with_captured hands side cell) (opponent_of side) other ≡ count_in_hand hands (opponent_of side) other
+other_captured hands side None other = refl
+other_captured hands side (Some piece) other = go (kind_of piece.role)
+  where
+    go : (kind : Option Kind) → count_in_hand (with_one_more hands side kind) (opponent_of side) other ≡ count_in_hand hands (opponent_of side) other
+    go None = refl
+    go (Some kind) = other_hand hands side kind other (count_in_hand hands side kind + 1)
+
+pub other_counts : (p : Shogi) (m : Move) (other : Kind) → count_in_hand (after p m).hands (opponent_of p.side) other ≡ count_in_hand p.hands (opponent_of p.side) other
+other_counts p (Board from to promote) other = other_captured p.hands p.side (piece_at p.cells to) other
+other_counts p (Drop kind to) other = other_hand p.hands p.side kind other (count_in_hand p.hands p.side kind - 1)
+
+still_holds : (p : Shogi) (m : Move) → holds_free p.hands (opponent_of p.side) ≡ true → holds_free (after p m).hands (opponent_of p.side) ≡ true
+still_holds p m e = rw (other_counts p m kinds.Silver, other_counts p m kinds.Gold, other_counts p m kinds.Bishop, other_counts p m kinds.Rook) e
+
+way_after : (p : Shogi) (m : Move) (a : ℕ) → is_way p (opponent_of p.side) a ≡ true → (is_spare p.cells (opponent_of p.side) a ≡ true) ⊎ ((is_none (piece_at p.cells a) ≡ true) × (holds_free (after p m).hands (opponent_of p.side) ≡ true))
+way_after p m a e = elim (or_cases (is_spare p.cells (opponent_of p.side) a) (is_none (piece_at p.cells a) && holds_free p.hands (opponent_of p.side)) e) [
+  | inl spare ↦ inl spare
+  | inr held ↦ (let parts = and_parts (is_none (piece_at p.cells a)) (holds_free p.hands (opponent_of p.side)) held in inr (parts.0, still_holds p m parts.1))
+]
+
+-- ---- a spare piece has a legal move
+
+steps_reach : (cells : Cells) (cell : Option Piece) (a t : ℕ) → cell_steps cell a t ≡ true → cell_reaches cells cell a t ≡ true
+steps_reach cells None a t e = absurd (cc)
+steps_reach cells (Some piece) a t e = or_left (has_step piece a t) (has_slide cells piece a t) e
+
+pub right_step : (new : Cells) (color : Color) (a t : ℕ) → is_piece_of color (piece_at new a) ≡ true → is_piece_of color (piece_at new t) ≡ false → reaches new a t ≡ true → is_immobile t (piece_at new a) ≡ false → is_pseudo_legal_board_move new color a t false ≡ true
+right_step new color a t own free reach alive = rw (own, free, reach, still t (piece_at new a), alive) refl
+
+-- what a move that ends on a square leaves to the other side: its pieces and its kings stand, it is in no check, and each empty square but that one is still empty
+pub record LeavesStanding (old new : Cells) (color : Color) (to : ℕ) : Type 0 where
+  pub len : length new ≡ 81
+  pub kings : (k : ℕ) → is_king color (piece_at new k) ≡ true → piece_at old k ≡ piece_at new k
+  pub shut : in_check new color ≡ false
+  pub stays : (a : ℕ) → is_piece_of color (piece_at old a) ≡ true → a ≢ to → piece_at new a ≡ piece_at old a
+  pub clear : (t : ℕ) → is_piece_of color (piece_at old t) ≡ false → is_piece_of color (piece_at new t) ≡ false
+  pub empty : (x : ℕ) → is_none (piece_at old x) ≡ true → x ≢ to → is_none (piece_at new x) ≡ true
+
+module _ (old new : Cells) (hands : HandCounts) (color : Color) where
+  replied_step : (to : ℕ) → LeavesStanding old new color to → (a : ℕ) → a < 81 → a ≢ to → is_spare old color a ≡ true → legal_codes (record { cells = new; hands = hands; side = color }) ≢ []
+  unfolding is_spare reaches
+  replied_step to k a ha other e =
+      let q : Shogi = record { cells = new; hands = hands; side = color } in
+      let four = and_parts (is_piece_of color (piece_at old a) && not (is_king color (piece_at old a)) && not (is_aligned_with_king old color a)) (some_below 81 (is_open_step old color a)) e in
+      let three = and_parts (is_piece_of color (piece_at old a) && not (is_king color (piece_at old a))) (not (is_aligned_with_king old color a)) four.0 in
+      let two : (is_piece_of color (piece_at old a) ≡ true) × (not (is_king color (piece_at old a)) ≡ true) = and_parts (is_piece_of color (piece_at old a)) (not (is_king color (piece_at old a))) three.0 in
+      let which = some_below_which 81 (is_open_step old color a) four.1 in
+      let t = which.0 in
+      let step = and_parts (cell_steps (piece_at old a) a which.0 && not (is_piece_of color (piece_at old which.0))) (not (is_immobile which.0 (piece_at old a))) which.2 in
+      let walk : (cell_steps (piece_at old a) a which.0 ≡ true) × (not (is_piece_of color (piece_at old which.0)) ≡ true) = and_parts (cell_steps (piece_at old a) a which.0) (not (is_piece_of color (piece_at old which.0))) step.0 in
+      let same : piece_at new a ≡ piece_at old a = k.stays a two.0 other in
+      let own : is_piece_of color (piece_at new a) ≡ true = ap (is_piece_of color) same ∙ two.0 in
+      let open_end : is_piece_of color (piece_at new which.0) ≡ false = k.clear which.0 (not-true _ walk.1) in
+      let reach : reaches new a which.0 ≡ true = ap (λ cell. cell_reaches new cell a which.0) same ∙ steps_reach new (piece_at old a) a which.0 walk.0 in
+      let alive : is_immobile which.0 (piece_at new a) ≡ false = ap (is_immobile which.0) same ∙ not-true _ step.1 in
+      let plain : is_king color (piece_at new a) ≡ false = ap (is_king color) same ∙ not-true _ two.1 in
+      let off : is_lined_with_king new color a ≡ false = stays_unlined old new color a ha k.kings (not-true _ three.1) in
+      some_legal q (code_of (Board a which.0 false))
+      (is_legal_code_of q (code_of (Board a which.0 false)) (Board a which.0 false) (move_of-board a which.0 false ha which.1)
+      ∙ (legal_board q a which.0 false
+      ∙ and_from _ _ (right_step new color a which.0 own open_end reach alive) (ap not (quiet_board new color a which.0 false k.len ha which.1 own plain off k.shut))))
+
+  replied : (to : ℕ) → LeavesStanding old new color to → (a : ℕ) → a < 81 → a ≢ to → (is_spare old color a ≡ true) ⊎ ((is_none (piece_at old a) ≡ true) × (holds_free hands color ≡ true)) → legal_codes (record { cells = new; hands = hands; side = color }) ≢ []
+  replied to k a ha other way = elim way [
+    | inl e ↦ replied_step to k a ha other e
+    | inr e ↦ (
+        let held = held_kind hands color e.1 in
+        free_drop new hands color held.0 a k.len ha held.1 held.2 (k.empty a e.0 other) k.shut)
+  ]
+
+-- ---- what moves attacks no king from where it ends, once it is gone
+
+harmless_still : (cells : Cells) (side : Color) (from : ℕ) (promote : Bool) (n : ℕ) → is_slider (piece_at cells from) ≡ false → IsHarmless cells side (piece_moved promote (piece_at cells from)) n → IsHarmlessFrom cells side from (piece_moved promote (piece_at cells from)) n
+harmless_still cells side from promote n still off k l e = stands_still cells (set cells from None) (piece_moved promote (piece_at cells from)) n k (still_moved promote (piece_at cells from) still) (off k l e)
+
+harmless_unaligned : (cells : Cells) (side : Color) (lines from : ℕ) (cell : Option Piece) (n : ℕ) → Aligns cells side 0 lines → n < 81 → has_bit lines n ≡ false → IsHarmless cells side cell n → IsHarmlessFrom cells side from cell n
+harmless_unaligned cells side lines from None n a h out off k l e = refl
+harmless_unaligned cells side lines from (Some piece) n a h out off k l e = false_from_ne_true (cell_reaches (set cells from None) (Some piece) n k) (λ r. elim (or_cases (has_step piece n k) (has_slide (set cells from None) piece n k) r) [
+  | inl step ↦ both_ways (cell_reaches cells (Some piece) n k) (off k l e) (or_left (has_step piece n k) (has_slide cells piece n k) step)
+  | inr slide ↦ both_ways (has_bit lines n) out (a.squares k n l h e (has_bit-none k) (lined_aligned (set cells from None) k n (slide_seen (set cells from None) piece n k h slide)))
+])
+
+pub uncovers_anywhere : (cells : Cells) (side : Color) (sight from mask : ℕ) → ((n : ℕ) → n < 81 → has_bit mask n ≡ true) → UncoversWithin cells side sight from mask
+uncovers_anywhere cells side sight from mask all promote n h off far = absurd (both_ways (has_bit mask n) off (all n h))
+
+pub uncovers_by_lines : (cells : Cells) (side : Color) (sight from lines : ℕ) → StaysCovered cells side from → Aligns cells side 0 lines → UncoversWithin cells side sight from lines
+uncovers_by_lines cells side sight from lines covered a promote n h off far = inr (harmless_unaligned cells side lines from (piece_moved promote (piece_at cells from)) n a h off far, covered)
+
+-- ---- after a board move, and after a drop
+
+pub left_board : (p : Shogi) (from to : ℕ) (promote : Bool) (sight spare : ℕ) → IsValid p → IsReplies p sight spare → from < 81 → to < 81 → is_piece_of p.side (piece_at p.cells from) ≡ true → UncoversNothing p.cells (opponent_of p.side) sight from (piece_moved promote (piece_at p.cells from)) to → IsHarmless p.cells (opponent_of p.side) (piece_moved promote (piece_at p.cells from)) to
+    → LeavesStanding p.cells (cells_after p.cells p.side (Board from to promote)) (opponent_of p.side) to
+left_board p from to promote sight spare v r hf ht own out off = record {
+  len = length-set (set p.cells from None) to w ∙ (length-set p.cells from None ∙ v.cells_fit);
+  kings = crown;
+  shut = shut out;
+  stays = λ x e ne. elim (see x) [
+    | inl there ↦ absurd (ne there.0)
+    | inr rest ↦ elim rest [
+      | inl here ↦ absurd (both_ways (is_piece_of (opponent_of p.side) (piece_at p.cells from)) (other_side p.side (piece_at p.cells from) own) (subst (λ (y : ℕ). is_piece_of (opponent_of p.side) (piece_at p.cells y) ≡ true) here.0 e))
+      | inr same ↦ same
+    ]
+  ];
+  clear = λ t e. elim (see t) [
+    | inl there ↦ ap (is_piece_of (opponent_of p.side)) there.1 ∙ other_side p.side w mine
+    | inr rest ↦ elim rest [ inl here ↦ ap (is_piece_of (opponent_of p.side)) here.1 | inr same ↦ ap (is_piece_of (opponent_of p.side)) same ∙ e ]
+  ];
+  empty = λ x e ne. elim (see x) [
+    | inl there ↦ absurd (ne there.0)
+    | inr rest ↦ elim rest [ inl here ↦ ap is_none here.1 | inr same ↦ ap is_none same ∙ e ]
+  ];
+}
+  where
+    w : Option Piece
+    w = piece_moved promote (piece_at p.cells from)
+
+    mine : is_piece_of p.side (piece_moved promote (piece_at p.cells from)) ≡ true
+    mine = is_piece_of-piece_moved p.side promote (piece_at p.cells from) ∙ own
+
+    see : (x : ℕ) → ((x ≡ to) × (piece_at (set (set p.cells from None) to (piece_moved promote (piece_at p.cells from))) x ≡ piece_moved promote (piece_at p.cells from))) ⊎ (((x ≡ from) × (piece_at (set (set p.cells from None) to (piece_moved promote (piece_at p.cells from))) x ≡ None)) ⊎ (piece_at (set (set p.cells from None) to (piece_moved promote (piece_at p.cells from))) x ≡ piece_at p.cells x))
+    see x = look p.cells p.side from to (piece_moved promote (piece_at p.cells from)) v.cells_fit hf ht x
+
+    lands : piece_at (set (set p.cells from None) to (piece_moved promote (piece_at p.cells from))) to ≡ piece_moved promote (piece_at p.cells from)
+    lands = get_or-set_same (set p.cells from None) to w None (omega (arith, length-set p.cells from None, v.cells_fit))
+
+    opened : (x : ℕ) → is_none (piece_at (set (set p.cells from None) to (piece_moved promote (piece_at p.cells from))) x) ≡ true → (is_none (piece_at p.cells x) ≡ true) ⊎ (x ≡ from)
+    opened x e = elim (see x) [
+      | inl there ↦ absurd (both_ways (is_none w) (own_some p.side w mine) (ap is_none (sym there.1) ∙ e))
+      | inr rest ↦ elim rest [ inl here ↦ inr here.0 | inr same ↦ inl (ap is_none (sym same) ∙ e) ]
+    ]
+
+    theirs : (x : ℕ) → is_piece_of (opponent_of (opponent_of p.side)) (piece_at (set (set p.cells from None) to (piece_moved promote (piece_at p.cells from))) x) ≡ true → (piece_at p.cells x ≡ piece_at (set (set p.cells from None) to (piece_moved promote (piece_at p.cells from))) x) ⊎ (x ≡ to)
+    theirs x e = elim (see x) [
+      | inl there ↦ inr there.0
+      | inr rest ↦ elim rest [ inl here ↦ absurd (let clash : false ≡ true = ap (is_piece_of (opponent_of (opponent_of p.side))) (sym here.1) ∙ e in cc) | inr same ↦ inl (sym same) ]
+    ]
+
+    crown : (k : ℕ) → is_king (opponent_of p.side) (piece_at (set (set p.cells from None) to (piece_moved promote (piece_at p.cells from))) k) ≡ true → piece_at p.cells k ≡ piece_at (set (set p.cells from None) to (piece_moved promote (piece_at p.cells from))) k
+    crown k e = elim (see k) [
+      | inl there ↦ absurd (both_ways (is_king (opponent_of p.side) w) (crowned (opponent_of p.side) w (other_side p.side w mine)) (ap (is_king (opponent_of p.side)) (sym there.1) ∙ e))
+      | inr rest ↦ elim rest [ inl here ↦ absurd (let clash : false ≡ true = ap (is_king (opponent_of p.side)) (sym here.1) ∙ e in cc) | inr same ↦ sym same ]
+    ]
+
+    stays_none : (x : ℕ) → is_none (piece_at (set (set p.cells from None) to (piece_moved promote (piece_at p.cells from))) x) ≡ true → (is_none (piece_at (set p.cells from None) x) ≡ true) ⊎ ⊥
+    stays_none x e = elim (cases_eq x to) [
+      | inl there ↦ absurd (both_ways (is_none w) (own_some p.side w mine) (ap is_none (sym (ap (piece_at (set (set p.cells from None) to (piece_moved promote (piece_at p.cells from)))) there ∙ lands)) ∙ e))
+      | inr other ↦ inl (ap is_none (sym (get_or-set_other (set p.cells from None) to x w None other)) ∙ e)
+    ]
+
+    shut : UncoversNothing p.cells (opponent_of p.side) sight from (piece_moved promote (piece_at p.cells from)) to → in_check (set (set p.cells from None) to (piece_moved promote (piece_at p.cells from))) (opponent_of p.side) ≡ false
+    shut (inl unseen_from) =
+        no_check p.cells (set (set p.cells from None) to (piece_moved promote (piece_at p.cells from))) (λ x. x ≡ from) opened (opponent_of p.side) to ht theirs crown
+        (λ x left. subst (λ (y : ℕ). is_lined_with_king p.cells (opponent_of p.side) y ≡ false) (sym left) (unlined p.cells (opponent_of p.side) sight from r.sees hf unseen_from))
+        (λ k l e. ap (λ cell. cell_reaches p.cells cell to k) lands ∙ off k l e)
+        (faultless_from p v.no_fault).shut
+    shut (inr still) =
+        left_unpinned p.cells (set (set p.cells from None) to (piece_moved promote (piece_at p.cells from))) from opened (opponent_of p.side) to theirs crown
+        (λ k l e. ap (λ cell. cell_reaches (set (set p.cells from None) to (piece_moved promote (piece_at p.cells from))) cell to k) lands
+        ∙ false_from_ne_true (cell_reaches (set (set p.cells from None) to (piece_moved promote (piece_at p.cells from))) (piece_moved promote (piece_at p.cells from)) to k) (λ r. both_ways (cell_reaches (set p.cells from None) w to k) (still.0 k l e)
+        (reach_was (set p.cells from None) (set (set p.cells from None) to (piece_moved promote (piece_at p.cells from))) (λ x. ⊥) stays_none w to k (λ x left. absurd left) r)))
+        (faultless_from p v.no_fault).shut still.1
+
+pub replied_board : (p : Shogi) (from to : ℕ) (promote : Bool) (sight spare a : ℕ) → IsValid p → IsReplies p sight spare → from < 81 → to < 81 → is_piece_of p.side (piece_at p.cells from) ≡ true → UncoversNothing p.cells (opponent_of p.side) sight from (piece_moved promote (piece_at p.cells from)) to → IsHarmless p.cells (opponent_of p.side) (piece_moved promote (piece_at p.cells from)) to
+    → a < 81 → has_bit spare a ≡ true → a ≢ to → legal_codes (after p (Board from to promote)) ≢ []
+replied_board p from to promote sight spare a v r hf ht own out off ha some other =
+    replied p.cells (cells_after p.cells p.side (Board from to promote)) (after p (Board from to promote)).hands (opponent_of p.side)
+    to (left_board p from to promote sight spare v r hf ht own out off) a ha other (way_after p (Board from to promote) a (r.spares a ha some))
+
+pub left_drop : (p : Shogi) (kind : Kind) (to : ℕ) (sight spare : ℕ) → IsValid p → IsReplies p sight spare → to < 81 → IsHarmless p.cells (opponent_of p.side) (dropped p.side kind) to → LeavesStanding p.cells (cells_after p.cells p.side (Drop kind to)) (opponent_of p.side) to
+left_drop p kind to sight spare v r ht off = record {
+  len = length-set p.cells to (dropped p.side kind) ∙ v.cells_fit;
+  kings = crown;
+  shut = no_check p.cells (set p.cells to (dropped p.side kind)) (λ x. ⊥)
+      (λ x e. elim (see x) [
+        | inl there ↦ absurd (let clash : false ≡ true = ap is_none (sym there.1) ∙ e in cc)
+        | inr same ↦ inl (ap is_none (sym same) ∙ e)
+      ])
+      (opponent_of p.side) to ht
+      (λ x e. elim (see x) [ inl there ↦ inr there.0 | inr same ↦ inl (sym same) ])
+      crown
+      (λ x left. absurd left)
+      (λ k l e. ap (λ cell. cell_reaches p.cells cell to k) (get_or-set_same p.cells to (dropped p.side kind) None (omega (arith, v.cells_fit))) ∙ off k l e)
+      (faultless_from p v.no_fault).shut;
+  stays = λ x e ne. elim (see x) [ inl there ↦ absurd (ne there.0) | inr same ↦ same ];
+  clear = λ t e. elim (see t) [
+    | inl there ↦ ap (is_piece_of (opponent_of p.side)) there.1 ∙ other_side p.side (dropped p.side kind) (dropped_of p.side kind)
+    | inr same ↦ ap (is_piece_of (opponent_of p.side)) same ∙ e
+  ];
+  empty = λ x e ne. elim (see x) [ inl there ↦ absurd (ne there.0) | inr same ↦ ap is_none same ∙ e ];
+}
+  where
+    see : (x : ℕ) → ((x ≡ to) × (piece_at (cells_after p.cells p.side (Drop kind to)) x ≡ dropped p.side kind)) ⊎ (piece_at (cells_after p.cells p.side (Drop kind to)) x ≡ piece_at p.cells x)
+    see x = drops.look p.cells p.side kind to v.cells_fit ht x
+
+    crown : (k : ℕ) → is_king (opponent_of p.side) (piece_at (set p.cells to (dropped p.side kind)) k) ≡ true → piece_at p.cells k ≡ piece_at (set p.cells to (dropped p.side kind)) k
+    crown k e = elim (see k) [
+      | inl there ↦ absurd (both_ways (is_king (opponent_of p.side) (dropped p.side kind)) (drops.no_king p.side kind) (ap (is_king (opponent_of p.side)) (sym there.1) ∙ e))
+      | inr same ↦ sym same
+    ]
+
+pub replied_drop : (p : Shogi) (kind : Kind) (to sight spare a : ℕ) → IsValid p → IsReplies p sight spare → to < 81 → IsHarmless p.cells (opponent_of p.side) (dropped p.side kind) to
+    → a < 81 → has_bit spare a ≡ true → a ≢ to → legal_codes (after p (Drop kind to)) ≢ []
+replied_drop p kind to sight spare a v r ht off ha some other =
+    replied p.cells (cells_after p.cells p.side (Drop kind to)) (after p (Drop kind to)).hands (opponent_of p.side)
+    to (left_drop p kind to sight spare v r ht off) a ha other (way_after p (Drop kind to) a (r.spares a ha some))
+
+-- ---- spare pieces are found one by one
+
+-- what is left and what is kept are pieces of the side off the lines of its kings; what is kept and not left is spare
+pub record IsSifted (cells : Cells) (side : Color) (lines left kept : ℕ) : Type 0 where
+  pub own : (a : ℕ) → a < 81 → has_bit left a ≡ true → (is_piece_of side (piece_at cells a) ≡ true) × (has_bit lines a ≡ false)
+  pub within : (a : ℕ) → has_bit left a ≡ true → has_bit kept a ≡ true
+  pub spare : (a : ℕ) → a < 81 → has_bit kept a ≡ true → (has_bit left a ≡ true) ⊎ (is_spare cells side a ≡ true)
+
+pub sifted_first : (cells : Cells) (side : Color) (lines own : ℕ) → lines < 2 ^ 128 → ((n : ℕ) → n < 81 → has_bit own n ≡ is_piece_of side (piece_at cells n)) → IsSifted cells side lines (bit_and own (2 ^ 128 - 1 - lines)) (bit_and own (2 ^ 128 - 1 - lines))
+sifted_first cells side lines own fits bits = record {
+  own = λ a h e. (
+      let parts : (has_bit own a ≡ true) × (has_bit (2 ^ 128 - 1 - lines) a ≡ true) = and_parts _ _ (sym (has_bit-and own (2 ^ 128 - 1 - lines) a) ∙ e) in
+      (sym (bits a h) ∙ parts.0, not-true _ (sym (has_bit-not lines a fits (omega arith)) ∙ parts.1)));
+  within = λ a e. e;
+  spare = λ a h e. inl e;
+}
+
+spare_if : (cells : Cells) (side : Color) (lines a : ℕ) → Aligns cells side 0 lines → a < 81 → is_piece_of side (piece_at cells a) ≡ true → has_bit lines a ≡ false → some_below 81 (is_open_step cells side a) ≡ true → is_spare cells side a ≡ true
+unfolding is_spare
+spare_if cells side lines a s h own off step =
+    rw (own, unaligned cells side lines a s h off, false_from_ne_true (is_king side (piece_at cells a)) (λ king. both_ways (has_bit lines a) off (s.kings a h king)), step) refl
+
+pub sifted_found : (cells : Cells) (side : Color) (lines left kept next from : ℕ) → Aligns cells side 0 lines → IsSifted cells side lines left kept → from < 81 → has_bit left from ≡ true → some_below 81 (is_open_step cells side from) ≡ true
+    → ((i : ℕ) → has_bit next i ≡ (has_bit left i && not (i == from))) → IsSifted cells side lines next kept
+sifted_found cells side lines left kept next from s f hf here step bits = record {
+  own = λ a h e. f.own a h ((and_parts (has_bit left a) (not (a == from)) (sym (bits a) ∙ e)).0);
+  within = λ a e. f.within a ((and_parts (has_bit left a) (not (a == from)) (sym (bits a) ∙ e)).0);
+  spare = λ a h e. elim (cases_eq a from) [
+    | inl same ↦ inr (let own = f.own from hf here in subst (λ (y : ℕ). is_spare cells side y ≡ true) (sym same) (spare_if cells side lines from s hf own.0 own.1 step))
+    | inr other ↦ elim (f.spare a h e) [
+      | inl still ↦ inl (bits a ∙ and_from _ _ still (not_from_false _ (ne_eqb a from other)))
+      | inr spare ↦ inr spare
+    ]
+  ];
+}
+
+pub sifted_dropped : (cells : Cells) (side : Color) (lines left kept next less from : ℕ) → IsSifted cells side lines left kept → ((i : ℕ) → has_bit next i ≡ (has_bit left i && not (i == from))) → ((i : ℕ) → has_bit less i ≡ (has_bit kept i && not (i == from))) → IsSifted cells side lines next less
+sifted_dropped cells side lines left kept next less from f bits gone = record {
+  own = λ a h e. f.own a h ((and_parts (has_bit left a) (not (a == from)) (sym (bits a) ∙ e)).0);
+  within = λ a e. (let parts = and_parts (has_bit left a) (not (a == from)) (sym (bits a) ∙ e) in gone a ∙ and_from _ _ (f.within a parts.0) parts.1);
+  spare = λ a h e. (
+      let parts = and_parts (has_bit kept a) (not (a == from)) (sym (gone a) ∙ e) in
+      elim (f.spare a h parts.0) [
+        | inl still ↦ inl (bits a ∙ and_from _ _ still parts.1)
+        | inr spare ↦ inr spare
+      ]);
+}
+
+pub sifted_done : (cells : Cells) (side : Color) (lines left kept : ℕ) → left < 2 ^ 128 → IsSifted cells side lines left kept → (a : ℕ) → a < 81 → has_bit (bit_and kept (2 ^ 128 - 1 - left)) a ≡ true → is_spare cells side a ≡ true
+sifted_done cells side lines left kept fits f a h e =
+    let parts : (has_bit kept a ≡ true) × (has_bit (2 ^ 128 - 1 - left) a ≡ true) = and_parts _ _ (sym (has_bit-and kept (2 ^ 128 - 1 - left) a) ∙ e) in
+    elim (f.spare a h parts.0) [
+      | inl still ↦ absurd (both_ways (has_bit left a) (not-true _ (sym (has_bit-not left a fits (omega arith)) ∙ parts.1)) still)
+      | inr spare ↦ spare
+    ]
+
+pub ruleset sifting = (sifted_first, sifted_found, sifted_dropped, sifted_done, and_fits)
+
+-- an end that the step has, as a bit
+pub step_found : (cells : Cells) (side : Color) (piece : Piece) (a steps own dead : ℕ) → piece_at cells a ≡ Some piece → steps < 2 ^ 81 → own < 2 ^ 81 → dead < 2 ^ 81 → ((n : ℕ) → n < 81 → has_bit steps n ≡ has_step piece a n) → ((n : ℕ) → n < 81 → has_bit own n ≡ is_piece_of side (piece_at cells n)) → ((n : ℕ) → n < 81 → has_bit dead n ≡ is_immobile n (piece_at cells a))
+    → bit_and (bit_and steps (2 ^ 128 - 1 - own)) (2 ^ 128 - 1 - dead) ≢ 0 → some_below 81 (is_open_step cells side a) ≡ true
+step_found cells side piece a steps own dead stands sf wf df s o d some =
+    let m : ℕ = bit_and (bit_and steps (2 ^ 128 - 1 - own)) (2 ^ 128 - 1 - dead) in
+    let low = lowest_set (bit_and (bit_and steps (2 ^ 128 - 1 - own)) (2 ^ 128 - 1 - dead)) some (and_fits (bit_and steps (2 ^ 128 - 1 - own)) (2 ^ 128 - 1 - dead) (and_fits steps (2 ^ 128 - 1 - own) sf)) in
+    found (trailing_zeros w128 (bit_and (bit_and steps (2 ^ 128 - 1 - own)) (2 ^ 128 - 1 - dead))) low.0 low.1
+  where
+    found : (t : ℕ) → t < 81 → has_bit (bit_and (bit_and steps (2 ^ 128 - 1 - own)) (2 ^ 128 - 1 - dead)) t ≡ true → some_below 81 (is_open_step cells side a) ≡ true
+    found t h e =
+        let two : (has_bit (bit_and steps (2 ^ 128 - 1 - own)) t ≡ true) × (has_bit (2 ^ 128 - 1 - dead) t ≡ true) = and_parts _ _ (sym (has_bit-and (bit_and steps (2 ^ 128 - 1 - own)) (2 ^ 128 - 1 - dead) t) ∙ e) in
+        let one : (has_bit steps t ≡ true) × (has_bit (2 ^ 128 - 1 - own) t ≡ true) = and_parts _ _ (sym (has_bit-and steps (2 ^ 128 - 1 - own) t) ∙ two.0) in
+        some_below_at 81 (is_open_step cells side a) t h
+        (and_from _ _ (and_from _ _ (ap (λ cell. cell_steps cell a t) stands ∙ (sym (s t h) ∙ one.0))
+        (ap not (sym (o t h)) ∙ (sym (has_bit-not own t (omega arith) (omega arith)) ∙ one.1)))
+        (ap not (sym (d t h)) ∙ (sym (has_bit-not dead t (omega arith) (omega arith)) ∙ two.1)))
+
+pub unknown_sees : (cells : Cells) (side : Color) (all : ℕ) → ((n : ℕ) → n < 81 → has_bit all n ≡ true) → Sees cells side 0 all
+unknown_sees cells side all every = record { kings = λ n h e. every n h; squares = λ k n h l e out seen. every n l }
+
+-- the legal board move is one of one's own piece
+pub legal_own : (p : Shogi) (from to : ℕ) (promote : Bool) → is_legal p (Board from to promote) ≡ true → is_piece_of p.side (piece_at p.cells from) ≡ true
+legal_own p from to promote e =
+    let parts = and_parts _ _ (sym (legal_board p from to promote) ∙ e) in
+    let four = and_parts _ _ parts.0 in
+    let three = and_parts _ _ four.0 in
+    let two = and_parts _ _ three.0 in
+    (and_parts _ _ two.0).0
+
+pub certain_board : (p : Shogi) (from to end : ℕ) (promote : Bool) (sight spare : ℕ) → IsValid p → IsReplies p sight spare → from < 81 → to < 81 → end ≡ to → is_legal p (Board from to promote) ≡ true → UncoversNothing p.cells (opponent_of p.side) sight from (piece_moved promote (piece_at p.cells from)) to → IsHarmless p.cells (opponent_of p.side) (piece_moved promote (piece_at p.cells from)) to
+    → bit_and spare (2 ^ 128 - 1 - 1 * 2 ^ end % 2 ^ 128) ≢ 0 → legal_codes (after p (Board from to promote)) ≢ []
+certain_board p from to end promote sight spare v r hf ht e legal out off some =
+    let a = another spare end r.fits (omega arith) some in
+    replied_board p from to promote sight spare a.0 v r hf ht (legal_own p from to promote legal) out off a.1 a.2 (λ same. a.3 (same ∙ sym e))
+
+pub certain_drop : (p : Shogi) (kind : Kind) (to end sight spare : ℕ) → IsValid p → IsReplies p sight spare → to < 81 → end ≡ to → IsHarmless p.cells (opponent_of p.side) (dropped p.side kind) to
+    → bit_and spare (2 ^ 128 - 1 - 1 * 2 ^ end % 2 ^ 128) ≢ 0 → legal_codes (after p (Drop kind to)) ≢ []
+certain_drop p kind to end sight spare v r ht e off some =
+    let a = another spare end r.fits (omega arith) some in
+    replied_drop p kind to sight spare a.0 v r ht off a.1 a.2 (λ same. a.3 (same ∙ sym e))
+
+-- ---- squares in a row
+
+-- of two squares that give a move one is another
+pub one_of_two : (spare one rest n : ℕ) → spare < 2 ^ 81 → one < 81 → has_bit spare one ≡ true → ((i : ℕ) → has_bit rest i ≡ (has_bit spare i && not (i == one))) → rest ≢ 0 → rest < spare → (a : ℕ) × (a < 81) × (has_bit spare a ≡ true) × (a ≢ n)
+one_of_two spare one rest n fits h set bits some less = elim (cases_eq n one) [
+  | inl same ↦ (
+      let low = lowest_set rest some (omega arith) in
+      let parts : (has_bit spare (trailing_zeros w128 rest) ≡ true) × (not (trailing_zeros w128 rest == one) ≡ true) = and_parts _ _ (sym (bits (trailing_zeros w128 rest)) ∙ low.1) in
+      (trailing_zeros w128 rest, low.0, parts.0, λ e. both_ways _ (ap not (eq-eqb _ one (e ∙ same))) parts.1))
+  | inr other ↦ (one, h, set, λ e. other (sym e))
+]
+
+pub other_than : (spare one n : ℕ) → one < 81 → has_bit spare one ≡ true → not (n == one) ≡ true → (a : ℕ) × (a < 81) × (has_bit spare a ≡ true) × (a ≢ n)
+other_than spare one n h set other = (one, h, set, λ e. both_ways _ (ap not (eq-eqb n one (sym e))) other)
+
+pub unseen_bit : (sight n : ℕ) → sight < 2 ^ 128 → n < 81 → has_bit (2 ^ 128 - 1 - sight) n ≡ true → has_bit sight n ≡ false
+unseen_bit sight n fits h e = false_from_ne_true (has_bit sight n) (λ seen. both_ways (has_bit (2 ^ 128 - 1 - sight) n) (has_bit-not sight n fits (omega arith) ∙ ap not seen) e)
+
+-- a piece that does not promote stays what it is
+pub unmoved : (cell : Option Piece) → piece_moved false cell ≡ cell
+unmoved None = refl
+unmoved (Some piece) = refl
+
+-- some squares of a mask, and others
+pub among_either : (destinations free more n : ℕ) → has_bit (bit_or (bit_and destinations free) more) n ≡ true → ((has_bit destinations n ≡ true) × (has_bit free n ≡ true)) ⊎ (has_bit more n ≡ true)
+among_either destinations free more n e = elim (or_cases (has_bit (bit_and destinations free) n) (has_bit more n) (sym (has_bit-or (bit_and destinations free) more n) ∙ e)) [
+  | inl both ↦ inl (and_parts _ _ (sym (has_bit-and destinations free n) ∙ both))
+  | inr other ↦ inr other
+]
+
+-- what moves to an open square without a check, or is dropped there, is answered
+pub open_far : (p : Shogi) (from n : ℕ) (promote : Bool) (sight closed spare : ℕ) → IsValid p → IsReplies p sight spare → from < 81 → n < 81 → has_bit sight from ≡ false → IsHarmless p.cells (opponent_of p.side) (piece_moved promote (piece_at p.cells from)) n → IsOpen closed spare n → IsAnswered p (Board from n promote)
+open_far p from n promote sight closed spare v r hf hn unseen_from far o = λ legal. replied_board p from n promote sight spare o.way.0 v r hf hn (legal_own p from n promote legal) (inl unseen_from) far o.way.1 o.way.2 o.way.3
+
+-- a piece that does not promote stays what it is
+pub harmless_unmoved : (p : Shogi) (from n : ℕ) → IsHarmless p.cells (opponent_of p.side) (piece_at p.cells from) n → IsHarmless p.cells (opponent_of p.side) (piece_moved false (piece_at p.cells from)) n
+harmless_unmoved p from n far = subst (λ (cell : Option Piece). IsHarmless p.cells (opponent_of p.side) cell n) (sym (unmoved (piece_at p.cells from))) far
+
+pub open_board : (p : Shogi) (from n : ℕ) (promote : Bool) (sight checking uncovering spare : ℕ) → IsValid p → IsReplies p sight spare → from < 81 → n < 81 → UncoversWithin p.cells (opponent_of p.side) sight from uncovering
+    → (has_bit checking n ≡ false → IsHarmless p.cells (opponent_of p.side) (piece_moved promote (piece_at p.cells from)) n) → IsOpen (bit_or checking uncovering) spare n → IsAnswered p (Board from n promote)
+open_board p from n promote sight checking uncovering spare v r hf hn within far o = λ legal.
+    let parts : (has_bit checking n ≡ false) × (has_bit uncovering n ≡ false) = or_parts (has_bit checking n) (has_bit uncovering n) (sym (has_bit-or checking uncovering n) ∙ o.unclosed) in
+    let off : IsHarmless p.cells (opponent_of p.side) (piece_moved promote (piece_at p.cells from)) n = far parts.0 in
+    replied_board p from n promote sight spare o.way.0 v r hf hn (legal_own p from n promote legal) (within promote n hn parts.1 off) off o.way.1 o.way.2 o.way.3
+
+pub open_drop : (p : Shogi) (kind : Kind) (n sight closed spare : ℕ) → IsValid p → IsReplies p sight spare → n < 81 → IsHarmless p.cells (opponent_of p.side) (dropped p.side kind) n → IsOpen closed spare n → IsAnswered p (Drop kind n)
+open_drop p kind n sight closed spare v r hn off o = λ legal. replied_drop p kind n sight spare o.way.0 v r hn off o.way.1 o.way.2 o.way.3

@@ -1,0 +1,391 @@
+-- A capture by a piece that no move can pin stands after the moves that let it be.
+use Rattle.std.proofs.Common.{◌≡◌, ◌≢◌, ℕ, zero, suc, ◌+◌, ◌-◌, ◌^◌, ◌<◌, ◌≤◌, ◌⊎◌, Bool, true, false, not, Option, Some, None, List, [], ◌∷◌, refl, sym, ap, subst, ◌∙◌, arith, inl, inr, set, length, length-set, get_or-set_same, get_or-set_other, bit_and, bit_or}
+use Rattle.std.specs.Prelude.{is_none, ◌==◌, ◌&&◌, ◌||◌}
+use Rattle.std.specs.List.{list_any}
+use Rattle.std.proofs.lemmas.Nat.{and_le_l}
+use Rattle.std.proofs.lemmas.Bool.{cases_Bool, cases_eq, false_from_ne_true, both_ways, and_parts, and_from, or_left, or_right, or_cases, or_parts, not-true, not_from_false, ne_eqb, eq-eqb}
+use Rattle.shogi_core.specs.declared.moves.Move.{Move}
+use Rattle.shogi_core.specs.declared.moves.Move.TheVariants.{Board, Drop}
+use Rattle.shogi_core.specs.declared.offset.Offset.{Offset}
+use Rattle.shogi_core.specs.declared.piece.Color.{Color}
+use Rattle.shogi_core.specs.declared.piece.Kind.{Kind}
+use Rattle.shogi_core.specs.declared.piece.Piece.{Piece}
+use Rattle.shogi_core.specs.Attack.{in_check, is_sniper, is_sniper_of_king, is_sniping}
+use Rattle.shogi_core.specs.Below.{some_below, all_below}
+use Rattle.shogi_core.specs.Bits.{has_bit}
+use Rattle.shogi_core.specs.Cell.{is_piece_of, is_king, is_immobile, is_slider}
+use Rattle.shogi_core.specs.Lines.{are_aligned, are_lined}
+use Rattle.shogi_core.specs.Movement.{Cells, piece_at, reaches, cell_reaches, has_step, has_slide, slides, slides_across, slides_of, is_step_empty, is_same_square, is_empty, away, leads, for_side}
+use Rattle.shogi_core.specs.Pieces.{opponent_of}
+use Rattle.shogi_core.specs.Position.{Shogi, HandCounts}
+use Rattle.shogi_core.specs.Validity.{IsValid}
+use Rattle.shogi_core.proofs.Below.{some_below_at, some_below_not, all_below_at, all_below_yes}
+use Rattle.shogi_core.proofs.BitLaws.{has_bit-and, has_bit-none, has_bit-or}
+use Rattle.shogi_core.proofs.LineBits.{has_bit-not}
+use Rattle.shogi_core.proofs.SeenLaws.{lined_aligned, lined_back}
+use Rattle.shogi_core.proofs.Snipers.{left_unpinned}
+use Rattle.shogi_core.proofs.Uncovered.{list_any_kept, some_below_which}
+use Rattle.shogi_moves.specs.After.{after, cells_after, piece_moved, dropped}
+use Rattle.shogi_moves.specs.Legal.{is_legal, is_pseudo_legal_board_move}
+use Rattle.shogi_core.specs.Zones.{may_promote}
+use Rattle.shogi_replies.specs.Replies.{is_aligned_with_king, is_line_of_king, Aligns, IsReplies, IsHarmless, UncoversNothing}
+use Rattle.shogi_replies.specs.Threats.{is_pinnable, is_sniped_from, Snipes, IsUnpinnable, IsAttack, IsThreat, EndsAside, LeavesThreat, MayTake, end_of, put_by}
+use Rattle.shogi_moves.proofs.DropChecks as drops
+use Rattle.shogi_moves.proofs.DestinationLaws.{alive, legal_board, still}
+use Rattle.shogi_moves.proofs.CheckInfoLaws.{dropped_of, filled, is_piece_of-piece_moved, look, other_side, quiet_board}
+use Rattle.shogi_moves.proofs.MovedPieces.{is_king-piece_moved}
+use Rattle.shogi_replies.proofs.ReplyLaws.{LeavesStanding, left_board, left_drop, legal_own, stays_unlined, unaligned}
+
+-- ---- what a piece reaches without the end of the move, it reaches after it
+
+-- some of a list has the one fact, and none has the other: some has what follows from these
+any_kept : (f g h : Offset → Bool) (os : List Offset) → ((o : Offset) → f o ≡ true → h o ≡ false → g o ≡ true) → list_any f os ≡ true → list_any h os ≡ false → list_any g os ≡ true
+any_kept f g h [] k e n = absurd (cc)
+any_kept f g h (o ∷ os) k e n =
+    let parts : (h o ≡ false) × (list_any h os ≡ false) = or_parts (h o) (list_any h os) n in
+    elim (or_cases (f o) (list_any f os) e) [
+      | inl here ↦ or_left (g o) (list_any g os) (k o here parts.0)
+      | inr later ↦ or_right (g o) (list_any g os) (any_kept f g h os k later parts.1)
+    ]
+
+-- a free slide is still free where the one square that may be filled is none that it led to
+slide_kept : (old new : Cells) (to : ℕ) → ((x : ℕ) → is_none (piece_at old x) ≡ true → x ≢ to → is_none (piece_at new x) ≡ true) → (o : Offset) (a s : ℕ) → slides old o a s ≡ true → slides old o a to ≡ false → slides new o a s ≡ true
+slide_kept old new to clear o a s e off =
+    let which = some_below_which 8 (slides_across old o a s) e in
+    let parts : (leads (which.0 + 1) o a s ≡ true) × (all_below which.0 (is_step_empty old o a) ≡ true) = and_parts _ _ which.2 in
+    some_below_at 8 (slides_across new o a s) which.0 which.1 (and_from _ _ parts.0 (all_below_yes which.0 (is_step_empty new o a) (λ i l. found which.0 i which.1 l parts.1 (away (i + 1) o a) refl (all_below_at which.0 (is_step_empty old o a) i parts.1 l))))
+  where
+    found : (n i : ℕ) → n < 8 → i < n → all_below n (is_step_empty old o a) ≡ true → (x : Option ℕ) → away (i + 1) o a ≡ x → is_empty old x ≡ true → is_step_empty new o a i ≡ true
+    found n i small l all None at e = absurd (cc)
+    found n i small l all (Some x) at e = elim (cases_eq x to) [
+      | inl there ↦ absurd (both_ways (slides old o a to) off (some_below_at 8 (slides_across old o a to) i (omega arith) (and_from _ _ (ap (λ (y : Option ℕ). is_same_square y to) at ∙ eq-eqb x to there) (all_below_yes i (is_step_empty old o a) (λ j m. all_below_at n (is_step_empty old o a) j all (omega arith))))))
+      | inr other ↦ ap (is_empty new) at ∙ clear x e other
+    ]
+
+-- so a piece reaches what it reached where that square is none that it reached
+reach_kept : (old new : Cells) (to : ℕ) → ((x : ℕ) → is_none (piece_at old x) ≡ true → x ≢ to → is_none (piece_at new x) ≡ true) → (cell : Option Piece) (a t : ℕ) → cell_reaches old cell a t ≡ true → cell_reaches old cell a to ≡ false → cell_reaches new cell a t ≡ true
+reach_kept old new to clear None a t e off = absurd (cc)
+reach_kept old new to clear (Some piece) a t e off =
+    let parts : (has_step piece a to ≡ false) × (has_slide old piece a to ≡ false) = or_parts (has_step piece a to) (has_slide old piece a to) off in
+    elim (or_cases (has_step piece a t) (has_slide old piece a t) e) [
+      | inl step ↦ or_left (has_step piece a t) (has_slide new piece a t) step
+      | inr slide ↦ or_right (has_step piece a t) (has_slide new piece a t) (any_kept (λ o. slides old (for_side piece.color o) a t) (λ o. slides new (for_side piece.color o) a t) (λ o. slides old (for_side piece.color o) a to) (slides_of piece.role) (λ o h n. slide_kept old new to clear (for_side piece.color o) a t h n) slide parts.1)
+    ]
+
+-- the end of the move itself too, which is none of the squares on the way there
+unbroken : (n : ℕ) (f : ℕ → Bool) → (all_below n f ≡ true) ⊎ ((i : ℕ) × (i < n) × (f i ≡ false))
+unbroken n f = elim (cases_Bool (some_below n (λ i. not (f i)))) [
+  | inl some ↦ (let which = some_below_which n (λ i. not (f i)) some in inr (which.0, which.1, not-true _ which.2))
+  | inr none ↦ inl (all_below_yes n f (λ i l. true_from_not (f i) (some_below_not n (λ j. not (f j)) i none l)))
+]
+  where
+    true_from_not : (b : Bool) → not b ≡ false → b ≡ true
+    true_from_not true e = refl
+    true_from_not false e = absurd (cc)
+
+step_to : (old new : Cells) (to : ℕ) → ((x : ℕ) → is_none (piece_at old x) ≡ true → x ≢ to → is_none (piece_at new x) ≡ true) → (o : Offset) (a n : ℕ) → n < 8 → ((i : ℕ) → i < n → slides_across old o a to i ≡ true → slides new o a to ≡ true) → slides_across old o a to n ≡ true → slides new o a to ≡ true
+step_to old new to clear o a n small sooner e =
+    let parts : (leads (n + 1) o a to ≡ true) × (all_below n (is_step_empty old o a) ≡ true) = and_parts _ _ e in
+    elim (unbroken n (is_step_empty new o a)) [
+      | inl all ↦ some_below_at 8 (slides_across new o a to) n small (and_from _ _ parts.0 all)
+      | inr filled ↦ sooner filled.0 filled.1
+          (and_from _ _ (ends_there filled.0 (away (filled.0 + 1) o a) refl (all_below_at n (is_step_empty old o a) filled.0 parts.1 filled.1) filled.2) (all_below_yes filled.0 (is_step_empty old o a) (λ j l. all_below_at n (is_step_empty old o a) j parts.1 (omega (arith, l, filled.1)))))
+    ]
+  where
+    ends_there : (i : ℕ) (x : Option ℕ) → away (i + 1) o a ≡ x → is_empty old (away (i + 1) o a) ≡ true → is_empty new (away (i + 1) o a) ≡ false → is_same_square (away (i + 1) o a) to ≡ true
+    ends_there i None at e shut = absurd (let clash : false ≡ true = ap (is_empty old) (sym at) ∙ e in cc)
+    ends_there i (Some x) at e shut = elim (cases_eq x to) [
+      | inl there ↦ ap (λ (y : Option ℕ). is_same_square y to) at ∙ eq-eqb x to there
+      | inr other ↦ absurd (both_ways (is_empty new (away (i + 1) o a)) shut (ap (is_empty new) at ∙ clear x (ap (is_empty old) (sym at) ∙ e) other))
+    ]
+
+slide_to : (old new : Cells) (to : ℕ) → ((x : ℕ) → is_none (piece_at old x) ≡ true → x ≢ to → is_none (piece_at new x) ≡ true) → (o : Offset) (a d n : ℕ) → n ≤ d → n < 8 → slides_across old o a to n ≡ true → slides new o a to ≡ true
+slide_to old new to clear o a zero n deep small e = step_to old new to clear o a n small (λ i l f. absurd (omega (arith, l, deep))) e
+slide_to old new to clear o a (suc d) n deep small e = step_to old new to clear o a n small (λ i l f. slide_to old new to clear o a d i (omega (arith, l, deep)) (omega (arith, l, small)) f) e
+
+-- so a piece that reached that square still does
+reach_to : (old new : Cells) (to : ℕ) → ((x : ℕ) → is_none (piece_at old x) ≡ true → x ≢ to → is_none (piece_at new x) ≡ true) → (cell : Option Piece) (a : ℕ) → cell_reaches old cell a to ≡ true → cell_reaches new cell a to ≡ true
+reach_to old new to clear None a e = absurd (cc)
+reach_to old new to clear (Some piece) a e = elim (or_cases (has_step piece a to) (has_slide old piece a to) e) [
+  | inl step ↦ or_left (has_step piece a to) (has_slide new piece a to) step
+  | inr slide ↦ or_right (has_step piece a to) (has_slide new piece a to) (list_any_kept (λ o. slides old (for_side piece.color o) a to) (λ o. slides new (for_side piece.color o) a to) (slides_of piece.role) (λ o f. (
+      let which = some_below_which 8 (slides_across old (for_side piece.color o) a to) f in
+      slide_to old new to clear (for_side piece.color o) a which.0 which.0 (omega arith) which.1 which.2)) slide)
+]
+
+-- ---- a capture by a piece that is not pinned
+
+-- a piece on an open line with none that slides and is on a line with its king, but that on the square where it takes, leaves the king in no check
+unpinned_take : (cells : Cells) (side : Color) (a t : ℕ) (v : Option Piece) → length cells ≡ 81 → a < 81 → t < 81 → a ≢ t → is_piece_of side v ≡ true → is_king side v ≡ false → is_king side (piece_at cells a) ≡ false → is_piece_of side (piece_at cells a) ≡ true → in_check cells side ≡ false
+    → ((x : ℕ) → x < 81 → x ≢ t → is_sniping cells side x ≡ true → are_aligned a x ≡ false) → in_check (set (set cells a None) t v) side ≡ false
+unfolding is_sniping
+unpinned_take cells side a t v len ha ht other own plain bare mine safe apart =
+    left_unpinned (set cells t v) (set (set cells a None) t v) a opened side a theirs crown none_there (filled cells side t v len ht own plain safe) unlined_snipers
+  where
+    see : (x : ℕ) → ((x ≡ t) × (piece_at (set (set cells a None) t v) x ≡ v)) ⊎ (((x ≡ a) × (piece_at (set (set cells a None) t v) x ≡ None)) ⊎ (piece_at (set (set cells a None) t v) x ≡ piece_at cells x))
+    see x = look cells side a t v len ha ht x
+
+    placed : piece_at (set cells t v) t ≡ v
+    placed = get_or-set_same cells t v None (omega (arith, len))
+
+    before : (x : ℕ) → x ≢ t → piece_at (set cells t v) x ≡ piece_at cells x
+    before x off = get_or-set_other cells t x v None off
+
+    same_unless : (x : ℕ) → x ≢ a → piece_at (set cells t v) x ≡ piece_at (set (set cells a None) t v) x
+    same_unless x off = elim (cases_eq x t) [
+      | inl there ↦ rw there (placed ∙ sym (get_or-set_same (set cells a None) t v None (omega (arith, length-set cells a None, len))))
+      | inr elsewhere ↦ before x elsewhere ∙ sym (get_or-set_other (set cells a None) t x v None elsewhere ∙ get_or-set_other cells a x None None off)
+    ]
+
+    left_bare : piece_at (set (set cells a None) t v) a ≡ None
+    left_bare = get_or-set_other (set cells a None) t a v None other ∙ get_or-set_same cells a None None (omega (arith, len))
+
+    opened : (x : ℕ) → is_none (piece_at (set (set cells a None) t v) x) ≡ true → (is_none (piece_at (set cells t v) x) ≡ true) ⊎ (x ≡ a)
+    opened x e = elim (cases_eq x a) [
+      | inl here ↦ inr here
+      | inr off ↦ inl (ap is_none (same_unless x off) ∙ e)
+    ]
+
+    theirs : (x : ℕ) → is_piece_of (opponent_of side) (piece_at (set (set cells a None) t v) x) ≡ true → (piece_at (set cells t v) x ≡ piece_at (set (set cells a None) t v) x) ⊎ (x ≡ a)
+    theirs x e = elim (cases_eq x a) [ inl here ↦ inr here | inr off ↦ inl (same_unless x off) ]
+
+    crown : (k : ℕ) → is_king side (piece_at (set (set cells a None) t v) k) ≡ true → piece_at (set cells t v) k ≡ piece_at (set (set cells a None) t v) k
+    crown k e = elim (cases_eq k a) [
+      | inl here ↦ absurd (let clash : false ≡ true = ap (is_king side) (sym (ap (piece_at (set (set cells a None) t v)) here ∙ left_bare)) ∙ e in cc)
+      | inr off ↦ same_unless k off
+    ]
+
+    none_there : (k : ℕ) → k < 81 → is_king side (piece_at (set cells t v) k) ≡ true → cell_reaches (set (set cells a None) t v) (piece_at (set (set cells a None) t v) a) a k ≡ false
+    none_there k l e = ap (λ cell. cell_reaches (set (set cells a None) t v) cell a k) left_bare
+
+    unlined_snipers : (x : ℕ) → x < 81 → is_sniping (set cells t v) side x ≡ true → are_lined (set cells t v) a x ≡ false
+    unlined_snipers x l e = false_from_ne_true _ (λ lined. (
+        let which = some_below_which 81 (is_sniper_of_king (set cells t v) side x) e in
+        let two : (is_king side (piece_at (set cells t v) which.0) ≡ true) × (is_sniper (set cells t v) (opponent_of side) which.0 x ≡ true) = and_parts _ _ which.2 in
+        let inner = and_parts (is_piece_of (opponent_of side) (piece_at (set cells t v) x) && is_slider (piece_at (set cells t v) x)) (are_aligned which.0 x) two.1 in
+        let foe = and_parts (is_piece_of (opponent_of side) (piece_at (set cells t v) x)) (is_slider (piece_at (set cells t v) x)) inner.0 in
+        let off : x ≢ t = λ (there : x ≡ t). both_ways (is_piece_of (opponent_of side) v) (other_side side v own) (subst (λ (cell : Option Piece). is_piece_of (opponent_of side) cell ≡ true) (ap (piece_at (set cells t v)) there ∙ placed) foe.0) in
+        let king_off : which.0 ≢ t = λ (there : which.0 ≡ t). both_ways (is_king side v) plain (subst (λ (cell : Option Piece). is_king side cell ≡ true) (ap (piece_at (set cells t v)) there ∙ placed) two.0) in
+        let king : is_king side (piece_at cells which.0) ≡ true = ap (is_king side) (sym (before which.0 king_off)) ∙ two.0 in
+        let slides : is_sniper cells (opponent_of side) which.0 x ≡ true = and_from _ _ (and_from _ _ (ap (is_piece_of (opponent_of side)) (sym (before x off)) ∙ foe.0) (ap is_slider (sym (before x off)) ∙ foe.1)) inner.1 in
+        both_ways (are_aligned a x) (apart x l off (some_below_at 81 (is_sniper_of_king cells side x) which.0 which.1 (and_from _ _ king slides))) (lined_aligned (set cells t v) a x lined)))
+
+-- ---- the capture stands
+
+-- what a move that ends on a square lets stand of its own side's pieces: no other is new
+abbrev pub AddsOne : Cells → Cells → Color → ℕ → Type 0
+AddsOne old new side to = (x : ℕ) → is_piece_of (opponent_of side) (piece_at new x) ≡ true → x ≢ to → piece_at old x ≡ piece_at new x
+
+-- a piece that sniped not before is that which came to the square
+sniped_before : (old new : Cells) (side : Color) (to x : ℕ) → AddsOne old new side to → ((k : ℕ) → is_king side (piece_at new k) ≡ true → piece_at old k ≡ piece_at new k) → x < 81 → is_sniping new side x ≡ true → (is_sniping old side x ≡ true) ⊎ ((x ≡ to) × (is_slider (piece_at new x) ≡ true) × (is_aligned_with_king old side x ≡ true))
+unfolding is_sniping is_aligned_with_king
+sniped_before old new side to x adds kings l e =
+    let which = some_below_which 81 (is_sniper_of_king new side x) e in
+    let two : (is_king side (piece_at new which.0) ≡ true) × (is_sniper new (opponent_of side) which.0 x ≡ true) = and_parts _ _ which.2 in
+    let inner = and_parts (is_piece_of (opponent_of side) (piece_at new x) && is_slider (piece_at new x)) (are_aligned which.0 x) two.1 in
+    let foe = and_parts (is_piece_of (opponent_of side) (piece_at new x)) (is_slider (piece_at new x)) inner.0 in
+    let king : is_king side (piece_at old which.0) ≡ true = ap (is_king side) (kings which.0 two.0) ∙ two.0 in
+    elim (cases_eq x to) [
+      | inl there ↦ inr (there, foe.1, some_below_at 81 (is_line_of_king old side x) which.0 which.1 (and_from _ _ king inner.1))
+      | inr off ↦ (let same = adds x foe.0 off in inl (some_below_at 81 (is_sniper_of_king old side x) which.0 which.1 (and_from _ _ king (and_from _ _ (and_from _ _ (ap (is_piece_of (opponent_of side)) same ∙ foe.0) (ap is_slider same ∙ foe.1)) inner.1))))
+    ]
+
+-- a capture by an unpinnable piece leaves its king in no check, if what came to the square is taken or pins nothing
+takes_safely : (p : Shogi) (new : Cells) (a t to : ℕ) (promote : Bool) → LeavesStanding p.cells new (opponent_of p.side) to → AddsOne p.cells new (opponent_of p.side) to → IsUnpinnable p a → t < 81 → a ≢ t → a ≢ to
+    → ((to ≡ t) ⊎ (is_slider (piece_at new to) ≡ true → is_aligned_with_king p.cells (opponent_of p.side) a ≡ true → is_aligned_with_king p.cells (opponent_of p.side) to ≡ false))
+    → in_check (cells_after new (opponent_of p.side) (Board a t promote)) (opponent_of p.side) ≡ false
+unfolding is_pinnable
+takes_safely p new a t to promote k adds free ht other away pins =
+    let color : Color = opponent_of p.side in
+    let same : piece_at new a ≡ piece_at p.cells a = k.stays a free.theirs away in
+    let own : is_piece_of color (piece_at new a) ≡ true = ap (is_piece_of color) same ∙ free.theirs in
+    let plain : is_king color (piece_at new a) ≡ false = ap (is_king color) same ∙ free.no_king in
+    elim (cases_Bool (is_aligned_with_king p.cells (opponent_of p.side) a)) [
+      | inl lined ↦ unpinned_take new color a t (piece_moved promote (piece_at new a)) k.len free.on_board ht other (is_piece_of-piece_moved color promote (piece_at new a) ∙ own) (is_king-piece_moved color promote (piece_at new a) ∙ plain) plain own k.shut
+          (λ x l off sniping. elim (sniped_before p.cells new color to x adds k.kings l sniping) [
+            | inl was ↦ false_from_ne_true (are_aligned a x) (λ near. both_ways (some_below 81 (is_sniped_from p.cells color a)) (unsniped lined) (some_below_at 81 (is_sniped_from p.cells color a) x l (and_from _ _ was near)))
+            | inr came ↦ elim pins [
+              | inl taken ↦ absurd (off (came.0 ∙ taken))
+              | inr harmless ↦ absurd (both_ways (is_aligned_with_king p.cells color x) (subst (λ (y : ℕ). is_aligned_with_king p.cells (opponent_of p.side) y ≡ false) (sym came.0) (harmless (subst (λ (y : ℕ). is_slider (piece_at new y) ≡ true) came.0 came.1) lined)) came.2)
+            ]
+          ])
+      | inr off ↦ quiet_board new color a t promote k.len free.on_board ht own plain (stays_unlined p.cells new color a free.on_board k.kings off) k.shut
+    ]
+  where
+    unsniped : is_aligned_with_king p.cells (opponent_of p.side) a ≡ true → some_below 81 (is_sniped_from p.cells (opponent_of p.side) a) ≡ false
+    unsniped lined = false_from_ne_true _ (λ e. both_ways (is_pinnable p.cells (opponent_of p.side) a) free.unpinned (and_from _ _ lined e))
+
+-- so it is legal where the piece still reaches the square
+takes_legally : (p : Shogi) (new : Cells) (hands : HandCounts) (a t to : ℕ) (promote : Bool) → LeavesStanding p.cells new (opponent_of p.side) to → AddsOne p.cells new (opponent_of p.side) to → IsAttack p a t promote → a ≢ t → a ≢ to
+    → ((to ≡ t) ⊎ (is_slider (piece_at new to) ≡ true → is_aligned_with_king p.cells (opponent_of p.side) a ≡ true → is_aligned_with_king p.cells (opponent_of p.side) to ≡ false))
+    → is_piece_of (opponent_of p.side) (piece_at new t) ≡ false → cell_reaches new (piece_at p.cells a) a t ≡ true
+    → is_legal (record { cells = new; hands = hands; side = opponent_of p.side }) (Board a t promote) ≡ true
+unfolding reaches
+takes_legally p new hands a t to promote k adds attack other away pins open_end reach =
+    let color : Color = opponent_of p.side in
+    let free = attack.attacker in
+    let same : piece_at new a ≡ piece_at p.cells a = k.stays a free.theirs away in
+    let own : is_piece_of color (piece_at new a) ≡ true = ap (is_piece_of color) same ∙ free.theirs in
+    let arrives : reaches new a t ≡ true = ap (λ cell. cell_reaches new cell a t) same ∙ reach in
+    let promotes : (not promote || may_promote (piece_at new a) a t) ≡ true = ap (λ cell. not promote || may_promote cell a t) same ∙ either promote attack.promotes in
+    let mobile : is_immobile t (piece_moved promote (piece_at new a)) ≡ false = ap (λ cell. is_immobile t (piece_moved promote cell)) same ∙ attack.mobile in
+    legal_board (record { cells = new; hands = hands; side = color }) a t promote
+    ∙ and_from _ _ (pseudo own open_end arrives promotes mobile) (ap not (takes_safely p new a t to promote k adds free attack.on_board other away pins))
+  where
+    either : (promote : Bool) → (promote ≡ true → may_promote (piece_at p.cells a) a t ≡ true) → (not promote || may_promote (piece_at p.cells a) a t) ≡ true
+    either true h = h refl
+    either false h = refl
+
+    pseudo : is_piece_of (opponent_of p.side) (piece_at new a) ≡ true → is_piece_of (opponent_of p.side) (piece_at new t) ≡ false → reaches new a t ≡ true → (not promote || may_promote (piece_at new a) a t) ≡ true → is_immobile t (piece_moved promote (piece_at new a)) ≡ false → is_pseudo_legal_board_move new (opponent_of p.side) a t promote ≡ true
+    pseudo own free reach promotes mobile = rw (own, free, reach, promotes, mobile) refl
+
+-- the target is not where such a move ends
+elsewhere : (p : Shogi) (a t to : ℕ) (promote : Bool) → IsAttack p a t promote → reaches p.cells a to ≡ false → to ≢ t
+elsewhere p a t to promote attack out same = both_ways (reaches p.cells a to) out (subst (λ (x : ℕ). reaches p.cells a x ≡ true) (sym same) attack.reached)
+
+-- by a threat that the move leaves
+still_takes : (p : Shogi) (m : Move) (a t : ℕ) (promote : Bool) → LeavesStanding p.cells (after p m).cells (opponent_of p.side) (end_of m) → AddsOne p.cells (after p m).cells (opponent_of p.side) (end_of m) → piece_at (after p m).cells (end_of m) ≡ put_by p m → IsThreat p a t promote → EndsAside p a m
+    → is_legal (record { cells = (after p m).cells; hands = (after p m).hands; side = opponent_of p.side }) (Board a t promote) ≡ true
+unfolding reaches
+still_takes p m a t promote k adds put threat aside =
+    takes_legally p (after p m).cells (after p m).hands a t (end_of m) promote k adds threat.attack threat.attack.apart (λ at. aside.attacker_stays (sym at))
+    (inr (λ slides lined. aside.unpinned (ap is_slider (sym put) ∙ slides) lined))
+    (k.clear t (other_side p.side (piece_at p.cells t) threat.target))
+    (reach_kept p.cells (after p m).cells (end_of m) k.empty (piece_at p.cells a) a t threat.attack.reached aside.unreached)
+
+-- by an attack on the square where it ends
+retakes : (p : Shogi) (m : Move) (a : ℕ) (promote : Bool) → LeavesStanding p.cells (after p m).cells (opponent_of p.side) (end_of m) → AddsOne p.cells (after p m).cells (opponent_of p.side) (end_of m) → piece_at (after p m).cells (end_of m) ≡ put_by p m → is_piece_of p.side (put_by p m) ≡ true → IsAttack p a (end_of m) promote
+    → is_legal (record { cells = (after p m).cells; hands = (after p m).hands; side = opponent_of p.side }) (Board a (end_of m) promote) ≡ true
+unfolding reaches
+retakes p m a promote k adds put own attack =
+    takes_legally p (after p m).cells (after p m).hands a (end_of m) (end_of m) promote k adds attack attack.apart attack.apart (inl refl)
+    (ap (is_piece_of (opponent_of p.side)) put ∙ other_side p.side (put_by p m) own)
+    (reach_to p.cells (after p m).cells (end_of m) k.empty (piece_at p.cells a) a attack.reached)
+
+module _ (p : Shogi) (from to : ℕ) (promote : Bool) (sight spare : ℕ) (v : IsValid p) (r : IsReplies p sight spare) (hf : from < 81) (ht : to < 81) (legal : is_legal p (Board from to promote) ≡ true) (out : UncoversNothing p.cells (opponent_of p.side) sight from (piece_moved promote (piece_at p.cells from)) to) (off : IsHarmless p.cells (opponent_of p.side) (piece_moved promote (piece_at p.cells from)) to) where
+  standing : LeavesStanding p.cells (after p (Board from to promote)).cells (opponent_of p.side) to
+  standing = left_board p from to promote sight spare v r hf ht (legal_own p from to promote legal) out off
+
+  adds_board : AddsOne p.cells (after p (Board from to promote)).cells (opponent_of p.side) to
+  adds_board x e ne = elim (look p.cells p.side from to (piece_moved promote (piece_at p.cells from)) v.cells_fit hf ht x) [
+    | inl there ↦ absurd (ne there.0)
+    | inr rest ↦ elim rest [
+      | inl here ↦ absurd (let clash : false ≡ true = ap (is_piece_of (opponent_of (opponent_of p.side))) (sym here.1) ∙ e in cc)
+      | inr same ↦ sym same
+    ]
+  ]
+
+  put_board : piece_at (after p (Board from to promote)).cells to ≡ piece_moved promote (piece_at p.cells from)
+  put_board = get_or-set_same (set p.cells from None) to (piece_moved promote (piece_at p.cells from)) None (omega (arith, length-set p.cells from None, v.cells_fit))
+
+  pub threat_board : (a t : ℕ) (promoted : Bool) → IsThreat p a t promoted → LeavesThreat p a t (Board from to promote) → MayTake (after p (Board from to promote)) a t promoted (piece_at p.cells t)
+  threat_board a t promoted threat leaves = record {
+    legal = still_takes p (Board from to promote) a t promoted standing adds_board put_board threat leaves.1;
+    stands = elim (look p.cells p.side from to (piece_moved promote (piece_at p.cells from)) v.cells_fit hf ht t) [
+      | inl there ↦ absurd (elsewhere p a t to promoted threat.attack leaves.1.unreached (sym there.0))
+      | inr rest ↦ elim rest [ inl here ↦ absurd (leaves.0 (sym here.0)) | inr same ↦ same ]
+    ];
+  }
+
+  pub retake_board : (a : ℕ) (promoted : Bool) → IsAttack p a to promoted → MayTake (after p (Board from to promote)) a to promoted (piece_moved promote (piece_at p.cells from))
+  retake_board a promoted attack = record {
+    legal = retakes p (Board from to promote) a promoted standing adds_board put_board (is_piece_of-piece_moved p.side promote (piece_at p.cells from) ∙ legal_own p from to promote legal) attack;
+    stands = put_board;
+  }
+
+module _ (p : Shogi) (kind : Kind) (to sight spare : ℕ) (v : IsValid p) (r : IsReplies p sight spare) (ht : to < 81) (off : IsHarmless p.cells (opponent_of p.side) (dropped p.side kind) to) where
+  standing_drop : LeavesStanding p.cells (after p (Drop kind to)).cells (opponent_of p.side) to
+  standing_drop = left_drop p kind to sight spare v r ht off
+
+  adds_drop : AddsOne p.cells (after p (Drop kind to)).cells (opponent_of p.side) to
+  adds_drop x e ne = elim (drops.look p.cells p.side kind to v.cells_fit ht x) [ inl there ↦ absurd (ne there.0) | inr same ↦ sym same ]
+
+  put_drop : piece_at (after p (Drop kind to)).cells to ≡ dropped p.side kind
+  put_drop = get_or-set_same p.cells to (dropped p.side kind) None (omega (arith, v.cells_fit))
+
+  pub threat_drop : (a t : ℕ) (promoted : Bool) → IsThreat p a t promoted → LeavesThreat p a t (Drop kind to) → MayTake (after p (Drop kind to)) a t promoted (piece_at p.cells t)
+  threat_drop a t promoted threat leaves = record {
+    legal = still_takes p (Drop kind to) a t promoted standing_drop adds_drop put_drop threat leaves;
+    stands = elim (drops.look p.cells p.side kind to v.cells_fit ht t) [
+      | inl there ↦ absurd (elsewhere p a t to promoted threat.attack leaves.unreached (sym there.0))
+      | inr same ↦ same
+    ];
+  }
+
+  pub retake_drop : (a : ℕ) (promoted : Bool) → IsAttack p a to promoted → MayTake (after p (Drop kind to)) a to promoted (dropped p.side kind)
+  retake_drop a promoted attack = record {
+    legal = retakes p (Drop kind to) a promoted standing_drop adds_drop put_drop (dropped_of p.side kind) attack;
+    stands = put_drop;
+  }
+
+-- ---- such captures are found by masks
+
+pub snipings_first : (cells : Cells) (side : Color) (m : ℕ) → ((n : ℕ) → n < 81 → has_bit m n ≡ is_sniping cells side n) → Snipes cells side m 0
+snipings_first cells side m bits = record { squares = λ x a h l e out lined. absurd (both_ways (has_bit m x) out (bits x h ∙ e)) }
+
+pub snipings_more : (cells : Cells) (side : Color) (left next sniped sniper squares : ℕ) → Snipes cells side left sniped → sniper < 81 → ((i : ℕ) → has_bit next i ≡ (has_bit left i && not (i == sniper))) → ((n : ℕ) → n < 81 → has_bit squares n ≡ are_aligned sniper n) → Snipes cells side next (bit_or sniped squares)
+snipings_more cells side left next sniped sniper squares h l bits on_line = record {
+  squares = λ x a hx ha e out lined. has_bit-or sniped squares a ∙ elim (cases_eq x sniper) [
+    | inl same ↦ or_right (has_bit sniped a) (has_bit squares a) (on_line a ha ∙ subst (λ (j : ℕ). are_aligned j a ≡ true) same (lined_back [] a x ha lined))
+    | inr other ↦ or_left _ _ (h.squares x a hx ha e (false_from_ne_true (has_bit left x) (λ set. both_ways (has_bit next x) out (bits x ∙ and_from _ _ set (not_from_false _ (ne_eqb x sniper other))))) lined)
+  ];
+}
+
+pub ruleset snipings = (snipings_first)
+
+pub found_unpinnable : (p : Shogi) (lines sniped own kings a : ℕ) → Aligns p.cells (opponent_of p.side) 0 lines → Snipes p.cells (opponent_of p.side) 0 sniped → lines < 2 ^ 128 → kings < 2 ^ 128 → ((n : ℕ) → n < 81 → has_bit own n ≡ is_piece_of (opponent_of p.side) (piece_at p.cells n)) → ((n : ℕ) → n < 81 → has_bit kings n ≡ is_king (opponent_of p.side) (piece_at p.cells n)) → a < 81
+    → has_bit (bit_and (bit_and own (2 ^ 128 - 1 - kings)) (2 ^ 128 - 1 - bit_and lines sniped)) a ≡ true → IsUnpinnable p a
+unfolding is_pinnable
+found_unpinnable p lines sniped own kings a s x fits low bits crown h e =
+    let two : (has_bit (bit_and own (2 ^ 128 - 1 - kings)) a ≡ true) × (has_bit (2 ^ 128 - 1 - bit_and lines sniped) a ≡ true) = and_parts _ _ (sym (has_bit-and (bit_and own (2 ^ 128 - 1 - kings)) (2 ^ 128 - 1 - bit_and lines sniped) a) ∙ e) in
+    let one : (has_bit own a ≡ true) × (has_bit (2 ^ 128 - 1 - kings) a ≡ true) = and_parts _ _ (sym (has_bit-and own (2 ^ 128 - 1 - kings) a) ∙ two.0) in
+    let off : has_bit (bit_and lines sniped) a ≡ false = not-true _ (sym (has_bit-not (bit_and lines sniped) a (and_fits_all lines sniped fits) (omega arith)) ∙ two.1) in
+    record {
+      on_board = h;
+      theirs = sym (bits a h) ∙ one.0;
+      no_king = sym (crown a h) ∙ not-true _ (sym (has_bit-not kings a low (omega arith)) ∙ one.1);
+      unpinned = false_from_ne_true _ (λ pinned. (
+          let parts : (is_aligned_with_king p.cells (opponent_of p.side) a ≡ true) × (some_below 81 (is_sniped_from p.cells (opponent_of p.side) a) ≡ true) = and_parts _ _ pinned in
+          let which = some_below_which 81 (is_sniped_from p.cells (opponent_of p.side) a) parts.1 in
+          let sniper : (is_sniping p.cells (opponent_of p.side) which.0 ≡ true) × (are_aligned a which.0 ≡ true) = and_parts _ _ which.2 in
+          both_ways (has_bit (bit_and lines sniped) a) off
+          (has_bit-and lines sniped a ∙ and_from _ _ (false_or_true (has_bit lines a) (λ out. both_ways (is_aligned_with_king p.cells (opponent_of p.side) a) (unaligned p.cells (opponent_of p.side) lines a s h out) parts.0)) (x.squares which.0 a which.1 h sniper.0 (has_bit-none which.0) sniper.1))));
+    }
+  where
+    and_fits_all : (a b : ℕ) → a < 2 ^ 128 → bit_and a b < 2 ^ 128
+    and_fits_all a b h = omega (arith, and_le_l a b, h)
+
+    false_or_true : (b : Bool) → (b ≡ false → ⊥) → b ≡ true
+    false_or_true true h = refl
+    false_or_true false h = absurd (h refl)
+
+-- where such a piece may go without promotion
+pub found_plain : (p : Shogi) (a t targets reach dead : ℕ) → IsUnpinnable p a → dead < 2 ^ 128 → ((n : ℕ) → n < 81 → has_bit targets n ≡ reaches p.cells a n) → ((i : ℕ) → has_bit reach i ≡ (has_bit targets i && not (i == a))) → ((n : ℕ) → n < 81 → has_bit dead n ≡ is_immobile n (piece_at p.cells a))
+    → t < 81 → has_bit (bit_and reach (2 ^ 128 - 1 - dead)) t ≡ true → IsAttack p a t false
+found_plain p a t targets reach dead free fits on_targets bits on_dead h e =
+    let two : (has_bit reach t ≡ true) × (has_bit (2 ^ 128 - 1 - dead) t ≡ true) = and_parts _ _ (sym (has_bit-and reach (2 ^ 128 - 1 - dead) t) ∙ e) in
+    let one : (has_bit targets t ≡ true) × (not (t == a) ≡ true) = and_parts _ _ (sym (bits t) ∙ two.0) in
+    record {
+      attacker = free;
+      on_board = h;
+      apart = λ same. both_ways _ (ap not (eq-eqb t a (sym same))) one.1;
+      reached = sym (on_targets t h) ∙ one.0;
+      promotes = λ no. absurd (cc);
+      mobile = still t (piece_at p.cells a) ∙ (sym (on_dead t h) ∙ not-true _ (sym (has_bit-not dead t fits (omega arith)) ∙ two.1));
+    }
+
+-- and with it
+pub found_promoting : (p : Shogi) (a t targets reach zone : ℕ) → IsUnpinnable p a → ((n : ℕ) → n < 81 → has_bit targets n ≡ reaches p.cells a n) → ((i : ℕ) → has_bit reach i ≡ (has_bit targets i && not (i == a))) → ((n : ℕ) → n < 81 → has_bit zone n ≡ may_promote (piece_at p.cells a) a n)
+    → t < 81 → has_bit (bit_and reach zone) t ≡ true → IsAttack p a t true
+found_promoting p a t targets reach zone free on_targets bits on_zone h e =
+    let two : (has_bit reach t ≡ true) × (has_bit zone t ≡ true) = and_parts _ _ (sym (has_bit-and reach zone t) ∙ e) in
+    let one : (has_bit targets t ≡ true) × (not (t == a) ≡ true) = and_parts _ _ (sym (bits t) ∙ two.0) in
+    let may : may_promote (piece_at p.cells a) a t ≡ true = sym (on_zone t h) ∙ two.1 in
+    record {
+      attacker = free;
+      on_board = h;
+      apart = λ same. both_ways _ (ap not (eq-eqb t a (sym same))) one.1;
+      reached = sym (on_targets t h) ∙ one.0;
+      promotes = λ yes. may;
+      mobile = not-true _ ((and_parts _ _ (alive a t (piece_at p.cells a) ∙ may)).1);
+    }

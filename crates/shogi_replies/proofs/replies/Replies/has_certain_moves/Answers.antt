@@ -1,0 +1,23 @@
+use Rattle.std.proofs.Common.{◌∙◌, arith, bit_and, false, sym, true}
+use Rattle.std.proofs.lemmas.Bool.{and_parts, eqb-true}
+use Rattle.shogi_core.proofs.BitLaws.{has_bit-and}
+use Rattle.shogi_moves.proofs.DestinationLaws.{among_bits}
+use Rattle.shogi_replies.proofs.PassLaws.{certain_moves}
+use Rattle.shogi_replies.proofs.replies.Replies.has_certain_moves.Goals as goal
+
+pub returns : goal.returns
+returns c = λ e. certain_moves c.args.p.now c.args.capture c.args.among.now c.args.from (bit_and c.targets.result c.matching_destinations.result) c.promoting_squares.result c.certain_destinations-certain.result c.certain_destinations-promoted.result
+    (λ n h. among_bits c.targets.result c.matching_destinations.result n _ _ (rw c.as_board.ensures at c.targets.ensures.squares.0 n h) (c.matching_destinations.ensures.squares.0 n h))
+    (rw c.at.ensures at c.promoting_squares.ensures.squares.0) (omega arith) (omega arith) c.certain_destinations-certain.ensures.certain c.certain_destinations-promoted.ensures.certain (eqb-true _ 0 e)
+
+pub returns-then-not-has : goal.returns-then-not-has
+returns-then-not-has c = λ e. record {
+  plain = λ n h reached. (
+      let ends : _ = among_bits c.targets.result c.matching_destinations.result n _ _ (rw c.as_board.ensures at c.targets.ensures.squares.0 n h) (c.matching_destinations.ensures.squares.0 n h) in
+      let both : _ = and_parts _ _ (sym (has_bit-and c.args.among.now.plain c.unseen_destinations-certain.result n) ∙ c.are_among.ensures.plain e n h (ends ∙ reached)) in
+      (both.0, c.unseen_destinations-certain.ensures.certain false n h both.1));
+  promoting = λ n h reached may. (
+      let ends : _ = among_bits c.targets.result c.matching_destinations.result n _ _ (rw c.as_board.ensures at c.targets.ensures.squares.0 n h) (c.matching_destinations.ensures.squares.0 n h) in
+      let both : _ = and_parts _ _ (sym (has_bit-and c.args.among.now.promoting c.unseen_destinations-certain.result n) ∙ c.are_among.ensures.promoting e n h (ends ∙ reached) may) in
+      (both.0, c.unseen_destinations-certain.ensures.certain true n h both.1));
+}

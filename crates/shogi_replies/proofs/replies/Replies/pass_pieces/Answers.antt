@@ -1,0 +1,55 @@
+use Rattle.std.proofs.Common.{◌≡◌, ◌<◌, ◌-◌, ◌^◌, ◌∙◌, ℕ, false, refl, sym, subst, arith, inl, inr}
+use Rattle.std.proofs.lemmas.Bool.{and_parts, cases_eq, false_from_ne_true}
+use Rattle.shogi_core.specs.Bits.{has_bit}
+use Rattle.shogi_core.proofs.BitLaws.{has_bit-and, has_bit-none}
+use Rattle.shogi_core.proofs.LineBits.{and_fits}
+use Rattle.shogi_replies.specs.Replies.{HasCertainMoves}
+use Rattle.shogi_replies.proofs.PassLaws.{row_passed_to, not_uncertain, out_before}
+use Rattle.shogi_moves.proofs.SweepLaws.{on_first, mine_first}
+use Rattle.shogi_moves.proofs.MoverLaws.{on_movers}
+use Rattle.shogi_replies.proofs.replies.Replies.pass_pieces.Goals as goal
+
+pub squares-init : goal.squares-init
+squares-init c =
+    let mine : _ = mine_first c.args.p.now c.own.result c.bits_above-pieces.result c.args.sweep.now.from (rw (c.side.ensures, c.as_board.ensures) at c.own.ensures.squares.0) (rw c.index.ensures.index at c.bits_above-pieces.ensures.above) (rw c.index.ensures.index at c.bits_above-pieces.ensures.below) in
+    record {
+      same = refl;
+      matching = on_movers c.args.p.now c.args.capture c.bits_above-pieces.result c.matching_movers-moving.result c.args.sweep.now.code c.validity.ensures.cells_fit
+          (on_first c.args.p.now c.args.capture c.own.result c.bits_above-pieces.result c.args.sweep.now.from c.args.sweep.now.code c.args.sweep.now.destinations.plain c.args.sweep.now.destinations.promoting (omega (arith, c.index.ensures.range, c.index.ensures.index)) c.requires.kept.destinations (rw (c.requires.none.0, c.requires.none.1) refl)
+          (rw (c.side.ensures, c.as_board.ensures) at c.own.ensures.squares.0) (rw c.index.ensures.index at c.bits_above-pieces.ensures.above))
+          (λ n h set. (mine n h set).1) c.matching_movers-moving.ensures.none;
+      mine = λ n h set. mine n h (c.matching_movers-moving.ensures.within n set);
+      certain = λ n h set out. c.far_pieces-far.ensures n h (not_uncertain c.matching_movers-moving.result c.far_pieces-far.result n (omega arith) h out set);
+      within = λ n set. (and_parts _ _ (sym (has_bit-and c.matching_movers-moving.result (2 ^ 128 - 1 - c.far_pieces-far.result) n) ∙ set)).0;
+      fits = and_fits c.matching_movers-moving.result (2 ^ 128 - 1 - c.far_pieces-far.result) c.matching_movers-moving.ensures.fits;
+    }
+
+pub squares-preserved : goal.squares-preserved
+squares-preserved c = record {
+  same = c.squares.invariant.same;
+  matching = c.squares.invariant.matching;
+  mine = c.squares.invariant.mine;
+  certain = λ n h set out. elim (cases_eq n c.lowest-square.result) [
+    | inl here ↦ subst (λ (x : ℕ). HasCertainMoves c.args.p.now c.args.capture c.args.among.now x) (sym here) ((rw c.of_index-from.ensures at c.has_certain_moves.ensures) c.if-not-has_certain_moves.false)
+    | inr other ↦ c.squares.invariant.certain n h set (out_before c.squares.left c.without_lowest-left.result c.lowest-square.result n c.without_lowest-left.ensures.bits out other)
+  ];
+  within = λ n set. c.squares.invariant.within n (and_parts _ _ (sym (c.without_lowest-left.ensures.bits n) ∙ set)).0;
+  fits = omega (arith, c.without_lowest-left.ensures.less, c.squares.invariant.fits);
+}
+
+pub pass_pieces-requires-clause-ahead : goal.pass_pieces-requires-clause-ahead
+pass_pieces-requires-clause-ahead c = rw c.squares.invariant.same ((c.squares.invariant.mine c.lowest-square.result c.lowest-square.ensures.range (c.squares.invariant.within c.lowest-square.result c.lowest-square.ensures.set)).0)
+
+pub returns-then-not-has_certain_moves-clause-passed : goal.returns-then-not-has_certain_moves-clause-passed
+returns-then-not-has_certain_moves-clause-passed c =
+    let above : c.args.sweep.now.from < c.lowest-square.result = (c.squares.invariant.mine c.lowest-square.result c.lowest-square.ensures.range (c.squares.invariant.within c.lowest-square.result c.lowest-square.ensures.set)).0 in
+    rw c.pass_pieces.ensures.code (row_passed_to c.args.p.now c.args.capture c.args.among.now c.args.sweep.now.code c.matching_movers-moving.result c.lowest-square.result c.validity.ensures.cells_fit (omega (arith, c.lowest-square.ensures.range)) c.squares.invariant.matching
+    (λ n h set. (c.squares.invariant.mine n h set).1)
+    (λ n h below set. c.squares.invariant.certain n h set (false_from_ne_true (has_bit c.squares.left n) (λ there. absurd (let le : _ = c.lowest-square.ensures.least n there in omega (arith, le, below)))))
+    (omega (arith, above, c.requires.kept.destinations.high)))
+
+pub returns-clause-passed : goal.returns-clause-passed
+returns-clause-passed c = rw c.pass_pieces-2.ensures.code (row_passed_to c.args.p.now c.args.capture c.args.among.now c.args.sweep.now.code c.matching_movers-moving.result 81 c.validity.ensures.cells_fit (omega arith) c.squares.invariant.matching
+    (λ n h set. (c.squares.invariant.mine n h set).1)
+    (λ n h below set. c.squares.invariant.certain n h set (subst (λ (m : ℕ). has_bit m n ≡ false) (sym c.squares-test.false) (has_bit-none n)))
+    (omega (arith, c.index.ensures.range, c.index.ensures.index, c.requires.kept.destinations.high)))

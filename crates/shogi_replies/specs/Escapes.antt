@@ -1,0 +1,33 @@
+-- What leaves such a square open: what a piece reaches once a king has gone, and lines with no piece that slides (own choice).
+use Rattle.std.specs.Prelude.{ℕ, ◌≡◌, ◌<◌, true, false, Option, None, slice_set}
+use Rattle.shogi_core.specs.declared.piece.Color.{Color}
+use Rattle.shogi_core.specs.declared.piece.Piece.{Piece}
+use Rattle.shogi_core.specs.Attack.{is_sniper}
+use Rattle.shogi_core.specs.Bits.{has_bit}
+use Rattle.shogi_core.specs.Cell.{is_king, HasNoOtherKing}
+use Rattle.shogi_core.specs.Movement.{Cells, piece_at, cell_reaches}
+use Rattle.shogi_core.specs.Pieces.{opponent_of}
+use Rattle.shogi_core.specs.Position.{Shogi}
+use Rattle.shogi_core.specs.Rays.{direction_at, is_on_ray}
+
+-- the mask has what the direction leads to from both squares
+abbrev pub HasRaysBehind : ℕ → ℕ → ℕ → ℕ → Type 0
+HasRaysBehind d from over mask = (n : ℕ) → n < 81 → is_on_ray (direction_at d) from n ≡ true
+    → is_on_ray (direction_at d) over n ≡ true → has_bit mask n ≡ true
+
+-- the mask has the squares behind the only king of the side that is not to move, as seen from the square
+abbrev pub HasKingsRays : Shogi → ℕ → ℕ → Type 0
+HasKingsRays p from mask = (k d : ℕ) → k < 81 → d < 8
+    → is_king (opponent_of p.side) (piece_at p.cells k) ≡ true
+    → HasNoOtherKing p.cells (opponent_of p.side) k → HasRaysBehind d from k mask
+
+-- off the mask, what stands on the square reaches nothing once the only king of the side that is not to move has left its own
+abbrev pub ReachesWithin : Shogi → Option Piece → ℕ → ℕ → Type 0
+ReachesWithin p cell to mask = (k n : ℕ) → k < 81 → n < 81
+    → is_king (opponent_of p.side) (piece_at p.cells k) ≡ true
+    → HasNoOtherKing p.cells (opponent_of p.side) k → has_bit mask n ≡ false
+    → cell_reaches (slice_set p.cells k None) cell to n ≡ false
+
+-- no piece of the side that slides is on a line with the square, whatever stands between
+abbrev pub HasNoSniper : Cells → Color → ℕ → Type 0
+HasNoSniper cells side square = (a : ℕ) → a < 81 → is_sniper cells side square a ≡ false

@@ -1,0 +1,4 @@
+pub mod Replies
+pub mod Escapes
+pub mod Threats
+pub mod Passes

@@ -1,0 +1,157 @@
+-- What is kept of a position to decide that after most of its moves the other side is in no check and has a legal move.
+use Rattle.std.specs.Prelude.{ℕ, ◌≡◌, ◌≢◌, ◌<◌, ◌^◌, ◌⊎◌, ◌&&◌, ◌||◌, Bool, true, false, not, nat_lt, Option, None, is_none, [], slice_set}
+use Rattle.shogi_core.specs.declared.moves.Move.{Move}
+use Rattle.shogi_core.specs.declared.moves.Move.TheVariants.{Board, Drop}
+use Rattle.shogi_core.specs.declared.piece.Color.{Color}
+use Rattle.shogi_core.specs.declared.piece.Kind.{Kind}
+use Rattle.shogi_core.specs.declared.piece.Kind.TheVariants.{Silver, Gold, Bishop, Rook}
+use Rattle.shogi_core.specs.declared.piece.Piece.{Piece}
+use Rattle.shogi_core.specs.Attack.{is_sniping, cell_steps}
+use Rattle.shogi_core.specs.Below.{some_below}
+use Rattle.shogi_core.specs.Bits.{has_bit}
+use Rattle.shogi_core.specs.Cell.{is_piece_of, is_king, is_immobile}
+use Rattle.shogi_core.specs.Lines.{are_aligned, are_lined, is_seen}
+use Rattle.shogi_core.specs.Movement.{Cells, piece_at, reaches, cell_reaches}
+use Rattle.shogi_core.specs.Pieces.{opponent_of}
+use Rattle.shogi_core.specs.Position.{Shogi, HandCounts, count_in_hand}
+use Rattle.shogi_moves.specs.After.{after, piece_moved}
+use Rattle.shogi_moves.specs.declared.destinations.Destinations.{Destinations}
+use Rattle.shogi_moves.specs.Destinations.{is_destination}
+use Rattle.shogi_moves.specs.Legal.{is_legal}
+use Rattle.shogi_core.specs.Zones.{may_promote, is_around}
+use Rattle.shogi_moves.specs.LegalMoves.{legal_codes}
+
+-- the piece on a may step to t: none of its own stands there, and it can move again from there without promotion
+abbrev pub is_open_step : Cells → Color → ℕ → ℕ → Bool
+is_open_step cells side a t =
+    cell_steps (piece_at cells a) a t
+    && not (is_piece_of side (piece_at cells t))
+    && not (is_immobile t (piece_at cells a))
+
+-- the square lies on a line with a king of the side, whatever stands between
+abbrev pub is_line_of_king : Cells → Color → ℕ → ℕ → Bool
+is_line_of_king cells side a king = is_king side (piece_at cells king) && are_aligned king a
+
+-- the square lies on a line with some king of the side
+unfoldable pub is_aligned_with_king : Cells → Color → ℕ → Bool
+is_aligned_with_king cells side a = some_below 81 (is_line_of_king cells side a)
+
+-- a piece of the side with such a step, which is no king and on no line with one
+unfoldable pub is_spare : Cells → Color → ℕ → Bool
+is_spare cells side a =
+    is_piece_of side (piece_at cells a)
+    && not (is_king side (piece_at cells a))
+    && not (is_aligned_with_king cells side a)
+    && some_below 81 (is_open_step cells side a)
+
+-- the side holds a piece of such a kind, which it may drop on each empty square where it is in no check
+abbrev pub holds_free : HandCounts → Color → Bool
+holds_free hands side =
+    nat_lt 0 (count_in_hand hands side Silver)
+    || nat_lt 0 (count_in_hand hands side Gold)
+    || nat_lt 0 (count_in_hand hands side Bishop)
+    || nat_lt 0 (count_in_hand hands side Rook)
+
+-- a spare piece stands there, or nothing, and such a piece is held
+abbrev pub is_way : Shogi → Color → ℕ → Bool
+is_way p side a = is_spare p.cells side a || is_none (piece_at p.cells a) && holds_free p.hands side
+
+-- a mask with the kings of a side and all squares that those see which are not left
+pub record Sees (cells : Cells) (side : Color) (left sight : ℕ) : Type 0 where
+  pub kings : (n : ℕ) → n < 81 → is_king side (piece_at cells n) ≡ true → has_bit sight n ≡ true
+  pub squares : (k n : ℕ) → k < 81 → n < 81 → is_king side (piece_at cells k) ≡ true
+      → has_bit left k ≡ false → is_seen cells k n ≡ true → has_bit sight n ≡ true
+
+-- a mask with the kings of a side and all squares on lines with those which are not left
+pub record Aligns (cells : Cells) (side : Color) (left lines : ℕ) : Type 0 where
+  pub kings : (n : ℕ) → n < 81 → is_king side (piece_at cells n) ≡ true → has_bit lines n ≡ true
+  pub squares : (k n : ℕ) → k < 81 → n < 81 → is_king side (piece_at cells k) ≡ true
+      → has_bit left k ≡ false → are_aligned k n ≡ true → has_bit lines n ≡ true
+
+-- no piece of the other side that slides and is on a line with a king of the side is on an open line with the square
+abbrev pub StaysCovered : Cells → Color → ℕ → Type 0
+StaysCovered cells side n =
+    (a : ℕ) → a < 81 → is_sniping cells side a ≡ true → are_lined cells n a ≡ false
+
+-- what would stand on the square attacks no king of the side
+abbrev pub IsHarmless : Cells → Color → Option Piece → ℕ → Type 0
+IsHarmless cells side cell to = (k : ℕ) → k < 81 → is_king side (piece_at cells k) ≡ true
+    → cell_reaches cells cell to k ≡ false
+
+-- the same once another square is left
+abbrev pub IsHarmlessFrom : Cells → Color → ℕ → Option Piece → ℕ → Type 0
+IsHarmlessFrom cells side from cell to = (k : ℕ) → k < 81 → is_king side (piece_at cells k) ≡ true
+    → cell_reaches (slice_set cells from None) cell to k ≡ false
+
+-- what leaves a square is off the sight of the side's kings, or covers no king from a piece that slides and attacks none where it ends
+abbrev pub UncoversNothing : Cells → Color → ℕ → ℕ → Option Piece → ℕ → Type 0
+UncoversNothing cells side sight from cell to =
+    (has_bit sight from ≡ false)
+    ⊎ (IsHarmlessFrom cells side from cell to × StaysCovered cells side from)
+
+-- what stands on the square uncovers nothing where it moves to squares that are not of the mask and from which it attacks no king
+abbrev pub UncoversWithin : Cells → Color → ℕ → ℕ → ℕ → Type 0
+UncoversWithin cells side sight from mask = (promote : Bool) (n : ℕ) → n < 81
+    → has_bit mask n ≡ false
+    → IsHarmless cells side (piece_moved promote (piece_at cells from)) n
+    → UncoversNothing cells side sight from (piece_moved promote (piece_at cells from)) n
+
+-- such a mask for the side that is not to move, and some of the squares that give it a move
+pub record IsReplies (p : Shogi) (sight spare : ℕ) : Type 0 where
+  pub sees : Sees p.cells (opponent_of p.side) 0 sight
+  pub spares : (a : ℕ) → a < 81 → has_bit spare a ≡ true → is_way p (opponent_of p.side) a ≡ true
+  pub fits : spare < 2 ^ 81
+
+-- the square is not closed, and another one gives the side a move
+pub record IsOpen (closed spare n : ℕ) : Type 0 where
+  pub unclosed : has_bit closed n ≡ false
+  pub way : (a : ℕ) × (a < 81) × (has_bit spare a ≡ true) × (a ≢ n)
+
+-- if the move is legal, the other side has a legal move after it
+abbrev pub IsAnswered : Shogi → Move → Type 0
+IsAnswered p m = is_legal p m ≡ true → legal_codes (after p m) ≢ []
+
+-- a move from the square to each one of the mask is answered, promoting or not
+abbrev pub AreAnswered : Shogi → ℕ → Bool → ℕ → Type 0
+AreAnswered p from promote mask =
+    (n : ℕ) → n < 81 → has_bit mask n ≡ true → IsAnswered p (Board from n promote)
+
+-- a drop of the kind on each square of the mask is answered
+abbrev pub AreDropsAnswered : Shogi → Kind → ℕ → Type 0
+AreDropsAnswered p kind mask =
+    (n : ℕ) → n < 81 → has_bit mask n ≡ true → IsAnswered p (Drop kind n)
+
+-- the mask has all squares around a king of the side
+abbrev pub HasAroundKings : Cells → Color → ℕ → Type 0
+HasAroundKings cells side mask = (k n : ℕ) → k < 81 → n < 81
+    → is_king side (piece_at cells k) ≡ true → is_around k n ≡ true → has_bit mask n ≡ true
+
+-- a move of what stands on the square to that one begins off the mask and gives no check, and it cannot promote where promotions are not allowed
+pub record IsFarMove (p : Shogi) (sight : ℕ) (promotes : Bool) (from n : ℕ) : Type 0 where
+  pub unseen : has_bit sight from ≡ false
+  pub harmless : (promote : Bool)
+      → IsHarmless p.cells (opponent_of p.side) (piece_moved promote (piece_at p.cells from)) n
+  pub plain : promotes ≡ false → may_promote (piece_at p.cells from) from n ≡ false
+
+-- what stands on the square reaches that one, and moves of the kind end there
+abbrev pub is_reached : Shogi → Bool → ℕ → ℕ → Bool
+is_reached p capture from n =
+    reaches p.cells from n && is_destination capture p.side (piece_at p.cells n)
+
+-- each move of the kind of what stands on the square is answered, and ends on one of the squares for moves without promotion, or for those with it
+pub record HasCertainMoves (p : Shogi) (capture : Bool) (among : Destinations) (from : ℕ) : Type 0 where
+  pub plain : (n : ℕ) → n < 81 → is_reached p capture from n ≡ true
+      → (has_bit among.plain n ≡ true) × IsAnswered p (Board from n false)
+  pub promoting : (n : ℕ) → n < 81 → is_reached p capture from n ≡ true
+      → may_promote (piece_at p.cells from) from n ≡ true
+      → (has_bit among.promoting n ≡ true) × IsAnswered p (Board from n true)
+
+-- what stands on the squares of the mask makes such moves alone
+abbrev pub AreFarPieces : Shogi → ℕ → Bool → ℕ → Type 0
+AreFarPieces p sight promotes mask = (a n : ℕ) → a < 81 → n < 81 → has_bit mask a ≡ true
+    → reaches p.cells a n ≡ true → IsFarMove p sight promotes a n
+
+-- on those of the squares that are off the mask, the piece attacks no king of the side that is not to move
+abbrev pub ChecksAmong : Shogi → Option Piece → ℕ → ℕ → Type 0
+ChecksAmong p cell among mask = (n : ℕ) → n < 81 → has_bit among n ≡ true → has_bit mask n ≡ false
+    → IsHarmless p.cells (opponent_of p.side) cell n

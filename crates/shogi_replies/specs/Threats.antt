@@ -1,0 +1,91 @@
+-- Captures by the side that is not to move that stand after most moves (own choice).
+use Rattle.std.specs.Prelude.{ℕ, ◌≡◌, ◌≢◌, ◌<◌, ◌&&◌, Bool, true, false, Option}
+use Rattle.shogi_core.specs.declared.moves.Move.{Move}
+use Rattle.shogi_core.specs.declared.moves.Move.TheVariants.{Board, Drop}
+use Rattle.shogi_core.specs.declared.piece.Color.{Color}
+use Rattle.shogi_core.specs.declared.piece.Piece.{Piece}
+use Rattle.shogi_core.specs.Attack.{is_sniping}
+use Rattle.shogi_core.specs.Below.{some_below}
+use Rattle.shogi_core.specs.Bits.{has_bit}
+use Rattle.shogi_core.specs.Cell.{is_piece_of, is_king, is_immobile, is_slider}
+use Rattle.shogi_core.specs.Lines.{are_aligned}
+use Rattle.shogi_core.specs.Movement.{Cells, piece_at, reaches}
+use Rattle.shogi_core.specs.Pieces.{opponent_of}
+use Rattle.shogi_core.specs.Position.{Shogi}
+use Rattle.shogi_moves.specs.After.{after, piece_moved, dropped}
+use Rattle.shogi_moves.specs.Legal.{is_legal}
+use Rattle.shogi_core.specs.Zones.{may_promote}
+use Rattle.shogi_replies.specs.Replies.{is_aligned_with_king}
+
+-- the square lies on a line with a piece that slides and is on a line with a king of the side, whatever stands between
+abbrev pub is_sniped_from : Cells → Color → ℕ → ℕ → Bool
+is_sniped_from cells side a x = is_sniping cells side x && are_aligned a x
+
+-- some such piece may pin what stands on the square: that is on a line with a king of the side as well
+unfoldable pub is_pinnable : Cells → Color → ℕ → Bool
+is_pinnable cells side a =
+    is_aligned_with_king cells side a && some_below 81 (is_sniped_from cells side a)
+
+-- a mask with all squares on lines with such pieces which are not left
+pub record Snipes (cells : Cells) (side : Color) (left sniped : ℕ) : Type 0 where
+  pub squares : (x a : ℕ) → x < 81 → a < 81 → is_sniping cells side x ≡ true
+      → has_bit left x ≡ false → are_aligned a x ≡ true → has_bit sniped a ≡ true
+
+-- a piece of the side that is not to move, no king, that none of the pieces may pin that stand there, whatever leaves its square
+pub record IsUnpinnable (p : Shogi) (a : ℕ) : Type 0 where
+  pub on_board : a < 81
+  pub theirs : is_piece_of (opponent_of p.side) (piece_at p.cells a) ≡ true
+  pub no_king : is_king (opponent_of p.side) (piece_at p.cells a) ≡ false
+  pub unpinned : is_pinnable p.cells (opponent_of p.side) a ≡ false
+
+-- such a piece reaches another square, and may go there, promoting or not, as far as its role goes
+pub record IsAttack (p : Shogi) (a t : ℕ) (promote : Bool) : Type 0 where
+  pub attacker : IsUnpinnable p a
+  pub on_board : t < 81
+  pub apart : a ≢ t
+  pub reached : reaches p.cells a t ≡ true
+  pub promotes : promote ≡ true → may_promote (piece_at p.cells a) a t ≡ true
+  pub mobile : is_immobile t (piece_moved promote (piece_at p.cells a)) ≡ false
+
+-- and takes a piece of the side to move there
+pub record IsThreat (p : Shogi) (a t : ℕ) (promote : Bool) : Type 0 where
+  pub attack : IsAttack p a t promote
+  pub target : is_piece_of p.side (piece_at p.cells t) ≡ true
+
+-- where a move ends
+abbrev pub end_of : Move → ℕ
+end_of (Board from to promote) = to
+end_of (Drop kind to) = to
+
+-- what it puts there
+abbrev pub put_by : Shogi → Move → Option Piece
+put_by p (Board from to promote) = piece_moved promote (piece_at p.cells from)
+put_by p (Drop kind to) = dropped p.side kind
+
+-- a move that ends neither on the attacker nor where that reaches, so not on its way either, and puts nothing there that slides and is on a line with a king of the other side as the attacker is
+pub record EndsAside (p : Shogi) (a : ℕ) (m : Move) : Type 0 where
+  pub attacker_stays : end_of m ≢ a
+  pub unreached : reaches p.cells a (end_of m) ≡ false
+  pub unpinned : is_slider (put_by p m) ≡ true
+      → is_aligned_with_king p.cells (opponent_of p.side) a ≡ true
+      → is_aligned_with_king p.cells (opponent_of p.side) (end_of m) ≡ false
+
+-- a move that lets the attacker, the target and the way between them be
+abbrev pub LeavesThreat : Shogi → ℕ → ℕ → Move → Type 0
+LeavesThreat p a t (Board from to promote) = (from ≢ t) × EndsAside p a (Board from to promote)
+LeavesThreat p a t (Drop kind to) = EndsAside p a (Drop kind to)
+
+-- the side to move may take what stands on t, which is this, with the piece on a, promoting or not
+pub record MayTake (q : Shogi) (a t : ℕ) (promote : Bool) (cell : Option Piece) : Type 0 where
+  pub legal : is_legal q (Board a t promote) ≡ true
+  pub stands : piece_at q.cells t ≡ cell
+
+-- after the move the other side may take by each threat that it leaves
+abbrev pub KeepsThreats : Shogi → Move → Type 0
+KeepsThreats p m = (a t : ℕ) (promote : Bool) → IsThreat p a t promote → LeavesThreat p a t m
+    → MayTake (after p m) a t promote (piece_at p.cells t)
+
+-- and may take what it puts on its square by each such attack on that
+abbrev pub MayRetake : Shogi → Move → Type 0
+MayRetake p m = (a : ℕ) (promote : Bool) → IsAttack p a (end_of m) promote
+    → MayTake (after p m) a (end_of m) promote (put_by p m)

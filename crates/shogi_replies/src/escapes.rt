@@ -1,0 +1,297 @@
+//! Squares to which the king of the side that is not to move may go, should a move give it check.
+
+ghost use Rattle.std.specs.Prelude.{◌≡◌, ◌<◌, ◌^◌, ◌&&◌, ℕ, not, true, false, Option, Some, None, slice_set};
+ghost use Rattle.shogi_core.specs.declared.piece.Piece.{Piece};
+ghost use Rattle.shogi_core.specs.Attack.{is_attacked};
+ghost use Rattle.shogi_core.specs.Bits.{IsMaskOf, has_bit};
+ghost use Rattle.shogi_core.specs.Movement.{reaches};
+ghost use Rattle.shogi_moves.specs.Destinations.{IsWithin};
+ghost use Rattle.shogi_moves.specs.Escapes.{AreEscapes};
+ghost use Rattle.shogi_replies.specs.Escapes.{HasRaysBehind, HasKingsRays, ReachesWithin, HasNoSniper};
+ghost use Rattle.shogi_replies.specs.Replies.{IsAnswered, AreAnswered, AreDropsAnswered};
+
+use shogi_core::bits::{ALL_SQUARES, cleared, has, lowest, without_lowest};
+use shogi_core::{
+    Board, Color, Kind, Move, Piece, Position, Square, aligned_squares, ray, step_squares,
+};
+use shogi_moves::{dropped, has_open, king_steps, piece_moved};
+
+/// Those of the squares that the side does not attack.
+#[tactic(auto, using(shogi_moves::proofs::DestinationLaws::sifting))]
+fn unattacked(board: &Board, by: Color, squares: u128) -> u128
+    requires { squares < 2 ^ 81 }
+    ensures squares { IsMaskOf result (λ n. has_bit squares n && not (is_attacked board.now by n)) }
+{
+    let mut left = squares;
+    let mut kept = squares;
+    while left != 0 {
+        let square = lowest(left);
+        if board.is_attacked(by, Square::of_index(square)) {
+            kept = cleared(kept, square);
+        }
+        left = without_lowest(left, square);
+    }
+    kept
+}
+
+/// Three of the squares that the side does not attack, or fewer where there are no more.
+#[tactic(auto, using(shogi_moves::proofs::DestinationLaws::sifting))]
+fn some_unattacked(board: &Board, by: Color, squares: u128) -> u128
+    requires { squares < 2 ^ 81 }
+    ensures safe { (n : ℕ) → n < 81 → has_bit result n ≡ true
+        → (has_bit squares n ≡ true) × (is_attacked board.now by n ≡ false) }
+    ensures fits { result < 2 ^ 81 }
+{
+    let mut left = squares;
+    let mut kept = squares;
+    let mut found = 0u8;
+    while left != 0 && found < 3 {
+        let square = lowest(left);
+        let to = Square::of_index(square);
+        if board.is_attacked(by, to) {
+            kept = cleared(kept, square);
+        } else {
+            found += 1;
+        }
+        left = without_lowest(left, square);
+    }
+    kept & !left
+}
+
+/// Squares next to the king of the side that is not to move, where it has just one, to which it may
+/// go as far as the pieces of the other side stand that are there now. That king is in no check, so
+/// it stands in no piece's way.
+pub fn escape_squares(p: &Position) -> u128
+    ensures { AreEscapes p.now result }
+{
+    p.validity();
+    unattacked(p.as_board(), p.side(), king_steps(p))
+}
+
+/// Three of those squares, or fewer where there are no more.
+pub fn some_escapes(p: &Position) -> u128
+    ensures { AreEscapes p.now result }
+{
+    p.validity();
+    some_unattacked(p.as_board(), p.side(), king_steps(p))
+}
+
+/// The squares that one direction leads to from both squares, whatever stands between.
+fn squares_behind(over: usize, from: usize) -> u128
+    requires over { over < 81 }
+    requires from { from < 81 }
+    ensures far { (d : ℕ) → d < 8 → HasRaysBehind d from over result }
+    ensures fits { result < 2 ^ 81 }
+{
+    let mut behind = 0;
+    for direction in 0..8 {
+        behind |= ray(direction, from) & ray(direction, over);
+    }
+    behind
+}
+
+/// The squares behind the king of the side that is not to move, where it has just one, as seen from
+/// the square.
+fn behind_king(p: &Position, from: usize) -> u128
+    requires { from < 81 }
+    ensures far { HasKingsRays p.now from result }
+    ensures fits { result < 2 ^ 81 }
+{
+    let kings = p.as_board().kings(p.side().opponent());
+    if kings == 0 {
+        return 0;
+    }
+    squares_behind(lowest(kings), from)
+}
+
+/// The squares that the piece, which slides, reaches from the square, should the only king of the
+/// side that is not to move leave its own; or all on lines with it, where these tell as much of
+/// whether it leaves some of the given squares.
+fn slider_reach(p: &Position, piece: Piece, to: Square, among: u128) -> u128
+    ensures far { ReachesWithin p.now (Some piece) to result }
+    ensures fits { result < 2 ^ 81 }
+{
+    to.validity();
+    let index = to.index();
+    let left = among & !(1 << index);
+    let steps = step_squares(piece, index);
+    let wide = steps | aligned_squares(index);
+    if left & !steps == 0 || left & !wide != 0 {
+        return wide;
+    }
+    p.as_board().targets_of(piece, to) | behind_king(p, index)
+}
+
+/// The squares that the piece reaches from the square, should the only king of the side that is not
+/// to move leave its own; or more, where these tell as much of whether it leaves some of the given
+/// squares.
+fn within_reach(p: &Position, cell: Option<Piece>, to: Square, among: u128) -> u128
+    ensures far { ReachesWithin p.now cell to result }
+    ensures fits { result < 2 ^ 81 }
+{
+    let Some(piece) = cell else { return 0 };
+    to.validity();
+    if piece.role.is_sliding() {
+        slider_reach(p, piece, to, among)
+    } else {
+        step_squares(piece, to.index())
+    }
+}
+
+/// Whether one of the squares is surely left to the king after the legal move, should that give it
+/// check: the move does not end there, what moves does not reach it, and it is on no line with the
+/// square that it leaves.
+pub fn leaves_escape(p: &Position, escapes: u128, m: &Move) -> bool
+    requires { AreEscapes p.now escapes }
+    ensures { result ≡ true → IsAnswered p.now m.now }
+{
+    p.validity();
+    match m {
+        Move::Board { from, to, promote } => {
+            from.validity();
+            to.validity();
+            let lines = aligned_squares(from.index());
+            let left = escapes & !lines;
+            if left == 0 {
+                return false;
+            }
+            let reach = within_reach(p, piece_moved(p.at(*from), *promote), *to, left);
+            has_open(p, escapes, reach | lines, *to)
+        }
+        Move::Drop { kind, to } => {
+            to.validity();
+            let reach = within_reach(p, dropped(p.side(), *kind), *to, escapes);
+            has_open(p, escapes, reach, *to)
+        }
+    }
+}
+
+/// Whether no piece of the side to move that slides is on a line with the square, whatever stands
+/// between.
+fn has_no_sniper(p: &Position, square: Square) -> bool
+    ensures { result ≡ true → HasNoSniper p.now.cells p.now.side square }
+{
+    square.validity();
+    let board = p.as_board();
+    board.own(p.side()) & board.sliders() & aligned_squares(square.index()) == 0
+}
+
+/// Whether one of the squares is surely left to the king after the legal move, should that give it
+/// check, as `leaves_escape` does not see it: on the board what moves does not slide on, and leaves
+/// a square on no line with a piece of its side that slides, so that it uncovers nothing; what is
+/// dropped on such a square, the king takes.
+pub fn leaves_king_move(p: &Position, escapes: u128, m: &Move) -> bool
+    requires { AreEscapes p.now escapes }
+    ensures { result ≡ true → IsAnswered p.now m.now }
+{
+    if escapes == 0 {
+        return false;
+    }
+    p.validity();
+    match m {
+        Move::Board { from, to, promote } => {
+            let Some(piece) = piece_moved(p.at(*from), *promote) else {
+                return false
+            };
+            from.validity();
+            to.validity();
+            if piece.role.is_sliding() || !has_no_sniper(p, *from) {
+                return false;
+            }
+            has_open(p, escapes, step_squares(piece, to.index()), *to)
+        }
+        Move::Drop { to, .. } => {
+            to.validity();
+            has(escapes, to.index()) && p.as_board().kings(p.side().opponent()) != 0
+        }
+    }
+}
+
+/// Whether the king on the square steps to another one, `to`, which no piece of the side to move
+/// attacks once the king and what stands on `from` have left theirs.
+fn is_unprotected(p: &Position, king: Square, from: Square, to: Square) -> bool
+    ensures reached { result ≡ true → reaches p.now.cells king to ≡ true }
+    ensures safe { result ≡ true → is_attacked
+        (slice_set (slice_set p.now.cells from None) king None) p.now.side to ≡ false }
+{
+    to.validity();
+    let board = p.as_board();
+    if !has(board.targets(king), to.index()) {
+        return false;
+    }
+    let mut next = *board;
+    next.set(from, None);
+    next.set(king, None);
+    !next.is_attacked(p.side(), to)
+}
+
+/// Whether the king of the side that is not to move, where it has just one, surely may take what
+/// moves on the board to a square next to it, if the move is legal.
+pub fn king_takes(p: &Position, m: &Move) -> bool
+    ensures { result ≡ true → IsAnswered p.now m.now }
+{
+    p.validity();
+    let Move::Board { from, to, .. } = m else {
+        return false
+    };
+    let Some(king) = p.king(p.side().opponent()) else {
+        return false
+    };
+    king.validity();
+    from.validity();
+    to.validity();
+    is_unprotected(p, king, *from, *to)
+}
+
+/// Those of the squares to which what stands on a square may move, promoting or not, so that one of
+/// the escapes is surely left to the king: up to the first after which none is.
+pub fn escaped_destinations(
+    p: &Position,
+    escapes: u128,
+    from: Square,
+    promote: bool,
+    destinations: u128,
+) -> u128
+    requires { AreEscapes p.now escapes }
+    ensures among { IsWithin result destinations }
+    ensures answered { AreAnswered p.now from promote result }
+{
+    let all = ALL_SQUARES & destinations;
+    let mut left = all;
+    while left != 0 {
+        let to = lowest(left);
+        let m = Move::Board {
+            from,
+            to: Square::of_index(to),
+            promote,
+        };
+        if !leaves_escape(p, escapes, &m) {
+            return all & !left;
+        }
+        left = without_lowest(left, to);
+    }
+    all
+}
+
+/// Those of the squares on which a piece of the kind may be dropped so that one of the escapes is
+/// surely left to the king: up to the first after which none is.
+pub fn escaped_drops(p: &Position, escapes: u128, kind: Kind, destinations: u128) -> u128
+    requires { AreEscapes p.now escapes }
+    ensures among { IsWithin result destinations }
+    ensures answered { AreDropsAnswered p.now kind result }
+{
+    let all = ALL_SQUARES & destinations;
+    let mut left = all;
+    while left != 0 {
+        let to = lowest(left);
+        let m = Move::Drop {
+            kind,
+            to: Square::of_index(to),
+        };
+        if !leaves_escape(p, escapes, &m) {
+            return all & !left;
+        }
+        left = without_lowest(left, to);
+    }
+    all
+}

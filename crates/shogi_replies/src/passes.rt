@@ -1,0 +1,129 @@
+//! Moves that are passed in a row.
+
+ghost use Rattle.std.specs.Prelude.{◌≡◌};
+ghost use Rattle.shogi_moves.specs.Escapes.{AreEscapes};
+ghost use Rattle.shogi_moves.specs.Sweeps.{IsBoardSweep, IsDropSweep};
+ghost use Rattle.shogi_replies.specs.Passes.{IsPassedTo, PassesBoard, PassesDrops};
+ghost use Rattle.shogi_replies.specs.Replies.{IsReplies};
+
+use crate::replies::Replies;
+use shogi_core::bits::{bits_above, lowest, without_lowest};
+use shogi_core::{FIRST_DROP, Position, SQUARE_CODES, Square};
+use shogi_moves::{BoardSweep, Destinations, DropSweep, matching_movers};
+
+impl Replies {
+    /// Passes the destinations of the present piece, up to the first one that is not among the
+    /// squares, or after which it is not certain that the other side has a legal move.
+    fn pass_destinations(
+        &self,
+        p: &Position,
+        capture: bool,
+        among: &Destinations,
+        escapes: u128,
+        sweep: &mut BoardSweep,
+    )
+        requires kept { IsBoardSweep p.now capture sweep.old }
+        requires replies { IsReplies p.now self.now.sight self.now.spare }
+        requires escapes { AreEscapes p.now escapes }
+        ensures kept { IsBoardSweep p.now capture sweep.new }
+        ensures passed { IsPassedTo p.now capture among.now sweep.old.code sweep.new.code }
+    {
+        let (from, plain, promoting) = (
+            sweep.from,
+            sweep.destinations.plain,
+            sweep.destinations.promoting,
+        );
+        from.validity();
+        let certain = self.certain_destinations(p, escapes, from, false, plain);
+        let promoted = self.certain_destinations(p, escapes, from, true, promoting);
+        let uncertain = plain & !(among.plain & certain)
+            | promoting & !(among.promoting & promoted);
+        if uncertain == 0 {
+            sweep.pass_ends(p, capture, 81);
+            return;
+        }
+        let to = lowest(uncertain);
+        if from.index() as u16 * SQUARE_CODES + 2 * to as u16 > sweep.code {
+            sweep.pass_ends(p, capture, to);
+        }
+    }
+
+    /// Passes all moves of the next pieces, as long as each of them ends on one of the squares and
+    /// it is certain that the other side has a legal move after it. Pieces that are far are not
+    /// looked at one by one.
+    fn pass_pieces(
+        &self,
+        p: &Position,
+        capture: bool,
+        among: &Destinations,
+        escapes: u128,
+        sweep: &mut BoardSweep,
+    )
+        requires kept { IsBoardSweep p.now capture sweep.old }
+        requires none { (sweep.old.destinations.plain ≡ 0)
+            × (sweep.old.destinations.promoting ≡ 0) }
+        requires replies { IsReplies p.now self.now.sight self.now.spare }
+        requires escapes { AreEscapes p.now escapes }
+        ensures kept { IsBoardSweep p.now capture sweep.new }
+        ensures passed { IsPassedTo p.now capture among.now sweep.old.code sweep.new.code }
+    {
+        p.validity();
+        let far = self.far_pieces(p, capture, among);
+        let pieces = bits_above(p.as_board().own(p.side()), sweep.from.index());
+        let moving = matching_movers(p, capture, pieces);
+        let mut left = moving & !far;
+        'squares: while left != 0 {
+            let square = lowest(left);
+            let from = Square::of_index(square);
+            if !self.has_certain_moves(p, capture, among, escapes, from) {
+                sweep.pass_pieces(p, capture, square);
+                return;
+            }
+            left = without_lowest(left, square);
+        }
+        sweep.pass_pieces(p, capture, 81);
+    }
+
+    /// Passes the next moves of the sweep, as long as they end on one of the squares for moves without
+    /// promotion, or for those with it, and it is certain by a look at squares alone that the other
+    /// side has a legal move after them.
+    pub fn pass_moves(
+        &self,
+        p: &Position,
+        capture: bool,
+        among: &Destinations,
+        escapes: u128,
+        sweep: &mut BoardSweep,
+    )
+        requires kept { IsBoardSweep p.now capture sweep.old }
+        requires replies { IsReplies p.now self.now.sight self.now.spare }
+        requires escapes { AreEscapes p.now escapes }
+        ensures kept { IsBoardSweep p.now capture sweep.new }
+        ensures passed { PassesBoard p.now capture among.now sweep.old sweep.new }
+    {
+        self.pass_destinations(p, capture, among, escapes, sweep);
+        if sweep.destinations.plain == 0 {
+            if sweep.destinations.promoting == 0 {
+                self.pass_pieces(p, capture, among, escapes, sweep);
+            }
+        }
+    }
+
+    /// Passes the drops of the kind that the sweep is at, up to the first after which it is not
+    /// certain by a look at squares alone that the other side has a legal move.
+    pub fn pass_drops(&self, p: &Position, escapes: u128, sweep: &mut DropSweep)
+        requires kept { IsDropSweep p.now sweep.old }
+        requires replies { IsReplies p.now self.now.sight self.now.spare }
+        requires escapes { AreEscapes p.now escapes }
+        ensures kept { IsDropSweep p.now sweep.new }
+        ensures passed { PassesDrops p.now sweep.old sweep.new }
+    {
+        let destinations = sweep.destinations;
+        let uncertain = destinations & !self.certain_drops(p, escapes, sweep.kind, destinations);
+        if uncertain == 0 {
+            sweep.pass_ends(p, 81);
+            return;
+        }
+        sweep.pass_ends(p, lowest(uncertain));
+    }
+}

@@ -1,0 +1,462 @@
+//! Whether the other side surely has a legal move after a move, without making it.
+
+ghost use Rattle.std.specs.Prelude.{◌≡◌, ◌≢◌, ◌<◌, ◌^◌, ℕ, Bool, [], true, false, bit_and};
+ghost use Rattle.shogi_core.specs.declared.moves.Move.TheVariants as moves;
+ghost use Rattle.shogi_core.specs.Below.{some_below};
+ghost use Rattle.shogi_core.specs.Bits.{has_bit};
+ghost use Rattle.shogi_core.specs.Movement.{piece_at, reaches};
+ghost use Rattle.shogi_core.specs.Pieces.{opponent_of};
+ghost use Rattle.shogi_moves.specs.After.{after};
+ghost use Rattle.shogi_moves.specs.Destinations.{IsWithin};
+ghost use Rattle.shogi_moves.specs.Escapes.{AreEscapes};
+ghost use Rattle.shogi_moves.specs.Legal.{is_legal};
+ghost use Rattle.shogi_core.specs.Zones.{may_promote};
+ghost use Rattle.shogi_moves.specs.LegalMoves.{legal_codes};
+ghost use Rattle.shogi_replies.specs.Replies.{ChecksAmong, holds_free, is_open_step, is_spare, Sees, Aligns, IsReplies, IsHarmless, IsOpen, StaysCovered, UncoversWithin, AreAnswered, AreDropsAnswered, HasCertainMoves, IsAnswered};
+ghost use Rattle.shogi_replies.specs.Threats.{KeepsThreats, MayRetake};
+
+use crate::escapes::{escaped_destinations, escaped_drops};
+use crate::far::far_pieces;
+use shogi_core::bits::{ALL_SQUARES, cleared, has, lowest, without, without_lowest};
+use shogi_core::zones::{dead_squares, promoting_squares};
+use shogi_core::{Color, Kind, Move, Piece, Position, Square, aligned_squares, step_squares};
+use shogi_moves::{Destinations, dropped, matching_destinations, piece_moved};
+
+/// What is kept of a position to decide that after most of its moves the other side is in no check
+/// and has a legal move: what its king sees, and pieces of it that have an open step, or the empty
+/// squares where it holds a piece that may be dropped on each of them.
+#[derive(Clone, Copy, Debug)]
+pub struct Replies {
+    pub sight: u128,
+    pub spare: u128,
+}
+
+/// The squares of kings of the side, of open lines with them, and a knight's jump away.
+#[tactic(auto, using(crate::proofs::ReplyLaws::seeing))]
+fn sight_squares(p: &Position, side: Color) -> u128
+    ensures { Sees p.now.cells side 0 result }
+{
+    let board = p.as_board();
+    let mut left = board.kings(side);
+    let mut sight = left;
+    while left != 0 {
+        let king = lowest(left);
+        sight |= board.seen(Square::of_index(king));
+        left = without_lowest(left, king);
+    }
+    sight
+}
+
+/// The squares of kings of the side, and of lines with them, whatever stands between.
+#[tactic(auto, using(crate::proofs::ReplyLaws::aligning))]
+pub fn line_squares(p: &Position, side: Color) -> u128
+    ensures { Aligns p.now.cells side 0 result }
+{
+    let mut left = p.as_board().kings(side);
+    let mut lines = left;
+    while left != 0 {
+        let king = lowest(left);
+        lines |= aligned_squares(king);
+        left = without_lowest(left, king);
+    }
+    lines
+}
+
+/// Whether what stands on the square may stand in the way of a piece that slides to a king of the
+/// side: such a piece is on a line with the king and on an open line with the square.
+fn may_uncover(p: &Position, side: Color, from: Square) -> bool
+    ensures { result ≡ false → StaysCovered p.now.cells side from }
+{
+    from.validity();
+    let snipers = p.as_board().snipers(side) & aligned_squares(from.index());
+    snipers != 0 && p.as_board().lined(from) & snipers != 0
+}
+
+/// Whether what stands on the square has a step to where none of the side's own stands, and from
+/// where it can move again without promotion.
+fn has_open_step(p: &Position, side: Color, from: Square) -> bool
+    ensures { result ≡ true → some_below 81 (is_open_step p.now.cells side from) ≡ true }
+{
+    let cell = p.at(from);
+    match cell {
+        None => false,
+        Some(piece) => {
+            from.validity();
+            step_squares(piece, from.index()) & !p.as_board().own(side) & !dead_squares(cell) != 0
+        }
+    }
+}
+
+/// Two pieces of the side that are on no line with a king of their own and have an open step, or
+/// fewer where there are no more.
+fn spare_pieces(p: &Position, side: Color, lines: u128) -> u128
+    requires { Aligns p.now.cells side 0 lines }
+    ensures spares { (a : ℕ) → a < 81 → has_bit result a ≡ true
+        → is_spare p.now.cells side a ≡ true }
+    ensures fits { result < 2 ^ 81 }
+{
+    let mut left = p.as_board().own(side) & !lines;
+    let mut kept = left;
+    let mut found = 0u8;
+    while left != 0 && found < 2 {
+        let from = lowest(left);
+        if has_open_step(p, side, Square::of_index(from)) {
+            found += 1;
+        } else {
+            kept = cleared(kept, from);
+        }
+        left = without_lowest(left, from);
+    }
+    kept & !left
+}
+
+/// Whether what would stand on the square attacks a king of the side.
+#[inline(never)]
+fn attacks_king(p: &Position, side: Color, cell: Option<Piece>, to: Square) -> bool
+    ensures { result ≡ false → IsHarmless p.now.cells side cell to }
+{
+    match cell {
+        None => false,
+        Some(piece) => {
+            let board = p.as_board();
+            board.targets_of(piece, to) & board.kings(side) != 0
+        }
+    }
+}
+
+/// The squares from which the piece would attack a king of the side: those that it would reach from
+/// there if it were of the other colour.
+fn check_squares(p: &Position, side: Color, cell: Option<Piece>) -> u128
+    ensures { (n : ℕ) → n < 81 → has_bit result n ≡ false
+        → IsHarmless p.now.cells side cell n }
+{
+    let Some(piece) = cell else { return 0 };
+    let back = Piece {
+        color: piece.color.opponent(),
+        role: piece.role,
+    };
+    let board = p.as_board();
+    let mut left = board.kings(side);
+    let mut checks = 0;
+    while left != 0 {
+        let king = lowest(left);
+        checks |= board.targets_of(back, Square::of_index(king));
+        left = without_lowest(left, king);
+    }
+    checks
+}
+
+/// Whether the side holds a piece that it may drop on each empty square where it is in no check:
+/// one that is no pawn and has a move from everywhere.
+fn holds_free(p: &Position, side: Color) -> bool
+    ensures { result ≡ holds_free p.now.hands side }
+{
+    p.hand(side, Kind::Silver) > 0
+        || p.hand(side, Kind::Gold) > 0
+        || p.hand(side, Kind::Bishop) > 0
+        || p.hand(side, Kind::Rook) > 0
+}
+
+/// Whether each of the ends of moves from the square is among the squares for moves without
+/// promotion, and each at which such a move may promote among those for moves with it.
+#[inline(always)]
+fn are_among(p: &Position, from: Square, ends: u128, plain: u128, promoting: u128) -> bool
+    ensures plain { result ≡ true → (n : ℕ) → n < 81 → has_bit ends n ≡ true
+        → has_bit plain n ≡ true }
+    ensures promoting { result ≡ true → (n : ℕ) → n < 81 → has_bit ends n ≡ true
+        → may_promote (piece_at p.now.cells from) from n ≡ true → has_bit promoting n ≡ true }
+{
+    if ends & !plain != 0 {
+        return false;
+    }
+    if ends & !promoting == 0 {
+        return true;
+    }
+    ends & promoting_squares(p.at(from), from) & !promoting == 0
+}
+
+impl Replies {
+    /// Whether what comes to stand on the square surely gives no check to the other side.
+    #[inline(always)]
+    fn is_harmless(&self, p: &Position, cell: Option<Piece>, to: Square) -> bool
+        requires kept { IsReplies p.now self.now.sight self.now.spare }
+        ensures { result ≡ true → IsHarmless p.now.cells (opponent_of p.now.side) cell to }
+    {
+        to.validity();
+        if has(self.sight, to.index()) {
+            return !attacks_king(p, p.side().opponent(), cell, to);
+        }
+        true
+    }
+
+    /// The squares to which a move of what stands on the square may uncover a check: none where no
+    /// king sees it, all where it may cover one, and else the lines of the king for a piece that
+    /// slides.
+    #[inline(always)]
+    fn uncovering_squares(&self, p: &Position, from: Square) -> u128
+        ensures { UncoversWithin p.now.cells (opponent_of p.now.side) self.now.sight from result }
+    {
+        from.validity();
+        if !has(self.sight, from.index()) {
+            return 0;
+        }
+        let side = p.side().opponent();
+        if may_uncover(p, side, from) {
+            return ALL_SQUARES;
+        }
+        if has(p.as_board().sliders(), from.index()) {
+            line_squares(p, side)
+        } else {
+            0
+        }
+    }
+
+    /// What is kept of the position.
+    pub fn of(p: &Position) -> Replies
+        ensures { IsReplies p.now result.sight result.spare }
+    {
+        let opponent = p.side().opponent();
+        let sight = sight_squares(p, opponent);
+        let spare = if holds_free(p, opponent) {
+            p.as_board().free()
+        } else {
+            spare_pieces(p, opponent, line_squares(p, opponent))
+        };
+        Replies { sight, spare }
+    }
+
+    /// Nothing is known: each square is held to be seen.
+    pub fn unknown(p: &Position) -> Replies
+        ensures { IsReplies p.now result.sight result.spare }
+    {
+        let _ = p;
+        Replies {
+            sight: ALL_SQUARES,
+            spare: 0,
+        }
+    }
+
+    /// Whether it is certain that after the legal move the other side is in no check and has a
+    /// legal move. Then it may carry out each of its threats that the move leaves, and take what the
+    /// move puts on its square.
+    #[inline(always)]
+    pub fn is_certain(&self, p: &Position, m: &Move) -> bool
+        requires kept { IsReplies p.now self.now.sight self.now.spare }
+        requires legal { is_legal p.now m.now ≡ true }
+        ensures replied { result ≡ true → legal_codes (after p.now m.now) ≢ [] }
+        ensures threats { result ≡ true → KeepsThreats p.now m.now }
+        ensures retakes { result ≡ true → MayRetake p.now m.now }
+    {
+        p.validity();
+        match m {
+            Move::Board { from, to, promote } => {
+                from.validity();
+                let end = to.index();
+                if !self.is_harmless(p, piece_moved(p.at(*from), *promote), *to) {
+                    return false;
+                }
+                if has(self.uncovering_squares(p, *from), end) {
+                    return false;
+                }
+                self.spare & !(1 << end) != 0
+            }
+            Move::Drop { kind, to } => {
+                let end = to.index();
+                if !self.is_harmless(p, dropped(p.side(), *kind), *to) {
+                    return false;
+                }
+                self.spare & !(1 << end) != 0
+            }
+        }
+    }
+
+    /// Those of the squares on which what comes to stand may give check.
+    fn checking_squares(&self, p: &Position, cell: Option<Piece>, destinations: u128) -> u128
+        requires kept { IsReplies p.now self.now.sight self.now.spare }
+        ensures { ChecksAmong p.now cell destinations result }
+    {
+        let seen = destinations & self.sight;
+        if seen == 0 {
+            return 0;
+        }
+        seen & check_squares(p, p.side().opponent(), cell)
+    }
+
+    /// The squares that are not closed and leave the other side one that gives it a move.
+    fn open_squares(&self, closed: u128) -> u128
+        requires { self.now.spare < 2 ^ 81 }
+        ensures { (n : ℕ) → n < 81 → has_bit result n ≡ true
+            → IsOpen closed self.now.spare n }
+    {
+        if self.spare == 0 {
+            return 0;
+        }
+        let one = lowest(self.spare);
+        if without_lowest(self.spare, one) != 0 {
+            return !closed;
+        }
+        without(!closed, one)
+    }
+
+    /// Pieces of the side to move of which each move of the kind leaves the other side a legal
+    /// move, since they are far from its kings, and ends on one of the squares for moves without
+    /// promotion, or for those with it; none where the former are not all.
+    pub fn far_pieces(&self, p: &Position, capture: bool, among: &Destinations) -> u128
+        requires kept { IsReplies p.now self.now.sight self.now.spare }
+        ensures { (n : ℕ) → n < 81 → has_bit result n ≡ true
+            → HasCertainMoves p.now capture among.now n }
+    {
+        p.validity();
+        if ALL_SQUARES & !self.open_squares(0) != 0 {
+            return 0;
+        }
+        let ends = matching_destinations(p, capture);
+        if ends & !among.plain != 0 {
+            return 0;
+        }
+        let promotes = ends & !among.promoting == 0;
+        far_pieces(p, self.sight, promotes)
+    }
+
+    /// Pieces of the side to move of which each move, promoting or not, leaves the other side a legal
+    /// move, since they are far from its kings.
+    pub fn remote_pieces(&self, p: &Position) -> u128
+        requires kept { IsReplies p.now self.now.sight self.now.spare }
+        ensures { (a n : ℕ) (promote : Bool) → a < 81 → n < 81 → has_bit result a ≡ true
+            → reaches p.now.cells a n ≡ true → IsAnswered p.now (moves.Board a n promote) }
+    {
+        p.validity();
+        if ALL_SQUARES & !self.open_squares(0) != 0 {
+            return 0;
+        }
+        far_pieces(p, self.sight, true)
+    }
+
+    /// Whether each move of the kind of what stands on the square surely leaves the other side a
+    /// legal move, and ends on one of the squares for moves without promotion, or for those with
+    /// it. Which of the moves are legal need not be known.
+    #[inline(always)]
+    pub fn has_certain_moves(
+        &self,
+        p: &Position,
+        capture: bool,
+        among: &Destinations,
+        escapes: u128,
+        from: Square,
+    ) -> bool
+        requires kept { IsReplies p.now self.now.sight self.now.spare }
+        requires escapes { AreEscapes p.now escapes }
+        ensures { result ≡ true → HasCertainMoves p.now capture among.now from }
+    {
+        p.validity();
+        from.validity();
+        let ends = p.as_board().targets(from) & matching_destinations(p, capture);
+        if ends & self.sight == 0 && !has(self.sight, from.index()) {
+            let certain = self.unseen_destinations(p, from, ends);
+            return are_among(
+                p,
+                from,
+                ends,
+                among.plain & certain,
+                among.promoting & certain,
+            );
+        }
+        let promoting = ends & promoting_squares(p.at(from), from);
+        if ends & !among.plain | promoting & !among.promoting != 0 {
+            return false;
+        }
+        let certain = self.certain_destinations(p, escapes, from, false, ends);
+        if ends & !certain != 0 {
+            return false;
+        }
+        let promoted = self.certain_destinations(p, escapes, from, true, promoting);
+        ends & !(among.plain & certain) | promoting & !(among.promoting & promoted) == 0
+    }
+
+    /// Those of the squares to which what stands on a square may move so that the other side surely
+    /// has a legal move after it, where no king sees that square or one of these.
+    #[inline(always)]
+    fn unseen_destinations(&self, p: &Position, from: Square, destinations: u128) -> u128
+        requires kept { IsReplies p.now self.now.sight self.now.spare }
+        requires unseen { has_bit self.now.sight from ≡ false }
+        requires off { bit_and destinations self.now.sight ≡ 0 }
+        ensures among { IsWithin result destinations }
+        ensures certain { (promote : Bool) → AreAnswered p.now from promote result }
+    {
+        p.validity();
+        from.validity();
+        destinations & self.open_squares(0)
+    }
+
+    /// Those of the squares to which what stands on a square may move, promoting or not, so that
+    /// the other side surely has a legal move after it: it is in no check, or its king has one of
+    /// the escapes left.
+    #[inline(always)]
+    pub fn certain_destinations(
+        &self,
+        p: &Position,
+        escapes: u128,
+        from: Square,
+        promote: bool,
+        destinations: u128,
+    ) -> u128
+        requires escapes { AreEscapes p.now escapes }
+        requires kept { IsReplies p.now self.now.sight self.now.spare }
+        ensures among { IsWithin result destinations }
+        ensures certain { AreAnswered p.now from promote result }
+    {
+        p.validity();
+        from.validity();
+        if destinations == 0 {
+            return 0;
+        }
+        if destinations & self.sight == 0 && !has(self.sight, from.index()) {
+            return self.unseen_destinations(p, from, destinations);
+        }
+        self.certain_among(p, escapes, from, promote, destinations)
+    }
+
+    /// The same, where a king sees some of the squares.
+    #[inline(never)]
+    fn certain_among(
+        &self,
+        p: &Position,
+        escapes: u128,
+        from: Square,
+        promote: bool,
+        destinations: u128,
+    ) -> u128
+        requires escapes { AreEscapes p.now escapes }
+        requires kept { IsReplies p.now self.now.sight self.now.spare }
+        ensures among { IsWithin result destinations }
+        ensures certain { AreAnswered p.now from promote result }
+    {
+        p.validity();
+        from.validity();
+        let closed = self.checking_squares(p, piece_moved(p.at(from), promote), destinations)
+            | self.uncovering_squares(p, from);
+        let open = destinations & self.open_squares(closed);
+        if open == destinations || escapes == 0 {
+            return open;
+        }
+        open | escaped_destinations(p, escapes, from, promote, destinations & !open)
+    }
+
+    /// Those of the squares on which a piece of the kind may be dropped so that the other side
+    /// surely has a legal move after it: it is in no check, or its king has one of the escapes
+    /// left.
+    pub fn certain_drops(&self, p: &Position, escapes: u128, kind: Kind, destinations: u128) -> u128
+        requires escapes { AreEscapes p.now escapes }
+        requires kept { IsReplies p.now self.now.sight self.now.spare }
+        ensures among { IsWithin result destinations }
+        ensures certain { AreDropsAnswered p.now kind result }
+    {
+        p.validity();
+        let checking = self.checking_squares(p, dropped(p.side(), kind), destinations);
+        let open = destinations & self.open_squares(checking);
+        if open == destinations || escapes == 0 {
+            return open;
+        }
+        open | escaped_drops(p, escapes, kind, destinations & !open)
+    }
+}
