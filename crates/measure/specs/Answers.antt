@@ -23,11 +23,11 @@ abbrev pub IsCount : Shogi → ℕ → Option ℕ → Type 0
 IsCount p n (Some count) = count ≡ perft p n
 IsCount p n None = 2 ^ 64 ≤ perft p n
 
--- the value and the best move under the plain evaluation at a depth, after at most two steps for each node of the tree
+-- the value and the best move under the plain evaluation at a depth, after at most four steps for each node of the tree
 abbrev pub IsFound : Shogi → ℕ → Found → Type 0
 IsFound p n found =
     (found.value ≡ value p Plain n) × (found.best ≡ best p Plain n)
-    × (found.steps ≤ 2 * tree_size p n)
+    × (found.steps ≤ 4 * tree_size p n)
 
 -- the reply to the work at a position, to the depth asked for
 abbrev pub IsReply : Work → Shogi → ℕ → Reply → Type 0

@@ -29,10 +29,10 @@ pub pv_cost-leaf : (p : Shogi) (eval : Eval) → pv_cost p eval 0 ≡ 0
 unfolding pv_cost
 pv_cost-leaf p eval = refl
 
-pv_cost-suc : (p : Shogi) (eval : Eval) (k : ℕ) → pv_cost p eval (suc k) ≡ 2 * tree_size p (suc k) + then_pv_cost (λ q. pv_cost q eval k) p (best p eval (suc k))
+pv_cost-suc : (p : Shogi) (eval : Eval) (k : ℕ) → pv_cost p eval (suc k) ≡ 4 * tree_size p (suc k) + then_pv_cost (λ q. pv_cost q eval k) p (best p eval (suc k))
 unfolding pv_cost
 pv_cost-suc p eval k = refl
 
-pub pv_cost-above : (p : Shogi) (eval : Eval) (k : ℕ) → 0 < k → pv_cost p eval k ≡ 2 * tree_size p k + then_pv_cost (λ q. pv_cost q eval (k - 1)) p (best p eval k)
+pub pv_cost-above : (p : Shogi) (eval : Eval) (k : ℕ) → 0 < k → pv_cost p eval k ≡ 4 * tree_size p k + then_pv_cost (λ q. pv_cost q eval (k - 1)) p (best p eval k)
 pv_cost-above p eval zero h = absurd (omega arith)
 pv_cost-above p eval (suc k) h = let e : suc k - 1 ≡ k = omega arith in rw e (pv_cost-suc p eval k)

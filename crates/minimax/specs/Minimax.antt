@@ -87,11 +87,11 @@ abbrev pub then_pv_cost : (Shogi → ℕ) → Shogi → Option Move → ℕ
 then_pv_cost rest p None = 0
 then_pv_cost rest p (Some m) = rest (after p m)
 
--- the most search steps for the pv of this depth, where each of its positions with plies left is searched anew: two for each node of the trees along it, one to enter it and one to leave it
+-- the most search steps for the pv of this depth, where each of its positions with plies left is searched anew: four for each node of the trees along it, one to enter it and one to leave it, and both twice
 unfoldable pub pv_cost : Shogi → Eval → ℕ → ℕ
 pv_cost p e zero = 0
 pv_cost p e (suc d) =
-    2 * tree_size p (suc d) + then_pv_cost (λ q. pv_cost q e d) p (best p e (suc d))
+    4 * tree_size p (suc d) + then_pv_cost (λ q. pv_cost q e d) p (best p e (suc d))
 
 -- what an entry says of the position at the depth holds
 abbrev pub IsTrueEntry : Shogi → Eval → ℕ → Entry → Type 0

@@ -750,6 +750,44 @@ fn at_once(p: &Position, e: Eval, depth: u8, alpha: i32, beta: i32) -> Known {
     Known::Exact(found.value, best)
 }
 
+/// Visits a child and notes it, where it serves.
+fn visit_and_note(
+    alloc: Global,
+    p: &Position,
+    e: Eval,
+    depth: u8,
+    alpha: i32,
+    beta: i32,
+    notes: &mut Notes,
+) -> Result<Known, AllocError> {
+    let entry = visit(alloc, p, e, depth, alpha, beta, notes)?;
+    if depth > 1 && notes.serves(depth) {
+        let noted = entry;
+        notes.note(p, e, depth, noted)?;
+    }
+    Ok(entry)
+}
+
+/// Visits a child under a window that may be narrower, and where that was not enough once more under the
+/// whole one: it is left and entered again in one step.
+fn visit_child(
+    alloc: Global,
+    p: &Position,
+    e: Eval,
+    depth: u8,
+    first: i32,
+    alpha: i32,
+    beta: i32,
+    notes: &mut Notes,
+) -> Result<Known, AllocError> {
+    let entry = visit_and_note(alloc, p, e, depth, first, beta, notes)?;
+    if is_cutoff(&entry, alpha, beta) {
+        return Ok(entry);
+    }
+    notes.steps = notes.steps.saturating_sub(1);
+    visit_and_note(alloc, p, e, depth, alpha, beta, notes)
+}
+
 /// Enters a node, goes through its moves, and leaves it; notes all below it. A node with one ply left
 /// or none is answered at once.
 fn visit(
@@ -803,12 +841,12 @@ fn visit(
                 let entry = match answer {
                     Some(entry) => entry,
                     None => {
-                        let entry = visit(alloc, &branch.position, e, below, under, over, notes)?;
-                        if is_asked {
-                            let noted = entry;
-                            notes.note(&branch.position, e, below, noted)?;
-                        }
-                        entry
+                        let first = if depth == notes.whole && depth >= 5 && best.is_some() {
+                            under.max(best_value.saturating_neg().saturating_sub(1))
+                        } else {
+                            under
+                        };
+                        visit_child(alloc, &branch.position, e, below, first, under, over, notes)?
                     }
                 };
                 let (worth, exact) = match entry {

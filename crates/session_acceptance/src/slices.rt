@@ -88,9 +88,9 @@ fn assert_every_budget(rt: &impl Abort, alloc: Global, row: &Row, load: u64) -> 
 }
 
 // The loads are counts of the whole tree: 31 positions at depth 1, 931 at depth 2 and 26,401 at depth 3,
-// each counted twice, for every search along the best lines. With two lines each of the 30 positions after a
-// move counts twice at depth 1: 60. At depth 2 each is the root of a tree of 31, so that they count 60 times
-// 31, and again 62 after each of the two moves that are listed.
+// each counted four times, for every search along the best lines. With two lines each of the 30 positions
+// after a move counts four times at depth 1: 120. At depth 2 each is the root of a tree of 31, so that they
+// count 120 times 31, and again 124 after each of the two moves that are listed.
 #[test]
 fn every_budget_gives_the_same_bytes_and_steps(rt: HostRuntime) -> Result<(), Fail> {
     let [one, two, three] = sliced();
@@ -99,11 +99,11 @@ fn every_budget_gives_the_same_bytes_and_steps(rt: HostRuntime) -> Result<(), Fa
         answer: &[TWO_AT_ONE, "bestmove 1g1f\n"],
     };
     for (row, load) in [
-        (one, 62),
-        (two, 1_986),
-        (three, 57_142),
-        (one_ply, 60),
-        (two_plies(), 60 + 60 * 31 + 2 * 62),
+        (one, 124),
+        (two, 3_972),
+        (three, 114_284),
+        (one_ply, 120),
+        (two_plies(), 120 + 120 * 31 + 2 * 124),
     ] {
         assert_every_budget(&rt, rt.alloc(), &row, load)?;
     }

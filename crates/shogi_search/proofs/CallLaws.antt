@@ -1,5 +1,5 @@
 -- Calls of a memory, one after another.
-use Rattle.std.proofs.Common.{◌≡◌, ◌≤◌, ◌+◌, ◌-◌, ◌*◌, ◌^◌, ℕ, Option, List, [], ◌∷◌, ◌++◌, refl, subst, arith}
+use Rattle.std.proofs.Common.{◌≡◌, ◌≤◌, ◌+◌, ◌-◌, ◌*◌, ◌^◌, ℕ, Option, List, [], ◌∷◌, ◌++◌, refl, subst, sym, arith}
 use Rattle.std.specs.Prelude.{min}
 use Rattle.std.proofs.lemmas.List.Sums.{sum_by-append}
 use Rattle.shogi_core.specs.Position.{Shogi}
@@ -69,6 +69,10 @@ asks_none called a most = record {
   walked = omega arith;
 }
 
+-- no question, where a memory is what it was
+pub asks_nothing : {M : Type 0} (called : M → Call → M → Type 0) (a b : M) (most : ℕ) → b ≡ a → Asks called a b most
+asks_nothing called a b most e = subst (λ m. Asks called a m most) (sym e) (asks_none called a most)
+
 -- fewer are as many at most
 pub at_most : {M : Type 0} (called : M → Call → M → Type 0) (a b : M) (s t x y p q : ℕ)
     → CallsInSteps called a b s t x y p → p ≤ q → CallsInSteps called a b s t x y q
@@ -132,12 +136,12 @@ tells_note called a b p e d entry one = record {
 pub tells_none : {M : Type 0} (called : M → Call → M → Type 0) (a : M) → TellsOnce called a a
 tells_none called a = record { calls = []; each = no_calls called a; told = omega arith; asked = refl }
 
--- a node is left, and where it is a child of the root the line is walked
+-- a node is left, and where it is a child of the root the line is walked, or it is entered again
 pub leaves : {M : Type 0} (called : M → Call → M → Type 0) (a b c : M) (s t x y most walks : ℕ)
     → TellsOnce called a b → Asks called b c most
-    → t ≡ min (s + 1) (2 ^ 64 - 1) → x ≡ y + 1 → walks ≤ 1 → most ≤ 14 * walks
+    → t ≡ min (s + 1) (2 ^ 64 - 1) → most + x ≤ 1 + y + 14 * walks → 2 * walks + y ≤ 1 + x
     → CallsInSteps called a c s t x y 0
-leaves called a b c s t x y most walks k line counted below few fits = record {
+leaves called a b c s t x y most walks k line counted fits falls = record {
   calls = k.calls ++ line.calls;
   made = 1;
   walks = walks;
@@ -145,7 +149,7 @@ leaves called a b c s t x y most walks k line counted below few fits = record {
   counted = counted;
   told = rw (sum_by-append telling_of k.calls line.calls) (omega (arith, k.told, line.told, line.counted));
   asked = rw (sum_by-append question_of k.calls line.calls) (omega (arith, k.asked, line.asked, line.counted, line.walked));
-  walked = omega arith;
+  walked = falls;
 }
 
 -- before the first step

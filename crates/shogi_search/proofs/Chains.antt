@@ -139,5 +139,5 @@ pub left_kept : (f g : Frame) → IsSame f g → g.picker ≡ f.picker → left_
 left_kept f g s k = omega (arith, moves_same f g s k)
 
 -- what is left of the frames below and of one more
-pub left_above : (all fs : List Frame) (f : Frame) → all ≡ fs ++ f ∷ [] → sum_by left_of_frame all ≡ sum_by left_of_frame fs + left_of_frame f
-left_above all fs f e = ap (sum_by left_of_frame) e ∙ sum_by-append left_of_frame fs (f ∷ []) ∙ grind (arith)
+pub left_above : (left : Frame → ℕ) (all fs : List Frame) (f : Frame) → all ≡ fs ++ f ∷ [] → sum_by left all ≡ sum_by left fs + left f
+left_above left all fs f e = ap (sum_by left) e ∙ sum_by-append left fs (f ∷ []) ∙ grind (arith)

@@ -16,7 +16,9 @@ use Rattle.shogi_search.specs.declared.frame.Waiting.TheVariants.{Next, Asked, C
 use Rattle.shogi_search.specs.Entered.{Entered, IsKnownNode, IsNodeAt, IsPath}
 use Rattle.minimax.specs.Minimax.{negated, worth, value}
 use Rattle.shogi_search.specs.Order.{todo}
-use Rattle.shogi_search.specs.SlicedSearch.{IsSearch, entered_of, entered_in, current_in, cutoff_in, and_current}
+use Rattle.shogi_search.specs.SlicedSearch.{IsSearch, progress_of, entered_of, entered_in, current_in, cutoff_in, and_current}
+use Rattle.shogi_search.specs.Progress.{HasPath}
+use Rattle.shogi_search.proofs.SearchCallLaws.{entered_count}
 use Rattle.shogi_search.specs.Stack.{IsAt, IsChain, IsStack, WhereAsked, frames_of, parents_of}
 use Rattle.shogi_search.specs.declared.stack.Stack.{Stack}
 use Rattle.shogi_search.specs.declared.sliced_search.Search.TheInside.{Inside}
@@ -71,10 +73,10 @@ chain_path p e d low high (f ∷ fs) top c =
     (λ m k. chain_path (after_code p (code_of m)) e (d - 1) (negated high) (negated (threshold f.best_value (code_at f.best_move) (code_of m))) fs top k) c.1.1)
 
 -- the nodes of a stack are a way down from its root
-stack_path : (s : Stack) → IsStack s → IsPath s.root s.eval s.depth (negated INFINITY) s.beta (map entered_of (frames_of s))
+stack_path : (s : Stack) → IsStack s → IsPath s.root s.eval s.depth (negated INFINITY) s.bound (map entered_of (frames_of s))
 stack_path s k =
-    let t : HasTop s (IsChain s.root s.eval s.depth (negated INFINITY) s.beta (parents_of s)) = has_top s _ k.chain in
-    subst (λ (fs : List Frame). IsPath s.root s.eval s.depth (negated INFINITY) s.beta (map entered_of fs)) (sym (frames_are s t.top t.is)) (chain_path _ _ _ _ _ (parents_of s) t.top t.has)
+    let t : HasTop s (IsChain s.root s.eval s.depth (negated INFINITY) s.bound (parents_of s)) = has_top s _ k.chain in
+    subst (λ (fs : List Frame). IsPath s.root s.eval s.depth (negated INFINITY) s.bound (map entered_of fs)) (sym (frames_are s t.top t.is)) (chain_path _ _ _ _ _ (parents_of s) t.top t.has)
 
 path_in : (found : Option Found) (started : Bool) (p : Shogi) (e : Eval) (d : ℕ) (low high : ℤ) (ns : List Entered) → started ≡ true → found ≡ None → IsPath p e d low high ns → IsPath p e d low high (entered_in found started ns)
 path_in (Some f) started p e d low high ns b o h = absurd (cc)
@@ -82,5 +84,10 @@ path_in None false p e d low high ns b o h = absurd (cc)
 path_in None true p e d low high ns b o h = h
 
 -- where a search is under way, the nodes that it has entered and not left are a way down from its root
-pub nodes_path : (s : Inside) → IsSearch s → s.started ≡ true → s.found ≡ None → IsPath s.stack.root s.stack.eval s.stack.depth (negated INFINITY) s.stack.beta (entered_in s.found s.started (map entered_of (frames_of s.stack)))
-nodes_path s i b o = path_in s.found s.started _ _ _ _ _ _ b o (stack_path s.stack (i.chain o b))
+pub nodes_path : (s : Inside) → IsSearch s → s.started ≡ true → s.found ≡ None → HasPath (progress_of s)
+nodes_path s i b o = record {
+  high = s.stack.bound;
+  within = (i.chain o b).within;
+  whole = λ one. i.whole o b (omega (arith, one, entered_count s.found s.started s.stack o b (i.chain o b)));
+  path = path_in s.found s.started _ _ _ _ _ _ b o (stack_path s.stack (i.chain o b));
+}

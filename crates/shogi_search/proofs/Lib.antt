@@ -7,8 +7,10 @@ pub mod Nodes
 pub mod Ahead
 pub mod Passed
 pub mod Chains
+pub mod Again
 pub mod CallLaws
 pub mod Places
+pub mod NarrowRoots
 pub mod SearchCallLaws
 pub mod Known
 pub mod RankedLaws

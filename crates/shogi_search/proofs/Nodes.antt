@@ -20,7 +20,7 @@ use Rattle.minimax.specs.Window.{IsCovered, threshold}
 use Rattle.shogi_search.specs.Order.{todo, IsKept}
 use Rattle.shogi_search.specs.declared.frame.Waiting.{Waiting}
 use Rattle.shogi_search.specs.declared.frame.Waiting.TheVariants.{Next, Asked, Cut}
-use Rattle.shogi_search.specs.Visits.{moves_at, IsCurrent, WhereCurrent, IsOver, IsKnownWhile}
+use Rattle.shogi_search.specs.Visits.{moves_at, IsAsked, IsCurrent, WhereCurrent, IsOver, IsKnownWhile}
 use Rattle.minimax.proofs.MinimaxLaws.{tree_size-above, tree_size-leaf, value_within, Within}
 use Rattle.shogi_search.proofs.OrderLaws.{IsWhole, whole, whole_covered}
 use Rattle.minimax.proofs.Cover.{IsCovered-start}
@@ -62,6 +62,16 @@ pub waits : (p : Shogi) (eval : Eval) (d : ℕ) (alpha beta best_value : ℤ) (b
 waits p eval d alpha beta best_value b ms Next m e c = absurd e
 waits p eval d alpha beta best_value b ms (Asked k) m e c = waits_at (worth p eval (d - 1)) p d (code_of m) ms alpha best_value b (subst (λ (x : Move). IsCovered (worth p eval (d - 1)) (moves_at p d) (code_of x ∷ ms) alpha best_value b) e c)
 waits p eval d alpha beta best_value b ms (Cut v) m e c = absurd e
+
+-- what is known of a node that waits for the answer of a move does not depend on where its window ends
+pub known_under : (p : Shogi) (eval : Eval) (d : ℕ) (alpha beta bound best_value : ℤ) (b : Option ℕ) (ms : List ℕ) (w : Waiting) → IsAsked w → IsKnownWhile p eval d alpha beta best_value b ms w → IsKnownWhile p eval d alpha bound best_value b ms w
+known_under p eval d alpha beta bound best_value b ms Next a c = absurd a
+known_under p eval d alpha beta bound best_value b ms (Asked k) a c = c
+known_under p eval d alpha beta bound best_value b ms (Cut v) a c = absurd a
+
+-- a move that is asked for is not taken in
+pub is_asked : (w : Waiting) (m : Move) → w ≡ Asked m → IsAsked w
+is_asked w m e = subst IsAsked (sym e) tt
 
 -- what a node knows whose moves are all gone through
 pub record IsGone (p : Shogi) (eval : Eval) (d : ℕ) (alpha best_value : ℤ) (b : Option ℕ) (ms : List ℕ) : Type 0 where

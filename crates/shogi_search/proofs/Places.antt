@@ -1,5 +1,5 @@
 -- The node on top of a stack, among its frames.
-use Rattle.std.proofs.Common.{◌≡◌, ◌≢◌, ◌<◌, ◌≤◌, ◌+◌, ◌-◌, ◌*◌, ℤ, ℕ, zero, suc, List, [], ◌∷◌, ◌++◌, length, take, set, get_or, Option, Some, None, refl, sym, ap, ◌∙◌, arith, subst}
+use Rattle.std.proofs.Common.{◌≡◌, ◌≢◌, ◌<◌, ◌≤◌, ◌+◌, ◌-◌, ◌*◌, ◌≤ℤ◌, ℤ, ℕ, zero, suc, List, [], ◌∷◌, ◌++◌, length, take, set, get_or, Option, Some, None, refl, sym, ap, ◌∙◌, arith, subst}
 use Rattle.std.specs.Prelude.{sum_by, slice_get, IsSomeAnd}
 use Rattle.std.proofs.lemmas.List.{take-set, length-take-le}
 use Rattle.std.proofs.lemmas.Option.{slice_get_within, slice_get-get_or, get_or_from_slice_get}
@@ -16,8 +16,10 @@ use Rattle.minimax.specs.Minimax.{negated, IsTrueEntry, tree_size, sum_of_tree_s
 use Rattle.minimax.specs.Entries.{IsCutoff}
 use Rattle.minimax.specs.Window.{threshold, code_at}
 use Rattle.shogi_search.specs.Frames.{position_after, threshold_of}
-use Rattle.shogi_search.specs.Stack.{IsAt, IsSame, IsChain, IsStack, OnTop, UsesSteps, frames_of, parents_of, left_of_frame, steps_left, left_with_child, steps_after}
+use Rattle.shogi_search.specs.Stack.{IsAt, IsSame, IsChain, IsStack, OnTop, UsesSteps, frames_of, parents_of, left_at, left_of_frame, steps_left, steps_after, steps_for}
+use Rattle.shogi_search.proofs.Again.{left_root, left_pushed, left_stays, left_taken, left_whole}
 use Rattle.shogi_core.specs.Position.{Shogi}
+use Rattle.minimax.proofs.MinimaxLaws.{tree_size-positive}
 use Rattle.shogi_eval.specs.declared.eval.Eval.{Eval}
 use Rattle.shogi_search.specs.Order.{todo, IsWithinTree}
 use Rattle.shogi_search.specs.Visits.{IsOver, IsFree}
@@ -30,12 +32,27 @@ use Rattle.minimax.specs.declared.bounds.TheConstants.{SEARCH_DEPTH_MAX, INFINIT
 abbrev pub IsTop : Stack → Frame → Type 0
 IsTop s f = slice_get s.frames s.height ≡ Some f
 
+-- one frame is on top
+pub one_top : (s : Stack) (f h : Frame) → IsTop s f → IsTop s h → f ≡ h
+one_top s f h a b = one f h (sym a ∙ b)
+  where
+    one : (f h : Frame) → Some f ≡ Some h → f ≡ h
+    one f h e = cc
+
 -- what holds of the node on top holds of that frame, and back
 pub on_top : (s : Stack) (f : Frame) (fact : Frame → Type 0) → IsTop s f → OnTop s fact → fact f
 on_top s f fact e h = subst (λ (o : Option Frame). IsSomeAnd o fact) e h
 
 pub of_top : (s : Stack) (f : Frame) (fact : Frame → Type 0) → IsTop s f → fact f → OnTop s fact
 of_top s f fact e h = subst (λ (o : Option Frame). IsSomeAnd o fact) (sym e) h
+
+-- what holds of the node on top may be exchanged for what follows from it
+pub on_map : (s : Stack) (P Q : Frame → Type 0) → ((f : Frame) → P f → Q f) → OnTop s P → OnTop s Q
+on_map s P Q g h = map_some (slice_get s.frames s.height) h
+  where
+    map_some : (o : Option Frame) → IsSomeAnd o P → IsSomeAnd o Q
+    map_some None h = h
+    map_some (Some f) h = g f h
 
 -- some frame is on top, where something holds of it
 pub record HasTop (s : Stack) (fact : Frame → Type 0) : Type 0 where
@@ -66,7 +83,7 @@ set_there (x ∷ xs) (suc i) f h = set_there xs i f (omega arith)
 
 -- a stack whose top is this frame, at this place among its frames
 abbrev pub with_frame : Stack → ℕ → Frame → Stack
-with_frame s i f = record { root = s.root; eval = s.eval; depth = s.depth; beta = s.beta; frames = set s.frames i f; height = i }
+with_frame s i f = record { root = s.root; eval = s.eval; depth = s.depth; beta = s.beta; bound = s.bound; frames = set s.frames i f; height = i }
 
 pub top_with : (s : Stack) (i : ℕ) (f : Frame) → i < length s.frames → IsTop (with_frame s i f) f
 top_with s i f h = set_there s.frames i f h
@@ -74,37 +91,47 @@ top_with s i f h = set_there s.frames i f h
 pub on_with : (s : Stack) (i : ℕ) (f : Frame) (fact : Frame → Type 0) → i < length s.frames → fact f → OnTop (with_frame s i f) fact
 on_with s i f fact h k = of_top (with_frame s i f) f fact (top_with s i f h) k
 
-pub left_with : (s : Stack) (i : ℕ) (f : Frame) → i < length s.frames → steps_left (with_frame s i f) ≡ sum_by left_of_frame (take i s.frames) + left_of_frame f
-left_with s i f h = left_above (frames_of (with_frame s i f)) (take i s.frames) f (frames_are (with_frame s i f) f (top_with s i f h) ∙ ap (λ (fs : List Frame). fs ++ f ∷ []) (take-set s.frames i f))
+-- what is left at a frame of the stack
+abbrev pub left_in : Stack → Frame → ℕ
+left_in s f = left_at s.depth s.bound s.beta f
 
-pub stack_with : (s : Stack) (i : ℕ) (f : Frame) → i < length s.frames → i < SEARCH_DEPTH_MAX → s.depth ≤ SEARCH_DEPTH_MAX → IsChain s.root s.eval s.depth (negated INFINITY) s.beta (take i s.frames) f → IsStack (with_frame s i f)
-stack_with s i f h fits shallow c = record {
+pub left_with : (s : Stack) (i : ℕ) (f : Frame) → i < length s.frames → steps_left (with_frame s i f) ≡ sum_by (left_in s) (take i s.frames) + left_in s f
+left_with s i f h = left_above (left_in s) (frames_of (with_frame s i f)) (take i s.frames) f (frames_are (with_frame s i f) f (top_with s i f h) ∙ ap (λ (fs : List Frame). fs ++ f ∷ []) (take-set s.frames i f))
+
+pub stack_with : (s : Stack) (i : ℕ) (f : Frame) → i < length s.frames → i < SEARCH_DEPTH_MAX → s.depth ≤ SEARCH_DEPTH_MAX → s.bound ≤ℤ s.beta → s.beta ≤ℤ INFINITY → IsChain s.root s.eval s.depth (negated INFINITY) s.bound (take i s.frames) f → IsStack (with_frame s i f)
+stack_with s i f h fits shallow within most c = record {
   shallow = shallow;
   height_fits = fits;
-  chain = on_with s i f (IsChain s.root s.eval s.depth (negated INFINITY) s.beta (parents_of (with_frame s i f))) h
-      (subst (λ (fs : List Frame). IsChain s.root s.eval s.depth (negated INFINITY) s.beta fs f) (sym (take-set s.frames i f)) c);
+  within = within;
+  most = most;
+  chain = on_with s i f (IsChain s.root s.eval s.depth (negated INFINITY) s.bound (parents_of (with_frame s i f))) h
+      (subst (λ (fs : List Frame). IsChain s.root s.eval s.depth (negated INFINITY) s.bound fs f) (sym (take-set s.frames i f)) c);
 }
 
 -- the node on top, as it is read at the height
 pub read_top : (s : Stack) (d : Frame) → s.height < length s.frames → IsTop s (get_or s.frames s.height d)
 read_top s d h = slice_get-get_or s.frames s.height d h
 
-pub left_read : (s : Stack) (f : Frame) → IsTop s f → steps_left s ≡ sum_by left_of_frame (parents_of s) + left_of_frame f
-left_read s f e = left_above (frames_of s) (parents_of s) f (frames_are s f e)
+pub left_read : (s : Stack) (f : Frame) → IsTop s f → steps_left s ≡ sum_by (left_in s) (parents_of s) + left_in s f
+left_read s f e = left_above (left_in s) (frames_of s) (parents_of s) f (frames_are s f e)
 
 -- the node on top is changed in its place
 pub changed : (s : Stack) (f g : Frame) → IsTop s f → IsStack s → IsSame f g → IsStack (with_frame s s.height g)
-changed s f g e k same = stack_with s s.height g (slice_get_within s.frames s.height f e) k.height_fits k.shallow (chain_same _ _ _ _ _ _ f g (on_top s f _ e k.chain) same)
+changed s f g e k same = stack_with s s.height g (slice_get_within s.frames s.height f e) k.height_fits k.shallow k.within k.most (chain_same _ _ _ _ _ _ f g (on_top s f _ e k.chain) same)
 
-pub left_changed : (s : Stack) (f g : Frame) → IsTop s f → steps_left (with_frame s s.height g) + left_of_frame f ≡ steps_left s + left_of_frame g
+pub left_changed : (s : Stack) (f g : Frame) → IsTop s f → steps_left (with_frame s s.height g) + left_in s f ≡ steps_left s + left_in s g
 left_changed s f g e = omega (arith, left_with s s.height g (slice_get_within s.frames s.height f e), left_read s f e)
+
+-- no node is deeper than the root
+pub depth_most : (s : Stack) (f : Frame) → IsTop s f → IsStack s → f.depth ≤ s.depth
+depth_most s f e k = omega (arith, chain_height s.root s.eval s.depth (negated INFINITY) s.bound (parents_of s) f (on_top s f _ e k.chain))
 
 -- there is room above a node that waits for a child
 pub room : (s : Stack) (f : Frame) → IsTop s f → IsStack s → 1 < f.depth → s.height + 1 < 16
 room s f e k deep =
-    let c : IsChain s.root s.eval s.depth (negated INFINITY) s.beta (parents_of s) f = on_top s f _ e k.chain in
+    let c : IsChain s.root s.eval s.depth (negated INFINITY) s.bound (parents_of s) f = on_top s f _ e k.chain in
     let fits : s.height < length s.frames = slice_get_within s.frames s.height f e in
-    omega (arith, chain_height s.root s.eval s.depth (negated INFINITY) s.beta (parents_of s) f c, length-take-le s.height s.frames (omega arith), k.shallow)
+    omega (arith, chain_height s.root s.eval s.depth (negated INFINITY) s.bound (parents_of s) f c, length-take-le s.height s.frames (omega arith), k.shallow)
 
 parents_are : (s : Stack) (f : Frame) → 0 < s.height → slice_get s.frames (s.height - 1) ≡ Some f → parents_of s ≡ take (s.height - 1) s.frames ++ f ∷ []
 parents_are s f h e = let k : s.height ≡ s.height - 1 + 1 = omega arith in ap (λ (n : ℕ). take n s.frames) k ∙ take_next s.frames (s.height - 1) f e
@@ -114,11 +141,11 @@ pub record IsBelow (s : Stack) (f : Frame) : Type 0 where
   pub top : Frame
   pub is : IsTop s top
   pub parents : parents_of s ≡ take (s.height - 1) s.frames ++ f ∷ []
-  pub popped : IsPopped s.root s.eval s.depth (negated INFINITY) s.beta (take (s.height - 1) s.frames) f top
+  pub popped : IsPopped s.root s.eval s.depth (negated INFINITY) s.bound (take (s.height - 1) s.frames) f top
 
 pub below : (s : Stack) (d : Frame) → IsStack s → 0 < s.height → s.height < length s.frames → IsBelow s (get_or s.frames (s.height - 1) d)
 below s d k h fits =
-    let t : HasTop s (IsChain s.root s.eval s.depth (negated INFINITY) s.beta (parents_of s)) = has_top s _ k.chain in
+    let t : HasTop s (IsChain s.root s.eval s.depth (negated INFINITY) s.bound (parents_of s)) = has_top s _ k.chain in
     let f : Frame = get_or s.frames (s.height - 1) d in
     let e : parents_of s ≡ take (s.height - 1) s.frames ++ f ∷ [] = parents_are s f h (slice_get-get_or s.frames (s.height - 1) d (omega arith)) in
     record { top = t.top; is = t.is; parents = e; popped = popped _ _ _ _ _ (parents_of s) (take (s.height - 1) s.frames) f t.top e t.has }
@@ -144,47 +171,69 @@ pub stack_popped : (s : Stack) (d g : Frame) → IsStack s → 0 < s.height → 
 stack_popped s d g k h fits same =
     let r : IsBelow s (get_or s.frames (s.height - 1) d) = below s d k h fits in
     let low : s.height < SEARCH_DEPTH_MAX = k.height_fits in
-    stack_with s (s.height - 1) g (omega arith) (omega arith) k.shallow (chain_same _ _ _ _ _ _ (get_or s.frames (s.height - 1) d) g r.popped.chain same)
+    stack_with s (s.height - 1) g (omega arith) (omega arith) k.shallow k.within k.most (chain_same _ _ _ _ _ _ (get_or s.frames (s.height - 1) d) g r.popped.chain same)
 
 pub left_popped : (s : Stack) (d g : Frame) → IsStack s → 0 < s.height → s.height < length s.frames → IsSame (get_or s.frames (s.height - 1) d) g → g.picker ≡ (get_or s.frames (s.height - 1) d).picker → steps_left (with_frame s (s.height - 1) g) < steps_left s
 left_popped s d g k h fits same picker =
-    let l : left_of_frame g ≡ left_of_frame (get_or s.frames (s.height - 1) d) = left_kept (get_or s.frames (s.height - 1) d) g same picker in
-    let r : IsBelow s (get_or s.frames (s.height - 1) d) = below s d k h fits in
-    omega (arith, left_with s (s.height - 1) g (omega arith), left_read s r.top r.is, left_above (parents_of s) (take (s.height - 1) s.frames) (get_or s.frames (s.height - 1) d) r.parents)
+    let f : Frame = get_or s.frames (s.height - 1) d in
+    let l : left_in s g ≡ left_in s f = left_stays s.depth s.bound s.beta f g same (left_kept f g same picker) in
+    let r : IsBelow s f = below s d k h fits in
+    omega (arith, l, left_with s (s.height - 1) g (omega arith), left_read s r.top r.is, left_above (left_in s) (parents_of s) (take (s.height - 1) s.frames) f r.parents)
 
 -- something is left of a stack
 pub left_positive : (s : Stack) → IsStack s → 0 < steps_left s
 left_positive s k =
-    let t : HasTop s (IsChain s.root s.eval s.depth (negated INFINITY) s.beta (parents_of s)) = has_top s _ k.chain in
+    let t : HasTop s (IsChain s.root s.eval s.depth (negated INFINITY) s.bound (parents_of s)) = has_top s _ k.chain in
     omega (arith, left_read s t.top t.is)
 
 -- the child after the move that the node on top has asked for is entered above it
-pub stack_entered : (s : Stack) (f g : Frame) (m : Move) → IsTop s f → IsStack s → f.waiting ≡ Asked m → 1 < f.depth → s.height + 1 < length s.frames → IsAt (position_after f m) f.node.eval (f.depth - 1) (negated f.beta) (negated (threshold_of f m)) g → IsStack (with_frame s (s.height + 1) g)
-stack_entered s f g m is k asks more fits place =
-    stack_with s (s.height + 1) g fits (omega (arith, room s f is k more)) k.shallow
+pub stack_entered : (s : Stack) (f g : Frame) (m : Move) → IsTop s f → IsStack s → f.waiting ≡ Asked m → 0 < f.depth → s.height + 1 < SEARCH_DEPTH_MAX → s.height + 1 < length s.frames → IsAt (position_after f m) f.node.eval (f.depth - 1) (negated f.beta) (negated (threshold_of f m)) g → IsStack (with_frame s (s.height + 1) g)
+stack_entered s f g m is k asks more low fits place =
+    stack_with s (s.height + 1) g fits low k.shallow k.within k.most
     (pushed _ _ _ _ _ (frames_of s) (parents_of s) f g m (frames_are s f is) (on_top s f _ is k.chain) (record { deep = omega (arith, more); asks = asks; at_child = place }))
 
 -- a node is entered, and none of its moves is gone through
-pub left_entered : (s : Stack) (i : ℕ) (f : Frame) (p : Shogi) (e : Eval) (d : ℕ) (alpha beta : ℤ) → i < length s.frames → IsAt p e d alpha beta f → IsWithinTree p d f.picker → steps_left (with_frame s i f) < sum_by left_of_frame (take i s.frames) + 2 * tree_size p d
-left_entered s i f p e d alpha beta fits place counted =
+pub frame_entered : (f : Frame) (p : Shogi) (e : Eval) (d : ℕ) (alpha beta : ℤ) → IsAt p e d alpha beta f → IsWithinTree p d f.picker → left_of_frame f < 2 * tree_size p d
+frame_entered f p e d alpha beta place counted =
     let moves : sum_of_tree_sizes f.node.position (f.depth - 1) (todo f.node.position f.picker) ≡ sum_of_tree_sizes p (d - 1) (todo p f.picker) = ap (λ (x : Shogi). sum_of_tree_sizes x (f.depth - 1) (todo x f.picker)) place.position ∙ ap (λ (x : ℕ). sum_of_tree_sizes p (x - 1) (todo p f.picker)) place.depth in
-    omega (arith, moves, counted, left_with s i f fits)
+    omega (arith, moves, counted)
 
-pub left_child : (s : Stack) (f g : Frame) (m : Move) (e : Eval) (alpha beta : ℤ) → IsTop s f → s.height + 1 < length s.frames → IsAt (position_after f m) e (f.depth - 1) alpha beta g → IsWithinTree (position_after f m) (f.depth - 1) g.picker → UsesSteps s (with_frame s (s.height + 1) g) m 1
-left_child s f g m e alpha beta is fits place counted =
+-- the root is entered, and each of its moves may be asked twice
+pub left_begun : (s : Stack) (f : Frame) (p : Shogi) (e : Eval) (alpha beta : ℤ) → 0 < length s.frames → IsAt p e s.depth alpha beta f → IsWithinTree p s.depth f.picker → steps_left (with_frame s 0 f) + 1 < 4 * tree_size p s.depth
+left_begun s f p e alpha beta fits place counted =
+    omega (arith, frame_entered f p e s.depth alpha beta place counted, left_with s 0 f fits, left_root s.depth s.bound s.beta f place.depth)
+
+pub left_child : (s : Stack) (f g : Frame) (m : Move) (e : Eval) (alpha beta : ℤ) → IsTop s f → IsStack s → 0 < f.depth → s.height + 1 < length s.frames → IsAt (position_after f m) e (f.depth - 1) alpha beta g → IsWithinTree (position_after f m) (f.depth - 1) g.picker → UsesSteps s (with_frame s (s.height + 1) g) m 1
+left_child s f g m e alpha beta is k deep fits place counted =
+    let below : g.depth + 1 ≡ f.depth = omega (arith, place.depth, deep) in
+    let less : left_in s g + 1 ≤ steps_for s.depth f m = left_pushed s.depth s.bound s.beta f g m (depth_most s f is k) below place.position (frame_entered g _ e _ alpha beta place counted) in
+    of_top s f (λ (top : Frame). steps_left (with_frame s (s.height + 1) g) + 1 ≤ steps_left s + steps_for s.depth top m) is
+    (omega (arith, less, left_with s (s.height + 1) g fits))
+
+-- under the whole window of the root its tree is counted once
+pub left_once : (s : Stack) (f g : Frame) (m : Move) (e : Eval) (alpha beta : ℤ) → IsTop s f → IsStack s → 0 < f.depth → s.bound ≡ s.beta → s.height + 1 < length s.frames → IsAt (position_after f m) e (f.depth - 1) alpha beta g → IsWithinTree (position_after f m) (f.depth - 1) g.picker → OnTop s (λ top. steps_left (with_frame s (s.height + 1) g) + 1 ≤ steps_left s + steps_after top m)
+left_once s f g m e alpha beta is k deep whole fits place counted =
+    let low : g.depth < s.depth = omega (arith, place.depth, deep, depth_most s f is k) in
     of_top s f (λ (top : Frame). steps_left (with_frame s (s.height + 1) g) + 1 ≤ steps_left s + steps_after top m) is
-    (omega (arith, left_entered s (s.height + 1) g _ e _ alpha beta fits place counted))
+    (omega (arith, left_whole s.depth s.bound s.beta g low whole, frame_entered g _ e _ alpha beta place counted, left_with s (s.height + 1) g fits))
 
 -- the node on top has gone on with a move
-pub left_visited : (s : Stack) (m : Move) (f g : Frame) (n : ℕ) → IsTop s f → left_of_frame g + n ≤ left_with_child f m → UsesSteps s (with_frame s s.height g) m n
-left_visited s m f g n is l =
-    of_top s f (λ (top : Frame). steps_left (with_frame s s.height g) + n ≤ steps_left s + steps_after top m) is (omega (arith, left_changed s f g is, l))
+pub left_visited : (s : Stack) (m : Move) (f g : Frame) → IsTop s f → IsSame f g → g.picker ≡ f.picker → UsesSteps s (with_frame s s.height g) m 1
+left_visited s m f g is same picker =
+    of_top s f (λ (top : Frame). steps_left (with_frame s s.height g) + 1 ≤ steps_left s + steps_for s.depth top m) is
+    (omega (arith, left_changed s f g is, left_stays s.depth s.bound s.beta f g same (left_kept f g same picker), tree_size-positive (position_after f m) (f.depth - 1)))
 
 -- a move is asked for, and gone on with
-pub left_descended : (s t : Stack) (m : Move) (f g : Frame) (n : ℕ) → IsTop s f → steps_after g m + left_of_frame g ≤ left_of_frame f → UsesSteps (with_frame s s.height g) t m n → steps_left t + n ≤ steps_left s
-left_descended s t m f g n is less l =
-    let k : steps_left t + n ≤ steps_left (with_frame s s.height g) + steps_after g m = on_top (with_frame s s.height g) g (λ (top : Frame). steps_left t + n ≤ steps_left (with_frame s s.height g) + steps_after top m) (top_with s s.height g (slice_get_within s.frames s.height f is)) l in
-    omega (arith, k, left_changed s f g is, less)
+pub left_descended : (s t : Stack) (m : Move) (f g : Frame) (n : ℕ) → IsTop s f → IsSame f g → steps_after g m + left_of_frame g ≤ left_of_frame f → UsesSteps (with_frame s s.height g) t m n → steps_left t + n ≤ steps_left s
+left_descended s t m f g n is same less l =
+    let k : steps_left t + n ≤ steps_left (with_frame s s.height g) + steps_for s.depth g m = on_top (with_frame s s.height g) g (λ (top : Frame). steps_left t + n ≤ steps_left (with_frame s s.height g) + steps_for s.depth top m) (top_with s s.height g (slice_get_within s.frames s.height f is)) l in
+    let taken : left_in s g + steps_for s.depth g m ≤ left_in s f = left_taken s.depth s.bound s.beta f g (steps_after g m) same (omega (arith, less)) in
+    omega (arith, k, left_changed s f g is, taken)
+
+-- no move is asked for, and no more is left
+pub left_passed : (s : Stack) (f g : Frame) → IsTop s f → IsSame f g → left_of_frame g ≤ left_of_frame f → steps_left (with_frame s s.height g) ≤ steps_left s
+left_passed s f g is same less =
+    omega (arith, left_changed s f g is, left_taken s.depth s.bound s.beta f g 0 same (omega (arith, less)))
 
 -- no move is left to ask for
 pub over_next : (g : Frame) → g.waiting ≡ Next → todo g.node.position g.picker ≡ [] → IsOver g.waiting (todo g.node.position g.picker)

@@ -23,7 +23,7 @@ use Rattle.shogi_search.proofs.Places.{HasTop, has_top}
 -- so many frames are on the way down
 frames_count : (s : Stack) → IsStack s → length (frames_of s) ≡ s.height + 1
 frames_count s k =
-    let t : HasTop s (IsChain s.root s.eval s.depth (negated INFINITY) s.beta (parents_of s)) = has_top s _ k.chain in
+    let t : HasTop s (IsChain s.root s.eval s.depth (negated INFINITY) s.bound (parents_of s)) = has_top s _ k.chain in
     let fits : s.height < length s.frames = slice_get_within s.frames s.height t.top t.is in
     length-take-le (s.height + 1) s.frames (omega arith)
 

@@ -1,5 +1,5 @@
 -- A search in slices, as its caller sees it (own choice).
-use Rattle.std.specs.Prelude.{◌≡◌, ℕ, ℤ, ◌*◌, ◌≤ℤ◌, ◌<ℤ◌, Bool, false, List, [], Option, None, Some, IsSome}
+use Rattle.std.specs.Prelude.{◌≡◌, ℕ, ℤ, ◌*◌, ◌≤ℤ◌, ◌<ℤ◌, Bool, false, List, [], length, Option, None, Some, IsSome}
 use Rattle.std.specs.Option.{ForSome}
 use Rattle.shogi_core.specs.Position.{Shogi}
 use Rattle.shogi_eval.specs.declared.eval.Eval.{Eval}
@@ -35,7 +35,7 @@ untouched_below p e d beta = record {
   beta = beta;
   started = false;
   entered = [];
-  left = 2 * tree_size p d;
+  left = 4 * tree_size p d;
   steps = 0;
   found = None;
 }
@@ -44,10 +44,13 @@ untouched_below p e d beta = record {
 abbrev pub untouched : Shogi → Eval → ℕ → Progress
 untouched p e d = untouched_below p e d INFINITY
 
--- the nodes that it has entered and not left are a way down from its root
-abbrev pub HasPath : Progress → Type 0
-HasPath search =
-    IsPath search.root search.eval search.depth (negated INFINITY) search.beta search.entered
+-- the nodes that it has entered and not left are a way down from its root, whose window ends at the bound, or before it while a child of the root is entered
+pub record HasPath (search : Progress) : Type 0 where
+  pub high : ℤ
+  pub within : high ≤ℤ search.beta
+  pub whole : length search.entered ≡ 1 → high ≡ search.beta
+  pub path :
+      IsPath search.root search.eval search.depth (negated INFINITY) high search.entered
 
 -- what a memory that gives these answers has for its root says enough, below its bound
 abbrev pub IsAnsweredBy : (Shogi → Eval → ℕ → Option Entry) → Progress → Type 0

@@ -13,13 +13,13 @@ use Rattle.shogi_search.specs.Entered.{Entered}
 use Rattle.shogi_search.specs.Order.{todo}
 use Rattle.shogi_search.specs.Progress.{Progress, IsFoundBelow}
 use Rattle.shogi_search.specs.Visits.{IsFree}
-use Rattle.shogi_search.specs.Stack.{IsStack, OnTop, frames_of, steps_left}
+use Rattle.shogi_search.specs.Stack.{IsStack, IsWhole, OnTop, frames_of, steps_left}
 use Rattle.minimax.specs.Window.{code_at}
 use Rattle.minimax.specs.declared.bounds.TheConstants.{SEARCH_DEPTH_MAX, INFINITY}
 
--- the most steps of the search: two for each node of the tree
+-- the most steps of the search: four for each node of the tree, since moves of the root may be asked twice
 abbrev pub steps_of_tree : Stack → ℕ
-steps_of_tree s = 2 * tree_size s.root s.depth
+steps_of_tree s = 4 * tree_size s.root s.depth
 
 -- nothing once it has found, all before the root is entered, and else what is left of the stack
 abbrev pub left_in : Option Found → Bool → ℕ → ℕ → ℕ
@@ -91,6 +91,7 @@ pub record IsSearch (s : Inside) : Type 0 where
   pub most : s.stack.beta ≤ℤ INFINITY
   pub known : ForSome s.found (IsKnown s)
   pub chain : s.found ≡ None → s.started ≡ true → IsStack s.stack
+  pub whole : s.found ≡ None → s.started ≡ true → IsWhole s.stack
   pub free : s.found ≡ None → s.started ≡ true → OnTop s.stack (λ top. IsFree top.waiting)
   pub counted :
       s.steps + left_in s.found s.started (steps_of_tree s.stack) (steps_left s.stack)

@@ -1,5 +1,6 @@
 -- The stack of a search in slices: the nodes that wait for a child, from the root on, and the node on top.
-use Rattle.std.specs.Prelude.{◌≡◌, ◌≤◌, ℕ, ◌+◌, ◌*◌, ◌-◌, ◌<◌, ℤ, List, [], ◌∷◌, sum_by, take, slice_get, IsSomeAnd, IfNone, Option, Some, None, MatchOption}
+use Rattle.std.specs.Prelude.{◌≡◌, ◌==◌, ◌≤◌, ◌≤ℤ◌, ◌<ℤ◌, ℕ, ◌+◌, ◌*◌, ◌-◌, ◌<◌, ℤ, List, [], ◌∷◌, cond, ◌&&◌, not, sum_by, take, slice_get, IsSomeAnd, IfNone, Option, Some, None, MatchOption}
+use Rattle.std.specs.Ordering.{int_eq}
 use Rattle.shogi_core.specs.declared.moves.Move.{Move}
 use Rattle.shogi_core.specs.Codes.{code_of}
 use Rattle.shogi_core.specs.Position.{Shogi}
@@ -38,6 +39,16 @@ KeepsMoves old new =
     × ((new.waiting ≡ old.waiting)
     × ((new.best_value ≡ old.best_value) × (new.best_move ≡ old.best_move))))
 
+-- and waits for the answer of a move, but its window may end elsewhere
+abbrev pub KeepsAsked : Frame → Frame → Type 0
+KeepsAsked old new =
+    (new.node ≡ old.node)
+    × ((new.depth ≡ old.depth)
+    × ((new.alpha ≡ old.alpha)
+    × ((new.picker ≡ old.picker)
+    × ((new.waiting ≡ old.waiting)
+    × ((new.best_value ≡ old.best_value) × (new.best_move ≡ old.best_move))))))
+
 -- what holds of the move that a node has asked for
 abbrev pub WhereAsked : Waiting → (Move → Type 0) → Type 0
 WhereAsked Next fact = ⊥
@@ -72,6 +83,13 @@ frames_of s = take (s.height + 1) s.frames
 abbrev pub OnTop : Stack → (Frame → Type 0) → Type 0
 OnTop s fact = IsSomeAnd (slice_get s.frames s.height) fact
 
+-- one frame stands for the position after the move of the other one, one ply less deep
+abbrev pub IsChildAfter : Frame → Move → Frame → Type 0
+IsChildAfter child m f =
+    (0 < f.depth)
+    × ((child.node.position ≡ position_after f m)
+    × ((child.node.eval ≡ f.node.eval) × (child.depth ≡ f.depth - 1)))
+
 -- what an entry says of the root holds
 abbrev pub IsTrueOfRoot : Stack → Entry → Type 0
 IsTrueOfRoot s entry = IsTrueEntry s.root s.eval s.depth entry
@@ -80,20 +98,45 @@ IsTrueOfRoot s entry = IsTrueEntry s.root s.eval s.depth entry
 abbrev pub IsTrueAnywhere : ℕ → Entry → Type 0
 IsTrueAnywhere d entry = (p : Shogi) (e : Eval) → IsValid p → IsTrueEntry p e d entry
 
--- a chain from the root, under the window that ends at its bound
+-- a chain from the root, under the window that ends at its bound for now, which is no more than that of the search
 pub record IsStack (s : Stack) : Type 0 where
   pub shallow : s.depth ≤ SEARCH_DEPTH_MAX
   pub height_fits : s.height < SEARCH_DEPTH_MAX
-  pub chain : OnTop s (IsChain s.root s.eval s.depth (negated INFINITY) s.beta (parents_of s))
+  pub within : s.bound ≤ℤ s.beta
+  pub most : s.beta ≤ℤ INFINITY
+  pub chain : OnTop s (IsChain s.root s.eval s.depth (negated INFINITY) s.bound (parents_of s))
+
+-- the root on top has its whole window
+abbrev pub IsWhole : Stack → Type 0
+IsWhole s = s.height ≡ 0 → s.bound ≡ s.beta
+
+-- a child of the root is on top, under a window that is narrower than the one that is left for its move
+abbrev pub IsNarrow : Stack → Type 0
+IsNarrow s = (s.height ≡ 1) × (s.bound <ℤ s.beta)
 
 -- what is left of a frame: itself, and twice the nodes after the moves neither entered nor answered
 abbrev pub left_of_frame : Frame → ℕ
 left_of_frame f =
     1 + 2 * sum_of_tree_sizes f.node.position (f.depth - 1) (todo f.node.position f.picker)
 
+-- what may be left once more, since moves of the root may be asked twice: all of the root, and the whole tree of its child while that has a narrow window
+abbrev pub left_again : ℕ → ℤ → ℤ → Frame → ℕ
+left_again d bound beta f =
+    cond (f.depth == d) (left_of_frame f)
+    (cond (f.depth + 1 == d && not (int_eq bound beta))
+    (2 * tree_size f.node.position f.depth) 0)
+
+-- both together, in a stack of a depth, by the end of its window for now and at last
+abbrev pub left_at : ℕ → ℤ → ℤ → Frame → ℕ
+left_at d bound beta f = left_of_frame f + left_again d bound beta f
+
 -- the most steps for the tree after a move of the node: two for each of its nodes
 abbrev pub steps_after : Frame → Move → ℕ
 steps_after f m = 2 * tree_size (position_after f m) (f.depth - 1)
+
+-- and as many once more after a move of the root
+abbrev pub steps_for : ℕ → Frame → Move → ℕ
+steps_for d f m = steps_after f m + cond (f.depth == d) (steps_after f m) 0
 
 -- the steps for the tree after the move that is asked for are taken off what was left of the frame; where there is no move, no more is left than was
 abbrev pub HandsOver : Option Move → Frame → Frame → Type 0
@@ -124,18 +167,14 @@ PrunesRow old new =
     IsSame old new
     × ((new.waiting ≡ Next) × (left_of_frame new ≤ left_of_frame old))
 
--- what is left of a frame, and the steps for the tree after a move of it
-abbrev pub left_with_child : Frame → Move → ℕ
-left_with_child f m = left_of_frame f + steps_after f m
-
 -- what is left of the whole stack
 abbrev pub steps_left : Stack → ℕ
-steps_left s = sum_by left_of_frame (frames_of s)
+steps_left s = sum_by (left_at s.depth s.bound s.beta) (frames_of s)
 
 -- with so many steps, no more is left than was left of the stack and is handed over for a move of the node on top
 abbrev pub UsesSteps : Stack → Stack → Move → ℕ → Type 0
 UsesSteps old new m made =
-    OnTop old (λ top. steps_left new + made ≤ steps_left old + steps_after top m)
+    OnTop old (λ top. steps_left new + made ≤ steps_left old + steps_for old.depth top m)
 
 -- a note of the root
 abbrev pub note_of_root : Stack → Entry → Call

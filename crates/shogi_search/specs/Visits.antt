@@ -26,6 +26,10 @@ WhereCurrent (Cut v) fact = ⊥
 abbrev pub IsCurrent : Waiting → Move → Type 0
 IsCurrent waiting m = WhereCurrent waiting (λ k. k ≡ m)
 
+-- the node has asked for a move and not taken it in
+abbrev pub IsAsked : Waiting → Type 0
+IsAsked waiting = WhereCurrent waiting (λ _. Unit {0})
+
 -- between two steps no move is asked for
 abbrev pub IsFree : Waiting → Type 0
 IsFree Next = Unit {0}

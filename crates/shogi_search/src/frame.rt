@@ -95,7 +95,8 @@ pub fn leaf(node: &Node) -> i32
 
 impl Frame {
     ghost use Rattle.shogi_search.specs.Frames.{firsts_at, worth_of, threshold_of, FailsLow, IsTrueOf, IsTrueAfter, IsCutoffAfter, IsToBeLeft};
-    ghost use Rattle.shogi_search.specs.Stack.{IsAt, EndsVisit, AsksFor};
+    ghost use Rattle.shogi_search.specs.Stack.{IsAt, EndsVisit, AsksFor, KeepsAsked};
+    ghost use Rattle.shogi_search.specs.Visits.{IsAsked};
 
     /// The moves that a node of the depth visits first that is to be entered in this place: those that
     /// are given, the hash move, the best move of the node that stands here now or the move that cut
@@ -212,6 +213,17 @@ impl Frame {
     {
         let threshold = self.threshold(current);
         (-self.beta, -threshold)
+    }
+
+    /// Has its window end there while it waits for the answer of a move.
+    pub fn end_at(&mut self, beta: i32)
+        requires asked { IsAsked self.old.waiting }
+        requires open { self.old.best_value <ℤ beta }
+        requires most { beta ≤ℤ INFINITY }
+        ensures kept { KeepsAsked self.old self.new }
+        ensures beta { self.new.beta ≡ beta }
+    {
+        self.beta = beta;
     }
 
     /// Whether this worth makes the current move the best one.

@@ -27,7 +27,7 @@ pub fn search_below<M: Memo>(p: &Position, e: Eval, d: u8, beta: i32, memo: &mut
     // Below the end of the whole window lies every value.
     ensures value { beta ≡ INFINITY → result.value ≡ value p.now e d }
     ensures best { beta ≡ INFINITY → result.best ≡ best p.now e d }
-    ensures steps { result.steps ≤ 2 * tree_size p.now d }
+    ensures steps { result.steps ≤ 4 * tree_size p.now d }
     ensures enough { IsEnoughBelow beta (M.answers memo.old p.now e d) → result.steps ≡ 0 }
     ensures known { IsExactly (M.answers memo.old p.now e d) → result.steps ≡ 0 }
     ensures calls { CallsOfWhole M.called memo.old memo.new result }
@@ -55,7 +55,7 @@ pub fn search<M: Memo>(p: &Position, e: Eval, d: u8, memo: &mut M) -> Found
     ensures best { result.best ≡ best p.now e d }
     ensures none { IsNone result.best ↔ ((d ≡ 0) ⊎ (legal_codes p.now ≡ [])) }
     ensures legal { IfSome result.best (λ m. is_legal p.now m ≡ true) }
-    ensures steps { result.steps ≤ 2 * tree_size p.now d }
+    ensures steps { result.steps ≤ 4 * tree_size p.now d }
     ensures known { IsExactly (M.answers memo.old p.now e d) → result.steps ≡ 0 }
     ensures calls { CallsOfWhole M.called memo.old memo.new result }
     ensures told { TellsRoot M.called memo.old memo.new (untouched p.now e d) result }

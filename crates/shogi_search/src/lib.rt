@@ -4,7 +4,7 @@
 //! (`frame`); what it has to find is `value` and `best` of `specs/Minimax`, and what it promises
 //! stands at `Search`. A step enters a node, leaves a node, or has a child or the root answered at
 //! once: a child by the memo, and either where one ply is left or none, by `last_ply`. `Search`
-//! counts them in slices. The order is `MovePicker`: some moves first (`firsts`), then captures, then
+//! counts them in slices. Moves of a deep root are asked under narrow windows first. The order is `MovePicker`: some moves first (`firsts`), then captures, then
 //! the other moves, each by rising code. Moves that cannot matter are passed in `pruning`, by `losses`,
 //! the window of `window` and a `threat`.
 #![tactic(auto)]

@@ -24,10 +24,12 @@ use std::marker::Model;
 /// A search of a position under an evaluation at a depth, for its value below a bound. It makes its
 /// steps in slices, and each slice may be given another memo. A step enters a node, leaves a node,
 /// or has a child or the root answered at once: a child by the memo, or where its window lies
-/// outside what its depth can be worth, and either where one ply is left or none. The greatest work
-/// of a step is about that of making and asking all moves of one position. A step that leaves a
-/// child of the root may ask the memo once more for each ply that is left along the best line. A
-/// node that is entered visits first, where they are legal: at the root the moves that are advised;
+/// outside what its depth can be worth, and either where one ply is left or none. From depth 5 on a
+/// child of the root is entered under a narrow window once the root has a best move; where that was
+/// not enough, the step that leaves it enters it again. The greatest work of a step is about that of
+/// making and asking all moves of one position. A step that leaves a child of the root may ask the
+/// memo once more for each ply that is left along the best line. A node that is entered visits
+/// first, where they are legal: at the root the moves that are advised;
 /// the best move one ply less deep, where the memo has that; the best move of the node that was
 /// searched before in its place, or the move that cut that one off; and from depth 3 on up to four
 /// more moves that cut off nodes there.
@@ -102,6 +104,7 @@ impl Search {
                 eval: e,
                 depth: d,
                 beta,
+                bound: beta,
                 frames: [Frame::default(); 16],
                 height: 0,
             },
@@ -187,6 +190,7 @@ impl Search {
         let hash_move = hash_move_of(root, e, depth, memo);
         let node = Node::of(*root, e);
         let beta = self.stack.beta;
+        self.stack.bound = beta;
         let firsts = self.stack.frames[0].firsts(self.advised, hash_move, depth);
         self.stack.frames[0].enter(&node, depth, -INFINITY, beta, firsts);
         self.started = true;
@@ -203,7 +207,7 @@ impl Search {
         ensures best { IfSome result (FindsBest self.old) }
         ensures some { IsSome result }
         ensures counted { IfSome result (λ f. f.steps ≡ self.new.steps) }
-        ensures range { IfSome result (λ f. f.steps ≤ 2 * tree_size self.old.root self.old.depth) }
+        ensures range { IfSome result (λ f. f.steps ≤ 4 * tree_size self.old.root self.old.depth) }
         ensures same { KeepsQuestion self.old self.new }
         ensures calls { CallsBetween M.called memo.old memo.new self.old self.new 0 }
         ensures told { IfSome result (TellsRoot M.called memo.old memo.new self.old) }
@@ -232,7 +236,7 @@ impl Search {
         ensures value { IfSome result (FindsValue self.old) }
         ensures best { IfSome result (FindsBest self.old) }
         ensures counted { IfSome result (λ f. f.steps ≡ self.new.steps) }
-        ensures range { IfSome result (λ f. f.steps ≤ 2 * tree_size self.old.root self.old.depth) }
+        ensures range { IfSome result (λ f. f.steps ≤ 4 * tree_size self.old.root self.old.depth) }
         ensures same { KeepsQuestion self.old self.new }
         ensures calls { CallsBetween M.called memo.old memo.new self.old self.new 0 }
         ensures told { IfSome result (TellsRoot M.called memo.old memo.new self.old) }
@@ -280,7 +284,7 @@ impl Search {
         ensures value { IfSome result (FindsValue self.old) }
         ensures best { IfSome result (FindsBest self.old) }
         ensures counted { IfSome result (λ f. f.steps ≡ self.new.steps) }
-        ensures range { IfSome result (λ f. f.steps ≤ 2 * tree_size self.old.root self.old.depth) }
+        ensures range { IfSome result (λ f. f.steps ≤ 4 * tree_size self.old.root self.old.depth) }
         ensures root { (self.new.root ≡ self.old.root) × (self.new.depth ≡ self.old.depth) }
         ensures eval { self.new.eval ≡ self.old.eval }
         ensures beta { self.new.beta ≡ self.old.beta }

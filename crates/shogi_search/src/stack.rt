@@ -4,9 +4,9 @@ ghost use Rattle.std.specs.Prelude.{◌≡◌, ◌≤◌, ◌<ℤ◌, ◌<◌, �
 ghost use Rattle.std.specs.Option.{ForSome};
 ghost use Rattle.minimax.specs.Minimax.{negated, IsTrueEntry};
 ghost use Rattle.minimax.specs.Entries.{IsCutoff, IsEnough, move_in};
-ghost use Rattle.shogi_search.specs.Visits.{IsFree};
-ghost use Rattle.shogi_search.specs.Frames.{IsTrueOf, IsToBeLeft};
-ghost use Rattle.shogi_search.specs.Stack.{IsStack, OnTop, IsTrueAnywhere, IsTrueOfRoot, KeepsGoal, UsesSteps, steps_left, note_of_root, entered_unless};
+ghost use Rattle.shogi_search.specs.Visits.{IsAsked, IsFree};
+ghost use Rattle.shogi_search.specs.Frames.{IsTrueOf, IsToBeLeft, position_after};
+ghost use Rattle.shogi_search.specs.Stack.{IsStack, IsWhole, IsNarrow, IsChildAfter, OnTop, IsTrueAnywhere, IsTrueOfRoot, KeepsAsked, KeepsGoal, UsesSteps, steps_after, steps_left, note_of_root, entered_unless};
 ghost use Rattle.shogi_search.specs.Calls.{Probe, Asks, CallsInSteps, EndsWith, TellsOnce};
 ghost use Rattle.minimax.specs.declared.bounds.TheConstants.{SEARCH_DEPTH_MAX, INFINITY};
 
@@ -19,19 +19,21 @@ use shogi_core::{Move, Position};
 use shogi_eval::{Eval, Node};
 use shogi_moves::is_legal;
 
-/// The least depth of a root whose best line is kept in use: at lesser ones that costs more than it
-/// saves.
-const LINE_DEPTH_MIN: u8 = 5;
+/// The least depth of a root whose best line is kept in use, and whose moves after the first best
+/// one are asked under narrow windows: at lesser ones that costs more than it saves.
+const DEEP_ROOT_MIN: u8 = 5;
 
 /// The root of a search, its evaluation, its depth and the end of its window, and the nodes that
 /// are entered and not yet left, from the root on: the one on top stands at the height, and those
-/// below it wait for a child. No node with one ply left or none is entered.
+/// below it wait for a child. No node with one ply left or none is entered. While a child of the
+/// root is entered, the root's window may end earlier, at the bound.
 #[derive(Clone, Copy)]
 pub struct Stack {
     pub root: Position,
     pub eval: Eval,
     pub depth: u8,
     pub beta: i32,
+    pub bound: i32,
     pub frames: [Frame; 16],
     pub height: usize,
 }
@@ -141,35 +143,149 @@ pub fn hash_move_of<M: Memo>(p: &Position, e: Eval, depth: u8, memo: &mut M) -> 
 /// The same for a node below the root, where the depth below it serves the memo.
 #[tactic(auto, using(crate::proofs::CallLaws::asks_none))]
 fn child_hash_move_of<M: Memo>(p: &Position, e: Eval, depth: u8, memo: &mut M) -> Option<Move>
-    requires { 0 < depth }
     ensures asked { Asks M.called memo.old memo.new 1 }
     ensures capacity { M.capacity memo.new ≡ M.capacity memo.old }
 {
-    if !memo.serves(depth - 1) {
+    if depth == 0 || !memo.serves(depth - 1) {
         return None;
     }
     hash_move_of(p, e, depth, memo)
 }
 
 impl Stack {
-    /// The node below the top takes in what is known of the node on top, where there is one.
-    fn pop(&mut self, entry: &Entry) -> bool
+    /// Where a root is on top that is deep enough and has a best move, its window ends one above
+    /// what that is worth: a child that is worth more is only known to be, and is entered again.
+    fn narrow(&mut self)
         requires stack { IsStack self.old }
+        requires asked { OnTop self.old (λ top. IsAsked top.waiting) }
+        ensures stack { IsStack self.new }
+        ensures height { self.new.height ≡ self.old.height }
+        ensures top { OnTop self.old (λ old. OnTop self.new (λ new. KeepsAsked old new)) }
+        ensures left { steps_left self.new ≡ steps_left self.old }
+        ensures same { KeepsGoal self.old self.new }
+    {
+        if self.height > 0 || self.depth < DEEP_ROOT_MIN {
+            return;
+        }
+        let root = &mut self.frames[self.height];
+        let bound = root.best_value + 1;
+        if root.best_move.is_none() || bound >= self.beta {
+            return;
+        }
+        root.end_at(bound);
+        self.bound = bound;
+    }
+
+    /// The root is on top again, with its whole window, and waits for the answer of its move.
+    fn widen(&mut self) -> Move
+        requires stack { IsStack self.old }
+        requires narrow { IsNarrow self.old }
+        ensures stack { IsStack self.new }
+        ensures whole { self.new.bound ≡ self.new.beta }
+        ensures root { self.new.height ≡ 0 }
+        ensures asked { OnTop self.new (λ root. root.waiting ≡ Waiting.Asked result) }
+        ensures child { OnTop self.old (λ child. OnTop self.new (IsChildAfter child result)) }
+        ensures left { OnTop self.new
+            (λ root. steps_left self.new + 1 + steps_after root result ≤ steps_left self.old) }
+        ensures same { KeepsGoal self.old self.new }
+    {
+        self.height -= 1;
+        let beta = self.beta;
+        self.bound = beta;
+        let root = &mut self.frames[self.height];
+        let Waiting::Asked(current) = root.waiting else {
+            unreachable!();
+        };
+        root.end_at(beta);
+        current
+    }
+
+    /// Enters the child after the current move of the node on top, which is on top then.
+    #[inline(always)]
+    fn push<M: Memo>(&mut self, current: &Move, node: &Node, memo: &mut M)
+        requires stack { IsStack self.old }
+        requires asked { OnTop self.old (λ top. top.waiting ≡ Waiting.Asked current.now) }
+        requires room { self.old.height + 1 < SEARCH_DEPTH_MAX }
+        requires deep { OnTop self.old (λ top. 0 < top.depth) }
+        requires position { OnTop self.old
+            (λ top. node.now.position ≡ position_after top current.now) }
+        requires eval { OnTop self.old (λ top. node.now.eval ≡ top.node.eval) }
+        ensures stack { IsStack self.new }
+        ensures free { OnTop self.new (λ top. IsFree top.waiting) }
+        ensures height { self.new.height ≡ self.old.height + 1 }
+        ensures bound { self.new.bound ≡ self.old.bound }
+        ensures left { UsesSteps self.old self.new current.now 1 }
+        ensures once { self.old.bound ≡ self.old.beta
+            → OnTop self.old (λ top. steps_left self.new + 1
+            ≤ steps_left self.old + steps_after top current.now) }
+        ensures same { KeepsGoal self.old self.new }
+        ensures asked { Asks M.called memo.old memo.new 1 }
+        ensures capacity { M.capacity memo.new ≡ M.capacity memo.old }
+    {
+        let top = &self.frames[self.height];
+        let (alpha, beta) = top.window(current);
+        let depth = top.depth - 1;
+        let hash_move = child_hash_move_of(node.as_position(), node.eval(), depth, memo);
+        self.height += 1;
+        let firsts = self.frames[self.height].firsts(Firsts::none(), hash_move, depth);
+        self.frames[self.height].enter(node, depth, alpha, beta, firsts);
+    }
+
+    /// The root takes in what is known of the child on top, where that is enough for its whole
+    /// window; else that child is entered again under it.
+    #[inline(never)]
+    fn leave_narrow<M: Memo>(&mut self, entry: &Entry, memo: &mut M)
+        requires stack { IsStack self.old }
+        requires narrow { IsNarrow self.old }
+        requires truth { OnTop self.old (λ top. IsTrueOf top entry.now) }
+        ensures stack { IsStack self.new }
+        ensures whole { self.new.bound ≡ self.new.beta }
+        ensures free { OnTop self.new (λ top. IsFree top.waiting) }
+        ensures height { self.new.height ≤ 1 }
+        ensures left { steps_left self.new < steps_left self.old }
+        ensures same { KeepsGoal self.old self.new }
+        ensures asked { Asks M.called memo.old memo.new self.new.height }
+        ensures capacity { M.capacity memo.new ≡ M.capacity memo.old }
+    {
+        let node = self.frames[self.height].node;
+        let current = self.widen();
+        let (alpha, beta) = self.frames[self.height].window(&current);
+        if is_cutoff(entry, alpha, beta) {
+            self.frames[self.height].back_up(&current, entry);
+            return;
+        }
+        self.push(&current, &node, memo);
+    }
+
+    /// The node below the top takes in what is known of the node on top, where there is one. A child
+    /// of the root that was asked under a narrow window may be entered again.
+    fn pop<M: Memo>(&mut self, entry: &Entry, memo: &mut M) -> bool
+        requires stack { IsStack self.old }
+        requires whole { IsWhole self.old }
         requires truth { OnTop self.old (λ top. IsTrueOf top entry.now) }
         requires cutoff { OnTop self.old (λ top. IsCutoff top.alpha top.beta entry.now) }
         ensures stack { IsStack self.new }
+        ensures whole { IsWhole self.new }
         ensures free { result ≡ true → OnTop self.new (λ top. IsFree top.waiting) }
         ensures left { result ≡ true → steps_left self.new < steps_left self.old }
         ensures truth { result ≡ false → IsTrueOfRoot self.old entry.now }
         ensures cutoff { result ≡ false → IsCutoff (negated INFINITY) self.old.beta entry.now }
-        ensures most { steps_left self.new ≤ steps_left self.old }
-        ensures none { result ≡ false → self.new ≡ self.old }
-        ensures below { result ≡ true → self.old.height ≡ self.new.height + 1 }
+        ensures none { result ≡ false → memo.new ≡ memo.old }
+        ensures below { result ≡ true → self.old.height ≤ self.new.height + 1 }
+        ensures above { result ≡ true → self.new.height ≤ self.old.height }
+        ensures some { result ≡ true → 0 < self.old.height }
         ensures root { result ≡ false → self.old.height ≡ 0 }
         ensures same { KeepsGoal self.old self.new }
+        ensures asked { result ≡ true
+            → Asks M.called memo.old memo.new (self.new.height + 1 - self.old.height) }
+        ensures capacity { M.capacity memo.new ≡ M.capacity memo.old }
     {
         if self.height == 0 {
             return false;
+        }
+        if self.height == 1 && self.bound < self.beta {
+            self.leave_narrow(entry, memo);
+            return true;
         }
         self.height -= 1;
         let below = &mut self.frames[self.height];
@@ -185,8 +301,10 @@ impl Stack {
     #[inline(never)]
     fn enter_child<M: Memo>(&mut self, current: &Move, memo: &mut M)
         requires stack { IsStack self.old }
+        requires whole { IsWhole self.old }
         requires asked { OnTop self.old (λ top. top.waiting ≡ Waiting.Asked current.now) }
         ensures stack { IsStack self.new }
+        ensures whole { IsWhole self.new }
         ensures free { OnTop self.new (λ top. IsFree top.waiting) }
         ensures left { UsesSteps self.old self.new current.now 1 }
         ensures same { KeepsGoal self.old self.new }
@@ -208,11 +326,8 @@ impl Stack {
             self.frames[self.height].back_up(current, &entry);
             return;
         }
-        let position = node.as_position();
-        let hash_move = child_hash_move_of(position, node.eval(), depth, memo);
-        self.height += 1;
-        let firsts = self.frames[self.height].firsts(Firsts::none(), hash_move, depth);
-        self.frames[self.height].enter(&node, depth, alpha, beta, firsts);
+        self.narrow();
+        self.push(current, &node, memo);
     }
 
     /// Asks the memo for the nodes along the best line so far, so that they stay in use.
@@ -222,7 +337,7 @@ impl Stack {
         ensures capacity { M.capacity memo.new ≡ M.capacity memo.old }
     {
         let root = &self.frames[0];
-        if root.depth < LINE_DEPTH_MIN || !root.is_next() {
+        if root.depth < DEEP_ROOT_MIN || !root.is_next() {
             return;
         }
         let mut node = root.node;
@@ -261,8 +376,10 @@ impl Stack {
     #[inline(always)]
     fn leave<M: Memo>(&mut self, memo: &mut M) -> Option<Entry>
         requires stack { IsStack self.old }
+        requires whole { IsWhole self.old }
         requires over { OnTop self.old (λ top. IsToBeLeft top) }
         ensures stack { IfNone result (IsStack self.new) }
+        ensures whole { IfNone result (IsWhole self.new) }
         ensures free { IfNone result (OnTop self.new (λ top. IsFree top.waiting)) }
         ensures left { IfNone result (steps_left self.new < steps_left self.old) }
         ensures truth { IfSome result (IsTrueOfRoot self.old) }
@@ -276,7 +393,7 @@ impl Stack {
     {
         let entry = self.frames[self.height].to_entry();
         self.note_top(&entry, memo);
-        if !self.pop(&entry) {
+        if !self.pop(&entry, memo) {
             return Some(entry);
         }
         if self.height == 0 {
@@ -289,8 +406,10 @@ impl Stack {
     /// Makes one step; gives what is known of the root where that was left.
     fn step<M: Memo>(&mut self, memo: &mut M) -> Option<Entry>
         requires stack { IsStack self.old }
+        requires whole { IsWhole self.old }
         requires free { OnTop self.old (λ top. IsFree top.waiting) }
         ensures stack { IfNone result (IsStack self.new) }
+        ensures whole { IfNone result (IsWhole self.new) }
         ensures free { IfNone result (OnTop self.new (λ top. IsFree top.waiting)) }
         ensures left { IfNone result (steps_left self.new < steps_left self.old) }
         ensures truth { IfSome result (IsTrueOfRoot self.old) }
@@ -316,8 +435,10 @@ impl Stack {
     /// Makes so many steps, or fewer where the root was left, and counts them.
     pub fn run<M: Memo>(&mut self, memo: &mut M, budget: u64, steps: &mut u64) -> Option<Entry>
         requires stack { IsStack self.old }
+        requires whole { IsWhole self.old }
         requires free { OnTop self.old (λ top. IsFree top.waiting) }
         ensures stack { IfNone result (IsStack self.new) }
+        ensures whole { IfNone result (IsWhole self.new) }
         ensures free { IfNone result (OnTop self.new (λ top. IsFree top.waiting)) }
         ensures left { IfNone result (steps_left self.new + budget ≤ steps_left self.old) }
         ensures all { IfNone result (steps.new ≡ min (steps.old + budget) (2 ^ 64 - 1)) }

@@ -33,7 +33,7 @@ use Rattle.usi_session.proofs.RunningGoLaws.{cost_of_depths-more}
 -- a search that was just started is not at its end
 pub under_start : (s : Progress) (p : Shogi) (eval : Eval) (d : ℕ) (beta : ℤ) → s ≡ untouched_below p eval d beta → IsUnder s p eval d beta
 under_start s p eval d beta e =
-    let l : s.left ≡ 2 * tree_size p d = ap (λ (t : Progress). t.left) e in
+    let l : s.left ≡ 4 * tree_size p d = ap (λ (t : Progress). t.left) e in
     record {
       root = ap (λ (t : Progress). t.root) e;
       eval_is = ap (λ (t : Progress). t.eval) e;
@@ -96,7 +96,7 @@ begun question first depths_done ranks kept a f l t b = begun_at question first 
 
 begun_cost_at : (question : Question) (first : Move) (depths_done : ℕ) (above : ℕ) (one : Bool) → (question.multi_pv == 1) ≡ one → IsFirst question.position first → move_of (code_of first) ≡ Some first → above ≡ cost_of_depths question (depths_done + 1) (question.depth - (depths_done + 1))
     → load_at question depths_done (cond one None (Some first)) (walk_from question.position question.eval (depths_done + 1)) (cond one (untouched question.position question.eval (depths_done + 1)) (untouched (after question.position first) question.eval depths_done))
-    ≤ cond one (pv_cost question.position question.eval (depths_done + 1)) (2 * sum_of_tree_sizes question.position (depths_done + 1 - 1) (legal_codes question.position) + pvs_cost question.position question.eval (depths_done + 1 - 1) (listed question.position question.eval question.multi_pv (depths_done + 1))) + above
+    ≤ cond one (pv_cost question.position question.eval (depths_done + 1)) (4 * sum_of_tree_sizes question.position (depths_done + 1 - 1) (legal_codes question.position) + pvs_cost question.position question.eval (depths_done + 1 - 1) (listed question.position question.eval question.multi_pv (depths_done + 1))) + above
 begun_cost_at question first depths_done above true e f b a =
     let n : question.multi_pv ≡ 1 = eqb-true question.multi_pv 1 e in
     let l : length (listed_at question depths_done) ≡ 1 = one_listed question.position question.eval question.multi_pv (depths_done + 1) n (omega arith) (first_some question.position first f) in
@@ -139,7 +139,7 @@ ranked_all question depths_done root_move new h n = record {
 pub next_child_cost : (question : Question) (depths_done : ℕ) (root_move m : Move) (w : Walked) (s : Progress) (beta : ℤ) → s ≡ untouched_below (after question.position m) question.eval depths_done beta → after question.position m ≡ after_code question.position (code_of m)
     → legal_above question.position (Some root_move) ≡ code_of m ∷ legal_above question.position (Some m) → load_at question depths_done (Some m) w s ≤ load_after_root_move question depths_done root_move
 next_child_cost question depths_done root_move m w s beta e a n =
-    let l : s.left ≡ 2 * tree_size (after question.position m) depths_done = ap (λ (x : Progress). x.left) e in
+    let l : s.left ≡ 4 * tree_size (after question.position m) depths_done = ap (λ (x : Progress). x.left) e in
     let c : sum_of_tree_sizes question.position depths_done (legal_above question.position (Some root_move)) ≡ tree_size (after question.position m) depths_done + sum_of_tree_sizes question.position depths_done (legal_above question.position (Some m)) =
     sum_of_tree_sizes-next question.position depths_done (code_of m) (after question.position m) (legal_above question.position (Some root_move)) (legal_above question.position (Some m)) a n in
     omega arith

@@ -21,7 +21,7 @@ pvs_cost position eval plies codes =
 abbrev pub depth_cost : Shogi → Eval → ℕ → ℕ → ℕ
 depth_cost position eval multi_pv depth =
     cond (multi_pv == 1) (pv_cost position eval depth)
-    (2 * sum_of_tree_sizes position (depth - 1) (legal_codes position)
+    (4 * sum_of_tree_sizes position (depth - 1) (legal_codes position)
     + pvs_cost position eval (depth - 1) (listed position eval multi_pv depth))
 
 -- the most search steps of all depths from 1 to this one

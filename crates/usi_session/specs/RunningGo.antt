@@ -146,7 +146,7 @@ deeper_cost question depths_done =
 -- the most steps of the searches after each root move above this one, and along each pv listed
 abbrev pub root_moves_cost : Question → ℕ → Move → ℕ
 root_moves_cost question depths_done root_move =
-    2 * sum_of_tree_sizes question.position depths_done
+    4 * sum_of_tree_sizes question.position depths_done
     (legal_above question.position (Some root_move))
     + lines_cost question depths_done 0
 

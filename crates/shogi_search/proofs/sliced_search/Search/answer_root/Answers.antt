@@ -32,6 +32,7 @@ invariant_of-self g c =
       most = search rules;
       known = known_found _ c.found_of.result _ refl (omega (arith, ints)) c.found_of.ensures.below c.found_of.ensures.steps;
       chain = λ e. absurd (cc);
+      whole = λ e. absurd (cc);
       free = λ e. absurd (cc);
       counted = omega (arith, zero, tree_size-positive s.stack.root s.stack.depth, c.saturating_add-self-inside.ensures);
     }

@@ -25,6 +25,7 @@ invariant_of-self-2 g c = record {
   most = search rules;
   known = known_found _ c.found_of.result _ refl (omega (arith, ints)) c.found_of.ensures.below c.found_of.ensures.steps;
   chain = λ e. absurd (cc);
+  whole = λ e. absurd (cc);
   free = λ e. absurd (cc);
   counted = search rules;
 }

@@ -1,19 +1,21 @@
-use Rattle.std.proofs.Common.{arith, get_or, rules, refl, subst, sym, Some, ◌≡◌, ◌<◌, ◌≤◌, ◌-◌, ◌+◌, ◌∙◌}
-use Rattle.std.proofs.lemmas.Int.{ints}
+use Rattle.std.proofs.Common.{arith, get_or, rules, refl, ap, subst, sym, ℕ, Some, ◌≡◌, ◌<◌, ◌≤◌, ◌-◌, ◌+◌, ◌∙◌}
 use Rattle.shogi_moves.proofs.LegalLaws.{listed_to_legal}
-use Rattle.shogi_search.specs.Frames.{position_after, threshold_of}
-use Rattle.minimax.specs.Minimax.{negated, IsTrueEntry}
-use Rattle.shogi_search.specs.Stack.{IsAt}
-use Rattle.shogi_search.specs.Visits.{IsFree}
+use Rattle.shogi_moves.specs.After.{after_code}
+use Rattle.shogi_eval.specs.Evaluated.{Evaluated}
+use Rattle.std.proofs.lemmas.Int.{ints}
+use Rattle.shogi_search.specs.Frames.{IsCutoffAfter, position_after, threshold_of}
+use Rattle.shogi_search.proofs.Entries.{same_window}
+use Rattle.minimax.specs.Minimax.{IsTrueEntry, negated}
+use Rattle.shogi_search.specs.Stack.{KeepsAsked, OnTop}
+use Rattle.shogi_search.specs.Visits.{IsAsked, IsFree}
 use Rattle.shogi_search.specs.declared.frame.Frame.{Frame}
 use Rattle.shogi_search.specs.declared.frame.Waiting.TheVariants.{Asked}
-use Rattle.shogi_search.proofs.Chains.{left_kept}
-use Rattle.minimax.proofs.MinimaxLaws.{tree_size-positive}
 use Rattle.minimax.proofs.Valid.{after_valid}
 use Rattle.shogi_core.specs.Codes.{code_of}
 use Rattle.shogi_search.specs.declared.stack.Stack.{Stack}
-use Rattle.shogi_search.proofs.Nodes.{asked, waits}
-use Rattle.shogi_search.proofs.Places.{IsTop, read_top, on_top, on_with, changed, room, stack_entered, left_child, left_visited, free_next}
+use Rattle.shogi_search.proofs.Nodes.{asked, is_asked, waits}
+use Rattle.shogi_search.proofs.Places.{IsTop, one_top, read_top, on_map, on_top, on_with, changed, room, left_visited}
+use Rattle.shogi_search.proofs.NarrowRoots.{uses_after}
 use Rattle.shogi_search.proofs.CallLaws.{asks_in_step, asks_and_asks, asks_none}
 use Rattle.shogi_search.proofs.stack.Stack.enter_child.Goals as goal
 
@@ -24,13 +26,6 @@ advance-requires g c =
     let asks : f.waiting ≡ Asked c.args.current.now = on_top c.args.self.now f (λ (top : Frame). top.waiting ≡ Asked c.args.current.now) is c.requires.asked in
     let w : _ = waits _ _ _ _ _ _ _ _ _ _ (asked f.waiting c.args.current.now asks) f.known in
     listed_to_legal _ _ c.validity.ensures.back w.is_listed
-
--- one frame is on top
-one_top : (s : Stack) (f h : Frame) → IsTop s f → IsTop s h → f ≡ h
-one_top s f h a b = one f h (sym a ∙ b)
-  where
-    one : (f h : Frame) → Some f ≡ Some h → f ≡ h
-    one f h e = cc
 
 pub back_up-requires-clause-truth : goal.back_up-requires-clause-truth
 back_up-requires-clause-truth g c =
@@ -59,8 +54,7 @@ returns-in-Some-clause-free g c = on_with c.args.self.now c.args.self.now.height
 pub returns-in-Some-clause-left : goal.returns-in-Some-clause-left
 returns-in-Some-clause-left g c =
     let f : Frame = get_or c.args.self.now.frames c.args.self.now.height c.index-self-self-in-Some.result in
-    left_visited c.args.self.now c.args.current.now f c.back_up.new.self 1 (read_top c.args.self.now c.index-self-self-in-Some.result (omega (arith, c.requires.stack.height_fits)))
-    (omega (arith, left_kept f c.back_up.new.self c.back_up.ensures.0 c.back_up.ensures.1.0, tree_size-positive (position_after f c.args.current.now) (f.depth - 1)))
+    left_visited c.args.self.now c.args.current.now f c.back_up.new.self (read_top c.args.self.now c.index-self-self-in-Some.result (omega (arith, c.requires.stack.height_fits))) c.back_up.ensures.0 c.back_up.ensures.1.0
 
 pub back_up-requires-in-Some-answer_of-clause-current : goal.back_up-requires-in-Some-answer_of-clause-current
 back_up-requires-in-Some-answer_of-clause-current g c =
@@ -68,6 +62,17 @@ back_up-requires-in-Some-answer_of-clause-current g c =
     let is : IsTop c.args.self.now f = read_top c.args.self.now c.index-self-self-in-Some-answer_of.result (omega (arith, c.requires.stack.height_fits)) in
     let asks : f.waiting ≡ Asked c.args.current.now = on_top c.args.self.now f (λ (top : Frame). top.waiting ≡ Asked c.args.current.now) is c.requires.asked in
     asked f.waiting c.args.current.now asks
+
+pub back_up-requires-in-Some-answer_of-clause-cutoff : goal.back_up-requires-in-Some-answer_of-clause-cutoff
+back_up-requires-in-Some-answer_of-clause-cutoff g c =
+    let f : Frame = get_or c.args.self.now.frames c.args.self.now.height c.index-self-self-in-Some-answer_of.result in
+    let h : Frame = get_or c.args.self.now.frames c.args.self.now.height c.index-self-self.result in
+    let same : h ≡ f = one_top c.args.self.now h f (read_top c.args.self.now c.index-self-self.result (omega (arith, c.requires.stack.height_fits))) (read_top c.args.self.now c.index-self-self-in-Some-answer_of.result (omega (arith, c.requires.stack.height_fits))) in
+    subst (λ (x : Frame). IsCutoffAfter x c.args.current.now c.in-Some-answer_of.entry) same
+    (same_window _ (negated h.beta) _ (negated (threshold_of h c.args.current.now)) c.in-Some-answer_of.entry
+    (omega (arith, ints, c.window-alpha.ensures.alpha, c.window-alpha.ensures.least, c.window-alpha.ensures.«open», c.window-alpha.ensures.most))
+    (omega (arith, ints, c.window-alpha.ensures.beta, c.window-alpha.ensures.least, c.window-alpha.ensures.«open», c.window-alpha.ensures.most))
+    c.in-Some-answer_of.ensures.cutoff)
 
 pub returns-in-Some-answer_of-clause-stack : goal.returns-in-Some-answer_of-clause-stack
 returns-in-Some-answer_of-clause-stack g c = changed c.args.self.now _ c.back_up-in-Some-answer_of.new.self (read_top c.args.self.now c.index-self-self-in-Some-answer_of.result (omega (arith, c.requires.stack.height_fits))) c.requires.stack c.back_up-in-Some-answer_of.ensures.0
@@ -78,80 +83,55 @@ returns-in-Some-answer_of-clause-free g c = on_with c.args.self.now c.args.self.
 pub returns-in-Some-answer_of-clause-left : goal.returns-in-Some-answer_of-clause-left
 returns-in-Some-answer_of-clause-left g c =
     let f : Frame = get_or c.args.self.now.frames c.args.self.now.height c.index-self-self-in-Some-answer_of.result in
-    left_visited c.args.self.now c.args.current.now f c.back_up-in-Some-answer_of.new.self 1 (read_top c.args.self.now c.index-self-self-in-Some-answer_of.result (omega (arith, c.requires.stack.height_fits)))
-    (omega (arith, left_kept f c.back_up-in-Some-answer_of.new.self c.back_up-in-Some-answer_of.ensures.0 c.back_up-in-Some-answer_of.ensures.1.0, tree_size-positive (position_after f c.args.current.now) (f.depth - 1)))
+    left_visited c.args.self.now c.args.current.now f c.back_up-in-Some-answer_of.new.self (read_top c.args.self.now c.index-self-self-in-Some-answer_of.result (omega (arith, c.requires.stack.height_fits))) c.back_up-in-Some-answer_of.ensures.0 c.back_up-in-Some-answer_of.ensures.1.0
 
-pub listed-2 : goal.listed-2
-listed-2 g c =
+-- the node on top after the window of a root was narrowed
+topmost : (s : Stack) (d : Frame) (n : Stack) → IsTop s (get_or s.frames s.height d) → OnTop s (λ old. OnTop n (λ new. KeepsAsked old new)) → OnTop n (λ new. KeepsAsked (get_or s.frames s.height d) new)
+topmost s d n is top = on_top s (get_or s.frames s.height d) (λ (old : Frame). OnTop n (λ new. KeepsAsked old new)) is top
+
+pub narrow-requires-clause-asked : goal.narrow-requires-clause-asked
+narrow-requires-clause-asked g c = on_map c.args.self.now (λ top. top.waiting ≡ Asked c.args.current.now) (λ top. IsAsked top.waiting) (λ f e. is_asked f.waiting c.args.current.now e) c.requires.asked
+
+pub push-requires-clause-asked : goal.push-requires-clause-asked
+push-requires-clause-asked g c =
     let f : Frame = get_or c.args.self.now.frames c.args.self.now.height c.index-self-self.result in
     let is : IsTop c.args.self.now f = read_top c.args.self.now c.index-self-self.result (omega (arith, c.requires.stack.height_fits)) in
-    let deep : 2 ≤ f.depth - 1 = c.in_default-answer_of.ensures.deep in
-    let above : c.args.self.now.height + 1 < 16 = room c.args.self.now f is c.requires.stack (omega (arith, deep)) in
-    omega (arith, above)
-
-pub listed-3 : goal.listed-3
-listed-3 g c =
-    let f : Frame = get_or c.args.self.now.frames c.args.self.now.height c.index-self-self.result in
-    let is : IsTop c.args.self.now f = read_top c.args.self.now c.index-self-self.result (omega (arith, c.requires.stack.height_fits)) in
-    let deep : 2 ≤ f.depth - 1 = c.in_default-answer_of.ensures.deep in
-    let above : c.args.self.now.height + 1 < 16 = room c.args.self.now f is c.requires.stack (omega (arith, deep)) in
-    omega (arith, above)
-
-pub bounds-self-self-2 : goal.bounds-self-self-2
-bounds-self-self-2 g c =
-    let f : Frame = get_or c.args.self.now.frames c.args.self.now.height c.index-self-self.result in
-    let is : IsTop c.args.self.now f = read_top c.args.self.now c.index-self-self.result (omega (arith, c.requires.stack.height_fits)) in
-    let deep : 2 ≤ f.depth - 1 = c.in_default-answer_of.ensures.deep in
-    let above : c.args.self.now.height + 1 < 16 = room c.args.self.now f is c.requires.stack (omega (arith, deep)) in
-    omega (arith, above)
-
-pub bounds-self-self-3 : goal.bounds-self-self-3
-bounds-self-self-3 g c =
-    let f : Frame = get_or c.args.self.now.frames c.args.self.now.height c.index-self-self.result in
-    let is : IsTop c.args.self.now f = read_top c.args.self.now c.index-self-self.result (omega (arith, c.requires.stack.height_fits)) in
-    let deep : 2 ≤ f.depth - 1 = c.in_default-answer_of.ensures.deep in
-    let above : c.args.self.now.height + 1 < 16 = room c.args.self.now f is c.requires.stack (omega (arith, deep)) in
-    omega (arith, above)
-
-pub returns-clause-stack : goal.returns-clause-stack
-returns-clause-stack g c =
-    let f : Frame = get_or c.args.self.now.frames c.args.self.now.height c.index-self-self.result in
-    let is : IsTop c.args.self.now f = read_top c.args.self.now c.index-self-self.result (omega (arith, c.requires.stack.height_fits)) in
-    let deep : 2 ≤ f.depth - 1 = c.in_default-answer_of.ensures.deep in
-    let above : c.args.self.now.height + 1 < 16 = room c.args.self.now f is c.requires.stack (omega (arith, deep)) in
     let asks : f.waiting ≡ Asked c.args.current.now = on_top c.args.self.now f (λ (top : Frame). top.waiting ≡ Asked c.args.current.now) is c.requires.asked in
-    let window : IsAt (position_after f c.args.current.now) f.node.eval (f.depth - 1) (negated f.beta) (negated (threshold_of f c.args.current.now)) c.enter.new.self = record {
-      position = c.enter.ensures.place.position ∙ search rules;
-      eval = c.enter.ensures.place.eval ∙ search rules;
-      depth = c.enter.ensures.place.depth;
-      alpha_is = omega (arith, ints, c.enter.ensures.place.alpha_is, c.window-alpha.ensures.alpha, c.window-alpha.ensures.least, c.window-alpha.ensures.«open», c.window-alpha.ensures.most);
-      beta_is = omega (arith, ints, c.enter.ensures.place.beta_is, c.window-alpha.ensures.beta, c.window-alpha.ensures.least, c.window-alpha.ensures.«open», c.window-alpha.ensures.most);
-    } in
-    stack_entered c.args.self.now f c.enter.new.self c.args.current.now is c.requires.stack asks (omega (arith, deep)) (omega (arith, above)) window
+    on_map c.narrow.new.self (λ new. KeepsAsked f new) (λ top. top.waiting ≡ Asked c.args.current.now) (λ new k. k.1.1.1.1.0 ∙ asks) (topmost c.args.self.now c.index-self-self.result c.narrow.new.self is c.narrow.ensures.top)
 
-pub returns-clause-free : goal.returns-clause-free
-returns-clause-free g c =
+pub push-requires-clause-room : goal.push-requires-clause-room
+push-requires-clause-room g c =
     let f : Frame = get_or c.args.self.now.frames c.args.self.now.height c.index-self-self.result in
     let is : IsTop c.args.self.now f = read_top c.args.self.now c.index-self-self.result (omega (arith, c.requires.stack.height_fits)) in
     let deep : 2 ≤ f.depth - 1 = c.in_default-answer_of.ensures.deep in
-    let above : c.args.self.now.height + 1 < 16 = room c.args.self.now f is c.requires.stack (omega (arith, deep)) in
-    on_with c.args.self.now (c.args.self.now.height + 1) c.enter.new.self (λ (top : Frame). IsFree top.waiting) (omega (arith, above)) (free_next _ c.enter.ensures.waiting)
+    omega (arith, c.narrow.ensures.height, room c.args.self.now f is c.requires.stack (omega (arith, deep)))
+
+pub push-requires-clause-deep : goal.push-requires-clause-deep
+push-requires-clause-deep g c =
+    let f : Frame = get_or c.args.self.now.frames c.args.self.now.height c.index-self-self.result in
+    let is : IsTop c.args.self.now f = read_top c.args.self.now c.index-self-self.result (omega (arith, c.requires.stack.height_fits)) in
+    let deep : 2 ≤ f.depth - 1 = c.in_default-answer_of.ensures.deep in
+    on_map c.narrow.new.self (λ new. KeepsAsked f new) (λ top. 0 < top.depth) (λ new k. subst (λ (n : ℕ). 0 < n) (sym k.1.0) (omega (arith, deep))) (topmost c.args.self.now c.index-self-self.result c.narrow.new.self is c.narrow.ensures.top)
+
+pub push-requires-clause-position : goal.push-requires-clause-position
+push-requires-clause-position g c =
+    let f : Frame = get_or c.args.self.now.frames c.args.self.now.height c.index-self-self.result in
+    let is : IsTop c.args.self.now f = read_top c.args.self.now c.index-self-self.result (omega (arith, c.requires.stack.height_fits)) in
+    let made : c.advance.new.self.position ≡ position_after f c.args.current.now = search rules in
+    on_map c.narrow.new.self (λ new. KeepsAsked f new) (λ top. c.advance.new.self.position ≡ position_after top c.args.current.now) (λ new k. made ∙ ap (λ (x : Evaluated). after_code x.position (code_of c.args.current.now)) (sym k.0)) (topmost c.args.self.now c.index-self-self.result c.narrow.new.self is c.narrow.ensures.top)
+
+pub push-requires-clause-eval : goal.push-requires-clause-eval
+push-requires-clause-eval g c =
+    let f : Frame = get_or c.args.self.now.frames c.args.self.now.height c.index-self-self.result in
+    let is : IsTop c.args.self.now f = read_top c.args.self.now c.index-self-self.result (omega (arith, c.requires.stack.height_fits)) in
+    let made : c.advance.new.self.eval ≡ f.node.eval = search rules in
+    on_map c.narrow.new.self (λ new. KeepsAsked f new) (λ top. c.advance.new.self.eval ≡ top.node.eval) (λ new k. made ∙ ap (λ (x : Evaluated). x.eval) (sym k.0)) (topmost c.args.self.now c.index-self-self.result c.narrow.new.self is c.narrow.ensures.top)
 
 pub returns-clause-left : goal.returns-clause-left
 returns-clause-left g c =
-    let f : Frame = get_or c.args.self.now.frames c.args.self.now.height c.index-self-self.result in
-    let is : IsTop c.args.self.now f = read_top c.args.self.now c.index-self-self.result (omega (arith, c.requires.stack.height_fits)) in
-    let deep : 2 ≤ f.depth - 1 = c.in_default-answer_of.ensures.deep in
-    let above : c.args.self.now.height + 1 < 16 = room c.args.self.now f is c.requires.stack (omega (arith, deep)) in
-    let asks : f.waiting ≡ Asked c.args.current.now = on_top c.args.self.now f (λ (top : Frame). top.waiting ≡ Asked c.args.current.now) is c.requires.asked in
-    let window : IsAt (position_after f c.args.current.now) f.node.eval (f.depth - 1) (negated f.beta) (negated (threshold_of f c.args.current.now)) c.enter.new.self = record {
-      position = c.enter.ensures.place.position ∙ search rules;
-      eval = c.enter.ensures.place.eval ∙ search rules;
-      depth = c.enter.ensures.place.depth;
-      alpha_is = omega (arith, ints, c.enter.ensures.place.alpha_is, c.window-alpha.ensures.alpha, c.window-alpha.ensures.least, c.window-alpha.ensures.«open», c.window-alpha.ensures.most);
-      beta_is = omega (arith, ints, c.enter.ensures.place.beta_is, c.window-alpha.ensures.beta, c.window-alpha.ensures.least, c.window-alpha.ensures.«open», c.window-alpha.ensures.most);
-    } in
-    left_child c.args.self.now f c.enter.new.self c.args.current.now _ _ _ is (omega (arith, above)) window (search rules)
+    uses_after c.args.self.now c.narrow.new.self c.push.new.self (get_or c.args.self.now.frames c.args.self.now.height c.index-self-self.result) c.args.current.now
+    (read_top c.args.self.now c.index-self-self.result (omega (arith, c.requires.stack.height_fits)))
+    c.narrow.ensures.top (search rules) c.narrow.ensures.left c.push.ensures.left
 
 pub returns-in-Some-clause-calls : goal.returns-in-Some-clause-calls
 returns-in-Some-clause-calls g c = asks_in_step g.M.Memo.called _ _ 0 1 _ _ 0 (asks_none g.M.Memo.called _ 0) refl (omega arith) (omega arith)
@@ -162,5 +142,5 @@ returns-in-Some-answer_of-clause-calls g c = asks_in_step g.M.Memo.called _ _ 0 
 pub returns-clause-calls : goal.returns-clause-calls
 returns-clause-calls g c =
     asks_in_step g.M.Memo.called _ _ 0 1 _ _ 2
-    (asks_and_asks g.M.Memo.called _ _ _ 1 1 2 c.answer_of.ensures.asked c.child_hash_move_of-hash_move.ensures.asked (omega arith))
-    refl (omega arith) (omega arith)
+    (asks_and_asks g.M.Memo.called _ _ _ 1 1 2 c.answer_of.ensures.asked c.push.ensures.asked (omega arith))
+    refl (omega (arith, c.push.ensures.height, c.narrow.ensures.height)) (omega (arith, c.push.ensures.height, c.narrow.ensures.height))

@@ -3,8 +3,8 @@ use Rattle.shogi_search.specs.declared.frame.Frame.{Frame}
 use Rattle.shogi_search.proofs.CallLaws.{asks_none, asks_and_asks, at_most}
 use Rattle.shogi_search.proofs.stack.Stack.keep_line.Goals as goal
 
-pub returns-then-root-lt-LINE_DEPTH_MIN-clause-asked : goal.returns-then-root-lt-LINE_DEPTH_MIN-clause-asked
-returns-then-root-lt-LINE_DEPTH_MIN-clause-asked g c = asks_none g.M.Memo.called _ 14
+pub returns-then-root-lt-DEEP_ROOT_MIN-clause-asked : goal.returns-then-root-lt-DEEP_ROOT_MIN-clause-asked
+returns-then-root-lt-DEEP_ROOT_MIN-clause-asked g c = asks_none g.M.Memo.called _ 14
 
 pub line-init : goal.line-init
 line-init g c = record { capacity = refl; fewer = omega arith; above = omega arith; asked = asks_none g.M.Memo.called _ _ }

@@ -11,6 +11,7 @@ returns-in-Some-clause-fell g c = omega (arith, c.saturating_add.ensures, c.step
 pub steps-init : goal.steps-init
 steps-init g c = record {
   stack = c.requires.stack;
+  whole = c.requires.whole;
   free = c.requires.free;
   same = (refl, (refl, (refl, refl)));
   left = omega arith;
@@ -23,6 +24,7 @@ steps-init g c = record {
 pub steps-preserved : goal.steps-preserved
 steps-preserved g c = record {
   stack = search rules;
+  whole = search rules;
   free = search rules;
   same = search rules;
   left = search rules;

@@ -2,12 +2,13 @@ use Rattle.std.proofs.Common.{◌≡◌, ◌≤◌, ◌+◌, ◌-◌, ◌^◌}
 use Rattle.std.specs.Prelude.{min}
 use Rattle.shogi_search.specs.Calls.{CallsInSteps}
 use Rattle.shogi_search.specs.Visits.{IsFree}
-use Rattle.shogi_search.specs.Stack.{IsStack, KeepsGoal, OnTop, steps_left}
+use Rattle.shogi_search.specs.Stack.{IsStack, IsWhole, KeepsGoal, OnTop, steps_left}
 use Rattle.shogi_search.proofs.stack.Stack.run.Given as goal
 
 abbrev pub invariant-steps : goal.invariant-steps
 invariant-steps g l = record {
   stack : IsStack l.self;
+  whole : IsWhole l.self;
   free : OnTop l.self (λ top. IsFree top.waiting);
   same : KeepsGoal l.fn.self l.self;
   left : steps_left l.self + l.made ≤ steps_left l.fn.self;

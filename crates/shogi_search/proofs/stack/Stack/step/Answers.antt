@@ -22,7 +22,7 @@ leave-requires-clause-over g c = on_with c.args.self.now c.args.self.now.height 
 pub returns-then-is_next-clause-left : goal.returns-then-is_next-clause-left
 returns-then-is_next-clause-left g c =
     let fits : c.args.self.now.height < length c.args.self.now.frames = omega (arith, c.requires.stack.height_fits) in
-    omega (arith, left_descended c.args.self.now c.enter_child.new.self c.in-Some.current (get_or c.args.self.now.frames c.args.self.now.height c.index-self-self.result) c.next_move.new.self 1 (read_top c.args.self.now c.index-self-self.result fits) c.in-Some.ensures.1.1.0 c.enter_child.ensures.left)
+    omega (arith, left_descended c.args.self.now c.enter_child.new.self c.in-Some.current (get_or c.args.self.now.frames c.args.self.now.height c.index-self-self.result) c.next_move.new.self 1 (read_top c.args.self.now c.index-self-self.result fits) c.next_move.ensures.0 c.in-Some.ensures.1.1.0 c.enter_child.ensures.left)
 
 pub leave-requires-2-clause-over : goal.leave-requires-2-clause-over
 leave-requires-2-clause-over g c =

@@ -1,0 +1,72 @@
+use Rattle.std.proofs.Common.{arith, get_or, subst, ◌≡◌, ◌<◌, ◌-◌, ◌+◌, ◌∙◌}
+use Rattle.std.proofs.lemmas.Int.{ints}
+use Rattle.minimax.specs.Minimax.{negated}
+use Rattle.shogi_core.specs.Position.{Shogi}
+use Rattle.shogi_core.specs.declared.moves.Move.{Move}
+use Rattle.shogi_search.specs.Frames.{position_after, threshold_of}
+use Rattle.shogi_search.specs.Order.{IsWithinTree}
+use Rattle.shogi_search.specs.Stack.{IsAt}
+use Rattle.shogi_search.specs.Visits.{IsFree}
+use Rattle.shogi_search.specs.declared.frame.Frame.{Frame}
+use Rattle.shogi_search.specs.declared.frame.Waiting.TheVariants.{Asked}
+use Rattle.shogi_search.specs.declared.stack.Stack.{Stack}
+use Rattle.shogi_search.proofs.Places.{IsTop, read_top, on_top, on_with, stack_entered, left_child, left_once, free_next}
+use Rattle.shogi_search.proofs.stack.Stack.push.Goals as goal
+
+pub returns-clause-stack : goal.returns-clause-stack
+returns-clause-stack g c =
+    let s : Stack = c.args.self.now in
+    let m : Move = c.args.current.now in
+    let f : Frame = get_or s.frames s.height c.index-self-self.result in
+    let is : IsTop s f = read_top s c.index-self-self.result (omega (arith, c.requires.room)) in
+    let deep : 0 < f.depth = on_top s f (λ (top : Frame). 0 < top.depth) is c.requires.deep in
+    let there : c.args.node.now.position ≡ position_after f m = on_top s f (λ (top : Frame). c.args.node.now.position ≡ position_after top m) is c.requires.position in
+    let window : IsAt (position_after f m) f.node.eval (f.depth - 1) (negated f.beta) (negated (threshold_of f m)) c.enter.new.self = record {
+      position = c.enter.ensures.place.position ∙ there;
+      eval = c.enter.ensures.place.eval ∙ on_top s f (λ (top : Frame). c.args.node.now.eval ≡ top.node.eval) is c.requires.eval;
+      depth = c.enter.ensures.place.depth;
+      alpha_is = omega (arith, ints, c.enter.ensures.place.alpha_is, c.window-alpha.ensures.alpha, c.window-alpha.ensures.least, c.window-alpha.ensures.«open», c.window-alpha.ensures.most);
+      beta_is = omega (arith, ints, c.enter.ensures.place.beta_is, c.window-alpha.ensures.beta, c.window-alpha.ensures.least, c.window-alpha.ensures.«open», c.window-alpha.ensures.most);
+    } in
+    let asks : f.waiting ≡ Asked m = on_top s f (λ (top : Frame). top.waiting ≡ Asked m) is c.requires.asked in
+    stack_entered s f c.enter.new.self m is c.requires.stack asks deep c.requires.room (omega (arith, c.requires.room)) window
+
+pub returns-clause-free : goal.returns-clause-free
+returns-clause-free g c =
+    on_with c.args.self.now (c.args.self.now.height + 1) c.enter.new.self (λ (top : Frame). IsFree top.waiting) (omega (arith, c.requires.room)) (free_next _ c.enter.ensures.waiting)
+
+pub returns-clause-left : goal.returns-clause-left
+returns-clause-left g c =
+    let s : Stack = c.args.self.now in
+    let m : Move = c.args.current.now in
+    let f : Frame = get_or s.frames s.height c.index-self-self.result in
+    let is : IsTop s f = read_top s c.index-self-self.result (omega (arith, c.requires.room)) in
+    let deep : 0 < f.depth = on_top s f (λ (top : Frame). 0 < top.depth) is c.requires.deep in
+    let there : c.args.node.now.position ≡ position_after f m = on_top s f (λ (top : Frame). c.args.node.now.position ≡ position_after top m) is c.requires.position in
+    let window : IsAt (position_after f m) f.node.eval (f.depth - 1) (negated f.beta) (negated (threshold_of f m)) c.enter.new.self = record {
+      position = c.enter.ensures.place.position ∙ there;
+      eval = c.enter.ensures.place.eval ∙ on_top s f (λ (top : Frame). c.args.node.now.eval ≡ top.node.eval) is c.requires.eval;
+      depth = c.enter.ensures.place.depth;
+      alpha_is = omega (arith, ints, c.enter.ensures.place.alpha_is, c.window-alpha.ensures.alpha, c.window-alpha.ensures.least, c.window-alpha.ensures.«open», c.window-alpha.ensures.most);
+      beta_is = omega (arith, ints, c.enter.ensures.place.beta_is, c.window-alpha.ensures.beta, c.window-alpha.ensures.least, c.window-alpha.ensures.«open», c.window-alpha.ensures.most);
+    } in
+    let counted : IsWithinTree (position_after f m) (f.depth - 1) c.enter.new.self.picker = subst (λ (p : Shogi). IsWithinTree p (f.depth - 1) c.enter.new.self.picker) there c.enter.ensures.counted in
+    left_child s f c.enter.new.self m _ _ _ is c.requires.stack deep (omega (arith, c.requires.room)) window counted
+
+pub returns-clause-once : goal.returns-clause-once
+returns-clause-once g c = λ whole.
+    let s : Stack = c.args.self.now in
+    let m : Move = c.args.current.now in
+    let f : Frame = get_or s.frames s.height c.index-self-self.result in
+    let is : IsTop s f = read_top s c.index-self-self.result (omega (arith, c.requires.room)) in
+    let deep : 0 < f.depth = on_top s f (λ (top : Frame). 0 < top.depth) is c.requires.deep in
+    let there : c.args.node.now.position ≡ position_after f m = on_top s f (λ (top : Frame). c.args.node.now.position ≡ position_after top m) is c.requires.position in
+    let window : IsAt (position_after f m) f.node.eval (f.depth - 1) (negated f.beta) (negated (threshold_of f m)) c.enter.new.self = record {
+      position = c.enter.ensures.place.position ∙ there;
+      eval = c.enter.ensures.place.eval ∙ on_top s f (λ (top : Frame). c.args.node.now.eval ≡ top.node.eval) is c.requires.eval;
+      depth = c.enter.ensures.place.depth;
+      alpha_is = omega (arith, ints, c.enter.ensures.place.alpha_is, c.window-alpha.ensures.alpha, c.window-alpha.ensures.least, c.window-alpha.ensures.«open», c.window-alpha.ensures.most);
+      beta_is = omega (arith, ints, c.enter.ensures.place.beta_is, c.window-alpha.ensures.beta, c.window-alpha.ensures.least, c.window-alpha.ensures.«open», c.window-alpha.ensures.most);
+    } in
+    let counted : IsWithinTree (position_after f m) (f.depth - 1) c.enter.new.self.picker = subst (λ (p : Shogi). IsWithinTree p (f.depth - 1) c.enter.new.self.picker) there c.enter.ensures.counted in
+    left_once s f c.enter.new.self m _ _ _ is c.requires.stack deep whole (omega (arith, c.requires.room)) window counted
