@@ -6,3 +6,4 @@ pub mod Overs
 pub mod Kept
 pub mod Rounds
 pub mod Still
+pub mod Shares

@@ -9,3 +9,4 @@ pub mod Runs
 pub mod Headline
 pub mod Rounds
 pub mod Still
+pub mod Shared

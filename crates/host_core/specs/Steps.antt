@@ -3,7 +3,9 @@ use Rattle.std.specs.Prelude.{◌≡◌, ℕ, ◌+◌, [], false, Option, Some, 
 use Rattle.session_slots.specs.declared.id.SessionId.{SessionId}
 use Rattle.session_slots.specs.Slots.{OpenSessions, find, with_session, count, Opens, OthersKept, IsFull}
 use Rattle.shared_table.specs.Recent.{Table, new_table}
-use Rattle.usi_session.specs.Due.{SessionView}
+use Rattle.shared_table.specs.Uses.{IsUsed}
+use Rattle.usi_session.specs.Due.{SessionView, roots_left}
+use Rattle.usi_session.specs.Told.{TellsEnded}
 use Rattle.host_core.specs.declared.event.HostFault.TheVariants.{Full, OutOfMemory, UnknownSession}
 use Rattle.host_core.specs.Events.{Event, Open, Feed, Work, Take, Close, Outcome, Opened, Done, Refused}
 use Rattle.host_core.specs.ById.{pending_of}
@@ -67,10 +69,14 @@ abbrev pub IsClosed : HostState → SessionId → Option SessionView → Outcome
 IsClosed old id None outcome new = Unknown old outcome new
 IsClosed old id (Some session) outcome new = Closed old id outcome new
 
--- the table keeps its capacity, and is what it was where nothing of the session is pending
+-- the table keeps its capacity, and is what it was where nothing of the session is pending; it was told of each search of the session that ended
 pub record KeepsTable (old : HostState) (id : SessionId) (new : HostState) : Type 0 where
   pub capacity_is : new.table.capacity ≡ old.table.capacity
   pub idle : pending_of (find old.slots id) ≡ false → new.table ≡ old.table
+  pub told :
+      (before after : SessionView)
+      → find old.slots id ≡ Some before → find new.slots id ≡ Some after
+      → TellsEnded IsUsed old.table new.table (roots_left before) (roots_left after)
 
 -- the session of the id continues
 abbrev pub IsWorked : ℕ → HostState → SessionId → Outcome → HostState → Type 0

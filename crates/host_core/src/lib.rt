@@ -13,5 +13,5 @@ mod serve;
 pub use bytes::Bytes;
 pub use event::{Event, HostFault, Outcome};
 pub use host::Host;
-pub use laws::isolation;
+pub use laws::{isolation, sharing};
 pub use round::Round;

@@ -1,7 +1,8 @@
 //! What one session answers to the events that name it.
 
 ghost use Rattle.std.specs.Prelude.{◌≡◌, false, take, IsErrOf};
-ghost use Rattle.usi_session.specs.Due.{is_pending};
+ghost use Rattle.usi_session.specs.Due.{is_pending, roots_left};
+ghost use Rattle.usi_session.specs.Told.{TellsEnded};
 ghost use Rattle.host_core.specs.Events.{Gave};
 ghost use Rattle.host_core.specs.Seen.{as_outcome, done_of, passed_of};
 ghost use Rattle.host_core.specs.Sessions.{Feeds, ContinuesBy, Takes};
@@ -35,6 +36,8 @@ pub fn work<A: Allocator + Copy, M: Memo>(
 ) -> Result<u64, AllocError>
     ensures works { ContinuesBy session.old budget result session.new }
     ensures idle { is_pending session.old ≡ false → memo.new ≡ memo.old }
+    ensures told { TellsEnded M.called memo.old memo.new (roots_left session.old)
+        (roots_left session.new) }
     ensures capacity { M.capacity memo.new ≡ M.capacity memo.old }
 {
     if !session.pending() {

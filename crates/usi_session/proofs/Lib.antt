@@ -9,3 +9,5 @@ pub mod Reports
 pub mod WholeReplies
 pub mod Steps
 pub mod Settled
+pub mod RootLaws
+pub mod TellsLaws

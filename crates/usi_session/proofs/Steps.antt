@@ -9,10 +9,12 @@ use Rattle.usi_session.proofs.RunningGoLaws.{infos_after_line-last, write_or_hol
 use Rattle.usi_lines.specs.Lines.{Line}
 use Rattle.usi_session.specs.declared.state.State.{State}
 use Rattle.usi_session.specs.Replies.{replies_from, state_from, answer_to, answer_unless}
-use Rattle.usi_session.specs.RunningGo.{RunningGo, rest_of_go, rest_of_go_if, with_rest, load_of, load_of_if, infos_left, infos_after, bestmove_to, is_last, reports_of_if, most_reports}
+use Rattle.usi_session.specs.RunningGo.{RunningGo, rest_of_go, rest_of_go_if, with_rest, load_of, load_of_if, infos_left, infos_after, bestmove_to, is_last, reports_of_if, roots_of, roots_of_if, is_searching, most_reports}
 use Rattle.usi_session.specs.Costs.{costs_from, cost_to}
-use Rattle.usi_session.specs.Due.{SessionView, owed, owed_after, load_ahead, is_pending, has_line}
+use Rattle.usi_session.specs.Roots.{roots_to, roots_from}
+use Rattle.usi_session.specs.Due.{SessionView, owed, owed_after, load_ahead, roots_ahead, is_pending, has_line}
 use Rattle.usi_session.proofs.Settled.{replies_from-over}
+use Rattle.usi_session.proofs.RootLaws.{roots_of-last}
 
 -- a session that is not over answers the line
 replies_from-alive : (s : State) (line : Line) (rest : List Line) → s.is_over ≡ false → replies_from s (line ∷ rest) ≡ (answer_to s line).bytes ++ replies_from (answer_to s line).state rest
@@ -133,3 +135,25 @@ pub turns_on : (s next : State) (idle running_go : Option RunningGo) (line : Lin
 turns_on s next idle running_go line all rest alive i e h less least =
     let n : length all ≡ length (line ∷ rest) = ap length e in
     omega (arith, load_on s next idle running_go line all rest alive i e h less)
+
+-- a session that is not over searches for the line
+roots_from-alive : (s : State) (line : Line) (rest : List Line) → s.is_over ≡ false → roots_from s (line ∷ rest) ≡ roots_to s line ++ roots_from (answer_to s line).state rest
+unfolding roots_from
+roots_from-alive s line rest alive =
+    ap (λ (over : Bool). cond over [] (roots_to s line) ++ roots_from (answer_unless over s line).state rest) alive
+
+-- the `go` of a line searches what the line did
+pub roots_on : (s next : State) (idle running_go : Option RunningGo) (line : Line) (all rest : List Line) → s.is_over ≡ false → idle ≡ None → all ≡ line ∷ rest → (rest_of_go_if next running_go).state ≡ (answer_to s line).state → roots_of_if running_go ≡ roots_to s line → roots_ahead next running_go rest ≡ roots_ahead s idle all
+roots_on s next idle running_go line all rest alive i e h same =
+    let whole : roots_from s all ≡ roots_to s line ++ roots_from (answer_to s line).state rest = ap (roots_from s) e ∙ roots_from-alive s line rest alive in
+    rw i (rw same (ap (λ (t : State). roots_to s line ++ roots_from t rest) h ∙ sym whole))
+
+-- so does a `go` that has reported a line more, with the lines ahead
+pub roots_reported : (s : State) (go more : RunningGo) (running_go : Option RunningGo) (ahead : List Line) → running_go ≡ Some go → more.question ≡ go.question → roots_of more ≡ roots_of go → roots_ahead s (Some more) ahead ≡ roots_ahead s running_go ahead
+roots_reported s go more running_go ahead i q same =
+    rw i (rw same (ap (λ (t : State). roots_of go ++ roots_from t ahead) (rest_reported-state s go more q)))
+
+-- and one that ends has none left
+pub roots_ended : (s next : State) (go : RunningGo) (running_go : Option RunningGo) (held : HeldBestmove) (ahead : List Line) → running_go ≡ Some go → is_last go ≡ true → is_searching go ≡ false → held ≡ last_bestmove go → next ≡ (write_or_hold s [] held held.until).state → roots_ahead next None ahead ≡ roots_ahead s running_go ahead
+roots_ended s next go running_go held ahead i last whole e h =
+    rw i (rw (roots_of-last go whole last) (ap (λ (t : State). roots_from t ahead) (sym (ends-state s next go held e h))))

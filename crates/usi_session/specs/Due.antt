@@ -3,9 +3,10 @@ use Rattle.std.specs.Prelude.{◌≡◌, ℕ, ◌+◌, ◌*◌, List, [], ◌∷
 use Rattle.usi_lines.specs.Lines.{Buffer, Line, ahead}
 use Rattle.usi_session.specs.declared.state.State.{State}
 use Rattle.usi_session.specs.Answer.{Answer, initial_state}
-use Rattle.usi_session.specs.RunningGo.{RunningGo, rest_of_go_if, load_of_if, is_searching, reports_of_if, most_reports}
+use Rattle.usi_session.specs.RunningGo.{RunningGo, rest_of_go_if, load_of_if, roots_of_if, is_searching, reports_of_if, most_reports}
 use Rattle.usi_session.specs.Replies.{replies_from, state_from}
 use Rattle.usi_session.specs.Costs.{costs_from}
+use Rattle.usi_session.specs.Roots.{Root, roots_from}
 use Rattle.usi_session.specs.declared.limits.TheConstants.{QUEUE_FULL}
 
 -- the state after the lines that were answered, the running `go`, the replies not yet taken, and what was fed and not yet answered
@@ -47,6 +48,15 @@ load_ahead state running_go ahead =
 -- the load of a session: the steps that may still be made for the running `go` and for the unread lines
 abbrev pub load : SessionView → ℕ
 load session = load_ahead session.state session.running_go (ahead session.input [])
+
+-- the searches along pvs that are still to end: of the running `go`, and of each `go` in these lines
+abbrev pub roots_ahead : State → Option RunningGo → List Line → List Root
+roots_ahead state running_go ahead =
+    roots_of_if running_go ++ roots_from (rest_of_go_if state running_go).state ahead
+
+-- the searches along pvs that a session has still to end
+abbrev pub roots_left : SessionView → List Root
+roots_left session = roots_ahead session.state session.running_go (ahead session.input [])
 
 -- a line is there
 abbrev pub has_line : List Line → Bool

@@ -5,6 +5,8 @@ pub mod GoInfos
 pub mod Answer
 pub mod Replies
 pub mod Costs
+pub mod Roots
+pub mod Told
 pub mod RunningGo
 pub mod Walked
 pub mod Due

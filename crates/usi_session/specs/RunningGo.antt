@@ -14,6 +14,7 @@ use Rattle.usi_session.specs.declared.state.State.{State}
 use Rattle.usi_session.specs.Texts.{info_line}
 use Rattle.usi_session.specs.GoInfos.{listed, numbered_lines, depth_lines}
 use Rattle.usi_session.specs.Costs.{cost_of_command, cost_to, depth_cost, go_cost, pvs_cost}
+use Rattle.usi_session.specs.Roots.{Root, pv_roots, pvs_roots, roots_of_depths, roots_of_go, roots_of_command, roots_to}
 use Rattle.usi_session.specs.Answer.{Answer, answer, answer_go, bestmove_at, write_or_hold, answer_with}
 use Rattle.usi_session.specs.Replies.{answer_to}
 
@@ -179,6 +180,35 @@ abbrev pub load_of_if : Option RunningGo → ℕ
 load_of_if None = 0
 load_of_if (Some go) = load_of go
 
+-- the searches along the pvs of the lines of the current depth from this one on
+abbrev pub lines_roots : Question → ℕ → ℕ → List Root
+lines_roots question depths_done lines_done =
+    pvs_roots question.position question.eval depths_done
+    (drop lines_done (listed_at question depths_done))
+
+-- the searches of the depths above the current one
+abbrev pub deeper_roots : Question → ℕ → List Root
+deeper_roots question depths_done =
+    roots_of_depths question.position question.eval question.multi_pv (depths_done + 1)
+    (question.depth - (depths_done + 1))
+
+-- the searches of the current depth that are still to end: those along each pv listed, or along
+-- what is left of this pv and those listed behind it
+abbrev pub current_roots : Option Move → RunningGo → List Root
+current_roots (Some root_move) go = lines_roots go.question go.depths_done 0
+current_roots None go =
+    pv_roots go.walk_position go.question.eval go.walk_plies
+    ++ lines_roots go.question go.depths_done (go.lines_done + 1)
+
+-- the searches along pvs that a running `go` has still to end
+abbrev pub roots_of : RunningGo → List Root
+roots_of go = current_roots go.root_move go ++ deeper_roots go.question go.depths_done
+
+-- none, where no `go` is running
+abbrev pub roots_of_if : Option RunningGo → List Root
+roots_of_if None = []
+roots_of_if (Some go) = roots_of go
+
 -- a search is running; where none is, the current pv is whole
 abbrev pub is_searching : RunningGo → Bool
 is_searching go = is_some go.root_move || nat_lt 0 go.walk_plies
@@ -197,12 +227,13 @@ abbrev pub most_reports : ℕ
 most_reports = MULTI_PV_MAX * DEPTH_MAX + 1
 
 -- the answer was given, or its `go` was started: what was written and what that `go` still says
--- are the answer, and the `go` makes at most so many steps
-pub record IsBegun (answer : Answer) (cost : ℕ) (before after : List ℕ) (state : State)
-    (running_go : Option RunningGo) : Type 0 where
+-- are the answer, and the `go` makes at most so many steps, in these searches
+pub record IsBegun (answer : Answer) (cost : ℕ) (roots : List Root) (before after : List ℕ)
+    (state : State) (running_go : Option RunningGo) : Type 0 where
   pub bytes : with_rest after state running_go ≡ before ++ answer.bytes
   pub state_is : (rest_of_go_if state running_go).state ≡ answer.state
   pub load : load_of_if running_go ≤ cost
+  pub roots_are : roots_of_if running_go ≡ roots
   pub reports : reports_of_if running_go ≤ most_reports
   pub quiet : OnSome running_go (after ≡ before)
 
@@ -211,20 +242,24 @@ abbrev pub BeginsGo : {A E : Type 0} → State → ℕ → Hold → Vec ℕ A �
     → Result (Option RunningGo) E → Type 0
 BeginsGo old depth hold before after new result =
     IfOk result
-    (IsBegun (answer_go old depth hold) (go_cost old depth) before.items after.items new)
+    (IsBegun (answer_go old depth hold) (go_cost old depth) (roots_of_go old depth)
+    before.items after.items new)
 
 -- where it succeeds, a command was answered, or its `go` was started
 abbrev pub Answers : {A E : Type 0} → State → Command → Vec ℕ A → Vec ℕ A → State
     → Result (Option RunningGo) E → Type 0
 Answers old command before after new result =
     IfOk result
-    (IsBegun (answer old command) (cost_of_command old command) before.items after.items new)
+    (IsBegun (answer old command) (cost_of_command old command) (roots_of_command old command)
+    before.items after.items new)
 
 -- the same of a line
 abbrev pub AnswersLine : {A E : Type 0} → State → Line → Vec ℕ A → Vec ℕ A → State
     → Result (Option RunningGo) E → Type 0
 AnswersLine old line before after new result =
-    IfOk result (IsBegun (answer_to old line) (cost_to old line) before.items after.items new)
+    IfOk result
+    (IsBegun (answer_to old line) (cost_to old line) (roots_to old line)
+    before.items after.items new)
 
 -- a session that ends has no running `go`
 abbrev pub EndsIdle : State → State → Option RunningGo → Type 0

@@ -16,7 +16,8 @@ use Rattle.usi_lines.specs.Options.{IsDepth, IsMultiPv}
 use Rattle.usi_session.specs.declared.question.Question.{Question}
 use Rattle.usi_session.specs.declared.state.HeldBestmove.{HeldBestmove}
 use Rattle.usi_session.specs.GoInfos.{pv_by}
-use Rattle.usi_session.specs.RunningGo.{RunningGo, listed_at, bestmove_to, lines_cost, load_of, load_after_root_move}
+use Rattle.usi_session.specs.Roots.{Root, pv_roots, then_pv_roots}
+use Rattle.usi_session.specs.RunningGo.{RunningGo, listed_at, bestmove_to, lines_cost, lines_roots, current_roots, load_of, load_after_root_move}
 
 -- the evaluation, the position after the moves so far, the plies that are left, and the whole pv
 -- with its value
@@ -53,6 +54,16 @@ walk_cost walk = pv_cost walk.at walk.eval walk.plies
 abbrev pub cost_after : Walked → ℕ
 cost_after walk =
     then_pv_cost (λ next. pv_cost next walk.eval (walk.plies - 1)) walk.at
+    (best walk.at walk.eval walk.plies)
+
+-- the searches along a walk from where it stands
+abbrev pub walk_roots : Walked → List Root
+walk_roots walk = pv_roots walk.at walk.eval walk.plies
+
+-- those after the one where it stands
+abbrev pub roots_after : Walked → List Root
+roots_after walk =
+    then_pv_roots (λ next. pv_roots next walk.eval (walk.plies - 1)) walk.at
     (best walk.at walk.eval walk.plies)
 
 -- the depth and the number of lines lie in their ranges
@@ -113,6 +124,12 @@ LeavesLoad question depths_done ended root_move walk search =
     load_at question depths_done root_move walk search
     ≤ load_after_root_move question depths_done ended
 
+-- where the search of a root move has ended, the searches along each pv listed are still to end
+abbrev pub LeavesRoots : Question → ℕ → Option Move → Walked → Progress → Type 0
+LeavesRoots question depths_done root_move walk search =
+    current_roots root_move (running_go_of question depths_done 0 root_move walk search)
+    ≡ lines_roots question depths_done 0
+
 -- a search that is not at its end, for values below a bound
 pub record IsUnder (search : Progress) (position : Shogi) (eval : Eval) (depth : ℕ) (beta : ℤ)
     : Type 0 where
@@ -165,6 +182,9 @@ pub record BeginsLine (question : Question) (depths_done lines_done : ℕ) (walk
   pub cost :
       walk_cost walk + lines_cost question depths_done (lines_done + 1)
       ≡ lines_cost question depths_done lines_done
+  pub roots :
+      pv_roots walk.at question.eval walk.plies ++ lines_roots question depths_done (lines_done + 1)
+      ≡ lines_roots question depths_done lines_done
 
 -- the pv of the current line is walked
 pub record IsWalking (question : Question) (depths_done lines_done : ℕ) (ranks : Ranking)

@@ -4,8 +4,10 @@ ghost use Rattle.std.specs.Prelude.{◌≡◌, ◌≢◌, ◌≤◌, ◌<◌, �
 ghost use Rattle.minimax.specs.Minimax.{value, best};
 ghost use Rattle.usi_session.specs.Answer.{bestmove_of};
 ghost use Rattle.usi_session.specs.GoInfos.{move_to_play, move_to_ponder};
-ghost use Rattle.usi_session.specs.RunningGo.{listed_at, infos_left, infos_after, deeper_infos, is_last, is_last_of_depth, is_searching, bestmove_to, cost_of_depths, load_of, reports_of, HasDone, IsSameButForSearch, WritesLine};
-ghost use Rattle.usi_session.specs.Walked.{IsQuestionInRange, IsFirst, IsRankedTo, IsRankedUpTo, IsRanked, BeginsLine, IsSearchedAlong, IsFoundOfChild, IsAtFirstLine, first_root_move, first_search, child_search, cost_after, walk_cost, LeavesLoad};
+ghost use Rattle.usi_session.specs.RunningGo.{listed_at, infos_left, infos_after, deeper_infos, is_last, is_last_of_depth, is_searching, bestmove_to, cost_of_depths, load_of, reports_of, deeper_roots, roots_of, HasDone, IsSameButForSearch, WritesLine};
+ghost use Rattle.usi_session.specs.Walked.{IsQuestionInRange, IsFirst, IsRankedTo, IsRankedUpTo, IsRanked, BeginsLine, IsSearchedAlong, IsFoundOfChild, IsAtFirstLine, first_root_move, first_search, child_search, cost_after, walk_cost, walk_roots, roots_after, LeavesLoad, LeavesRoots};
+ghost use Rattle.usi_session.specs.Roots.{roots_of_depths};
+ghost use Rattle.usi_session.specs.Told.{TellsEnded};
 ghost use Rattle.usi_session.specs.WholeLines.{GrowsByLines};
 
 use crate::pv_walk::PvWalk;
@@ -152,6 +154,7 @@ fn walk_on(walk: &mut PvWalk, search: &mut Search, found: &Found)
     ensures same { walk.new ≡ record walk.old { at = walk.new.at; plies = walk.new.plies } }
     ensures under { IsSearchedAlong walk.new search.new }
     ensures cost { search.new.left + cost_after walk.new ≤ cost_after walk.old }
+    ensures roots { walk_roots walk.new ≡ roots_after walk.old }
 {
     walk.follow(found);
     search_along(walk, search);
@@ -210,6 +213,7 @@ fn rank_on(
     requires below { IsFoundOfChild question.now depths_done root_move ranks.old found.now }
     ensures at_depth { IsAtFirstLine question.now depths_done result ranks.new walk.new search.new }
     ensures cost { LeavesLoad question.now depths_done root_move result walk.new search.new }
+    ensures roots { LeavesRoots question.now depths_done result walk.new search.new }
 {
     let visited = root_move;
     rank(question, depths_done, root_move, found, ranks);
@@ -232,6 +236,8 @@ impl<A: Allocator> GoCommand<A> {
         requires first { IsFirst question.position first }
         ensures done { IfOk result (HasDone question 0 0) }
         ensures load { IfOk result (λ go. load_of go ≤ cost_of_depths question 0 question.depth) }
+        ensures roots { IfOk result (λ go. roots_of go ≡ roots_of_depths question.position question.eval
+            question.multi_pv 0 question.depth) }
     {
         let asked = question;
         first.validity();
@@ -271,6 +277,7 @@ impl<A: Allocator> GoCommand<A> {
         ensures most { IfSome result (λ made. made ≤ budget) }
         ensures made { IfSome result (λ made. made + load_of self.new ≤ load_of self.old) }
         ensures fewer { OnSome result (load_of self.new < load_of self.old) }
+        ensures told { TellsEnded M.called memo.old memo.new (roots_of self.old) (roots_of self.new) }
         ensures capacity { M.capacity memo.new ≡ M.capacity memo.old }
     {
         let before = self.search.steps();
@@ -364,6 +371,7 @@ impl<A: Allocator> GoCommand<A> {
         requires more { is_last_of_depth self.old ≡ false }
         ensures done { HasDone self.old.question self.old.depths_done (self.old.lines_done + 1)
             self.new }
+        ensures roots { roots_of self.new ≡ roots_of self.old }
         ensures load { load_of self.new ≤ load_of self.old }
         ensures fewer { reports_of self.new < reports_of self.old }
     {
@@ -383,6 +391,8 @@ impl<A: Allocator> GoCommand<A> {
         requires more { self.old.depths_done + 1 ≢ self.old.question.depth }
         ensures done { HasDone self.old.question (self.old.depths_done + 1) 0 self.new }
         ensures rest { infos_left self.new ≡ deeper_infos self.old.question self.old.depths_done }
+        ensures roots { roots_of self.new
+            ≡ deeper_roots self.old.question self.old.depths_done }
         ensures load { load_of self.new ≤ load_of self.old }
         ensures fewer { reports_of self.new < reports_of self.old }
     {
@@ -412,6 +422,7 @@ impl<A: Allocator> GoCommand<A> {
         requires more { is_last self.old ≡ false }
         ensures question { self.new.question ≡ self.old.question }
         ensures rest { infos_left self.new ≡ infos_after self.old }
+        ensures roots { roots_of self.new ≡ roots_of self.old }
         ensures load { load_of self.new ≤ load_of self.old }
         ensures fewer { reports_of self.new < reports_of self.old }
     {

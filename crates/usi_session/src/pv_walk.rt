@@ -4,7 +4,7 @@ ghost use Rattle.std.specs.Prelude.{◌≡◌, ◌≤◌, ◌<◌, ◌+◌, ◌-
 ghost use Rattle.minimax.specs.Minimax.{value, best, pv_cost};
 ghost use Rattle.shogi_moves.specs.After.{after};
 ghost use Rattle.usi_lines.specs.declared.options.TheConstants.{DEPTH_MAX};
-ghost use Rattle.usi_session.specs.Walked.{walk_from, walk_by, cost_after};
+ghost use Rattle.usi_session.specs.Walked.{walk_from, walk_by, cost_after, walk_roots, roots_after};
 
 use arrayvec::ArrayVec;
 use shogi_core::{Move, Position};
@@ -83,6 +83,7 @@ impl PvWalk {
         ensures same { self.new ≡ record self.old { at = self.new.at; plies = self.new.plies } }
         ensures fewer { self.new.plies < self.old.plies }
         ensures cost { pv_cost self.new.at self.new.eval self.new.plies ≤ cost_after self.old }
+        ensures roots { walk_roots self.new ≡ roots_after self.old }
     {
         self.value = Some(self.value.unwrap_or(found.value));
         match found.best {

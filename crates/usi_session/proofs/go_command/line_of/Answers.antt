@@ -1,13 +1,16 @@
-use Rattle.std.proofs.Common.{◌≡◌, ◌+◌, ℤ, List, Some, refl, sym, ap, ◌∙◌, arith, rules, length}
+use Rattle.std.proofs.Common.{◌≡◌, ◌+◌, ◌++◌, ℤ, List, Some, refl, sym, ap, ◌∙◌, arith, rules, length}
 use Rattle.std.specs.Prelude.{slice_get}
 use Rattle.std.proofs.lemmas.Option.{slice_get_read}
 use Rattle.shogi_core.specs.declared.moves.Move.{Move}
 use Rattle.shogi_core.specs.Codes.{code_of}
 use Rattle.shogi_core.specs.Position.{Shogi}
+use Rattle.shogi_moves.specs.After.{after_code}
 use Rattle.minimax.specs.Minimax.{pv_cost}
-use Rattle.usi_session.specs.RunningGo.{listed_at}
+use Rattle.usi_session.specs.Roots.{Root, pv_roots}
+use Rattle.usi_session.specs.RunningGo.{listed_at, lines_roots}
 use Rattle.usi_session.specs.Walked.{Walked, walk_cost}
 use Rattle.usi_session.proofs.Listed.{IsPair, ranked_length, ranked_pair, listed_legal, pv_by_move, pvs_next}
+use Rattle.usi_session.proofs.RootLaws.{pvs_roots-next}
 use Rattle.usi_session.proofs.go_command.line_of.Goals as goal
 
 pub apply-next-requires : goal.apply-next-requires
@@ -27,7 +30,10 @@ returns c =
     let at : slice_get c.args.ranks.now.pairs c.args.lines_done ≡ Some x = ap (λ (l : List (Move × ℤ)). slice_get l c.args.lines_done) (sym c.list.ensures.value) ∙ slice_get_read c.list.result.now (length c.list.result.now) c.args.lines_done x refl (omega (arith, n, c.requires.lines_done)) c.index-list-lines_done.is in
     let pair : IsPair question c.args.depths_done c.args.lines_done x.0 x.1 = ranked_pair question c.args.depths_done c.args.lines_done c.args.ranks.now x c.requires.ranked at in
     let z : c.after.result.value ≡ x.1 = search rules in
+    let rest : List Root = lines_roots question c.args.depths_done (c.args.lines_done + 1) in
     let cost : walk_cost c.after.result ≡ pv_cost _ question.eval c.args.depths_done = ap walk_cost c.after.ensures ∙ ap (λ (q : Shogi). pv_cost q question.eval c.args.depths_done) c.apply-next.ensures.by_code in
+    let roots : pv_roots c.after.result.at question.eval c.after.result.plies ++ rest ≡ pv_roots (after_code question.position (code_of x.0)) question.eval c.args.depths_done ++ rest =
+    ap (λ (w : Walked). pv_roots w.at question.eval w.plies ++ rest) c.after.ensures ∙ ap (λ (q : Shogi). pv_roots q question.eval c.args.depths_done ++ rest) c.apply-next.ensures.by_code in
     record {
       line = record {
         code = code_of x.0;
@@ -37,4 +43,5 @@ returns c =
         eval_is = ap (λ (w : Walked). w.eval) c.after.ensures;
       };
       cost = omega (arith, cost, pvs_next question.position question.eval c.args.depths_done (listed_at question c.args.depths_done) c.args.lines_done (code_of x.0) pair.listed_as);
+      roots = roots ∙ pvs_roots-next question.position question.eval c.args.depths_done (listed_at question c.args.depths_done) c.args.lines_done (code_of x.0) pair.listed_as;
     }

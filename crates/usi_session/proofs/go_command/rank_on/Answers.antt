@@ -42,3 +42,6 @@ pub returns-in-Some-clause-cost : goal.returns-in-Some-clause-cost
 returns-in-Some-clause-cost c =
     let q = c.args.question.now in
     next_child_cost q c.args.depths_done c.args.root_move c.in-Some.m c.args.walk.now c.search_child.new.search (child_beta c.rank.new.ranks) c.search_child.ensures (sym (after_code_of q.position c.in-Some.m c.validity.ensures.back)) c.in-Some.ensures.next
+
+pub returns-clause-roots : goal.returns-clause-roots
+returns-clause-roots c = c.line_of.ensures.roots

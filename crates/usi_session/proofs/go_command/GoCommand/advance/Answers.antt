@@ -1,4 +1,6 @@
-use Rattle.std.proofs.Common.{◌≡◌, ◌<◌, ℕ, ℤ, Option, Some, None, ◌-◌, ap, ◌∙◌, arith, rules}
+use Rattle.std.proofs.Common.{◌≡◌, ◌<◌, ℕ, ℤ, Option, Some, None, ◌-◌, true, false, ap, ◌∙◌, arith, rules}
+use Rattle.std.specs.Prelude.{is_some}
+use Rattle.minimax.specs.declared.bounds.TheConstants.{INFINITY}
 use Rattle.shogi_core.specs.Position.{Shogi}
 use Rattle.shogi_core.specs.declared.moves.Move.{Move}
 use Rattle.shogi_eval.specs.declared.eval.Eval.{Eval}
@@ -6,8 +8,11 @@ use Rattle.shogi_search.specs.Progress.{Progress}
 use Rattle.shogi_search.specs.Ranked.{Ranking}
 use Rattle.usi_session.specs.declared.question.Question.{Question}
 use Rattle.usi_session.specs.declared.state.HeldBestmove.{HeldBestmove}
-use Rattle.usi_session.specs.Walked.{Walked, IsUnder, IsAtDepth}
-use Rattle.usi_session.proofs.go_command.GoCommand.advance.Goals.{then-leaf+in_ok-found, else-leaf+in_ok-found-2}
+use Rattle.usi_session.specs.RunningGo.{is_searching}
+use Rattle.usi_session.specs.Walked.{Walked, IsUnder, IsAtDepth, IsWalking, LeavesRoots, roots_after, walk_roots}
+use Rattle.usi_session.proofs.TellsLaws.{none_called, none_ended, told_value, walked_told}
+use Rattle.usi_session.proofs.RootLaws.{ranking_roots, same_roots, searching_plies}
+use Rattle.usi_session.proofs.go_command.GoCommand.advance.Goals.{then-leaf+in_ok-found, else-leaf+in_ok-found-2, in-None, in-Some, then-self-eq0, else-self-eq0}
 use Rattle.usi_session.proofs.go_command.GoCommand.advance.Goals as goal
 
 -- a search that was cut is continued for the same
@@ -50,4 +55,54 @@ returns-clause-most g c =
           let last : w.in_ok-found-2.found.steps ≡ w.advance-else-leaf.new.self.steps = search rules in
           let made : c.saturating_sub.result ≡ w.in_ok-found-2.found.steps - c.steps-before.result = search rules in
           omega (arith, first, last, made, w.advance-else-leaf.ensures.most, ap (λ (x : Progress). x.steps) u))
+    ]
+
+-- a leaf is searched without the memory
+pub returns-in_err-found-clause-told : goal.returns-in_err-found-clause-told
+returns-in_err-found-clause-told g c =
+    let s = c.self.inside in
+    rw (← c.self.view_is) (none_ended _ _ _ _ _ (none_called _ _) (same_roots s.question s.depths_done s.lines_done s.root_move s.walk s.search.value c.advance.new.self))
+
+pub returns-in_err-found-2-clause-told : goal.returns-in_err-found-2-clause-told
+returns-in_err-found-2-clause-told g c =
+    let s = c.self.inside in
+    rw (← c.self.view_is) (none_ended _ _ _ _ _ (record { calls = c.advance-else-leaf.ensures.calls.calls; each = c.advance-else-leaf.ensures.calls.each }) (same_roots s.question s.depths_done s.lines_done s.root_move s.walk s.search.value c.advance-else-leaf.new.self))
+
+pub returns-clause-told : goal.returns-clause-told
+returns-clause-told g c =
+    let s = c.self.inside in
+    elim c.match-self.branch [
+      | in-None w ↦ (elim c.if-leaf.branch [
+        | then-leaf+in_ok-found v ↦ (
+            let none : s.root_move ≡ None = rw v.self-inside-is at w.in-None.is in
+            let yes : c.if-self-eq0.leaf ≡ true = v.if-leaf.true in
+            let no : is_some s.root_move ≡ false = ap is_some none in
+            elim c.if-self-eq0.branch [
+              | then-self-eq0 u ↦ (let is : c.if-self-eq0.leaf ≡ is_some s.root_move = search rules in absurd (cc))
+              | else-self-eq0 u ↦ (let is : c.if-self-eq0.leaf ≡ false = search rules in absurd (cc))
+            ])
+        | else-leaf+in_ok-found-2 v ↦ (
+            let none : s.root_move ≡ None = rw v.self-inside-is at w.in-None.is in
+            let walking : IsWalking s.question s.depths_done s.lines_done s.ranks s.walk s.bestmove s.search.value = rw none at c.self.invariant.at_depth in
+            let some : 0 < s.walk.plies = searching_plies s.root_move s.walk.plies (ap is_searching c.self.view_is ∙ c.requires.searching) none in
+            let u : v.deref_mut-else-leaf.result.now ≡ s.search.value = search rules in
+            let under : IsUnder v.deref_mut-else-leaf.result.now s.walk.at s.walk.eval s.walk.plies INFINITY = rw u (walking.searched some) in
+            let r : walk_roots w.walk_on.new.walk ≡ roots_after s.walk = rw v.self-inside-is at w.walk_on.ensures.roots in
+            let k : w.walk_on.new.walk.eval ≡ s.walk.eval = rw v.self-inside-is at (ap (λ (x : Walked). x.eval) w.walk_on.ensures.same) in
+            rw (w.self-is, v.memo-is, v.self-inside-is, ← c.self.view_is)
+            (walked_told _ _ _ s.question s.depths_done s.lines_done s.root_move s.walk w.walk_on.new.walk s.search.value w.walk_on.new.search none walking.line.eval_is (k ∙ walking.line.eval_is) some r
+            (told_value _ _ _ _ v.advance-else-leaf.new.self _ v.in_ok-found-2.found s.walk.at s.walk.eval s.walk.plies under v.in_ok-found-2.ensures.again v.in_ok-found-2.ensures.over v.in_ok-found-2.ensures.below v.in_ok-found-2.ensures.value v.in_ok-found-2.ensures.best v.in_ok-found-2.ensures.told)))
+      ])
+      | in-Some w ↦ (elim c.if-leaf.branch [
+        | then-leaf+in_ok-found v ↦ (
+            let some : s.root_move ≡ Some w.in-Some.m = rw v.self-inside-is at w.in-Some.is in
+            let leaves : LeavesRoots s.question s.depths_done w.rank_on-self-inside.result w.rank_on-self-inside.new.walk w.rank_on-self-inside.new.search = rw v.self-inside-is at w.rank_on-self-inside.ensures.roots in
+            rw (w.self-is, v.memo-is, v.self-inside-is, ← c.self.view_is)
+            (none_ended _ _ _ _ _ (none_called _ _) (ranking_roots s.question s.depths_done s.lines_done s.root_move w.rank_on-self-inside.result w.in-Some.m s.ranks s.walk w.rank_on-self-inside.new.walk s.bestmove s.search.value w.rank_on-self-inside.new.search some c.self.invariant.at_depth leaves)))
+        | else-leaf+in_ok-found-2 v ↦ (
+            let some : s.root_move ≡ Some w.in-Some.m = rw v.self-inside-is at w.in-Some.is in
+            let leaves : LeavesRoots s.question s.depths_done w.rank_on-self-inside.result w.rank_on-self-inside.new.walk w.rank_on-self-inside.new.search = rw v.self-inside-is at w.rank_on-self-inside.ensures.roots in
+            rw (w.self-is, v.memo-is, v.self-inside-is, ← c.self.view_is)
+            (none_ended _ _ _ _ _ (record { calls = v.advance-else-leaf.ensures.calls.calls; each = v.advance-else-leaf.ensures.calls.each }) (ranking_roots s.question s.depths_done s.lines_done s.root_move w.rank_on-self-inside.result w.in-Some.m s.ranks s.walk w.rank_on-self-inside.new.walk s.bestmove s.search.value w.rank_on-self-inside.new.search some c.self.invariant.at_depth leaves)))
+      ])
     ]

@@ -4,6 +4,7 @@ use Rattle.usi_session.specs.RunningGo.{RunningGo, is_searching}
 use Rattle.usi_session.proofs.Listed.{line_below}
 use Rattle.usi_session.proofs.Reports.{reported_depth}
 use Rattle.usi_session.proofs.NextSearch.{begun, next_depth_cost, whole_line, IsWholeLine}
+use Rattle.usi_session.proofs.RootLaws.{begun_roots}
 use Rattle.usi_session.proofs.go_command.GoCommand.next_depth.Goals as goal
 
 pub and_first_of-self-inside-requires : goal.and_first_of-self-inside-requires
@@ -46,3 +47,10 @@ returns-clause-rest g c =
     let t : s.depths_done ≡ c.args.self.now.depths_done = ap (λ (x : RunningGo). x.depths_done) c.self.view_is in
     let d : s.question.depth ≡ c.args.self.now.question.depth = ap (λ (x : RunningGo). x.question.depth) c.self.view_is in
     rw (← c.self.view_is) (reported_depth s.question s.depths_done (omega (arith, t, d, c.self.invariant.left, c.requires.more)))
+
+pub returns-clause-roots : goal.returns-clause-roots
+returns-clause-roots g c =
+    let s = c.self.inside in
+    let t : s.depths_done ≡ c.args.self.now.depths_done = ap (λ (x : RunningGo). x.depths_done) c.self.view_is in
+    let d : s.question.depth ≡ c.args.self.now.question.depth = ap (λ (x : RunningGo). x.question.depth) c.self.view_is in
+    rw (c.first_root_move-root_move.ensures, c.new-walk.ensures, ← c.self.view_is) (begun_roots s.question s.first (s.depths_done + 1) c.search_first.new.search (omega (arith, t, d, c.self.invariant.left, c.requires.more)) c.self.invariant.first_is)

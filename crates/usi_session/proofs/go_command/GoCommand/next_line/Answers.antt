@@ -1,8 +1,10 @@
-use Rattle.std.proofs.Common.{◌≢◌, ◌+◌, ◌<◌, ap, ◌∙◌, arith, rules, length}
+use Rattle.std.proofs.Common.{◌≡◌, ◌≢◌, ◌++◌, List, ◌+◌, ◌<◌, ap, sym, ◌∙◌, arith, rules, length}
 use Rattle.std.proofs.lemmas.Bool.{eqb-false}
-use Rattle.usi_session.specs.RunningGo.{is_searching, is_last_of_depth, listed_at}
+use Rattle.usi_session.specs.Roots.{Root}
+use Rattle.usi_session.specs.RunningGo.{RunningGo, is_searching, is_last_of_depth, listed_at, lines_roots, deeper_roots, roots_of}
 use Rattle.usi_session.proofs.Listed.{line_below, line_within, one_listed, first_some}
 use Rattle.usi_session.proofs.NextSearch.{whole_line, IsWholeLine}
+use Rattle.usi_session.proofs.RootLaws.{whole_roots}
 use Rattle.usi_session.proofs.go_command.GoCommand.next_line.Goals as goal
 
 pub line_of-walk-requires-clause-ranked : goal.line_of-walk-requires-clause-ranked
@@ -43,3 +45,11 @@ returns-clause-fewer g c =
     let m = c.self.invariant.range.multi_pv_fits.most in
     let h = c.self.invariant.left in
     rw (← c.self.view_is) (omega arith)
+
+pub returns-clause-roots : goal.returns-clause-roots
+returns-clause-roots g c =
+    let s = c.self.inside in
+    let w : IsWholeLine s.question s.depths_done s.lines_done s.root_move s.ranks s.walk s.bestmove = whole_line s.question s.depths_done s.lines_done s.root_move s.ranks s.walk s.bestmove s.search.value c.self.invariant.at_depth (ap is_searching c.self.view_is ∙ c.requires.whole) in
+    let old : roots_of c.args.self.now ≡ lines_roots s.question s.depths_done (s.lines_done + 1) ++ deeper_roots s.question s.depths_done =
+    whole_roots c.args.self.now c.requires.whole ∙ sym (ap (λ (x : RunningGo). lines_roots x.question x.depths_done (x.lines_done + 1) ++ deeper_roots x.question x.depths_done) c.self.view_is) in
+    rw w.none (ap (λ (roots : List Root). roots ++ deeper_roots s.question s.depths_done) c.line_of-walk.ensures.roots ∙ sym old)

@@ -1,8 +1,10 @@
-use Rattle.std.proofs.Common.{◌≡◌, ◌-◌, ap, arith, rules}
+use Rattle.std.proofs.Common.{◌≡◌, ◌∙◌, ◌-◌, ap, arith, rules}
+use Rattle.usi_session.specs.Roots.{roots_of_depths}
 use Rattle.shogi_search.specs.Ranked.{Ranking, child_beta}
 use Rattle.usi_session.specs.RunningGo.{cost_of_depths}
 use Rattle.usi_session.specs.Walked.{first_search}
 use Rattle.usi_session.proofs.NextSearch.{begun, begun_cost}
+use Rattle.usi_session.proofs.RootLaws.{begun_roots}
 use Rattle.usi_session.proofs.go_command.GoCommand.start.Goals as goal
 
 pub invariant_of-result : goal.invariant_of-result
@@ -25,3 +27,10 @@ returns-clause-load g c =
     let a : cost_of_depths q 0 (q.depth - 0) ≡ cost_of_depths q 0 q.depth = ap (cost_of_depths q 0) n in
     let s : c.in_ok-search.search.value ≡ first_search q c.args.first 0 = search rules in
     rw (c.first_root_move-root_move.ensures, c.new-walk.ensures, s) (omega (arith, a, begun_cost q c.args.first 0 (omega arith) c.requires.first c.validity.ensures.back))
+
+pub returns-clause-roots : goal.returns-clause-roots
+returns-clause-roots g c =
+    let q = c.args.question in
+    let h = c.requires.question.depth_fits.least in
+    let n : q.depth - 0 ≡ q.depth = omega arith in
+    rw (c.first_root_move-root_move.ensures, c.new-walk.ensures) (begun_roots q c.args.first 0 c.in_ok-search.search.value (omega arith) c.requires.first ∙ ap (roots_of_depths q.position q.eval q.multi_pv 0) n)

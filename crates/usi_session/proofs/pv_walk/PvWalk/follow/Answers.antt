@@ -3,6 +3,7 @@ use Rattle.std.specs.Prelude.{IfSome, true}
 use Rattle.shogi_moves.specs.Legal.{is_legal}
 use Rattle.minimax.proofs.Best.{legal_best}
 use Rattle.usi_session.proofs.Walk.{walked_none, walked_some, walk_same, cost_ends}
+use Rattle.usi_session.proofs.RootLaws.{roots_end, roots_next}
 use Rattle.usi_session.proofs.pv_walk.PvWalk.follow.Goals as goal
 
 pub apply-self-inside-requires : goal.apply-self-inside-requires
@@ -22,3 +23,13 @@ pub returns-in-Some-clause-same : goal.returns-in-Some-clause-same
 returns-in-Some-clause-same c =
     let s = c.self.inside in
     rw (← c.self.view_is) (walk_same s.eval s.at _ s.plies _ s.moves.items _ s.value _ (walked_some s.moves.items _ _ s.at _ s.eval s.plies c.in-Some.m _ (search rules) (search rules) c.in-Some.is c.push.ensures.items c.apply-self-inside.ensures.after refl) (search rules))
+
+pub returns-in-None-clause-roots : goal.returns-in-None-clause-roots
+returns-in-None-clause-roots c =
+    let s = c.self.inside in
+    rw (← c.self.view_is) (roots_end s.at s.eval s.plies _ (search rules) c.in-None.is)
+
+pub returns-in-Some-clause-roots : goal.returns-in-Some-clause-roots
+returns-in-Some-clause-roots c =
+    let s = c.self.inside in
+    rw (← c.self.view_is) (roots_next s.at _ s.eval s.plies c.in-Some.m _ (search rules) c.in-Some.is c.apply-self-inside.ensures.after)

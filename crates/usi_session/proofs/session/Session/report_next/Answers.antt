@@ -1,7 +1,7 @@
 use Rattle.std.proofs.Common.{◌≡◌, ap, ◌∙◌, arith, refl, rules, false, []}
 use Rattle.usi_lines.specs.Lines.{ahead}
 use Rattle.usi_session.specs.Due.{SessionView}
-use Rattle.usi_session.proofs.Steps.{due_reported, due_ends, load_reported, pending_alive}
+use Rattle.usi_session.proofs.Steps.{due_reported, due_ends, load_reported, roots_reported, roots_ended, pending_alive}
 use Rattle.usi_session.proofs.WholeReplies.{grows_by_none, reported_whole, end_whole}
 use Rattle.usi_session.proofs.session.Session.report_next.Goals as goal
 
@@ -39,16 +39,26 @@ returns-clause-grown g c =
 -- the line was not written: nothing changed
 pub returns-in_err-report : goal.returns-in_err-report
 returns-in_err-report g c =
-    rw (← c.self.view_is, c.in-Some.is) (record { due = λ x. refl; after = λ x. refl; load = omega arith; fewer = search rules; grown = grows_by_none _; err = search rules })
+    rw (← c.self.view_is, c.in-Some.is) (record { due = λ x. refl; after = λ x. refl; roots = refl; load = omega arith; fewer = search rules; grown = grows_by_none _; err = search rules })
 
 pub returns-in_err-push : goal.returns-in_err-push
 returns-in_err-push g c =
-    rw (← c.self.view_is, c.in-Some.is, c.in_err-push.ensures.err) (record { due = λ x. refl; after = λ x. refl; load = omega arith; fewer = search rules; grown = grows_by_none _; err = search rules })
+    rw (← c.self.view_is, c.in-Some.is, c.in_err-push.ensures.err) (record { due = λ x. refl; after = λ x. refl; roots = refl; load = omega arith; fewer = search rules; grown = grows_by_none _; err = search rules })
 
 pub returns-in_err-write_or_hold : goal.returns-in_err-write_or_hold
 returns-in_err-write_or_hold g c =
-    rw (← c.self.view_is, c.in-Some.is) (record { due = λ x. refl; after = λ x. refl; load = omega arith; fewer = search rules; grown = grows_by_none _; err = search rules })
+    rw (← c.self.view_is, c.in-Some.is) (record { due = λ x. refl; after = λ x. refl; roots = refl; load = omega arith; fewer = search rules; grown = grows_by_none _; err = search rules })
 
 pub returns-in_err-push-2 : goal.returns-in_err-push-2
 returns-in_err-push-2 g c =
-    rw (← c.self.view_is, c.in-Some.is, c.in_err-push-2.ensures.err) (record { due = λ x. refl; after = λ x. refl; load = omega arith; fewer = search rules; grown = grows_by_none _; err = search rules })
+    rw (← c.self.view_is, c.in-Some.is, c.in_err-push-2.ensures.err) (record { due = λ x. refl; after = λ x. refl; roots = refl; load = omega arith; fewer = search rules; grown = grows_by_none _; err = search rules })
+
+pub returns-then-not-is_last-clause-roots : goal.returns-then-not-is_last-clause-roots
+returns-then-not-is_last-clause-roots g c =
+    let s = c.self.inside in
+    rw (← c.self.view_is) (roots_reported s.state c.in-Some.running_go c.next.new.self s.running_go (ahead s.input []) c.in-Some.is (search rules) (search rules))
+
+pub returns-clause-roots : goal.returns-clause-roots
+returns-clause-roots g c =
+    let s = c.self.inside in
+    rw (← c.self.view_is) (roots_ended s.state c.write_or_hold.new.state c.in-Some.running_go s.running_go c.bestmove.result (ahead s.input []) c.in-Some.is (search rules) (search rules) (search rules) (search rules))

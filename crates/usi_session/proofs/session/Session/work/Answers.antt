@@ -1,6 +1,18 @@
-use Rattle.std.proofs.Common.{rules}
-use Rattle.usi_session.proofs.WholeReplies.{grows_then}
+use Rattle.std.proofs.Common.{refl, rules}
+use Rattle.usi_session.proofs.WholeReplies.{grows_by_none, grows_then}
+use Rattle.usi_session.proofs.TellsLaws.{ended_then, none_called, none_ended}
 use Rattle.usi_session.proofs.session.Session.work.Goals as goal
+
+pub turns-init : goal.turns-init
+turns-init g c = record {
+  due = search rules;
+  after = search rules;
+  within = search rules;
+  grown = grows_by_none _;
+  made = search rules;
+  told = none_ended _ _ _ _ _ (none_called _ _) refl;
+  capacity = search rules;
+}
 
 -- a turn's lines come after those of the turns before
 pub turns-preserved : goal.turns-preserved
@@ -10,8 +22,15 @@ turns-preserved g c = record {
   within = search rules;
   grown = grows_then c.turns.invariant.grown c.turn.ensures.grown;
   made = search rules;
+  told = ended_then _ _ _ _ _ _ _ c.turns.invariant.told c.turn.ensures.told;
   capacity = search rules;
 }
 
 pub returns-in-None-clause-grown : goal.returns-in-None-clause-grown
 returns-in-None-clause-grown g c = grows_then c.turns.invariant.grown c.turn.ensures.grown
+
+pub returns-in-None-clause-told : goal.returns-in-None-clause-told
+returns-in-None-clause-told g c = ended_then _ _ _ _ _ _ _ c.turns.invariant.told c.turn.ensures.told
+
+pub returns-in_err-made-clause-told : goal.returns-in_err-made-clause-told
+returns-in_err-made-clause-told g c = ended_then _ _ _ _ _ _ _ c.turns.invariant.told c.turn.ensures.told

@@ -1,0 +1,153 @@
+-- The searches along pvs that a running `go` has still to end.
+use Rattle.std.proofs.Common.{◌≡◌, ◌∙◌, ◌<◌, ◌≤◌, ℕ, zero, suc, ◌+◌, ◌-◌, ◌==◌, List, [], ◌∷◌, ◌++◌, Bool, true, false, cond, Option, Some, None, refl, sym, ap, arith, append-nil, drop, length}
+use Rattle.std.specs.Prelude.{nat_lt, ◌||◌, is_some, slice_get}
+use Rattle.std.proofs.lemmas.Bool.{eqb-true, and_parts, ltb-false, ltb-true}
+use Rattle.std.proofs.lemmas.List.{drop_all}
+use Rattle.shogi_core.specs.Position.{Shogi}
+use Rattle.shogi_core.specs.declared.moves.Move.{Move}
+use Rattle.shogi_moves.specs.After.{after, after_code}
+use Rattle.shogi_moves.specs.LegalMoves.{legal_codes}
+use Rattle.shogi_eval.specs.declared.eval.Eval.{Eval}
+use Rattle.minimax.specs.Minimax.{best}
+use Rattle.shogi_search.specs.Progress.{Progress}
+use Rattle.shogi_search.specs.Ranked.{Ranking}
+use Rattle.usi_session.specs.declared.question.Question.{Question}
+use Rattle.usi_session.specs.declared.state.HeldBestmove.{HeldBestmove}
+use Rattle.usi_session.specs.GoInfos.{listed}
+use Rattle.usi_session.specs.Roots.{Root, root_of, pv_roots, pvs_roots, then_pv_roots, depth_roots, roots_of_depths, roots_where}
+use Rattle.usi_session.specs.RunningGo.{RunningGo, current_roots, deeper_roots, ends_depth, is_last, is_last_of_depth, is_searching, lines_roots, listed_at, roots_of}
+use Rattle.usi_session.specs.Walked.{IsAtDepth, IsFirst, LeavesRoots, Walked, first_root_move, roots_after, running_go_of, walk_from, walk_roots}
+use Rattle.usi_session.proofs.Listed.{drop_at, first_some, one_listed}
+
+pv_roots-leaf : (p : Shogi) (eval : Eval) → pv_roots p eval 0 ≡ []
+unfolding pv_roots
+pv_roots-leaf p eval = refl
+
+pv_roots-suc : (p : Shogi) (eval : Eval) (k : ℕ) → pv_roots p eval (suc k) ≡ root_of p eval (suc k) ∷ then_pv_roots (λ q. pv_roots q eval k) p (best p eval (suc k))
+unfolding pv_roots
+pv_roots-suc p eval k = refl
+
+pub pv_roots-above : (p : Shogi) (eval : Eval) (k : ℕ) → 0 < k → pv_roots p eval k ≡ root_of p eval k ∷ then_pv_roots (λ q. pv_roots q eval (k - 1)) p (best p eval k)
+pv_roots-above p eval zero h = absurd (omega arith)
+pv_roots-above p eval (suc k) h = let e : suc k - 1 ≡ k = omega arith in rw e (pv_roots-suc p eval k)
+
+-- there is no best move: no search follows
+pub roots_end : (at : Shogi) (eval : Eval) (plies : ℕ) (b : Option Move) → b ≡ best at eval plies → b ≡ None
+    → pv_roots at eval 0 ≡ then_pv_roots (λ q. pv_roots q eval (plies - 1)) at (best at eval plies)
+roots_end at eval plies b h n = pv_roots-leaf at eval ∙ sym (ap (then_pv_roots (λ q. pv_roots q eval (plies - 1)) at) (sym h ∙ n))
+
+-- one move on
+pub roots_next : (at next : Shogi) (eval : Eval) (plies : ℕ) (m : Move) (b : Option Move) → b ≡ best at eval plies → b ≡ Some m → next ≡ after at m
+    → pv_roots next eval (plies - 1) ≡ then_pv_roots (λ q. pv_roots q eval (plies - 1)) at (best at eval plies)
+roots_next at next eval plies m b h n f = ap (λ q. pv_roots q eval (plies - 1)) f ∙ sym (ap (then_pv_roots (λ q. pv_roots q eval (plies - 1)) at) (sym h ∙ n))
+
+-- the searches along the pv of a listed move, and along those behind it
+pub pvs_roots-next : (p : Shogi) (eval : Eval) (d : ℕ) (xs : List ℕ) (n x : ℕ) → slice_get xs n ≡ Some x → pv_roots (after_code p x) eval d ++ pvs_roots p eval d (drop (n + 1) xs) ≡ pvs_roots p eval d (drop n xs)
+pvs_roots-next p eval d xs n x e = sym (ap (pvs_roots p eval d) (drop_at xs n x e))
+
+roots_of_depths-start : (p : Shogi) (eval : Eval) (multi_pv depths_done : ℕ) → roots_of_depths p eval multi_pv depths_done 0 ≡ []
+unfolding roots_of_depths
+roots_of_depths-start p eval multi_pv depths_done = refl
+
+roots_of_depths-suc : (p : Shogi) (eval : Eval) (multi_pv depths_done more : ℕ) → roots_of_depths p eval multi_pv depths_done (suc more) ≡ depth_roots p eval multi_pv (depths_done + 1) ++ roots_of_depths p eval multi_pv (depths_done + 1) more
+unfolding roots_of_depths
+roots_of_depths-suc p eval multi_pv depths_done more = refl
+
+-- a depth, and those above it
+depth_and_deeper : (question : Question) (depths_done : ℕ) → depths_done < question.depth
+    → depth_roots question.position question.eval question.multi_pv (depths_done + 1) ++ deeper_roots question depths_done
+    ≡ roots_of_depths question.position question.eval question.multi_pv depths_done (question.depth - depths_done)
+depth_and_deeper question depths_done h =
+    let n : question.depth - depths_done ≡ suc (question.depth - (depths_done + 1)) = omega arith in
+    rw n (sym (roots_of_depths-suc question.position question.eval question.multi_pv depths_done (question.depth - (depths_done + 1))))
+
+-- behind the last line none is left
+lines_roots-none : (question : Question) (depths_done lines_done : ℕ) → lines_done ≡ length (listed_at question depths_done) → lines_roots question depths_done lines_done ≡ []
+lines_roots-none question depths_done lines_done e =
+    ap (pvs_roots question.position question.eval depths_done) (drop_all lines_done (listed_at question depths_done) (omega arith))
+
+begun_at : (question : Question) (first : Move) (depths_done : ℕ) (search : Progress) (one : Bool) → (question.multi_pv == 1) ≡ one → IsFirst question.position first
+    → current_roots (cond one None (Some first)) (running_go_of question depths_done 0 (cond one None (Some first)) (walk_from question.position question.eval (depths_done + 1)) search)
+    ≡ cond one (pv_roots question.position question.eval (depths_done + 1)) (pvs_roots question.position question.eval (depths_done + 1 - 1) (listed question.position question.eval question.multi_pv (depths_done + 1)))
+begun_at question first depths_done search true e f =
+    let len : length (listed_at question depths_done) ≡ 1 = one_listed question.position question.eval question.multi_pv (depths_done + 1) (eqb-true question.multi_pv 1 e) (omega arith) (first_some question.position first f) in
+    ap (λ (roots : List Root). pv_roots question.position question.eval (depths_done + 1) ++ roots) (lines_roots-none question depths_done 1 (sym len))
+    ∙ append-nil (pv_roots question.position question.eval (depths_done + 1))
+begun_at question first depths_done search false e f =
+    let k : depths_done + 1 - 1 ≡ depths_done = omega arith in rw k refl
+
+-- before a depth it and those above it are searched
+pub begun_roots : (question : Question) (first : Move) (depths_done : ℕ) (search : Progress) → depths_done < question.depth → IsFirst question.position first
+    → roots_of (running_go_of question depths_done 0 (first_root_move question first) (walk_from question.position question.eval (depths_done + 1)) search)
+    ≡ roots_of_depths question.position question.eval question.multi_pv depths_done (question.depth - depths_done)
+begun_roots question first depths_done search h f =
+    ap (λ (roots : List Root). roots ++ deeper_roots question depths_done) (begun_at question first depths_done search (question.multi_pv == 1) refl f)
+    ∙ depth_and_deeper question depths_done h
+
+no_plies : (n : ℕ) → nat_lt 0 n ≡ false → n ≡ 0
+no_plies n e = let l : n ≤ 0 = ltb-false 0 n e in omega arith
+
+current_whole : (go : RunningGo) (root_move : Option Move) → (is_some root_move || nat_lt 0 go.walk_plies) ≡ false
+    → current_roots root_move go ≡ lines_roots go.question go.depths_done (go.lines_done + 1)
+current_whole go (Some m) e = absurd (cc)
+current_whole go None e =
+    ap (λ (k : ℕ). pv_roots go.walk_position go.question.eval k ++ lines_roots go.question go.depths_done (go.lines_done + 1)) (no_plies go.walk_plies e)
+    ∙ ap (λ (roots : List Root). roots ++ lines_roots go.question go.depths_done (go.lines_done + 1)) (pv_roots-leaf go.walk_position go.question.eval)
+
+-- once a pv is whole, those along the pvs behind it are left, and those of the depths above
+pub whole_roots : (go : RunningGo) → is_searching go ≡ false
+    → roots_of go ≡ lines_roots go.question go.depths_done (go.lines_done + 1) ++ deeper_roots go.question go.depths_done
+whole_roots go whole = ap (λ (roots : List Root). roots ++ deeper_roots go.question go.depths_done) (current_whole go go.root_move whole)
+
+-- and where it is the last one of its depth, those of the depths above
+pub ended_roots : (go : RunningGo) → is_searching go ≡ false → is_last_of_depth go ≡ true → roots_of go ≡ deeper_roots go.question go.depths_done
+ended_roots go whole last =
+    whole_roots go whole
+    ∙ ap (λ (roots : List Root). roots ++ deeper_roots go.question go.depths_done) (lines_roots-none go.question go.depths_done (go.lines_done + 1) (eqb-true (go.lines_done + 1) (length (listed_at go.question go.depths_done)) last))
+
+-- above the last depth none is left
+deeper_roots-none : (question : Question) (depths_done : ℕ) → depths_done + 1 ≡ question.depth → deeper_roots question depths_done ≡ []
+deeper_roots-none question depths_done e = let n : question.depth - (depths_done + 1) ≡ 0 = omega arith in rw n (roots_of_depths-start question.position question.eval question.multi_pv (depths_done + 1))
+
+-- once its last line is whole none is left
+pub roots_of-last : (go : RunningGo) → is_searching go ≡ false → is_last go ≡ true → roots_of go ≡ []
+roots_of-last go whole last =
+    let parts = and_parts (ends_depth go.question go.depths_done go.lines_done) (go.depths_done + 1 == go.question.depth) last in
+    ended_roots go whole parts.0 ∙ deeper_roots-none go.question go.depths_done (eqb-true (go.depths_done + 1) go.question.depth parts.1)
+
+-- where a move is legal each depth is searched
+pub roots_begun : (position : Shogi) (eval : Eval) (multi_pv depth code : ℕ) (codes : List ℕ) → legal_codes position ≡ code ∷ codes
+    → roots_of_depths position eval multi_pv 0 depth ≡ roots_where position eval multi_pv depth (legal_codes position)
+roots_begun position eval multi_pv depth code codes e = sym (ap (roots_where position eval multi_pv depth) e)
+
+-- and none where there is none
+pub roots_none : (position : Shogi) (eval : Eval) (multi_pv depth : ℕ) → legal_codes position ≡ []
+    → [] ≡ roots_where position eval multi_pv depth (legal_codes position)
+roots_none position eval multi_pv depth e = sym (ap (roots_where position eval multi_pv depth) e)
+
+-- the search where a walk stands, and those after it
+pub walked_roots : (eval : Eval) (old new : Walked) → old.eval ≡ eval → new.eval ≡ eval → 0 < old.plies → walk_roots new ≡ roots_after old
+    → pv_roots old.at eval old.plies ≡ root_of old.at old.eval old.plies ∷ pv_roots new.at eval new.plies
+walked_roots eval old new h k some e =
+    ap (λ (v : Eval). pv_roots old.at v old.plies) (sym h)
+    ∙ (pv_roots-above old.at old.eval old.plies some
+    ∙ ap (λ (roots : List Root). root_of old.at old.eval old.plies ∷ roots) (sym e ∙ ap (λ (v : Eval). pv_roots new.at v new.plies) k))
+
+-- the search of a root move is none of those along a pv
+pub ranking_roots : (question : Question) (depths_done lines_done : ℕ) (was now : Option Move) (m : Move) (ranks : Ranking) (old new : Walked) (kept : HeldBestmove) (before after : Progress)
+    → was ≡ Some m → IsAtDepth question depths_done lines_done was ranks old kept before → LeavesRoots question depths_done now new after
+    → roots_of (running_go_of question depths_done lines_done now new after) ≡ roots_of (running_go_of question depths_done lines_done was old before)
+ranking_roots question depths_done lines_done None now m ranks old new kept before after e h leaves = absurd (cc)
+ranking_roots question depths_done lines_done (Some k) now m ranks old new kept before after e h leaves =
+    ap (λ (l : ℕ). roots_of (running_go_of question depths_done l now new after)) h.none_done
+    ∙ ap (λ (roots : List Root). roots ++ deeper_roots question depths_done) leaves
+
+-- how far a search is does not matter
+pub same_roots : (question : Question) (depths_done lines_done : ℕ) (root_move : Option Move) (walk : Walked) (before after : Progress)
+    → roots_of (running_go_of question depths_done lines_done root_move walk after) ≡ roots_of (running_go_of question depths_done lines_done root_move walk before)
+same_roots question depths_done lines_done None walk before after = refl
+same_roots question depths_done lines_done (Some m) walk before after = refl
+
+pub searching_plies : (root_move : Option Move) (n : ℕ) → (is_some root_move || nat_lt 0 n) ≡ true → root_move ≡ None → 0 < n
+searching_plies None n e h = ltb-true 0 n e
+searching_plies (Some m) n e h = absurd (cc)
