@@ -5,28 +5,25 @@ ghost use Rattle.std.specs.Prelude.{◌≡◌, ◌≤◌, IfOk};
 ghost use Rattle.session_slots.specs.declared.limits.TheConstants.{SESSIONS_MAX};
 ghost use Rattle.shared_table.specs.declared.table.TheConstants.{CAPACITY_MAX};
 ghost use Rattle.usi_words.specs.Answers.{HasRanges};
-ghost use Rattle.usi_host.specs.Statuses.{replay_status};
 
 mod refusal;
+mod runs;
 mod serving;
 
 use host_core::Host;
 use host_status::{Limits, StatusSocket};
-use refusal::{FAULT, complaint, status};
+use refusal::{complaint, status};
+use runs::{DONE, print_out, script, session};
 use serving::{ServeFault, socket_fault, status_fault};
 use socket_loop::Loop;
 use std::alloc::Global;
 use std::hash::RandomState;
 use std::process::ExitCode;
 use std::{env, io};
-use usi_replay::{ReplayFault, replay};
 use usi_serve::{MioWire, Unseen, serve};
-use usi_stdio::{Duplex, stdio};
+use usi_stdio::Duplex;
 use usi_words::{Job, WordsFault, read_words, unread_words, version_text};
 use wires::WireFault;
-
-/// The status of a script that has a bad line.
-const BAD_SCRIPT: u8 = 3;
 
 /// The words after the program's name, read as a job.
 fn asked(rt: &HostRuntime) -> Result<Job, WordsFault>
@@ -45,66 +42,11 @@ fn asked(rt: &HostRuntime) -> Result<Job, WordsFault>
 }
 
 /// Writes the text to standard error, and gives the status.
-fn complain(rt: &HostRuntime, text: &str, status: u8) -> ExitCode {
+fn complain(rt: &HostRuntime, text: &str, status: u8) -> u8
+    ensures { result ≡ status }
+{
     let _ = eprint!(rt; "{text}");
-    ExitCode::from(status)
-}
-
-/// Writes a text that was asked for to standard output.
-fn print_out(rt: &HostRuntime, text: &str) -> ExitCode {
-    match print!(rt; "{text}") {
-        Ok(()) => ExitCode::SUCCESS,
-        Err(_) => complain(rt, "usi_host: write failed\n", FAULT),
-    }
-}
-
-/// One session over standard input and output.
-fn run(rt: &HostRuntime, entries: usize) -> ExitCode
-    requires least { 1 ≤ entries }
-    requires most { entries ≤ CAPACITY_MAX }
-{
-    let mut ends = Duplex {
-        input: rt.reader(),
-        output: io::writer(rt),
-    };
-    match stdio(rt.alloc(), &mut ends, entries) {
-        Ok(()) => ExitCode::SUCCESS,
-        Err(fault) => {
-            let _ = eprintln!(rt; "usi_host: {fault}");
-            ExitCode::from(FAULT)
-        }
-    }
-}
-
-/// The status of a script that was not replayed.
-fn status_of(fault: &ReplayFault) -> u8
-    ensures { result ≡ replay_status fault.now }
-{
-    match fault {
-        ReplayFault::BadScript { .. } => BAD_SCRIPT,
-        _ => FAULT,
-    }
-}
-
-/// A script on standard input, and its output on standard output.
-fn run_script(rt: &HostRuntime, slots: usize, entries: usize, slice: u64) -> ExitCode
-    requires least_slots { 1 ≤ slots }
-    requires most_slots { slots ≤ SESSIONS_MAX }
-    requires least_entries { 1 ≤ entries }
-    requires most_entries { entries ≤ CAPACITY_MAX }
-    requires least_slice { 1 ≤ slice }
-{
-    let mut ends = Duplex {
-        input: rt.reader(),
-        output: io::writer(rt),
-    };
-    match replay(rt.alloc(), &mut ends, slots, entries, slice) {
-        Ok(()) => ExitCode::SUCCESS,
-        Err(fault) => {
-            let _ = eprintln!(rt; "usi_host: {fault}");
-            ExitCode::from(status_of(&fault))
-        }
-    }
+    status
 }
 
 /// A socket at the path, and who listens there.
@@ -174,15 +116,19 @@ fn run_socket(
 /// Does what the words of the command line ask for. The status is 0 where it was done, 1 where it
 /// ended early, 2 where the words are not accepted, and 3 where a script has a bad line.
 fn main(rt: HostRuntime) -> ExitCode {
-    match asked(&rt) {
-        Ok(Job::Stdio { entries }) => run(&rt, entries),
+    let mut ends = Duplex {
+        input: rt.reader(),
+        output: io::writer(&rt),
+    };
+    let status = match asked(&rt) {
+        Ok(Job::Stdio { entries }) => session(&rt, rt.alloc(), &mut ends, entries),
         Ok(
             Job::Replay {
                 slots,
                 entries,
                 slice,
             },
-        ) => run_script(&rt, slots, entries, slice),
+        ) => script(&rt, rt.alloc(), &mut ends, slots, entries, slice),
         Ok(
             Job::Serve {
                 socket,
@@ -193,11 +139,12 @@ fn main(rt: HostRuntime) -> ExitCode {
                 turns,
             },
         ) => match run_socket(&rt, socket.as_str(), &status, slots, entries, slice, turns) {
-            Ok(()) => ExitCode::SUCCESS,
+            Ok(()) => DONE,
             Err(fault) => complain(&rt, fault.complaint(), fault.status()),
         },
-        Ok(Job::Help { text }) => print_out(&rt, text.as_str()),
-        Ok(Job::Version) => print_out(&rt, version_text()),
+        Ok(Job::Help { text }) => print_out(&rt, &mut ends, text.as_bytes()),
+        Ok(Job::Version) => print_out(&rt, &mut ends, version_text().as_bytes()),
         Err(fault) => complain(&rt, complaint(&fault), status(&fault)),
-    }
+    };
+    ExitCode::from(status)
 }

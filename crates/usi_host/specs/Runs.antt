@@ -1,0 +1,44 @@
+-- What the program does over a front end, and the status with which it ends then (own choice).
+use Rattle.std.specs.Prelude.{◌≡◌, ℕ, List, Result, Ok, Err, IfErr, OnErr, OnOk}
+use Rattle.usi_replay.specs.declared.fault.ReplayFault.{ReplayFault}
+use Rattle.usi_replay.specs.Replayed.{FlushesAll, Leaves, Replays}
+use Rattle.usi_stdio.specs.declared.streams.StdioFault.{StdioFault}
+use Rattle.usi_stdio.specs.Calls.{Report}
+use Rattle.usi_stdio.specs.Dialogue.{Talks}
+use Rattle.usi_stdio.specs.Saying.{Says, SaysPrefix}
+use Rattle.usi_stdio.specs.Stdio.{IsLeft, IsServed}
+use Rattle.usi_host.specs.Statuses.{replay_status}
+
+-- 0 where it was done, and 1 after a fault
+abbrev pub ended_status : Result (Unit {0}) StdioFault → ℕ
+ended_status (Ok done) = 0
+ended_status (Err fault) = 1
+
+-- 0 where a script was replayed, and else the status of its fault
+abbrev pub replayed_status : Result (Unit {0}) ReplayFault → ℕ
+replayed_status (Ok done) = 0
+replayed_status (Err fault) = replay_status fault
+
+-- the front end was served one session, with this status: all replies to what was read were written, or a prefix of them
+-- after a fault, and the calls are a dialogue
+pub record IsSession (old new : Report) (status : ℕ) : Type 0 where
+  pub ended : Result (Unit {0}) StdioFault
+  pub ok : OnOk ended (IsServed old new)
+  pub err : OnErr ended (IsLeft old new)
+  pub calls : Talks old.calls new.calls ended
+  pub status_is : status ≡ ended_status ended
+
+-- what was read is a script, and its output was written and flushed, with this status; or it is bad, or a fault came
+pub record IsReplay (slots : ℕ) (old new : Report) (status : ℕ) : Type 0 where
+  pub ended : Result (Unit {0}) ReplayFault
+  pub ok : OnOk ended (Replays slots old new)
+  pub flushed : OnOk ended (FlushesAll old new)
+  pub err : IfErr ended (Leaves slots old new)
+  pub status_is : status ≡ replayed_status ended
+
+-- a text was written and flushed, and nothing was read, with this status; or a prefix of it, after a fault
+pub record IsPrint (text : List ℕ) (old new : Report) (status : ℕ) : Type 0 where
+  pub ended : Result (Unit {0}) StdioFault
+  pub ok : OnOk ended (Says old new text)
+  pub err : IfErr ended (SaysPrefix old new text)
+  pub status_is : status ≡ ended_status ended
