@@ -1,5 +1,5 @@
-//! The pieces whose moves give the other side no check and, where promotions are not allowed, cannot
-//! promote, found all at once.
+//! The pieces whose moves give the other side no check and, where promotions are not allowed,
+//! cannot promote, found all at once.
 
 ghost use Rattle.std.specs.Prelude.{◌≡◌, ◌<◌, ◌^◌};
 ghost use Rattle.shogi_replies.specs.Replies.{AreFarPieces, HasAroundKings};

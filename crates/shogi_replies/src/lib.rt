@@ -1,10 +1,10 @@
-//! What is certain after a legal move, before it is made: that the other side has a legal move, or may
-//! take something.
+//! What is certain after a legal move, before it is made: that the other side has a legal move, or
+//! may take something.
 //!
 //! `Replies` keeps what shows that most moves give no check and leave a piece that can move; `far`
 //! finds pieces of which each move does. `escapes` are squares to which a king may go that is given
-//! check. `passes` moves a sweep on past moves of which that is certain. `threats` are captures that
-//! stand after most moves.
+//! check. `passes` moves a sweep on past moves of which that is certain. `threats` are captures
+//! that stand after most moves.
 #![tactic(auto)]
 
 mod escapes;

@@ -8,7 +8,7 @@ ghost use Rattle.shogi_replies.specs.Replies.{IsReplies};
 
 use crate::replies::Replies;
 use shogi_core::bits::{bits_above, lowest, without_lowest};
-use shogi_core::{FIRST_DROP, Position, SQUARE_CODES, Square};
+use shogi_core::{Position, SQUARE_CODES, Square};
 use shogi_moves::{BoardSweep, Destinations, DropSweep, matching_movers};
 
 impl Replies {
@@ -84,9 +84,9 @@ impl Replies {
         sweep.pass_pieces(p, capture, 81);
     }
 
-    /// Passes the next moves of the sweep, as long as they end on one of the squares for moves without
-    /// promotion, or for those with it, and it is certain by a look at squares alone that the other
-    /// side has a legal move after them.
+    /// Passes the next moves of the sweep, as long as they end on one of the squares for moves
+    /// without promotion, or for those with it, and it is certain by a look at squares alone that
+    /// the other side has a legal move after them.
     pub fn pass_moves(
         &self,
         p: &Position,

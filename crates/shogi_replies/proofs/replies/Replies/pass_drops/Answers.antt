@@ -15,5 +15,5 @@ pub returns-clause-passed : goal.returns-clause-passed
 returns-clause-passed c =
     let up : _ = (c.requires.kept.destinations.drops.set c.lowest.result c.lowest.ensures.range (uncertain_destination c.args.sweep.now.destinations c.certain_drops.result c.lowest.result c.lowest.ensures.set)).0 in
     rw c.pass_ends-2.ensures.code (
-      drops_passed c.args.p.now c.args.sweep.now.kind c.args.sweep.now.code _ c.args.sweep.now.destinations c.requires.kept.destinations (omega (arith, up)) (omega (arith, c.lowest.ensures.range))
-      (λ n h there below. c.certain_drops.ensures.certain n h (below_uncertain c.args.sweep.now.destinations c.certain_drops.result c.lowest.result n (omega arith) h (omega (arith, below)) c.lowest.ensures.least there)))
+    drops_passed c.args.p.now c.args.sweep.now.kind c.args.sweep.now.code _ c.args.sweep.now.destinations c.requires.kept.destinations (omega (arith, up)) (omega (arith, c.lowest.ensures.range))
+    (λ n h there below. c.certain_drops.ensures.certain n h (below_uncertain c.args.sweep.now.destinations c.certain_drops.result c.lowest.result n (omega arith) h (omega (arith, below)) c.lowest.ensures.least there)))
