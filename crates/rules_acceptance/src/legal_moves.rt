@@ -4,10 +4,10 @@ use shogi_core::Color::{Black, White};
 use shogi_core::bits::with;
 use shogi_core::{Color, Hands, Kind, Move, Piece, Position, Role, Square};
 use shogi_moves::{
-    BoardSweep, DropSweep, Replies, check_info_of, escape_squares, has_legal, in_check,
-    is_attacked, is_legal, king_takes, leaves_escape, leaves_king_move, next_legal, perft, play,
-    play_in_place, takers,
+    BoardSweep, DropSweep, check_info_of, has_legal, in_check, is_attacked, is_legal, next_legal,
+    perft, play, play_in_place, takers,
 };
+use shogi_replies::{Replies, escape_squares, king_takes, leaves_escape, leaves_king_move};
 use std::test::Fail;
 
 /// The kind of a letter as in SFEN.

@@ -15,4 +15,6 @@ mod pieces;
 #[cfg(test)]
 mod plain;
 #[cfg(test)]
+mod replies;
+#[cfg(test)]
 mod sfen;
