@@ -1,19 +1,18 @@
 -- A search that ended is known to all sessions.
-use Rattle.std.proofs.Common.{◌≡◌, ◌∙◌, ℕ, List, [], ◌∷◌, ◌++◌, Option, Some, None, Contains, refl, sym, ap, subst, inl, inr}
+use Rattle.std.proofs.Common.{◌≡◌, ◌∙◌, ℕ, List, [], ◌∷◌, ◌++◌, Some, sym, ap, subst, inl, inr}
 use Rattle.std.proofs.lemmas.List.{append_cancel_right}
 use Rattle.session_slots.specs.declared.id.SessionId.{SessionId}
-use Rattle.session_slots.specs.Slots.{find}
-use Rattle.minimax.specs.declared.entry.Entry.{Entry}
+use Rattle.session_slots.specs.Slots.{OpenSessions, find, with_session}
+use Rattle.session_slots.proofs.Finds.{find-with_session}
 use Rattle.shared_table.specs.Recent.{Table}
 use Rattle.shared_table.specs.Uses.{IsUsed}
 use Rattle.shared_table.proofs.UseLaws.{remembers}
-use Rattle.shogi_search.specs.Calls.{Call, Probe, Note, AreCalled, EndsWith}
 use Rattle.usi_session.specs.Due.{SessionView, roots_left}
 use Rattle.usi_session.specs.Roots.{Root}
 use Rattle.usi_session.specs.Told.{AreTold, IsCalled, TellsEnded, TellsValue, entry_of_root}
 use Rattle.usi_session.proofs.TellsLaws.{called_after_told}
 use Rattle.host_core.specs.Events.{Work, Outcome}
-use Rattle.host_core.specs.Shared.{IsShared, LeaveRoom, StaysKnown, key_of_root}
+use Rattle.host_core.specs.Shared.{IsShared, key_of_root}
 use Rattle.host_core.specs.Steps.{HostState, Stepped}
 
 -- the root was noted, or answered
@@ -36,17 +35,28 @@ shared_at root old mid new (inr probe) since = record {
   known = inl (λ later calls each room. remembers probe.before mid later (key_of_root root) (entry_of_root root) calls room.others (inr (sym probe.ends.0, probe.ends.1)) each room.of_others (rw probe.ends.1 at room.fewer));
 }
 
-shared_among : (root : Root) (ended : List Root) (old new : Table) → AreTold IsUsed old ended new → Contains ended root → IsShared root new
+shared_among : (root : Root) (front back : List Root) (old new : Table) → AreTold IsUsed old (front ++ root ∷ back) new → IsShared root new
 unfolding AreTold
-shared_among root [] old new told among = absurd among
-shared_among root (first ∷ rest) old new told (inl here) =
-    subst (λ (r : Root). IsShared r new) here (shared_at first old told.0 new told.1.0 (called_after_told IsUsed told.0 new rest told.1.1))
-shared_among root (first ∷ rest) old new told (inr there) = shared_among root rest told.0 new told.1.1 there
+shared_among root [] back old new told = shared_at root old told.0 new told.1.0 (called_after_told IsUsed told.0 new back told.1.1)
+shared_among root (first ∷ front) back old new told = shared_among root front back told.0 new told.1.1
 
-pub shares : (old new : HostState) (id : SessionId) (budget : ℕ) (outcome : Outcome) (before after : SessionView) (ended : List Root) (root : Root)
+pub shares : (old new : HostState) (id : SessionId) (budget : ℕ) (outcome : Outcome) (before after : SessionView) (front : List Root) (root : Root) (back : List Root)
     → Stepped old (Work id budget) outcome new → find old.slots id ≡ Some before → find new.slots id ≡ Some after
-    → roots_left before ≡ ended ++ roots_left after → Contains ended root → IsShared root new.table
-shares old new id budget outcome before after ended root stepped was now left among =
+    → roots_left before ≡ (front ++ root ∷ back) ++ roots_left after → IsShared root new.table
+shares old new id budget outcome before after front root back stepped was now left =
     let tells : TellsEnded IsUsed old.table new.table (roots_left before) (roots_left after) = stepped.1.told before after was now in
-    let same : tells.ended ≡ ended = append_cancel_right tells.ended ended (roots_left after) (sym tells.left ∙ left) in
-    shared_among root ended old.table new.table (subst (λ (roots : List Root). AreTold IsUsed old.table roots new.table) same tells.told) among
+    let same : tells.ended ≡ front ++ root ∷ back = append_cancel_right tells.ended (front ++ root ∷ back) (roots_left after) (sym tells.left ∙ left) in
+    shared_among root front back old.table new.table (subst (λ (roots : List Root). AreTold IsUsed old.table roots new.table) same tells.told)
+
+-- a session that was written back is the one that the table was told of
+pub told_written : (old new : OpenSessions) (id : SessionId) (s t : SessionView) (table later : Table)
+    → find old id ≡ Some s → new ≡ with_session old id t → TellsEnded IsUsed table later (roots_left s) (roots_left t)
+    → (before after : SessionView) → find old id ≡ Some before → find new id ≡ Some after
+    → TellsEnded IsUsed table later (roots_left before) (roots_left after)
+told_written old new id s t table later e is told before after was now =
+    let p : Some s ≡ Some before = sym e ∙ was in
+    let q : Some t ≡ Some after = sym (find-with_session old id s t e) ∙ (sym (ap (λ slots. find slots id) is) ∙ now) in
+    let b : s ≡ before = cc in
+    let a : t ≡ after = cc in
+    subst (λ (v : SessionView). TellsEnded IsUsed table later (roots_left before) (roots_left v)) a
+    (subst (λ (v : SessionView). TellsEnded IsUsed table later (roots_left v) (roots_left t)) b told)

@@ -1,5 +1,5 @@
 -- What the table of a host answers of a search that ended, whichever session asks (own choice).
-use Rattle.std.specs.Prelude.{◌≡◌, ◌<◌, ◌⊎◌, ℕ, List, ◌++◌, Option, Some, None, Contains, length}
+use Rattle.std.specs.Prelude.{◌≡◌, ◌<◌, ◌⊎◌, ℕ, List, ◌∷◌, ◌++◌, Some, None, length}
 use Rattle.std.specs.List.{AllByRecursion}
 use Rattle.session_slots.specs.declared.id.SessionId.{SessionId}
 use Rattle.session_slots.specs.Slots.{find}
@@ -48,8 +48,8 @@ pub record IsShared (root : Root) (new : Table) : Type 0 where
 abbrev pub SharesSearches : Type 0
 SharesSearches =
     (old new : HostState) (id : SessionId) (budget : ℕ) (outcome : Outcome)
-    (before after : SessionView) (ended : List Root) (root : Root)
+    (before after : SessionView) (front : List Root) (root : Root) (back : List Root)
     → Stepped old (Work id budget) outcome new
     → find old.slots id ≡ Some before → find new.slots id ≡ Some after
-    → roots_left before ≡ ended ++ roots_left after → Contains ended root
+    → roots_left before ≡ (front ++ root ∷ back) ++ roots_left after
     → IsShared root new.table
