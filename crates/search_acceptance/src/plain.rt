@@ -40,6 +40,9 @@ pub struct Notes {
     /// The codes of the moves that cut off the last nodes so many plies from the root, from depth 3 on,
     /// the last one first.
     killers: [Option<u16>; 68],
+    /// For each side, role and square the code of the move that cut off the last node to which a move of
+    /// such a piece to that square led.
+    counters: [u16; 2268],
     /// The codes of moves that the root visits first.
     pub advised: [Option<u16>; 2],
     /// Nodes entered, nodes left, and nodes answered by a note or at once.
@@ -57,7 +60,8 @@ impl Notes {
             asks_all,
             whole: 0,
             replies: [None; 17],
-            killers: [None; 68],
+            killers: [Some(0); 68],
+            counters: [0; 2268],
             advised: [None; 2],
             steps: 0,
             calls: 0,
@@ -112,8 +116,25 @@ impl Notes {
         }
     }
 
+    /// The move that last refuted such a move as led to the node.
+    fn counter_at(&self, led: Option<usize>) -> Option<u16> {
+        match led {
+            Some(place) if place < 2268 => Some(self.counters[place]),
+            _ => None,
+        }
+    }
+
+    /// Takes the move that refuted it.
+    fn keep_counter(&mut self, led: Option<usize>, code: u16) {
+        if let Some(place) = led {
+            if place < 2268 {
+                self.counters[place] = code;
+            }
+        }
+    }
+
     /// The moves that a node of the depth visits first, with the one that was best one ply less deep.
-    fn firsts_at(&self, depth: u8, best: Option<u16>) -> [Option<u16>; 6] {
+    fn firsts_at(&self, depth: u8, best: Option<u16>, led: Option<usize>) -> [Option<u16>; 6] {
         let mut firsts = [None; 6];
         if depth == self.whole {
             for advised in self.advised {
@@ -125,6 +146,7 @@ impl Notes {
         for killer in self.killers_at(depth) {
             add(&mut firsts, killer);
         }
+        add(&mut firsts, self.counter_at(led));
         firsts
     }
 
@@ -222,6 +244,32 @@ impl Notes {
     fn step(&mut self, steps: u64) {
         self.steps = self.steps.saturating_add(steps);
     }
+}
+
+/// The place of a move among the counters, by what it puts on which square.
+fn place_of(put: Option<Piece>, to: Square) -> Option<usize> {
+    let piece = put?;
+    let role = match piece.role {
+        Role::King => 0,
+        Role::Pawn => 1,
+        Role::Lance => 2,
+        Role::Knight => 3,
+        Role::Silver => 4,
+        Role::Gold => 5,
+        Role::Bishop => 6,
+        Role::Rook => 7,
+        Role::PromotedPawn => 8,
+        Role::PromotedLance => 9,
+        Role::PromotedKnight => 10,
+        Role::PromotedSilver => 11,
+        Role::Horse => 12,
+        Role::Dragon => 13,
+    };
+    let side = match piece.color {
+        Color::Black => 0,
+        Color::White => 14,
+    };
+    Some((side + role) * 81 + to.index())
 }
 
 /// Puts a code behind those that are there, if it is none of them and there is room.
@@ -758,9 +806,10 @@ fn visit_and_note(
     depth: u8,
     alpha: i32,
     beta: i32,
+    led: Option<usize>,
     notes: &mut Notes,
 ) -> Result<Known, AllocError> {
-    let entry = visit(alloc, p, e, depth, alpha, beta, notes)?;
+    let entry = visit(alloc, p, e, depth, alpha, beta, led, notes)?;
     if depth > 1 && notes.serves(depth) {
         let noted = entry;
         notes.note(p, e, depth, noted)?;
@@ -778,14 +827,15 @@ fn visit_child(
     first: i32,
     alpha: i32,
     beta: i32,
+    led: Option<usize>,
     notes: &mut Notes,
 ) -> Result<Known, AllocError> {
-    let entry = visit_and_note(alloc, p, e, depth, first, beta, notes)?;
+    let entry = visit_and_note(alloc, p, e, depth, first, beta, led, notes)?;
     if is_cutoff(&entry, alpha, beta) {
         return Ok(entry);
     }
     notes.steps = notes.steps.saturating_sub(1);
-    visit_and_note(alloc, p, e, depth, alpha, beta, notes)
+    visit_and_note(alloc, p, e, depth, alpha, beta, led, notes)
 }
 
 /// Enters a node, goes through its moves, and leaves it; notes all below it. A node with one ply left
@@ -797,6 +847,7 @@ fn visit(
     depth: u8,
     alpha: i32,
     beta: i32,
+    led: Option<usize>,
     notes: &mut Notes,
 ) -> Result<Known, AllocError> {
     if depth < 2 {
@@ -811,7 +862,7 @@ fn visit(
             hash_move = best;
         }
     }
-    let branches = branches_of(alloc, p, notes.firsts_at(depth, hash_move))?;
+    let branches = branches_of(alloc, p, notes.firsts_at(depth, hash_move, led))?;
     let (mut best_value, mut best) = (alpha, None);
     let mut outlook = Outlook {
         has_weak: false,
@@ -846,7 +897,12 @@ fn visit(
                         } else {
                             under
                         };
-                        visit_child(alloc, &branch.position, e, below, first, under, over, notes)?
+                        {
+                            let place = place_of(branch.put, branch.to);
+                            visit_child(
+                                alloc, &branch.position, e, below, first, under, over, place, notes,
+                            )?
+                        }
                     }
                 };
                 let (worth, exact) = match entry {
@@ -857,6 +913,7 @@ fn visit(
                 if worth >= beta {
                     notes.keep_reply(depth, Some(branch.code));
                     notes.keep_killer(depth, branch.code);
+                    notes.keep_counter(led, branch.code);
                     return Ok(Known::AtLeast(worth));
                 }
                 if exact && worth > threshold {
@@ -906,7 +963,8 @@ pub fn search_plainly_below(
     notes: &mut Notes,
 ) -> Result<Option<(i32, Option<u16>)>, AllocError> {
     notes.replies = [None; 17];
-    notes.killers = [None; 68];
+    notes.killers = [Some(0); 68];
+    notes.counters = [0; 2268];
     search_on(alloc, p, e, depth, beta, notes)
 }
 
@@ -924,7 +982,7 @@ pub fn search_on(
     let entry = match known {
         Some(entry) if is_cutoff(&entry, -INFINITY, beta) => entry,
         _ => {
-            let entry = visit(alloc, p, e, depth, -INFINITY, beta, notes)?;
+            let entry = visit(alloc, p, e, depth, -INFINITY, beta, None, notes)?;
             let noted = entry;
             notes.note(p, e, depth, noted)?;
             entry

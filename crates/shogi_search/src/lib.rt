@@ -9,6 +9,7 @@
 //! the window of `window` and a `threat`.
 #![tactic(auto)]
 
+mod counters;
 mod firsts;
 mod found;
 mod frame;

@@ -11,6 +11,7 @@ ghost use Rattle.shogi_search.specs.SearchCalls.{CallsBetween, CallsOfSearch, Sa
 ghost use Rattle.shogi_search.specs.Progress.{untouched, untouched_below, left_of, HasPath, IsAnsweredBy, EndsWhereAnswered, EndsWhereKnown, KeepsQuestion, IsFoundBelow, IsFoundBy, FindsValue, FindsBest};
 ghost use Rattle.minimax.specs.declared.bounds.TheConstants.{SEARCH_DEPTH_MAX, INFINITY};
 
+use crate::counters::Counters;
 use crate::firsts::Firsts;
 use crate::found::Found;
 use crate::frame::Frame;
@@ -31,8 +32,9 @@ use std::marker::Model;
 /// memo once more for each ply that is left along the best line. A node that is entered visits
 /// first, where they are legal: at the root the moves that are advised;
 /// the best move one ply less deep, where the memo has that; the best move of the node that was
-/// searched before in its place, or the move that cut that one off; and from depth 3 on up to four
-/// more moves that cut off nodes there.
+/// searched before in its place, or the move that cut that one off; from depth 3 on up to four more
+/// moves that cut off nodes there; and, where there is room, the move that last cut off a node to
+/// which a move of such a piece to the same square had led.
 #[derive(Drop)]
 pub struct Search {
     stack: Stack,
@@ -40,6 +42,7 @@ pub struct Search {
     steps: u64,
     found: Option<Found>,
     advised: Firsts,
+    counters: Counters,
 }
 
 impl Model for Search {
@@ -112,6 +115,7 @@ impl Search {
             steps: 0,
             found: None,
             advised: Firsts::none(),
+            counters: Counters::none(),
         }
     }
 
@@ -254,7 +258,9 @@ impl Search {
         ensures most { self.new.steps ≤ self.old.steps + budget }
         ensures fell { self.new.steps + left_of self.new ≤ self.old.steps + left_of self.old }
     {
-        let entry = self.stack.run(memo, budget, &mut self.steps)?;
+        let entry = self
+            .stack
+            .run(&mut self.counters, memo, budget, &mut self.steps)?;
         let (root, e, depth) = (&self.stack.root, self.stack.eval, self.stack.depth);
         let beta = self.stack.beta;
         self.found = Some(found_of(&entry, root, e, depth, beta, self.steps));

@@ -10,6 +10,7 @@ ghost use Rattle.shogi_search.specs.Stack.{IsStack, IsWhole, IsNarrow, IsChildAf
 ghost use Rattle.shogi_search.specs.Calls.{Probe, Asks, CallsInSteps, EndsWith, TellsOnce};
 ghost use Rattle.minimax.specs.declared.bounds.TheConstants.{SEARCH_DEPTH_MAX, INFINITY};
 
+use crate::counters::Counters;
 use crate::firsts::Firsts;
 use crate::frame::{Frame, Waiting, leaf};
 use crate::memo::Memo;
@@ -202,7 +203,7 @@ impl Stack {
 
     /// Enters the child after the current move of the node on top, which is on top then.
     #[inline(always)]
-    fn push<M: Memo>(&mut self, current: &Move, node: &Node, memo: &mut M)
+    fn push<M: Memo>(&mut self, current: &Move, node: &Node, counters: &Counters, memo: &mut M)
         requires stack { IsStack self.old }
         requires asked { OnTop self.old (λ top. top.waiting ≡ Waiting.Asked current.now) }
         requires room { self.old.height + 1 < SEARCH_DEPTH_MAX }
@@ -227,14 +228,15 @@ impl Stack {
         let depth = top.depth - 1;
         let hash_move = child_hash_move_of(node.as_position(), node.eval(), depth, memo);
         self.height += 1;
-        let firsts = self.frames[self.height].firsts(Firsts::none(), hash_move, depth);
+        let mut firsts = self.frames[self.height].firsts(Firsts::none(), hash_move, depth);
+        firsts.add(counters.reply_to(node.as_position(), current));
         self.frames[self.height].enter(node, depth, alpha, beta, firsts);
     }
 
     /// The root takes in what is known of the child on top, where that is enough for its whole
     /// window; else that child is entered again under it.
     #[inline(never)]
-    fn leave_narrow<M: Memo>(&mut self, entry: &Entry, memo: &mut M)
+    fn leave_narrow<M: Memo>(&mut self, entry: &Entry, counters: &Counters, memo: &mut M)
         requires stack { IsStack self.old }
         requires narrow { IsNarrow self.old }
         requires truth { OnTop self.old (λ top. IsTrueOf top entry.now) }
@@ -254,12 +256,12 @@ impl Stack {
             self.frames[self.height].back_up(&current, entry);
             return;
         }
-        self.push(&current, &node, memo);
+        self.push(&current, &node, counters, memo);
     }
 
     /// The node below the top takes in what is known of the node on top, where there is one. A child
     /// of the root that was asked under a narrow window may be entered again.
-    fn pop<M: Memo>(&mut self, entry: &Entry, memo: &mut M) -> bool
+    fn pop<M: Memo>(&mut self, entry: &Entry, counters: &Counters, memo: &mut M) -> bool
         requires stack { IsStack self.old }
         requires whole { IsWhole self.old }
         requires truth { OnTop self.old (λ top. IsTrueOf top entry.now) }
@@ -284,7 +286,7 @@ impl Stack {
             return false;
         }
         if self.height == 1 && self.bound < self.beta {
-            self.leave_narrow(entry, memo);
+            self.leave_narrow(entry, counters, memo);
             return true;
         }
         self.height -= 1;
@@ -299,7 +301,7 @@ impl Stack {
     /// Continues with the current move of the node on top: by the answer of its child, or into the
     /// child, which is on top then.
     #[inline(never)]
-    fn enter_child<M: Memo>(&mut self, current: &Move, memo: &mut M)
+    fn enter_child<M: Memo>(&mut self, current: &Move, counters: &Counters, memo: &mut M)
         requires stack { IsStack self.old }
         requires whole { IsWhole self.old }
         requires asked { OnTop self.old (λ top. top.waiting ≡ Waiting.Asked current.now) }
@@ -327,7 +329,7 @@ impl Stack {
             return;
         }
         self.narrow();
-        self.push(current, &node, memo);
+        self.push(current, &node, counters, memo);
     }
 
     /// Asks the memo for the nodes along the best line so far, so that they stay in use.
@@ -372,9 +374,29 @@ impl Stack {
         }
     }
 
+    /// Where the node on top is cut off, keeps the move that cut it off as the reply to the one that
+    /// led to it.
+    fn keep_counter(&self, counters: &mut Counters)
+        requires { self.now.height < SEARCH_DEPTH_MAX }
+    {
+        if self.height == 0 {
+            return;
+        }
+        let top = &self.frames[self.height];
+        let Waiting::Cut(_) = top.waiting else {
+            return;
+        };
+        let Some(reply) = top.best_move else {
+            return;
+        };
+        if let Waiting::Asked(current) = self.frames[self.height - 1].waiting {
+            counters.keep(top.node.as_position(), &current, reply.code());
+        }
+    }
+
     /// Leaves the node on top, and gives what is known of the root where that was it.
     #[inline(always)]
-    fn leave<M: Memo>(&mut self, memo: &mut M) -> Option<Entry>
+    fn leave<M: Memo>(&mut self, counters: &mut Counters, memo: &mut M) -> Option<Entry>
         requires stack { IsStack self.old }
         requires whole { IsWhole self.old }
         requires over { OnTop self.old (λ top. IsToBeLeft top) }
@@ -393,7 +415,8 @@ impl Stack {
     {
         let entry = self.frames[self.height].to_entry();
         self.note_top(&entry, memo);
-        if !self.pop(&entry, memo) {
+        self.keep_counter(counters);
+        if !self.pop(&entry, counters, memo) {
             return Some(entry);
         }
         if self.height == 0 {
@@ -404,7 +427,7 @@ impl Stack {
     }
 
     /// Makes one step; gives what is known of the root where that was left.
-    fn step<M: Memo>(&mut self, memo: &mut M) -> Option<Entry>
+    fn step<M: Memo>(&mut self, counters: &mut Counters, memo: &mut M) -> Option<Entry>
         requires stack { IsStack self.old }
         requires whole { IsWhole self.old }
         requires free { OnTop self.old (λ top. IsFree top.waiting) }
@@ -424,16 +447,22 @@ impl Stack {
         let top = &mut self.frames[self.height];
         if top.is_next() {
             let Some(current) = top.next_move() else {
-                return self.leave(memo);
+                return self.leave(counters, memo);
             };
-            self.enter_child(&current, memo);
+            self.enter_child(&current, counters, memo);
             return None;
         }
-        self.leave(memo)
+        self.leave(counters, memo)
     }
 
     /// Makes so many steps, or fewer where the root was left, and counts them.
-    pub fn run<M: Memo>(&mut self, memo: &mut M, budget: u64, steps: &mut u64) -> Option<Entry>
+    pub fn run<M: Memo>(
+        &mut self,
+        counters: &mut Counters,
+        memo: &mut M,
+        budget: u64,
+        steps: &mut u64,
+    ) -> Option<Entry>
         requires stack { IsStack self.old }
         requires whole { IsWhole self.old }
         requires free { OnTop self.old (λ top. IsFree top.waiting) }
@@ -457,7 +486,7 @@ impl Stack {
         let mut made = 0;
         'steps: while made < budget {
             made += 1;
-            if let Some(entry) = self.step(memo) {
+            if let Some(entry) = self.step(counters, memo) {
                 *steps = steps.saturating_add(made);
                 return Some(entry);
             }
