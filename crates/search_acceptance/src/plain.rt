@@ -900,7 +900,15 @@ fn visit(
                         {
                             let place = place_of(branch.put, branch.to);
                             visit_child(
-                                alloc, &branch.position, e, below, first, under, over, place, notes,
+                                alloc,
+                                &branch.position,
+                                e,
+                                below,
+                                first,
+                                under,
+                                over,
+                                place,
+                                notes,
                             )?
                         }
                     }
