@@ -208,6 +208,21 @@ impl Notes {
         self.keep(kept)
     }
 
+    /// The same, where that is so.
+    fn note_where(
+        &mut self,
+        is_so: bool,
+        p: &Position,
+        e: Eval,
+        depth: u8,
+        known: Known,
+    ) -> Result<(), AllocError> {
+        if is_so {
+            return self.note(p, e, depth, known);
+        }
+        Ok(())
+    }
+
     /// Puts a note behind the others, and drops the oldest one where there are too many.
     fn keep(&mut self, kept: Kept) -> Result<(), AllocError> {
         self.kept.push(kept)?;
@@ -798,44 +813,13 @@ fn at_once(p: &Position, e: Eval, depth: u8, alpha: i32, beta: i32) -> Known {
     Known::Exact(found.value, best)
 }
 
-/// Visits a child and notes it, where it serves.
-fn visit_and_note(
-    alloc: Global,
-    p: &Position,
-    e: Eval,
-    depth: u8,
-    alpha: i32,
-    beta: i32,
-    led: Option<usize>,
-    notes: &mut Notes,
-) -> Result<Known, AllocError> {
-    let entry = visit(alloc, p, e, depth, alpha, beta, led, notes)?;
-    if depth > 1 && notes.serves(depth) {
-        let noted = entry;
-        notes.note(p, e, depth, noted)?;
+/// Where the window of a child begins: at a deep root that has a best move, so high that one that is
+/// worth more than that is only known to be.
+fn first_end(is_deep_root: bool, best: Option<u16>, best_value: i32, under: i32) -> i32 {
+    if is_deep_root && best.is_some() {
+        return under.max(best_value.saturating_neg().saturating_sub(1));
     }
-    Ok(entry)
-}
-
-/// Visits a child under a window that may be narrower, and where that was not enough once more under the
-/// whole one: it is left and entered again in one step.
-fn visit_child(
-    alloc: Global,
-    p: &Position,
-    e: Eval,
-    depth: u8,
-    first: i32,
-    alpha: i32,
-    beta: i32,
-    led: Option<usize>,
-    notes: &mut Notes,
-) -> Result<Known, AllocError> {
-    let entry = visit_and_note(alloc, p, e, depth, first, beta, led, notes)?;
-    if is_cutoff(&entry, alpha, beta) {
-        return Ok(entry);
-    }
-    notes.steps = notes.steps.saturating_sub(1);
-    visit_and_note(alloc, p, e, depth, alpha, beta, led, notes)
+    under
 }
 
 /// Enters a node, goes through its moves, and leaves it; notes all below it. A node with one ply left
@@ -856,6 +840,7 @@ fn visit(
     }
     notes.step(2);
     let below = depth - 1;
+    let is_deep_root = depth == notes.whole && depth >= 5;
     let mut hash_move = None;
     if notes.has_hash_move(depth) {
         if let Some(Known::Exact(_, best)) = notes.ask(p, e, below)? {
@@ -892,25 +877,17 @@ fn visit(
                 let entry = match answer {
                     Some(entry) => entry,
                     None => {
-                        let first = if depth == notes.whole && depth >= 5 && best.is_some() {
-                            under.max(best_value.saturating_neg().saturating_sub(1))
-                        } else {
-                            under
-                        };
-                        {
-                            let place = place_of(branch.put, branch.to);
-                            visit_child(
-                                alloc,
-                                &branch.position,
-                                e,
-                                below,
-                                first,
-                                under,
-                                over,
-                                place,
-                                notes,
-                            )?
+                        let (next, led) = (&branch.position, place_of(branch.put, branch.to));
+                        let first = first_end(is_deep_root, best, best_value, under);
+                        let mut entry = visit(alloc, next, e, below, first, over, led, notes)?;
+                        notes.note_where(is_asked, next, e, below, entry)?;
+                        // It is left and entered again in one step.
+                        if !is_cutoff(&entry, under, over) {
+                            notes.steps = notes.steps.saturating_sub(1);
+                            entry = visit(alloc, next, e, below, under, over, led, notes)?;
+                            notes.note_where(is_asked, next, e, below, entry)?;
                         }
+                        entry
                     }
                 };
                 let (worth, exact) = match entry {
@@ -930,7 +907,7 @@ fn visit(
                 } else {
                     outlook.has_weak = true;
                 }
-                if is_visited && depth == notes.whole && depth >= 5 {
+                if is_visited && is_deep_root {
                     keep_line(alloc, p, e, best, notes)?;
                 }
             }
