@@ -1,5 +1,5 @@
 -- Attacks and checks (JSA playing rules, check).
-use Rattle.std.specs.Prelude.{ℕ, ◌≡◌, ◌≢◌, ◌<◌, ◌⊎◌, ◌&&◌, Bool, true, false, not, Option, Some, None, is_none, slice_set}
+use Rattle.std.specs.Prelude.{ℕ, ◌≡◌, ◌≢◌, ◌<◌, ◌⊎◌, ◌&&◌, Bool, true, false, not, Option, Some, None, MatchOption, is_none, slice_set}
 use Rattle.std.specs.List.{list_any}
 use Rattle.shogi_core.specs.declared.offset.Offset.{Offset}
 use Rattle.shogi_core.specs.declared.piece.Color.{Color}
@@ -81,21 +81,52 @@ abbrev pub is_step_among : Cells → ℕ → ℕ → ℕ → Bool
 is_step_among cells among square from =
     has_bit among from && cell_steps (piece_at cells from) from square
 
+-- pieces stand on the squares of the mask, and on no others
+abbrev pub AreOccupied : ℕ → Cells → Type 0
+AreOccupied mask cells = HasBits mask (λ n. not (is_none (piece_at cells n)))
+
 -- what another board shows of attacks by a side: its pieces are those on the first mask, as they stand here, and the squares of the second one are those that are not empty
 pub record IsSeenAs (cells : Cells) (among occupied : ℕ) (color : Color) (seen : Cells) : Type 0 where
   pub attackers : HasBits among (λ n. is_piece_of color (piece_at seen n))
-  pub pieces : HasBits occupied (λ n. not (is_none (piece_at seen n)))
+  pub pieces : AreOccupied occupied seen
   pub same : (n : ℕ) → n < 81 → has_bit among n ≡ true → piece_at seen n ≡ piece_at cells n
 
 -- the same of the side's snipers of a square alone
 pub record ShowsSnipers (cells : Cells) (square snipers occupied : ℕ) (color : Color) (seen : Cells) : Type 0 where
   pub snipers_on : HasBits snipers (is_sniper seen color square)
-  pub pieces : HasBits occupied (λ n. not (is_none (piece_at seen n)))
+  pub pieces : AreOccupied occupied seen
   pub same : (n : ℕ) → n < 81 → has_bit snipers n ≡ true → piece_at seen n ≡ piece_at cells n
+
+-- on each board that shows so much of the side, the answer is whether the side attacks the square
+abbrev pub TellsAttack : Cells → ℕ → ℕ → ℕ → Bool → Type 0
+TellsAttack cells among occupied square answer = (color : Color) (seen : Cells)
+    → IsSeenAs cells among occupied color seen → answer ≡ is_attacked seen color square
+
+-- on each board that shows the snipers so, the answer is whether one of the side slides to the square
+abbrev pub TellsShot : Cells → ℕ → ℕ → ℕ → Bool → Type 0
+TellsShot cells square snipers occupied answer = (color : Color) (seen : Cells)
+    → ShowsSnipers cells square snipers occupied color seen → answer ≡ is_shot seen color square
+
+-- the same of slides against the direction of that number
+abbrev pub TellsShotAlong : Cells → ℕ → ℕ → ℕ → ℕ → Bool → Type 0
+TellsShotAlong cells square direction snipers occupied answer = (color : Color) (seen : Cells)
+    → ShowsSnipers cells square snipers occupied color seen
+    → answer ≡ is_shot_along seen color square direction
 
 -- no piece stands in the direction: each square to which a slide leads is empty
 abbrev pub IsOpenLine : Cells → Offset → ℕ → Type 0
 IsOpenLine cells o from = (n : ℕ) → slides cells o from n ≡ true → is_none (piece_at cells n) ≡ true
+
+-- the first piece in the direction stands on the square
+pub record IsFirstPiece (cells : Cells) (o : Offset) (from n : ℕ) : Type 0 where
+  pub reached : slides cells o from n ≡ true
+  pub piece : is_none (piece_at cells n) ≡ false
+
+-- the first piece in the direction of that number is on the square found; where none is found, none stands there
+abbrev pub FindsPiece : Cells → ℕ → ℕ → Option ℕ → Type 0
+FindsPiece cells direction from found =
+    MatchOption found (IsOpenLine cells (direction_at direction) from)
+    (IsFirstPiece cells (direction_at direction) from)
 
 -- the piece on `from` is of the side and stands alone between the square and a sniper of the other side's, which is on `sniper`, in the direction
 abbrev pub is_pinned_by : Cells → Color → ℕ → Offset → ℕ → ℕ → Bool

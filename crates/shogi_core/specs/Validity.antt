@@ -1,5 +1,5 @@
 -- Which positions are valid: one set of pieces, and the rules on kings, pawns and dead pieces (JSA playing rules; that a side may have no king is an own choice).
-use Rattle.std.specs.Prelude.{ℕ, ◌+◌, ◌*◌, ◌||◌, Bool, Option, Some, None, nat_lt, take, drop, count_by, cond, length, ◌≡◌}
+use Rattle.std.specs.Prelude.{ℕ, ◌+◌, ◌*◌, ◌||◌, Bool, Option, Some, None, MatchOption, Result, Ok, Err, nat_lt, take, drop, count_by, cond, length, ◌≡◌}
 use Rattle.std.specs.List.{list_any}
 use Rattle.shogi_core.specs.Below.{some_below}
 use Rattle.shogi_core.specs.declared.piece.Color.{Color}
@@ -58,6 +58,11 @@ fault_of p =
     (cond (has_two_pawns p.cells) (Some TwoPawns)
     (cond (has_dead_piece p.cells) (Some DeadPiece)
     (cond (in_check p.cells (opponent_of p.side)) (Some KingOpen) None))))
+
+-- these parts as a position where they have no fault, and else their first fault
+abbrev pub IsPositionOf : Shogi → Result Shogi PositionFault → Type 0
+IsPositionOf parts result =
+    MatchOption (fault_of parts) (result ≡ Ok parts) (λ fault. result ≡ Err fault)
 
 -- the number by which the host names a fault (own choice)
 abbrev pub number_of_fault : PositionFault → ℕ

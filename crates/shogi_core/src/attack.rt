@@ -1,13 +1,13 @@
 //! Attacks and checks, seen from the square that is attacked.
 
 ghost use Rattle.std.specs.Prelude.{◌≡◌, ◌≢◌, ◌<◌, ◌≤◌, ◌^◌, ℕ, true, false, not, None, IfSome, IsNone, is_none};
-ghost use Rattle.shogi_core.specs.Attack.{is_attacked, is_open_king, in_check, is_sniper, is_sniping, cell_steps, cell_slides_back, is_step_from, is_step_among, is_shot_along, is_shot, IsSeenAs, ShowsSnipers, IsOpenLine, HasPinned, HasPinnedAlong, OthersAreUnpinned, StaysAttacked, StaysInCheck};
+ghost use Rattle.shogi_core.specs.Attack.{is_attacked, is_open_king, in_check, is_sniper, is_sniping, cell_steps, cell_slides_back, is_step_from, is_step_among, is_shot_along, is_shot, AreOccupied, FindsPiece, TellsAttack, TellsShot, TellsShotAlong, HasPinned, HasPinnedAlong, OthersAreUnpinned, StaysAttacked, StaysInCheck};
 ghost use Rattle.shogi_core.specs.Below.{some_below};
 ghost use Rattle.shogi_core.specs.Bits.{HasBits, IsMaskOf, has_bit};
 ghost use Rattle.shogi_core.specs.Cell.{is_king};
 ghost use Rattle.shogi_core.specs.Lines.{are_lined, is_seen};
 ghost use Rattle.shogi_core.specs.Pieces.{opponent_of};
-ghost use Rattle.shogi_core.specs.Movement.{Cells, piece_at, slides};
+ghost use Rattle.shogi_core.specs.Movement.{Cells};
 ghost use Rattle.shogi_core.specs.declared.piece.Color.{Color};
 ghost use Rattle.shogi_core.specs.Rays.{direction_at};
 
@@ -203,16 +203,9 @@ fn nearest(places: u128, direction: usize) -> usize
 fn first_occupied(occupied: u128, direction: usize, from: usize) -> Option<usize>
     requires direction { direction < 8 }
     requires from { from < 81 }
-    ensures none { IsNone result → (cells : Cells)
-        → HasBits occupied (λ k. not (is_none (piece_at cells k)))
-        → IsOpenLine cells (direction_at direction) from }
     ensures range { IfSome result (λ n. n < 81) }
-    ensures reached { IfSome result (λ n. (cells : Cells)
-        → HasBits occupied (λ k. not (is_none (piece_at cells k)))
-        → slides cells (direction_at direction) from n ≡ true) }
-    ensures piece { IfSome result (λ n. (cells : Cells)
-        → HasBits occupied (λ k. not (is_none (piece_at cells k)))
-        → is_none (piece_at cells n) ≡ false) }
+    ensures first { (cells : Cells) → AreOccupied occupied cells
+        → FindsPiece cells direction from result }
 {
     let pieces = ray(direction, from) & occupied;
     if pieces == 0 {
@@ -225,10 +218,8 @@ fn first_occupied(occupied: u128, direction: usize, from: usize) -> Option<usize
 fn first_piece(board: &Board, direction: usize, from: usize) -> Option<usize>
     requires direction { direction < 8 }
     requires from { from < 81 }
-    ensures none { IsNone result → IsOpenLine board.now (direction_at direction) from }
     ensures range { IfSome result (λ n. n < 81) }
-    ensures reached { IfSome result (λ n. slides board.now (direction_at direction) from n ≡ true) }
-    ensures piece { IfSome result (λ n. is_none (piece_at board.now n) ≡ false) }
+    ensures first { FindsPiece board.now direction from result }
 {
     first_occupied(board.occupied(), direction, from)
 }
@@ -245,9 +236,7 @@ fn is_shot_past(
 ) -> bool
     requires square { square < 81 }
     requires direction { direction < 8 }
-    ensures { (color : Color) (seen : Cells)
-        → ShowsSnipers board.now square snipers occupied color seen
-        → result ≡ is_shot_along seen color square direction }
+    ensures { TellsShotAlong board.now square direction snipers occupied result }
 {
     let Some(first) = first_occupied(occupied, direction, square) else {
         return false
@@ -268,9 +257,7 @@ fn is_shot_past_along(
 ) -> bool
     requires square { square < 81 }
     requires direction { direction < 8 }
-    ensures { (color : Color) (seen : Cells)
-        → ShowsSnipers board.now square snipers occupied color seen
-        → result ≡ is_shot_along seen color square direction }
+    ensures { TellsShotAlong board.now square direction snipers occupied result }
 {
     if ray(direction, square) & snipers == 0 {
         return false;
@@ -282,9 +269,7 @@ fn is_shot_past_along(
 /// squares.
 fn is_shot_among(board: &Board, square: usize, snipers: u128, occupied: u128) -> bool
     requires { square < 81 }
-    ensures { (color : Color) (seen : Cells)
-        → ShowsSnipers board.now square snipers occupied color seen
-        → result ≡ is_shot seen color square }
+    ensures { TellsShot board.now square snipers occupied result }
 {
     for direction in 0..8 {
         if is_shot_past_along(board, square, direction, snipers, occupied) {
@@ -455,8 +440,7 @@ impl Board {
     /// that are not empty: whether it is attacked on another board, whose attackers stand here too.
     #[inline(always)]
     pub fn is_attacked_among(&self, square: Square, among: u128, occupied: u128) -> bool
-        ensures { (color : Color) (seen : Cells) → IsSeenAs self.now among occupied color seen
-            → result ≡ is_attacked seen color square }
+        ensures { TellsAttack self.now among occupied square result }
     {
         square.validity();
         let index = square.index();

@@ -40,5 +40,5 @@ pub use piece::{Color, KINDS, Kind, Piece, Role};
 pub use position::Position;
 pub use rays::ray;
 pub use square::Square;
-pub use steps::step_squares;
+pub use steps::{near_squares, step_squares};
 pub use validity::PositionFault;

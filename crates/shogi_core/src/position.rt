@@ -3,9 +3,9 @@
 ghost use Rattle.std.specs.Prelude.{◌≡◌, ◌↔◌, true, IsTrue, Ok, Err, None, Some, MatchOption, IfSome, IsNone};
 ghost use Rattle.shogi_core.specs.Cell.{is_king, HasNoKing, HasNoOtherKing};
 ghost use Rattle.shogi_core.specs.Movement.{reaches, piece_at};
-ghost use Rattle.shogi_core.specs.Position.{Shogi, count_in_hand, with_piece_moved, with_piece_dropped};
+ghost use Rattle.shogi_core.specs.Position.{count_in_hand, with_piece_moved, with_piece_dropped};
 ghost use Rattle.shogi_core.specs.Same.{is_same_position};
-ghost use Rattle.shogi_core.specs.Validity.{IsValid, fault_of};
+ghost use Rattle.shogi_core.specs.Validity.{IsPositionOf, IsValid, fault_of};
 
 use crate::bits::lowest;
 use crate::board::Board;
@@ -44,8 +44,7 @@ impl Position {
         hands: Hands,
         side: Color,
     ) -> Result<Position, PositionFault>
-        ensures { let parts : Shogi = record { cells = cells; hands = hands; side = side } in
-            MatchOption (fault_of parts) (result ≡ Ok parts) (λ fault. result ≡ Err fault) }
+        ensures { IsPositionOf (record { cells = cells; hands = hands; side = side }) result }
     {
         match fault(&cells, hands, side) {
             Some(fault) => Err(fault),
