@@ -16,7 +16,8 @@ use Rattle.shogi_core.specs.Bits.{has_bit}
 use Rattle.shogi_core.specs.Codes.{code_of}
 use Rattle.shogi_core.specs.Position.{Shogi}
 use Rattle.shogi_moves.specs.Legal.{is_legal_code}
-use Rattle.shogi_moves.specs.LegalMoves.{legal_from, legal_codes}
+use Rattle.shogi_moves.specs.LegalMoves.{CountsLegal, legal_from, legal_codes}
+use Rattle.shogi_moves.specs.Places.{first_of_kind}
 use Rattle.shogi_moves.proofs.LegalLaws.{legal_from_found, legal_from_skips, HasPiecesFrom, next_piece, pieces_after, no_piece_left}
 
 abbrev digit : Bool → ℕ
@@ -114,19 +115,19 @@ counted_board p from plain promoting h pf qf pb qb =
 -- ---- drops
 
 singles : (p : Shogi) (kind : Kind) (k s : ℕ) → s + k ≤ 81
-    → length (legal_from p (FIRST_DROP + kind_number kind * 81 + s)) ≡ tally k (λ i. is_legal_code p (code_of (Drop kind (i + s)))) + length (legal_from p (FIRST_DROP + kind_number kind * 81 + (s + k)))
+    → length (legal_from p (first_of_kind kind + s)) ≡ tally k (λ i. is_legal_code p (code_of (Drop kind (i + s)))) + length (legal_from p (first_of_kind kind + (s + k)))
 unfolding tally
 singles p kind zero s l =
-    let same : FIRST_DROP + kind_number kind * 81 + s ≡ FIRST_DROP + kind_number kind * 81 + (s + 0) = omega arith in
-    let e : length (legal_from p (FIRST_DROP + kind_number kind * 81 + s)) ≡ length (legal_from p (FIRST_DROP + kind_number kind * 81 + (s + 0))) = ap (λ (c : ℕ). length (legal_from p c)) same in
+    let same : first_of_kind kind + s ≡ first_of_kind kind + (s + 0) = omega arith in
+    let e : length (legal_from p (first_of_kind kind + s)) ≡ length (legal_from p (first_of_kind kind + (s + 0))) = ap (λ (c : ℕ). length (legal_from p c)) same in
     omega arith
 singles p kind (suc k) s l =
     let seven : kind_number kind < 7 = number_below kind in
-    let first = code_more p (FIRST_DROP + kind_number kind * 81 + s) (omega arith) in
+    let first = code_more p (first_of_kind kind + s) (omega arith) in
     let rest = singles p kind k (s + 1) (omega arith) in
-    let here : code_of (Drop kind (0 + s)) ≡ FIRST_DROP + kind_number kind * 81 + s = omega arith in
-    let on : FIRST_DROP + kind_number kind * 81 + s + 1 ≡ FIRST_DROP + kind_number kind * 81 + (s + 1) = omega arith in
-    let end : FIRST_DROP + kind_number kind * 81 + (s + 1 + k) ≡ FIRST_DROP + kind_number kind * 81 + (s + suc k) = omega arith in
+    let here : code_of (Drop kind (0 + s)) ≡ first_of_kind kind + s = omega arith in
+    let on : first_of_kind kind + s + 1 ≡ first_of_kind kind + (s + 1) = omega arith in
+    let end : first_of_kind kind + (s + 1 + k) ≡ first_of_kind kind + (s + suc k) = omega arith in
     let onw = ap (λ (c : ℕ). length (legal_from p c)) on in
     let endw = ap (λ (c : ℕ). length (legal_from p c)) end in
     let hw = ap (λ (c : ℕ). digit (is_legal_code p c)) here in
@@ -134,12 +135,12 @@ singles p kind (suc k) s l =
     omega (arith, first, rest, onw, endw, hw, t)
 
 pub counted_drop : (p : Shogi) (kind : Kind) (destinations : ℕ) → destinations < 2 ^ 81 → ((n : ℕ) → n < 81 → has_bit destinations n ≡ is_legal_code p (code_of (Drop kind n)))
-    → length (legal_from p (FIRST_DROP + kind_number kind * 81)) ≡ count_ones destinations + length (legal_from p (FIRST_DROP + 81 + kind_number kind * 81))
+    → CountsLegal p (first_of_kind kind) (first_of_kind kind + 81) (count_ones destinations)
 counted_drop p kind destinations fits bits =
     let all = singles p kind 81 0 (omega arith) in
-    let start : FIRST_DROP + kind_number kind * 81 + 0 ≡ FIRST_DROP + kind_number kind * 81 = omega arith in
+    let start : first_of_kind kind + 0 ≡ first_of_kind kind = omega arith in
     let startw = ap (λ (c : ℕ). length (legal_from p c)) start in
-    let end : FIRST_DROP + kind_number kind * 81 + (0 + 81) ≡ FIRST_DROP + 81 + kind_number kind * 81 = omega arith in
+    let end : first_of_kind kind + (0 + 81) ≡ first_of_kind kind + 81 = omega arith in
     let endw = ap (λ (c : ℕ). length (legal_from p c)) end in
     let a = ones_tally 81 destinations fits in
     let b = tally_same 81 (has_bit destinations) (λ i. is_legal_code p (code_of (Drop kind (i + 0)))) (λ i l. bits i l ∙ ap (λ (n : ℕ). is_legal_code p (code_of (Drop kind n))) (omega arith)) in

@@ -14,6 +14,7 @@ use Rattle.shogi_core.specs.Movement.{Cells, piece_at, reaches}
 use Rattle.shogi_core.specs.Pieces.{opponent_of}
 use Rattle.shogi_core.specs.Position.{Shogi, count_in_hand}
 use Rattle.shogi_moves.specs.After.{cells_after}
+use Rattle.shogi_moves.specs.Captures.{is_matching}
 use Rattle.shogi_moves.specs.declared.check_info.CheckInfo.{CheckInfo}
 use Rattle.shogi_moves.specs.declared.destinations.Destinations.{Destinations}
 use Rattle.shogi_moves.specs.Legal.{is_legal_code, is_pawn_drop_mate}
@@ -46,6 +47,10 @@ pub record AreAllDestinations (p : Shogi) (from : ℕ) (destinations : Destinati
 abbrev pub AreUncheckedDrops : Shogi → ℕ → ℕ → Type 0
 AreUncheckedDrops p squares mask =
     IsMaskOf mask (λ n. has_bit squares n && is_unchecked p (Drop Pawn n))
+
+-- the mask has the squares on which a held piece of the kind may legally be dropped
+abbrev pub AreLegalDrops : Shogi → Kind → ℕ → Type 0
+AreLegalDrops p kind mask = IsMaskOf mask (λ n. is_matching p false (code_of (Drop kind n)))
 
 -- a pawn dropped there mates
 abbrev pub is_mating_square : Shogi → ℕ → Bool

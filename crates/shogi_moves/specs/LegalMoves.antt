@@ -1,5 +1,5 @@
 -- The legal moves of a position by their codes, and sequences of legal moves (their order is an own choice).
-use Rattle.std.specs.Prelude.{◌≡◌, ℕ, zero, suc, ◌+◌, List, [], ◌∷◌, Option, Some, None, MatchOption, filter, sum_by}
+use Rattle.std.specs.Prelude.{◌≡◌, ℕ, zero, suc, ◌+◌, List, [], ◌∷◌, Option, Some, None, MatchOption, filter, length, sum_by}
 use Rattle.shogi_core.specs.declared.moves.Move.{Move}
 use Rattle.shogi_core.specs.Codes.{code_of, codes_from}
 use Rattle.shogi_core.specs.Position.{Shogi}
@@ -19,6 +19,10 @@ abbrev pub legal_above : Shogi → Option Move → List ℕ
 legal_above p None = legal_from p 0
 legal_above p (Some m) = legal_from p (code_of m + 1)
 
+-- so many moves are legal from the first code on and before the end
+abbrev pub CountsLegal : Shogi → ℕ → ℕ → ℕ → Type 0
+CountsLegal p first end count = count + length (legal_from p end) ≡ length (legal_from p first)
+
 -- the move found is the legal one of least code from the first on; where none is found, there is none before the end
 abbrev pub IsLeastFrom : Shogi → Option Move → ℕ → ℕ → Type 0
 IsLeastFrom p found first end = MatchOption found (legal_from p first ≡ legal_from p end)
@@ -28,6 +32,11 @@ IsLeastFrom p found first end = MatchOption found (legal_from p first ≡ legal_
 abbrev pub IsFirstFrom : Shogi → Option Move → ℕ → Type 0
 IsFirstFrom p found first = MatchOption found (legal_from p first ≡ [])
     (λ m. legal_from p first ≡ code_of m ∷ legal_from p (code_of m + 1))
+
+-- the move found is the first of the legal moves above a given one, or of all; where none is found, there is none
+abbrev pub IsNextAbove : Shogi → Option Move → Option Move → Type 0
+IsNextAbove p after found = MatchOption found (legal_above p after ≡ [])
+    (λ m. legal_above p after ≡ code_of m ∷ legal_above p (Some m))
 
 -- how many sequences of n legal moves there are
 unfoldable pub perft : Shogi → ℕ → ℕ

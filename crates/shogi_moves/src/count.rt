@@ -1,11 +1,11 @@
 //! Counting sequences of legal moves.
 
-ghost use Rattle.std.specs.Prelude.{◌≡◌, ◌≤◌, ◌<◌, ◌^◌, ◌+◌, ◌*◌, ◌-◌, ◌↔◌, IfSome, IsNone, length};
+ghost use Rattle.std.specs.Prelude.{◌≡◌, ◌≤◌, ◌<◌, ◌^◌, ◌+◌, ◌-◌, ◌↔◌, IfSome, IsNone, length};
 ghost use Rattle.shogi_core.specs.declared.moves.TheConstants.{MOVE_CODE_COUNT, FIRST_DROP};
-ghost use Rattle.shogi_moves.specs.LegalMoves.{legal_from, legal_codes, perft};
-ghost use Rattle.shogi_core.specs.Pieces.{kind_number};
+ghost use Rattle.shogi_moves.specs.LegalMoves.{CountsLegal, legal_from, perft};
 ghost use Rattle.shogi_moves.specs.CheckInfo.{IsCheckInfoOf};
 ghost use Rattle.shogi_moves.specs.Destinations.{AreDropSquares};
+ghost use Rattle.shogi_moves.specs.Places.{first_of_kind};
 
 use crate::after::advance;
 use crate::check_info::{CheckInfo, check_info_of};
@@ -20,7 +20,7 @@ use shogi_core::{Kind, Position, Square};
 /// How many board moves are legal.
 fn count_board(p: &Position, info: &CheckInfo) -> u64
     requires info { IsCheckInfoOf info.now p.now }
-    ensures count { result + length (legal_from p.now FIRST_DROP) ≡ length (legal_codes p.now) }
+    ensures count { CountsLegal p.now 0 FIRST_DROP result }
     ensures range { result ≤ FIRST_DROP }
 {
     let squares = enterable(p);
@@ -45,8 +45,7 @@ fn count_board(p: &Position, info: &CheckInfo) -> u64
 #[inline(always)]
 fn count_kind(p: &Position, squares: u128, kind: Kind) -> u64
     requires { AreDropSquares p.now squares }
-    ensures count { result + length (legal_from p.now (FIRST_DROP + 81 + kind_number kind * 81))
-        ≡ length (legal_from p.now (FIRST_DROP + kind_number kind * 81)) }
+    ensures count { CountsLegal p.now (first_of_kind kind) (first_of_kind kind + 81) result }
     ensures range { result ≤ 81 }
 {
     drop_destinations(p, squares, kind).count_ones() as u64

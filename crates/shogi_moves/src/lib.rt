@@ -1,13 +1,12 @@
 //! Attacks, legal moves, the position after a move, and counting sequences of legal moves.
 //!
-//! A move is found in `destinations`: the legal destinations of a piece and the drops of a kind, as
-//! masks. `sweep` goes through them for the search, `next` and `walk` for everyone else,
-//! `existence` up to the first one. `movers` leaves out, before their destinations are looked for,
-//! pieces that surely take nothing. A move is tested in `legal`, by the rules one after another,
-//! that on checks in `unchecked`, and made in `after`. A check is found by `Board::in_check` of
-//! `shogi_core`; `check_info` keeps it, with the pieces of `Board::pinned`, so that few moves need
-//! another look. Whether a move gives check is asked
-//! of the position after it.
+//! A move is found as a mask: `destinations` has the legal ends of a piece, `drops` and `pawn_drop`
+//! the squares for a held kind. `sweep` goes through them for the search, `next` and `walk` for
+//! everyone else, `count` without looking at each, and `existence` up to the first one. `movers`
+//! leaves out, before their destinations are looked for, pieces that surely take nothing. A move is
+//! tested in `legal`, by the rules one after another, that on checks in `unchecked`, and made in
+//! `after`. `check_info` keeps whether there is a check and which pieces may be pinned, so that few
+//! moves need another look; `safe` and `pawn_escape` tell whether the drop of a pawn mates.
 #![tactic(auto)]
 
 mod after;
@@ -31,7 +30,7 @@ pub use after::{advance, apply, dropped, piece_moved};
 pub use attack::{in_check, is_attacked};
 pub use check_info::{CheckInfo, check_info_of};
 pub use count::perft;
-pub use destinations::{Destinations, enterable, legal_destinations, matching_destinations};
+pub use destinations::{Destinations, legal_destinations, matching_destinations};
 pub use drops::drop_squares;
 pub use existence::has_legal;
 pub use legal::{is_legal, play, play_in_place};

@@ -1,6 +1,6 @@
 //! The legal moves in the order of their codes.
 
-ghost use Rattle.std.specs.Prelude.{◌≡◌, ◌≤◌, ◌<◌, ◌+◌, ◌*◌, true, false, [], ◌∷◌, IfSome, MatchOption, Some};
+ghost use Rattle.std.specs.Prelude.{◌≡◌, ◌≤◌, ◌<◌, ◌+◌, ◌*◌, true, false, IfSome};
 ghost use Rattle.shogi_core.specs.declared.moves.TheConstants.{FIRST_DROP, SQUARE_CODES};
 ghost use Rattle.shogi_core.specs.declared.moves.Move.TheVariants as moves;
 ghost use Rattle.shogi_core.specs.Cell.{is_piece_of};
@@ -8,7 +8,7 @@ ghost use Rattle.shogi_core.specs.Codes.{code_of};
 ghost use Rattle.shogi_core.specs.Movement.{piece_at};
 ghost use Rattle.shogi_moves.specs.CheckInfo.{IsCheckInfoOf};
 ghost use Rattle.shogi_moves.specs.Legal.{is_legal};
-ghost use Rattle.shogi_moves.specs.LegalMoves.{legal_above, legal_codes, IsFirstFrom, IsLeastFrom};
+ghost use Rattle.shogi_moves.specs.LegalMoves.{legal_codes, IsFirstFrom, IsLeastFrom, IsNextAbove};
 ghost use Rattle.shogi_moves.specs.Places.{IsAtSquare};
 ghost use Rattle.shogi_moves.specs.Rising.{IsRising};
 ghost use Rattle.shogi_moves.specs.Sweeps.{AreKept, KeepsLegal};
@@ -167,8 +167,7 @@ fn least_drop(p: &Position, info: CheckInfo, kind: Kind, to: Square) -> Option<M
 /// each legal move once, in the order of codes (own choice).
 #[tactic(auto, using(crate::proofs::LegalLaws::legal_rising))]
 pub fn next_legal(p: &Position, after: Option<Move>) -> Option<Move>
-    ensures next { MatchOption result (legal_above p.now after ≡ [])
-        (λ m. legal_above p.now after ≡ code_of m ∷ legal_above p.now (Some m)) }
+    ensures next { IsNextAbove p.now after result }
     ensures legal { IfSome result (λ m. is_legal p.now m ≡ true) }
     ensures rising { IsRising (legal_codes p.now) }
 {

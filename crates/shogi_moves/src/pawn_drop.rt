@@ -4,9 +4,7 @@ ghost use Rattle.std.specs.Prelude.{◌≡◌, ◌<◌, ◌^◌, ◌&&◌, ℕ, 
 ghost use Rattle.shogi_core.specs.declared.moves.Move.TheVariants as moves;
 ghost use Rattle.shogi_core.specs.declared.piece.Kind.TheVariants as kinds;
 ghost use Rattle.shogi_core.specs.Bits.{HasBits, IsMaskOf, has_bit};
-ghost use Rattle.shogi_core.specs.Codes.{code_of};
-ghost use Rattle.shogi_moves.specs.Captures.{is_matching};
-ghost use Rattle.shogi_moves.specs.Destinations.{is_mating_square, AreDropSquares};
+ghost use Rattle.shogi_moves.specs.Destinations.{is_mating_square, AreDropSquares, AreLegalDrops};
 ghost use Rattle.shogi_moves.specs.Legal.{is_mated_by_drop, is_pawn_drop, is_pawn_drop_mate, is_safe};
 
 use crate::after::apply_safe;
@@ -102,7 +100,7 @@ fn non_mating_drops(p: &Position, destinations: u128) -> u128
 #[tactic(auto, using(crate::proofs::DestinationLaws::legal_dropping))]
 pub fn drop_destinations(p: &Position, squares: u128, kind: Kind) -> u128
     requires squares { AreDropSquares p.now squares }
-    ensures squares { IsMaskOf result (λ n. is_matching p.now false (code_of (moves.Drop kind n))) }
+    ensures squares { AreLegalDrops p.now kind result }
 {
     let destinations = safe_drops(p, squares, kind);
     if destinations == 0 {
