@@ -2,7 +2,7 @@
 use Rattle.std.specs.Prelude.{ℕ, ◌≡◌, ◌<◌, true, false, Option, None, slice_set}
 use Rattle.shogi_core.specs.declared.piece.Color.{Color}
 use Rattle.shogi_core.specs.declared.piece.Piece.{Piece}
-use Rattle.shogi_core.specs.Attack.{is_sniper}
+use Rattle.shogi_core.specs.Attack.{is_attacked, is_sniper}
 use Rattle.shogi_core.specs.Bits.{has_bit}
 use Rattle.shogi_core.specs.Cell.{is_king, HasNoOtherKing}
 use Rattle.shogi_core.specs.Movement.{Cells, piece_at, cell_reaches}
@@ -31,3 +31,12 @@ ReachesWithin p cell to mask = (k n : ℕ) → k < 81 → n < 81
 -- no piece of the side that slides is on a line with the square, whatever stands between
 abbrev pub HasNoSniper : Cells → Color → ℕ → Type 0
 HasNoSniper cells side square = (a : ℕ) → a < 81 → is_sniper cells side square a ≡ false
+
+-- the mask has some of the squares, and the side attacks none of these
+abbrev pub AreUnattacked : Cells → Color → ℕ → ℕ → Type 0
+AreUnattacked cells side squares mask = (n : ℕ) → n < 81 → has_bit mask n ≡ true
+    → (has_bit squares n ≡ true) × (is_attacked cells side n ≡ false)
+
+-- the board once nothing stands on either square
+abbrev pub without_both : Cells → ℕ → ℕ → Cells
+without_both cells from king = slice_set (slice_set cells from None) king None

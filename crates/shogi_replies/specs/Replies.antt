@@ -116,6 +116,16 @@ abbrev pub AreAnswered : Shogi → ℕ → Bool → ℕ → Type 0
 AreAnswered p from promote mask =
     (n : ℕ) → n < 81 → has_bit mask n ≡ true → IsAnswered p (Board from n promote)
 
+-- each move on the board of what stands on the squares of the mask is answered, promoting or not
+abbrev pub AreRemote : Shogi → ℕ → Type 0
+AreRemote p mask = (a n : ℕ) (promote : Bool) → a < 81 → n < 81 → has_bit mask a ≡ true
+    → reaches p.cells a n ≡ true → IsAnswered p (Board a n promote)
+
+-- those of the squares at which the piece may promote that came from there are on the mask
+abbrev pub PromotesWithin : Option Piece → ℕ → ℕ → ℕ → Type 0
+PromotesWithin cell from squares mask = (n : ℕ) → n < 81 → has_bit squares n ≡ true
+    → may_promote cell from n ≡ true → has_bit mask n ≡ true
+
 -- a drop of the kind on each square of the mask is answered
 abbrev pub AreDropsAnswered : Shogi → Kind → ℕ → Type 0
 AreDropsAnswered p kind mask =

@@ -7,7 +7,7 @@ ghost use Rattle.shogi_core.specs.Bits.{IsMaskOf, has_bit};
 ghost use Rattle.shogi_core.specs.Movement.{reaches};
 ghost use Rattle.shogi_moves.specs.Destinations.{IsWithin};
 ghost use Rattle.shogi_moves.specs.Escapes.{AreEscapes};
-ghost use Rattle.shogi_replies.specs.Escapes.{HasRaysBehind, HasKingsRays, ReachesWithin, HasNoSniper};
+ghost use Rattle.shogi_replies.specs.Escapes.{without_both, AreUnattacked, HasRaysBehind, HasKingsRays, ReachesWithin, HasNoSniper};
 ghost use Rattle.shogi_replies.specs.Replies.{IsAnswered, AreAnswered, AreDropsAnswered};
 
 use shogi_core::bits::{ALL_SQUARES, cleared, has, lowest, without_lowest};
@@ -38,8 +38,7 @@ fn unattacked(board: &Board, by: Color, squares: u128) -> u128
 #[tactic(auto, using(shogi_moves::proofs::DestinationLaws::sifting))]
 fn some_unattacked(board: &Board, by: Color, squares: u128) -> u128
     requires { squares < 2 ^ 81 }
-    ensures safe { (n : ℕ) → n < 81 → has_bit result n ≡ true
-        → (has_bit squares n ≡ true) × (is_attacked board.now by n ≡ false) }
+    ensures safe { AreUnattacked board.now by squares result }
     ensures fits { result < 2 ^ 81 }
 {
     let mut left = squares;
@@ -211,8 +210,8 @@ pub fn leaves_king_move(p: &Position, escapes: u128, m: &Move) -> bool
 /// attacks once the king and what stands on `from` have left theirs.
 fn is_unprotected(p: &Position, king: Square, from: Square, to: Square) -> bool
     ensures reached { result ≡ true → reaches p.now.cells king to ≡ true }
-    ensures safe { result ≡ true → is_attacked
-        (slice_set (slice_set p.now.cells from None) king None) p.now.side to ≡ false }
+    ensures safe { result ≡ true
+        → is_attacked (without_both p.now.cells from king) p.now.side to ≡ false }
 {
     to.validity();
     let board = p.as_board();

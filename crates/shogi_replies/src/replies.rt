@@ -1,18 +1,16 @@
 //! Whether the other side surely has a legal move after a move, without making it.
 
 ghost use Rattle.std.specs.Prelude.{◌≡◌, ◌≢◌, ◌<◌, ◌^◌, ℕ, Bool, [], true, false, bit_and};
-ghost use Rattle.shogi_core.specs.declared.moves.Move.TheVariants as moves;
 ghost use Rattle.shogi_core.specs.Below.{some_below};
 ghost use Rattle.shogi_core.specs.Bits.{has_bit};
-ghost use Rattle.shogi_core.specs.Movement.{piece_at, reaches};
+ghost use Rattle.shogi_core.specs.Movement.{piece_at};
 ghost use Rattle.shogi_core.specs.Pieces.{opponent_of};
 ghost use Rattle.shogi_moves.specs.After.{after};
 ghost use Rattle.shogi_moves.specs.Destinations.{IsWithin};
 ghost use Rattle.shogi_moves.specs.Escapes.{AreEscapes};
 ghost use Rattle.shogi_moves.specs.Legal.{is_legal};
-ghost use Rattle.shogi_core.specs.Zones.{may_promote};
 ghost use Rattle.shogi_moves.specs.LegalMoves.{legal_codes};
-ghost use Rattle.shogi_replies.specs.Replies.{ChecksAmong, holds_free, is_open_step, is_spare, Sees, Aligns, IsReplies, IsHarmless, IsOpen, StaysCovered, UncoversWithin, AreAnswered, AreDropsAnswered, HasCertainMoves, IsAnswered};
+ghost use Rattle.shogi_replies.specs.Replies.{ChecksAmong, holds_free, is_open_step, is_spare, Sees, Aligns, IsReplies, IsHarmless, IsOpen, StaysCovered, UncoversWithin, AreAnswered, AreDropsAnswered, AreRemote, HasCertainMoves, PromotesWithin};
 ghost use Rattle.shogi_replies.specs.Threats.{KeepsThreats, MayRetake};
 
 use crate::escapes::{escaped_destinations, escaped_drops};
@@ -163,8 +161,8 @@ fn holds_free(p: &Position, side: Color) -> bool
 fn are_among(p: &Position, from: Square, ends: u128, plain: u128, promoting: u128) -> bool
     ensures plain { result ≡ true → (n : ℕ) → n < 81 → has_bit ends n ≡ true
         → has_bit plain n ≡ true }
-    ensures promoting { result ≡ true → (n : ℕ) → n < 81 → has_bit ends n ≡ true
-        → may_promote (piece_at p.now.cells from) from n ≡ true → has_bit promoting n ≡ true }
+    ensures promoting { result ≡ true
+        → PromotesWithin (piece_at p.now.cells from) from ends promoting }
 {
     if ends & !plain != 0 {
         return false;
@@ -322,8 +320,7 @@ impl Replies {
     /// move, since they are far from its kings.
     pub fn remote_pieces(&self, p: &Position) -> u128
         requires kept { IsReplies p.now self.now.sight self.now.spare }
-        ensures { (a n : ℕ) (promote : Bool) → a < 81 → n < 81 → has_bit result a ≡ true
-            → reaches p.now.cells a n ≡ true → IsAnswered p.now (moves.Board a n promote) }
+        ensures { AreRemote p.now result }
     {
         p.validity();
         if ALL_SQUARES & !self.open_squares(0) != 0 {
