@@ -1,4 +1,5 @@
 pub mod Bounds
+pub mod ByKind
 pub mod Gains
 pub mod Opening
 pub mod RoleGains

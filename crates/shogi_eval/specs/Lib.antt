@@ -1,2 +1,3 @@
 pub mod Material
 pub mod Evaluated
+pub mod Losses

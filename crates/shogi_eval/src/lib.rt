@@ -3,10 +3,12 @@
 
 mod eval;
 mod gain;
+mod losses;
 mod node;
 mod points;
 
 pub use eval::Eval;
 pub use gain::{drop_gain, promotion_gain, taken_gain};
+pub use losses::loss_of_drops;
 pub use node::Node;
 pub use points::{POINTS_MAX, material};

@@ -6,7 +6,6 @@ use Rattle.shogi_core.specs.declared.moves.TheConstants.{FIRST_DROP, MOVE_CODE_C
 use Rattle.shogi_core.specs.declared.moves.Move.{Move}
 use Rattle.shogi_core.specs.declared.moves.Move.TheVariants.{Board, Drop}
 use Rattle.shogi_core.specs.declared.piece.Kind.{Kind}
-use Rattle.shogi_core.specs.declared.piece.Kind.TheVariants as kinds
 use Rattle.shogi_core.specs.declared.piece.Piece.{Piece}
 use Rattle.shogi_core.specs.Codes.{move_of, code_of, kind_at}
 use Rattle.shogi_core.specs.Cell.{is_piece_of}
@@ -29,23 +28,13 @@ use Rattle.shogi_eval.specs.declared.eval.Eval.{Eval}
 use Rattle.shogi_eval.specs.Material.{material_of, drop_gain, taken_gain, promotion_gain}
 use Rattle.shogi_eval.proofs.Gains.{material_after_board, material_after_drop}
 use Rattle.shogi_eval.proofs.Bounds.{material_bounds}
-use Rattle.shogi_search.specs.Losses.{LosesAtMost}
+use Rattle.shogi_eval.specs.Losses.{LosesAtMost}
 use Rattle.shogi_search.specs.Threats.{IsAttacked, TakesAfter}
 use Rattle.minimax.specs.Minimax.{value, worth, negated, if_no_move_else, lost_value, greatest_or}
 use Rattle.minimax.specs.Window.{threshold}
 use Rattle.minimax.proofs.Greatest.{greatest_or-above}
 use Rattle.minimax.proofs.MinimaxLaws.{value-leaf, value-suc}
 use Rattle.minimax.proofs.Valid.{after_valid, board_of, drop_of}
-
--- what is so of each kind
-pub by_kind : (fact : Kind → Type 0) → fact kinds.Pawn → fact kinds.Lance → fact kinds.Knight → fact kinds.Silver → fact kinds.Gold → fact kinds.Bishop → fact kinds.Rook → (kind : Kind) → fact kind
-by_kind fact p l n s g b r kinds.Pawn = p
-by_kind fact p l n s g b r kinds.Lance = l
-by_kind fact p l n s g b r kinds.Knight = n
-by_kind fact p l n s g b r kinds.Silver = s
-by_kind fact p l n s g b r kinds.Gold = g
-by_kind fact p l n s g b r kinds.Bishop = b
-by_kind fact p l n s g b r kinds.Rook = r
 
 -- a move changes nothing in the other side's hand, so after it no drop loses more
 loses_after : (p : Shogi) (e : Eval) (loss : ℤ) (m : Move) → LosesAtMost p.hands (opponent_of p.side) e loss → LosesAtMost (after p m).hands (opponent_of p.side) e loss

@@ -27,7 +27,8 @@ use Rattle.shogi_moves.proofs.LegalLaws.{is_legal_code_of, after_code_of}
 use Rattle.shogi_eval.specs.declared.eval.Eval.{Eval}
 use Rattle.shogi_eval.specs.Material.{material_of, taken_gain, promotion_gain, value_of}
 use Rattle.shogi_eval.proofs.Gains.{material_at_board}
-use Rattle.shogi_search.specs.Losses.{LosesAtMost, PromotesWithin}
+use Rattle.shogi_eval.specs.Losses.{LosesAtMost}
+use Rattle.shogi_search.specs.Losses.{PromotesWithin}
 use Rattle.minimax.specs.Minimax.{worth, negated, sum_of_tree_sizes}
 use Rattle.minimax.specs.Window.{threshold, IsCovered}
 use Rattle.shogi_search.specs.Order.{todo}

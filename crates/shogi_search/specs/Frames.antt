@@ -10,7 +10,7 @@ use Rattle.shogi_replies.specs.Threats.{KeepsThreats, MayRetake}
 use Rattle.shogi_search.specs.declared.frame.Frame.{Frame}
 use Rattle.minimax.specs.declared.entry.Entry.{Entry}
 use Rattle.minimax.specs.Entries.{IsCutoff}
-use Rattle.shogi_search.specs.Losses.{LosesAtMost}
+use Rattle.shogi_eval.specs.Losses.{LosesAtMost}
 use Rattle.minimax.specs.Minimax.{worth, IsTrueEntry, negated}
 use Rattle.shogi_search.specs.Firsts.{with_each, with_some}
 use Rattle.shogi_search.specs.Order.{todo}

@@ -1,59 +1,12 @@
-//! What a drop takes from the material of its side, and what a quiet move adds to it, at most.
+//! What a quiet move adds to the material of its side, at most.
 
-ghost use Rattle.std.specs.Prelude.{◌≡◌, ◌≤◌, ◌<◌, ◌≤ℤ◌, pos};
-ghost use Rattle.shogi_eval.specs.Material.{drop_gain};
-ghost use Rattle.shogi_search.specs.Losses.{LosesAtMost, KindLosesAtMost, PromotesWithin};
+ghost use Rattle.shogi_search.specs.Losses.{PromotesWithin};
 
-use shogi_core::{Color, Kind, Position};
-use shogi_eval::{Eval, drop_gain};
+use shogi_core::Position;
 use shogi_moves::Destinations;
 
 /// The most that a promotion gains, that of a pawn.
 pub const PROMOTION_GAIN_MAX: u32 = 500;
-
-/// The greater of the loss and what a drop of the kind loses under `Hand`, where the side holds
-/// one.
-#[inline(always)]
-fn with_loss_of_kind(p: &Position, side: Color, kind: Kind, loss: u32) -> u32
-    requires most { loss ≤ 100 }
-    ensures kept { loss ≤ result }
-    ensures loss { KindLosesAtMost p.now.hands side Eval.Hand (pos result) kind }
-    ensures most { result ≤ 100 }
-{
-    if p.hand(side, kind) == 0 {
-        return loss;
-    }
-    let other = (0 - drop_gain(Eval::Hand, kind)) as u32;
-    if other > loss { other } else { loss }
-}
-
-/// The most that a drop of the side loses under `Hand`: what one of the dearest kind that it holds
-/// loses.
-fn loss_of_hand(p: &Position, side: Color) -> u32
-    ensures loss { LosesAtMost p.now.hands side Eval.Hand (pos result) }
-    ensures most { result ≤ 100 }
-{
-    let loss = with_loss_of_kind(p, side, Kind::Pawn, 0);
-    let loss = with_loss_of_kind(p, side, Kind::Lance, loss);
-    let loss = with_loss_of_kind(p, side, Kind::Knight, loss);
-    let loss = with_loss_of_kind(p, side, Kind::Silver, loss);
-    let loss = with_loss_of_kind(p, side, Kind::Gold, loss);
-    let loss = with_loss_of_kind(p, side, Kind::Bishop, loss);
-    with_loss_of_kind(p, side, Kind::Rook, loss)
-}
-
-/// The most that a drop of the side loses of its material.
-#[inline(always)]
-pub fn loss_of_drops(p: &Position, side: Color, e: Eval) -> i32
-    ensures loss { LosesAtMost p.now.hands side e result }
-    ensures least { pos 0 ≤ℤ result }
-    ensures most { result ≤ℤ pos 100 }
-{
-    match e {
-        Eval::Plain => 0,
-        Eval::Hand => loss_of_hand(p, side) as i32,
-    }
-}
 
 /// The empty squares, for moves with promotion only where no promotion gains more than this.
 #[inline(always)]

@@ -4,11 +4,12 @@ ghost use Rattle.std.specs.Prelude.{◌≡◌, ◌≤ℤ◌, pos, true, false};
 ghost use Rattle.shogi_moves.specs.Escapes.{AreEscapes};
 
 use crate::frame::{Frame, Waiting};
-use crate::losses::{loss_of_drops, quiet_squares};
+use crate::losses::quiet_squares;
 use crate::move_picker::MovePicker;
 use crate::threat::threats_of;
 use crate::window::threshold_at;
 use shogi_core::Move;
+use shogi_eval::loss_of_drops;
 use shogi_replies::{Replies, escape_squares, leaves_escape};
 
 impl Frame {

@@ -186,6 +186,11 @@ lines_roots question depths_done lines_done =
     pvs_roots question.position question.eval depths_done
     (drop lines_done (listed_at question depths_done))
 
+-- all searches of a `go`, before its first depth
+abbrev pub first_roots : Question → List Root
+first_roots question =
+    roots_of_depths question.position question.eval question.multi_pv 0 question.depth
+
 -- the searches of the depths above the current one
 abbrev pub deeper_roots : Question → ℕ → List Root
 deeper_roots question depths_done =

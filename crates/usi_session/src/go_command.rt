@@ -4,9 +4,8 @@ ghost use Rattle.std.specs.Prelude.{◌≡◌, ◌≢◌, ◌≤◌, ◌<◌, �
 ghost use Rattle.minimax.specs.Minimax.{value, best};
 ghost use Rattle.usi_session.specs.Answer.{bestmove_of};
 ghost use Rattle.usi_session.specs.GoInfos.{move_to_play, move_to_ponder};
-ghost use Rattle.usi_session.specs.RunningGo.{listed_at, infos_left, infos_after, deeper_infos, is_last, is_last_of_depth, is_searching, bestmove_to, cost_of_depths, load_of, reports_of, deeper_roots, roots_of, HasDone, IsSameButForSearch, WritesLine};
+ghost use Rattle.usi_session.specs.RunningGo.{listed_at, infos_left, infos_after, deeper_infos, is_last, is_last_of_depth, is_searching, bestmove_to, cost_of_depths, load_of, reports_of, deeper_roots, first_roots, roots_of, HasDone, IsSameButForSearch, WritesLine};
 ghost use Rattle.usi_session.specs.Walked.{IsQuestionInRange, IsFirst, IsRankedTo, IsRankedUpTo, IsRanked, BeginsLine, IsSearchedAlong, IsFoundOfChild, IsAtFirstLine, first_root_move, first_search, child_search, cost_after, walk_cost, walk_roots, roots_after, LeavesLoad, LeavesRoots};
-ghost use Rattle.usi_session.specs.Roots.{roots_of_depths};
 ghost use Rattle.usi_session.specs.Told.{TellsEnded};
 ghost use Rattle.usi_session.specs.WholeLines.{GrowsByLines};
 
@@ -236,8 +235,7 @@ impl<A: Allocator> GoCommand<A> {
         requires first { IsFirst question.position first }
         ensures done { IfOk result (HasDone question 0 0) }
         ensures load { IfOk result (λ go. load_of go ≤ cost_of_depths question 0 question.depth) }
-        ensures roots { IfOk result (λ go. roots_of go ≡ roots_of_depths question.position question.eval
-            question.multi_pv 0 question.depth) }
+        ensures roots { IfOk result (λ go. roots_of go ≡ first_roots question) }
     {
         let asked = question;
         first.validity();
@@ -277,7 +275,8 @@ impl<A: Allocator> GoCommand<A> {
         ensures most { IfSome result (λ made. made ≤ budget) }
         ensures made { IfSome result (λ made. made + load_of self.new ≤ load_of self.old) }
         ensures fewer { OnSome result (load_of self.new < load_of self.old) }
-        ensures told { TellsEnded M.called memo.old memo.new (roots_of self.old) (roots_of self.new) }
+        ensures told { TellsEnded M.called memo.old memo.new (roots_of self.old)
+            (roots_of self.new) }
         ensures capacity { M.capacity memo.new ≡ M.capacity memo.old }
     {
         let before = self.search.steps();
