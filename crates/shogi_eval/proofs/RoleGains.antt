@@ -5,7 +5,7 @@ use Rattle.shogi_core.specs.declared.piece.Role.TheVariants.{King, Pawn, Lance, 
 use Rattle.shogi_core.specs.Pieces.{kind_of, promoted}
 use Rattle.shogi_core.specs.Same.{role_number}
 use Rattle.shogi_eval.specs.declared.eval.Eval.TheVariants.{Plain, Hand}
-use Rattle.shogi_eval.specs.declared.gain.TheConstants.{PLAIN_GAINS, HAND_GAINS, PROMOTION_GAINS}
+use Rattle.shogi_eval.specs.declared.gain.TheConstants.{PLAIN_GAINS, HAND_GAINS, PROMOTION_GAIN_MAX, PROMOTION_GAINS}
 use Rattle.shogi_eval.specs.declared.points.TheConstants.{PIECE_VALUE_MAX}
 use Rattle.shogi_eval.specs.Material.{value_of, value_of_captured}
 
@@ -89,7 +89,7 @@ promotion_gain PromotedSilver = refl
 promotion_gain Horse = refl
 promotion_gain Dragon = refl
 
-pub promotion_range : (role : Role) → get_or PROMOTION_GAINS (role_number role) 0 ≤ PIECE_VALUE_MAX
+pub promotion_range : (role : Role) → get_or PROMOTION_GAINS (role_number role) 0 ≤ PROMOTION_GAIN_MAX
 promotion_range King = omega arith
 promotion_range Pawn = omega arith
 promotion_range Lance = omega arith

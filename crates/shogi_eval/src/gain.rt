@@ -1,6 +1,7 @@
 //! What a move does to the material.
 
 ghost use Rattle.std.specs.Prelude.{◌≡◌, ◌≤◌, ◌*◌, ◌≤ℤ◌, ◌-ℤ◌, pos, true};
+ghost use Rattle.shogi_eval.specs.declared.gain.TheConstants.{PROMOTION_GAIN_MAX};
 ghost use Rattle.shogi_eval.specs.declared.points.TheConstants.{PIECE_VALUE_MAX};
 ghost use Rattle.shogi_moves.specs.After.{after};
 ghost use Rattle.shogi_moves.specs.Legal.{is_legal};
@@ -9,6 +10,9 @@ ghost use Rattle.shogi_eval.specs.Material.{material_of, value_of_captured, take
 use crate::eval::Eval;
 use crate::points::{value_in_hand, value_of};
 use shogi_core::{Kind, Move, Piece, Position, Role};
+
+/// The most that a promotion gains, in points: that of a pawn.
+pub const PROMOTION_GAIN_MAX: u32 = 500;
 
 // What a capture gains of each role, and what its promotion gains, in the order in which roles are
 // declared.
@@ -39,7 +43,7 @@ pub fn taken_gain(e: Eval, cell: Option<Piece>) -> u32
 #[tactic(auto, using(crate::proofs::RoleGains::gains))]
 pub fn promotion_gain(cell: Option<Piece>, promote: bool) -> u32
     ensures value { result ≡ promotion_gain promote cell }
-    ensures range { result ≤ PIECE_VALUE_MAX }
+    ensures range { result ≤ PROMOTION_GAIN_MAX }
 {
     match cell {
         None => 0,
