@@ -3,7 +3,7 @@ use Rattle.std.proofs.Common.{◌≡◌, ◌<◌, ◌-◌, ◌^◌, ℕ, Bool, t
 use Rattle.std.proofs.lemmas.Bool.{and_parts, and_from, both_ways, or_parts, true_from_ne_false}
 use Rattle.shogi_core.specs.declared.moves.Move.TheVariants.{Board}
 use Rattle.shogi_core.specs.Bits.{has_bit, IsMaskOf}
-use Rattle.shogi_core.specs.Cell.{is_king, is_piece_of}
+use Rattle.shogi_core.specs.Cell.{is_king}
 use Rattle.shogi_core.specs.Codes.{code_of}
 use Rattle.shogi_core.specs.Movement.{piece_at, reaches}
 use Rattle.shogi_core.specs.Position.{Shogi}
@@ -13,27 +13,26 @@ use Rattle.shogi_core.proofs.LineBits.{has_bit-not}
 use Rattle.shogi_core.proofs.CodesBack.{move_of-board}
 use Rattle.shogi_moves.specs.CheckInfo.{IsCheckInfo}
 use Rattle.shogi_moves.specs.Destinations.{is_unchecked}
-use Rattle.shogi_moves.specs.Legal.{is_legal_code, is_pseudo_legal_board_move}
+use Rattle.shogi_moves.specs.Legal.{is_pseudo_legal_board_move}
 use Rattle.shogi_moves.proofs.DestinationLaws.{legal_board, no_answer, unchecked_either}
 use Rattle.shogi_moves.proofs.LegalLaws.{is_legal_code_of}
-use Rattle.last_ply.specs.LastPly.{HasNoneFrom}
+use Rattle.last_ply.specs.LastPly.{is_legal_board_move, is_own, HasNoneFrom, HasReachers, OnEach, OnRest}
 use Rattle.last_ply.proofs.Scores.{legal_parts}
 use Rattle.last_ply.proofs.Squares.{out_within}
 
 -- a legal move of what is no king ends where the check is answered
-answers_on : (p : Shogi) (checked : Bool) (pinned_or_king from n : ℕ) (promote : Bool) → IsValid p → IsCheckInfo p checked pinned_or_king → checked ≡ true → from < 81 → n < 81 → is_piece_of p.side (piece_at p.cells from) ≡ true → is_king p.side (piece_at p.cells from) ≡ false
-    → is_legal_code p (code_of (Board from n promote)) ≡ true → has_bit pinned_or_king n ≡ true
+answers_on : (p : Shogi) (checked : Bool) (pinned_or_king from n : ℕ) (promote : Bool) → IsValid p → IsCheckInfo p checked pinned_or_king → checked ≡ true → from < 81 → n < 81 → is_own p from ≡ true → is_king p.side (piece_at p.cells from) ≡ false
+    → is_legal_board_move p from n promote ≡ true → has_bit pinned_or_king n ≡ true
 answers_on p checked pinned_or_king from n promote v g check hf hn own plain l =
     let legal = sym (is_legal_code_of p (code_of (Board from n promote)) (Board from n promote) (move_of-board from n promote hf hn) ∙ legal_board p from n promote) ∙ l in
     let safe : is_unchecked p (Board from n promote) ≡ true = (and_parts (is_pseudo_legal_board_move p.cells p.side from n promote) (is_unchecked p (Board from n promote)) legal).1 in
     true_from_ne_false (has_bit pinned_or_king n) (λ out. both_ways (is_unchecked p (Board from n false)) (no_answer p checked pinned_or_king from n g check v.cells_fit hf hn own plain out) (sym (unchecked_either p from n promote v.cells_fit hn own) ∙ safe))
 
-pub none_without_answer : (p : Shogi) (checked : Bool) (pinned_or_king own kings reaching : ℕ) → IsValid p → IsCheckInfo p checked pinned_or_king → checked ≡ true → IsMaskOf own (λ n. is_piece_of p.side (piece_at p.cells n)) → ((n : ℕ) → n < 81 → has_bit kings n ≡ is_king p.side (piece_at p.cells n))
-    → ((n t : ℕ) → n < 81 → t < 81 → has_bit reaching n ≡ false → has_bit (bit_and pinned_or_king (2 ^ 128 - 1 - own)) t ≡ true → reaches p.cells n t ≡ true → ⊥)
-    → (n : ℕ) → n < 81 → has_bit own n ≡ true → has_bit (bit_and own (bit_or kings reaching)) n ≡ false → HasNoneFrom p n
+pub none_without_answer : (p : Shogi) (checked : Bool) (pinned_or_king own kings reaching : ℕ) → IsValid p → IsCheckInfo p checked pinned_or_king → checked ≡ true → IsMaskOf own (is_own p) → ((n : ℕ) → n < 81 → has_bit kings n ≡ is_king p.side (piece_at p.cells n))
+    → OnEach (bit_and pinned_or_king (2 ^ 128 - 1 - own)) (HasReachers p.cells reaching) → OnRest own (bit_and own (bit_or kings reaching)) (HasNoneFrom p)
 none_without_answer p checked pinned_or_king own kings reaching v g check owns crowns far n h mine out to promote ht l =
     let two = or_parts (has_bit kings n) (has_bit reaching n) (sym (has_bit-or kings reaching n) ∙ out_within own (bit_or kings reaching) n mine out) in
     let parts = legal_parts p n to promote h ht l in
     let there : has_bit pinned_or_king to ≡ true = answers_on p checked pinned_or_king n to promote v g check h ht (sym (owns.0 n h) ∙ mine) (sym (crowns n h) ∙ two.0) l in
     let free : has_bit own to ≡ false = owns.0 to ht ∙ parts.1 in
-    far n to h ht two.1 (has_bit-and pinned_or_king (2 ^ 128 - 1 - own) to ∙ and_from _ _ there (has_bit-not own to (omega (arith, owns.1)) (omega arith) ∙ ap not free)) parts.0
+    both_ways (reaches p.cells n to) (far to ht (has_bit-and pinned_or_king (2 ^ 128 - 1 - own) to ∙ and_from _ _ there (has_bit-not own to (omega (arith, owns.1)) (omega arith) ∙ ap not free)) n h two.1) parts.0

@@ -22,7 +22,7 @@ use Rattle.minimax.proofs.MinimaxLaws.{value-above, value_within, Within, leaf_s
 use Rattle.minimax.proofs.Greatest.{greatest_or-least}
 use Rattle.minimax.proofs.Left.{IsFound, found_best, left_lost}
 use Rattle.minimax.proofs.Valid.{after_valid}
-use Rattle.last_ply.specs.LastPly.{score_at, LeavesNone, LeavesSome, HasScore, ScoresAtMost, HasMate, HasNoMate, IsLeast, IsNoLoss}
+use Rattle.last_ply.specs.LastPly.{score_at, LeavesNone, LeavesSome, HasScore, ScoresAtMost, HasMate, HasNoMate, IsLeast, IsNoLoss, IsFirstMate}
 
 -- a list is empty or not
 pub some_or_none : (xs : List ℕ) → (xs ≡ []) ⊎ (xs ≢ [])
@@ -119,7 +119,7 @@ covered p e v b i is most first = record {
 }
 
 -- the value and the best move, where a mate is the first one
-pub mate_found : (p : Shogi) (e : Eval) (m : Move) → IsValid p → move_of (code_of m) ≡ Some m → IsLeast p (LeavesNone p) (code_of m) → IsFound p e 1 MATE (Some m)
+pub mate_found : (p : Shogi) (e : Eval) (m : Move) → IsValid p → move_of (code_of m) ≡ Some m → IsFirstMate p (code_of m) → IsFound p e 1 MATE (Some m)
 mate_found p e m ok back l =
     found_best p e 1 MATE MATE [] m (Some m) (omega arith) (legal_rising p 0) back refl refl
     (covered p e MATE (code_of m) l.listed (worth_none p e (code_of m) l.met) (λ n i. (scored p e n ok i).most) (λ n i lt q. l.least n i lt (mates n i q)))

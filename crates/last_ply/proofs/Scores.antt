@@ -39,10 +39,10 @@ use Rattle.shogi_eval.proofs.Gains.{material_after_board, material_after_drop}
 use Rattle.minimax.proofs.Valid.{drop_of}
 use Rattle.last_ply.specs.declared.gains.TheConstants.{PROMOTION_GAIN_MAX}
 use Rattle.last_ply.proofs.Squares.{left_clear}
-use Rattle.last_ply.specs.LastPly.{score_at, HasScore, ScoresAtMost, ScoresFromAtMost, ScoresAmongAtMost}
+use Rattle.last_ply.specs.LastPly.{is_legal_board_move, is_own, score_at, HasScore, ScoresAtMost, ScoresFromAtMost, ScoresAmongAtMost, OnOwn}
 
 -- what the move on the board of a code scores
-pub score_board : (p : Shogi) (e : Eval) (from to : ℕ) (promote : Bool) → IsValid p → from < 81 → to < 81 → is_legal_code p (code_of (Board from to promote)) ≡ true
+pub score_board : (p : Shogi) (e : Eval) (from to : ℕ) (promote : Bool) → IsValid p → from < 81 → to < 81 → is_legal_board_move p from to promote ≡ true
     → score_at p e (code_of (Board from to promote)) ≡ (material_of p e +ℤ pos (taken_gain e (piece_at p.cells to) + promotion_gain promote (piece_at p.cells from)))
 score_board p e from to promote v hf ht l =
     let back : move_of (code_of (Board from to promote)) ≡ Some (Board from to promote) = move_of-board from to promote hf ht in
@@ -67,7 +67,7 @@ plain_gain None = refl
 plain_gain (Some piece) = refl
 
 -- a move that takes nothing and does not promote scores what the node has
-pub score_quiet : (p : Shogi) (e : Eval) (from to : ℕ) → IsValid p → from < 81 → to < 81 → is_legal_code p (code_of (Board from to false)) ≡ true → is_piece_of (opponent_of p.side) (piece_at p.cells to) ≡ false → score_at p e (code_of (Board from to false)) ≡ material_of p e
+pub score_quiet : (p : Shogi) (e : Eval) (from to : ℕ) → IsValid p → from < 81 → to < 81 → is_legal_board_move p from to false ≡ true → is_piece_of (opponent_of p.side) (piece_at p.cells to) ≡ false → score_at p e (code_of (Board from to false)) ≡ material_of p e
 score_quiet p e from to v hf ht l free =
     let back : move_of (code_of (Board from to false)) ≡ Some (Board from to false) = move_of-board from to false hf ht in
     let legal : is_legal p (Board from to false) ≡ true = sym (is_legal_code_of p (code_of (Board from to false)) (Board from to false) back) ∙ l in
@@ -79,7 +79,7 @@ score_quiet p e from to v hf ht l free =
     omega (arith, ints, law, taken, promotion)
 
 -- what a legal move on the board obeys
-pub legal_parts : (p : Shogi) (from n : ℕ) (promote : Bool) → from < 81 → n < 81 → is_legal_code p (code_of (Board from n promote)) ≡ true → (reaches p.cells from n ≡ true) × (is_piece_of p.side (piece_at p.cells n) ≡ false) × ((not promote || may_promote (piece_at p.cells from) from n) ≡ true)
+pub legal_parts : (p : Shogi) (from n : ℕ) (promote : Bool) → from < 81 → n < 81 → is_legal_board_move p from n promote ≡ true → (reaches p.cells from n ≡ true) × (is_own p n ≡ false) × ((not promote || may_promote (piece_at p.cells from) from n) ≡ true)
 legal_parts p from n promote hf h l =
     let legal = sym (is_legal_code_of p (code_of (Board from n promote)) (Board from n promote) (move_of-board from n promote hf h) ∙ legal_board p from n promote) ∙ l in
     let four = and_parts _ _ (and_parts (is_pseudo_legal_board_move p.cells p.side from n promote) (is_unchecked p (Board from n promote)) legal).0 in
@@ -89,16 +89,16 @@ legal_parts p from n promote hf h l =
 
 -- what a piece's captures and promotions score at most, all its moves do, where the node has no more
 pub from_ends : (p : Shogi) (e : Eval) (from targets enters foe zone : ℕ) (floor first last : ℤ) → IsValid p → from < 81
-    → ((n : ℕ) → n < 81 → has_bit targets n ≡ reaches p.cells from n) → ((n : ℕ) → n < 81 → has_bit enters n ≡ not (is_piece_of p.side (piece_at p.cells n)))
+    → ((n : ℕ) → n < 81 → has_bit targets n ≡ reaches p.cells from n) → ((n : ℕ) → n < 81 → has_bit enters n ≡ not (is_own p n))
     → ((n : ℕ) → n < 81 → has_bit foe n ≡ is_piece_of (opponent_of p.side) (piece_at p.cells n)) → ((n : ℕ) → n < 81 → has_bit zone n ≡ may_promote (piece_at p.cells from) from n)
     → ScoresAmongAtMost p e from false (bit_and (bit_and targets enters) foe) first → ScoresAmongAtMost p e from true (bit_and (bit_and targets enters) zone) last
     → material_of p e ≤ℤ floor → floor ≤ℤ first → first ≤ℤ last → ScoresFromAtMost p e from last
 from_ends p e from targets enters foe zone floor first last v hf tb eb fb zb takes promotes base up more n promote h l = go promote l
   where
-    end : (promote : Bool) → is_legal_code p (code_of (Board from n promote)) ≡ true → has_bit (bit_and targets enters) n ≡ true
+    end : (promote : Bool) → is_legal_board_move p from n promote ≡ true → has_bit (bit_and targets enters) n ≡ true
     end promote l = (let parts = legal_parts p from n promote hf h l in has_bit-and targets enters n ∙ and_from _ _ (tb n h ∙ parts.0) (eb n h ∙ ap not parts.1))
 
-    go : (promote : Bool) → is_legal_code p (code_of (Board from n promote)) ≡ true → score_at p e (code_of (Board from n promote)) ≤ℤ last
+    go : (promote : Bool) → is_legal_board_move p from n promote ≡ true → score_at p e (code_of (Board from n promote)) ≤ℤ last
     go true l = promotes n h (has_bit-and (bit_and targets enters) zone n ∙ and_from _ _ (end true l) (zb n h ∙ (legal_parts p from n true hf h l).2)) l
     go false l = elim (cases_Bool (has_bit foe n)) [
       | inl set ↦ (let s : score_at p e (code_of (Board from n false)) ≤ℤ first = takes n h (has_bit-and (bit_and targets enters) foe n ∙ and_from _ _ (end false l) set) l in omega (arith, ints))
@@ -113,7 +113,7 @@ none_among p e from a b v none = (λ n h set l. absurd (both_ways (has_bit a n) 
     out n = or_parts _ _ (sym (has_bit-or a b n) ∙ (ap (λ (m : ℕ). has_bit m n) none ∙ has_bit-none n))
 
 -- ends among the squares that the piece reaches and may enter
-pub enters_some : (p : Shogi) (from targets enters squares : ℕ) → ((n : ℕ) → n < 81 → has_bit targets n ≡ reaches p.cells from n) → ((n : ℕ) → n < 81 → has_bit enters n ≡ not (is_piece_of p.side (piece_at p.cells n)))
+pub enters_some : (p : Shogi) (from targets enters squares : ℕ) → ((n : ℕ) → n < 81 → has_bit targets n ≡ reaches p.cells from n) → ((n : ℕ) → n < 81 → has_bit enters n ≡ not (is_own p n))
     → AreEnterable p from (bit_and (bit_and targets enters) squares)
 enters_some p from targets enters squares tb eb n h set = all_ways targets enters n _ _ (tb n h) (eb n h) (and_parts _ _ (sym (has_bit-and (bit_and targets enters) squares n) ∙ set)).0
 
@@ -138,7 +138,7 @@ score_drop p e kind to code v ht back l =
     omega (arith, ints, law, at)
 
 -- what the moves of each of the side's pieces score at most, all moves do, where the node has no more
-pub all_most : (p : Shogi) (e : Eval) (v : ℤ) → IsValid p → material_of p e ≤ℤ v → ((from : ℕ) → from < 81 → is_piece_of p.side (piece_at p.cells from) ≡ true → ScoresFromAtMost p e from v) → ScoresAtMost p e v
+pub all_most : (p : Shogi) (e : Eval) (v : ℤ) → IsValid p → material_of p e ≤ℤ v → OnOwn p (λ from. ScoresFromAtMost p e from v) → ScoresAtMost p e v
 all_most p e v ok base each code i =
     let legal : is_legal_code p code ≡ true = legal_in p 0 code i in
     let below : code < MOVE_CODE_COUNT = legal_code_below p code legal in
@@ -146,7 +146,7 @@ all_most p e v ok base each code i =
       | inl low ↦ (
           let same : code_of (Board (code / 2 / 81) (code / 2 % 81) (code % 2 == 1)) ≡ code = code_of-board code in
           let f : code / 2 / 81 < 81 = omega arith in
-          let own : is_piece_of p.side (piece_at p.cells (code / 2 / 81)) ≡ true = true_from_ne_false (is_piece_of p.side (piece_at p.cells (code / 2 / 81))) (λ out. both_ways (is_legal_code p code) (no_piece p (code / 2 / 81) code f out (omega arith) (omega arith)) legal) in
+          let own : is_own p (code / 2 / 81) ≡ true = true_from_ne_false (is_own p (code / 2 / 81)) (λ out. both_ways (is_legal_code p code) (no_piece p (code / 2 / 81) code f out (omega arith) (omega arith)) legal) in
           subst (λ (x : ℕ). score_at p e x ≤ℤ v) same (each (code / 2 / 81) f own (code / 2 % 81) (code % 2 == 1) (omega arith) (ap (is_legal_code p) same ∙ legal)))
       | inr high ↦ (let s : score_at p e code ≤ℤ material_of p e = score_drop p e (kind_at ((code - FIRST_DROP) / 81)) ((code - FIRST_DROP) % 81) code ok (omega arith) (drop_of code high below) legal in omega (arith, ints))
     ]
@@ -156,15 +156,15 @@ weaker p e from v w h up n promote below legal = let s : score_at p e (code_of (
 
 -- what holds of the pieces gone through and of one more holds of them all
 pub one_more_piece : (p : Shogi) (e : Eval) (left next k : ℕ) (old new kept : ℤ) → ((i : ℕ) → has_bit next i ≡ (has_bit left i && not (i == k)))
-    → ((n : ℕ) → n < 81 → is_piece_of p.side (piece_at p.cells n) ≡ true → has_bit left n ≡ false → ScoresFromAtMost p e n old) → old ≤ℤ new → kept ≡ new → ScoresFromAtMost p e k new
-    → (n : ℕ) → n < 81 → is_piece_of p.side (piece_at p.cells n) ≡ true → has_bit next n ≡ false → ScoresFromAtMost p e n kept
+    → OnOwn p (λ n. has_bit left n ≡ false → ScoresFromAtMost p e n old) → old ≤ℤ new → kept ≡ new → ScoresFromAtMost p e k new
+    → OnOwn p (λ n. has_bit next n ≡ false → ScoresFromAtMost p e n kept)
 one_more_piece p e left next k old new kept bits all up same here n h own out = elim (cases_eq n k) [
   | inl at ↦ subst (λ (x : ℕ). ScoresFromAtMost p e x kept) (sym at) (weaker p e k new kept here (omega (arith, ints)))
   | inr other ↦ weaker p e n old kept (all n h own (left_clear left next k n bits other out)) (omega (arith, ints))
 ]
 
 -- a legal move on the board scores no less than the node has
-pub board_score : (p : Shogi) (e : Eval) (from to : ℕ) (promote : Bool) → IsValid p → from < 81 → to < 81 → is_legal_code p (code_of (Board from to promote)) ≡ true → HasScore p e (material_of p e)
+pub board_score : (p : Shogi) (e : Eval) (from to : ℕ) (promote : Bool) → IsValid p → from < 81 → to < 81 → is_legal_board_move p from to promote ≡ true → HasScore p e (material_of p e)
 board_score p e from to promote v hf ht l =
     let law : _ = score_board p e from to promote v hf ht l in
     record { code = code_of (Board from to promote); listed = in_legal p 0 (code_of (Board from to promote)) (omega arith) l; at_least = omega (arith, ints, law) }
@@ -181,7 +181,7 @@ quiet_piece p e from v hf takes promotes n false h l =
     omega (arith, ints)
 
 -- so does one that is among neither kind of mask
-pub quiet_others : (p : Shogi) (e : Eval) (own takes zone sliders n : ℕ) → IsValid p → n < 81 → ((i : ℕ) → i < 81 → has_bit own i ≡ is_piece_of p.side (piece_at p.cells i)) → HasMovers p true own takes → ((i : ℕ) → i < 81 → has_bit zone i ≡ is_near_zone p.side i) → ((i : ℕ) → i < 81 → has_bit sliders i ≡ is_slider (piece_at p.cells i))
+pub quiet_others : (p : Shogi) (e : Eval) (own takes zone sliders n : ℕ) → IsValid p → n < 81 → ((i : ℕ) → i < 81 → has_bit own i ≡ is_own p i) → HasMovers p true own takes → ((i : ℕ) → i < 81 → has_bit zone i ≡ is_near_zone p.side i) → ((i : ℕ) → i < 81 → has_bit sliders i ≡ is_slider (piece_at p.cells i))
     → has_bit own n ≡ true → has_bit (bit_or takes (bit_and own (bit_or zone sliders))) n ≡ false → ScoresFromAtMost p e n (material_of p e)
 quiet_others p e own takes zone sliders n v h ob m zb sb set out =
     let two = or_parts (has_bit takes n) (has_bit (bit_and own (bit_or zone sliders)) n) (sym (has_bit-or takes (bit_and own (bit_or zone sliders)) n) ∙ out) in

@@ -6,20 +6,51 @@ use Rattle.shogi_core.specs.declared.piece.Kind.{Kind}
 use Rattle.shogi_core.specs.declared.piece.Piece.{Piece}
 use Rattle.shogi_core.specs.Below.{some_below}
 use Rattle.shogi_core.specs.Bits.{has_bit, IsMaskOf}
+use Rattle.shogi_core.specs.Cell.{is_piece_of}
 use Rattle.shogi_core.specs.Codes.{code_of}
-use Rattle.shogi_core.specs.Movement.{Cells, cell_reaches, piece_at}
+use Rattle.shogi_core.specs.Movement.{Cells, cell_reaches, piece_at, reaches}
 use Rattle.shogi_core.specs.Position.{Shogi}
 use Rattle.shogi_moves.specs.After.{after_code}
 use Rattle.shogi_moves.specs.Destinations.{AreEnterable}
 use Rattle.shogi_moves.specs.Legal.{is_legal_code}
 use Rattle.shogi_moves.specs.LegalMoves.{legal_codes}
 use Rattle.shogi_moves.specs.Rising.{is_in}
+use Rattle.shogi_replies.specs.Replies.{IsAnswered}
 use Rattle.shogi_eval.specs.declared.eval.Eval.{Eval}
 use Rattle.shogi_eval.specs.Evaluated.{Evaluated}
 use Rattle.shogi_eval.specs.Material.{material_of, taken_gain}
 use Rattle.minimax.specs.Minimax.{negated, lost_value, IsTrueEntry}
 use Rattle.minimax.specs.declared.entry.Entry.{Entry}
 use Rattle.last_ply.specs.declared.gains.TheConstants.{PROMOTION_GAIN_MAX}
+
+-- a piece of the side to move stands on the square
+abbrev pub is_own : Shogi → ℕ → Bool
+is_own p n = is_piece_of p.side (piece_at p.cells n)
+
+-- the move of what stands on the square to another one is legal, promoting or not
+abbrev pub is_legal_board_move : Shogi → ℕ → ℕ → Bool → Bool
+is_legal_board_move p from to promote = is_legal_code p (code_of (Board from to promote))
+
+-- of each square of a mask this holds
+abbrev pub OnEach : ℕ → (ℕ → Type 0) → Type 0
+OnEach mask fact = (n : ℕ) → n < 81 → has_bit mask n ≡ true → fact n
+
+-- of each square outside a mask
+abbrev pub Outside : ℕ → (ℕ → Type 0) → Type 0
+Outside mask fact = (n : ℕ) → n < 81 → has_bit mask n ≡ false → fact n
+
+-- of each one of the squares that a mask lacks
+abbrev pub OnRest : ℕ → ℕ → (ℕ → Type 0) → Type 0
+OnRest squares mask fact =
+    (n : ℕ) → n < 81 → has_bit squares n ≡ true → has_bit mask n ≡ false → fact n
+
+-- of each piece of the side to move, by its square
+abbrev pub OnOwn : Shogi → (ℕ → Type 0) → Type 0
+OnOwn p fact = (n : ℕ) → n < 81 → is_own p n ≡ true → fact n
+
+-- what the node has in material
+abbrev pub base_of : Evaluated → ℤ
+base_of node = material_of node.position node.eval
 
 -- what the move of a code scores: the material after it, for its mover
 abbrev pub score_at : Shogi → Eval → ℕ → ℤ
@@ -59,30 +90,54 @@ pub record IsLeast (p : Shogi) (meets : ℕ → Type 0) (code : ℕ) : Type 0 wh
   pub met : meets code
   pub least : (n : ℕ) → is_in n (legal_codes p) ≡ true → n < code → meets n → ⊥
 
+-- of the legal moves that leave the other side none, the code is the least
+abbrev pub IsFirstMate : Shogi → ℕ → Type 0
+IsFirstMate p = IsLeast p (LeavesNone p)
+
 -- no legal move meets this
 abbrev pub NoneMeets : Shogi → (ℕ → Type 0) → Type 0
 NoneMeets p meets = (n : ℕ) → is_in n (legal_codes p) ≡ true → meets n → ⊥
 
 -- what stands on the square has no legal move
 abbrev pub HasNoneFrom : Shogi → ℕ → Type 0
-HasNoneFrom p from = (n : ℕ) (promote : Bool) → n < 81
-    → is_legal_code p (code_of (Board from n promote)) ≡ true → ⊥
+HasNoneFrom p from =
+    (n : ℕ) (promote : Bool) → n < 81 → is_legal_board_move p from n promote ≡ true → ⊥
 
 -- the move scores this
 abbrev pub Scores : Evaluated → ℤ → ℕ → Type 0
 Scores node v code = score_at node.position node.eval code ≡ v
 
+-- of the legal moves that score this, the code is the least
+abbrev pub IsFirstToScore : Evaluated → ℤ → ℕ → Type 0
+IsFirstToScore node v = IsLeast node.position (Scores node v)
+
+-- no legal move scores this
+abbrev pub NoneScores : Evaluated → ℤ → Type 0
+NoneScores node v = NoneMeets node.position (Scores node v)
+
+-- if the move of what stands on the square to another one is legal, it scores this
+abbrev pub ScoresTo : Evaluated → ℤ → ℕ → ℕ → Bool → Type 0
+ScoresTo node v from to promote = is_legal_board_move node.position from to promote ≡ true
+    → Scores node v (code_of (Board from to promote))
+
+-- if it is legal, it scores something else
+abbrev pub ScoresElse : Evaluated → ℤ → ℕ → ℕ → Bool → Type 0
+ScoresElse node v from to promote = is_legal_board_move node.position from to promote ≡ true
+    → Scores node v (code_of (Board from to promote)) → ⊥
+
+-- if it is legal, it scores no more than this
+abbrev pub ScoresToAtMost : Shogi → Eval → ℤ → ℕ → ℕ → Bool → Type 0
+ScoresToAtMost p e v from to promote = is_legal_board_move p from to promote ≡ true
+    → score_at p e (code_of (Board from to promote)) ≤ℤ v
+
 -- no legal move of what stands on the square scores this
 abbrev pub NoneScoresFrom : Evaluated → ℤ → ℕ → Type 0
-NoneScoresFrom node v from = (n : ℕ) (promote : Bool) → n < 81
-    → is_legal_code node.position (code_of (Board from n promote)) ≡ true
-    → Scores node v (code_of (Board from n promote)) → ⊥
+NoneScoresFrom node v from = (n : ℕ) (promote : Bool) → n < 81 → ScoresElse node v from n promote
 
 -- and none of those to a square that the mask lacks
 abbrev pub NoneScoresAmong : Evaluated → ℤ → ℕ → ℕ → Type 0
 NoneScoresAmong node v from mask = (n : ℕ) (promote : Bool) → n < 81 → has_bit mask n ≡ false
-    → is_legal_code node.position (code_of (Board from n promote)) ≡ true
-    → Scores node v (code_of (Board from n promote)) → ⊥
+    → ScoresElse node v from n promote
 
 -- of the legal moves of what stands on the square that score this, the code is the least
 pub record IsFirstFrom (node : Evaluated) (v : ℤ) (from code : ℕ) : Type 0 where
@@ -91,7 +146,7 @@ pub record IsFirstFrom (node : Evaluated) (v : ℤ) (from code : ℕ) : Type 0 w
   pub low : from * SQUARE_CODES ≤ code
   pub high : code < from * SQUARE_CODES + SQUARE_CODES
   pub least : (n : ℕ) (promote : Bool) → n < 81
-      → is_legal_code node.position (code_of (Board from n promote)) ≡ true
+      → is_legal_board_move node.position from n promote ≡ true
       → code_of (Board from n promote) < code → Scores node v (code_of (Board from n promote)) → ⊥
 
 -- a move is legal, or the value is no less than that of a lost position with one ply left
@@ -104,45 +159,61 @@ IsTrueOf node entry = IsTrueEntry node.position node.eval 1 entry
 
 -- the legal moves of what stands on the square score no more than this
 abbrev pub ScoresFromAtMost : Shogi → Eval → ℕ → ℤ → Type 0
-ScoresFromAtMost p e from v = (n : ℕ) (promote : Bool) → n < 81
-    → is_legal_code p (code_of (Board from n promote)) ≡ true
-    → score_at p e (code_of (Board from n promote)) ≤ℤ v
+ScoresFromAtMost p e from v =
+    (n : ℕ) (promote : Bool) → n < 81 → ScoresToAtMost p e v from n promote
 
 -- and those among them to the squares of the mask, promoting or not
 abbrev pub ScoresAmongAtMost : Shogi → Eval → ℕ → Bool → ℕ → ℤ → Type 0
-ScoresAmongAtMost p e from promote mask v = (n : ℕ) → n < 81 → has_bit mask n ≡ true
-    → is_legal_code p (code_of (Board from n promote)) ≡ true
-    → score_at p e (code_of (Board from n promote)) ≤ℤ v
+ScoresAmongAtMost p e from promote mask v = OnEach mask (λ n. ScoresToAtMost p e v from n promote)
 
 -- a capture of what stands on the square scores no more than this, whatever takes and promotes
 abbrev pub TakesTooLittle : Evaluated → ℕ → ℤ → Type 0
 TakesTooLittle node t v =
-    (material_of node.position node.eval
+    (base_of node
     +ℤ pos (taken_gain node.eval (piece_at node.position.cells t) + PROMOTION_GAIN_MAX)) ≤ℤ v
+
+-- neither does one by what stands on another one, if that reaches it
+abbrev pub TakesLittle : Evaluated → ℤ → ℕ → ℕ → Type 0
+TakesLittle node v t n = reaches node.position.cells n t ≡ true → TakesTooLittle node t v
+
+-- what stands outside the mask does not reach the square
+abbrev pub HasReachers : Cells → ℕ → ℕ → Type 0
+HasReachers cells mask t = Outside mask (λ n. reaches cells n t ≡ false)
 
 -- the moves of what stands on the square to those of the mask are legal, promoting or not
 abbrev pub AreLegalEnds : Shogi → ℕ → Bool → ℕ → Type 0
-AreLegalEnds p from promote mask = (n : ℕ) → n < 81 → has_bit mask n ≡ true
-    → is_legal_code p (code_of (Board from n promote)) ≡ true
+AreLegalEnds p from promote mask = OnEach mask (λ n. is_legal_board_move p from n promote ≡ true)
+
+-- the drops of the kind on the squares of the mask are legal
+abbrev pub AreLegalDrops : Shogi → Kind → ℕ → Type 0
+AreLegalDrops p kind mask = OnEach mask (λ n. is_legal_code p (code_of (Drop kind n)) ≡ true)
+
+-- if the move of what stands on the square is legal, it leaves the other side one
+abbrev pub LeavesSomeTo : Shogi → ℕ → ℕ → Bool → Type 0
+LeavesSomeTo p from to promote = is_legal_board_move p from to promote ≡ true
+    → LeavesSome p (code_of (Board from to promote))
 
 -- each legal move of what stands on the square leaves the other side one
 abbrev pub LeaveSomeFrom : Shogi → ℕ → Type 0
-LeaveSomeFrom p from = (n : ℕ) (promote : Bool) → n < 81
-    → is_legal_code p (code_of (Board from n promote)) ≡ true
-    → LeavesSome p (code_of (Board from n promote))
+LeaveSomeFrom p from = (n : ℕ) (promote : Bool) → n < 81 → LeavesSomeTo p from n promote
+
+-- each legal move on the board does
+abbrev pub BoardLeavesSome : Shogi → Type 0
+BoardLeavesSome p = OnOwn p (LeaveSomeFrom p)
 
 -- what stands on the square may go to each square of the mask, promoting or not, and each of its legal moves elsewhere leaves the other side one
 pub record AreDoubtfulEnds (p : Shogi) (from : ℕ) (promote : Bool) (mask : ℕ) : Type 0 where
   pub enterable : AreEnterable p from mask
   pub fits : mask < 2 ^ 81
-  pub others : (n : ℕ) → n < 81 → has_bit mask n ≡ false
-      → is_legal_code p (code_of (Board from n promote)) ≡ true
-      → LeavesSome p (code_of (Board from n promote))
+  pub others : Outside mask (λ n. LeavesSomeTo p from n promote)
 
 -- and each move to a square of the mask, promoting or not
 abbrev pub LeaveSomeAmong : Shogi → ℕ → Bool → ℕ → Type 0
-LeaveSomeAmong p from promote mask =
-    (n : ℕ) → n < 81 → has_bit mask n ≡ true → LeavesSome p (code_of (Board from n promote))
+LeaveSomeAmong p from promote mask = OnEach mask (λ n. LeavesSome p (code_of (Board from n promote)))
+
+-- and each drop of the kind on such a square
+abbrev pub DropsLeaveSomeAmong : Shogi → Kind → ℕ → Type 0
+DropsLeaveSomeAmong p kind mask = OnEach mask (λ n. LeavesSome p (code_of (Drop kind n)))
 
 -- each legal drop of the kind leaves the other side a legal move
 abbrev pub DropsLeaveSome : Shogi → Kind → Type 0
@@ -160,7 +231,16 @@ IsOutOfReach piece from to = (cells : Cells) → cell_reaches cells (Some piece)
 -- the mask has the squares at which the move of the piece is legal, promoting or not
 abbrev pub AreLegalDestinations : Shogi → ℕ → Bool → ℕ → Type 0
 AreLegalDestinations p from promote mask =
-    IsMaskOf mask (λ n. is_legal_code p (code_of (Board from n promote)))
+    IsMaskOf mask (λ n. is_legal_board_move p from n promote)
+
+-- the moves of what stands on the square to the ends that the mask lacks are answered, promoting or not
+abbrev pub AreAnsweredOff : Shogi → ℕ → Bool → ℕ → ℕ → Type 0
+AreAnsweredOff p from promote ends mask =
+    OnRest ends mask (λ n. IsAnswered p (Board from n promote))
+
+-- and so are the drops of the kind on the squares that it lacks
+abbrev pub AreDropsAnsweredOff : Shogi → Kind → ℕ → ℕ → Type 0
+AreDropsAnsweredOff p kind squares mask = OnRest squares mask (λ n. IsAnswered p (Drop kind n))
 
 -- the same of a node
 abbrev pub NodeHasScore : Evaluated → ℤ → Type 0
@@ -168,3 +248,6 @@ NodeHasScore node v = HasScore node.position node.eval v
 
 abbrev pub NodeScoresAtMost : Evaluated → ℤ → Type 0
 NodeScoresAtMost node v = ScoresAtMost node.position node.eval v
+
+abbrev pub NodeScoresFromAtMost : Evaluated → ℤ → ℕ → Type 0
+NodeScoresFromAtMost node v from = ScoresFromAtMost node.position node.eval from v

@@ -1,13 +1,10 @@
 //! What is known of a node with one ply left, within a window.
 
 ghost use Rattle.std.specs.Prelude.{◌≡◌, ◌<◌, ◌^◌, ◌≤ℤ◌, ◌<ℤ◌, IfSome, IsNone, true};
-ghost use Rattle.shogi_core.specs.Cell.{is_piece_of};
-ghost use Rattle.shogi_core.specs.Movement.{piece_at};
-ghost use Rattle.shogi_eval.specs.Material.{material_of};
 ghost use Rattle.minimax.specs.Entries.{IsCutoff};
 ghost use Rattle.minimax.specs.Minimax.{negated, IsTrueEntry};
 ghost use Rattle.minimax.specs.declared.bounds.TheConstants.{INFINITY};
-ghost use Rattle.last_ply.specs.LastPly.{AreLegalEnds, HasNoMate, IsNoLoss, IsTrueOf, NodeHasScore, NodeScoresAtMost};
+ghost use Rattle.last_ply.specs.LastPly.{AreLegalEnds, base_of, HasNoMate, IsNoLoss, IsTrueOf, NodeHasScore, NodeScoresAtMost};
 
 use crate::scene::Scene;
 use minimax::{Entry, MATE};
@@ -22,7 +19,7 @@ impl Scene<'_> {
         requires fits { ends < 2 ^ 81 }
         requires legal { AreLegalEnds self.now.node.now.position from promote ends }
         ensures { result ≡ true → NodeHasScore self.now.node.now
-            (material_of self.now.node.now.position self.now.node.now.eval) }
+            (base_of self.now.node.now) }
     {
         let _ = promote;
         from.validity();
@@ -36,7 +33,7 @@ impl Scene<'_> {
     /// Whether a piece on the board has a legal move, which then scores no less than the node has.
     fn has_board_move(&self) -> bool
         ensures { result ≡ true → NodeHasScore self.now.node.now
-            (material_of self.now.node.now.position self.now.node.now.eval) }
+            (base_of self.now.node.now) }
     {
         let mut left = self.movable();
         while left != 0 {
@@ -128,7 +125,7 @@ impl Scene<'_> {
 
     /// What is known where the node has more than the window's lower end.
     fn above(&self, base: i32, alpha: i32, beta: i32) -> Entry
-        requires base { base ≡ material_of self.now.node.now.position self.now.node.now.eval }
+        requires base { base ≡ base_of self.now.node.now }
         requires above { alpha <ℤ base }
         requires open { alpha <ℤ beta }
         ensures truth { IsTrueOf self.now.node.now result }

@@ -2,15 +2,11 @@
 
 ghost use Rattle.std.specs.Prelude.{◌≡◌, ◌<◌, ◌^◌, ◌≤ℤ◌, ◌<ℤ◌, ℕ, ℤ, true, false, IfSome, IsNone};
 ghost use Rattle.shogi_core.specs.declared.moves.Move.TheVariants as moves;
-ghost use Rattle.shogi_core.specs.Bits.{has_bit};
-ghost use Rattle.shogi_core.specs.Cell.{is_piece_of};
 ghost use Rattle.shogi_core.specs.Codes.{code_of};
-ghost use Rattle.shogi_core.specs.Movement.{piece_at, reaches};
+ghost use Rattle.shogi_core.specs.Movement.{reaches};
 ghost use Rattle.shogi_moves.specs.Destinations.{AreEnterable, IsWithin};
-ghost use Rattle.shogi_moves.specs.Legal.{is_legal_code};
-ghost use Rattle.shogi_eval.specs.Material.{material_of};
 ghost use Rattle.minimax.specs.Entries.{IsCutoff};
-ghost use Rattle.last_ply.specs.LastPly.{HasNoMate, IsFirstFrom, IsLeast, LeavesNone, NoneMeets, NoneScoresAmong, NoneScoresFrom, Scores, NodeHasScore, NodeScoresAtMost, IsTrueOf};
+ghost use Rattle.last_ply.specs.LastPly.{base_of, is_legal_board_move, is_own, HasNoMate, IsFirstFrom, IsFirstMate, IsFirstToScore, NoneScores, NoneScoresAmong, NoneScoresFrom, OnRest, Scores, ScoresElse, NodeHasScore, NodeScoresAtMost, IsTrueOf};
 
 use crate::mates::Outlook;
 use crate::scene::Scene;
@@ -23,8 +19,7 @@ use shogi_moves::Walk;
 impl Scene<'_> {
     /// The legal move of least code that leaves the other side without one.
     pub fn first_mate(&self) -> Option<Move>
-        ensures some { IfSome result (λ m. IsLeast self.now.node.now.position
-            (LeavesNone self.now.node.now.position) (code_of m)) }
+        ensures some { IfSome result (λ m. IsFirstMate self.now.node.now.position (code_of m)) }
         ensures none { IsNone result → HasNoMate self.now.node.now.position }
     {
         let outlook = Outlook::of(self);
@@ -40,18 +35,13 @@ impl Scene<'_> {
     /// Whether the move of one of the side's pieces to a square that it reaches is legal and scores
     /// this.
     fn is_gain(&self, from: Square, to: Square, promote: bool, score: i32) -> bool
-        requires own { is_piece_of self.now.node.now.position.side
-            (piece_at self.now.node.now.position.cells from) ≡ true }
+        requires own { is_own self.now.node.now.position from ≡ true }
         requires reached { reaches self.now.node.now.position.cells from to ≡ true }
-        requires free { is_piece_of self.now.node.now.position.side
-            (piece_at self.now.node.now.position.cells to) ≡ false }
-        ensures legal { result ≡ true → is_legal_code self.now.node.now.position
-            (code_of (moves.Board from to promote)) ≡ true }
+        requires free { is_own self.now.node.now.position to ≡ false }
+        ensures legal { result ≡ true → is_legal_board_move self.now.node.now.position from to promote ≡ true }
         ensures scores { result ≡ true
             → Scores self.now.node.now score (code_of (moves.Board from to promote)) }
-        ensures other { result ≡ false → is_legal_code self.now.node.now.position
-            (code_of (moves.Board from to promote)) ≡ true
-            → Scores self.now.node.now score (code_of (moves.Board from to promote)) → ⊥ }
+        ensures other { result ≡ false → ScoresElse self.now.node.now score from to promote }
     {
         self.score_to(from, to, promote) == score && self.is_end(from, to, promote)
     }
@@ -60,7 +50,7 @@ impl Scene<'_> {
     /// node has: where it is more, those of captures and promotions.
     fn ends_scoring(&self, from: Square, score: i32) -> u128
         ensures reached { AreEnterable self.now.node.now.position from result }
-        ensures others { material_of self.now.node.now.position self.now.node.now.eval ≤ℤ score
+        ensures others { base_of self.now.node.now ≤ℤ score
             → NoneScoresAmong self.now.node.now score from result }
         ensures fits { result < 2 ^ 81 }
     {
@@ -76,9 +66,8 @@ impl Scene<'_> {
     /// The move of least code of one of the side's pieces that is legal and scores this, no less
     /// than the node has.
     fn first_from(&self, from: Square, score: i32) -> Option<Move>
-        requires own { is_piece_of self.now.node.now.position.side
-            (piece_at self.now.node.now.position.cells from) ≡ true }
-        requires least { material_of self.now.node.now.position self.now.node.now.eval ≤ℤ score }
+        requires own { is_own self.now.node.now.position from ≡ true }
+        requires least { base_of self.now.node.now ≤ℤ score }
         ensures some { IfSome result (λ m. IsFirstFrom self.now.node.now score from (code_of m)) }
         ensures none { IsNone result → NoneScoresFrom self.now.node.now score from }
     {
@@ -108,11 +97,10 @@ impl Scene<'_> {
     /// Those of the side's pieces of which a legal move may score this, no less than the node has:
     /// where it is more, those that may take or promote.
     fn pieces_scoring(&self, score: i32) -> u128
-        requires { material_of self.now.node.now.position self.now.node.now.eval ≤ℤ score }
+        requires { base_of self.now.node.now ≤ℤ score }
         ensures within { IsWithin result self.now.own }
         ensures fits { result < 2 ^ 81 }
-        ensures others { (n : ℕ) → n < 81 → has_bit self.now.own n ≡ true → has_bit result n ≡ false
-            → NoneScoresFrom self.now.node.now score n }
+        ensures others { OnRest self.now.own result (NoneScoresFrom self.now.node.now score) }
     {
         if score <= self.node.score() {
             return self.movable();
@@ -122,12 +110,11 @@ impl Scene<'_> {
 
     /// The legal move on the board of least code that scores this, no less than the node has.
     fn first_on_board(&self, score: i32) -> Option<Move>
-        requires { material_of self.now.node.now.position self.now.node.now.eval ≤ℤ score }
-        ensures some { IfSome result (λ m. IsLeast self.now.node.now.position
-            (Scores self.now.node.now score) (code_of m)) }
+        requires { base_of self.now.node.now ≤ℤ score }
+        ensures some { IfSome result (λ m. IsFirstToScore self.now.node.now score (code_of m)) }
         ensures none { IsNone result
-            → material_of self.now.node.now.position self.now.node.now.eval <ℤ score
-            → NoneMeets self.now.node.now.position (Scores self.now.node.now score) }
+            → base_of self.now.node.now <ℤ score
+            → NoneScores self.now.node.now score }
     {
         let mut left = self.pieces_scoring(score);
         while left != 0 {
@@ -142,10 +129,8 @@ impl Scene<'_> {
 
     /// The legal move of least code that scores this.
     pub fn first_with(&self, score: i32) -> Option<Move>
-        ensures some { IfSome result (λ m. IsLeast self.now.node.now.position
-            (Scores self.now.node.now score) (code_of m)) }
-        ensures none { IsNone result → NoneMeets self.now.node.now.position
-            (Scores self.now.node.now score) }
+        ensures some { IfSome result (λ m. IsFirstToScore self.now.node.now score (code_of m)) }
+        ensures none { IsNone result → NoneScores self.now.node.now score }
     {
         let base = self.node.score();
         if score >= base {

@@ -1,21 +1,20 @@
 //! What the legal moves of a node score at most.
 
 ghost use Rattle.std.specs.Prelude.{◌≡◌, ◌<◌, ◌≤◌, ◌^◌, ◌+◌, ◌*◌, ◌≤ℤ◌, ◌<ℤ◌, ◌-ℤ◌, ◌+ℤ◌, pos, true, false, ℕ, Option};
-ghost use Rattle.shogi_core.specs.declared.moves.Move.TheVariants as moves;
 ghost use Rattle.shogi_core.specs.declared.piece.Piece as pieces;
-ghost use Rattle.shogi_core.specs.Bits.{IsMaskOf, has_bit};
-ghost use Rattle.shogi_core.specs.Cell.{is_piece_of, is_slider};
+ghost use Rattle.shogi_core.specs.Bits.{IsMaskOf};
+ghost use Rattle.shogi_core.specs.Cell.{is_slider};
 ghost use Rattle.shogi_core.specs.Codes.{code_of};
 ghost use Rattle.shogi_core.specs.Lines.{is_near};
-ghost use Rattle.shogi_core.specs.Movement.{piece_at, reaches};
+ghost use Rattle.shogi_core.specs.Movement.{reaches};
 ghost use Rattle.shogi_moves.specs.Destinations.{AreEnterable, IsWithin};
-ghost use Rattle.shogi_moves.specs.Legal.{is_legal, is_legal_code};
+ghost use Rattle.shogi_moves.specs.Legal.{is_legal};
 ghost use Rattle.shogi_moves.specs.LegalMoves.{legal_codes};
 ghost use Rattle.shogi_moves.specs.Rising.{is_in};
 ghost use Rattle.shogi_eval.specs.declared.points.TheConstants.{PIECE_VALUE_MAX, POINTS_MAX};
-ghost use Rattle.shogi_eval.specs.Material.{material_of, promotion_gain, taken_gain};
+ghost use Rattle.shogi_eval.specs.Material.{promotion_gain, taken_gain};
 ghost use Rattle.last_ply.specs.declared.gains.TheConstants.{PROMOTION_GAIN_MAX};
-ghost use Rattle.last_ply.specs.LastPly.{score_at, HasNoneFrom, NodeHasScore, NodeScoresAtMost, ScoresFromAtMost, ScoresAmongAtMost, TakesTooLittle};
+ghost use Rattle.last_ply.specs.LastPly.{base_of, is_legal_board_move, is_own, score_at, HasNoneFrom, HasReachers, NodeHasScore, NodeScoresAtMost, NodeScoresFromAtMost, OnEach, OnRest, Outside, ScoresAmongAtMost, ScoresTo, ScoresToAtMost, TakesLittle};
 
 use crate::scene::Scene;
 use shogi_core::bits::{has, lowest, with, without_lowest};
@@ -109,10 +108,7 @@ impl Scene<'_> {
 
     /// What the move scores where it is legal.
     pub fn score_to(&self, from: Square, to: Square, promote: bool) -> i32
-        ensures { is_legal_code self.now.node.now.position
-            (code_of (moves.Board from to promote)) ≡ true
-            → result ≡ score_at self.now.node.now.position self.now.node.now.eval
-            (code_of (moves.Board from to promote)) }
+        ensures { ScoresTo self.now.node.now result from to promote }
     {
         from.validity();
         to.validity();
@@ -124,13 +120,10 @@ impl Scene<'_> {
     /// Whether one of the side's pieces may legally go to a square that it reaches.
     #[inline(never)]
     pub fn is_end(&self, from: Square, to: Square, promote: bool) -> bool
-        requires own { is_piece_of self.now.node.now.position.side
-            (piece_at self.now.node.now.position.cells from) ≡ true }
+        requires own { is_own self.now.node.now.position from ≡ true }
         requires reached { reaches self.now.node.now.position.cells from to ≡ true }
-        requires free { is_piece_of self.now.node.now.position.side
-            (piece_at self.now.node.now.position.cells to) ≡ false }
-        ensures { result ≡ is_legal_code self.now.node.now.position
-            (code_of (moves.Board from to promote)) }
+        requires free { is_own self.now.node.now.position to ≡ false }
+        ensures { result ≡ is_legal_board_move self.now.node.now.position from to promote }
     {
         to.validity();
         let square = with(0, to.index());
@@ -145,16 +138,11 @@ impl Scene<'_> {
     /// What the move of one of the side's pieces to a square that it reaches scores, or the floor
     /// where it is illegal or that is no less.
     fn most_to(&self, from: Square, to: Square, promote: bool, floor: i32) -> i32
-        requires own { is_piece_of self.now.node.now.position.side
-            (piece_at self.now.node.now.position.cells from) ≡ true }
+        requires own { is_own self.now.node.now.position from ≡ true }
         requires reached { reaches self.now.node.now.position.cells from to ≡ true }
-        requires free { is_piece_of self.now.node.now.position.side
-            (piece_at self.now.node.now.position.cells to) ≡ false }
+        requires free { is_own self.now.node.now.position to ≡ false }
         ensures least { floor ≤ℤ result }
-        ensures at { is_legal_code self.now.node.now.position
-            (code_of (moves.Board from to promote)) ≡ true
-            → score_at self.now.node.now.position self.now.node.now.eval
-            (code_of (moves.Board from to promote)) ≤ℤ result }
+        ensures at { ScoresToAtMost self.now.node.now.position self.now.node.now.eval result from to promote }
         ensures some { floor <ℤ result → NodeHasScore self.now.node.now result }
     {
         let score = self.score_to(from, to, promote);
@@ -168,8 +156,7 @@ impl Scene<'_> {
     /// scores, promoting or not, or the floor where that is no less.
     #[inline(always)]
     fn most_among(&self, from: Square, promote: bool, ends: u128, floor: i32) -> i32
-        requires own { is_piece_of self.now.node.now.position.side
-            (piece_at self.now.node.now.position.cells from) ≡ true }
+        requires own { is_own self.now.node.now.position from ≡ true }
         requires reached { AreEnterable self.now.node.now.position from ends }
         requires fits { ends < 2 ^ 81 }
         ensures least { floor ≤ℤ result }
@@ -190,12 +177,10 @@ impl Scene<'_> {
     /// The most that a legal move of one of the side's pieces scores, or the floor where that is no
     /// less; a move that takes nothing and does not promote scores what the node has.
     fn most_from(&self, from: Square, floor: i32) -> i32
-        requires own { is_piece_of self.now.node.now.position.side
-            (piece_at self.now.node.now.position.cells from) ≡ true }
-        requires floor { material_of self.now.node.now.position self.now.node.now.eval ≤ℤ floor }
+        requires own { is_own self.now.node.now.position from ≡ true }
+        requires floor { base_of self.now.node.now ≤ℤ floor }
         ensures least { floor ≤ℤ result }
-        ensures all { ScoresFromAtMost self.now.node.now.position self.now.node.now.eval from
-            result }
+        ensures all { NodeScoresFromAtMost self.now.node.now result from }
         ensures some { floor <ℤ result → NodeHasScore self.now.node.now result }
     {
         from.validity();
@@ -214,8 +199,7 @@ impl Scene<'_> {
     fn squares_reaching(&self, square: usize) -> u128
         requires { square < 81 }
         ensures fits { result < 2 ^ 81 }
-        ensures others { (n : ℕ) → n < 81 → has_bit result n ≡ false
-            → reaches self.now.node.now.position.cells n square ≡ false }
+        ensures others { HasReachers self.now.node.now.position.cells result square }
     {
         let board = self.node.as_position().as_board();
         near_squares(square) | board.sliders() & aligned_squares(square)
@@ -226,9 +210,7 @@ impl Scene<'_> {
     fn squares_taking(&self, square: usize, floor: i32) -> u128
         requires { square < 81 }
         ensures fits { result < 2 ^ 81 }
-        ensures others { (n : ℕ) → n < 81 → has_bit result n ≡ false
-            → reaches self.now.node.now.position.cells n square ≡ true
-            → TakesTooLittle self.now.node.now square floor }
+        ensures others { Outside result (TakesLittle self.now.node.now floor square) }
     {
         let p = self.node.as_position();
         let taken = taken_gain(self.node.eval(), p.at(Square::of_index(square)));
@@ -243,10 +225,7 @@ impl Scene<'_> {
         requires { victims < 2 ^ 81 }
         ensures within { IsWithin result self.now.own }
         ensures fits { result < 2 ^ 81 }
-        ensures others { (n t : ℕ) → n < 81 → t < 81 → has_bit self.now.own n ≡ true
-            → has_bit result n ≡ false → has_bit victims t ≡ true
-            → reaches self.now.node.now.position.cells n t ≡ true
-            → TakesTooLittle self.now.node.now t floor }
+        ensures others { OnEach victims (λ t. OnRest self.now.own result (TakesLittle self.now.node.now floor t)) }
     {
         let mut squares = 0;
         let mut left = victims;
@@ -262,8 +241,7 @@ impl Scene<'_> {
     fn squares_reaching_some(&self, squares: u128) -> u128
         requires { squares < 2 ^ 81 }
         ensures fits { result < 2 ^ 81 }
-        ensures others { (n t : ℕ) → n < 81 → t < 81 → has_bit result n ≡ false
-            → has_bit squares t ≡ true → reaches self.now.node.now.position.cells n t ≡ true → ⊥ }
+        ensures others { OnEach squares (HasReachers self.now.node.now.position.cells result) }
     {
         let mut found = 0;
         let mut left = squares;
@@ -281,8 +259,7 @@ impl Scene<'_> {
         requires { self.now.info.checked ≡ true }
         ensures within { IsWithin result self.now.own }
         ensures fits { result < 2 ^ 81 }
-        ensures others { (n : ℕ) → n < 81 → has_bit self.now.own n ≡ true → has_bit result n ≡ false
-            → HasNoneFrom self.now.node.now.position n }
+        ensures others { OnRest self.now.own result (HasNoneFrom self.now.node.now.position) }
     {
         let p = self.node.as_position();
         p.validity();
@@ -295,8 +272,7 @@ impl Scene<'_> {
     pub fn movable(&self) -> u128
         ensures within { IsWithin result self.now.own }
         ensures fits { result < 2 ^ 81 }
-        ensures others { (n : ℕ) → n < 81 → has_bit self.now.own n ≡ true → has_bit result n ≡ false
-            → HasNoneFrom self.now.node.now.position n }
+        ensures others { OnRest self.now.own result (HasNoneFrom self.now.node.now.position) }
     {
         if self.info.checked {
             return self.answerers();
@@ -308,11 +284,10 @@ impl Scene<'_> {
     /// they take something; with room for the capture of any piece that does not slide, something
     /// dear enough, and with room for both, one that slides. In check they may answer it.
     pub fn gainers(&self, floor: i32) -> u128
-        requires { material_of self.now.node.now.position self.now.node.now.eval ≤ℤ floor }
+        requires { base_of self.now.node.now ≤ℤ floor }
         ensures within { IsWithin result self.now.own }
         ensures fits { result < 2 ^ 81 }
-        ensures others { (n : ℕ) → n < 81 → has_bit self.now.own n ≡ true → has_bit result n ≡ false
-            → ScoresFromAtMost self.now.node.now.position self.now.node.now.eval n floor }
+        ensures others { OnRest self.now.own result (NodeScoresFromAtMost self.now.node.now floor) }
     {
         if self.info.checked {
             return self.answerers();
@@ -338,7 +313,7 @@ impl Scene<'_> {
     /// what the node has; where that is enough for the bound, some number from the bound on that a
     /// legal move scores.
     pub fn most(&self, floor: i32, beta: i32) -> i32
-        requires floor { material_of self.now.node.now.position self.now.node.now.eval ≤ℤ floor }
+        requires floor { base_of self.now.node.now ≤ℤ floor }
         ensures least { floor ≤ℤ result }
         ensures all { result <ℤ beta → NodeScoresAtMost self.now.node.now result }
         ensures some { floor <ℤ result → NodeHasScore self.now.node.now result }

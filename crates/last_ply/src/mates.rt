@@ -2,18 +2,16 @@
 
 ghost use Rattle.std.specs.Prelude.{[], ◌≢◌, ◌≡◌, ◌<◌, ◌^◌, true, false, ℕ, bit_and};
 ghost use Rattle.std.proofs.Props.{props};
-ghost use Rattle.shogi_core.specs.declared.moves.Move.TheVariants as moves;
 ghost use Rattle.shogi_core.specs.Bits.{has_bit};
-ghost use Rattle.shogi_core.specs.Cell.{is_piece_of};
 ghost use Rattle.shogi_core.specs.Codes.{code_of};
 ghost use Rattle.shogi_core.specs.Movement.{piece_at};
 ghost use Rattle.shogi_moves.specs.After.{piece_moved};
 ghost use Rattle.shogi_moves.specs.Destinations.{AreDropSquares, IsWithin};
 ghost use Rattle.shogi_moves.specs.Escapes.{AreEscapes};
 ghost use Rattle.shogi_moves.specs.LegalMoves.{legal_codes};
-ghost use Rattle.shogi_moves.specs.Legal.{is_legal, is_legal_code};
+ghost use Rattle.shogi_moves.specs.Legal.{is_legal};
 ghost use Rattle.shogi_replies.specs.Replies.{IsAnswered, IsReplies};
-ghost use Rattle.last_ply.specs.LastPly.{HasMate, HasNoMate, LeavesNone, LeavesSome, AreDoubtfulEnds, AreLegalEnds, LeaveSomeAmong, LeaveSomeFrom, DropsLeaveSome, IsOutOfReach, HasOthers};
+ghost use Rattle.last_ply.specs.LastPly.{is_own, AreAnsweredOff, AreDropsAnsweredOff, AreLegalDrops, BoardLeavesSome, DropsLeaveSomeAmong, OnEach, Outside, HasMate, HasNoMate, LeavesNone, LeavesSome, AreDoubtfulEnds, AreLegalEnds, LeaveSomeAmong, LeaveSomeFrom, DropsLeaveSome, IsOutOfReach, HasOthers};
 
 use crate::scene::Scene;
 use shogi_core::bits::{has, lowest, with, without_lowest};
@@ -116,7 +114,7 @@ fn retakes(p: &Position, m: &Move) -> bool
 /// The squares from which the piece may reach that one, whatever stands between.
 fn closing_squares(piece: Piece, square: usize) -> u128
     requires { square < 81 }
-    ensures { (n : ℕ) → n < 81 → has_bit result n ≡ false → IsOutOfReach piece n square }
+    ensures { Outside result (λ n. IsOutOfReach piece n square) }
 {
     let back = Piece {
         color: piece.color.opponent(),
@@ -242,11 +240,9 @@ impl Outlook<'_> {
     /// Whether one of the legal drops of the kind on these squares does.
     fn mates_by_drops(&self, kind: Kind, ends: u128) -> bool
         requires fits { ends < 2 ^ 81 }
-        requires legal { (n : ℕ) → n < 81 → has_bit ends n ≡ true
-            → is_legal_code self.now.scene.node.now.position (code_of (moves.Drop kind n)) ≡ true }
+        requires legal { AreLegalDrops self.now.scene.node.now.position kind ends }
         ensures some { result ≡ true → HasMate self.now.scene.node.now.position }
-        ensures none { result ≡ false → (n : ℕ) → n < 81 → has_bit ends n ≡ true
-            → LeavesSome self.now.scene.node.now.position (code_of (moves.Drop kind n)) }
+        ensures none { result ≡ false → DropsLeaveSomeAmong self.now.scene.node.now.position kind ends }
     {
         let mut left = ends;
         while left != 0 {
@@ -289,8 +285,7 @@ impl Outlook<'_> {
         requires fits { ends < 2 ^ 81 }
         ensures within { IsWithin result ends }
         ensures fits { result < 2 ^ 81 }
-        ensures answered { (n : ℕ) → n < 81 → has_bit ends n ≡ true → has_bit result n ≡ false
-            → IsAnswered self.now.scene.node.now.position (moves.Board from n promote) }
+        ensures answered { AreAnsweredOff self.now.scene.node.now.position from promote ends result }
     {
         let _ = promote;
         from.validity();
@@ -317,8 +312,7 @@ impl Outlook<'_> {
         requires fits { ends < 2 ^ 81 }
         ensures within { IsWithin result ends }
         ensures fits { result < 2 ^ 81 }
-        ensures answered { (n : ℕ) → n < 81 → has_bit ends n ≡ true → has_bit result n ≡ false
-            → IsAnswered self.now.scene.node.now.position (moves.Board from n promote) }
+        ensures answered { AreAnsweredOff self.now.scene.node.now.position from promote ends result }
     {
         let p = self.scene.node.as_position();
         let closing = self.closing_ends(from, promote, piece, ends);
@@ -363,8 +357,7 @@ impl Outlook<'_> {
 
     /// Whether a legal move of one of the side's pieces leaves the other side without one.
     fn mates_from(&self, from: Square) -> bool
-        requires own { is_piece_of self.now.scene.node.now.position.side
-            (piece_at self.now.scene.node.now.position.cells from) ≡ true }
+        requires own { is_own self.now.scene.node.now.position from ≡ true }
         ensures some { result ≡ true → HasMate self.now.scene.node.now.position }
         ensures none { result ≡ false → LeaveSomeFrom self.now.scene.node.now.position from }
     {
@@ -383,8 +376,7 @@ impl Outlook<'_> {
     /// Pieces of the side that are far from the other side's king, after each of whose moves that
     /// side surely has one.
     fn far_pieces(&self) -> u128
-        ensures { (n : ℕ) → n < 81 → has_bit result n ≡ true
-            → LeaveSomeFrom self.now.scene.node.now.position n }
+        ensures { OnEach result (LeaveSomeFrom self.now.scene.node.now.position) }
     {
         self.replies.remote_pieces(self.scene.node.as_position())
     }
@@ -392,10 +384,7 @@ impl Outlook<'_> {
     /// Whether a legal move on the board leaves the other side without one.
     fn has_board_mate(&self) -> bool
         ensures some { result ≡ true → HasMate self.now.scene.node.now.position }
-        ensures none { result ≡ false → (from : ℕ) → from < 81
-            → is_piece_of self.now.scene.node.now.position.side
-            (piece_at self.now.scene.node.now.position.cells from) ≡ true
-            → LeaveSomeFrom self.now.scene.node.now.position from }
+        ensures none { result ≡ false → BoardLeavesSome self.now.scene.node.now.position }
     {
         let mut left = self.scene.movable() & !self.far_pieces();
         while left != 0 {
@@ -412,8 +401,7 @@ impl Outlook<'_> {
     /// stand on one: elsewhere the king has one left, or takes it.
     fn closing_drops(&self, kind: Kind, squares: u128) -> u128
         ensures among { IsWithin result squares }
-        ensures answered { (n : ℕ) → n < 81 → has_bit squares n ≡ true → has_bit result n ≡ false
-            → IsAnswered self.now.scene.node.now.position (moves.Drop kind n) }
+        ensures answered { AreDropsAnsweredOff self.now.scene.node.now.position kind squares result }
     {
         let p = self.scene.node.as_position();
         let side = p.side();

@@ -7,6 +7,7 @@ ghost use Rattle.shogi_core.specs.Movement.{piece_at};
 ghost use Rattle.shogi_core.specs.Pieces.{opponent_of};
 ghost use Rattle.shogi_core.specs.Validity.{IsValid};
 ghost use Rattle.shogi_moves.specs.CheckInfo.{IsCheckInfoOf};
+ghost use Rattle.last_ply.specs.LastPly.{is_own};
 
 use shogi_core::Square;
 use shogi_eval::Node;
@@ -22,8 +23,7 @@ pub struct Scene<'a> {
     pub foe: u128,
     ghost valid: { IsValid node.now.position },
     ghost known: { IsCheckInfoOf info node.now.position },
-    ghost owns: { IsMaskOf own (λ n. is_piece_of node.now.position.side
-        (piece_at node.now.position.cells n)) },
+    ghost owns: { IsMaskOf own (is_own node.now.position) },
     ghost foes: { IsMaskOf foe (λ n. is_piece_of (opponent_of node.now.position.side)
         (piece_at node.now.position.cells n)) },
 }
@@ -51,16 +51,14 @@ impl Scene<'_> {
     #[inline(always)]
     #[tactic(auto, using(shogi_moves::proofs::DestinationLaws::entering_bits))]
     pub fn enterable(&self) -> u128
-        ensures { HasBits result (λ n. not (is_piece_of self.now.node.now.position.side
-            (piece_at self.now.node.now.position.cells n))) }
+        ensures { HasBits result (λ n. not (is_own self.now.node.now.position n)) }
     {
         !self.own
     }
 
     /// The legal destinations of one of the side's pieces.
     pub fn destinations(&self, from: Square) -> Destinations
-        requires { is_piece_of self.now.node.now.position.side
-            (piece_at self.now.node.now.position.cells from) ≡ true }
+        requires { is_own self.now.node.now.position from ≡ true }
         ensures plain { AreLegalDestinations self.now.node.now.position from false result.plain }
         ensures promoting { AreLegalDestinations self.now.node.now.position from true
             result.promoting }

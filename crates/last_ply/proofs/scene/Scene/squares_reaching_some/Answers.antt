@@ -1,6 +1,7 @@
-use Rattle.std.proofs.Common.{◌∙◌, arith, ap}
+use Rattle.std.proofs.Common.{◌≡◌, ◌∙◌, arith, ap, false}
 use Rattle.std.proofs.lemmas.Bool.{both_ways}
 use Rattle.shogi_core.specs.Bits.{has_bit}
+use Rattle.shogi_core.specs.Movement.{reaches}
 use Rattle.shogi_core.proofs.BitLaws.{has_bit-none}
 use Rattle.shogi_core.proofs.LineBits.{or_fits}
 use Rattle.last_ply.proofs.Squares.{one_victim_more}
@@ -8,19 +9,18 @@ use Rattle.last_ply.proofs.scene.Scene.squares_reaching_some.Goals as goal
 
 pub loop-left-init : goal.loop-left-init
 loop-left-init c = record {
-  others = λ n t hn ht out set gone r. both_ways (has_bit c.args.squares t) gone set;
+  others = λ t ht set gone n hn out. absurd (both_ways (has_bit c.args.squares t) gone set);
   fits = c.requires;
   found_fit = omega arith;
 }
 
 pub loop-left-preserved : goal.loop-left-preserved
 loop-left-preserved c = record {
-  others = one_victim_more c.args.squares c.loop-left.left c.without_lowest-left.result c.lowest-square.result c.loop-left.found c.squares_reaching-found.result c.args.self.now.node.now.position.cells
-      (λ t. ⊥) c.without_lowest-left.ensures.bits c.loop-left.invariant.others
-      (λ n hn out r. both_ways _ (c.squares_reaching-found.ensures.others n hn out) r);
+  others = one_victim_more c.args.squares c.loop-left.left c.without_lowest-left.result c.lowest-square.result c.loop-left.found c.squares_reaching-found.result
+      (λ t n. reaches c.args.self.now.node.now.position.cells n t ≡ false) c.without_lowest-left.ensures.bits c.loop-left.invariant.others c.squares_reaching-found.ensures.others;
   fits = omega (arith, c.loop-left.invariant.fits, c.without_lowest-left.ensures.less);
   found_fit = or_fits c.loop-left.found c.squares_reaching-found.result c.loop-left.invariant.found_fit c.squares_reaching-found.ensures.fits;
 }
 
 pub returns-clause-others : goal.returns-clause-others
-returns-clause-others c = λ n t hn ht out set r. c.loop-left.invariant.others n t hn ht out set (ap (λ m. has_bit m t) (omega (arith, c.loop-left-test.false)) ∙ has_bit-none t) r
+returns-clause-others c = λ t ht set. c.loop-left.invariant.others t ht set (ap (λ m. has_bit m t) (omega (arith, c.loop-left-test.false)) ∙ has_bit-none t)

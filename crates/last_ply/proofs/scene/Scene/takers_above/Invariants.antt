@@ -1,13 +1,10 @@
-use Rattle.std.proofs.Common.{◌≡◌, ◌<◌, ◌^◌, true, false, ℕ}
-use Rattle.shogi_core.specs.Bits.{has_bit}
-use Rattle.shogi_core.specs.Movement.{reaches}
-use Rattle.last_ply.specs.LastPly.{TakesTooLittle}
+use Rattle.std.proofs.Common.{◌<◌, ◌^◌}
+use Rattle.last_ply.specs.LastPly.{OnRest, Outside, TakesLittle}
 use Rattle.last_ply.proofs.scene.Scene.takers_above.Given as goal
 
 abbrev pub invariant-loop-left : goal.invariant-loop-left
 invariant-loop-left l = record {
-  others : (n t : ℕ) → n < 81 → t < 81 → has_bit l.squares n ≡ false → has_bit l.victims t ≡ true → has_bit l.left t ≡ false
-      → reaches l.self.node.now.position.cells n t ≡ true → TakesTooLittle l.self.node.now t l.floor;
+  others : OnRest l.victims l.left (λ t. Outside l.squares (TakesLittle l.self.node.now l.floor t));
   fits : l.left < 2 ^ 81;
   squares_fit : l.squares < 2 ^ 81;
 }
