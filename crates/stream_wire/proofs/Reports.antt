@@ -6,7 +6,7 @@ use Rattle.std.proofs.KnownBytes.{Keeps-refl}
 use Rattle.wires.specs.Report.{Report, KeepsAll, KeepsOthers, KeepsPeer, Shuts}
 use Rattle.wires.proofs.Peers.{kept_same, kept_then, raised_rise, raised_rises, stays_rise, stays_then}
 use Rattle.stream_wire.specs.declared.connection.Connection.{Connection}
-use Rattle.stream_wire.specs.Streams.{HandsOut, HasBack, IsToldShut}
+use Rattle.stream_wire.specs.Streams.{HasBack, IsToldShut, KeepsElse}
 use Rattle.stream_wire.specs.Held.{AreAlike, HoldsOthers, IsAlike, bytes_of, held, reported, unread_of, written_of}
 
 keeps_nil : (a b : Option (List ℕ)) → Keeps a b → Keeps a (prepend_known [] b)
@@ -66,29 +66,29 @@ module _ {S A : Type 0} where
 
   -- a stream comes, under its number
   pub comes : (r c : S → Option (List ℕ)) (t u : Report) (old mid new : List (Option (Connection S A))) (number : ℕ) (q : Connection S A) → AreAlike old mid → held mid number ≡ None → held new number ≡ Some q → HoldsOthers mid new number
-      → HandsOut t u number (r q.stream) (c q.stream) → q.kept ≡ [] → KeepsAll (reported r c t old) (reported r c u new)
-  comes r c t u old mid new number q alike none some holds out nil n =
+      → Keeps (t.unread number) (r q.stream) × Keeps (t.written number) (c q.stream) → KeepsElse t u number → q.kept ≡ [] → KeepsAll (reported r c t old) (reported r c u new)
+  comes r c t u old mid new number q alike none some holds out rest nil n =
       kept_then (reported r c t old) (reported r c t mid) (reported r c u new) n
       (alike_keeps r c t t old mid alike (kept_same t) n)
       (elim (cases_eq n number) [
         | inl same ↦ subst (λ (m : ℕ). KeepsPeer (reported r c t mid) (reported r c u new) m) (sym same) (record {
-          unread = at_start (λ a b. Keeps a b) (unread_of r) (t.unread number) (u.unread number) (held mid number) (held new number) q none some (subst (λ x. Keeps (t.unread number) (prepend_known x (r q.stream))) (sym nil) (keeps_nil (t.unread number) (r q.stream) out.unread));
-          written = at_start (λ a b. Keeps a b) (written_of c) (t.written number) (u.written number) (held mid number) (held new number) q none some out.written;
-          shut = out.shut;
-          failed = out.failed;
+          unread = at_start (λ a b. Keeps a b) (unread_of r) (t.unread number) (u.unread number) (held mid number) (held new number) q none some (subst (λ x. Keeps (t.unread number) (prepend_known x (r q.stream))) (sym nil) (keeps_nil (t.unread number) (r q.stream) out.0));
+          written = at_start (λ a b. Keeps a b) (written_of c) (t.written number) (u.written number) (held mid number) (held new number) q none some out.1;
+          shut = rest.shut;
+          failed = rest.failed;
         })
-        | inr apart ↦ others_kept r c t u mid new number holds out.others n apart
+        | inr apart ↦ others_kept r c t u mid new number holds rest.others n apart
       ])
 
   -- a connection is shut
-  pub shuts_held : (r c : S → Option (List ℕ)) (t u v : Report) (old new : List (Option (Connection S A))) (number bound : ℕ) (p : Connection S A) → held old number ≡ Some p → held new number ≡ None → HoldsOthers old new number → IsToldShut t u number → HasBack u v number (unread_of r p) (written_of c p) → Shuts bound (reported r c t old) (reported r c v new) number
-  shuts_held r c t u v old new number bound p d e holds told back =
-      let raised = raised_rises (t.is_shut number) (u.is_shut number) (v.is_shut number) told.shut (stays_rise (u.is_shut number) (v.is_shut number) back.shut) in
+  pub shuts_held : (r c : S → Option (List ℕ)) (t u v : Report) (old new : List (Option (Connection S A))) (number bound : ℕ) (p : Connection S A) → held old number ≡ Some p → held new number ≡ None → HoldsOthers old new number → IsToldShut t u number → HasBack r c v number p.kept p.stream → KeepsElse u v number → Shuts bound (reported r c t old) (reported r c v new) number
+  shuts_held r c t u v old new number bound p d e holds told back rest =
+      let raised = raised_rises (t.is_shut number) (u.is_shut number) (v.is_shut number) told.shut (stays_rise (u.is_shut number) (v.is_shut number) rest.shut) in
       record {
         shut = λ lt. raised;
         only_rises = raised_rise (t.is_shut number) (v.is_shut number) raised;
         written = at_end (λ a b. Keeps a b) (written_of c) (t.written number) (v.written number) (held old number) (held new number) p d e back.written;
         unread = at_end (λ a b. Keeps a b) (unread_of r) (t.unread number) (v.unread number) (held old number) (held new number) p d e back.unread;
-        failed = stays_then (t.has_failed number) (u.has_failed number) (v.has_failed number) told.failed back.failed;
-        others = others_kept r c t v old new number holds (λ other apart. kept_then t u v other (told.others other apart) (back.others other apart));
+        failed = stays_then (t.has_failed number) (u.has_failed number) (v.has_failed number) told.failed rest.failed;
+        others = others_kept r c t v old new number holds (λ other apart. kept_then t u v other (told.others other apart) (rest.others other apart));
       }

@@ -13,6 +13,7 @@ use Rattle.stream_wire.specs.Held.{held}
 use Rattle.stream_wire.specs.declared.listener.Ready.{Ready}
 use Rattle.stream_wire.specs.declared.listener.Ready.TheVariants.{Stream}
 use Rattle.stream_wire.specs.declared.connection.Connection.{Connection}
+use Rattle.stream_wire.specs.declared.wire.StreamWire.{StreamWire}
 
 -- where bytes are kept, a read gives the first line of them, or as much of it as there is room for
 abbrev pub GivesKept : List ℕ → Result Got WireFault → List ℕ → Type 0
@@ -63,11 +64,14 @@ module _ {S A : Type 0} where
   IsAwake None = ⊤
   IsAwake (Some connection) = (connection.may_give ≡ true) × (connection.may_take ≡ true)
 
+  -- where a stream was named, it is awake
+  abbrev pub IsNamedAwake : Option Ready → List (Option (Connection S A)) → Type 0
+  IsNamedAwake found places =
+      (number : ℕ) → found ≡ Some (Stream number) → IsAwake (held places number)
+
   -- each of these streams is awake
   abbrev pub AreAwake : List Ready → List (Option (Connection S A)) → Type 0
-  AreAwake named places =
-      (place number : ℕ) → slice_get named place ≡ Some (Stream number)
-      → IsAwake (held places number)
+  AreAwake named places = (place : ℕ) → IsNamedAwake (slice_get named place) places
 
   -- each that was awake is awake still
   abbrev pub AreAwakeStill : List (Option (Connection S A)) → List (Option (Connection S A))
@@ -81,15 +85,15 @@ module _ {S A : Type 0} where
 
   -- a read into so much room asked the stream once, where nothing was kept of one that may give bytes, but for want of
   -- memory; and it may give more where the read found any, or failed
-  pub record AsksToGive (calls : S → Option ℕ) (old new : Connection S A) (room : ℕ)
-      (result : Result Got WireFault) : Type 0 where
+  pub record AsksToGive (calls : S → Option ℕ) (room : ℕ) (result : Result Got WireFault)
+      (old new : Connection S A) : Type 0 where
     pub called : old.may_give ≡ true → old.kept ≡ [] → 0 < room
         → (result ≡ Err OutOfMemory) ⊎ IsCalledOnce (calls old.stream) (calls new.stream)
     pub awake : old.may_give ≡ true → result ≢ Ok Nothing → new.may_give ≡ true
 
   -- a write asked the stream once, where it may take bytes; and it may take more where it took any, or failed
-  pub record AsksToTake (calls : S → Option ℕ) (old new : Connection S A)
-      (result : Result ℕ WireFault) : Type 0 where
+  pub record AsksToTake (calls : S → Option ℕ) (result : Result ℕ WireFault)
+      (old new : Connection S A) : Type 0 where
     pub called : old.may_take ≡ true → IsCalledOnce (calls old.stream) (calls new.stream)
     pub awake : old.may_take ≡ true → result ≢ Ok 0 → new.may_take ≡ true
 
@@ -99,3 +103,29 @@ module _ {S A : Type 0} where
   OfHeld Relates None new = ⊤
   OfHeld Relates (Some old) None = ⊥
   OfHeld Relates (Some old) (Some new) = Relates old new
+
+-- ---- the same of a wire of the code
+
+module _ {L A S : Type 0} where
+  -- of the connection that is held under this number before and after
+  abbrev pub OfNumber : ℕ → (Connection S A → Connection S A → Type 0)
+      → (old new : StreamWire L A S) → Type 0
+  OfNumber number Relates old new =
+      OfHeld Relates (held old.places.items number) (held new.places.items number)
+
+  -- its listener was asked so by an accept with this answer
+  abbrev pub AsksByAccept : (L → List Ready) → (L → Option (List Ask))
+      → (old new : StreamWire L A S) → Result (Option ℕ) WireFault → Type 0
+  AsksByAccept named asked old new result =
+      IsAskedToAccept old.may_accept (named new.listener)
+      (asked old.listener) (asked new.listener) result
+
+  -- its listener was asked to wait
+  abbrev pub AsksByWait : (L → Option (List Ask)) → Bool → (old new : StreamWire L A S) → Type 0
+  AsksByWait asked idle old new =
+      Asks (asked old.listener) (asked new.listener) (waits_for idle old.has_more old.is_unsure)
+
+  -- after a wait that was asked for each stream that it has named is awake
+  abbrev pub WakesByWait : (L → List Ready) → Bool → (old new : StreamWire L A S) → Type 0
+  WakesByWait named idle old new =
+      idle ≡ true → old.has_more ≡ false → AreAwake (named new.listener) new.places.items

@@ -1,6 +1,6 @@
 -- The connections that a wire holds, and what it reports of them and of all others (own choice).
 use Rattle.std.specs.Prelude.{◌≡◌, ◌≢◌, ◌==◌, ◌%◌, ◌+◌, ◌-◌, ◌^◌, cond, length, min, nat_eq, not, ℕ, Bool, List, [], Option, None, Some, slice_index_or}
-use Rattle.std.specs.Io.KnownBytes.{prepend_known}
+use Rattle.std.specs.Io.KnownBytes.{Appends, Consumes, prepend_known}
 use Rattle.wires.specs.Report.{Report}
 use Rattle.stream_wire.specs.declared.connection.Connection.{Connection}
 use Rattle.stream_wire.specs.declared.connection.TheConstants.{PLACES}
@@ -26,6 +26,14 @@ module _ {S A : Type 0} where
   -- the bytes that writes to it took
   abbrev pub written_of : (S → Option (List ℕ)) → Connection S A → Option (List ℕ)
   written_of contents connection = contents connection.stream
+
+  -- reads of it gave these bytes
+  abbrev pub HasGiven : (S → Option (List ℕ)) → Connection S A → Connection S A → List ℕ → Type 0
+  HasGiven remaining old new bytes = Consumes (unread_of remaining old) (unread_of remaining new) bytes
+
+  -- writes to it took these bytes
+  abbrev pub HasTaken : (S → Option (List ℕ)) → Connection S A → Connection S A → List ℕ → Type 0
+  HasTaken contents old new bytes = Appends (written_of contents old) (written_of contents new) bytes
 
   -- of a connection that is held its bytes, and else what is told
   abbrev pub bytes_of : (Connection S A → Option (List ℕ)) → Option (List ℕ)

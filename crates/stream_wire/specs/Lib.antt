@@ -1,3 +1,4 @@
 pub mod Streams
 pub mod Held
 pub mod Asking
+pub mod Reporting

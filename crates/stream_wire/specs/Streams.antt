@@ -1,7 +1,7 @@
 -- What a listener tells of the connections that a wire does not hold, and what each of its calls does to that; and what it
 -- and its streams are asked for (own choice).
-use Rattle.std.specs.Prelude.{◌≡◌, ◌+◌, ⊤, ℕ, Bool, List, Option, None, Some, Result, slice_get}
-use Rattle.std.specs.Io.KnownBytes.{Keeps}
+use Rattle.std.specs.Prelude.{◌≡◌, ◌+◌, ⊤, ℕ, Bool, List, Option, None, Some, Result, Ok, Err, slice_get}
+use Rattle.std.specs.Io.KnownBytes.{Keeps, prepend_known}
 use Rattle.wires.specs.declared.wire.WireFault.{WireFault}
 use Rattle.wires.specs.Report.{Report, IsRaised, KeepsOthers, ReportsFailure, Stays}
 use Rattle.stream_wire.specs.declared.listener.Ready.{Ready}
@@ -23,13 +23,23 @@ abbrev pub IsCalledOnce : Option ℕ → Option ℕ → Type 0
 IsCalledOnce None new = ⊤
 IsCalledOnce (Some count) new = new ≡ Some (count + 1)
 
--- it has handed out the stream of this number, which has the bytes that were told of it, those to be read and those that it took
-pub record HandsOut (old new : Report) (number : ℕ) (left taken : Option (List ℕ)) : Type 0 where
-  pub unread : Keeps (old.unread number) left
-  pub written : Keeps (old.written number) taken
+-- all is told as it was, but for the bytes of this number
+pub record KeepsElse (old new : Report) (number : ℕ) : Type 0 where
   pub shut : Stays (old.is_shut number) (new.is_shut number)
   pub failed : Stays (old.has_failed number) (new.has_failed number)
   pub others : KeepsOthers old new number
+
+module _ {S : Type 0} (remaining contents : S → Option (List ℕ)) where
+  -- a stream that was handed out has the bytes that were told of this number, those to be read and those that it took
+  abbrev pub HandsOut : {E : Type 0} → Report → ℕ → Result S E → Type 0
+  HandsOut told number (Ok stream) =
+      Keeps (told.unread number) (remaining stream) × Keeps (told.written number) (contents stream)
+  HandsOut told number (Err error) = ⊤
+
+  -- of this number the bytes of a stream are told, those to be read, behind some that are kept, and those that it took
+  pub record HasBack (told : Report) (number : ℕ) (kept : List ℕ) (stream : S) : Type 0 where
+    pub unread : Keeps (prepend_known kept (remaining stream)) (told.unread number)
+    pub written : Keeps (contents stream) (told.written number)
 
 -- it was told that a call of this number has failed, and of nothing else
 pub record IsToldFailed (old new : Report) (number : ℕ) : Type 0 where
@@ -44,14 +54,6 @@ pub record IsToldShut (old new : Report) (number : ℕ) : Type 0 where
   pub unread : Keeps (old.unread number) (new.unread number)
   pub written : Keeps (old.written number) (new.written number)
   pub shut : IsRaised (old.is_shut number) (new.is_shut number)
-  pub failed : Stays (old.has_failed number) (new.has_failed number)
-  pub others : KeepsOthers old new number
-
--- it has the stream of this number back: from now on it tells these bytes of it, those to be read and those that it took
-pub record HasBack (old new : Report) (number : ℕ) (left taken : Option (List ℕ)) : Type 0 where
-  pub unread : Keeps left (new.unread number)
-  pub written : Keeps taken (new.written number)
-  pub shut : Stays (old.is_shut number) (new.is_shut number)
   pub failed : Stays (old.has_failed number) (new.has_failed number)
   pub others : KeepsOthers old new number
 

@@ -1,13 +1,13 @@
 //! A connection that is held.
 
 ghost use Rattle.std.specs.Prelude.{◌≡◌, ◌≢◌, ◌<◌, ◌⊎◌, ◌≤◌, [], true, length, Some, Ok, Err, IfOk};
-ghost use Rattle.std.specs.Io.KnownBytes.{Appends, Consumes, Keeps};
+ghost use Rattle.std.specs.Io.KnownBytes.{Keeps};
 ghost use Rattle.usi_lines.specs.OneLine.{IsOneLine};
 ghost use Rattle.wires.specs.Report.{EndsAt, IsWithin, bytes_read, bytes_written};
 ghost use Rattle.wires.specs.declared.wire.Got.TheVariants.{Nothing};
 ghost use Rattle.wires.specs.declared.wire.WireFault.TheVariants.{OutOfMemory};
 ghost use Rattle.stream_wire.specs.Asking.{AsksToGive, AsksToTake, GivesKept, IsAwake};
-ghost use Rattle.stream_wire.specs.Held.{unread_of, written_of};
+ghost use Rattle.stream_wire.specs.Held.{HasGiven, HasTaken, unread_of, written_of};
 ghost use Rattle.stream_wire.specs.Streams.{IsCalledOnce};
 
 use crate::kept::Kept;
@@ -58,11 +58,10 @@ impl<S: Duplex, A: Allocator + Copy> Connection<S, A> {
         ensures number { self.new.number ≡ self.old.number }
         ensures within { IsWithin result (length buf.new) }
         ensures line { IsOneLine (bytes_read result buf.new) }
-        ensures unread { Consumes (unread_of S.remaining self.old)
-            (unread_of S.remaining self.new) (bytes_read result buf.new) }
+        ensures unread { HasGiven S.remaining self.old self.new (bytes_read result buf.new) }
         ensures written { Keeps (written_of S.contents self.old) (written_of S.contents self.new) }
         ensures ended { EndsAt result (unread_of S.remaining self.new) }
-        ensures asked { AsksToGive S.calls self.old self.new (length buf.old) result }
+        ensures asked { AsksToGive S.calls (length buf.old) result self.old self.new }
     {
         if buf.is_empty() || !self.may_give {
             return Ok(Got::Nothing);
@@ -91,12 +90,11 @@ impl<S: Duplex, A: Allocator + Copy> Connection<S, A> {
         ensures number { self.new.number ≡ self.old.number }
         ensures within { IsWithin result (length buf.new) }
         ensures line { IsOneLine (bytes_read result buf.new) }
-        ensures unread { Consumes (unread_of S.remaining self.old)
-            (unread_of S.remaining self.new) (bytes_read result buf.new) }
+        ensures unread { HasGiven S.remaining self.old self.new (bytes_read result buf.new) }
         ensures written { Keeps (written_of S.contents self.old) (written_of S.contents self.new) }
         ensures ended { EndsAt result (unread_of S.remaining self.new) }
         ensures first { GivesKept self.old.kept result buf.new }
-        ensures asked { AsksToGive S.calls self.old self.new (length buf.old) result }
+        ensures asked { AsksToGive S.calls (length buf.old) result self.old self.new }
     {
         if self.kept.is_empty() {
             return self.read_stream(alloc, buf);
@@ -112,10 +110,9 @@ impl<S: Duplex, A: Allocator + Copy> Connection<S, A> {
         ensures number { self.new.number ≡ self.old.number }
         ensures within { IfOk result (λ n. n ≤ length buf.now) }
         ensures unread { Keeps (unread_of S.remaining self.old) (unread_of S.remaining self.new) }
-        ensures written { Appends (written_of S.contents self.old)
-            (written_of S.contents self.new) (bytes_written result buf.now) }
+        ensures written { HasTaken S.contents self.old self.new (bytes_written result buf.now) }
         ensures kept { self.new.kept ≡ self.old.kept }
-        ensures asked { AsksToTake S.calls self.old self.new result }
+        ensures asked { AsksToTake S.calls result self.old self.new }
     {
         if !self.may_take {
             return Ok(0);

@@ -2,10 +2,10 @@
 
 ghost use Rattle.std.specs.Prelude.{◌≡◌, ℕ, [], ◌∷◌, length, is_some, slice_get, IfOk, OnErr, Option, None, List};
 ghost use Rattle.std.specs.Io.{ReadsAtMost, WritesAtMost};
-ghost use Rattle.std.specs.Io.KnownBytes.{Keeps, ReadConsumes, WriteAppends, prepend_known};
+ghost use Rattle.std.specs.Io.KnownBytes.{Keeps, ReadConsumes, WriteAppends};
 ghost use Rattle.wires.specs.Asked.{Asks};
 ghost use Rattle.wires.specs.Report.{Report, KeepsAll, nothing_reported};
-ghost use Rattle.stream_wire.specs.Streams.{Accept, Ask, HandsOut, HasBack, IsCalledOnce, IsToldFailed, IsToldShut, Look, Wait};
+ghost use Rattle.stream_wire.specs.Streams.{Accept, Ask, HandsOut, HasBack, IsCalledOnce, IsToldFailed, IsToldShut, KeepsElse, Look, Wait};
 ghost use Rattle.stream_wire.specs.declared.listener.Ready.{Ready};
 
 use std::io;
@@ -60,8 +60,9 @@ pub trait Listener: Drop {
     /// The stream of who waits first, which is named by this number from then on; `WouldBlock` where
     /// nobody waits.
     fn accept(&mut self, number: u64) -> io::Result<Self::Stream>
-        ensures given { IfOk result (λ stream. HandsOut (told self.old) (told self.new) number
-            (Self.Stream.remaining stream) (Self.Stream.contents stream)) }
+        ensures given { HandsOut Self.Stream.remaining Self.Stream.contents
+            (told self.old) number result }
+        ensures rest { IfOk result (λ stream. KeepsElse (told self.old) (told self.new) number) }
         ensures err { OnErr result (KeepsAll (told self.old) (told self.new)) }
         ensures asked { Asks (asked self.old) (asked self.new) (Accept ∷ []) }
         ensures named { named self.new ≡ named self.old };
@@ -96,7 +97,8 @@ pub trait Listener: Drop {
 
     /// Takes the stream of a number back, with the bytes that were read from it and are not given.
     fn take_back(&mut self, number: u64, stream: Self::Stream, kept: &[u8])
-        ensures back { HasBack (told self.old) (told self.new) number
-            (prepend_known kept.now (Self.Stream.remaining stream)) (Self.Stream.contents stream) }
+        ensures back { HasBack Self.Stream.remaining Self.Stream.contents
+            (told self.new) number kept.now stream }
+        ensures rest { KeepsElse (told self.old) (told self.new) number }
         ensures asked { asked self.new ≡ asked self.old };
 }

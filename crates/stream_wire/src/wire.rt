@@ -1,12 +1,12 @@
 //! A wire over a listener.
 
-ghost use Rattle.std.specs.Prelude.{◌≡◌, ◌≢◌, ◌≤◌, ◌-◌, ◌^◌, ◌&&◌, ◌||◌, ℕ, not, false, true, length, is_some, IfOk, None, Ok, Some, OnErr, OnOk};
+ghost use Rattle.std.specs.Prelude.{◌≡◌, ◌≢◌, ◌≤◌, ◌-◌, ◌^◌, ◌&&◌, ◌||◌, not, false, true, length, is_some, IfOk, None, Ok, Some, OnErr, OnOk};
 ghost use Rattle.usi_lines.specs.OneLine.{IsOneLine};
-ghost use Rattle.wires.specs.Report.{GivesNumber, HasCause, HasRisen, IsWithin, KeepsAll, Reads, Shuts, Writes, bytes_read, bytes_written};
+ghost use Rattle.wires.specs.Report.{GivesNumber, HasCause, HasRisen, IsWithin, KeepsAll, bytes_read, bytes_written};
 ghost use Rattle.wires.specs.declared.wire.WireFault.TheVariants.{Device};
-ghost use Rattle.wires.specs.Asked.{Asks};
-ghost use Rattle.stream_wire.specs.Asking.{AreAwake, AreAwakeStill, AsksToGive, AsksToTake, GivesKept, IsAskedForNext, IsAskedToAccept, IsAwake, OfHeld, StaysOpen, waits_for};
-ghost use Rattle.stream_wire.specs.Held.{AreAlike, counted, has_kept, held, kept_of};
+ghost use Rattle.stream_wire.specs.Asking.{AreAwake, AreAwakeStill, AsksByAccept, AsksByWait, AsksToGive, AsksToTake, GivesKept, IsAskedForNext, IsNamedAwake, OfNumber, StaysOpen, WakesByWait};
+ghost use Rattle.stream_wire.specs.Held.{AreAlike, counted, has_kept, kept_of};
+ghost use Rattle.stream_wire.specs.Reporting.{KeepsReport, ReportsRead, ReportsShut, ReportsWrite};
 ghost use Rattle.stream_wire.specs.Streams.{NamesListener, Notes};
 ghost use Rattle.stream_wire.specs.declared.listener.Ready.TheVariants as who;
 ghost use Rattle.stream_wire.specs.declared.connection.TheConstants.{PLACES};
@@ -156,8 +156,7 @@ impl<L: Listener, A: Allocator + Copy> StreamWire<L, A> {
 
     /// Remembers one who may be ready.
     fn note(&mut self, found: Option<Ready>)
-        ensures awake { (number : ℕ) → found ≡ Some (who.Stream number)
-            → IsAwake (held self.new.places.items number) }
+        ensures awake { IsNamedAwake found self.new.places.items }
         ensures still { AreAwakeStill self.old.places.items self.new.places.items }
         ensures named { found ≡ Some who.Listener → self.new.may_accept ≡ true }
         ensures opens { self.old.may_accept ≡ true → self.new.may_accept ≡ true }
@@ -217,9 +216,7 @@ impl<L: Listener, A: Allocator + Copy> StreamWire<L, A> {
         ensures unsure { self.new.is_unsure ≡ self.old.is_unsure }
         ensures received { self.new.received ≡ self.old.received }
         ensures sent { self.new.sent ≡ self.old.sent }
-        ensures kept { KeepsAll
-            (⟦<StreamWire<L, A> as Wire>⟧.report self.old)
-            (⟦<StreamWire<L, A> as Wire>⟧.report self.new) }
+        ensures kept { KeepsReport ⟦<StreamWire<L, A> as Wire>⟧ self.old self.new }
     {
         let place = free_place(&mut self.places)?;
         if place >= PLACES as usize {
@@ -254,9 +251,7 @@ impl<L: Listener, A: Allocator + Copy> StreamWire<L, A> {
         ensures awake { AreAwakeStill self.old.places.items self.new.places.items }
         ensures opens { result ≢ Ok None → self.new.may_accept ≡ self.old.may_accept }
         ensures more { self.new.has_more ≡ self.old.has_more }
-        ensures kept { KeepsAll
-            (⟦<StreamWire<L, A> as Wire>⟧.report self.old)
-            (⟦<StreamWire<L, A> as Wire>⟧.report self.new) }
+        ensures kept { KeepsReport ⟦<StreamWire<L, A> as Wire>⟧ self.old self.new }
         ensures unsure { OnErr result (self.new.is_unsure ≡ true) }
         ensures received { self.new.received ≡ self.old.received }
         ensures sent { self.new.sent ≡ self.old.sent }
@@ -271,17 +266,14 @@ impl<L: Listener, A: Allocator + Copy> StreamWire<L, A> {
     /// Reads from the connection of this number, where it may have something.
     fn read_from(&mut self, number: u64, buf: &mut [u8]) -> Result<Got, WireFault>
         ensures bound { self.new.next ≡ self.old.next }
-        ensures read { Reads
-            (⟦<StreamWire<L, A> as Wire>⟧.report self.old)
-            (⟦<StreamWire<L, A> as Wire>⟧.report self.new)
-            number result buf.new }
+        ensures read { ReportsRead ⟦<StreamWire<L, A> as Wire>⟧
+            self.old self.new number result buf.new }
         ensures line { IsOneLine (bytes_read result buf.new) }
         ensures cause { HasCause self.old.failed self.new.failed result }
         ensures first { GivesKept (kept_of self.old.places.items number) result buf.new }
         ensures asks { L.asked self.new.listener ≡ L.asked self.old.listener }
-        ensures gives { OfHeld
-            (λ before after. AsksToGive L.Stream.calls before after (length buf.old) result)
-            (held self.old.places.items number) (held self.new.places.items number) }
+        ensures gives { OfNumber number (AsksToGive L.Stream.calls (length buf.old) result)
+            self.old self.new }
         ensures opens { self.new.may_accept ≡ self.old.may_accept }
         ensures more { self.new.has_more
             ≡ (self.old.has_more || has_kept self.new.places.items number) }
@@ -301,14 +293,11 @@ impl<L: Listener, A: Allocator + Copy> StreamWire<L, A> {
     /// Writes to the connection of this number.
     fn write_to(&mut self, number: u64, buf: &[u8]) -> Result<usize, WireFault>
         ensures bound { self.new.next ≡ self.old.next }
-        ensures written { Writes
-            (⟦<StreamWire<L, A> as Wire>⟧.report self.old)
-            (⟦<StreamWire<L, A> as Wire>⟧.report self.new)
-            number result buf.now }
+        ensures written { ReportsWrite ⟦<StreamWire<L, A> as Wire>⟧
+            self.old self.new number result buf.now }
         ensures cause { HasCause self.old.failed self.new.failed result }
         ensures asks { L.asked self.new.listener ≡ L.asked self.old.listener }
-        ensures takes { OfHeld (λ before after. AsksToTake L.Stream.calls before after result)
-            (held self.old.places.items number) (held self.new.places.items number) }
+        ensures takes { OfNumber number (AsksToTake L.Stream.calls result) self.old self.new }
         ensures opens { self.new.may_accept ≡ self.old.may_accept }
         ensures more { self.new.has_more ≡ self.old.has_more }
         ensures received { self.new.received ≡ self.old.received }
@@ -336,12 +325,9 @@ impl<L: Listener, A: Allocator + Copy> Wire for StreamWire<L, A> {
 
     fn accept(&mut self) -> Result<Option<u64>, WireFault>
         ensures number { GivesNumber self.old.next self.new.next result }
-        ensures kept { KeepsAll
-            (⟦<StreamWire<L, A> as Wire>⟧.report self.old)
-            (⟦<StreamWire<L, A> as Wire>⟧.report self.new) }
+        ensures kept { KeepsReport ⟦<StreamWire<L, A> as Wire>⟧ self.old self.new }
         ensures cause { HasCause self.old.failed self.new.failed result }
-        ensures asks { IsAskedToAccept self.old.may_accept (L.named self.new.listener)
-            (L.asked self.old.listener) (L.asked self.new.listener) result }
+        ensures asks { AsksByAccept L.named L.asked self.old self.new result }
         ensures opens { StaysOpen result self.old.may_accept self.new.may_accept }
         ensures awake { OnOk result
             (AreAwake (L.named self.new.listener) self.new.places.items) }
@@ -362,17 +348,14 @@ impl<L: Listener, A: Allocator + Copy> Wire for StreamWire<L, A> {
 
     fn read(&mut self, number: u64, buf: &mut [u8]) -> Result<Got, WireFault>
         ensures bound { self.new.next ≡ self.old.next }
-        ensures read { Reads
-            (⟦<StreamWire<L, A> as Wire>⟧.report self.old)
-            (⟦<StreamWire<L, A> as Wire>⟧.report self.new)
-            number result buf.new }
+        ensures read { ReportsRead ⟦<StreamWire<L, A> as Wire>⟧
+            self.old self.new number result buf.new }
         ensures line { IsOneLine (bytes_read result buf.new) }
         ensures cause { HasCause self.old.failed self.new.failed result }
         ensures first { GivesKept (kept_of self.old.places.items number) result buf.new }
         ensures asks { L.asked self.new.listener ≡ L.asked self.old.listener }
-        ensures gives { OfHeld
-            (λ before after. AsksToGive L.Stream.calls before after (length buf.old) result)
-            (held self.old.places.items number) (held self.new.places.items number) }
+        ensures gives { OfNumber number (AsksToGive L.Stream.calls (length buf.old) result)
+            self.old self.new }
         ensures opens { self.new.may_accept ≡ self.old.may_accept }
         ensures more { self.new.has_more
             ≡ (self.old.has_more || has_kept self.new.places.items number) }
@@ -391,14 +374,11 @@ impl<L: Listener, A: Allocator + Copy> Wire for StreamWire<L, A> {
 
     fn write(&mut self, number: u64, buf: &[u8]) -> Result<usize, WireFault>
         ensures bound { self.new.next ≡ self.old.next }
-        ensures written { Writes
-            (⟦<StreamWire<L, A> as Wire>⟧.report self.old)
-            (⟦<StreamWire<L, A> as Wire>⟧.report self.new)
-            number result buf.now }
+        ensures written { ReportsWrite ⟦<StreamWire<L, A> as Wire>⟧
+            self.old self.new number result buf.now }
         ensures cause { HasCause self.old.failed self.new.failed result }
         ensures asks { L.asked self.new.listener ≡ L.asked self.old.listener }
-        ensures takes { OfHeld (λ before after. AsksToTake L.Stream.calls before after result)
-            (held self.old.places.items number) (held self.new.places.items number) }
+        ensures takes { OfNumber number (AsksToTake L.Stream.calls result) self.old self.new }
         ensures opens { self.new.may_accept ≡ self.old.may_accept }
         ensures more { self.new.has_more ≡ self.old.has_more }
         ensures sent { self.new.sent ≡ counted self.old.sent (bytes_written result buf.now) }
@@ -412,10 +392,7 @@ impl<L: Listener, A: Allocator + Copy> Wire for StreamWire<L, A> {
 
     fn shut(&mut self, number: u64)
         ensures bound { self.new.next ≡ self.old.next }
-        ensures shut { Shuts self.old.next
-            (⟦<StreamWire<L, A> as Wire>⟧.report self.old)
-            (⟦<StreamWire<L, A> as Wire>⟧.report self.new)
-            number }
+        ensures shut { ReportsShut ⟦<StreamWire<L, A> as Wire>⟧ self.old self.new number }
         ensures faults { self.old.failed ≤ self.new.failed }
         ensures asks { L.asked self.new.listener ≡ L.asked self.old.listener }
         ensures opens { self.new.may_accept ≡ self.old.may_accept }
@@ -432,14 +409,10 @@ impl<L: Listener, A: Allocator + Copy> Wire for StreamWire<L, A> {
 
     fn wait(&mut self, idle: bool) -> Result<(), WireFault>
         ensures bound { self.new.next ≡ self.old.next }
-        ensures kept { KeepsAll
-            (⟦<StreamWire<L, A> as Wire>⟧.report self.old)
-            (⟦<StreamWire<L, A> as Wire>⟧.report self.new) }
+        ensures kept { KeepsReport ⟦<StreamWire<L, A> as Wire>⟧ self.old self.new }
         ensures cause { HasCause self.old.failed self.new.failed result }
-        ensures asks { Asks (L.asked self.old.listener) (L.asked self.new.listener)
-            (waits_for idle self.old.has_more self.old.is_unsure) }
-        ensures awake { OnOk result (idle ≡ true → self.old.has_more ≡ false
-            → AreAwake (L.named self.new.listener) self.new.places.items) }
+        ensures asks { AsksByWait L.asked idle self.old self.new }
+        ensures awake { OnOk result (WakesByWait L.named idle self.old self.new) }
         ensures opens { self.old.may_accept ≡ true → self.new.may_accept ≡ true }
         ensures more { self.new.has_more ≡ (self.old.has_more && not idle) }
         ensures received { self.new.received ≡ self.old.received }

@@ -1,31 +1,73 @@
 -- What the calls make of a session (own choice).
-use Rattle.std.specs.Prelude.{◌≡◌, ℕ, List, ◌++◌, length, take, drop, true, false, Option, None, Some}
+use Rattle.std.specs.Prelude.{◌≡◌, ◌≢◌, ◌≤◌, ◌<◌, ℕ, List, ◌++◌, length, take, drop, min, true, false, Option, None, Some}
 use Rattle.shared_table.specs.Recent.{new_table}
-use Rattle.usi_session.specs.Due.{SessionView, due, state_due, new_session, wants_input, is_pending, IsSameAfter}
+use Rattle.shared_table.specs.declared.table.TheConstants.{CAPACITY_MAX}
+use Rattle.usi_session.specs.Due.{SessionView, due, state_due, load, new_session, wants_input, is_pending, IsSameAfter, HasSpent}
+use Rattle.usi_session.specs.declared.limits.TheConstants.{CHUNK_MAX}
+use Rattle.usi_library.specs.declared.calls.UsiAnswer.{UsiAnswer}
 use Rattle.usi_library.specs.declared.calls.UsiLook.{UsiLook}
 use Rattle.usi_library.specs.declared.handle.UsiSession.{UsiSession}
 use Rattle.usi_library.specs.declared.opened.Opened.{Opened}
+use Rattle.usi_library.specs.declared.status.TheConstants.{USI_OK, USI_CLOSED, USI_OUT_OF_MEMORY, USI_TOO_LONG, USI_NOT_WANTED}
 
 -- what is open: the session with its table, or nothing
 abbrev pub open_in : UsiSession → Option Opened
 open_in session = session.hand.value
+
+-- a table may have so many entries
+abbrev pub IsCapacity : ℕ → Type 0
+IsCapacity entries = (1 ≤ entries) × (entries ≤ CAPACITY_MAX)
+
+-- a status other than `USI_OK` says that memory was refused
+abbrev pub FailsForMemory : ℕ → Type 0
+FailsForMemory status = status ≢ USI_OK → status ≡ USI_OUT_OF_MEMORY
+
+-- what is answered for a closed session
+abbrev pub closed_answer : UsiAnswer
+closed_answer = record { status = USI_CLOSED; count = 0 }
 
 -- it owes what it owed for the bytes and what follows, and nothing else changed
 abbrev pub IsFed : List ℕ → SessionView → SessionView → Type 0
 IsFed bytes old new = IsSameAfter due bytes old new × IsSameAfter state_due bytes old new
     × (new.queued ≡ old.queued) × (new.state ≡ old.state) × (new.running_go ≡ old.running_go)
 
--- where it was open, it is open still, and this holds of it before and after
-abbrev pub WhereOpen : Option Opened → Option Opened → (Opened → Opened → Type 0) → Type 0
-WhereOpen None new holds = Unit {0}
-WhereOpen (Some old) None holds = ⊥
-WhereOpen (Some old) (Some new) holds = holds old new
+-- the status where these bytes were fed to an open session: that they are too many is said before that none are wanted
+pub record AnswersFeed (bytes : List ℕ) (status : ℕ) (old : SessionView) : Type 0 where
+  pub too_long : CHUNK_MAX < length bytes → status ≡ USI_TOO_LONG
+  pub not_wanted : length bytes ≤ CHUNK_MAX → wants_input old ≡ false → status ≡ USI_NOT_WANTED
+  pub wanted : length bytes ≤ CHUNK_MAX → wants_input old ≡ true → FailsForMemory status
+
+-- where the work was done and something is pending still, all of these steps were made
+abbrev pub SpendsAll : ℕ → UsiAnswer → SessionView → Type 0
+SpendsAll steps answer new = answer.status ≡ USI_OK → HasSpent new steps answer.count
+
+-- where the work was done and these steps were as many as the load, nothing is pending
+abbrev pub IsEnough : ℕ → UsiAnswer → SessionView → SessionView → Type 0
+IsEnough steps answer old new =
+    load old ≤ steps → answer.status ≡ USI_OK → is_pending new ≡ false
+
+-- of what was open before, this holds
+abbrev pub HoldsOf : Option Opened → Option Opened → (SessionView → SessionView → Type 0) → Type 0
+HoldsOf None new holds = Unit {0}
+HoldsOf (Some old) None holds = ⊥
+HoldsOf (Some old) (Some new) holds = holds old.session new.session
+
+-- where it was open, it is open still, and this holds of its session before and after
+abbrev pub WhereOpen : UsiSession → UsiSession → (SessionView → SessionView → Type 0) → Type 0
+WhereOpen old new holds = HoldsOf (open_in old) (open_in new) holds
 
 -- the first n queued bytes are gone from the queue and from what is owed, and nothing else changed
 abbrev pub IsTaken : ℕ → SessionView → SessionView → Type 0
 IsTaken n old new = ((x : List ℕ) → due old x ≡ take n old.queued ++ due new x)
     × (new.queued ≡ drop n old.queued) × (new.state ≡ old.state)
     × (new.running_go ≡ old.running_go) × (new.input ≡ old.input)
+
+-- so many queued bytes, as many as there are and as there is room for, were taken, and are the front of a buffer now, whose rest is
+-- as it was
+pub record IsMoved (before after : List ℕ) (count : ℕ) (old new : SessionView) : Type 0 where
+  pub most : count ≡ min (length before) (length old.queued)
+  pub bytes : after ≡ take count old.queued ++ drop count before
+  pub taken : IsTaken count old new
 
 -- it was closed, and has a new session over an empty table for so many entries
 abbrev pub IsOpened : ℕ → Option Opened → Option Opened → Type 0

@@ -1,13 +1,11 @@
 //! What C calls.
 
-ghost use Rattle.std.specs.Prelude.{◌≡◌, ◌≤◌, ◌<◌, ◌+◌, ◌++◌, ℕ, List, Some, None, true, false, length, take, drop, min};
-ghost use Rattle.shared_table.specs.Recent.{new_table};
+ghost use Rattle.std.specs.Prelude.{◌≡◌, ◌≢◌, ◌≤◌, ◌<◌, ◌+◌, [], None};
 ghost use Rattle.shared_table.specs.declared.table.TheConstants.{CAPACITY_MAX};
-ghost use Rattle.usi_session.specs.Due.{due, state_due, load, is_pending, wants_input, new_session, HasSpent};
+ghost use Rattle.usi_session.specs.Due.{due, state_due, load, IsSameAfter};
 ghost use Rattle.usi_session.specs.WholeLines.{GrowsByLines};
-ghost use Rattle.usi_session.specs.declared.limits.TheConstants.{CHUNK_MAX};
-ghost use Rattle.usi_library.specs.Calls.{open_in, IsFed, IsTaken, IsOpened, IsSeen, IsNothing, WhereOpen};
-ghost use Rattle.usi_library.specs.declared.status.TheConstants.{USI_OK, USI_CLOSED, USI_IS_OPEN, USI_OUT_OF_RANGE, USI_OUT_OF_MEMORY, USI_TOO_LONG, USI_NOT_WANTED};
+ghost use Rattle.usi_library.specs.Calls.{closed_answer, open_in, AnswersFeed, FailsForMemory, IsCapacity, IsEnough, IsFed, IsMoved, IsNothing, IsOpened, IsSeen, SpendsAll, WhereOpen};
+ghost use Rattle.usi_library.specs.declared.status.TheConstants.{USI_OK, USI_CLOSED, USI_IS_OPEN, USI_OUT_OF_RANGE};
 
 use crate::handle::UsiSession;
 use crate::opened::Opened;
@@ -48,13 +46,12 @@ pub struct UsiLook {
 pub extern "C" fn usi_open(session: &mut UsiSession, alloc: Global, entries: usize) -> u32
     ensures opened { result ≡ USI_OK
         → IsOpened entries (open_in session.old) (open_in session.new) }
-    ensures refused { (result ≡ USI_OK → ⊥) → open_in session.new ≡ open_in session.old }
+    ensures refused { result ≢ USI_OK → open_in session.new ≡ open_in session.old }
     ensures least { entries < 1 → result ≡ USI_OUT_OF_RANGE }
     ensures most { CAPACITY_MAX < entries → result ≡ USI_OUT_OF_RANGE }
-    ensures was_open { 1 ≤ entries → entries ≤ CAPACITY_MAX → (open_in session.old ≡ None → ⊥)
-        → result ≡ USI_IS_OPEN }
-    ensures was_closed { 1 ≤ entries → entries ≤ CAPACITY_MAX → open_in session.old ≡ None
-        → (result ≡ USI_OK → ⊥) → result ≡ USI_OUT_OF_MEMORY }
+    ensures was_open { IsCapacity entries → open_in session.old ≢ None → result ≡ USI_IS_OPEN }
+    ensures was_closed { IsCapacity entries → open_in session.old ≡ None
+        → FailsForMemory result }
 {
     if entries < 1 || entries > CAPACITY_MAX {
         return USI_OUT_OF_RANGE;
@@ -80,7 +77,7 @@ pub extern "C" fn usi_open(session: &mut UsiSession, alloc: Global, entries: usi
 pub extern "C" fn usi_close(session: &mut UsiSession) -> u32
     ensures closed { open_in session.new ≡ None }
     ensures was_closed { open_in session.old ≡ None → result ≡ USI_CLOSED }
-    ensures was_open { (open_in session.old ≡ None → ⊥) → result ≡ USI_OK }
+    ensures was_open { open_in session.old ≢ None → result ≡ USI_OK }
 {
     match session.take_out() {
         Some(_open) => USI_OK,
@@ -93,17 +90,11 @@ pub extern "C" fn usi_close(session: &mut UsiSession) -> u32
 #[unsafe(no_mangle)]
 pub extern "C" fn usi_feed(session: &mut UsiSession, bytes: &[u8]) -> u32
     ensures closed { open_in session.old ≡ None → result ≡ USI_CLOSED }
-    ensures refused { (result ≡ USI_OK → ⊥) → open_in session.new ≡ open_in session.old }
-    ensures fed { WhereOpen (open_in session.old) (open_in session.new)
-        (λ old new. result ≡ USI_OK → IsFed bytes.now old.session new.session) }
-    ensures too_long { WhereOpen (open_in session.old) (open_in session.new)
-        (λ old new. CHUNK_MAX < length bytes.now → result ≡ USI_TOO_LONG) }
-    ensures not_wanted { WhereOpen (open_in session.old) (open_in session.new)
-        (λ old new. length bytes.now ≤ CHUNK_MAX → wants_input old.session ≡ false
-        → result ≡ USI_NOT_WANTED) }
-    ensures wanted { WhereOpen (open_in session.old) (open_in session.new)
-        (λ old new. length bytes.now ≤ CHUNK_MAX → wants_input old.session ≡ true
-        → (result ≡ USI_OK → ⊥) → result ≡ USI_OUT_OF_MEMORY) }
+    ensures refused { result ≢ USI_OK → open_in session.new ≡ open_in session.old }
+    ensures fed { WhereOpen session.old session.new
+        (λ old new. result ≡ USI_OK → IsFed bytes.now old new) }
+    ensures status { WhereOpen session.old session.new
+        (λ old new. AnswersFeed bytes.now result old) }
 {
     let Some(mut open) = session.take_out() else {
         return USI_CLOSED;
@@ -118,25 +109,20 @@ pub extern "C" fn usi_feed(session: &mut UsiSession, bytes: &[u8]) -> u32
 /// none, what is owed is as it was, and the next call continues.
 #[unsafe(no_mangle)]
 pub extern "C" fn usi_work(session: &mut UsiSession, steps: u64) -> UsiAnswer
-    ensures closed { open_in session.old ≡ None
-        → (result.status ≡ USI_CLOSED) × (result.count ≡ 0) × (open_in session.new ≡ None) }
-    ensures status { WhereOpen (open_in session.old) (open_in session.new)
-        (λ old new. (result.status ≡ USI_OK → ⊥) → result.status ≡ USI_OUT_OF_MEMORY) }
-    ensures due { WhereOpen (open_in session.old) (open_in session.new)
-        (λ old new. (x : List ℕ) → due new.session x ≡ due old.session x) }
-    ensures after { WhereOpen (open_in session.old) (open_in session.new)
-        (λ old new. (x : List ℕ) → state_due new.session x ≡ state_due old.session x) }
+    ensures closed { open_in session.old ≡ None → result ≡ closed_answer }
+    ensures still_closed { open_in session.old ≡ None → open_in session.new ≡ None }
+    ensures status { WhereOpen session.old session.new
+        (λ old new. FailsForMemory result.status) }
+    ensures due { WhereOpen session.old session.new (IsSameAfter due []) }
+    ensures after { WhereOpen session.old session.new (IsSameAfter state_due []) }
     ensures most { result.count ≤ steps }
-    ensures made { WhereOpen (open_in session.old) (open_in session.new)
-        (λ old new. result.count + load new.session ≤ load old.session) }
-    ensures spent { WhereOpen (open_in session.old) (open_in session.new)
-        (λ old new. result.status ≡ USI_OK → HasSpent new.session steps result.count) }
-    ensures enough { WhereOpen (open_in session.old) (open_in session.new)
-        (λ old new. load old.session ≤ steps → result.status ≡ USI_OK
-        → is_pending new.session ≡ false) }
-    ensures grown { WhereOpen (open_in session.old) (open_in session.new)
-        (λ old new. GrowsByLines old.session.queued new.session.queued) }
-    ensures err { (result.status ≡ USI_OK → ⊥) → result.count ≡ 0 }
+    ensures made { WhereOpen session.old session.new
+        (λ old new. result.count + load new ≤ load old) }
+    ensures spent { WhereOpen session.old session.new (λ old new. SpendsAll steps result new) }
+    ensures enough { WhereOpen session.old session.new (IsEnough steps result) }
+    ensures grown { WhereOpen session.old session.new
+        (λ old new. GrowsByLines old.queued new.queued) }
+    ensures err { result.status ≢ USI_OK → result.count ≡ 0 }
 {
     let Some(mut open) = session.take_out() else {
         return UsiAnswer {
@@ -162,17 +148,12 @@ pub extern "C" fn usi_work(session: &mut UsiSession, steps: u64) -> UsiAnswer
 /// counts them.
 #[unsafe(no_mangle)]
 pub extern "C" fn usi_take(session: &mut UsiSession, buffer: &mut [u8]) -> UsiAnswer
-    ensures closed { open_in session.old ≡ None → (result.status ≡ USI_CLOSED)
-        × (result.count ≡ 0) × (buffer.new ≡ buffer.old) × (open_in session.new ≡ None) }
-    ensures status { WhereOpen (open_in session.old) (open_in session.new)
-        (λ old new. result.status ≡ USI_OK) }
-    ensures count { WhereOpen (open_in session.old) (open_in session.new)
-        (λ old new. result.count ≡ min (length buffer.old) (length old.session.queued)) }
-    ensures bytes { WhereOpen (open_in session.old) (open_in session.new)
-        (λ old new. buffer.new
-        ≡ take result.count old.session.queued ++ drop result.count buffer.old) }
-    ensures taken { WhereOpen (open_in session.old) (open_in session.new)
-        (λ old new. IsTaken result.count old.session new.session) }
+    ensures closed { open_in session.old ≡ None → result ≡ closed_answer }
+    ensures still_closed { open_in session.old ≡ None → open_in session.new ≡ None }
+    ensures untouched { open_in session.old ≡ None → buffer.new ≡ buffer.old }
+    ensures status { WhereOpen session.old session.new (λ old new. result.status ≡ USI_OK) }
+    ensures moved { WhereOpen session.old session.new
+        (IsMoved buffer.old buffer.new result.count) }
 {
     let Some(mut open) = session.take_out() else {
         return UsiAnswer {
@@ -192,8 +173,7 @@ pub extern "C" fn usi_take(session: &mut UsiSession, buffer: &mut [u8]) -> UsiAn
 #[unsafe(no_mangle)]
 pub extern "C" fn usi_look(session: &mut UsiSession) -> UsiLook
     ensures closed { open_in session.old ≡ None → IsNothing result }
-    ensures open { WhereOpen (open_in session.old) (open_in session.new)
-        (λ old new. IsSeen old.session result) }
+    ensures open { WhereOpen session.old session.new (λ old new. IsSeen old result) }
     ensures same { open_in session.new ≡ open_in session.old }
 {
     let Some(open) = session.take_out() else {

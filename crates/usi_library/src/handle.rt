@@ -1,7 +1,6 @@
 //! A session as C has it.
 
-ghost use Rattle.std.specs.Prelude.{◌≡◌, Some, None, is_some};
-ghost use Rattle.std.specs.Option.{MatchOption};
+ghost use Rattle.std.specs.Prelude.{◌≡◌, Some, None, IfSome, IfNone, is_some};
 
 use crate::hand::Hand;
 use crate::loose::Loose;
@@ -9,7 +8,7 @@ use crate::opened::Opened;
 use std::alloc::Global;
 use std::mem::replace;
 
-/// A session that is open or closed: two words, which are all zero where it is closed.
+/// A session that is open or closed: a pointer and a mark, which are all zero where it is closed.
 #[repr(C)]
 #[derive(Drop)]
 pub struct UsiSession {
@@ -22,8 +21,8 @@ pub struct UsiSession {
 impl UsiSession {
     /// What is open, which leaves the session closed.
     pub(crate) fn take_out(&mut self) -> Option<Box<Opened, Global>>
-        ensures was { MatchOption result (self.old.hand.value ≡ None)
-            (λ opened. self.old.hand.value ≡ Some opened.value) }
+        ensures was { IfSome result (λ opened. self.old.hand.value ≡ Some opened.value) }
+        ensures none { IfNone result (self.old.hand.value ≡ None) }
         ensures closed { self.new.hand.value ≡ None }
     {
         if !self.is_open {

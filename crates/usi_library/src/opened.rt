@@ -1,13 +1,12 @@
 //! An open session with the table of its searches.
 
-ghost use Rattle.std.specs.Prelude.{◌≡◌, ◌≤◌, ◌<◌, ◌+◌, ◌++◌, ℕ, List, true, false, IfOk, OnOk, OnErr, length, take, drop, min};
+ghost use Rattle.std.specs.Prelude.{◌≡◌, ◌≢◌, ◌≤◌, ◌+◌, ℕ, List, false, IfOk, OnOk, OnErr};
 ghost use Rattle.shared_table.specs.Recent.{new_table};
 ghost use Rattle.shared_table.specs.declared.table.TheConstants.{CAPACITY_MAX};
-ghost use Rattle.usi_session.specs.Due.{due, state_due, load, is_pending, wants_input, new_session, HasSpent};
+ghost use Rattle.usi_session.specs.Due.{due, state_due, load, is_pending, new_session, HasSpent};
 ghost use Rattle.usi_session.specs.WholeLines.{GrowsByLines};
-ghost use Rattle.usi_session.specs.declared.limits.TheConstants.{CHUNK_MAX};
-ghost use Rattle.usi_library.specs.Calls.{IsFed, IsTaken};
-ghost use Rattle.usi_library.specs.declared.status.TheConstants.{USI_OK, USI_OUT_OF_MEMORY, USI_TOO_LONG, USI_NOT_WANTED};
+ghost use Rattle.usi_library.specs.Calls.{AnswersFeed, IsFed, IsMoved};
+ghost use Rattle.usi_library.specs.declared.status.TheConstants.{USI_OK};
 
 use crate::status::{USI_NOT_WANTED, USI_OK, USI_OUT_OF_MEMORY, USI_TOO_LONG};
 use shared_table::{SharedTable, TableFault};
@@ -41,12 +40,8 @@ impl Opened {
     /// Stores the bytes, or says why not and changes nothing.
     pub(crate) fn feed(&mut self, bytes: &[u8]) -> u32
         ensures fed { result ≡ USI_OK → IsFed bytes.now self.old.session self.new.session }
-        ensures refused { (result ≡ USI_OK → ⊥) → self.new ≡ self.old }
-        ensures too_long { CHUNK_MAX < length bytes.now → result ≡ USI_TOO_LONG }
-        ensures not_wanted { length bytes.now ≤ CHUNK_MAX
-            → wants_input self.old.session ≡ false → result ≡ USI_NOT_WANTED }
-        ensures wanted { length bytes.now ≤ CHUNK_MAX → wants_input self.old.session ≡ true
-            → (result ≡ USI_OK → ⊥) → result ≡ USI_OUT_OF_MEMORY }
+        ensures refused { result ≢ USI_OK → self.new ≡ self.old }
+        ensures status { AnswersFeed bytes.now result self.old.session }
     {
         if bytes.len() > CHUNK_MAX {
             return USI_TOO_LONG;
@@ -79,10 +74,7 @@ impl Opened {
     /// Moves queued bytes to the front of a buffer, as many as there are and as it has room for.
     /// Returns how many.
     pub(crate) fn take(&mut self, buffer: &mut [u8]) -> usize
-        ensures most { result ≡ min (length buffer.old) (length self.old.session.queued) }
-        ensures bytes { buffer.new
-            ≡ take result self.old.session.queued ++ drop result buffer.old }
-        ensures taken { IsTaken result self.old.session self.new.session }
+        ensures moved { IsMoved buffer.old buffer.new result self.old.session self.new.session }
     {
         let queued = self.session.output();
         let n = queued.len().min(buffer.len());

@@ -1,0 +1,19 @@
+-- What a wire of the code reports before and after a call (own choice).
+use Rattle.std.specs.Prelude.{ℕ, List, Result}
+use Rattle.wires.specs.Report.{KeepsAll, Reads, Writes, Shuts}
+use Rattle.wires.specs.declared.wire.Got.{Got}
+use Rattle.wires.specs.declared.wire.Wire.{Ghosts}
+use Rattle.wires.specs.declared.wire.WireFault.{WireFault}
+
+module _ {W : Type 0} (wires : Ghosts W) (old new : W) where
+  abbrev pub KeepsReport : Type 0
+  KeepsReport = KeepsAll (wires.report old) (wires.report new)
+
+  abbrev pub ReportsRead : ℕ → Result Got WireFault → List ℕ → Type 0
+  ReportsRead number result buf = Reads (wires.report old) (wires.report new) number result buf
+
+  abbrev pub ReportsWrite : ℕ → Result ℕ WireFault → List ℕ → Type 0
+  ReportsWrite number result buf = Writes (wires.report old) (wires.report new) number result buf
+
+  abbrev pub ReportsShut : ℕ → Type 0
+  ReportsShut number = Shuts (wires.bound old) (wires.report old) (wires.report new) number
