@@ -37,7 +37,7 @@ use Rattle.shogi_eval.specs.declared.eval.Eval.TheVariants.{Plain, Hand}
 use Rattle.shogi_eval.specs.Material.{material_of, taken_gain, promotion_gain, drop_gain, value_of}
 use Rattle.shogi_eval.proofs.Gains.{material_after_board, material_after_drop}
 use Rattle.minimax.proofs.Valid.{drop_of}
-use Rattle.last_ply.specs.declared.gains.TheConstants.{PROMOTION_GAIN_MAX}
+use Rattle.shogi_eval.specs.declared.gain.TheConstants.{PROMOTION_GAIN_MAX}
 use Rattle.last_ply.proofs.Squares.{left_clear}
 use Rattle.last_ply.specs.LastPly.{is_legal_board_move, is_own, score_at, HasScore, ScoresAtMost, ScoresFromAtMost, ScoresAmongAtMost, OnOwn}
 

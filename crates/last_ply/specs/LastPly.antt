@@ -21,7 +21,7 @@ use Rattle.shogi_eval.specs.Evaluated.{Evaluated}
 use Rattle.shogi_eval.specs.Material.{material_of, taken_gain}
 use Rattle.minimax.specs.Minimax.{negated, lost_value, IsTrueEntry}
 use Rattle.minimax.specs.declared.entry.Entry.{Entry}
-use Rattle.last_ply.specs.declared.gains.TheConstants.{PROMOTION_GAIN_MAX}
+use Rattle.shogi_eval.specs.declared.gain.TheConstants.{PROMOTION_GAIN_MAX}
 
 -- a piece of the side to move stands on the square
 abbrev pub is_own : Shogi → ℕ → Bool

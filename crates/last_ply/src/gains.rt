@@ -2,10 +2,8 @@
 
 ghost use Rattle.std.specs.Prelude.{◌≡◌, ◌<◌, ◌≤◌, ◌^◌, ◌+◌, ◌*◌, ◌≤ℤ◌, ◌<ℤ◌, ◌-ℤ◌, ◌+ℤ◌, pos, true, false, ℕ, Option};
 ghost use Rattle.shogi_core.specs.declared.piece.Piece as pieces;
-ghost use Rattle.shogi_core.specs.Bits.{IsMaskOf};
 ghost use Rattle.shogi_core.specs.Cell.{is_slider};
 ghost use Rattle.shogi_core.specs.Codes.{code_of};
-ghost use Rattle.shogi_core.specs.Lines.{is_near};
 ghost use Rattle.shogi_core.specs.Movement.{reaches};
 ghost use Rattle.shogi_moves.specs.Destinations.{AreEnterable, IsWithin};
 ghost use Rattle.shogi_moves.specs.Legal.{is_legal};
@@ -13,37 +11,15 @@ ghost use Rattle.shogi_moves.specs.LegalMoves.{legal_codes};
 ghost use Rattle.shogi_moves.specs.Rising.{is_in};
 ghost use Rattle.shogi_eval.specs.declared.points.TheConstants.{PIECE_VALUE_MAX, POINTS_MAX};
 ghost use Rattle.shogi_eval.specs.Material.{promotion_gain, taken_gain};
-ghost use Rattle.last_ply.specs.declared.gains.TheConstants.{PROMOTION_GAIN_MAX};
+ghost use Rattle.shogi_eval.specs.declared.gain.TheConstants.{PROMOTION_GAIN_MAX};
 ghost use Rattle.last_ply.specs.LastPly.{base_of, is_legal_board_move, is_own, score_at, HasNoneFrom, HasReachers, NodeHasScore, NodeScoresAtMost, NodeScoresFromAtMost, OnEach, OnRest, Outside, ScoresAmongAtMost, ScoresTo, ScoresToAtMost, TakesLittle};
 
 use crate::scene::Scene;
 use shogi_core::bits::{has, lowest, with, without_lowest};
 use shogi_core::zones::{promoting_squares, squares_near_zone};
-use shogi_core::{Color, Move, Piece, Role, Square, aligned_squares, step_squares};
-use shogi_eval::{Eval, taken_gain};
+use shogi_core::{Color, Move, Piece, Role, Square, aligned_squares, near_squares};
+use shogi_eval::{Eval, PROMOTION_GAIN_MAX, promotion_gain, taken_gain};
 use shogi_moves::{legal_destinations, takers};
-
-/// The most that a promotion gains, that of a pawn.
-pub const PROMOTION_GAIN_MAX: u32 = 500;
-
-/// What the promotion of a piece gains, where it does.
-fn promotion_gain(cell: Option<Piece>, promote: bool) -> u32
-    ensures value { result ≡ promotion_gain promote cell }
-    ensures range { result ≤ PROMOTION_GAIN_MAX }
-{
-    let Some(piece) = cell else { return 0 };
-    if !promote {
-        return 0;
-    }
-    match piece.role {
-        Role::Pawn => PROMOTION_GAIN_MAX,
-        Role::Lance | Role::Bishop | Role::Rook => 300,
-        Role::Knight => 200,
-        Role::Silver => 100,
-        Role::King | Role::Gold | Role::Horse | Role::Dragon => 0,
-        Role::PromotedPawn | Role::PromotedLance | Role::PromotedKnight | Role::PromotedSilver => 0,
-    }
-}
 
 /// The most that the capture of a piece that does not slide gains, that of a gold.
 fn still_gain(e: Eval) -> u32
@@ -57,27 +33,6 @@ fn still_gain(e: Eval) -> u32
         role: Role::Gold,
     };
     taken_gain(e, Some(gold))
-}
-
-/// The squares next to the square, and a knight's jump away.
-#[tactic(auto, using(shogi_core::proofs::TargetLaws::no_bits))]
-fn near_squares(square: usize) -> u128
-    requires { square < 81 }
-    ensures { IsMaskOf result (is_near square) }
-{
-    let king = Piece {
-        color: Color::Black,
-        role: Role::King,
-    };
-    let black = Piece {
-        color: Color::Black,
-        role: Role::Knight,
-    };
-    let white = Piece {
-        color: Color::White,
-        role: Role::Knight,
-    };
-    step_squares(king, square) | (step_squares(black, square) | step_squares(white, square))
 }
 
 impl Scene<'_> {
