@@ -21,8 +21,7 @@ use Rattle.shogi_eval.specs.declared.eval.Eval.{Eval}
 use Rattle.shogi_eval.specs.Evaluated.{Evaluated}
 use Rattle.shogi_eval.specs.Material.{material_of}
 use Rattle.last_ply.specs.LastPly.{is_legal_board_move, is_own, score_at, IsFirstFrom, NoneScoresFrom, Scores, ScoresFromAtMost, OnOwn, NoneScores, IsFirstToScore}
-use Rattle.last_ply.proofs.MateLaws.{by_moves}
-use Rattle.last_ply.proofs.Scores.{legal_parts, score_drop, score_quiet}
+use Rattle.last_ply.proofs.Scores.{by_moves, legal_parts, score_drop, score_quiet}
 use Rattle.last_ply.proofs.Squares.{out_within}
 
 -- a legal move that ends on no square of a capture or a promotion scores what the node has

@@ -22,11 +22,13 @@ use Rattle.shogi_core.specs.Position.{Shogi}
 use Rattle.shogi_core.specs.Validity.{IsValid}
 use Rattle.shogi_core.proofs.BitLaws.{has_bit-and, has_bit-none, has_bit-or}
 use Rattle.shogi_core.proofs.SeenLaws.{lined_aligned, reaches_near}
-use Rattle.shogi_core.proofs.CodesBack.{move_of-board, code_of-board}
+use Rattle.shogi_core.proofs.CodesBack.{move_of-board, move_of-drop, code_of-board, code_of-drop}
 use Rattle.shogi_moves.specs.After.{after, after_code}
 use Rattle.shogi_moves.specs.Legal.{is_legal, is_legal_code, is_pseudo_legal_board_move}
 use Rattle.shogi_core.specs.Zones.{may_promote, is_near_zone}
 use Rattle.shogi_moves.specs.Destinations.{AreEnterable, HasMovers, is_destination, is_unchecked}
+use Rattle.shogi_moves.specs.LegalMoves.{legal_codes}
+use Rattle.shogi_moves.specs.Rising.{is_in}
 use Rattle.shogi_moves.proofs.DestinationLaws.{all_ways, legal_board}
 use Rattle.shogi_replies.proofs.FarLaws.{far_plain}
 use Rattle.shogi_moves.proofs.Keeps.{is_safe_from_legal}
@@ -34,10 +36,9 @@ use Rattle.shogi_moves.proofs.KeepsBoard.{IsSafeBoardMove, safe_board_move}
 use Rattle.shogi_moves.proofs.LegalLaws.{in_legal, legal_in, legal_code_below, is_legal_code_of, after_code_at, no_piece}
 use Rattle.shogi_eval.specs.declared.eval.Eval.{Eval}
 use Rattle.shogi_eval.specs.declared.eval.Eval.TheVariants.{Plain, Hand}
+use Rattle.shogi_eval.specs.declared.gain.TheConstants.{PROMOTION_GAIN_MAX}
 use Rattle.shogi_eval.specs.Material.{material_of, taken_gain, promotion_gain, drop_gain, value_of}
 use Rattle.shogi_eval.proofs.Gains.{material_after_board, material_after_drop}
-use Rattle.minimax.proofs.Valid.{drop_of}
-use Rattle.shogi_eval.specs.declared.gain.TheConstants.{PROMOTION_GAIN_MAX}
 use Rattle.last_ply.proofs.Squares.{left_clear}
 use Rattle.last_ply.specs.LastPly.{is_legal_board_move, is_own, score_at, HasScore, ScoresAtMost, ScoresFromAtMost, ScoresAmongAtMost, OnOwn}
 
@@ -137,9 +138,10 @@ score_drop p e kind to code v ht back l =
     let most : drop_gain e kind ≤ℤ pos 0 = drop_gain_most e kind in
     omega (arith, ints, law, at)
 
--- what the moves of each of the side's pieces score at most, all moves do, where the node has no more
-pub all_most : (p : Shogi) (e : Eval) (v : ℤ) → IsValid p → material_of p e ≤ℤ v → OnOwn p (λ from. ScoresFromAtMost p e from v) → ScoresAtMost p e v
-all_most p e v ok base each code i =
+-- what holds of the legal moves of each piece and of the drops of each kind holds of all legal moves
+pub by_moves : (p : Shogi) (fact : ℕ → Type 0) → OnOwn p (λ from. (n : ℕ) (promote : Bool) → n < 81 → is_legal_board_move p from n promote ≡ true → fact (code_of (Board from n promote)))
+    → ((kind : Kind) (n : ℕ) → n < 81 → is_legal_code p (code_of (Drop kind n)) ≡ true → fact (code_of (Drop kind n))) → (code : ℕ) → is_in code (legal_codes p) ≡ true → fact code
+by_moves p fact board drops code i =
     let legal : is_legal_code p code ≡ true = legal_in p 0 code i in
     let below : code < MOVE_CODE_COUNT = legal_code_below p code legal in
     elim (cases_lt code FIRST_DROP) [
@@ -147,9 +149,16 @@ all_most p e v ok base each code i =
           let same : code_of (Board (code / 2 / 81) (code / 2 % 81) (code % 2 == 1)) ≡ code = code_of-board code in
           let f : code / 2 / 81 < 81 = omega arith in
           let own : is_own p (code / 2 / 81) ≡ true = true_from_ne_false (is_own p (code / 2 / 81)) (λ out. both_ways (is_legal_code p code) (no_piece p (code / 2 / 81) code f out (omega arith) (omega arith)) legal) in
-          subst (λ (x : ℕ). score_at p e x ≤ℤ v) same (each (code / 2 / 81) f own (code / 2 % 81) (code % 2 == 1) (omega arith) (ap (is_legal_code p) same ∙ legal)))
-      | inr high ↦ (let s : score_at p e code ≤ℤ material_of p e = score_drop p e (kind_at ((code - FIRST_DROP) / 81)) ((code - FIRST_DROP) % 81) code ok (omega arith) (drop_of code high below) legal in omega (arith, ints))
+          subst fact same (board (code / 2 / 81) f own (code / 2 % 81) (code % 2 == 1) (omega arith) (ap (is_legal_code p) same ∙ legal)))
+      | inr high ↦ (
+          let same : code_of (Drop (kind_at ((code - FIRST_DROP) / 81)) ((code - FIRST_DROP) % 81)) ≡ code = code_of-drop code high below in
+          subst fact same (drops (kind_at ((code - FIRST_DROP) / 81)) ((code - FIRST_DROP) % 81) (omega arith) (ap (is_legal_code p) same ∙ legal)))
     ]
+
+-- what the moves of each of the side's pieces score at most, all moves do, where the node has no more
+pub all_most : (p : Shogi) (e : Eval) (v : ℤ) → IsValid p → material_of p e ≤ℤ v → OnOwn p (λ from. ScoresFromAtMost p e from v) → ScoresAtMost p e v
+all_most p e v ok base each = by_moves p (λ code. score_at p e code ≤ℤ v) each
+    (λ kind n h l. let s : score_at p e (code_of (Drop kind n)) ≤ℤ material_of p e = score_drop p e kind n (code_of (Drop kind n)) ok h (move_of-drop kind n h) l in omega (arith, ints))
 
 pub weaker : (p : Shogi) (e : Eval) (from : ℕ) (v w : ℤ) → ScoresFromAtMost p e from v → v ≤ℤ w → ScoresFromAtMost p e from w
 weaker p e from v w h up n promote below legal = let s : score_at p e (code_of (Board from n promote)) ≤ℤ v = h n promote below legal in omega (arith, ints)

@@ -9,9 +9,9 @@ ghost use Rattle.shogi_moves.specs.Destinations.{AreEnterable, IsWithin};
 ghost use Rattle.shogi_moves.specs.Legal.{is_legal};
 ghost use Rattle.shogi_moves.specs.LegalMoves.{legal_codes};
 ghost use Rattle.shogi_moves.specs.Rising.{is_in};
-ghost use Rattle.shogi_eval.specs.declared.points.TheConstants.{PIECE_VALUE_MAX, POINTS_MAX};
-ghost use Rattle.shogi_eval.specs.Material.{promotion_gain, taken_gain};
 ghost use Rattle.shogi_eval.specs.declared.gain.TheConstants.{PROMOTION_GAIN_MAX};
+ghost use Rattle.shogi_eval.specs.declared.points.TheConstants.{PIECE_VALUE_MAX, POINTS_MAX};
+ghost use Rattle.shogi_eval.specs.Material.{taken_gain};
 ghost use Rattle.last_ply.specs.LastPly.{base_of, is_legal_board_move, is_own, score_at, HasNoneFrom, HasReachers, NodeHasScore, NodeScoresAtMost, NodeScoresFromAtMost, OnEach, OnRest, Outside, ScoresAmongAtMost, ScoresTo, ScoresToAtMost, TakesLittle};
 
 use crate::scene::Scene;
