@@ -1,6 +1,6 @@
 -- The least legal move from a code on, by the destinations of a piece or of a held kind.
 use Rattle.std.proofs.Common.{◌≡◌, ℕ, ◌+◌, ◌*◌, ◌^◌, ◌<◌, ◌≤◌, Bool, true, false, not, List, [], ◌∷◌, Option, None, Some, refl, sym, ◌∙◌, arith, inl, inr, bit_or, ap}
-use Rattle.std.specs.Prelude.{MatchOption, IsNone, IfSome}
+use Rattle.std.specs.Prelude.{IsNone, IfSome}
 use Rattle.std.proofs.lemmas.Bool.{cases_Bool, cases_lt, or_cases, both_ways}
 use Rattle.shogi_core.specs.declared.moves.TheConstants.{MOVE_CODE_COUNT, FIRST_DROP, SQUARE_CODES}
 use Rattle.shogi_core.specs.declared.moves.Move.{Move}
@@ -15,8 +15,9 @@ use Rattle.shogi_core.proofs.BitLaws.{has_bit-none, has_bit-or}
 use Rattle.shogi_core.proofs.CodesBack.{move_of-board}
 use Rattle.shogi_moves.specs.Captures.{is_matching}
 use Rattle.shogi_moves.specs.Legal.{is_legal, is_legal_code}
-use Rattle.shogi_moves.specs.LegalMoves.{legal_from, IsFirstFrom}
+use Rattle.shogi_moves.specs.LegalMoves.{legal_from}
 use Rattle.shogi_moves.specs.Sweeps.{Keeps, KeepsDrop, matching_from}
+use Rattle.shogi_moves.specs.Walks.{IsNextOf, TakesNext}
 use Rattle.shogi_moves.proofs.LegalLaws.{is_legal_code_of, legal_from_found, no_piece, run_without}
 use Rattle.shogi_moves.proofs.SweepLaws.{keeps_first, keeps_from, fails_all, fails_to_plain, fails_to_promoting, all_drops}
 
@@ -71,11 +72,6 @@ pub on_board : (from to : ℕ) (promote : Bool) → from < 81 → to < 81 → co
 on_board from to true hf ht = omega arith
 on_board from to false hf ht = omega arith
 
--- the first of the drops from a code on, as a sweep of them finds it
-pub first_drop : (p : Shogi) (first old new : ℕ) (found : Option Move) → FIRST_DROP ≤ old → FIRST_DROP ≤ new → legal_from p first ≡ legal_from p old → MatchOption found (matching_from p false old ≡ []) (λ m. matching_from p false old ≡ code_of m ∷ matching_from p false new) → IfSome found (λ m. new ≡ code_of m + 1) → IsFirstFrom p found first
-first_drop p first old new None low up same next at = same ∙ (sym (all_drops p old low) ∙ next)
-first_drop p first old new (Some m) low up same next at = same ∙ (sym (all_drops p old low) ∙ (next ∙ ap (λ (xs : List ℕ). code_of m ∷ xs) (all_drops p new up ∙ ap (legal_from p) at)))
-
 -- what is left of a kind above a drop
 pub drops_above : (p : Shogi) (kind : Kind) (destinations less to : ℕ) → to < 81 → destinations < 2 ^ 81 → ((n : ℕ) → n < 81 → has_bit destinations n ≡ is_matching p false (code_of (Drop kind n))) → less < 2 ^ 81 → ((i : ℕ) → i < 81 → to < i → has_bit less i ≡ has_bit destinations i) → ((i : ℕ) → i < 81 → i ≤ to → has_bit less i ≡ false)
     → KeepsDrop p kind (code_of (Drop kind to) + 1) less
@@ -92,8 +88,12 @@ drops_above p kind destinations less to ht all bits fits same none = record {
   };
 }
 
--- the next of a walk whose moves on the board are over
-pub next_drop : (p : Shogi) (codes : List ℕ) (old new : ℕ) (found : Option Move) → FIRST_DROP ≤ old → FIRST_DROP ≤ new → codes ≡ legal_from p old → MatchOption found (matching_from p false old ≡ []) (λ m. matching_from p false old ≡ code_of m ∷ matching_from p false new) → (IsNone found → matching_from p false new ≡ [])
-    → MatchOption found ((codes ≡ []) × (legal_from p new ≡ [])) (λ m. codes ≡ code_of m ∷ legal_from p new)
-next_drop p codes old new None low up same next end = (same ∙ (sym (all_drops p old low) ∙ next), sym (all_drops p new up) ∙ end refl)
-next_drop p codes old new (Some m) low up same next end = same ∙ (sym (all_drops p old low) ∙ (next ∙ ap (λ (xs : List ℕ). code_of m ∷ xs) (all_drops p new up)))
+-- the next of the drops is the next of a walk
+pub takes_drop : (codes old new : List ℕ) (found : Option Move) → codes ≡ old → IsNextOf found old new [] → (IsNone found → new ≡ []) → TakesNext found codes new
+takes_drop codes old new None same next end = (same ∙ next, end refl)
+takes_drop codes old new (Some m) same next end = same ∙ next
+
+-- and the moves above it are left
+pub above_drop : (p : Shogi) (new : ℕ) (found : Option Move) → FIRST_DROP ≤ new → IfSome found (λ m. new ≡ code_of m + 1) → IfSome found (λ m. matching_from p false new ≡ legal_from p (code_of m + 1))
+above_drop p new None low at = at
+above_drop p new (Some m) low at = all_drops p new low ∙ ap (legal_from p) at

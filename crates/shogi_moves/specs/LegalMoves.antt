@@ -28,11 +28,6 @@ abbrev pub IsLeastFrom : Shogi → Option Move → ℕ → ℕ → Type 0
 IsLeastFrom p found first end = MatchOption found (legal_from p first ≡ legal_from p end)
     (λ m. legal_from p first ≡ code_of m ∷ legal_from p (code_of m + 1))
 
--- the same, up to the last of all moves
-abbrev pub IsFirstFrom : Shogi → Option Move → ℕ → Type 0
-IsFirstFrom p found first = MatchOption found (legal_from p first ≡ [])
-    (λ m. legal_from p first ≡ code_of m ∷ legal_from p (code_of m + 1))
-
 -- the move found is the first of the legal moves above a given one, or of all; where none is found, there is none
 abbrev pub IsNextAbove : Shogi → Option Move → Option Move → Type 0
 IsNextAbove p after found = MatchOption found (legal_above p after ≡ [])

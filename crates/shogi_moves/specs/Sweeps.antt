@@ -11,6 +11,8 @@ use Rattle.shogi_core.specs.Position.{Shogi}
 use Rattle.shogi_moves.specs.declared.next.KeptDestinations.{KeptDestinations}
 use Rattle.shogi_moves.specs.declared.sweep.BoardSweep.{BoardSweep}
 use Rattle.shogi_moves.specs.declared.sweep.DropSweep.{DropSweep}
+use Rattle.shogi_moves.specs.declared.walk.Place.{Place}
+use Rattle.shogi_moves.specs.declared.walk.Place.TheVariants as places
 use Rattle.shogi_moves.specs.Captures.{matches_kind, is_matching}
 use Rattle.shogi_moves.specs.CheckInfo.{IsCheckInfoOf}
 use Rattle.shogi_moves.specs.Destinations.{AreDropSquares, AreAllDestinations}
@@ -87,6 +89,15 @@ ContinuesBoard p capture old new =
 
 abbrev pub ContinuesDrops : Shogi → DropSweep → DropSweep → Type 0
 ContinuesDrops p old new = (new.destinations ≢ 0) × (drops_left p old ≡ drops_left p new)
+
+-- where a walk over all legal moves may stand, and the moves that it has still to give
+abbrev pub IsPlace : Shogi → Place → Type 0
+IsPlace p (places.Board info code kept) = IsCheckInfoOf info p × (code ≤ FIRST_DROP) × AreKept p kept
+IsPlace p (places.Drops sweep) = IsDropSweep p sweep
+
+abbrev pub codes_at : Shogi → Place → List ℕ
+codes_at p (places.Board info code kept) = legal_from p code
+codes_at p (places.Drops sweep) = drops_left p sweep
 
 -- the move found is the next one, and the others are left; where none is found, there is none of the sweep
 abbrev pub IsNextOnBoard : Shogi → Bool → Option Move → BoardSweep → BoardSweep → Type 0

@@ -1,7 +1,7 @@
 //! Attacks, legal moves, the position after a move, and counting sequences of legal moves.
 //!
 //! A move is found as a mask: `destinations` has the legal ends of a piece, `drops` and `pawn_drop`
-//! the squares for a held kind. `sweep` goes through them for the search, `next` and `walk` for
+//! the squares for a held kind. `sweep` goes through them for the search, `walk` over `next` for
 //! everyone else, `count` without looking at each, and `existence` up to the first one. `movers`
 //! leaves out, before their destinations are looked for, pieces that surely take nothing. A move is
 //! tested in `legal`, by the rules one after another, that on checks in `unchecked`, and made in
@@ -35,8 +35,7 @@ pub use drops::drop_squares;
 pub use existence::has_legal;
 pub use legal::{is_legal, play, play_in_place};
 pub use movers::{matching_movers, takers};
-pub use next::next_legal;
 pub use pawn_drop::drop_destinations;
 pub use pawn_escape::{has_open, king_steps};
 pub use sweep::{BoardSweep, DropSweep};
-pub use walk::Walk;
+pub use walk::{Walk, next_legal};

@@ -1,23 +1,19 @@
-//! The legal moves in the order of their codes.
+//! The next legal move of a piece on the board.
 
 ghost use Rattle.std.specs.Prelude.{◌≡◌, ◌≤◌, ◌<◌, ◌+◌, ◌*◌, true, false, IfSome};
 ghost use Rattle.shogi_core.specs.declared.moves.TheConstants.{FIRST_DROP, SQUARE_CODES};
-ghost use Rattle.shogi_core.specs.declared.moves.Move.TheVariants as moves;
 ghost use Rattle.shogi_core.specs.Cell.{is_piece_of};
 ghost use Rattle.shogi_core.specs.Codes.{code_of};
-ghost use Rattle.shogi_core.specs.Movement.{piece_at};
 ghost use Rattle.shogi_moves.specs.CheckInfo.{IsCheckInfoOf};
 ghost use Rattle.shogi_moves.specs.Legal.{is_legal};
-ghost use Rattle.shogi_moves.specs.LegalMoves.{legal_codes, IsFirstFrom, IsLeastFrom, IsNextAbove};
+ghost use Rattle.shogi_moves.specs.LegalMoves.{IsLeastFrom};
 ghost use Rattle.shogi_moves.specs.Places.{IsAtSquare};
-ghost use Rattle.shogi_moves.specs.Rising.{IsRising};
 ghost use Rattle.shogi_moves.specs.Sweeps.{AreKept, KeepsLegal};
 
-use crate::check_info::{CheckInfo, check_info_of};
+use crate::check_info::CheckInfo;
 use crate::destinations::{Destinations, all_destinations, enterable};
-use crate::sweep::DropSweep;
 use shogi_core::bits::{bits_from, has, lowest};
-use shogi_core::{FIRST_DROP, Kind, Move, Position, SQUARE_CODES, Square, is_piece_of};
+use shogi_core::{FIRST_DROP, Move, Position, SQUARE_CODES, Square, is_piece_of};
 
 /// The legal destinations of what stands on a square, kept from one move of it to the next.
 #[derive(Clone, Copy, Debug)]
@@ -136,51 +132,4 @@ pub fn least_board(
         code = square * SQUARE_CODES + SQUARE_CODES;
     }
     None
-}
-
-/// The legal move of least code from the given one on, which is none of a drop but the first; the
-/// destinations of what stands on the square are at hand.
-fn least_from(p: &Position, info: CheckInfo, first: u16, from: Square) -> Option<Move>
-    requires first { first ≤ FIRST_DROP }
-    requires info { IsCheckInfoOf info p.now }
-    ensures next { IsFirstFrom p.now result first }
-    ensures legal { IfSome result (λ m. is_legal p.now m ≡ true) }
-{
-    let Some(m) = least_board(p, &info, first, &mut kept_at(p, &info, from)) else {
-        return DropSweep::new(p, info).next(p)
-    };
-    Some(m)
-}
-
-/// The legal drop of least code above that of a drop.
-fn least_drop(p: &Position, info: CheckInfo, kind: Kind, to: Square) -> Option<Move>
-    requires { IsCheckInfoOf info p.now }
-    ensures next { IsFirstFrom p.now result (code_of (moves.Drop kind to) + 1) }
-    ensures legal { IfSome result (λ m. is_legal p.now m ≡ true) }
-{
-    to.validity();
-    DropSweep::above(p, info, kind, to).next(p)
-}
-
-/// The legal move of least code above that of `after`, or of least code where that is `None`;
-/// `None` where no further move is legal. Beginning with `None` and passing each result on gives
-/// each legal move once, in the order of codes (own choice).
-#[tactic(auto, using(crate::proofs::LegalLaws::legal_rising))]
-pub fn next_legal(p: &Position, after: Option<Move>) -> Option<Move>
-    ensures next { IsNextAbove p.now after result }
-    ensures legal { IfSome result (λ m. is_legal p.now m ≡ true) }
-    ensures rising { IsRising (legal_codes p.now) }
-{
-    let info = check_info_of(p);
-    let Some(m) = after else {
-        return least_from(p, info, 0, Square::of_index(0))
-    };
-    match m {
-        Move::Board { from, to, .. } => {
-            from.validity();
-            to.validity();
-            least_from(p, info, m.code_above(), from)
-        }
-        Move::Drop { kind, to } => least_drop(p, info, kind, to),
-    }
 }

@@ -1,49 +1,102 @@
-//! A walk over the legal moves of a position.
+//! The legal moves of a position in the order of their codes.
 
-ghost use Rattle.std.specs.Prelude.{◌≡◌, true, IfSome};
+ghost use Rattle.std.specs.Prelude.{◌≡◌, ◌≤◌, true, Some, IfSome};
+ghost use Rattle.shogi_core.specs.declared.moves.TheConstants.{FIRST_DROP};
+ghost use Rattle.shogi_moves.specs.CheckInfo.{IsCheckInfoOf};
 ghost use Rattle.shogi_moves.specs.Legal.{is_legal};
-ghost use Rattle.shogi_moves.specs.LegalMoves.{legal_codes};
+ghost use Rattle.shogi_moves.specs.LegalMoves.{IsNextAbove, legal_above, legal_codes, legal_from};
+ghost use Rattle.shogi_moves.specs.Rising.{IsRising};
+ghost use Rattle.shogi_moves.specs.Sweeps.{IsPlace, codes_at};
 ghost use Rattle.shogi_moves.specs.Walks.{TakesNext};
 
 use crate::check_info::{CheckInfo, check_info_of};
 use crate::next::{KeptDestinations, kept_at, least_board};
 use crate::sweep::DropSweep;
-use shogi_core::{FIRST_DROP, Move, Position, Square};
+use shogi_core::{Move, Position, Square};
 use std::marker::Model;
 
+/// Where a walk stands: at the board moves from a code on, with the destinations of a piece, or at
+/// the drops, which are looked for only then.
+#[derive(Clone, Copy)]
+pub enum Place {
+    Board(CheckInfo, u16, KeptDestinations),
+    Drops(DropSweep),
+}
+
 /// The legal moves of a position that are still to come, in the order of codes; seen as the
-/// position and the list of their codes. Those on the board come first, from a code on.
+/// position and the list of their codes.
 #[derive(Drop)]
 pub struct Walk {
     position: Position,
-    code: u16,
-    info: CheckInfo,
-    destinations: KeptDestinations,
-    drops: DropSweep,
+    place: Place,
 }
 
 impl Model for Walk {
-    ghost use Rattle.std.specs.Prelude.{◌≡◌, ◌≤◌, ◌<◌, nat_lt, cond};
-    ghost use Rattle.shogi_core.specs.declared.moves.TheConstants.{FIRST_DROP};
-    ghost use Rattle.shogi_moves.specs.CheckInfo.{IsCheckInfoOf};
-    ghost use Rattle.shogi_moves.specs.LegalMoves.{legal_from};
-    ghost use Rattle.shogi_moves.specs.Sweeps.{AreKept, IsDropSweep};
+    ghost use Rattle.shogi_moves.specs.Sweeps.{IsPlace, codes_at};
     ghost use Rattle.shogi_moves.specs.Walks.{Remaining};
 
     ghost Value = { Remaining };
 
     ghost view = { λ w. record {
       position = w.position;
-      codes = legal_from w.position (cond (nat_lt w.code FIRST_DROP) w.code w.drops.code);
+      codes = codes_at w.position w.place;
     } };
 
-    ghost invariant = { λ w. record {
-      info : IsCheckInfoOf w.info w.position;
-      destinations : AreKept w.position w.destinations;
-      kept : IsDropSweep w.position w.drops;
-      code : w.code ≤ FIRST_DROP;
-      begun : w.code < FIRST_DROP → w.drops.code ≡ FIRST_DROP;
-    } };
+    ghost invariant = { λ w. IsPlace w.position w.place };
+}
+
+/// The place at the board moves from a code on, which are first those of what stands on the square.
+#[inline(always)]
+fn board_place(p: &Position, info: CheckInfo, code: u16, from: Square) -> Place
+    requires info { IsCheckInfoOf info p.now }
+    requires code { code ≤ FIRST_DROP }
+    ensures place { IsPlace p.now result }
+    ensures codes { codes_at p.now result ≡ legal_from p.now code }
+{
+    Place::Board(info, code, kept_at(p, &info, from))
+}
+
+/// The place behind a move, or at the first move.
+#[inline(always)]
+fn place_behind(p: &Position, passed: Option<Move>) -> Place
+    ensures place { IsPlace p.now result }
+    ensures codes { codes_at p.now result ≡ legal_above p.now passed }
+{
+    let info = check_info_of(p);
+    let Some(m) = passed else {
+        return board_place(p, info, 0, Square::of_index(0))
+    };
+    m.validity();
+    match m {
+        Move::Board { from, .. } => board_place(p, info, m.code_above(), from),
+        Move::Drop { kind, to } => Place::Drops(DropSweep::above(p, info, kind, to)),
+    }
+}
+
+impl Place {
+    /// The next legal move from the place on, which moves behind it.
+    #[inline(always)]
+    fn next(&mut self, p: &Position) -> Option<Move>
+        requires { IsPlace p.now self.old }
+        ensures place { IsPlace p.now self.new }
+        ensures next { TakesNext result (codes_at p.now self.old) (codes_at p.now self.new) }
+        ensures above { IfSome result (λ m. codes_at p.now self.new ≡ legal_above p.now (Some m)) }
+        ensures legal { IfSome result (λ m. is_legal p.now m ≡ true) }
+    {
+        match self {
+            Place::Drops(sweep) => sweep.next(p),
+            Place::Board(info, code, kept) => {
+                if let Some(m) = least_board(p, info, *code, kept) {
+                    *code = m.code_above();
+                    return Some(m);
+                }
+                let mut sweep = DropSweep::new(p, *info);
+                let found = sweep.next(p);
+                *self = Place::Drops(sweep);
+                found
+            }
+        }
+    }
 }
 
 impl Walk {
@@ -52,36 +105,31 @@ impl Walk {
         ensures position { result.position ≡ p.now }
         ensures codes { result.codes ≡ legal_codes p.now }
     {
-        let info = check_info_of(p);
         Walk {
             position: *p,
-            code: 0,
-            info,
-            destinations: kept_at(p, &info, Square::of_index(0)),
-            drops: DropSweep::new(p, info),
+            place: place_behind(p, None),
         }
     }
 
     /// The next legal move, or `None` where none is left.
+    #[inline(always)]
     pub fn next(&mut self) -> Option<Move>
         ensures position { self.new.position ≡ self.old.position }
         ensures next { TakesNext result self.old.codes self.new.codes }
         ensures legal { IfSome result (λ m. is_legal self.old.position m ≡ true) }
     {
-        if self.code >= FIRST_DROP {
-            return self.drops.next(&self.position);
-        }
-        let found = least_board(
-            &self.position,
-            &self.info,
-            self.code,
-            &mut self.destinations,
-        );
-        if let Some(m) = &found {
-            self.code = m.code_above();
-            return found;
-        }
-        self.code = FIRST_DROP;
-        self.drops.next(&self.position)
+        self.place.next(&self.position)
     }
+}
+
+/// The legal move of least code above that of `after`, or of least code where that is `None`;
+/// `None` where no further move is legal. Beginning with `None` and passing each result on gives
+/// each legal move once, in the order of codes (own choice).
+#[tactic(auto, using(crate::proofs::LegalLaws::legal_rising))]
+pub fn next_legal(p: &Position, after: Option<Move>) -> Option<Move>
+    ensures next { IsNextAbove p.now after result }
+    ensures legal { IfSome result (λ m. is_legal p.now m ≡ true) }
+    ensures rising { IsRising (legal_codes p.now) }
+{
+    place_behind(p, after).next(p)
 }
