@@ -14,7 +14,7 @@ ghost use Rattle.shared_table.specs.declared.table.TheConstants.{CAPACITY_MAX};
 
 use crate::bytes::Bytes;
 use crate::event::HostFault;
-use crate::{notes, serve};
+use crate::{notes, on_session};
 use session_slots::{SessionId, SlotFault, Slots};
 use shared_table::SharedTable;
 use std::alloc::Allocator;
@@ -125,7 +125,7 @@ impl<S: BuildHasher, A: Allocator + Copy> Host<S, A> {
         let Some(session) = self.slots.get_mut(id) else {
             return Err(HostFault::UnknownSession);
         };
-        let fed = serve::feed(session, chunk);
+        let fed = on_session::feed(session, chunk);
         notes::set(&mut self.noted, id.slot, notes::of(id, session));
         fed
     }
@@ -145,7 +145,7 @@ impl<S: BuildHasher, A: Allocator + Copy> Host<S, A> {
             self.table.validity();
             return Err(HostFault::UnknownSession);
         };
-        let worked = serve::work(session, &mut self.table, budget);
+        let worked = on_session::work(session, &mut self.table, budget);
         notes::set(&mut self.noted, id.slot, notes::of(id, session));
         self.table.validity();
         Ok(worked?)
@@ -162,7 +162,7 @@ impl<S: BuildHasher, A: Allocator + Copy> Host<S, A> {
         let Some(session) = self.slots.get_mut(id) else {
             return Err(HostFault::UnknownSession);
         };
-        let taken = serve::take(self.alloc, session, n);
+        let taken = on_session::take(self.alloc, session, n);
         notes::set(&mut self.noted, id.slot, notes::of(id, session));
         taken
     }
@@ -181,7 +181,7 @@ impl<S: BuildHasher, A: Allocator + Copy> Host<S, A> {
         let Some(session) = self.slots.get_mut(id) else {
             return Err(HostFault::UnknownSession);
         };
-        let passed = serve::pass(session, n);
+        let passed = on_session::pass(session, n);
         notes::set(&mut self.noted, id.slot, notes::of(id, session));
         passed
     }

@@ -6,9 +6,9 @@ mod event;
 mod host;
 mod laws;
 mod notes;
+mod on_session;
 mod round;
 mod runs;
-mod serve;
 
 pub use bytes::Bytes;
 pub use event::{Event, HostFault, Outcome};
