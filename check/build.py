@@ -32,8 +32,8 @@ QUIET = 20
 # these, and by how much longer than that the crates that are done took here; `make build` prints them.
 USUAL = {
     "shogi_core": 104,
-    "shogi_moves": 95,
-    "shogi_replies": 60,
+    "shogi_moves": 60,
+    "shogi_replies": 30,
     "shogi_sfen": 64,
     "shogi_eval": 19,
     "minimax": 10,

@@ -1,64 +1,35 @@
 -- Drops after which the other side's king has an escape left.
-use Rattle.std.proofs.Common.{◌≡◌, ◌≢◌, ◌<◌, ◌^◌, ◌-◌, ℕ, [], ◌∷◌, List, Bool, true, false, not, Option, Some, None, bit_and, bit_or, refl, sym, ap, ◌∙◌, subst, set, arith, inl, inr}
+use Rattle.std.proofs.Common.{◌≡◌, ◌≢◌, ◌<◌, ◌^◌, ◌-◌, ℕ, Bool, true, false, not, Option, Some, None, bit_and, bit_or, refl, sym, ap, ◌∙◌, subst, set, arith, inl, inr}
 use Rattle.std.specs.Prelude.{◌==◌, ◌||◌}
-use Rattle.std.specs.List.{list_any, list_all}
 use Rattle.std.specs.Int.{trailing_zeros, w128}
-use Rattle.std.proofs.lemmas.Bool.{and_parts, and_from, or_cases, or_parts, cases_eq, both_ways, false_from_ne_true, true_from_ne_false, eq-eqb, ne_eqb}
+use Rattle.std.proofs.lemmas.Bool.{and_from, or_cases, or_parts, cases_eq, both_ways, false_from_ne_true, true_from_ne_false, eq-eqb, ne_eqb}
 use Rattle.shogi_core.specs.declared.moves.Move.TheVariants.{Board, Drop}
-use Rattle.shogi_core.specs.declared.offset.Offset.{Offset}
-use Rattle.shogi_core.specs.declared.piece.Color.{Color}
-use Rattle.shogi_core.specs.declared.piece.Color.TheVariants.{Black, White}
 use Rattle.shogi_core.specs.declared.piece.Kind.{Kind}
 use Rattle.shogi_core.specs.declared.piece.Piece.{Piece}
-use Rattle.shogi_core.specs.declared.piece.Role.{Role}
-use Rattle.shogi_core.specs.declared.piece.Role.TheVariants.{King}
 use Rattle.shogi_core.specs.Bits.{has_bit, mask_below}
 use Rattle.shogi_core.specs.Cell.{is_king, is_sliding_role}
-use Rattle.shogi_core.specs.Lines.{are_aligned, back}
-use Rattle.shogi_core.specs.Movement.{piece_at, cell_reaches, has_step, has_slide, leads, for_side, steps_of, slides}
+use Rattle.shogi_core.specs.Lines.{are_aligned}
+use Rattle.shogi_core.specs.Movement.{piece_at, cell_reaches, has_step, has_slide, for_side, slides}
 use Rattle.shogi_core.specs.Pieces.{opponent_of}
 use Rattle.shogi_core.specs.Position.{Shogi}
 use Rattle.shogi_core.specs.Validity.{IsValid}
 use Rattle.shogi_core.proofs.BitLaws.{has_bit-none, has_bit-and, has_bit-or, has_bit-mask}
 use Rattle.shogi_core.proofs.LineBits.{lowest_set, has_bit-not}
-use Rattle.shogi_core.proofs.SeenLaws.{leads_back, slide_seen, lined_aligned, slides_role}
-use Rattle.shogi_core.proofs.Uncovered.{same_way, same_way_is, list_any_kept}
+use Rattle.shogi_core.proofs.SeenLaws.{slide_seen, lined_aligned, slides_role}
 use Rattle.shogi_moves.specs.After.{dropped, piece_moved}
 use Rattle.shogi_moves.specs.Escapes.{AreEscapes}
 use Rattle.shogi_replies.specs.Replies.{IsAnswered}
+use Rattle.shogi_replies.proofs.CheckLaws.{step_both_ways}
 use Rattle.shogi_replies.proofs.EscapeLaws.{escaped_board, escaped_drop}
 use Rattle.shogi_replies.proofs.KingReplies.{taken_drop}
 use Rattle.shogi_moves.proofs.Keeps.{is_safe_from_legal}
 use Rattle.shogi_moves.proofs.KeepsDrop.{IsSafeDrop, safe_drop}
 use Rattle.last_ply.specs.LastPly.{IsOutOfReach}
 
--- ---- steps run both ways
-
--- a test that holds of some of the ways of a list holds of some of those of another that has them all
-among_ways : (test : Offset → Bool) (g h : Offset → Offset) (os ds : List Offset) → list_all (λ o. list_any (λ d. same_way (g o) (h d)) ds) os ≡ true → list_any (λ o. test (g o)) os ≡ true → list_any (λ d. test (h d)) ds ≡ true
-among_ways test g h [] ds each e = absurd (cc)
-among_ways test g h (o ∷ os) ds each e =
-    let parts : (list_any (λ d. same_way (g o) (h d)) ds ≡ true) × (list_all (λ p. list_any (λ d. same_way (g p) (h d)) ds) os ≡ true) = and_parts _ _ each in
-    elim (or_cases (test (g o)) _ e) [
-      | inl here ↦ list_any_kept (λ d. same_way (g o) (h d)) (λ d. test (h d)) ds (λ d same. ap test (sym (same_way_is (g o) (h d) same)) ∙ here) parts.0
-      | inr later ↦ among_ways test g h os ds parts.1 later
-    ]
-
-both : (color : Color) (role : Role) → list_all (λ o. list_any (λ d. same_way (back (for_side color o)) (for_side (opponent_of color) d)) (steps_of role)) (steps_of role) ≡ true
-both Black King = refl
-both Black _ = refl
-both White King = refl
-both White _ = refl
-
-step_back : (piece : Piece) (a b : ℕ) → a < 81 → has_step piece a b ≡ true → has_step (record { color = opponent_of piece.color; role = piece.role }) b a ≡ true
-step_back piece a b h e =
-    among_ways (λ o. leads 1 o b a) (λ o. back (for_side piece.color o)) (for_side (opponent_of piece.color)) (steps_of piece.role) (steps_of piece.role) (both piece.color piece.role)
-    (list_any_kept (λ o. leads 1 (for_side piece.color o) a b) (λ o. leads 1 (back (for_side piece.color o)) b a) (steps_of piece.role) (λ o f. leads_back (for_side piece.color o) a b h f) e)
-
 -- ---- squares from which a piece does not reach another one
 
 not_stepping : (piece : Piece) (steps square n : ℕ) → n < 81 → ((i : ℕ) → i < 81 → has_bit steps i ≡ has_step (record { color = opponent_of piece.color; role = piece.role }) square i) → has_bit steps n ≡ false → has_step piece n square ≡ false
-not_stepping piece steps square n h s out = false_from_ne_true (has_step piece n square) (λ e. both_ways (has_bit steps n) out (s n h ∙ step_back piece n square h e))
+not_stepping piece steps square n h s out = false_from_ne_true (has_step piece n square) (λ e. both_ways (has_bit steps n) out (s n h ∙ step_both_ways piece n square h e))
 
 pub out_of_steps : (piece : Piece) (steps square n : ℕ) → n < 81 → is_sliding_role piece.role ≡ false → ((i : ℕ) → i < 81 → has_bit steps i ≡ has_step (record { color = opponent_of piece.color; role = piece.role }) square i) → has_bit steps n ≡ false → IsOutOfReach piece n square
 out_of_steps piece steps square n h still s out cells = false_from_ne_true (cell_reaches cells (Some piece) n square) (λ r. elim (or_cases (has_step piece n square) (has_slide cells piece n square) r) [

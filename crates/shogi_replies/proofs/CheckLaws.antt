@@ -50,7 +50,7 @@ slides_both_ways Black _ = refl
 slides_both_ways White King = refl
 slides_both_ways White _ = refl
 
-step_both_ways : (piece : Piece) (a b : ℕ) → a < 81 → has_step piece a b ≡ true → has_step (record { color = opponent_of piece.color; role = piece.role }) b a ≡ true
+pub step_both_ways : (piece : Piece) (a b : ℕ) → a < 81 → has_step piece a b ≡ true → has_step (record { color = opponent_of piece.color; role = piece.role }) b a ≡ true
 step_both_ways piece a b h e =
     among_ways (λ o. leads 1 o b a) (λ o. back (for_side piece.color o)) (for_side (opponent_of piece.color)) (steps_of piece.role) (steps_of piece.role) (steps_both_ways piece.color piece.role)
     (list_any_kept (λ o. leads 1 (for_side piece.color o) a b) (λ o. leads 1 (back (for_side piece.color o)) b a) (steps_of piece.role) (λ o f. leads_back (for_side piece.color o) a b h f) e)
