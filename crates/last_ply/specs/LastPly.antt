@@ -185,8 +185,8 @@ abbrev pub AreLegalEnds : Shogi → ℕ → Bool → ℕ → Type 0
 AreLegalEnds p from promote mask = OnEach mask (λ n. is_legal_board_move p from n promote ≡ true)
 
 -- the drops of the kind on the squares of the mask are legal
-abbrev pub AreLegalDrops : Shogi → Kind → ℕ → Type 0
-AreLegalDrops p kind mask = OnEach mask (λ n. is_legal_code p (code_of (Drop kind n)) ≡ true)
+abbrev pub AreLegalDropEnds : Shogi → Kind → ℕ → Type 0
+AreLegalDropEnds p kind mask = OnEach mask (λ n. is_legal_code p (code_of (Drop kind n)) ≡ true)
 
 -- if the move of what stands on the square is legal, it leaves the other side one
 abbrev pub LeavesSomeTo : Shogi → ℕ → ℕ → Bool → Type 0

@@ -11,7 +11,7 @@ ghost use Rattle.shogi_moves.specs.Escapes.{AreEscapes};
 ghost use Rattle.shogi_moves.specs.LegalMoves.{legal_codes};
 ghost use Rattle.shogi_moves.specs.Legal.{is_legal};
 ghost use Rattle.shogi_replies.specs.Replies.{IsAnswered, IsReplies};
-ghost use Rattle.last_ply.specs.LastPly.{is_own, AreAnsweredOff, AreDropsAnsweredOff, AreLegalDrops, BoardLeavesSome, DropsLeaveSomeAmong, OnEach, Outside, HasMate, HasNoMate, LeavesNone, LeavesSome, AreDoubtfulEnds, AreLegalEnds, LeaveSomeAmong, LeaveSomeFrom, DropsLeaveSome, IsOutOfReach, HasOthers};
+ghost use Rattle.last_ply.specs.LastPly.{is_own, AreAnsweredOff, AreDropsAnsweredOff, AreLegalDropEnds, BoardLeavesSome, DropsLeaveSomeAmong, OnEach, Outside, HasMate, HasNoMate, LeavesNone, LeavesSome, AreDoubtfulEnds, AreLegalEnds, LeaveSomeAmong, LeaveSomeFrom, DropsLeaveSome, IsOutOfReach, HasOthers};
 
 use crate::scene::Scene;
 use shogi_core::bits::{has, lowest, with, without_lowest};
@@ -240,7 +240,7 @@ impl Outlook<'_> {
     /// Whether one of the legal drops of the kind on these squares does.
     fn mates_by_drops(&self, kind: Kind, ends: u128) -> bool
         requires fits { ends < 2 ^ 81 }
-        requires legal { AreLegalDrops self.now.scene.node.now.position kind ends }
+        requires legal { AreLegalDropEnds self.now.scene.node.now.position kind ends }
         ensures some { result ≡ true → HasMate self.now.scene.node.now.position }
         ensures none { result ≡ false → DropsLeaveSomeAmong self.now.scene.node.now.position kind ends }
     {
