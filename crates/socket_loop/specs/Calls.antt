@@ -13,6 +13,7 @@ use Rattle.wires.specs.declared.wire.Wire.{Ghosts}
 use Rattle.wires.specs.declared.wire.WireFault.{WireFault}
 use Rattle.socket_loop.specs.declared.connection.Link.{Link}
 use Rattle.socket_loop.specs.declared.connection.Connection.{Connection}
+use Rattle.socket_loop.specs.declared.turn.Turn.{Turn}
 use Rattle.socket_loop.specs.declared.turn.TheConstants.{ACCEPTS}
 use Rattle.usi_session.specs.declared.limits.TheConstants.{CHUNK_MAX}
 use Rattle.wires.specs.Asked.{Call, Accept, Read, Write, Shut, Asks, IsCalled}
@@ -228,7 +229,7 @@ pub record Turns (slice : ℕ) (moved : Bool) (tally : Tally) (before after : Sc
   pub starts : ServesNew before (links_of after.held) after
 
 -- a loop took a turn, with its own budget, over a wire and with a host
-abbrev pub Turned : {W : Type 0} → Ghosts W → Bool → Tally → LoopState → HostState → W
+abbrev pub Turned : {W : Type 0} → Ghosts W → Turn → LoopState → HostState → W
     → LoopState → HostState → W → Type 0
-Turned wires moved tally old before from new after to =
-    Over wires (Turns old.slice moved tally) old before from new after to
+Turned wires turn old before from new after to =
+    Over wires (Turns old.slice turn.moved turn.tally) old before from new after to

@@ -126,7 +126,7 @@ impl<A: Allocator + Copy> Loop<A> {
         number: u64,
     ) -> Admission
         requires room { length self.old.held ≤ SESSIONS_MAX }
-        ensures admits { Over W.Wire (AdmitsOne number result)
+        ensures one { Over W.Wire (AdmitsOne number result)
             self.old host.old wire.old self.new host.new wire.new }
         ensures most { result.full + result.unopened ≤ 1 }
     {
@@ -193,7 +193,7 @@ impl<A: Allocator + Copy> Loop<A> {
 
     /// One read for each connection whose session wants input.
     fn read_all<W: Wire, S: BuildHasher>(&mut self, host: &mut Host<S, A>, wire: &mut W) -> Visited
-        ensures reads { Over W.Wire (ReadsEach result.moved)
+        ensures each { Over W.Wire (ReadsEach result.moved)
             self.old host.old wire.old self.new host.new wire.new }
         ensures shut { result.shut + shut_count self.old.held ≡ shut_count self.new.held }
     {
@@ -211,7 +211,7 @@ impl<A: Allocator + Copy> Loop<A> {
 
     /// One write for each connection with queued bytes.
     fn write_all<W: Wire, S: BuildHasher>(&mut self, host: &mut Host<S, A>, wire: &mut W) -> Visited
-        ensures writes { Over W.Wire (WritesEach result.moved)
+        ensures each { Over W.Wire (WritesEach result.moved)
             self.old host.old wire.old self.new host.new wire.new }
         ensures shut { result.shut + shut_count self.old.held ≡ shut_count self.new.held }
     {
@@ -228,7 +228,7 @@ impl<A: Allocator + Copy> Loop<A> {
 
     /// Shuts each connection that is finished with.
     fn close_all<W: Wire, S: BuildHasher>(&mut self, host: &mut Host<S, A>, wire: &mut W) -> Visited
-        ensures ends { Over W.Wire (EndsEach result.moved)
+        ensures each { Over W.Wire (EndsEach result.moved)
             self.old host.old wire.old self.new host.new wire.new }
         ensures shut { result.shut + shut_count self.old.held ≡ shut_count self.new.held }
     {
@@ -255,11 +255,12 @@ impl<A: Allocator + Copy> Loop<A> {
     fn is_pending<S: BuildHasher>(&self, host: &Host<S, A>) -> bool
         ensures { result ≡ any_pending host.now (links_of self.now.held) }
     {
-        let mut is_pending = false;
         for connection in self.held.as_slice() {
-            is_pending = is_pending | host.pending(connection.link.id);
+            if host.pending(connection.link.id) {
+                return true;
+            }
         }
-        is_pending
+        false
     }
 
     /// How many connections are held.
@@ -290,7 +291,7 @@ impl<A: Allocator + Copy> Loop<A> {
     /// it failed, a feed of its session was refused for memory, or it was finished with.
     pub fn turn<W: Wire, S: BuildHasher>(&mut self, host: &mut Host<S, A>, wire: &mut W) -> Turn
         requires fits { Fits (links_of self.old.held) (W.bound wire.old) host.old }
-        ensures turned { Turned W.Wire result.moved result.tally
+        ensures turned { Turned W.Wire result
             self.old host.old wire.old self.new host.new wire.new }
         ensures pending { result.moved ≡ false
             → any_pending host.new (links_of self.new.held) ≡ false }

@@ -155,6 +155,9 @@ fn is_finished<S: BuildHasher, A: Allocator + Copy>(
     ensures { result ≡ is_finished host.now connection.now }
 {
     let id = connection.link.id;
+    if !connection.has_ended && host.wants_input(id) {
+        return false;
+    }
     let Some(bytes) = host.output(id) else {
         return true;
     };

@@ -32,8 +32,8 @@ pub record ServesTurns (slice turns : ℕ) (result : Result (Unit {0}) WireFault
   pub whole : Lives before after
   pub ends : 1 ≤ turns → AreOnce (links_of before.held) → EndsByBytes before after
 
--- a loop took so many turns, with its own budget, over a wire and with a host
-abbrev pub Served : {W : Type 0} → Ghosts W → ℕ → Result (Unit {0}) WireFault
+-- a loop ran for so many turns, with its own budget, over a wire and with a host
+abbrev pub Ran : {W : Type 0} → Ghosts W → ℕ → Result (Unit {0}) WireFault
     → LoopState → HostState → W → LoopState → HostState → W → Type 0
-Served wires turns result old before from new after to =
+Ran wires turns result old before from new after to =
     Over wires (ServesTurns old.slice turns result) old before from new after to

@@ -2,7 +2,7 @@
 
 ghost use Rattle.socket_loop.specs.Links.{links_of};
 ghost use Rattle.socket_loop.specs.Turns.{Fits};
-ghost use Rattle.usi_serve.specs.Promises.{Served};
+ghost use Rattle.usi_serve.specs.Promises.{Ran};
 
 use host_core::Host;
 use socket_loop::{Loop, Turn};
@@ -21,7 +21,7 @@ pub trait Monitor<W, S: BuildHasher, A: Allocator + Copy> {
 pub struct Unseen;
 
 impl<W, S: BuildHasher, A: Allocator + Copy> Monitor<W, S, A> for Unseen {
-    fn see(&mut self, _turn: &Turn, _host: &Host<S, A>, _peers: &Loop<A>, _wire: &W) {}
+    fn see(&mut self, _turn: &Turn, _host: &Host<S, A>, _connections: &Loop<A>, _wire: &W) {}
 }
 
 /// Takes so many turns, shows each to the monitor, and waits after each of them, the last one too:
@@ -36,7 +36,7 @@ pub fn serve<W: Wire, S: BuildHasher, A: Allocator + Copy, M: Monitor<W, S, A>>(
     turns: u64,
 ) -> Result<(), WireFault>
     requires fits { Fits (links_of connections.old.held) (W.bound wire.old) host.old }
-    ensures all { Served W.Wire turns result
+    ensures all { Ran W.Wire turns result
         connections.old host.old wire.old connections.new host.new wire.new }
     ensures fits { Fits (links_of connections.new.held) (W.bound wire.new) host.new }
 {

@@ -48,15 +48,15 @@ returns-then-len-gt-SESSIONS_MAX g c = record {
 pub loop-preserved : goal.loop-preserved
 loop-preserved g c = record {
   so_far =
-      let one = c.admit-admission.ensures.admits.scenes in
+      let one = c.admit-admission.ensures.one.scenes in
       rw one.bound (some_more c.loop.counter _ _ one.outcome _ _ _ _ _ c.in-Ok-Some.number _ _ _ _ _ _ _ _ _ _ _ _ c.loop.invariant.so_far (search rules) (search rules) c.accept.ensures.kept (rw c.in-Ok-Some.field-0-is at c.in-Ok-Some.ensures.asked) one.admits one.asked one.full one.unopened);
-  more = more_then _ _ _ _ _ _ _ c.loop.invariant.more c.accept.ensures.cause.0 c.admit-admission.ensures.admits.scenes.more;
+  more = more_then _ _ _ _ _ _ _ c.loop.invariant.more c.accept.ensures.cause.0 c.admit-admission.ensures.one.scenes.more;
   quiet = λ q. absurd (cc);
   accepted = λ e. (
       let u : g.W.Wire.bound c.args.wire.now ≤ g.W.Wire.bound c.loop.wire = c.loop.invariant.so_far.accepts.rises in
       let v : g.W.Wire.bound c.loop.wire ≤ c.in-Ok-Some.number = search rules in
       let w : c.in-Ok-Some.number < g.W.Wire.bound c.accept.new.self = search rules in
-      let x : g.W.Wire.bound c.admit-admission.new.wire ≡ g.W.Wire.bound c.accept.new.self = c.admit-admission.ensures.admits.scenes.bound in
+      let x : g.W.Wire.bound c.admit-admission.new.wire ≡ g.W.Wire.bound c.accept.new.self = c.admit-admission.ensures.one.scenes.bound in
       omega arith);
   slice = search rules;
   count = omega arith;

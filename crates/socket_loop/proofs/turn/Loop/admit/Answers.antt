@@ -27,8 +27,8 @@ other_unopened OutOfMemory not = refl
 other_unopened UnknownSession not = refl
 other_unopened NotReady not = refl
 
-pub returns-in-Ok-clause-admits : goal.returns-in-Ok-clause-admits
-returns-in-Ok-clause-admits g c =
+pub returns-in-Ok-clause-one : goal.returns-in-Ok-clause-one
+returns-in-Ok-clause-one g c =
     let link : Link = record { number = c.args.number; id = c.in-Ok.id } in
     let new : Connection = new_connection link in
     let place = place_for c.in-Ok.id.slot c.args.self.now.held in
@@ -50,8 +50,8 @@ returns-in-Ok-clause-admits g c =
       };
     }
 
-pub returns-in-Err-Full-clause-admits : goal.returns-in-Err-Full-clause-admits
-returns-in-Err-Full-clause-admits g c = record {
+pub returns-in-Err-Full-clause-one : goal.returns-in-Err-Full-clause-one
+returns-in-Err-Full-clause-one g c = record {
   slice = search rules;
   scenes = record {
     outcome = Refused Full;
@@ -64,8 +64,8 @@ returns-in-Err-Full-clause-admits g c = record {
   };
 }
 
-pub returns-in-Err-clause-admits : goal.returns-in-Err-clause-admits
-returns-in-Err-clause-admits g c = record {
+pub returns-in-Err-clause-one : goal.returns-in-Err-clause-one
+returns-in-Err-clause-one g c = record {
   slice = search rules;
   scenes = record {
     outcome = Refused c.in-Err.field-0;

@@ -28,8 +28,8 @@ loop-connection-preserved g c = record {
   few = omega arith;
 }
 
-pub returns-clause-ends : goal.returns-clause-ends
-returns-clause-ends g c = record {
+pub returns-clause-each : goal.returns-clause-each
+returns-clause-each g c = record {
   slice = search rules;
   scenes = record {
     visited = visits_end c.loop-connection.connection-index c.self.inside.held.len ends_of IsEnd c.loop-connection.moved (scene g.W.Wire c.args.self.now.held c.args.wire.now c.args.host.now) (scene g.W.Wire c.loop-connection.connection-items c.loop-connection.wire c.loop-connection.host) (drop (length c.loop-connection.connection-items) c.self.inside.held.items) (search rules) (search rules) c.loop-connection.invariant.visits;

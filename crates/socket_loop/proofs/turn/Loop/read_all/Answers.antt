@@ -23,8 +23,8 @@ loop-connection-preserved g c = record {
   few = omega arith;
 }
 
-pub returns-clause-reads : goal.returns-clause-reads
-returns-clause-reads g c = record {
+pub returns-clause-each : goal.returns-clause-each
+returns-clause-each g c = record {
   slice = search rules;
   scenes = record {
     visited = visits_end c.loop-connection.connection-index c.self.inside.held.len reads_of IsInput c.loop-connection.moved (scene g.W.Wire c.args.self.now.held c.args.wire.now c.args.host.now) (scene g.W.Wire c.loop-connection.connection-items c.loop-connection.wire c.loop-connection.host) (drop (length c.loop-connection.connection-items) c.self.inside.held.items) (search rules) (search rules) c.loop-connection.invariant.visits;
