@@ -93,3 +93,22 @@ pub record Answers (before after : SessionView) (chunk : List ℕ) (old new : Re
   pub left : (x : List ℕ) → state_due after x ≡ state_due before (chunk ++ x)
   pub empty : after.queued ≡ []
   pub settled : is_pending after ≡ false
+
+-- ---- the same of a front end of the code, by what it reports
+
+module _ {F : Type 0} (report : F → Report) where
+  abbrev pub Wrote : SessionView → SessionView → (old new : F) → Type 0
+  Wrote before after old new = IsWritten before after (report old) (report new)
+
+  abbrev pub WorkedOn : SessionView → SessionView → (old new : F) → Type 0
+  WorkedOn before after old new = IsWorkedOn before after (report old) (report new)
+
+  abbrev pub Answered : SessionView → SessionView → List ℕ → (old new : F) → Type 0
+  Answered before after chunk old new = Answers before after chunk (report old) (report new)
+
+  abbrev pub WrotePrefix : (old new : F) → List ℕ → StdioFault → Type 0
+  WrotePrefix old new bytes fault = SaysPrefix (report old) (report new) bytes fault
+
+  abbrev pub WrotePrefixOfDue : (old new : F) → SessionView → List ℕ → StdioFault → Type 0
+  WrotePrefixOfDue old new session bytes fault =
+      SaysPrefixOfDue (report old) (report new) session bytes fault

@@ -2,7 +2,7 @@
 
 ghost use Rattle.std.specs.Prelude.{◌≡◌, ◌<◌, ◌≤◌, [], true, false, length, IfErr, OnOk, OnErr, Err};
 ghost use Rattle.usi_stdio.specs.Dialogue.{Talks};
-ghost use Rattle.usi_stdio.specs.Saying.{Answers, IsWorkedOn, IsWritten, Says, SaysPrefix, SaysPrefixOfDue, slices_of};
+ghost use Rattle.usi_stdio.specs.Saying.{Answered, Says, SaysPrefix, WorkedOn, Wrote, WrotePrefix, WrotePrefixOfDue, slices_of};
 ghost use Rattle.usi_stdio.specs.Stdio.{IsLeft, IsServed};
 ghost use Rattle.usi_stdio.specs.declared.streams.StdioFault.TheVariants.{OutOfMemory, WriteFailed};
 ghost use Rattle.usi_lines.specs.OneLine.{IsOneLine};
@@ -86,9 +86,9 @@ fn write_queued<A: Allocator + Copy, T: FrontEnd>(
     front_end: &mut T,
 ) -> Result<(), StdioFault>
     ensures ok { OnOk result
-        (IsWritten session.old session.new (T.report front_end.old) (T.report front_end.new)) }
+        (Wrote T.report session.old session.new front_end.old front_end.new) }
     ensures err { IfErr result
-        (SaysPrefix (T.report front_end.old) (T.report front_end.new) session.old.queued) }
+        (WrotePrefix T.report front_end.old front_end.new session.old.queued) }
 {
     let queued = session.output().len();
     if queued == 0 {
@@ -108,10 +108,10 @@ fn work_slice<A: Allocator + Copy, M: Memo, T: FrontEnd>(
     requires pending { is_pending session.old ≡ true }
     requires empty { session.old.queued ≡ [] }
     ensures ok { OnOk result
-        (IsWorkedOn session.old session.new (T.report front_end.old) (T.report front_end.new)) }
+        (WorkedOn T.report session.old session.new front_end.old front_end.new) }
     ensures fewer { OnOk result (slices_of session.new < slices_of session.old) }
     ensures err { IfErr result
-        (SaysPrefixOfDue (T.report front_end.old) (T.report front_end.new) session.old []) }
+        (WrotePrefixOfDue T.report front_end.old front_end.new session.old []) }
 {
     session.work(memo, SLICE)?;
     write_queued(session, front_end)
@@ -125,10 +125,10 @@ fn work_off<A: Allocator + Copy, M: Memo, T: FrontEnd>(
 ) -> Result<(), StdioFault>
     requires { session.old.queued ≡ [] }
     ensures ok { OnOk result
-        (IsWorkedOn session.old session.new (T.report front_end.old) (T.report front_end.new)) }
+        (WorkedOn T.report session.old session.new front_end.old front_end.new) }
     ensures settled { OnOk result (is_pending session.new ≡ false) }
     ensures err { IfErr result
-        (SaysPrefixOfDue (T.report front_end.old) (T.report front_end.new) session.old []) }
+        (WrotePrefixOfDue T.report front_end.old front_end.new session.old []) }
 {
     'slices: while session.pending() {
         work_slice(session, memo, front_end)?;
@@ -148,10 +148,9 @@ fn answer_line<A: Allocator + Copy, M: Memo, T: FrontEnd>(
     requires most { length line.now ≤ CHUNK_MAX }
     requires one { IsOneLine line.now }
     ensures ok { OnOk result
-        (Answers session.old session.new line.now
-        (T.report front_end.old) (T.report front_end.new)) }
+        (Answered T.report session.old session.new line.now front_end.old front_end.new) }
     ensures err { IfErr result
-        (SaysPrefixOfDue (T.report front_end.old) (T.report front_end.new) session.old line.now) }
+        (WrotePrefixOfDue T.report front_end.old front_end.new session.old line.now) }
 {
     session.feed(line)?;
     work_off(session, memo, front_end)
@@ -169,10 +168,9 @@ fn answer_chunk<A: Allocator + Copy, M: Memo, T: FrontEnd>(
     requires empty { session.old.queued ≡ [] }
     requires most { length chunk.now ≤ CHUNK_MAX }
     ensures ok { OnOk result
-        (Answers session.old session.new chunk.now
-        (T.report front_end.old) (T.report front_end.new)) }
+        (Answered T.report session.old session.new chunk.now front_end.old front_end.new) }
     ensures err { IfErr result
-        (SaysPrefix (T.report front_end.old) (T.report front_end.new) (due session.old chunk.now)) }
+        (WrotePrefix T.report front_end.old front_end.new (due session.old chunk.now)) }
 {
     let mut rest = chunk;
     'lines: while !rest.is_empty() && !session.is_over() {
