@@ -11,3 +11,4 @@ pub mod SearchCalls
 pub mod SlicedSearch
 pub mod Threats
 pub mod Ranked
+pub mod Counters

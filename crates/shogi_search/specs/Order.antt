@@ -39,10 +39,14 @@ others_to_come p firsts =
 abbrev pub codes_of : Firsts → List ℕ
 codes_of firsts = take firsts.len firsts.codes
 
+-- the moves to visit from a place among the first ones on
+abbrev pub todo_from : Shogi → Firsts → ℕ → List ℕ
+todo_from p firsts from =
+    legal_firsts p (codes_of firsts) from ++ others_to_come p (codes_of firsts)
+
 -- the moves that are still to be visited
 abbrev pub todo : Shogi → MovePicker → List ℕ
-todo p (First firsts from) =
-    legal_firsts p (codes_of firsts) from ++ others_to_come p (codes_of firsts)
+todo p (First firsts from) = todo_from p firsts from
 todo p (Captures firsts s) =
     matching_others_from p (codes_of firsts) true s.code
     ++ matching_others_from p (codes_of firsts) false 0

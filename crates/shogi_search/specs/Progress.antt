@@ -1,5 +1,5 @@
 -- A search in slices, as its caller sees it (own choice).
-use Rattle.std.specs.Prelude.{◌≡◌, ℕ, ℤ, ◌*◌, ◌≤ℤ◌, ◌<ℤ◌, Bool, false, List, [], length, Option, None, Some, IsSome}
+use Rattle.std.specs.Prelude.{◌≡◌, ℕ, ℤ, ◌*◌, ◌≤◌, ◌≤ℤ◌, ◌<ℤ◌, Bool, false, List, [], length, Option, None, Some, IsSome}
 use Rattle.std.specs.Option.{ForSome}
 use Rattle.shogi_core.specs.Position.{Shogi}
 use Rattle.shogi_eval.specs.declared.eval.Eval.{Eval}
@@ -102,3 +102,7 @@ FindsValue search f =
 abbrev pub FindsBest : Progress → Found → Type 0
 FindsBest search f =
     search.beta ≡ INFINITY → f.best ≡ best search.root search.eval search.depth
+
+-- in no more than four steps for each node of its tree
+abbrev pub FitsTree : Progress → Found → Type 0
+FitsTree search f = f.steps ≤ 4 * tree_size search.root search.depth

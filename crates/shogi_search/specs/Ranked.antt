@@ -1,11 +1,12 @@
 -- Moves ranked by what they are worth (own choice: the greater worth first, among equal ones the lesser code).
 use Rattle.std.specs.List.{slice_get}
-use Rattle.std.specs.Prelude.{◌≡◌, Option, Some, None, ℕ, ℤ, ◌-◌, List, [], ◌∷◌, map, take, insert, cond, ◌&&◌, ◌||◌, Bool, true, int_lt, nat_lt}
+use Rattle.std.specs.Prelude.{◌≡◌, Option, Some, None, ℕ, ℤ, ◌-◌, List, [], ◌∷◌, ◌++◌, map, take, insert, cond, ◌&&◌, ◌||◌, Bool, true, false, int_lt, nat_lt}
 use Rattle.std.specs.Ordering.{int_eq}
 use Rattle.shogi_core.specs.declared.moves.Move.{Move}
 use Rattle.shogi_core.specs.Codes.{code_of}
 use Rattle.shogi_core.specs.Position.{Shogi}
 use Rattle.shogi_moves.specs.LegalMoves.{legal_codes}
+use Rattle.shogi_moves.specs.Rising.{is_in}
 use Rattle.shogi_eval.specs.declared.eval.Eval.{Eval}
 use Rattle.minimax.specs.Minimax.{worth, negated}
 use Rattle.minimax.specs.declared.bounds.TheConstants.{INFINITY}
@@ -67,6 +68,11 @@ with_worth worth_of code = (code, worth_of code)
 abbrev pub IsTop : (ℕ → ℤ) → List ℕ → Ranking → Type 0
 IsTop worth_of codes r =
     map coded r.pairs ≡ map (with_worth worth_of) (take r.lines (ranked worth_of codes))
+
+-- where they are the first of some codes, and the move with its worth is none of these, they become the first of these and one more
+abbrev pub JoinsTop : Move → ℤ → Ranking → Ranking → Type 0
+JoinsTop m v old new = (f : ℕ → ℤ) (codes : List ℕ) → IsTop f codes old
+    → is_in (code_of m) codes ≡ false → v ≡ f (code_of m) → IsTop f (codes ++ code_of m ∷ []) new
 
 -- the value of a pair, if there is one
 abbrev pub value_in : Option (Move × ℤ) → Option ℤ

@@ -14,7 +14,7 @@ use Rattle.minimax.specs.declared.entry.Entry.{Entry}
 use Rattle.shogi_search.specs.declared.stack.Stack.{Stack}
 use Rattle.shogi_search.specs.Frames.{position_after, threshold_of}
 use Rattle.minimax.specs.Minimax.{negated, sum_of_tree_sizes, tree_size, IsTrueEntry}
-use Rattle.shogi_search.specs.Calls.{Call, Note}
+use Rattle.shogi_search.specs.Calls.{Call, CallsInSteps, Note}
 use Rattle.shogi_search.specs.Order.{todo}
 use Rattle.shogi_search.specs.Visits.{IsFree}
 use Rattle.minimax.specs.declared.bounds.TheConstants.{SEARCH_DEPTH_MAX, INFINITY}
@@ -176,6 +176,16 @@ abbrev pub UsesSteps : Stack → Stack → Move → ℕ → Type 0
 UsesSteps old new m made =
     OnTop old (λ top. steps_left new + made ≤ steps_left old + steps_for old.depth top m)
 
+-- the same, where the root has its whole window, and no move of it is asked twice
+abbrev pub UsesStepsOnce : Stack → Stack → Move → Type 0
+UsesStepsOnce old new m =
+    OnTop old (λ top. steps_left new + 1 ≤ steps_left old + steps_after top m)
+
+-- with one step, and those for the tree after a move of the node that is on top now, no more is left than was
+abbrev pub LeavesStepsFor : Stack → Stack → Move → Type 0
+LeavesStepsFor old new m =
+    OnTop new (λ top. steps_left new + 1 + steps_after top m ≤ steps_left old)
+
 -- a note of the root
 abbrev pub note_of_root : Stack → Entry → Call
 note_of_root s entry = Note s.root s.eval s.depth entry
@@ -184,3 +194,9 @@ note_of_root s entry = Note s.root s.eval s.depth entry
 abbrev pub entered_unless : Option Entry → Stack → ℕ
 entered_unless None s = s.height + 1
 entered_unless (Some entry) s = 0
+
+-- the calls between two counts of steps, as the stack comes from one state to the other or its root is left
+abbrev pub CallsOnStack : {M : Type 0} → (M → Call → M → Type 0) → M → M → ℕ → ℕ
+    → Stack → Option Entry → Stack → Type 0
+CallsOnStack called old new before after stack left next =
+    CallsInSteps called old new before after (stack.height + 1) (entered_unless left next) 0

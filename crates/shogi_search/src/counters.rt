@@ -1,6 +1,9 @@
 //! The moves that last refuted others.
 
-ghost use Rattle.std.specs.Prelude.{◌<◌, ◌≤◌};
+ghost use Rattle.std.specs.Prelude.{◌≡◌, ◌<◌, ◌≤◌, slice_index, slice_set};
+ghost use Rattle.shogi_core.specs.Same.{role_number};
+ghost use Rattle.shogi_replies.specs.Threats.{end_of};
+ghost use Rattle.shogi_search.specs.Counters.{place_of};
 ghost use Rattle.shogi_search.specs.declared.counters.TheConstants.{PLACES};
 
 use shogi_core::{Color, Move, Position, Role, Square};
@@ -17,28 +20,16 @@ pub struct Counters {
 
 /// The number of a role.
 fn number_of(role: Role) -> usize
-    ensures { result ≤ 13 }
+    ensures value { result ≡ role_number role }
+    ensures range { result ≤ 13 }
 {
-    match role {
-        Role::King => 0,
-        Role::Pawn => 1,
-        Role::Lance => 2,
-        Role::Knight => 3,
-        Role::Silver => 4,
-        Role::Gold => 5,
-        Role::Bishop => 6,
-        Role::Rook => 7,
-        Role::PromotedPawn => 8,
-        Role::PromotedLance => 9,
-        Role::PromotedKnight => 10,
-        Role::PromotedSilver => 11,
-        Role::Horse => 12,
-        Role::Dragon => 13,
-    }
+    role as usize
 }
 
 /// Where a move ends.
-fn end_of(m: &Move) -> Square {
+fn end_of(m: &Move) -> Square
+    ensures { result ≡ end_of m.now }
+{
     match m {
         Move::Board { to, .. } => *to,
         Move::Drop { to, .. } => *to,
@@ -47,7 +38,8 @@ fn end_of(m: &Move) -> Square {
 
 /// The place for the move that led to the position.
 fn place_of(p: &Position, m: &Move) -> usize
-    ensures { result < PLACES }
+    ensures value { result ≡ place_of p.now m.now }
+    ensures range { result < PLACES }
 {
     let to = end_of(m);
     to.validity();
@@ -69,12 +61,16 @@ impl Counters {
     }
 
     /// What last refuted such a move as led to the position.
-    pub fn reply_to(&self, p: &Position, m: &Move) -> u16 {
+    pub fn reply_to(&self, p: &Position, m: &Move) -> u16
+        ensures { result ≡ slice_index self.now.codes (place_of p.now m.now) }
+    {
         self.codes[place_of(p, m)]
     }
 
     /// Takes the code of the move that refuted it.
-    pub fn keep(&mut self, p: &Position, m: &Move, code: u16) {
+    pub fn keep(&mut self, p: &Position, m: &Move, code: u16)
+        ensures { self.new.codes ≡ slice_set self.old.codes (place_of p.now m.now) code }
+    {
         self.codes[place_of(p, m)] = code;
     }
 }

@@ -45,7 +45,8 @@ pub struct Firsts {
 /// The move of the code, if that is legal.
 #[tactic(auto, using(shogi_moves::proofs::LegalLaws::listing))]
 fn legal_move_of(p: &Position, code: u16) -> Option<Move>
-    ensures some { IfSome result (λ m. (code_of m ≡ code) × (is_in code (legal_codes p.now) ≡ true)) }
+    ensures some { IfSome result (λ m. code_of m ≡ code) }
+    ensures legal { IfSome result (λ _. is_in code (legal_codes p.now) ≡ true) }
     ensures none { IsNone result → is_in code (legal_codes p.now) ≡ false }
 {
     let m = Move::of_code(code)?;

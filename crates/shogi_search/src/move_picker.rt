@@ -7,7 +7,7 @@ ghost use Rattle.shogi_moves.specs.Escapes.{AreEscapes};
 ghost use Rattle.shogi_moves.specs.CheckInfo.{IsCheckInfoOf};
 ghost use Rattle.shogi_replies.specs.Replies.{IsReplies};
 ghost use Rattle.shogi_moves.specs.Sweeps.{IsBoardSweep, IsDropSweep};
-ghost use Rattle.shogi_search.specs.Order.{codes_of, drops_to_come, others_to_come, quiets_to_come, todo, todo_after, IsAtDrops, IsAtQuiets, IsKept, PassesDrops, PassesQuiets, TakesBoardPick, TakesDropPick, TakesFirst, TakesFromSweep};
+ghost use Rattle.shogi_search.specs.Order.{codes_of, drops_to_come, others_to_come, quiets_to_come, todo, todo_after, todo_from, IsAtDrops, IsAtQuiets, IsKept, PassesDrops, PassesQuiets, TakesBoardPick, TakesDropPick, TakesFirst, TakesFromSweep};
 
 use crate::firsts::Firsts;
 use shogi_core::{Kind, Move, Position};
@@ -123,7 +123,7 @@ impl MovePicker {
 
     /// The next of the first moves, from a place on, or else the first of the others.
     fn next_first(&mut self, p: &Position, firsts: Firsts, passed: usize) -> Option<Move>
-        ensures next { TakesFirst p.now result (todo p.now (MovePicker.First firsts passed)) self.new }
+        ensures next { TakesFirst p.now result (todo_from p.now firsts passed) self.new }
         ensures kept { IsKept p.now self.new }
     {
         let Some((m, n)) = firsts.next_legal(p, passed) else {

@@ -1,9 +1,9 @@
 //! The best moves of a position, for analysis with several lines.
 
-ghost use Rattle.std.specs.Prelude.{◌≡◌, ℕ, ℤ, ◌≤◌, ◌≤ℤ◌, ◌<ℤ◌, List, [], ◌∷◌, ◌++◌, length, take, insert, true, false};
+ghost use Rattle.std.specs.Prelude.{◌≡◌, ℕ, ℤ, ◌≤◌, ◌≤ℤ◌, ◌<ℤ◌, [], length, take, insert, true, false};
 ghost use Rattle.shogi_core.specs.Codes.{code_of};
 ghost use Rattle.shogi_moves.specs.Rising.{is_in};
-ghost use Rattle.shogi_search.specs.Ranked.{is_better, insert_pair, IsPlaceOf, codes_in, are_ranked, IsTop, value_to_pass, child_beta};
+ghost use Rattle.shogi_search.specs.Ranked.{is_better, insert_pair, IsPlaceOf, codes_in, are_ranked, IsTop, JoinsTop, value_to_pass, child_beta};
 ghost use Rattle.minimax.specs.Minimax.{negated};
 ghost use Rattle.minimax.specs.declared.bounds.TheConstants.{INFINITY};
 ghost use Rattle.shogi_search.specs.declared.ranks.TheConstants.{MULTI_PV_MAX};
@@ -81,11 +81,7 @@ impl Ranks {
         requires { is_in (code_of m) (codes_in self.old.pairs) ≡ false }
         ensures lines { self.new.lines ≡ self.old.lines }
         ensures pairs { self.new.pairs ≡ take self.old.lines (insert_pair m value self.old.pairs) }
-        // The first of some codes that are ranked by their worth become the first of these and one
-        // more.
-        ensures top { (f : ℕ → ℤ) → (codes : List ℕ) → IsTop f codes self.old
-            → is_in (code_of m) codes ≡ false → value ≡ f (code_of m)
-            → IsTop f (codes ++ code_of m ∷ []) self.new }
+        ensures top { JoinsTop m value self.old self.new }
     {
         let place = self.place_of(&m, value);
         self.pairs.insert(place, (m, value));

@@ -3,12 +3,12 @@
 ghost use Rattle.std.specs.Prelude.{◌≡◌, ◌≤◌, ◌<◌, ◌+◌, ◌*◌, ◌-◌, ◌^◌, ◌≤ℤ◌, ◌<ℤ◌, [], true, false, Some, None, IfSome, IfNone, OnSome, IsSome, ◌↔◌, min};
 ghost use Rattle.std.specs.List.{All};
 ghost use Rattle.std.specs.Option.{ForSome};
-ghost use Rattle.minimax.specs.Minimax.{tree_size, IsTrueEntry, negated};
+ghost use Rattle.minimax.specs.Minimax.{IsTrueEntry, negated};
 ghost use Rattle.shogi_search.specs.Entered.{IsKnownNode};
 ghost use Rattle.minimax.specs.Entries.{IsCutoff};
 ghost use Rattle.shogi_search.specs.Calls.{Asks};
 ghost use Rattle.shogi_search.specs.SearchCalls.{CallsBetween, CallsOfSearch, Says, TellsRoot};
-ghost use Rattle.shogi_search.specs.Progress.{untouched, untouched_below, left_of, HasPath, IsAnsweredBy, EndsWhereAnswered, EndsWhereKnown, KeepsQuestion, IsFoundBelow, IsFoundBy, FindsValue, FindsBest};
+ghost use Rattle.shogi_search.specs.Progress.{untouched, untouched_below, left_of, HasPath, IsAnsweredBy, EndsWhereAnswered, EndsWhereKnown, KeepsQuestion, IsFoundBelow, IsFoundBy, FindsValue, FindsBest, FitsTree};
 ghost use Rattle.minimax.specs.declared.bounds.TheConstants.{SEARCH_DEPTH_MAX, INFINITY};
 
 use crate::counters::Counters;
@@ -211,7 +211,7 @@ impl Search {
         ensures best { IfSome result (FindsBest self.old) }
         ensures some { IsSome result }
         ensures counted { IfSome result (λ f. f.steps ≡ self.new.steps) }
-        ensures range { IfSome result (λ f. f.steps ≤ 4 * tree_size self.old.root self.old.depth) }
+        ensures range { IfSome result (FitsTree self.old) }
         ensures same { KeepsQuestion self.old self.new }
         ensures calls { CallsBetween M.called memo.old memo.new self.old self.new 0 }
         ensures told { IfSome result (TellsRoot M.called memo.old memo.new self.old) }
@@ -240,7 +240,7 @@ impl Search {
         ensures value { IfSome result (FindsValue self.old) }
         ensures best { IfSome result (FindsBest self.old) }
         ensures counted { IfSome result (λ f. f.steps ≡ self.new.steps) }
-        ensures range { IfSome result (λ f. f.steps ≤ 4 * tree_size self.old.root self.old.depth) }
+        ensures range { IfSome result (FitsTree self.old) }
         ensures same { KeepsQuestion self.old self.new }
         ensures calls { CallsBetween M.called memo.old memo.new self.old self.new 0 }
         ensures told { IfSome result (TellsRoot M.called memo.old memo.new self.old) }
@@ -290,7 +290,7 @@ impl Search {
         ensures value { IfSome result (FindsValue self.old) }
         ensures best { IfSome result (FindsBest self.old) }
         ensures counted { IfSome result (λ f. f.steps ≡ self.new.steps) }
-        ensures range { IfSome result (λ f. f.steps ≤ 4 * tree_size self.old.root self.old.depth) }
+        ensures range { IfSome result (FitsTree self.old) }
         ensures root { (self.new.root ≡ self.old.root) × (self.new.depth ≡ self.old.depth) }
         ensures eval { self.new.eval ≡ self.old.eval }
         ensures beta { self.new.beta ≡ self.old.beta }

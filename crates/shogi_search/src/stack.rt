@@ -1,13 +1,12 @@
 //! The stack of a search in slices.
 
 ghost use Rattle.std.specs.Prelude.{◌≡◌, ◌≤◌, ◌<ℤ◌, ◌<◌, ◌+◌, ◌*◌, ◌-◌, ◌^◌, true, false, None, Some, IfSome, IfNone, OnSome, IsSome, min, IsTrue, ◌↔◌};
-ghost use Rattle.std.specs.Option.{ForSome};
 ghost use Rattle.minimax.specs.Minimax.{negated, IsTrueEntry};
 ghost use Rattle.minimax.specs.Entries.{IsCutoff, IsEnough, move_in};
 ghost use Rattle.shogi_search.specs.Visits.{IsAsked, IsFree};
 ghost use Rattle.shogi_search.specs.Frames.{IsTrueOf, IsToBeLeft, position_after};
-ghost use Rattle.shogi_search.specs.Stack.{IsStack, IsWhole, IsNarrow, IsChildAfter, OnTop, IsTrueAnywhere, IsTrueOfRoot, KeepsAsked, KeepsGoal, UsesSteps, steps_after, steps_left, note_of_root, entered_unless};
-ghost use Rattle.shogi_search.specs.Calls.{Probe, Asks, CallsInSteps, EndsWith, TellsOnce};
+ghost use Rattle.shogi_search.specs.Stack.{IsStack, IsWhole, IsNarrow, IsChildAfter, OnTop, IsTrueAnywhere, IsTrueOfRoot, KeepsAsked, KeepsGoal, CallsOnStack, LeavesStepsFor, UsesSteps, UsesStepsOnce, steps_left, note_of_root};
+ghost use Rattle.shogi_search.specs.Calls.{Probe, Asks, EndsWith, TellsOnce};
 ghost use Rattle.minimax.specs.declared.bounds.TheConstants.{SEARCH_DEPTH_MAX, INFINITY};
 
 use crate::counters::Counters;
@@ -186,8 +185,7 @@ impl Stack {
         ensures root { self.new.height ≡ 0 }
         ensures asked { OnTop self.new (λ root. root.waiting ≡ Waiting.Asked result) }
         ensures child { OnTop self.old (λ child. OnTop self.new (IsChildAfter child result)) }
-        ensures left { OnTop self.new
-            (λ root. steps_left self.new + 1 + steps_after root result ≤ steps_left self.old) }
+        ensures left { LeavesStepsFor self.old self.new result }
         ensures same { KeepsGoal self.old self.new }
     {
         self.height -= 1;
@@ -217,8 +215,7 @@ impl Stack {
         ensures bound { self.new.bound ≡ self.old.bound }
         ensures left { UsesSteps self.old self.new current.now 1 }
         ensures once { self.old.bound ≡ self.old.beta
-            → OnTop self.old (λ top. steps_left self.new + 1
-            ≤ steps_left self.old + steps_after top current.now) }
+            → UsesStepsOnce self.old self.new current.now }
         ensures same { KeepsGoal self.old self.new }
         ensures asked { Asks M.called memo.old memo.new 1 }
         ensures capacity { M.capacity memo.new ≡ M.capacity memo.old }
@@ -310,8 +307,7 @@ impl Stack {
         ensures free { OnTop self.new (λ top. IsFree top.waiting) }
         ensures left { UsesSteps self.old self.new current.now 1 }
         ensures same { KeepsGoal self.old self.new }
-        ensures calls { CallsInSteps M.called memo.old memo.new 0 1
-            (self.old.height + 1) (self.new.height + 1) 0 }
+        ensures calls { CallsOnStack M.called memo.old memo.new 0 1 self.old None self.new }
         ensures capacity { M.capacity memo.new ≡ M.capacity memo.old }
     {
         let top = &self.frames[self.height];
@@ -407,8 +403,7 @@ impl Stack {
         ensures truth { IfSome result (IsTrueOfRoot self.old) }
         ensures cutoff { IfSome result (IsCutoff (negated INFINITY) self.old.beta) }
         ensures same { KeepsGoal self.old self.new }
-        ensures calls { CallsInSteps M.called memo.old memo.new 0 1
-            (self.old.height + 1) (entered_unless result self.new) 0 }
+        ensures calls { CallsOnStack M.called memo.old memo.new 0 1 self.old result self.new }
         ensures told { IfSome result (λ entry.
             EndsWith M.called memo.old memo.new (note_of_root self.old entry)) }
         ensures capacity { M.capacity memo.new ≡ M.capacity memo.old }
@@ -438,8 +433,7 @@ impl Stack {
         ensures truth { IfSome result (IsTrueOfRoot self.old) }
         ensures cutoff { IfSome result (IsCutoff (negated INFINITY) self.old.beta) }
         ensures same { KeepsGoal self.old self.new }
-        ensures calls { CallsInSteps M.called memo.old memo.new 0 1
-            (self.old.height + 1) (entered_unless result self.new) 0 }
+        ensures calls { CallsOnStack M.called memo.old memo.new 0 1 self.old result self.new }
         ensures told { IfSome result (λ entry.
             EndsWith M.called memo.old memo.new (note_of_root self.old entry)) }
         ensures capacity { M.capacity memo.new ≡ M.capacity memo.old }
@@ -477,8 +471,7 @@ impl Stack {
         ensures truth { IfSome result (IsTrueOfRoot self.old) }
         ensures cutoff { IfSome result (IsCutoff (negated INFINITY) self.old.beta) }
         ensures same { KeepsGoal self.old self.new }
-        ensures calls { CallsInSteps M.called memo.old memo.new steps.old steps.new
-            (self.old.height + 1) (entered_unless result self.new) 0 }
+        ensures calls { CallsOnStack M.called memo.old memo.new steps.old steps.new self.old result self.new }
         ensures told { IfSome result (λ entry.
             EndsWith M.called memo.old memo.new (note_of_root self.old entry)) }
         ensures capacity { M.capacity memo.new ≡ M.capacity memo.old }
