@@ -94,7 +94,12 @@ fn and_first_of(moves: &[Option<Move>; 2], walk: &PvWalk) -> [Option<Move>; 2]
     [moves[1], move_to_play(walk.moves())]
 }
 
-/// Begins with the first search of a depth. With one line its root visits these moves first.
+/// The depth from which on a root visits first the best moves of the two depths before: at depth 4
+/// they save little of most searches, and cost some a third more.
+const ADVISED_FROM: u8 = 5;
+
+/// Begins with the first search of a depth. With one line the root of a deep one visits these moves
+/// first.
 fn search_first(
     question: &Question,
     first: Move,
@@ -109,7 +114,9 @@ fn search_first(
 {
     if question.multi_pv == 1 {
         search.restart_below(&question.position, question.eval, depths_done + 1, INFINITY);
-        search.advise([best_moves[0], best_moves[1]]);
+        if depths_done + 1 >= ADVISED_FROM {
+            search.advise([best_moves[0], best_moves[1]]);
+        }
         return;
     }
     first.validity();
@@ -383,8 +390,7 @@ impl<A: Allocator> GoCommand<A> {
         self.lines_done = lines_done;
     }
 
-    /// Continues with the next depth. With one line its root visits first the best moves of the two
-    /// depths before.
+    /// Continues with the next depth.
     fn next_depth(&mut self)
         requires whole { is_searching self.old ≡ false }
         requires more { self.old.depths_done + 1 ≢ self.old.question.depth }
