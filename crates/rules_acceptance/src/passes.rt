@@ -2,19 +2,28 @@
 
 use crate::legal_moves::{position, read};
 use shogi_core::Color::Black;
-use shogi_core::bits::{ALL_SQUARES, with};
+use shogi_core::bits::{ALL_SQUARES, with, without};
 use shogi_core::{Move, Position, Square};
-use shogi_moves::{BoardSweep, Destinations, DropSweep, check_info_of};
-use shogi_replies::{Replies, escape_squares};
+use shogi_moves::{BoardSweep, DropSweep, check_info_of};
+use shogi_replies::{Replies, Row, escape_squares};
 use std::test::Fail;
 
-/// The first move on the board of the kind that is not passed, where moves without promotion may end on
-/// some squares, and moves with promotion on others.
-fn first_left(p: &Position, capture: bool, plain: u128, promoting: u128) -> Option<Move> {
+/// The first move on the board of the kind that is not passed of a row.
+fn first_of(p: &Position, capture: bool, row: &Row) -> Option<Move> {
     let mut sweep = BoardSweep::new(p, check_info_of(p), capture);
-    let among = Destinations { plain, promoting };
-    Replies::of(p).pass_moves(p, capture, &among, escape_squares(p), &mut sweep);
+    Replies::of(p).pass_moves(p, capture, row, &mut sweep);
     sweep.next(p, capture)
+}
+
+/// The same, where moves without promotion may end on some squares, and moves with promotion on others.
+fn first_left(p: &Position, capture: bool, plain: u128, promoting: u128) -> Option<Move> {
+    let row = Row {
+        pieces: ALL_SQUARES,
+        plain,
+        promoting,
+        escapes: escape_squares(p),
+    };
+    first_of(p, capture, &row)
 }
 
 /// Each of the 30 moves of the opening position takes nothing, promotes nothing and is answered.
@@ -72,11 +81,33 @@ fn quiet_moves_of_a_slider(rt: HostRuntime) -> Result<(), Fail> {
     Ok(())
 }
 
+/// The silver gives check on 4b, 5b and 6b. Without a way out for the king its first move, to 4b, is not
+/// passed, nor where its square is left out. With the ways to 4a and 6a it is, and 5b, which closes both,
+/// is not.
+#[test]
+fn quiet_moves_that_give_check(rt: HostRuntime) -> Result<(), Fail> {
+    let p = position(b"4k4/9/4S4/9/7p1/9/9/9/K8", b"", Black)?;
+    let silver = Square::new(5, 3).ok_or("a square")?.index();
+    let row = |pieces: u128, escapes: u128| Row {
+        pieces,
+        plain: ALL_SQUARES,
+        promoting: ALL_SQUARES,
+        escapes,
+    };
+    let ways = escape_squares(&p);
+    assert!(rt; first_of(&p, false, &row(ALL_SQUARES, 0)) == Some(read(b"5c4b ")));
+    assert!(rt; first_of(&p, false, &row(ALL_SQUARES, ways)) == Some(read(b"5c5b ")));
+    assert!(rt;
+        first_of(&p, false, &row(without(ALL_SQUARES, silver), ways)) == Some(read(b"5c4b "))
+    );
+    Ok(())
+}
+
 /// The first drop of a pawn that is not passed.
 fn first_drop(board: &[u8]) -> Result<Option<Move>, Fail> {
     let p = position(board, b"P", Black)?;
     let mut sweep = DropSweep::new(&p, check_info_of(&p));
-    Replies::of(&p).pass_drops(&p, escape_squares(&p), &mut sweep);
+    Replies::of(&p).pass_drops(&p, ALL_SQUARES, escape_squares(&p), &mut sweep);
     Ok(sweep.next(&p))
 }
 

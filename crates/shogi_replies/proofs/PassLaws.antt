@@ -4,27 +4,29 @@ use Rattle.std.specs.Prelude.{◌&&◌, ◌==◌}
 use Rattle.std.proofs.lemmas.Nat.{and_le_l}
 use Rattle.std.proofs.lemmas.Bool.{cases_Bool, both_ways, and_parts, and_from, ne_eqb, or_parts, true_from_ne_false, false_from_ne_true}
 use Rattle.shogi_core.specs.declared.moves.TheConstants.{MOVE_CODE_COUNT, FIRST_DROP, SQUARE_CODES}
+use Rattle.shogi_core.specs.declared.moves.Move.{Move}
 use Rattle.shogi_core.specs.declared.moves.Move.TheVariants.{Board, Drop}
 use Rattle.shogi_core.specs.declared.piece.Kind.{Kind}
 use Rattle.shogi_core.specs.Bits.{has_bit}
 use Rattle.shogi_core.specs.Cell.{is_piece_of}
 use Rattle.shogi_core.specs.Codes.{move_of, code_of}
 use Rattle.shogi_core.specs.Movement.{piece_at}
-use Rattle.shogi_core.specs.Pieces.{kind_number}
+use Rattle.shogi_core.specs.Pieces.{kind_number, opponent_of}
 use Rattle.shogi_core.specs.Position.{Shogi}
 use Rattle.shogi_core.proofs.BitLaws.{has_bit-and, has_bit-or, has_bit-none}
 use Rattle.shogi_core.proofs.LineBits.{has_bit-not}
 use Rattle.shogi_core.proofs.CodesBack.{move_of-board, move_of-drop}
 use Rattle.shogi_core.proofs.Faults.{number_below}
+use Rattle.shogi_core.specs.Attack.{in_check}
 use Rattle.shogi_moves.specs.After.{after, after_code}
 use Rattle.shogi_moves.specs.Legal.{is_legal, is_legal_code}
 use Rattle.shogi_core.specs.Zones.{may_promote}
 use Rattle.shogi_moves.specs.LegalMoves.{legal_codes}
+use Rattle.shogi_replies.specs.declared.row.Row.{Row}
 use Rattle.shogi_moves.specs.Captures.{is_matching}
-use Rattle.shogi_moves.specs.declared.destinations.Destinations.{Destinations}
-use Rattle.shogi_replies.specs.Replies.{HasCertainMoves, IsAnswered, is_reached}
+use Rattle.shogi_replies.specs.Replies.{HasCertainMoves, IsCertain, is_reached}
 use Rattle.shogi_moves.specs.Sweeps.{matching_from, KeepsBoard, KeepsDrop}
-use Rattle.shogi_replies.specs.Passes.{IsCertainMove, IsCertainDrop, IsPassed, IsPassedTo}
+use Rattle.shogi_replies.specs.Passes.{IsCertainMove, IsCertainDrop, IsPassed, IsPassedTo, LeavesReply}
 use Rattle.shogi_moves.proofs.CaptureLaws.{HasMatchingOn, skip_one, matching_found}
 use Rattle.shogi_moves.proofs.DestinationLaws.{matching_board}
 use Rattle.shogi_moves.proofs.LegalLaws.{is_legal_code_of, after_code_of}
@@ -75,46 +77,50 @@ destination_of p capture from code plain promoting c k up below matching =
       | inr at ↦ inr (at, true_from_ne_false (has_bit promoting (c / 2 % 81)) (λ out. both_ways (is_matching p capture c) (ap (is_matching p capture) at ∙ k.promotings.clear (c / 2 % 81) (omega arith) out (omega arith)) matching))
     ]
 
--- a matching move on the board that is answered, without promotion and with it
-certain_move : (p : Shogi) (capture : Bool) (among : Destinations) (first c from n : ℕ) → from < 81 → n < 81 → first ≤ c → c ≡ code_of (Board from n false) → is_matching p capture c ≡ true → has_bit among.plain n ≡ true → IsAnswered p (Board from n false) → IsCertainMove p capture among first c
-certain_move p capture among first c from n hf hn above at matching set answered =
-    let back : move_of (code_of (Board from n false)) ≡ Some (Board from n false) = move_of-board from n false hf hn in
-    let legal : is_legal p (Board from n false) ≡ true = sym (is_legal_code_of p c (Board from n false) (ap move_of at ∙ back)) ∙ (and_parts _ _ matching).0 in
-    let made : after_code p c ≡ after p (Board from n false) = ap (after_code p) at ∙ after_code_of p (Board from n false) back in
+-- after a certain move that is legal the other side has such a move
+leaves_reply : (p : Shogi) (escapes c : ℕ) (m : Move) → c ≡ code_of m → move_of (code_of m) ≡ Some m → is_legal_code p c ≡ true → IsCertain p escapes m → LeavesReply p escapes c
+leaves_reply p escapes c m at back listed certain =
+    let legal : is_legal p m ≡ true = sym (is_legal_code_of p c m (ap move_of at ∙ back)) ∙ listed in
+    let made : after_code p c ≡ after p m = ap (after_code p) at ∙ after_code_of p m back in
     record {
-      above = above;
-      on_board = omega (arith, at);
-      plain = λ even. subst (λ (k : ℕ). has_bit among.plain k ≡ true) (omega (arith, at)) set;
-      promoting = λ odd. absurd (omega (arith, at, odd));
-      matching = matching;
-      replied = subst (λ (q : Shogi). legal_codes q ≢ []) (sym made) (answered legal);
+      replied = subst (λ (q : Shogi). legal_codes q ≢ []) (sym made) (certain.0 legal);
+      unchecked = λ none. ap (λ (q : Shogi). in_check q.cells (opponent_of p.side)) made ∙ certain.1 none legal;
     }
 
-certain_promotion : (p : Shogi) (capture : Bool) (among : Destinations) (first c from n : ℕ) → from < 81 → n < 81 → first ≤ c → c ≡ code_of (Board from n true) → is_matching p capture c ≡ true → has_bit among.promoting n ≡ true → IsAnswered p (Board from n true) → IsCertainMove p capture among first c
-certain_promotion p capture among first c from n hf hn above at matching set answered =
-    let back : move_of (code_of (Board from n true)) ≡ Some (Board from n true) = move_of-board from n true hf hn in
-    let legal : is_legal p (Board from n true) ≡ true = sym (is_legal_code_of p c (Board from n true) (ap move_of at ∙ back)) ∙ (and_parts _ _ matching).0 in
-    let made : after_code p c ≡ after p (Board from n true) = ap (after_code p) at ∙ after_code_of p (Board from n true) back in
-    record {
-      above = above;
-      on_board = omega (arith, at);
-      plain = λ even. absurd (omega (arith, at, even));
-      promoting = λ odd. subst (λ (k : ℕ). has_bit among.promoting k ≡ true) (omega (arith, at)) set;
-      matching = matching;
-      replied = subst (λ (q : Shogi). legal_codes q ≢ []) (sym made) (answered legal);
-    }
+-- a matching move on the board that is certain, without promotion and with it
+certain_move : (p : Shogi) (capture : Bool) (row : Row) (first c from n : ℕ) → from < 81 → n < 81 → first ≤ c → c ≡ code_of (Board from n false) → is_matching p capture c ≡ true → has_bit row.pieces from ≡ true → has_bit row.plain n ≡ true → IsCertain p row.escapes (Board from n false) → IsCertainMove p capture row first c
+certain_move p capture row first c from n hf hn above at matching piece set certain = record {
+  above = above;
+  on_board = omega (arith, at);
+  piece = subst (λ (k : ℕ). has_bit row.pieces k ≡ true) (omega (arith, at)) piece;
+  plain = λ even. subst (λ (k : ℕ). has_bit row.plain k ≡ true) (omega (arith, at)) set;
+  promoting = λ odd. absurd (omega (arith, at, odd));
+  matching = matching;
+  leaves = leaves_reply p row.escapes c (Board from n false) at (move_of-board from n false hf hn) (and_parts _ _ matching).0 certain;
+}
 
--- those below another code are passed, where each of them is answered
-pub destinations_passed : (p : Shogi) (capture : Bool) (among : Destinations) (from code next plain promoting first : ℕ) → from < 81 → KeepsBoard p capture from code plain promoting → first ≤ code → code ≤ next → next ≤ from * SQUARE_CODES + SQUARE_CODES
-    → ((n : ℕ) → n < 81 → has_bit plain n ≡ true → code_of (Board from n false) < next → (has_bit among.plain n ≡ true) × IsAnswered p (Board from n false))
-    → ((n : ℕ) → n < 81 → has_bit promoting n ≡ true → code_of (Board from n true) < next → (has_bit among.promoting n ≡ true) × IsAnswered p (Board from n true))
-    → IsPassed (IsCertainMove p capture among first) (matching_from p capture code) (matching_from p capture next)
-destinations_passed p capture among from code next plain promoting first hf k low up high plainly by_promotion =
-    passed_to p capture (IsCertainMove p capture among first) code next up (omega arith) (λ c above below matching.
+certain_promotion : (p : Shogi) (capture : Bool) (row : Row) (first c from n : ℕ) → from < 81 → n < 81 → first ≤ c → c ≡ code_of (Board from n true) → is_matching p capture c ≡ true → has_bit row.pieces from ≡ true → has_bit row.promoting n ≡ true → IsCertain p row.escapes (Board from n true) → IsCertainMove p capture row first c
+certain_promotion p capture row first c from n hf hn above at matching piece set certain = record {
+  above = above;
+  on_board = omega (arith, at);
+  piece = subst (λ (k : ℕ). has_bit row.pieces k ≡ true) (omega (arith, at)) piece;
+  plain = λ even. absurd (omega (arith, at, even));
+  promoting = λ odd. subst (λ (k : ℕ). has_bit row.promoting k ≡ true) (omega (arith, at)) set;
+  matching = matching;
+  leaves = leaves_reply p row.escapes c (Board from n true) at (move_of-board from n true hf hn) (and_parts _ _ matching).0 certain;
+}
+
+-- those below another code are passed, where each of them is certain
+pub destinations_passed : (p : Shogi) (capture : Bool) (row : Row) (from code next plain promoting first : ℕ) → from < 81 → has_bit row.pieces from ≡ true → KeepsBoard p capture from code plain promoting → first ≤ code → code ≤ next → next ≤ from * SQUARE_CODES + SQUARE_CODES
+    → ((n : ℕ) → n < 81 → has_bit plain n ≡ true → code_of (Board from n false) < next → (has_bit row.plain n ≡ true) × IsCertain p row.escapes (Board from n false))
+    → ((n : ℕ) → n < 81 → has_bit promoting n ≡ true → code_of (Board from n true) < next → (has_bit row.promoting n ≡ true) × IsCertain p row.escapes (Board from n true))
+    → IsPassed (IsCertainMove p capture row first) (matching_from p capture code) (matching_from p capture next)
+destinations_passed p capture row from code next plain promoting first hf piece k low up high plainly by_promotion =
+    passed_to p capture (IsCertainMove p capture row first) code next up (omega arith) (λ c above below matching.
     let hn : c / 2 % 81 < 81 = omega arith in
     elim (destination_of p capture from code plain promoting c k above (omega arith) matching) [
-      | inl at ↦ (let it : _ = plainly (c / 2 % 81) hn at.1 (omega (arith, at.0)) in certain_move p capture among first c from (c / 2 % 81) hf hn (omega arith) at.0 matching it.0 it.1)
-      | inr at ↦ (let it : _ = by_promotion (c / 2 % 81) hn at.1 (omega (arith, at.0)) in certain_promotion p capture among first c from (c / 2 % 81) hf hn (omega arith) at.0 matching it.0 it.1)
+      | inl at ↦ (let it : _ = plainly (c / 2 % 81) hn at.1 (omega (arith, at.0)) in certain_move p capture row first c from (c / 2 % 81) hf hn (omega arith) at.0 matching piece it.0 it.1)
+      | inr at ↦ (let it : _ = by_promotion (c / 2 % 81) hn at.1 (omega (arith, at.0)) in certain_promotion p capture row first c from (c / 2 % 81) hf hn (omega arith) at.0 matching piece it.0 it.1)
     ])
 
 -- what is not uncertain is certain
@@ -156,43 +162,44 @@ promoting_among p capture from n len hf hn own matching =
     ((and_parts _ _ parts.0).0, (and_parts _ _ parts.1).0)
 
 -- no move of a piece but certain ones
-pub certain_moves : (p : Shogi) (capture : Bool) (among : Destinations) (from ends zone certain promoted : ℕ) → ((n : ℕ) → n < 81 → has_bit ends n ≡ is_reached p capture from n) → ((n : ℕ) → n < 81 → has_bit zone n ≡ may_promote (piece_at p.cells from) from n)
-    → among.plain < 2 ^ 128 → among.promoting < 2 ^ 128 → ((n : ℕ) → n < 81 → has_bit certain n ≡ true → IsAnswered p (Board from n false)) → ((n : ℕ) → n < 81 → has_bit promoted n ≡ true → IsAnswered p (Board from n true))
-    → bit_or (bit_and ends (2 ^ 128 - 1 - bit_and among.plain certain)) (bit_and (bit_and ends zone) (2 ^ 128 - 1 - bit_and among.promoting promoted)) ≡ 0 → HasCertainMoves p capture among from
-certain_moves p capture among from ends zone certain promoted ends_bits zone_bits f g answered by_promotion none =
-    let at : (n : ℕ) → n < 81 → _ = λ n h. of_both ends among.plain certain (bit_and ends zone) among.promoting promoted n f g h (ap (λ m. has_bit m n) none ∙ has_bit-none n) in
+pub certain_moves : (p : Shogi) (capture : Bool) (row : Row) (from ends zone certain promoted : ℕ) → ((n : ℕ) → n < 81 → has_bit ends n ≡ is_reached p capture from n) → ((n : ℕ) → n < 81 → has_bit zone n ≡ may_promote (piece_at p.cells from) from n)
+    → has_bit row.pieces from ≡ true → row.plain < 2 ^ 128 → row.promoting < 2 ^ 128 → ((n : ℕ) → n < 81 → has_bit certain n ≡ true → IsCertain p row.escapes (Board from n false)) → ((n : ℕ) → n < 81 → has_bit promoted n ≡ true → IsCertain p row.escapes (Board from n true))
+    → bit_or (bit_and ends (2 ^ 128 - 1 - bit_and row.plain certain)) (bit_and (bit_and ends zone) (2 ^ 128 - 1 - bit_and row.promoting promoted)) ≡ 0 → HasCertainMoves p capture row from
+certain_moves p capture row from ends zone certain promoted ends_bits zone_bits piece f g answered by_promotion none =
+    let at : (n : ℕ) → n < 81 → _ = λ n h. of_both ends row.plain certain (bit_and ends zone) row.promoting promoted n f g h (ap (λ m. has_bit m n) none ∙ has_bit-none n) in
     record {
+      piece = piece;
       plain = λ n h e. (let it : _ = (at n h).0 (ends_bits n h ∙ e) in (it.0, answered n h it.1));
       promoting = λ n h e may. (let it : _ = (at n h).1 (has_bit-and ends zone n ∙ and_from _ _ (ends_bits n h ∙ e) (zone_bits n h ∙ may)) in (it.0, by_promotion n h it.1));
     }
 
 -- the moves of all pieces below a square are passed, where each of them is certain
-row_passed : (p : Shogi) (capture : Bool) (among : Destinations) (first code moving end : ℕ) → length p.cells ≡ 81 → end ≤ 81 → HasMatchingOn p capture code moving
-    → ((n : ℕ) → n < 81 → has_bit moving n ≡ true → is_piece_of p.side (piece_at p.cells n) ≡ true) → ((n : ℕ) → n < 81 → n < end → has_bit moving n ≡ true → HasCertainMoves p capture among n)
-    → first ≤ code → code ≤ end * SQUARE_CODES → IsPassed (IsCertainMove p capture among first) (matching_from p capture code) (matching_from p capture (end * SQUARE_CODES))
-row_passed p capture among first code moving end len he on mine certain low up =
-    passed_to p capture (IsCertainMove p capture among first) code (end * SQUARE_CODES) up (omega arith) (λ c above below matching.
+row_passed : (p : Shogi) (capture : Bool) (row : Row) (first code moving end : ℕ) → length p.cells ≡ 81 → end ≤ 81 → HasMatchingOn p capture code moving
+    → ((n : ℕ) → n < 81 → has_bit moving n ≡ true → is_piece_of p.side (piece_at p.cells n) ≡ true) → ((n : ℕ) → n < 81 → n < end → has_bit moving n ≡ true → HasCertainMoves p capture row n)
+    → first ≤ code → code ≤ end * SQUARE_CODES → IsPassed (IsCertainMove p capture row first) (matching_from p capture code) (matching_from p capture (end * SQUARE_CODES))
+row_passed p capture row first code moving end len he on mine certain low up =
+    passed_to p capture (IsCertainMove p capture row first) code (end * SQUARE_CODES) up (omega arith) (λ c above below matching.
     let hf : c / SQUARE_CODES < 81 = omega arith in
     let hn : c / 2 % 81 < 81 = omega arith in
     let here : has_bit moving (c / SQUARE_CODES) ≡ true = on.on c above (omega arith) matching in
     let own : is_piece_of p.side (piece_at p.cells (c / SQUARE_CODES)) ≡ true = mine (c / SQUARE_CODES) hf here in
-    let moves : HasCertainMoves p capture among (c / SQUARE_CODES) = certain (c / SQUARE_CODES) hf (omega arith) here in
+    let moves : HasCertainMoves p capture row (c / SQUARE_CODES) = certain (c / SQUARE_CODES) hf (omega arith) here in
     elim (at_code (c / SQUARE_CODES) c (omega arith) (omega arith)) [
       | inl at ↦ (
           let it : _ = moves.plain (c / 2 % 81) hn (plain_among p capture (c / SQUARE_CODES) (c / 2 % 81) len hf hn own (ap (is_matching p capture) (sym at) ∙ matching)) in
-          certain_move p capture among first c (c / SQUARE_CODES) (c / 2 % 81) hf hn (omega arith) at matching it.0 it.1)
+          certain_move p capture row first c (c / SQUARE_CODES) (c / 2 % 81) hf hn (omega arith) at matching moves.piece it.0 it.1)
       | inr at ↦ (
           let there : (is_reached p capture (c / SQUARE_CODES) (c / 2 % 81) ≡ true) × (may_promote (piece_at p.cells (c / SQUARE_CODES)) (c / SQUARE_CODES) (c / 2 % 81) ≡ true) = promoting_among p capture (c / SQUARE_CODES) (c / 2 % 81) len hf hn own (ap (is_matching p capture) (sym at) ∙ matching) in
           let it : _ = moves.promoting (c / 2 % 81) hn there.0 there.1 in
-          certain_promotion p capture among first c (c / SQUARE_CODES) (c / 2 % 81) hf hn (omega arith) at matching it.0 it.1)
+          certain_promotion p capture row first c (c / SQUARE_CODES) (c / 2 % 81) hf hn (omega arith) at matching moves.piece it.0 it.1)
     ])
 
-pub row_passed_to : (p : Shogi) (capture : Bool) (among : Destinations) (code moving end : ℕ) → length p.cells ≡ 81 → end ≤ 81 → HasMatchingOn p capture code moving
-    → ((n : ℕ) → n < 81 → has_bit moving n ≡ true → is_piece_of p.side (piece_at p.cells n) ≡ true) → ((n : ℕ) → n < 81 → n < end → has_bit moving n ≡ true → HasCertainMoves p capture among n)
-    → code ≤ end * SQUARE_CODES → IsPassedTo p capture among code (end * SQUARE_CODES)
-row_passed_to p capture among code moving end len he on mine certain up = record {
+pub row_passed_to : (p : Shogi) (capture : Bool) (row : Row) (code moving end : ℕ) → length p.cells ≡ 81 → end ≤ 81 → HasMatchingOn p capture code moving
+    → ((n : ℕ) → n < 81 → has_bit moving n ≡ true → is_piece_of p.side (piece_at p.cells n) ≡ true) → ((n : ℕ) → n < 81 → n < end → has_bit moving n ≡ true → HasCertainMoves p capture row n)
+    → code ≤ end * SQUARE_CODES → IsPassedTo p capture row code (end * SQUARE_CODES)
+row_passed_to p capture row code moving end len he on mine certain up = record {
   up = up;
-  passed = λ first low. row_passed p capture among first code moving end len he on mine certain low up;
+  passed = λ first low. row_passed p capture row first code moving end len he on mine certain low up;
 }
 
 -- one that is no longer left and is not the one that went was not left before
@@ -207,21 +214,21 @@ drop_of p kind code destinations c k up below matching =
     let at : c ≡ code_of (Drop kind (c - FIRST_DROP - kind_number kind * 81)) = omega arith in
     (at, true_from_ne_false (has_bit destinations (c - FIRST_DROP - kind_number kind * 81)) (λ out. both_ways (is_matching p false c) (ap (is_matching p false) at ∙ k.drops.clear (c - FIRST_DROP - kind_number kind * 81) (omega arith) out (omega arith)) matching))
 
-pub drops_passed : (p : Shogi) (kind : Kind) (code next destinations : ℕ) → KeepsDrop p kind code destinations → code ≤ next → next ≤ FIRST_DROP + 81 + kind_number kind * 81
-    → ((n : ℕ) → n < 81 → has_bit destinations n ≡ true → code_of (Drop kind n) < next → IsAnswered p (Drop kind n)) → IsPassed (IsCertainDrop p kind code) (matching_from p false code) (matching_from p false next)
-drops_passed p kind code next destinations k up high answered =
+pub drops_passed : (p : Shogi) (kind : Kind) (squares escapes code next destinations : ℕ) → KeepsDrop p kind code destinations → code ≤ next → next ≤ FIRST_DROP + 81 + kind_number kind * 81
+    → ((n : ℕ) → n < 81 → has_bit destinations n ≡ true → code_of (Drop kind n) < next → (has_bit squares n ≡ true) × IsCertain p escapes (Drop kind n)) → IsPassed (IsCertainDrop p kind squares escapes code) (matching_from p false code) (matching_from p false next)
+drops_passed p kind squares escapes code next destinations k up high certain =
     let seven : kind_number kind < 7 = number_below kind in
     let low : FIRST_DROP + kind_number kind * 81 ≤ code = k.low in
-    passed_to p false (IsCertainDrop p kind code) code next up (omega arith) (λ c above below matching.
+    passed_to p false (IsCertainDrop p kind squares escapes code) code next up (omega arith) (λ c above below matching.
     let ht : c - FIRST_DROP - kind_number kind * 81 < 81 = omega arith in
     let at : (c ≡ code_of (Drop kind (c - FIRST_DROP - kind_number kind * 81))) × (has_bit destinations (c - FIRST_DROP - kind_number kind * 81) ≡ true) = drop_of p kind code destinations c k above (omega arith) matching in
-    let back : move_of c ≡ Some (Drop kind (c - FIRST_DROP - kind_number kind * 81)) = ap move_of at.0 ∙ move_of-drop kind (c - FIRST_DROP - kind_number kind * 81) ht in
     let legal : is_legal_code p c ≡ true = (and_parts _ _ matching).0 in
-    let made : after_code p c ≡ after p (Drop kind (c - FIRST_DROP - kind_number kind * 81)) = ap (after_code p) at.0 ∙ after_code_of p (Drop kind (c - FIRST_DROP - kind_number kind * 81)) (move_of-drop kind (c - FIRST_DROP - kind_number kind * 81) ht) in
+    let it : (has_bit squares (c - FIRST_DROP - kind_number kind * 81) ≡ true) × IsCertain p escapes (Drop kind (c - FIRST_DROP - kind_number kind * 81)) = certain (c - FIRST_DROP - kind_number kind * 81) ht at.1 (omega (arith, at.0)) in
     record {
       above = above;
       low = omega arith;
       high = omega arith;
+      among = it.0;
       legal = legal;
-      replied = subst (λ (q : Shogi). legal_codes q ≢ []) (sym made) (answered (c - FIRST_DROP - kind_number kind * 81) ht at.1 (omega (arith, at.0)) (sym (is_legal_code_of p c (Drop kind (c - FIRST_DROP - kind_number kind * 81)) back) ∙ legal));
+      leaves = leaves_reply p escapes c (Drop kind (c - FIRST_DROP - kind_number kind * 81)) at.0 (move_of-drop kind (c - FIRST_DROP - kind_number kind * 81) ht) legal it.1;
     })

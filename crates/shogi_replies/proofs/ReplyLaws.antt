@@ -34,7 +34,7 @@ use Rattle.shogi_core.proofs.Snipers.{left_unpinned, stands_still}
 use Rattle.shogi_moves.specs.After.{after, cells_after, piece_moved, dropped, with_captured, with_one_more}
 use Rattle.shogi_moves.specs.Legal.{is_legal, is_safe, is_pseudo_legal_board_move, is_pseudo_legal_drop, is_pawn_kind, is_mated_by_drop}
 use Rattle.shogi_moves.specs.LegalMoves.{legal_codes}
-use Rattle.shogi_replies.specs.Replies.{holds_free, is_line_of_king, is_aligned_with_king, is_open_step, is_spare, is_way, Sees, Aligns, IsReplies, IsHarmless, IsHarmlessFrom, StaysCovered, UncoversNothing, UncoversWithin, IsOpen, IsAnswered}
+use Rattle.shogi_replies.specs.Replies.{holds_free, is_line_of_king, is_aligned_with_king, is_open_step, is_spare, is_way, Sees, Aligns, IsReplies, IsHarmless, IsHarmlessFrom, StaysCovered, UncoversNothing, UncoversWithin, IsOpen, IsCertain}
 use Rattle.shogi_moves.proofs.DropChecks as drops
 use Rattle.shogi_moves.proofs.DestinationLaws.{legal_board, legal_drop, drop_matching, still}
 use Rattle.shogi_moves.proofs.ExistenceLaws.{some_legal}
@@ -292,121 +292,127 @@ uncovers_by_lines cells side sight from lines covered a promote n h off far = in
 
 -- ---- after a board move, and after a drop
 
-pub left_board : (p : Shogi) (from to : ℕ) (promote : Bool) (sight spare : ℕ) → IsValid p → IsReplies p sight spare → from < 81 → to < 81 → is_piece_of p.side (piece_at p.cells from) ≡ true → UncoversNothing p.cells (opponent_of p.side) sight from (piece_moved promote (piece_at p.cells from)) to → IsHarmless p.cells (opponent_of p.side) (piece_moved promote (piece_at p.cells from)) to
-    → LeavesStanding p.cells (cells_after p.cells p.side (Board from to promote)) (opponent_of p.side) to
-left_board p from to promote sight spare v r hf ht own out off = record {
-  len = length-set (set p.cells from None) to w ∙ (length-set p.cells from None ∙ v.cells_fit);
-  kings = crown;
-  shut = shut out;
-  stays = λ x e ne. elim (see x) [
-    | inl there ↦ absurd (ne there.0)
-    | inr rest ↦ elim rest [
-      | inl here ↦ absurd (both_ways (is_piece_of (opponent_of p.side) (piece_at p.cells from)) (other_side p.side (piece_at p.cells from) own) (subst (λ (y : ℕ). is_piece_of (opponent_of p.side) (piece_at p.cells y) ≡ true) here.0 e))
-      | inr same ↦ same
-    ]
-  ];
-  clear = λ t e. elim (see t) [
-    | inl there ↦ ap (is_piece_of (opponent_of p.side)) there.1 ∙ other_side p.side w mine
-    | inr rest ↦ elim rest [ inl here ↦ ap (is_piece_of (opponent_of p.side)) here.1 | inr same ↦ ap (is_piece_of (opponent_of p.side)) same ∙ e ]
-  ];
-  empty = λ x e ne. elim (see x) [
-    | inl there ↦ absurd (ne there.0)
-    | inr rest ↦ elim rest [ inl here ↦ ap is_none here.1 | inr same ↦ ap is_none same ∙ e ]
-  ];
-}
-  where
-    w : Option Piece
-    w = piece_moved promote (piece_at p.cells from)
+module _ (p : Shogi) (from to : ℕ) (promote : Bool) (v : IsValid p) (hf : from < 81) (ht : to < 81) (own : is_piece_of p.side (piece_at p.cells from) ≡ true) where
+  abbrev what_moved : Option Piece
+  what_moved = piece_moved promote (piece_at p.cells from)
 
-    mine : is_piece_of p.side (piece_moved promote (piece_at p.cells from)) ≡ true
-    mine = is_piece_of-piece_moved p.side promote (piece_at p.cells from) ∙ own
+  moved_own : is_piece_of p.side (piece_moved promote (piece_at p.cells from)) ≡ true
+  moved_own = is_piece_of-piece_moved p.side promote (piece_at p.cells from) ∙ own
 
-    see : (x : ℕ) → ((x ≡ to) × (piece_at (set (set p.cells from None) to (piece_moved promote (piece_at p.cells from))) x ≡ piece_moved promote (piece_at p.cells from))) ⊎ (((x ≡ from) × (piece_at (set (set p.cells from None) to (piece_moved promote (piece_at p.cells from))) x ≡ None)) ⊎ (piece_at (set (set p.cells from None) to (piece_moved promote (piece_at p.cells from))) x ≡ piece_at p.cells x))
-    see x = look p.cells p.side from to (piece_moved promote (piece_at p.cells from)) v.cells_fit hf ht x
+  see_board : (x : ℕ) → ((x ≡ to) × (piece_at (set (set p.cells from None) to (piece_moved promote (piece_at p.cells from))) x ≡ piece_moved promote (piece_at p.cells from))) ⊎ (((x ≡ from) × (piece_at (set (set p.cells from None) to (piece_moved promote (piece_at p.cells from))) x ≡ None)) ⊎ (piece_at (set (set p.cells from None) to (piece_moved promote (piece_at p.cells from))) x ≡ piece_at p.cells x))
+  see_board x = look p.cells p.side from to (piece_moved promote (piece_at p.cells from)) v.cells_fit hf ht x
 
-    lands : piece_at (set (set p.cells from None) to (piece_moved promote (piece_at p.cells from))) to ≡ piece_moved promote (piece_at p.cells from)
-    lands = get_or-set_same (set p.cells from None) to w None (omega (arith, length-set p.cells from None, v.cells_fit))
+  lands_board : piece_at (set (set p.cells from None) to (piece_moved promote (piece_at p.cells from))) to ≡ piece_moved promote (piece_at p.cells from)
+  lands_board = get_or-set_same (set p.cells from None) to what_moved None (omega (arith, length-set p.cells from None, v.cells_fit))
 
-    opened : (x : ℕ) → is_none (piece_at (set (set p.cells from None) to (piece_moved promote (piece_at p.cells from))) x) ≡ true → (is_none (piece_at p.cells x) ≡ true) ⊎ (x ≡ from)
-    opened x e = elim (see x) [
-      | inl there ↦ absurd (both_ways (is_none w) (own_some p.side w mine) (ap is_none (sym there.1) ∙ e))
-      | inr rest ↦ elim rest [ inl here ↦ inr here.0 | inr same ↦ inl (ap is_none (sym same) ∙ e) ]
-    ]
+  opened_board : (x : ℕ) → is_none (piece_at (set (set p.cells from None) to (piece_moved promote (piece_at p.cells from))) x) ≡ true → (is_none (piece_at p.cells x) ≡ true) ⊎ (x ≡ from)
+  opened_board x e = elim (see_board x) [
+    | inl there ↦ absurd (both_ways (is_none what_moved) (own_some p.side what_moved moved_own) (ap is_none (sym there.1) ∙ e))
+    | inr rest ↦ elim rest [ inl here ↦ inr here.0 | inr same ↦ inl (ap is_none (sym same) ∙ e) ]
+  ]
 
-    theirs : (x : ℕ) → is_piece_of (opponent_of (opponent_of p.side)) (piece_at (set (set p.cells from None) to (piece_moved promote (piece_at p.cells from))) x) ≡ true → (piece_at p.cells x ≡ piece_at (set (set p.cells from None) to (piece_moved promote (piece_at p.cells from))) x) ⊎ (x ≡ to)
-    theirs x e = elim (see x) [
-      | inl there ↦ inr there.0
-      | inr rest ↦ elim rest [ inl here ↦ absurd (let clash : false ≡ true = ap (is_piece_of (opponent_of (opponent_of p.side))) (sym here.1) ∙ e in cc) | inr same ↦ inl (sym same) ]
-    ]
+  theirs_board : (x : ℕ) → is_piece_of (opponent_of (opponent_of p.side)) (piece_at (set (set p.cells from None) to (piece_moved promote (piece_at p.cells from))) x) ≡ true → (piece_at p.cells x ≡ piece_at (set (set p.cells from None) to (piece_moved promote (piece_at p.cells from))) x) ⊎ (x ≡ to)
+  theirs_board x e = elim (see_board x) [
+    | inl there ↦ inr there.0
+    | inr rest ↦ elim rest [ inl here ↦ absurd (let clash : false ≡ true = ap (is_piece_of (opponent_of (opponent_of p.side))) (sym here.1) ∙ e in cc) | inr same ↦ inl (sym same) ]
+  ]
 
-    crown : (k : ℕ) → is_king (opponent_of p.side) (piece_at (set (set p.cells from None) to (piece_moved promote (piece_at p.cells from))) k) ≡ true → piece_at p.cells k ≡ piece_at (set (set p.cells from None) to (piece_moved promote (piece_at p.cells from))) k
-    crown k e = elim (see k) [
-      | inl there ↦ absurd (both_ways (is_king (opponent_of p.side) w) (crowned (opponent_of p.side) w (other_side p.side w mine)) (ap (is_king (opponent_of p.side)) (sym there.1) ∙ e))
-      | inr rest ↦ elim rest [ inl here ↦ absurd (let clash : false ≡ true = ap (is_king (opponent_of p.side)) (sym here.1) ∙ e in cc) | inr same ↦ sym same ]
-    ]
+  crown_board : (k : ℕ) → is_king (opponent_of p.side) (piece_at (set (set p.cells from None) to (piece_moved promote (piece_at p.cells from))) k) ≡ true → piece_at p.cells k ≡ piece_at (set (set p.cells from None) to (piece_moved promote (piece_at p.cells from))) k
+  crown_board k e = elim (see_board k) [
+    | inl there ↦ absurd (both_ways (is_king (opponent_of p.side) what_moved) (crowned (opponent_of p.side) what_moved (other_side p.side what_moved moved_own)) (ap (is_king (opponent_of p.side)) (sym there.1) ∙ e))
+    | inr rest ↦ elim rest [ inl here ↦ absurd (let clash : false ≡ true = ap (is_king (opponent_of p.side)) (sym here.1) ∙ e in cc) | inr same ↦ sym same ]
+  ]
 
-    stays_none : (x : ℕ) → is_none (piece_at (set (set p.cells from None) to (piece_moved promote (piece_at p.cells from))) x) ≡ true → (is_none (piece_at (set p.cells from None) x) ≡ true) ⊎ ⊥
-    stays_none x e = elim (cases_eq x to) [
-      | inl there ↦ absurd (both_ways (is_none w) (own_some p.side w mine) (ap is_none (sym (ap (piece_at (set (set p.cells from None) to (piece_moved promote (piece_at p.cells from)))) there ∙ lands)) ∙ e))
-      | inr other ↦ inl (ap is_none (sym (get_or-set_other (set p.cells from None) to x w None other)) ∙ e)
-    ]
+  stays_bare : (x : ℕ) → is_none (piece_at (set (set p.cells from None) to (piece_moved promote (piece_at p.cells from))) x) ≡ true → (is_none (piece_at (set p.cells from None) x) ≡ true) ⊎ ⊥
+  stays_bare x e = elim (cases_eq x to) [
+    | inl there ↦ absurd (both_ways (is_none what_moved) (own_some p.side what_moved moved_own) (ap is_none (sym (ap (piece_at (set (set p.cells from None) to (piece_moved promote (piece_at p.cells from)))) there ∙ lands_board)) ∙ e))
+    | inr other ↦ inl (ap is_none (sym (get_or-set_other (set p.cells from None) to x what_moved None other)) ∙ e)
+  ]
 
-    shut : UncoversNothing p.cells (opponent_of p.side) sight from (piece_moved promote (piece_at p.cells from)) to → in_check (set (set p.cells from None) to (piece_moved promote (piece_at p.cells from))) (opponent_of p.side) ≡ false
-    shut (inl unseen_from) =
-        no_check p.cells (set (set p.cells from None) to (piece_moved promote (piece_at p.cells from))) (λ x. x ≡ from) opened (opponent_of p.side) to ht theirs crown
-        (λ x left. subst (λ (y : ℕ). is_lined_with_king p.cells (opponent_of p.side) y ≡ false) (sym left) (unlined p.cells (opponent_of p.side) sight from r.sees hf unseen_from))
-        (λ k l e. ap (λ cell. cell_reaches p.cells cell to k) lands ∙ off k l e)
-        (faultless_from p v.no_fault).shut
-    shut (inr still) =
-        left_unpinned p.cells (set (set p.cells from None) to (piece_moved promote (piece_at p.cells from))) from opened (opponent_of p.side) to theirs crown
-        (λ k l e. ap (λ cell. cell_reaches (set (set p.cells from None) to (piece_moved promote (piece_at p.cells from))) cell to k) lands
-        ∙ false_from_ne_true (cell_reaches (set (set p.cells from None) to (piece_moved promote (piece_at p.cells from))) (piece_moved promote (piece_at p.cells from)) to k) (λ r. both_ways (cell_reaches (set p.cells from None) w to k) (still.0 k l e)
-        (reach_was (set p.cells from None) (set (set p.cells from None) to (piece_moved promote (piece_at p.cells from))) (λ x. ⊥) stays_none w to k (λ x left. absurd left) r)))
-        (faultless_from p v.no_fault).shut still.1
+  -- a move that uncovers nothing and attacks no king from where it ends gives no check
+  pub shut_board : (sight spare : ℕ) → IsReplies p sight spare → UncoversNothing p.cells (opponent_of p.side) sight from (piece_moved promote (piece_at p.cells from)) to → IsHarmless p.cells (opponent_of p.side) (piece_moved promote (piece_at p.cells from)) to
+      → in_check (cells_after p.cells p.side (Board from to promote)) (opponent_of p.side) ≡ false
+  shut_board sight spare r (inl unseen_from) off =
+      no_check p.cells (set (set p.cells from None) to (piece_moved promote (piece_at p.cells from))) (λ x. x ≡ from) opened_board (opponent_of p.side) to ht theirs_board crown_board
+      (λ x left. subst (λ (y : ℕ). is_lined_with_king p.cells (opponent_of p.side) y ≡ false) (sym left) (unlined p.cells (opponent_of p.side) sight from r.sees hf unseen_from))
+      (λ k l e. ap (λ cell. cell_reaches p.cells cell to k) lands_board ∙ off k l e)
+      (faultless_from p v.no_fault).shut
+  shut_board sight spare r (inr covering) off =
+      left_unpinned p.cells (set (set p.cells from None) to (piece_moved promote (piece_at p.cells from))) from opened_board (opponent_of p.side) to theirs_board crown_board
+      (λ k l e. ap (λ cell. cell_reaches (set (set p.cells from None) to (piece_moved promote (piece_at p.cells from))) cell to k) lands_board
+      ∙ false_from_ne_true (cell_reaches (set (set p.cells from None) to (piece_moved promote (piece_at p.cells from))) (piece_moved promote (piece_at p.cells from)) to k) (λ reach. both_ways (cell_reaches (set p.cells from None) what_moved to k) (covering.0 k l e)
+      (reach_was (set p.cells from None) (set (set p.cells from None) to (piece_moved promote (piece_at p.cells from))) (λ x. ⊥) stays_bare what_moved to k (λ x left. absurd left) reach)))
+      (faultless_from p v.no_fault).shut covering.1
+
+  pub left_board : in_check (cells_after p.cells p.side (Board from to promote)) (opponent_of p.side) ≡ false → LeavesStanding p.cells (cells_after p.cells p.side (Board from to promote)) (opponent_of p.side) to
+  left_board unchecked = record {
+    len = length-set (set p.cells from None) to what_moved ∙ (length-set p.cells from None ∙ v.cells_fit);
+    kings = crown_board;
+    shut = unchecked;
+    stays = λ x e ne. elim (see_board x) [
+      | inl there ↦ absurd (ne there.0)
+      | inr rest ↦ elim rest [
+        | inl here ↦ absurd (both_ways (is_piece_of (opponent_of p.side) (piece_at p.cells from)) (other_side p.side (piece_at p.cells from) own) (subst (λ (y : ℕ). is_piece_of (opponent_of p.side) (piece_at p.cells y) ≡ true) here.0 e))
+        | inr same ↦ same
+      ]
+    ];
+    clear = λ t e. elim (see_board t) [
+      | inl there ↦ ap (is_piece_of (opponent_of p.side)) there.1 ∙ other_side p.side what_moved moved_own
+      | inr rest ↦ elim rest [ inl here ↦ ap (is_piece_of (opponent_of p.side)) here.1 | inr same ↦ ap (is_piece_of (opponent_of p.side)) same ∙ e ]
+    ];
+    empty = λ x e ne. elim (see_board x) [
+      | inl there ↦ absurd (ne there.0)
+      | inr rest ↦ elim rest [ inl here ↦ ap is_none here.1 | inr same ↦ ap is_none same ∙ e ]
+    ];
+  }
 
 pub replied_board : (p : Shogi) (from to : ℕ) (promote : Bool) (sight spare a : ℕ) → IsValid p → IsReplies p sight spare → from < 81 → to < 81 → is_piece_of p.side (piece_at p.cells from) ≡ true → UncoversNothing p.cells (opponent_of p.side) sight from (piece_moved promote (piece_at p.cells from)) to → IsHarmless p.cells (opponent_of p.side) (piece_moved promote (piece_at p.cells from)) to
     → a < 81 → has_bit spare a ≡ true → a ≢ to → legal_codes (after p (Board from to promote)) ≢ []
 replied_board p from to promote sight spare a v r hf ht own out off ha some other =
     replied p.cells (cells_after p.cells p.side (Board from to promote)) (after p (Board from to promote)).hands (opponent_of p.side)
-    to (left_board p from to promote sight spare v r hf ht own out off) a ha other (way_after p (Board from to promote) a (r.spares a ha some))
+    to (left_board p from to promote v hf ht own (shut_board p from to promote v hf ht own sight spare r out off)) a ha other (way_after p (Board from to promote) a (r.spares a ha some))
 
-pub left_drop : (p : Shogi) (kind : Kind) (to : ℕ) (sight spare : ℕ) → IsValid p → IsReplies p sight spare → to < 81 → IsHarmless p.cells (opponent_of p.side) (dropped p.side kind) to → LeavesStanding p.cells (cells_after p.cells p.side (Drop kind to)) (opponent_of p.side) to
-left_drop p kind to sight spare v r ht off = record {
-  len = length-set p.cells to (dropped p.side kind) ∙ v.cells_fit;
-  kings = crown;
-  shut = no_check p.cells (set p.cells to (dropped p.side kind)) (λ x. ⊥)
-      (λ x e. elim (see x) [
+module _ (p : Shogi) (kind : Kind) (to : ℕ) (v : IsValid p) (ht : to < 81) where
+  see_drop : (x : ℕ) → ((x ≡ to) × (piece_at (cells_after p.cells p.side (Drop kind to)) x ≡ dropped p.side kind)) ⊎ (piece_at (cells_after p.cells p.side (Drop kind to)) x ≡ piece_at p.cells x)
+  see_drop x = drops.look p.cells p.side kind to v.cells_fit ht x
+
+  crown_drop : (k : ℕ) → is_king (opponent_of p.side) (piece_at (set p.cells to (dropped p.side kind)) k) ≡ true → piece_at p.cells k ≡ piece_at (set p.cells to (dropped p.side kind)) k
+  crown_drop k e = elim (see_drop k) [
+    | inl there ↦ absurd (both_ways (is_king (opponent_of p.side) (dropped p.side kind)) (drops.no_king p.side kind) (ap (is_king (opponent_of p.side)) (sym there.1) ∙ e))
+    | inr same ↦ sym same
+  ]
+
+  pub shut_drop : IsHarmless p.cells (opponent_of p.side) (dropped p.side kind) to → in_check (cells_after p.cells p.side (Drop kind to)) (opponent_of p.side) ≡ false
+  shut_drop off = no_check p.cells (set p.cells to (dropped p.side kind)) (λ x. ⊥)
+      (λ x e. elim (see_drop x) [
         | inl there ↦ absurd (let clash : false ≡ true = ap is_none (sym there.1) ∙ e in cc)
         | inr same ↦ inl (ap is_none (sym same) ∙ e)
       ])
       (opponent_of p.side) to ht
-      (λ x e. elim (see x) [ inl there ↦ inr there.0 | inr same ↦ inl (sym same) ])
-      crown
+      (λ x e. elim (see_drop x) [ inl there ↦ inr there.0 | inr same ↦ inl (sym same) ])
+      crown_drop
       (λ x left. absurd left)
       (λ k l e. ap (λ cell. cell_reaches p.cells cell to k) (get_or-set_same p.cells to (dropped p.side kind) None (omega (arith, v.cells_fit))) ∙ off k l e)
-      (faultless_from p v.no_fault).shut;
-  stays = λ x e ne. elim (see x) [ inl there ↦ absurd (ne there.0) | inr same ↦ same ];
-  clear = λ t e. elim (see t) [
-    | inl there ↦ ap (is_piece_of (opponent_of p.side)) there.1 ∙ other_side p.side (dropped p.side kind) (dropped_of p.side kind)
-    | inr same ↦ ap (is_piece_of (opponent_of p.side)) same ∙ e
-  ];
-  empty = λ x e ne. elim (see x) [ inl there ↦ absurd (ne there.0) | inr same ↦ ap is_none same ∙ e ];
-}
-  where
-    see : (x : ℕ) → ((x ≡ to) × (piece_at (cells_after p.cells p.side (Drop kind to)) x ≡ dropped p.side kind)) ⊎ (piece_at (cells_after p.cells p.side (Drop kind to)) x ≡ piece_at p.cells x)
-    see x = drops.look p.cells p.side kind to v.cells_fit ht x
+      (faultless_from p v.no_fault).shut
 
-    crown : (k : ℕ) → is_king (opponent_of p.side) (piece_at (set p.cells to (dropped p.side kind)) k) ≡ true → piece_at p.cells k ≡ piece_at (set p.cells to (dropped p.side kind)) k
-    crown k e = elim (see k) [
-      | inl there ↦ absurd (both_ways (is_king (opponent_of p.side) (dropped p.side kind)) (drops.no_king p.side kind) (ap (is_king (opponent_of p.side)) (sym there.1) ∙ e))
-      | inr same ↦ sym same
-    ]
+  pub left_drop : in_check (cells_after p.cells p.side (Drop kind to)) (opponent_of p.side) ≡ false → LeavesStanding p.cells (cells_after p.cells p.side (Drop kind to)) (opponent_of p.side) to
+  left_drop unchecked = record {
+    len = length-set p.cells to (dropped p.side kind) ∙ v.cells_fit;
+    kings = crown_drop;
+    shut = unchecked;
+    stays = λ x e ne. elim (see_drop x) [ inl there ↦ absurd (ne there.0) | inr same ↦ same ];
+    clear = λ t e. elim (see_drop t) [
+      | inl there ↦ ap (is_piece_of (opponent_of p.side)) there.1 ∙ other_side p.side (dropped p.side kind) (dropped_of p.side kind)
+      | inr same ↦ ap (is_piece_of (opponent_of p.side)) same ∙ e
+    ];
+    empty = λ x e ne. elim (see_drop x) [ inl there ↦ absurd (ne there.0) | inr same ↦ ap is_none same ∙ e ];
+  }
 
 pub replied_drop : (p : Shogi) (kind : Kind) (to sight spare a : ℕ) → IsValid p → IsReplies p sight spare → to < 81 → IsHarmless p.cells (opponent_of p.side) (dropped p.side kind) to
     → a < 81 → has_bit spare a ≡ true → a ≢ to → legal_codes (after p (Drop kind to)) ≢ []
 replied_drop p kind to sight spare a v r ht off ha some other =
     replied p.cells (cells_after p.cells p.side (Drop kind to)) (after p (Drop kind to)).hands (opponent_of p.side)
-    to (left_drop p kind to sight spare v r ht off) a ha other (way_after p (Drop kind to) a (r.spares a ha some))
+    to (left_drop p kind to v ht (shut_drop p kind to v ht off)) a ha other (way_after p (Drop kind to) a (r.spares a ha some))
 
 -- ---- spare pieces are found one by one
 
@@ -538,19 +544,27 @@ among_either destinations free more n e = elim (or_cases (has_bit (bit_and desti
 ]
 
 -- what moves to an open square without a check, or is dropped there, is answered
-pub open_far : (p : Shogi) (from n : ℕ) (promote : Bool) (sight closed spare : ℕ) → IsValid p → IsReplies p sight spare → from < 81 → n < 81 → has_bit sight from ≡ false → IsHarmless p.cells (opponent_of p.side) (piece_moved promote (piece_at p.cells from)) n → IsOpen closed spare n → IsAnswered p (Board from n promote)
-open_far p from n promote sight closed spare v r hf hn unseen_from far o = λ legal. replied_board p from n promote sight spare o.way.0 v r hf hn (legal_own p from n promote legal) (inl unseen_from) far o.way.1 o.way.2 o.way.3
+pub open_far : (p : Shogi) (escapes from n : ℕ) (promote : Bool) (sight closed spare : ℕ) → IsValid p → IsReplies p sight spare → from < 81 → n < 81 → has_bit sight from ≡ false → IsHarmless p.cells (opponent_of p.side) (piece_moved promote (piece_at p.cells from)) n → IsOpen closed spare n → IsCertain p escapes (Board from n promote)
+open_far p escapes from n promote sight closed spare v r hf hn unseen_from far o = (
+  λ legal. replied_board p from n promote sight spare o.way.0 v r hf hn (legal_own p from n promote legal) (inl unseen_from) far o.way.1 o.way.2 o.way.3,
+  λ none legal. shut_board p from n promote v hf hn (legal_own p from n promote legal) sight spare r (inl unseen_from) far,
+)
 
 -- a piece that does not promote stays what it is
 pub harmless_unmoved : (p : Shogi) (from n : ℕ) → IsHarmless p.cells (opponent_of p.side) (piece_at p.cells from) n → IsHarmless p.cells (opponent_of p.side) (piece_moved false (piece_at p.cells from)) n
 harmless_unmoved p from n far = subst (λ (cell : Option Piece). IsHarmless p.cells (opponent_of p.side) cell n) (sym (unmoved (piece_at p.cells from))) far
 
-pub open_board : (p : Shogi) (from n : ℕ) (promote : Bool) (sight checking uncovering spare : ℕ) → IsValid p → IsReplies p sight spare → from < 81 → n < 81 → UncoversWithin p.cells (opponent_of p.side) sight from uncovering
-    → (has_bit checking n ≡ false → IsHarmless p.cells (opponent_of p.side) (piece_moved promote (piece_at p.cells from)) n) → IsOpen (bit_or checking uncovering) spare n → IsAnswered p (Board from n promote)
-open_board p from n promote sight checking uncovering spare v r hf hn within far o = λ legal.
+pub open_board : (p : Shogi) (escapes from n : ℕ) (promote : Bool) (sight checking uncovering spare : ℕ) → IsValid p → IsReplies p sight spare → from < 81 → n < 81 → UncoversWithin p.cells (opponent_of p.side) sight from uncovering
+    → (has_bit checking n ≡ false → IsHarmless p.cells (opponent_of p.side) (piece_moved promote (piece_at p.cells from)) n) → IsOpen (bit_or checking uncovering) spare n → IsCertain p escapes (Board from n promote)
+open_board p escapes from n promote sight checking uncovering spare v r hf hn within far o =
     let parts : (has_bit checking n ≡ false) × (has_bit uncovering n ≡ false) = or_parts (has_bit checking n) (has_bit uncovering n) (sym (has_bit-or checking uncovering n) ∙ o.unclosed) in
-    let off : IsHarmless p.cells (opponent_of p.side) (piece_moved promote (piece_at p.cells from)) n = far parts.0 in
-    replied_board p from n promote sight spare o.way.0 v r hf hn (legal_own p from n promote legal) (within promote n hn parts.1 off) off o.way.1 o.way.2 o.way.3
+    let off : IsHarmless p.cells (opponent_of p.side) (piece_moved promote (piece_at p.cells from)) n = far parts.0 in (
+      λ legal. replied_board p from n promote sight spare o.way.0 v r hf hn (legal_own p from n promote legal) (within promote n hn parts.1 off) off o.way.1 o.way.2 o.way.3,
+      λ none legal. shut_board p from n promote v hf hn (legal_own p from n promote legal) sight spare r (within promote n hn parts.1 off) off,
+    )
 
-pub open_drop : (p : Shogi) (kind : Kind) (n sight closed spare : ℕ) → IsValid p → IsReplies p sight spare → n < 81 → IsHarmless p.cells (opponent_of p.side) (dropped p.side kind) n → IsOpen closed spare n → IsAnswered p (Drop kind n)
-open_drop p kind n sight closed spare v r hn off o = λ legal. replied_drop p kind n sight spare o.way.0 v r hn off o.way.1 o.way.2 o.way.3
+pub open_drop : (p : Shogi) (escapes : ℕ) (kind : Kind) (n sight closed spare : ℕ) → IsValid p → IsReplies p sight spare → n < 81 → IsHarmless p.cells (opponent_of p.side) (dropped p.side kind) n → IsOpen closed spare n → IsCertain p escapes (Drop kind n)
+open_drop p escapes kind n sight closed spare v r hn off o = (
+  λ legal. replied_drop p kind n sight spare o.way.0 v r hn off o.way.1 o.way.2 o.way.3,
+  λ none legal. shut_drop p kind n v hn off,
+)

@@ -28,7 +28,7 @@ use Rattle.shogi_core.proofs.Uncovered.{list_any_kept, some_below_which}
 use Rattle.shogi_moves.specs.After.{after, cells_after, piece_moved, dropped}
 use Rattle.shogi_moves.specs.Legal.{is_legal, is_pseudo_legal_board_move}
 use Rattle.shogi_core.specs.Zones.{may_promote}
-use Rattle.shogi_replies.specs.Replies.{is_aligned_with_king, is_line_of_king, Aligns, IsReplies, IsHarmless, UncoversNothing}
+use Rattle.shogi_replies.specs.Replies.{is_aligned_with_king, is_line_of_king, Aligns}
 use Rattle.shogi_replies.specs.Threats.{is_pinnable, is_sniped_from, Snipes, IsUnpinnable, IsAttack, IsThreat, EndsAside, LeavesThreat, MayTake, end_of, put_by}
 use Rattle.shogi_moves.proofs.DropChecks as drops
 use Rattle.shogi_moves.proofs.DestinationLaws.{alive, legal_board, still}
@@ -192,7 +192,7 @@ sniped_before old new side to x adds kings l e =
 
 -- a capture by an unpinnable piece leaves its king in no check, if what came to the square is taken or pins nothing
 takes_safely : (p : Shogi) (new : Cells) (a t to : ℕ) (promote : Bool) → LeavesStanding p.cells new (opponent_of p.side) to → AddsOne p.cells new (opponent_of p.side) to → IsUnpinnable p a → t < 81 → a ≢ t → a ≢ to
-    → ((to ≡ t) ⊎ (is_slider (piece_at new to) ≡ true → is_aligned_with_king p.cells (opponent_of p.side) a ≡ true → is_aligned_with_king p.cells (opponent_of p.side) to ≡ false))
+    → ((to ≡ t) ⊎ (is_slider (piece_at new to) ≡ true → is_aligned_with_king p.cells (opponent_of p.side) a ≡ true → is_aligned_with_king p.cells (opponent_of p.side) to ≡ true → are_aligned a to ≡ false))
     → in_check (cells_after new (opponent_of p.side) (Board a t promote)) (opponent_of p.side) ≡ false
 unfolding is_pinnable
 takes_safely p new a t to promote k adds free ht other away pins =
@@ -206,7 +206,7 @@ takes_safely p new a t to promote k adds free ht other away pins =
             | inl was ↦ false_from_ne_true (are_aligned a x) (λ near. both_ways (some_below 81 (is_sniped_from p.cells color a)) (unsniped lined) (some_below_at 81 (is_sniped_from p.cells color a) x l (and_from _ _ was near)))
             | inr came ↦ elim pins [
               | inl taken ↦ absurd (off (came.0 ∙ taken))
-              | inr harmless ↦ absurd (both_ways (is_aligned_with_king p.cells color x) (subst (λ (y : ℕ). is_aligned_with_king p.cells (opponent_of p.side) y ≡ false) (sym came.0) (harmless (subst (λ (y : ℕ). is_slider (piece_at new y) ≡ true) came.0 came.1) lined)) came.2)
+              | inr harmless ↦ subst (λ (y : ℕ). are_aligned a y ≡ false) (sym came.0) (harmless (subst (λ (y : ℕ). is_slider (piece_at new y) ≡ true) came.0 came.1) lined (subst (λ (y : ℕ). is_aligned_with_king p.cells (opponent_of p.side) y ≡ true) came.0 came.2))
             ]
           ])
       | inr off ↦ quiet_board new color a t promote k.len free.on_board ht own plain (stays_unlined p.cells new color a free.on_board k.kings off) k.shut
@@ -217,7 +217,7 @@ takes_safely p new a t to promote k adds free ht other away pins =
 
 -- so it is legal where the piece still reaches the square
 takes_legally : (p : Shogi) (new : Cells) (hands : HandCounts) (a t to : ℕ) (promote : Bool) → LeavesStanding p.cells new (opponent_of p.side) to → AddsOne p.cells new (opponent_of p.side) to → IsAttack p a t promote → a ≢ t → a ≢ to
-    → ((to ≡ t) ⊎ (is_slider (piece_at new to) ≡ true → is_aligned_with_king p.cells (opponent_of p.side) a ≡ true → is_aligned_with_king p.cells (opponent_of p.side) to ≡ false))
+    → ((to ≡ t) ⊎ (is_slider (piece_at new to) ≡ true → is_aligned_with_king p.cells (opponent_of p.side) a ≡ true → is_aligned_with_king p.cells (opponent_of p.side) to ≡ true → are_aligned a to ≡ false))
     → is_piece_of (opponent_of p.side) (piece_at new t) ≡ false → cell_reaches new (piece_at p.cells a) a t ≡ true
     → is_legal (record { cells = new; hands = hands; side = opponent_of p.side }) (Board a t promote) ≡ true
 unfolding reaches
@@ -249,7 +249,7 @@ still_takes : (p : Shogi) (m : Move) (a t : ℕ) (promote : Bool) → LeavesStan
 unfolding reaches
 still_takes p m a t promote k adds put threat aside =
     takes_legally p (after p m).cells (after p m).hands a t (end_of m) promote k adds threat.attack threat.attack.apart (λ at. aside.attacker_stays (sym at))
-    (inr (λ slides lined. aside.unpinned (ap is_slider (sym put) ∙ slides) lined))
+    (inr (λ slides lined met. aside.unpinned (ap is_slider (sym put) ∙ slides) lined met))
     (k.clear t (other_side p.side (piece_at p.cells t) threat.target))
     (reach_kept p.cells (after p m).cells (end_of m) k.empty (piece_at p.cells a) a t threat.attack.reached aside.unreached)
 
@@ -262,9 +262,9 @@ retakes p m a promote k adds put own attack =
     (ap (is_piece_of (opponent_of p.side)) put ∙ other_side p.side (put_by p m) own)
     (reach_to p.cells (after p m).cells (end_of m) k.empty (piece_at p.cells a) a attack.reached)
 
-module _ (p : Shogi) (from to : ℕ) (promote : Bool) (sight spare : ℕ) (v : IsValid p) (r : IsReplies p sight spare) (hf : from < 81) (ht : to < 81) (legal : is_legal p (Board from to promote) ≡ true) (out : UncoversNothing p.cells (opponent_of p.side) sight from (piece_moved promote (piece_at p.cells from)) to) (off : IsHarmless p.cells (opponent_of p.side) (piece_moved promote (piece_at p.cells from)) to) where
+module _ (p : Shogi) (from to : ℕ) (promote : Bool) (v : IsValid p) (hf : from < 81) (ht : to < 81) (legal : is_legal p (Board from to promote) ≡ true) (shut : in_check (after p (Board from to promote)).cells (opponent_of p.side) ≡ false) where
   standing : LeavesStanding p.cells (after p (Board from to promote)).cells (opponent_of p.side) to
-  standing = left_board p from to promote sight spare v r hf ht (legal_own p from to promote legal) out off
+  standing = left_board p from to promote v hf ht (legal_own p from to promote legal) shut
 
   adds_board : AddsOne p.cells (after p (Board from to promote)).cells (opponent_of p.side) to
   adds_board x e ne = elim (look p.cells p.side from to (piece_moved promote (piece_at p.cells from)) v.cells_fit hf ht x) [
@@ -293,9 +293,9 @@ module _ (p : Shogi) (from to : ℕ) (promote : Bool) (sight spare : ℕ) (v : I
     stands = put_board;
   }
 
-module _ (p : Shogi) (kind : Kind) (to sight spare : ℕ) (v : IsValid p) (r : IsReplies p sight spare) (ht : to < 81) (off : IsHarmless p.cells (opponent_of p.side) (dropped p.side kind) to) where
+module _ (p : Shogi) (kind : Kind) (to : ℕ) (v : IsValid p) (ht : to < 81) (shut : in_check (after p (Drop kind to)).cells (opponent_of p.side) ≡ false) where
   standing_drop : LeavesStanding p.cells (after p (Drop kind to)).cells (opponent_of p.side) to
-  standing_drop = left_drop p kind to sight spare v r ht off
+  standing_drop = left_drop p kind to v ht shut
 
   adds_drop : AddsOne p.cells (after p (Drop kind to)).cells (opponent_of p.side) to
   adds_drop x e ne = elim (drops.look p.cells p.side kind to v.cells_fit ht x) [ inl there ↦ absurd (ne there.0) | inr same ↦ sym same ]

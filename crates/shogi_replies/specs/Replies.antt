@@ -6,7 +6,7 @@ use Rattle.shogi_core.specs.declared.piece.Color.{Color}
 use Rattle.shogi_core.specs.declared.piece.Kind.{Kind}
 use Rattle.shogi_core.specs.declared.piece.Kind.TheVariants.{Silver, Gold, Bishop, Rook}
 use Rattle.shogi_core.specs.declared.piece.Piece.{Piece}
-use Rattle.shogi_core.specs.Attack.{is_sniping, cell_steps}
+use Rattle.shogi_core.specs.Attack.{in_check, is_sniping, cell_steps}
 use Rattle.shogi_core.specs.Below.{some_below}
 use Rattle.shogi_core.specs.Bits.{has_bit}
 use Rattle.shogi_core.specs.Cell.{is_piece_of, is_king, is_immobile}
@@ -15,11 +15,11 @@ use Rattle.shogi_core.specs.Movement.{Cells, piece_at, reaches, cell_reaches}
 use Rattle.shogi_core.specs.Pieces.{opponent_of}
 use Rattle.shogi_core.specs.Position.{Shogi, HandCounts, count_in_hand}
 use Rattle.shogi_moves.specs.After.{after, piece_moved}
-use Rattle.shogi_moves.specs.declared.destinations.Destinations.{Destinations}
 use Rattle.shogi_moves.specs.Destinations.{is_destination}
 use Rattle.shogi_moves.specs.Legal.{is_legal}
 use Rattle.shogi_core.specs.Zones.{may_promote, is_around}
 use Rattle.shogi_moves.specs.LegalMoves.{legal_codes}
+use Rattle.shogi_replies.specs.declared.row.Row.{Row}
 
 -- the piece on a may step to t: none of its own stands there, and it can move again from there without promotion
 abbrev pub is_open_step : Cells → Color → ℕ → ℕ → Bool
@@ -131,6 +131,24 @@ abbrev pub AreDropsAnswered : Shogi → Kind → ℕ → Type 0
 AreDropsAnswered p kind mask =
     (n : ℕ) → n < 81 → has_bit mask n ≡ true → IsAnswered p (Drop kind n)
 
+-- if the move is legal, it gives no check
+abbrev pub GivesNoCheck : Shogi → Move → Type 0
+GivesNoCheck p m = is_legal p m ≡ true → in_check (after p m).cells (opponent_of p.side) ≡ false
+
+-- the move is answered and, where no escapes are given, gives no check
+abbrev pub IsCertain : Shogi → ℕ → Move → Type 0
+IsCertain p escapes m = IsAnswered p m × (escapes ≡ 0 → GivesNoCheck p m)
+
+-- so is a move from the square to each one of the mask, promoting or not
+abbrev pub AreCertain : Shogi → ℕ → ℕ → Bool → ℕ → Type 0
+AreCertain p escapes from promote mask =
+    (n : ℕ) → n < 81 → has_bit mask n ≡ true → IsCertain p escapes (Board from n promote)
+
+-- and a drop of the kind on each square of the mask
+abbrev pub AreDropsCertain : Shogi → ℕ → Kind → ℕ → Type 0
+AreDropsCertain p escapes kind mask =
+    (n : ℕ) → n < 81 → has_bit mask n ≡ true → IsCertain p escapes (Drop kind n)
+
 -- the mask has all squares around a king of the side
 abbrev pub HasAroundKings : Cells → Color → ℕ → Type 0
 HasAroundKings cells side mask = (k n : ℕ) → k < 81 → n < 81
@@ -148,13 +166,14 @@ abbrev pub is_reached : Shogi → Bool → ℕ → ℕ → Bool
 is_reached p capture from n =
     reaches p.cells from n && is_destination capture p.side (piece_at p.cells n)
 
--- each move of the kind of what stands on the square is answered, and ends on one of the squares for moves without promotion, or for those with it
-pub record HasCertainMoves (p : Shogi) (capture : Bool) (among : Destinations) (from : ℕ) : Type 0 where
+-- the row has each move of the kind of what stands on the square, and it is certain
+pub record HasCertainMoves (p : Shogi) (capture : Bool) (row : Row) (from : ℕ) : Type 0 where
+  pub piece : has_bit row.pieces from ≡ true
   pub plain : (n : ℕ) → n < 81 → is_reached p capture from n ≡ true
-      → (has_bit among.plain n ≡ true) × IsAnswered p (Board from n false)
+      → (has_bit row.plain n ≡ true) × IsCertain p row.escapes (Board from n false)
   pub promoting : (n : ℕ) → n < 81 → is_reached p capture from n ≡ true
       → may_promote (piece_at p.cells from) from n ≡ true
-      → (has_bit among.promoting n ≡ true) × IsAnswered p (Board from n true)
+      → (has_bit row.promoting n ≡ true) × IsCertain p row.escapes (Board from n true)
 
 -- what stands on the squares of the mask makes such moves alone
 abbrev pub AreFarPieces : Shogi → ℕ → Bool → ℕ → Type 0

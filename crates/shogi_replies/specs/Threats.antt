@@ -62,13 +62,14 @@ abbrev pub put_by : Shogi → Move → Option Piece
 put_by p (Board from to promote) = piece_moved promote (piece_at p.cells from)
 put_by p (Drop kind to) = dropped p.side kind
 
--- a move that ends neither on the attacker nor where that reaches, so not on its way either, and puts nothing there that slides and is on a line with a king of the other side as the attacker is
+-- a move that ends neither on the attacker nor where that reaches, so not on its way either, and puts nothing there that slides and is on lines with the attacker and with a king of the other side, as the attacker is
 pub record EndsAside (p : Shogi) (a : ℕ) (m : Move) : Type 0 where
   pub attacker_stays : end_of m ≢ a
   pub unreached : reaches p.cells a (end_of m) ≡ false
   pub unpinned : is_slider (put_by p m) ≡ true
       → is_aligned_with_king p.cells (opponent_of p.side) a ≡ true
-      → is_aligned_with_king p.cells (opponent_of p.side) (end_of m) ≡ false
+      → is_aligned_with_king p.cells (opponent_of p.side) (end_of m) ≡ true
+      → are_aligned a (end_of m) ≡ false
 
 -- a move that lets the attacker, the target and the way between them be
 abbrev pub LeavesThreat : Shogi → ℕ → ℕ → Move → Type 0

@@ -7,26 +7,20 @@ ghost use Rattle.shogi_replies.specs.Passes.{IsPassedTo, PassesBoard, PassesDrop
 ghost use Rattle.shogi_replies.specs.Replies.{IsReplies};
 
 use crate::replies::Replies;
-use shogi_core::bits::{bits_above, lowest, without_lowest};
+use crate::row::Row;
+use shogi_core::bits::{bits_above, has, lowest, without_lowest};
 use shogi_core::{Position, SQUARE_CODES, Square};
-use shogi_moves::{BoardSweep, Destinations, DropSweep, matching_movers};
+use shogi_moves::{BoardSweep, DropSweep, matching_movers};
 
 impl Replies {
-    /// Passes the destinations of the present piece, up to the first one that is not among the
-    /// squares, or after which it is not certain that the other side has a legal move.
-    fn pass_destinations(
-        &self,
-        p: &Position,
-        capture: bool,
-        among: &Destinations,
-        escapes: u128,
-        sweep: &mut BoardSweep,
-    )
+    /// Passes the destinations of the present piece, up to the first one that is not of the row, or
+    /// that is not certain.
+    fn pass_destinations(&self, p: &Position, capture: bool, row: &Row, sweep: &mut BoardSweep)
         requires kept { IsBoardSweep p.now capture sweep.old }
         requires replies { IsReplies p.now self.now.sight self.now.spare }
-        requires escapes { AreEscapes p.now escapes }
+        requires escapes { AreEscapes p.now row.now.escapes }
         ensures kept { IsBoardSweep p.now capture sweep.new }
-        ensures passed { IsPassedTo p.now capture among.now sweep.old.code sweep.new.code }
+        ensures passed { IsPassedTo p.now capture row.now sweep.old.code sweep.new.code }
     {
         let (from, plain, promoting) = (
             sweep.from,
@@ -34,10 +28,12 @@ impl Replies {
             sweep.destinations.promoting,
         );
         from.validity();
-        let certain = self.certain_destinations(p, escapes, from, false, plain);
-        let promoted = self.certain_destinations(p, escapes, from, true, promoting);
-        let uncertain = plain & !(among.plain & certain)
-            | promoting & !(among.promoting & promoted);
+        if !has(row.pieces, from.index()) {
+            return;
+        }
+        let certain = self.certain_destinations(p, row.escapes, from, false, plain);
+        let promoted = self.certain_destinations(p, row.escapes, from, true, promoting);
+        let uncertain = plain & !(row.plain & certain) | promoting & !(row.promoting & promoted);
         if uncertain == 0 {
             sweep.pass_ends(p, capture, 81);
             return;
@@ -48,34 +44,26 @@ impl Replies {
         }
     }
 
-    /// Passes all moves of the next pieces, as long as each of them ends on one of the squares and
-    /// it is certain that the other side has a legal move after it. Pieces that are far are not
-    /// looked at one by one.
-    fn pass_pieces(
-        &self,
-        p: &Position,
-        capture: bool,
-        among: &Destinations,
-        escapes: u128,
-        sweep: &mut BoardSweep,
-    )
+    /// Passes all moves of the next pieces, as long as each of them is of the row and certain. Pieces
+    /// that are far are not looked at one by one.
+    fn pass_pieces(&self, p: &Position, capture: bool, row: &Row, sweep: &mut BoardSweep)
         requires kept { IsBoardSweep p.now capture sweep.old }
         requires none { (sweep.old.destinations.plain ≡ 0)
             × (sweep.old.destinations.promoting ≡ 0) }
         requires replies { IsReplies p.now self.now.sight self.now.spare }
-        requires escapes { AreEscapes p.now escapes }
+        requires escapes { AreEscapes p.now row.now.escapes }
         ensures kept { IsBoardSweep p.now capture sweep.new }
-        ensures passed { IsPassedTo p.now capture among.now sweep.old.code sweep.new.code }
+        ensures passed { IsPassedTo p.now capture row.now sweep.old.code sweep.new.code }
     {
         p.validity();
-        let far = self.far_pieces(p, capture, among);
+        let far = self.far_pieces(p, capture, row);
         let pieces = bits_above(p.as_board().own(p.side()), sweep.from.index());
         let moving = matching_movers(p, capture, pieces);
         let mut left = moving & !far;
         'squares: while left != 0 {
             let square = lowest(left);
             let from = Square::of_index(square);
-            if !self.has_certain_moves(p, capture, among, escapes, from) {
+            if !self.has_certain_moves(p, capture, row, from) {
                 sweep.pass_pieces(p, capture, square);
                 return;
             }
@@ -84,42 +72,37 @@ impl Replies {
         sweep.pass_pieces(p, capture, 81);
     }
 
-    /// Passes the next moves of the sweep, as long as they end on one of the squares for moves
-    /// without promotion, or for those with it, and it is certain by a look at squares alone that
-    /// the other side has a legal move after them.
-    pub fn pass_moves(
-        &self,
-        p: &Position,
-        capture: bool,
-        among: &Destinations,
-        escapes: u128,
-        sweep: &mut BoardSweep,
-    )
+    /// Passes the next moves of the sweep, as long as they are of the row and it is certain by a look
+    /// at squares alone that the other side has a legal move after them and, where the row has no
+    /// escapes, that they give no check.
+    pub fn pass_moves(&self, p: &Position, capture: bool, row: &Row, sweep: &mut BoardSweep)
         requires kept { IsBoardSweep p.now capture sweep.old }
         requires replies { IsReplies p.now self.now.sight self.now.spare }
-        requires escapes { AreEscapes p.now escapes }
+        requires escapes { AreEscapes p.now row.now.escapes }
         ensures kept { IsBoardSweep p.now capture sweep.new }
-        ensures passed { PassesBoard p.now capture among.now sweep.old sweep.new }
+        ensures passed { PassesBoard p.now capture row.now sweep.old sweep.new }
     {
-        self.pass_destinations(p, capture, among, escapes, sweep);
+        self.pass_destinations(p, capture, row, sweep);
         if sweep.destinations.plain == 0 {
             if sweep.destinations.promoting == 0 {
-                self.pass_pieces(p, capture, among, escapes, sweep);
+                self.pass_pieces(p, capture, row, sweep);
             }
         }
     }
 
-    /// Passes the drops of the kind that the sweep is at, up to the first after which it is not
-    /// certain by a look at squares alone that the other side has a legal move.
-    pub fn pass_drops(&self, p: &Position, escapes: u128, sweep: &mut DropSweep)
+    /// Passes the drops of the kind that the sweep is at, up to the first that is on none of the
+    /// squares, or after which it is not certain by a look at squares alone that the other side has a
+    /// legal move and, where there are no escapes, is in no check.
+    pub fn pass_drops(&self, p: &Position, squares: u128, escapes: u128, sweep: &mut DropSweep)
         requires kept { IsDropSweep p.now sweep.old }
         requires replies { IsReplies p.now self.now.sight self.now.spare }
         requires escapes { AreEscapes p.now escapes }
         ensures kept { IsDropSweep p.now sweep.new }
-        ensures passed { PassesDrops p.now sweep.old sweep.new }
+        ensures passed { PassesDrops p.now squares escapes sweep.old sweep.new }
     {
         let destinations = sweep.destinations;
-        let uncertain = destinations & !self.certain_drops(p, escapes, sweep.kind, destinations);
+        let certain = self.certain_drops(p, escapes, sweep.kind, destinations);
+        let uncertain = destinations & !(squares & certain);
         if uncertain == 0 {
             sweep.pass_ends(p, 81);
             return;

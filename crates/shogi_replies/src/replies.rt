@@ -10,15 +10,16 @@ ghost use Rattle.shogi_moves.specs.Destinations.{IsWithin};
 ghost use Rattle.shogi_moves.specs.Escapes.{AreEscapes};
 ghost use Rattle.shogi_moves.specs.Legal.{is_legal};
 ghost use Rattle.shogi_moves.specs.LegalMoves.{legal_codes};
-ghost use Rattle.shogi_replies.specs.Replies.{ChecksAmong, holds_free, is_open_step, is_spare, Sees, Aligns, IsReplies, IsHarmless, IsOpen, StaysCovered, UncoversWithin, AreAnswered, AreDropsAnswered, AreRemote, HasCertainMoves, PromotesWithin};
+ghost use Rattle.shogi_replies.specs.Replies.{ChecksAmong, holds_free, is_open_step, is_spare, Sees, Aligns, IsReplies, IsHarmless, IsOpen, StaysCovered, UncoversWithin, AreCertain, AreDropsCertain, AreRemote, HasCertainMoves, PromotesWithin};
 ghost use Rattle.shogi_replies.specs.Threats.{KeepsThreats, MayRetake};
 
 use crate::escapes::{escaped_destinations, escaped_drops};
 use crate::far::far_pieces;
+use crate::row::Row;
 use shogi_core::bits::{ALL_SQUARES, cleared, has, lowest, without, without_lowest};
 use shogi_core::zones::{dead_squares, promoting_squares};
 use shogi_core::{Color, Kind, Move, Piece, Position, Square, aligned_squares, step_squares};
-use shogi_moves::{Destinations, dropped, matching_destinations, piece_moved};
+use shogi_moves::{dropped, matching_destinations, piece_moved};
 
 /// What is kept of a position to decide that after most of its moves the other side is in no check
 /// and has a legal move: what its king sees, and pieces of it that have an open step, or the empty
@@ -296,24 +297,24 @@ impl Replies {
         without(!closed, one)
     }
 
-    /// Pieces of the side to move of which each move of the kind leaves the other side a legal
-    /// move, since they are far from its kings, and ends on one of the squares for moves without
-    /// promotion, or for those with it; none where the former are not all.
-    pub fn far_pieces(&self, p: &Position, capture: bool, among: &Destinations) -> u128
+    /// Pieces of the side to move of which the row has each move of the kind, and each leaves the
+    /// other side a legal move and gives no check, since they are far from its kings; none where the
+    /// row has not all squares for moves without promotion.
+    pub fn far_pieces(&self, p: &Position, capture: bool, row: &Row) -> u128
         requires kept { IsReplies p.now self.now.sight self.now.spare }
         ensures { (n : ℕ) → n < 81 → has_bit result n ≡ true
-            → HasCertainMoves p.now capture among.now n }
+            → HasCertainMoves p.now capture row.now n }
     {
         p.validity();
         if ALL_SQUARES & !self.open_squares(0) != 0 {
             return 0;
         }
         let ends = matching_destinations(p, capture);
-        if ends & !among.plain != 0 {
+        if ends & !row.plain != 0 {
             return 0;
         }
-        let promotes = ends & !among.promoting == 0;
-        far_pieces(p, self.sight, promotes)
+        let promotes = ends & !row.promoting == 0;
+        far_pieces(p, self.sight, promotes) & row.pieces
     }
 
     /// Pieces of the side to move of which each move, promoting or not, leaves the other side a legal
@@ -329,56 +330,47 @@ impl Replies {
         far_pieces(p, self.sight, true)
     }
 
-    /// Whether each move of the kind of what stands on the square surely leaves the other side a
-    /// legal move, and ends on one of the squares for moves without promotion, or for those with
-    /// it. Which of the moves are legal need not be known.
+    /// Whether the row has each move of the kind of what stands on the square, and each surely leaves
+    /// the other side a legal move and, where the row has no escapes, gives no check. Which of the
+    /// moves are legal need not be known.
     #[inline(always)]
-    pub fn has_certain_moves(
-        &self,
-        p: &Position,
-        capture: bool,
-        among: &Destinations,
-        escapes: u128,
-        from: Square,
-    ) -> bool
+    pub fn has_certain_moves(&self, p: &Position, capture: bool, row: &Row, from: Square) -> bool
         requires kept { IsReplies p.now self.now.sight self.now.spare }
-        requires escapes { AreEscapes p.now escapes }
-        ensures { result ≡ true → HasCertainMoves p.now capture among.now from }
+        requires escapes { AreEscapes p.now row.now.escapes }
+        ensures { result ≡ true → HasCertainMoves p.now capture row.now from }
     {
         p.validity();
         from.validity();
+        if !has(row.pieces, from.index()) {
+            return false;
+        }
         let ends = p.as_board().targets(from) & matching_destinations(p, capture);
         if ends & self.sight == 0 && !has(self.sight, from.index()) {
             let certain = self.unseen_destinations(p, from, ends);
-            return are_among(
-                p,
-                from,
-                ends,
-                among.plain & certain,
-                among.promoting & certain,
-            );
+            return are_among(p, from, ends, row.plain & certain, row.promoting & certain);
         }
         let promoting = ends & promoting_squares(p.at(from), from);
-        if ends & !among.plain | promoting & !among.promoting != 0 {
+        if ends & !row.plain | promoting & !row.promoting != 0 {
             return false;
         }
-        let certain = self.certain_destinations(p, escapes, from, false, ends);
+        let certain = self.certain_destinations(p, row.escapes, from, false, ends);
         if ends & !certain != 0 {
             return false;
         }
-        let promoted = self.certain_destinations(p, escapes, from, true, promoting);
-        ends & !(among.plain & certain) | promoting & !(among.promoting & promoted) == 0
+        let promoted = self.certain_destinations(p, row.escapes, from, true, promoting);
+        ends & !(row.plain & certain) | promoting & !(row.promoting & promoted) == 0
     }
 
     /// Those of the squares to which what stands on a square may move so that the other side surely
-    /// has a legal move after it, where no king sees that square or one of these.
+    /// has a legal move after it and is in no check, where no king sees that square or one of these.
     #[inline(always)]
     fn unseen_destinations(&self, p: &Position, from: Square, destinations: u128) -> u128
         requires kept { IsReplies p.now self.now.sight self.now.spare }
         requires unseen { has_bit self.now.sight from ≡ false }
         requires off { bit_and destinations self.now.sight ≡ 0 }
         ensures among { IsWithin result destinations }
-        ensures certain { (promote : Bool) → AreAnswered p.now from promote result }
+        ensures certain { (escapes : ℕ) (promote : Bool)
+            → AreCertain p.now escapes from promote result }
     {
         p.validity();
         from.validity();
@@ -387,7 +379,7 @@ impl Replies {
 
     /// Those of the squares to which what stands on a square may move, promoting or not, so that
     /// the other side surely has a legal move after it: it is in no check, or its king has one of
-    /// the escapes left.
+    /// the escapes left, where there are some.
     #[inline(always)]
     pub fn certain_destinations(
         &self,
@@ -400,7 +392,7 @@ impl Replies {
         requires escapes { AreEscapes p.now escapes }
         requires kept { IsReplies p.now self.now.sight self.now.spare }
         ensures among { IsWithin result destinations }
-        ensures certain { AreAnswered p.now from promote result }
+        ensures certain { AreCertain p.now escapes from promote result }
     {
         p.validity();
         from.validity();
@@ -426,7 +418,7 @@ impl Replies {
         requires escapes { AreEscapes p.now escapes }
         requires kept { IsReplies p.now self.now.sight self.now.spare }
         ensures among { IsWithin result destinations }
-        ensures certain { AreAnswered p.now from promote result }
+        ensures certain { AreCertain p.now escapes from promote result }
     {
         p.validity();
         from.validity();
@@ -441,12 +433,12 @@ impl Replies {
 
     /// Those of the squares on which a piece of the kind may be dropped so that the other side
     /// surely has a legal move after it: it is in no check, or its king has one of the escapes
-    /// left.
+    /// left, where there are some.
     pub fn certain_drops(&self, p: &Position, escapes: u128, kind: Kind, destinations: u128) -> u128
         requires escapes { AreEscapes p.now escapes }
         requires kept { IsReplies p.now self.now.sight self.now.spare }
         ensures among { IsWithin result destinations }
-        ensures certain { AreDropsAnswered p.now kind result }
+        ensures certain { AreDropsCertain p.now escapes kind result }
     {
         p.validity();
         let checking = self.checking_squares(p, dropped(p.side(), kind), destinations);

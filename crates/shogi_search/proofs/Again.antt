@@ -1,5 +1,5 @@
 -- What may be left once more of a node of the stack, since moves of the root may be asked twice.
-use Rattle.std.proofs.Common.{◌≡◌, ◌<◌, ◌≤◌, ◌+◌, ◌-◌, ◌*◌, ◌==◌, ◌<ℤ◌, ℕ, ℤ, Bool, true, false, inl, inr, refl, ap, ◌∙◌, sym, arith}
+use Rattle.std.proofs.Common.{◌≡◌, ◌<◌, ◌≤◌, ◌+◌, ◌-◌, ◌*◌, ◌==◌, ◌<ℤ◌, ℕ, ℤ, Bool, true, false, inl, inr, ap, ◌∙◌, sym, arith}
 use Rattle.std.specs.Prelude.{◌&&◌, not, cond}
 use Rattle.std.specs.Ordering.{int_eq}
 use Rattle.std.proofs.lemmas.Bool.{cond-true, cond-false, eq-eqb, ne_eqb, and_from, and_left, and_right, not_from_true, not_from_false, cases_eq}

@@ -1,5 +1,5 @@
 -- What a side that has a legal move is worth at least one ply before the leaves.
-use Rattle.std.proofs.Common.{◌≡◌, ◌≢◌, ◌<◌, ◌-◌, ◌/◌, ◌%◌, ◌==◌, ◌+◌, ◌≤◌, ℕ, zero, suc, ℤ, pos, ◌-ℤ◌, ◌+ℤ◌, ◌≤ℤ◌, List, [], ◌∷◌, Bool, true, false, Option, Some, None, inl, inr, refl, sym, ap, ◌∙◌, arith, subst, set, get_or-set_other}
+use Rattle.std.proofs.Common.{◌≡◌, ◌≢◌, ◌<◌, ◌-◌, ◌/◌, ◌%◌, ◌==◌, ◌+◌, ℕ, ℤ, pos, ◌-ℤ◌, ◌+ℤ◌, ◌≤ℤ◌, List, [], ◌∷◌, Bool, true, false, Option, Some, None, inl, inr, refl, sym, ap, ◌∙◌, arith, subst, set, get_or-set_other}
 use Rattle.std.proofs.lemmas.Int.{ints}
 use Rattle.std.proofs.lemmas.Bool.{both_ways, or_left, eq-eqb, cases_lt}
 use Rattle.shogi_core.specs.declared.moves.TheConstants.{FIRST_DROP, MOVE_CODE_COUNT}
@@ -18,7 +18,7 @@ use Rattle.shogi_moves.specs.After.{after, after_code, dropped, piece_moved}
 use Rattle.shogi_moves.specs.Legal.{is_legal}
 use Rattle.shogi_moves.specs.LegalMoves.{legal_codes}
 use Rattle.shogi_moves.specs.Rising.{is_in}
-use Rattle.shogi_replies.specs.Threats.{IsAttack, IsThreat, LeavesThreat, MayTake, end_of, put_by}
+use Rattle.shogi_replies.specs.Threats.{IsAttack, IsThreat, KeepsThreats, LeavesThreat, MayRetake, MayTake, end_of, put_by}
 use Rattle.shogi_moves.proofs.CheckInfoLaws.{other_side}
 use Rattle.shogi_moves.proofs.Keeps.{is_safe_from_legal}
 use Rattle.shogi_moves.proofs.KeepsDrop.{safe_drop}
@@ -143,14 +143,23 @@ worth_below p e m least back h =
     let same : value (after_code p (code_of m)) e 1 ≡ value (after p m) e 1 = ap (λ (q : Shogi). value q e 1) (after_code_of p m back) in
     omega (arith, ints, h, same)
 
-pub worth_most : (p : Shogi) (e : Eval) (loss : ℤ) (m : Move) → IsValid p → move_of (code_of m) ≡ Some m → is_in (code_of m) (legal_codes p) ≡ true → pos 0 ≤ℤ loss → LosesAtMost p.hands (opponent_of p.side) e loss → legal_codes (after p m) ≢ [] → worth p e 1 (code_of m) ≤ℤ negated (material_of (after p m) e -ℤ loss)
-worth_most p e loss m v back i h l some = worth_below p e m (material_of (after p m) e -ℤ loss) back (value_least (after p m) e loss (legal_codes (after p m)) refl (valid_after p m v back i) h (loses_after p e loss m l) some)
+-- by its material, less what a reply may lose
+pub material_left : (p : Shogi) (e : Eval) (loss : ℤ) (m : Move) → IsValid p → move_of (code_of m) ≡ Some m → is_legal p m ≡ true → pos 0 ≤ℤ loss → LosesAtMost p.hands (opponent_of p.side) e loss → legal_codes (after p m) ≢ [] → (material_of (after p m) e -ℤ loss) ≤ℤ value (after p m) e 1
+material_left p e loss m v back legal h l some = value_least (after p m) e loss (legal_codes (after p m)) refl (valid_after p m v back (legal_to_listed p m back legal)) h (loses_after p e loss m l) some
+
+-- by a threat that stands
+pub threat_left : (p : Shogi) (e : Eval) (m : Move) (gain : ℕ) → KeepsThreats p m → MayRetake p m → TakesAfter p e m gain → (material_of (after p m) e -ℤ negated (pos gain)) ≤ℤ value (after p m) e 1
+threat_left p e m gain keeps retakes takes = omega (arith, ints, takes keeps retakes)
+
+-- so the move is worth no more than that leaves
+pub worth_leaving : (p : Shogi) (e : Eval) (d : ℕ) (loss : ℤ) (m : Move) → move_of (code_of m) ≡ Some m → d ≡ 2 → (material_of (after p m) e -ℤ loss) ≤ℤ value (after p m) e 1 → worth p e (d - 1) (code_of m) ≤ℤ negated (material_of (after p m) e -ℤ loss)
+worth_leaving p e d loss m back last least =
+    let one : d - 1 ≡ 1 = omega arith in
+    subst (λ (n : ℕ). worth p e n (code_of m) ≤ℤ negated (material_of (after p m) e -ℤ loss)) (sym one) (worth_below p e m (material_of (after p m) e -ℤ loss) back least)
 
 -- the same at a node of depth 2
 pub worth_ahead : (p : Shogi) (e : Eval) (d : ℕ) (loss : ℤ) (m : Move) → IsValid p → move_of (code_of m) ≡ Some m → is_legal p m ≡ true → d ≡ 2 → pos 0 ≤ℤ loss → LosesAtMost p.hands (opponent_of p.side) e loss → legal_codes (after p m) ≢ [] → worth p e (d - 1) (code_of m) ≤ℤ negated (material_of (after p m) e -ℤ loss)
-worth_ahead p e d loss m v back legal last h l some =
-    let one : d - 1 ≡ 1 = omega arith in
-    subst (λ (n : ℕ). worth p e n (code_of m) ≤ℤ negated (material_of (after p m) e -ℤ loss)) (sym one) (worth_most p e loss m v back (legal_to_listed p m back legal) h l some)
+worth_ahead p e d loss m v back legal last h l some = worth_leaving p e d loss m back last (material_left p e loss m v back legal h l some)
 
 -- the same where it takes so much then
 pub worth_under_threat : (p : Shogi) (e : Eval) (d gain : ℕ) (m : Move) → move_of (code_of m) ≡ Some m → d ≡ 2 → (material_of (after p m) e +ℤ pos gain) ≤ℤ value (after p m) e 1 → worth p e (d - 1) (code_of m) ≤ℤ negated (material_of (after p m) e +ℤ pos gain)

@@ -1,5 +1,5 @@
 -- The moves that a node visits first: none of them twice, and which codes no legal move has.
-use Rattle.std.proofs.Common.{◌≡◌, ◌≤◌, ◌<◌, ◌+◌, ℕ, List, [], ◌∷◌, ◌++◌, length, take, set, true, false, not, ◌∙◌, sym, refl, ap, arith, subst, inl, inr}
+use Rattle.std.proofs.Common.{◌≡◌, ◌≤◌, ◌<◌, ◌+◌, ℕ, List, [], ◌∷◌, ◌++◌, length, take, set, true, false, not, sym, refl, arith, subst, inl, inr}
 use Rattle.std.proofs.lemmas.Bool.{cases_Bool, and_from, and_parts, not_from_true, not_from_false, eqb-true, eq-eqb}
 use Rattle.std.proofs.lemmas.List.{take_more_set}
 use Rattle.shogi_core.specs.declared.moves.TheConstants.{MOVE_CODE_COUNT}

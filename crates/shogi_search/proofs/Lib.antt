@@ -7,6 +7,7 @@ pub mod Nodes
 pub mod Ahead
 pub mod Passed
 pub mod Chains
+pub mod Rows
 pub mod Again
 pub mod CallLaws
 pub mod Places

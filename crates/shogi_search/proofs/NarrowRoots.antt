@@ -1,5 +1,5 @@
 -- A root whose window is narrowed for a move of it, and made whole again.
-use Rattle.std.proofs.Common.{◌≡◌, ◌<◌, ◌≤◌, ◌+◌, ◌-◌, ◌*◌, ◌<ℤ◌, ◌≤ℤ◌, ℤ, ℕ, List, [], ◌∷◌, ◌++◌, length, take, get_or, refl, sym, ap, ◌∙◌, ◌==◌, arith, subst}
+use Rattle.std.proofs.Common.{◌≡◌, ◌<◌, ◌≤◌, ◌+◌, ◌-◌, ◌*◌, ◌≤ℤ◌, ℤ, ℕ, List, [], ◌∷◌, ◌++◌, length, take, get_or, refl, sym, ap, ◌∙◌, ◌==◌, arith, subst}
 use Rattle.std.specs.Prelude.{cond, sum_by}
 use Rattle.std.proofs.lemmas.Int.{ints}
 use Rattle.std.proofs.lemmas.Option.{slice_get_within}
@@ -20,7 +20,7 @@ use Rattle.shogi_search.specs.Order.{todo}
 use Rattle.shogi_search.specs.Stack.{IsAt, IsChain, IsChildAfter, IsNarrow, IsStack, KeepsAsked, OnTop, UsesSteps, left_of_frame, parents_of, steps_after, steps_for, steps_left}
 use Rattle.shogi_search.proofs.Again.{left_narrow, left_root}
 use Rattle.shogi_search.proofs.Chains.{IsChild, left_above, same_asked}
-use Rattle.shogi_search.proofs.Places.{HasTop, IsBelow, IsTop, below, has_top, left_in, left_read, of_top, on_map, on_top, on_with, stack_with, top_with, with_frame}
+use Rattle.shogi_search.proofs.Places.{HasTop, IsBelow, IsTop, below, has_top, left_in, left_read, of_top, on_top, on_with, stack_with, top_with, with_frame}
 
 -- with another end of the window for now
 abbrev pub with_bound : Stack → ℤ → Stack

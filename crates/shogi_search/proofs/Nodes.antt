@@ -1,6 +1,5 @@
 -- Nodes of any depth: a leaf goes through no moves.
-use Rattle.std.proofs.Common.{◌≡◌, ◌<◌, ◌≤◌, ◌+◌, ◌-◌, ◌*◌, ℕ, zero, suc, ℤ, ◌≤ℤ◌, List, [], ◌∷◌, true, ◌==◌, Option, Some, None, MatchOption, refl, sym, arith, subst, ◌<ℤ◌}
-use Rattle.std.specs.Option.{ForSome}
+use Rattle.std.proofs.Common.{◌≡◌, ◌<◌, ◌≤◌, ◌+◌, ◌-◌, ◌*◌, ℕ, zero, suc, ℤ, ◌≤ℤ◌, List, [], ◌∷◌, true, ◌==◌, Option, Some, None, refl, sym, arith, subst, ◌<ℤ◌}
 use Rattle.std.proofs.lemmas.Bool.{or_left, eq-eqb}
 use Rattle.std.proofs.lemmas.Bool.Decides.{nat_tests}
 use Rattle.std.proofs.lemmas.Int.{ints}

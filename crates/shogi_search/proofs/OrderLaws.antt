@@ -1,5 +1,5 @@
 -- The visits of a node begin with all its moves, each of them once.
-use Rattle.std.proofs.Common.{◌≡◌, ◌≤◌, ◌<◌, ℕ, ℤ, List, ◌++◌, Bool, true, false, not, None, filter, refl, arith, inl, inr}
+use Rattle.std.proofs.Common.{◌≡◌, ◌≤◌, ℕ, ℤ, List, ◌++◌, Bool, true, false, not, None, filter, refl, arith, inl, inr}
 use Rattle.std.proofs.lemmas.List.Sums.{sum_by-append}
 use Rattle.std.proofs.lemmas.Bool.{cases_Bool, and_from, not_from_true, not_from_false}
 use Rattle.shogi_core.specs.Position.{Shogi}

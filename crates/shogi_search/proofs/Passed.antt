@@ -6,7 +6,10 @@ use Rattle.std.proofs.lemmas.Int.{ints}
 use Rattle.std.proofs.lemmas.Bool.Decides.{nat_tests}
 use Rattle.shogi_core.specs.declared.moves.TheConstants.{FIRST_DROP, SQUARE_CODES}
 use Rattle.shogi_core.specs.declared.piece.Piece.{Piece}
+use Rattle.shogi_core.specs.Attack.{in_check}
+use Rattle.shogi_core.specs.Bits.{has_bit}
 use Rattle.shogi_core.specs.Movement.{piece_at}
+use Rattle.shogi_core.specs.declared.moves.Move.{Move}
 use Rattle.shogi_core.specs.declared.moves.Move.TheVariants.{Board, Drop}
 use Rattle.shogi_core.specs.declared.piece.Kind.{Kind}
 use Rattle.shogi_core.specs.declared.piece.Role.{Role}
@@ -17,32 +20,32 @@ use Rattle.shogi_core.specs.Position.{Shogi}
 use Rattle.shogi_core.specs.Validity.{IsValid}
 use Rattle.shogi_core.proofs.CodesBack.{move_of-board, move_of-drop}
 use Rattle.shogi_moves.specs.After.{after, after_code}
-use Rattle.shogi_moves.specs.Legal.{is_legal, is_legal_code}
+use Rattle.shogi_moves.specs.Legal.{is_legal}
 use Rattle.shogi_moves.specs.LegalMoves.{legal_codes}
 use Rattle.shogi_moves.specs.Captures.{is_matching}
-use Rattle.shogi_moves.specs.declared.destinations.Destinations.{Destinations}
-use Rattle.shogi_replies.specs.Passes.{IsCertainMove, IsCertainDrop, IsPassed}
+use Rattle.shogi_replies.specs.declared.row.Row.{Row}
+use Rattle.shogi_replies.specs.Passes.{IsCertainMove, IsCertainDrop, IsPassed, LeavesReply}
+use Rattle.shogi_replies.specs.Replies.{IsCertain}
 use Rattle.shogi_moves.proofs.DestinationLaws.{matching_move}
 use Rattle.shogi_moves.proofs.LegalLaws.{is_legal_code_of, after_code_of}
 use Rattle.shogi_eval.specs.declared.eval.Eval.{Eval}
 use Rattle.shogi_eval.specs.Material.{material_of, taken_gain, promotion_gain, value_of}
 use Rattle.shogi_eval.proofs.Gains.{material_at_board}
-use Rattle.shogi_eval.specs.Losses.{LosesAtMost}
-use Rattle.shogi_search.specs.Losses.{PromotesWithin}
-use Rattle.minimax.specs.Minimax.{worth, negated, sum_of_tree_sizes}
-use Rattle.minimax.specs.Window.{threshold, IsCovered}
+use Rattle.shogi_search.specs.Frames.{DropsAreLost, FallsShort, LeavesAtLeast, MovesLeave, PromotesWithin}
+use Rattle.minimax.specs.Minimax.{value, worth, negated, sum_of_tree_sizes}
+use Rattle.minimax.specs.Window.{threshold, code_at, IsCovered}
 use Rattle.shogi_search.specs.Order.{todo}
 use Rattle.shogi_search.specs.Visits.{moves_at, IsKnownWhile}
 use Rattle.shogi_search.specs.Stack.{left_of_frame}
 use Rattle.minimax.specs.declared.bounds.TheConstants.{SEARCH_DEPTH_MAX, INFINITY}
-use Rattle.shogi_search.specs.declared.losses.TheConstants.{PROMOTION_GAIN_MAX}
+use Rattle.shogi_eval.specs.declared.gain.TheConstants.{PROMOTION_GAIN_MAX}
 use Rattle.shogi_search.specs.declared.frame.Frame.{Frame}
 use Rattle.shogi_search.specs.declared.move_picker.MovePicker.{MovePicker}
 use Rattle.shogi_search.specs.declared.frame.Waiting.{Waiting}
 use Rattle.shogi_search.specs.declared.frame.Waiting.TheVariants.{Next}
 use Rattle.minimax.proofs.Cover.{IsCovered-skip, threshold-best_value}
 use Rattle.shogi_search.proofs.Nodes.{threshold_least, gone_through}
-use Rattle.shogi_search.proofs.Ahead.{worth_ahead}
+use Rattle.shogi_search.proofs.Ahead.{worth_leaving}
 use Rattle.minimax.proofs.MinimaxLaws.{sum_of_tree_sizes-next}
 
 -- moves that are all worth no more than their threshold
@@ -61,19 +64,48 @@ sum_passed p d fact (c ∷ codes) left h = elim h [
   | inr more ↦ omega (arith, sum_passed p d fact codes left more.1, sum_of_tree_sizes-next p d c (after_code p c) (c ∷ codes) codes refl refl)
 ]
 
--- all drops of a kind are worth as much at most
-drop_worth : (p : Shogi) (e : Eval) (d : ℕ) (kind : Kind) (first c : ℕ) (score loss : ℤ) → IsValid p → d ≡ 2 → pos 0 ≤ℤ loss → LosesAtMost p.hands (opponent_of p.side) e loss → ((to : ℕ) → to < 81 → is_legal p (Drop kind to) ≡ true → material_of (after p (Drop kind to)) e ≡ score)
-    → IsCertainDrop p kind first c → worth p e (d - 1) c ≤ℤ (loss -ℤ score)
-drop_worth p e d kind first c score loss valid last h l same k =
+-- a threshold rises with the code
+pub threshold_rises : (best_value : ℤ) (b : Option ℕ) (first c : ℕ) → first ≤ c → threshold best_value b first ≤ℤ threshold best_value b c
+threshold_rises best_value None first c up = omega (arith, ints)
+threshold_rises best_value (Some b) first c up = grind (arith, ints, nat_tests)
+
+-- a move that leaves such a reply is certain
+certain_move : (p : Shogi) (escapes c : ℕ) (m : Move) → after_code p c ≡ after p m → LeavesReply p escapes c → IsCertain p escapes m
+certain_move p escapes c m made leaves = (
+  λ _. subst (λ (q : Shogi). legal_codes q ≢ []) made leaves.replied,
+  λ none _. subst (λ (q : Shogi). in_check q.cells (opponent_of p.side) ≡ false) made (leaves.unchecked none),
+)
+
+-- the move of such a code
+pub record IsDropAt (p : Shogi) (kind : Kind) (squares escapes c to : ℕ) : Type 0 where
+  pub fits : to < 81
+  pub is : c ≡ code_of (Drop kind to)
+  pub set : has_bit squares to ≡ true
+  pub legal : is_legal p (Drop kind to) ≡ true
+  pub certain : IsCertain p escapes (Drop kind to)
+
+pub drop_at : (p : Shogi) (kind : Kind) (squares escapes first c : ℕ) → IsCertainDrop p kind squares escapes first c → IsDropAt p kind squares escapes c (c - FIRST_DROP - kind_number kind * 81)
+drop_at p kind squares escapes first c k =
     let to : ℕ = c - FIRST_DROP - kind_number kind * 81 in
     let fits : to < 81 = omega (arith, k.low, k.high) in
     let is : c ≡ code_of (Drop kind to) = omega (arith, k.low, k.high) in
     let back : move_of (code_of (Drop kind to)) ≡ Some (Drop kind to) = move_of-drop kind to fits in
-    let legal : is_legal p (Drop kind to) ≡ true = sym (is_legal_code_of p c (Drop kind to) (ap move_of is ∙ back)) ∙ k.legal in
-    let made : after_code p c ≡ after p (Drop kind to) = ap (after_code p) is ∙ after_code_of p (Drop kind to) back in
-    let most : worth p e (d - 1) (code_of (Drop kind to)) ≤ℤ negated (material_of (after p (Drop kind to)) e -ℤ loss) = worth_ahead p e d loss (Drop kind to) valid back legal last h l (subst (λ (q : Shogi). legal_codes q ≢ []) made k.replied) in
-    let at : worth p e (d - 1) c ≡ worth p e (d - 1) (code_of (Drop kind to)) = ap (worth p e (d - 1)) is in
-    omega (arith, ints, most, at, same to fits legal)
+    record {
+      fits = fits;
+      is = is;
+      set = k.among;
+      legal = sym (is_legal_code_of p c (Drop kind to) (ap move_of is ∙ back)) ∙ k.legal;
+      certain = certain_move p escapes c (Drop kind to) (ap (after_code p) is ∙ after_code_of p (Drop kind to) back) k.leaves;
+    }
+
+-- a drop is worth no more than it leaves
+pub drop_worth : (f : Frame) (kind : Kind) (squares escapes first c to : ℕ) (loss : ℤ) → f.depth ≡ 2 → FallsShort f kind first loss → first ≤ c → IsDropAt f.node.position kind squares escapes c to → LeavesAtLeast f loss (Drop kind to)
+    → worth f.node.position f.node.eval (f.depth - 1) c ≤ℤ threshold f.best_value (code_at f.best_move) c
+drop_worth f kind squares escapes first c to loss last short above at leaves =
+    let most : worth f.node.position f.node.eval (f.depth - 1) (code_of (Drop kind to)) ≤ℤ negated (material_of (after f.node.position (Drop kind to)) f.node.eval -ℤ loss) = worth_leaving f.node.position f.node.eval f.depth loss (Drop kind to) (move_of-drop kind to at.fits) last leaves in
+    let same : worth f.node.position f.node.eval (f.depth - 1) c ≡ worth f.node.position f.node.eval (f.depth - 1) (code_of (Drop kind to)) = ap (worth f.node.position f.node.eval (f.depth - 1)) at.is in
+    let up : threshold f.best_value (code_at f.best_move) first ≤ℤ threshold f.best_value (code_at f.best_move) c = threshold_rises f.best_value (code_at f.best_move) first c above in
+    omega (arith, ints, most, same, up, short to at.fits at.legal)
 
 -- no promotion gains more than that of a pawn
 most_of_role : (role : Role) → value_of (promoted role) - value_of role ≤ PROMOTION_GAIN_MAX
@@ -101,14 +133,11 @@ no_promotion None = refl
 no_promotion (Some piece) = refl
 
 -- a move on the board gains what it takes and what its promotion adds
-gain_worth : (p : Shogi) (e : Eval) (d c from to : ℕ) (promote : Bool) (loss : ℤ) → IsValid p → d ≡ 2 → pos 0 ≤ℤ loss → LosesAtMost p.hands (opponent_of p.side) e loss → from < 81 → to < 81 → c ≡ code_of (Board from to promote) → is_legal_code p c ≡ true → legal_codes (after_code p c) ≢ []
+gain_worth : (p : Shogi) (e : Eval) (d c from to : ℕ) (promote : Bool) (loss : ℤ) → IsValid p → d ≡ 2 → from < 81 → to < 81 → c ≡ code_of (Board from to promote) → is_legal p (Board from to promote) ≡ true → (material_of (after p (Board from to promote)) e -ℤ loss) ≤ℤ value (after p (Board from to promote)) e 1
     → worth p e (d - 1) c ≤ℤ (material_of p e +ℤ pos (taken_gain e (piece_at p.cells to) + promotion_gain promote (piece_at p.cells from)) +ℤ loss)
-gain_worth p e d c from to promote loss valid last h l from_fits to_fits is listed replied =
-    let back : move_of (code_of (Board from to promote)) ≡ Some (Board from to promote) = move_of-board from to promote from_fits to_fits in
-    let legal : is_legal p (Board from to promote) ≡ true = sym (is_legal_code_of p c (Board from to promote) (ap move_of is ∙ back)) ∙ listed in
-    let made : after_code p c ≡ after p (Board from to promote) = ap (after_code p) is ∙ after_code_of p (Board from to promote) back in
+gain_worth p e d c from to promote loss valid last from_fits to_fits is legal leaves =
     let law : material_of (after p (Board from to promote)) e ≡ pos 0 -ℤ (material_of p e +ℤ pos (taken_gain e (piece_at p.cells to) + promotion_gain promote (piece_at p.cells from))) = material_at_board p e (Board from to promote) from to promote refl valid from_fits to_fits legal in
-    let most : worth p e (d - 1) (code_of (Board from to promote)) ≤ℤ negated (material_of (after p (Board from to promote)) e -ℤ loss) = worth_ahead p e d loss (Board from to promote) valid back legal last h l (subst (λ (q : Shogi). legal_codes q ≢ []) made replied) in
+    let most : worth p e (d - 1) (code_of (Board from to promote)) ≤ℤ negated (material_of (after p (Board from to promote)) e -ℤ loss) = worth_leaving p e d loss (Board from to promote) (move_of-board from to promote from_fits to_fits) last leaves in
     let at : worth p e (d - 1) c ≡ worth p e (d - 1) (code_of (Board from to promote)) = ap (worth p e (d - 1)) is in
     omega (arith, ints, most, at, law)
 
@@ -116,34 +145,32 @@ nothing_taken : (e : Eval) (cell : Option Piece) → not (is_some cell) ≡ true
 nothing_taken e None h = refl
 nothing_taken e (Some piece) h = cc
 
--- moves that take nothing gain no more than this
-quiet_worth : (p : Shogi) (e : Eval) (d : ℕ) (among : Destinations) (first c most : ℕ) (loss : ℤ) → IsValid p → d ≡ 2 → pos 0 ≤ℤ loss → LosesAtMost p.hands (opponent_of p.side) e loss → PromotesWithin most among → IsCertainMove p false among first c → worth p e (d - 1) c ≤ℤ (material_of p e +ℤ pos most +ℤ loss)
-quiet_worth p e d among first c most loss valid last h l within k =
+-- a move that takes nothing is worth no more than it leaves, with what promotion adds
+quiet_at : (f : Frame) (row : Row) (first c most from to : ℕ) (promote : Bool) (loss : ℤ) → f.depth ≡ 2 → MovesLeave f loss row.pieces row.plain row.escapes → IsCertainMove f.node.position false row first c → from < 81 → to < 81 → c ≡ code_of (Board from to promote) → has_bit row.pieces from ≡ true → has_bit row.plain to ≡ true → promotion_gain promote (piece_at f.node.position.cells from) ≤ most
+    → worth f.node.position f.node.eval (f.depth - 1) c ≤ℤ (material_of f.node.position f.node.eval +ℤ pos most +ℤ loss)
+quiet_at f row first c most from to promote loss last leave k from_fits to_fits is piece set more =
+    let back : move_of (code_of (Board from to promote)) ≡ Some (Board from to promote) = move_of-board from to promote from_fits to_fits in
+    let parts : (is_legal f.node.position (Board from to promote) ≡ true) × (not (is_some (piece_at f.node.position.cells to)) ≡ true) = and_parts _ _ (sym (matching_move f.node.position false (Board from to promote) back) ∙ (ap (is_matching f.node.position false) (sym is) ∙ k.matching)) in
+    let certain : IsCertain f.node.position row.escapes (Board from to promote) = certain_move f.node.position row.escapes c (Board from to promote) (ap (after_code f.node.position) is ∙ after_code_of f.node.position (Board from to promote) back) k.leaves in
+    let worth_most : _ = gain_worth f.node.position f.node.eval f.depth c from to promote loss f.valid last from_fits to_fits is parts.0 (leave from to promote from_fits to_fits piece set parts.0 certain) in
+    omega (arith, ints, worth_most, nothing_taken f.node.eval (piece_at f.node.position.cells to) parts.1, more)
+
+quiet_worth : (f : Frame) (row : Row) (first c most : ℕ) (loss : ℤ) → f.depth ≡ 2 → MovesLeave f loss row.pieces row.plain row.escapes → PromotesWithin most row.plain row.promoting → IsCertainMove f.node.position false row first c
+    → worth f.node.position f.node.eval (f.depth - 1) c ≤ℤ (material_of f.node.position f.node.eval +ℤ pos most +ℤ loss)
+quiet_worth f row first c most loss last leave within k =
     let from : ℕ = c / SQUARE_CODES in
     let to : ℕ = c / 2 % 81 in
     let from_fits : from < 81 = omega (arith, k.on_board) in
     let to_fits : to < 81 = omega arith in
-    let legal : is_legal_code p c ≡ true = (and_parts _ _ k.matching).0 in
     elim (cases_eq (c % 2) 0) [
       | inl even ↦ (
-          let is : c ≡ code_of (Board from to false) = omega (arith, even) in
-          let parts : (is_legal p (Board from to false) ≡ true) × (not (is_some (piece_at p.cells to)) ≡ true) = and_parts _ _ (sym (matching_move p false (Board from to false) (move_of-board from to false from_fits to_fits)) ∙ (ap (is_matching p false) (sym is) ∙ k.matching)) in
-          let none : promotion_gain false (piece_at p.cells from) ≡ 0 = no_promotion (piece_at p.cells from) in
-          let worth_most : _ = gain_worth p e d c from to false loss valid last h l from_fits to_fits is legal k.replied in
-          omega (arith, ints, worth_most, nothing_taken e (piece_at p.cells to) parts.1, none))
+          let none : promotion_gain false (piece_at f.node.position.cells from) ≡ 0 = no_promotion (piece_at f.node.position.cells from) in
+          quiet_at f row first c most from to false loss last leave k from_fits to_fits (omega (arith, even)) k.piece (k.plain even) (omega (arith, none)))
       | inr odd ↦ (
-          let is : c ≡ code_of (Board from to true) = omega (arith, odd) in
-          let parts : (is_legal p (Board from to true) ≡ true) × (not (is_some (piece_at p.cells to)) ≡ true) = and_parts _ _ (sym (matching_move p false (Board from to true) (move_of-board from to true from_fits to_fits)) ∙ (ap (is_matching p false) (sym is) ∙ k.matching)) in
-          let fits : PROMOTION_GAIN_MAX ≤ most = within to (k.promoting (omega (arith, odd))) in
-          let more : promotion_gain true (piece_at p.cells from) ≤ PROMOTION_GAIN_MAX = promotion_most (piece_at p.cells from) in
-          let worth_most : _ = gain_worth p e d c from to true loss valid last h l from_fits to_fits is legal k.replied in
-          omega (arith, ints, worth_most, nothing_taken e (piece_at p.cells to) parts.1, fits, more))
+          let fits : _ = within to (k.promoting (omega (arith, odd))) in
+          let more : promotion_gain true (piece_at f.node.position.cells from) ≤ PROMOTION_GAIN_MAX = promotion_most (piece_at f.node.position.cells from) in
+          quiet_at f row first c most from to true loss last leave k from_fits to_fits (omega (arith, odd)) k.piece fits.0 (omega (arith, fits.1, more)))
     ]
-
--- a threshold rises with the code
-pub threshold_rises : (best_value : ℤ) (b : Option ℕ) (first c : ℕ) → first ≤ c → threshold best_value b first ≤ℤ threshold best_value b c
-threshold_rises best_value None first c up = omega (arith, ints)
-threshold_rises best_value (Some b) first c up = grind (arith, ints, nat_tests)
 
 -- what is known of a node that waits for nothing
 pub known_next : (p : Shogi) (e : Eval) (d : ℕ) (alpha beta best_value : ℤ) (b : Option ℕ) (codes : List ℕ) (w : Waiting) → w ≡ Next → IsKnownWhile p e d alpha beta best_value b codes w → IsCovered (worth p e (d - 1)) (moves_at p d) codes alpha best_value b
@@ -152,26 +179,19 @@ known_next p e d alpha beta best_value b codes w next k = subst (λ (x : Waiting
 pub next_known : (p : Shogi) (e : Eval) (d : ℕ) (alpha beta best_value : ℤ) (b : Option ℕ) (codes : List ℕ) (w : Waiting) → w ≡ Next → IsCovered (worth p e (d - 1)) (moves_at p d) codes alpha best_value b → IsKnownWhile p e d alpha beta best_value b codes w
 next_known p e d alpha beta best_value b codes w next k = subst (λ (x : Waiting). IsKnownWhile p e d alpha beta best_value b codes x) (sym next) k
 
--- drops of one kind that are worth no more than the threshold of the first
-pub drops_covered : (p : Shogi) (e : Eval) (d : ℕ) (kind : Kind) (first : ℕ) (codes left : List ℕ) (alpha best_value score loss : ℤ) (b : Option ℕ) → IsValid p → d ≡ 2 → pos 0 ≤ℤ loss → LosesAtMost p.hands (opponent_of p.side) e loss
-    → ((to : ℕ) → to < 81 → is_legal p (Drop kind to) ≡ true → material_of (after p (Drop kind to)) e ≡ score) → (loss -ℤ score) ≤ℤ threshold best_value b first
-    → IsPassed (IsCertainDrop p kind first) codes left → IsCovered (worth p e (d - 1)) (moves_at p d) codes alpha best_value b → IsCovered (worth p e (d - 1)) (moves_at p d) left alpha best_value b
-drops_covered p e d kind first codes left alpha best_value score loss b valid last h l same low passed k =
-    covered_passed (worth p e (d - 1)) (IsCertainDrop p kind first) (moves_at p d) codes left alpha best_value b passed
-    (λ c is.
-    let most : worth p e (d - 1) c ≤ℤ (loss -ℤ score) = drop_worth p e d kind first c score loss valid last h l same is in
-    let up : threshold best_value b first ≤ℤ threshold best_value b c = threshold_rises best_value b first c is.above in
-    omega (arith, ints, most, up, low))
-    k
+-- drops of one kind, each of which is lost
+pub drops_covered : (f : Frame) (kind : Kind) (squares escapes first : ℕ) (codes left : List ℕ) → DropsAreLost f kind squares escapes first → IsPassed (IsCertainDrop f.node.position kind squares escapes first) codes left
+    → IsCovered (worth f.node.position f.node.eval (f.depth - 1)) (moves_at f.node.position f.depth) codes f.alpha f.best_value (code_at f.best_move) → IsCovered (worth f.node.position f.node.eval (f.depth - 1)) (moves_at f.node.position f.depth) left f.alpha f.best_value (code_at f.best_move)
+drops_covered f kind squares escapes first codes left lost passed k = covered_passed (worth f.node.position f.node.eval (f.depth - 1)) (IsCertainDrop f.node.position kind squares escapes first) (moves_at f.node.position f.depth) codes left f.alpha f.best_value (code_at f.best_move) passed lost k
 
 -- and moves on the board that take nothing
-pub quiets_covered : (p : Shogi) (e : Eval) (d : ℕ) (among : Destinations) (first : ℕ) (codes left : List ℕ) (alpha best_value loss : ℤ) (most : ℕ) (b : Option ℕ) → IsValid p → d ≡ 2 → pos 0 ≤ℤ loss → LosesAtMost p.hands (opponent_of p.side) e loss → PromotesWithin most among → (material_of p e +ℤ pos most +ℤ loss) ≤ℤ threshold best_value b first
-    → IsPassed (IsCertainMove p false among first) codes left → IsCovered (worth p e (d - 1)) (moves_at p d) codes alpha best_value b → IsCovered (worth p e (d - 1)) (moves_at p d) left alpha best_value b
-quiets_covered p e d among first codes left alpha best_value loss most b valid last h l within low passed k =
-    covered_passed (worth p e (d - 1)) (IsCertainMove p false among first) (moves_at p d) codes left alpha best_value b passed
+pub quiets_covered : (f : Frame) (row : Row) (first most : ℕ) (loss : ℤ) (codes left : List ℕ) → f.depth ≡ 2 → MovesLeave f loss row.pieces row.plain row.escapes → PromotesWithin most row.plain row.promoting → (material_of f.node.position f.node.eval +ℤ pos most +ℤ loss) ≤ℤ threshold f.best_value (code_at f.best_move) first → IsPassed (IsCertainMove f.node.position false row first) codes left
+    → IsCovered (worth f.node.position f.node.eval (f.depth - 1)) (moves_at f.node.position f.depth) codes f.alpha f.best_value (code_at f.best_move) → IsCovered (worth f.node.position f.node.eval (f.depth - 1)) (moves_at f.node.position f.depth) left f.alpha f.best_value (code_at f.best_move)
+quiets_covered f row first most loss codes left last leave within low passed k =
+    covered_passed (worth f.node.position f.node.eval (f.depth - 1)) (IsCertainMove f.node.position false row first) (moves_at f.node.position f.depth) codes left f.alpha f.best_value (code_at f.best_move) passed
     (λ c is.
-    let worth_most : worth p e (d - 1) c ≤ℤ (material_of p e +ℤ pos most +ℤ loss) = quiet_worth p e d among first c most loss valid last h l within is in
-    let up : threshold best_value b first ≤ℤ threshold best_value b c = threshold_rises best_value b first c is.above in
+    let worth_most : worth f.node.position f.node.eval (f.depth - 1) c ≤ℤ (material_of f.node.position f.node.eval +ℤ pos most +ℤ loss) = quiet_worth f row first c most loss last leave within is in
+    let up : threshold f.best_value (code_at f.best_move) first ≤ℤ threshold f.best_value (code_at f.best_move) c = threshold_rises f.best_value (code_at f.best_move) first c is.above in
     omega (arith, ints, worth_most, up, low))
     k
 

@@ -1,5 +1,5 @@
 -- The node on top of a stack, among its frames.
-use Rattle.std.proofs.Common.{◌≡◌, ◌≢◌, ◌<◌, ◌≤◌, ◌+◌, ◌-◌, ◌*◌, ◌≤ℤ◌, ℤ, ℕ, zero, suc, List, [], ◌∷◌, ◌++◌, length, take, set, get_or, Option, Some, None, refl, sym, ap, ◌∙◌, arith, subst}
+use Rattle.std.proofs.Common.{◌≡◌, ◌<◌, ◌≤◌, ◌+◌, ◌-◌, ◌*◌, ◌≤ℤ◌, ℤ, ℕ, zero, suc, List, [], ◌∷◌, ◌++◌, length, take, set, get_or, Option, Some, None, refl, sym, ap, ◌∙◌, arith, subst}
 use Rattle.std.specs.Prelude.{sum_by, slice_get, IsSomeAnd}
 use Rattle.std.proofs.lemmas.List.{take-set, length-take-le}
 use Rattle.std.proofs.lemmas.Option.{slice_get_within, slice_get-get_or, get_or_from_slice_get}
@@ -23,7 +23,7 @@ use Rattle.minimax.proofs.MinimaxLaws.{tree_size-positive}
 use Rattle.shogi_eval.specs.declared.eval.Eval.{Eval}
 use Rattle.shogi_search.specs.Order.{todo, IsWithinTree}
 use Rattle.shogi_search.specs.Visits.{IsOver, IsFree}
-use Rattle.shogi_search.proofs.Nodes.{asked, waits}
+use Rattle.shogi_search.proofs.Nodes.{waits}
 use Rattle.shogi_search.proofs.Entries.{same_window, same_truth}
 use Rattle.shogi_search.proofs.Chains.{IsChild, IsPopped, popped, chain_same, chain_height, same_asked, left_above, left_kept, pushed}
 use Rattle.minimax.specs.declared.bounds.TheConstants.{SEARCH_DEPTH_MAX, INFINITY}

@@ -1,17 +1,25 @@
 -- What clauses say of a node on the stack and of a move of it (own choice).
-use Rattle.std.specs.Prelude.{◌≢◌, ℕ, ◌-◌, ℤ, ◌≤ℤ◌, List, [], Option, cond, nat_lt}
+use Rattle.std.specs.Prelude.{◌≡◌, ◌≢◌, ◌≤◌, ◌<◌, ℕ, ◌-◌, ℤ, ◌-ℤ◌, ◌≤ℤ◌, List, [], Bool, true, Option, cond, nat_lt}
 use Rattle.shogi_core.specs.declared.moves.Move.{Move}
+use Rattle.shogi_core.specs.declared.moves.Move.TheVariants.{Board, Drop}
+use Rattle.shogi_core.specs.declared.piece.Kind.{Kind}
+use Rattle.shogi_core.specs.Bits.{has_bit}
 use Rattle.shogi_core.specs.Codes.{code_of}
 use Rattle.shogi_core.specs.Pieces.{opponent_of}
 use Rattle.shogi_core.specs.Position.{Shogi}
 use Rattle.shogi_moves.specs.After.{after, after_code}
+use Rattle.shogi_moves.specs.Legal.{is_legal}
 use Rattle.shogi_moves.specs.LegalMoves.{legal_codes}
+use Rattle.shogi_replies.specs.Passes.{IsCertainDrop}
+use Rattle.shogi_replies.specs.Replies.{IsCertain}
 use Rattle.shogi_replies.specs.Threats.{KeepsThreats, MayRetake}
 use Rattle.shogi_search.specs.declared.frame.Frame.{Frame}
 use Rattle.minimax.specs.declared.entry.Entry.{Entry}
 use Rattle.minimax.specs.Entries.{IsCutoff}
+use Rattle.shogi_eval.specs.declared.gain.TheConstants.{PROMOTION_GAIN_MAX}
 use Rattle.shogi_eval.specs.Losses.{LosesAtMost}
-use Rattle.minimax.specs.Minimax.{worth, IsTrueEntry, negated}
+use Rattle.shogi_eval.specs.Material.{material_of}
+use Rattle.minimax.specs.Minimax.{value, worth, IsTrueEntry, negated}
 use Rattle.shogi_search.specs.Firsts.{with_each, with_some}
 use Rattle.shogi_search.specs.Order.{todo}
 use Rattle.shogi_search.specs.Visits.{IsOver, WhereCurrent}
@@ -67,6 +75,34 @@ abbrev pub RepliesLoseAtMost : Frame → ℤ → Type 0
 RepliesLoseAtMost f loss =
     LosesAtMost f.node.position.hands (opponent_of f.node.position.side) f.node.eval loss
 
+-- after the move the other side is worth its material less this or more, with one ply left
+abbrev pub LeavesAtLeast : Frame → ℤ → Move → Type 0
+LeavesAtLeast f loss m = (material_of (after f.node.position m) f.node.eval -ℤ loss)
+    ≤ℤ value (after f.node.position m) f.node.eval 1
+
+-- so it is after each legal move on the board from one of the pieces to one of the squares that is certain with these escapes
+abbrev pub MovesLeave : Frame → ℤ → ℕ → ℕ → ℕ → Type 0
+MovesLeave f loss pieces squares escapes = (from to : ℕ) (promote : Bool) → from < 81 → to < 81
+    → has_bit pieces from ≡ true → has_bit squares to ≡ true
+    → is_legal f.node.position (Board from to promote) ≡ true
+    → IsCertain f.node.position escapes (Board from to promote)
+    → LeavesAtLeast f loss (Board from to promote)
+
+-- what the code has to be worth more than
+abbrev pub threshold_at : Frame → ℕ → ℤ
+threshold_at f code = threshold f.best_value (code_at f.best_move) code
+
+-- a drop of the kind that leaves the other side its material less this is not worth more than the code has to be
+abbrev pub FallsShort : Frame → Kind → ℕ → ℤ → Type 0
+FallsShort f kind code loss = (to : ℕ) → to < 81 → is_legal f.node.position (Drop kind to) ≡ true
+    → (loss -ℤ material_of (after f.node.position (Drop kind to)) f.node.eval) ≤ℤ threshold_at f code
+
+-- no certain drop of the kind on the squares, from a code on, is worth more than it has to be
+abbrev pub DropsAreLost : Frame → Kind → ℕ → ℕ → ℕ → Type 0
+DropsAreLost f kind squares escapes first = (code : ℕ)
+    → IsCertainDrop f.node.position kind squares escapes first code
+    → worth f.node.position f.node.eval (f.depth - 1) code ≤ℤ threshold_at f code
+
 -- the killers that serve at a depth
 abbrev pub killers_at : Frame → ℕ → List ℕ
 killers_at f depth = cond (nat_lt 2 depth) f.killers []
@@ -75,3 +111,8 @@ killers_at f depth = cond (nat_lt 2 depth) f.killers []
 abbrev pub firsts_at : List ℕ → Option Move → Frame → ℕ → List ℕ
 firsts_at given hash_move f depth =
     with_each (with_some (with_some given hash_move) f.best_move) (killers_at f depth)
+
+-- those of the squares for moves with promotion, some only where none gains more than this
+abbrev pub PromotesWithin : ℕ → ℕ → ℕ → Type 0
+PromotesWithin most squares promoting = (n : ℕ) → has_bit promoting n ≡ true
+    → (has_bit squares n ≡ true) × (PROMOTION_GAIN_MAX ≤ most)

@@ -1,7 +1,6 @@
 pub mod Firsts
 pub mod Order
 pub mod Visits
-pub mod Losses
 pub mod Frames
 pub mod Stack
 pub mod Entered

@@ -1,5 +1,5 @@
 -- The order in which a node's moves are visited: some moves first, where they are legal, then captures, then the rest, each by rising code (own choice).
-use Rattle.std.specs.Prelude.{ℕ, ◌+◌, ◌-◌, ◌*◌, ◌<◌, ◌≡◌, Bool, true, false, ◌&&◌, not, ◌==◌, Option, Some, None, MatchOption, List, [], ◌∷◌, ◌++◌, filter, take}
+use Rattle.std.specs.Prelude.{ℕ, ◌+◌, ◌-◌, ◌*◌, ◌<◌, ◌≡◌, Bool, true, false, ◌&&◌, not, Option, List, [], ◌++◌, filter, take}
 use denote.Struct.Props as logic
 use Rattle.shogi_core.specs.declared.moves.TheConstants.{FIRST_DROP}
 use Rattle.shogi_core.specs.declared.moves.Move.{Move}
@@ -9,9 +9,9 @@ use Rattle.shogi_moves.specs.Captures.{matches_kind}
 use Rattle.shogi_moves.specs.LegalMoves.{legal_from}
 use Rattle.shogi_moves.specs.Rising.{is_in}
 use Rattle.shogi_moves.specs.Sweeps.{IsBoardSweep, IsDropSweep}
+use Rattle.shogi_replies.specs.declared.row.Row.{Row}
 use Rattle.shogi_replies.specs.Passes.{IsPassed, IsCertainMove, IsCertainDrop}
 use Rattle.shogi_moves.specs.Walks.{IsNextOf, TakesNext}
-use Rattle.shogi_moves.specs.declared.destinations.Destinations.{Destinations}
 use Rattle.shogi_moves.specs.declared.sweep.BoardSweep.{BoardSweep}
 use Rattle.shogi_moves.specs.declared.sweep.DropSweep.{DropSweep}
 use Rattle.minimax.specs.Minimax.{sum_of_tree_sizes, tree_size}
@@ -112,17 +112,17 @@ IsAtDrops (Quiets firsts s) kind code = ⊥
 IsAtDrops (Drops firsts s) kind code = (s.kind ≡ kind) × (s.code ≡ code)
 IsAtDrops Done kind code = ⊥
 
--- where the moves on the board that take nothing are under way, some of them are passed that surely have a reply
-abbrev pub PassesQuiets : Shogi → Destinations → MovePicker → MovePicker → Type 0
-PassesQuiets p among old new =
+-- where the moves on the board that take nothing are under way, some of them are passed that are of the row and surely have a reply
+abbrev pub PassesQuiets : Shogi → Row → MovePicker → MovePicker → Type 0
+PassesQuiets p row old new =
     (code : ℕ) → IsAtQuiets old code
-    → IsPassed (IsCertainMove p false among code) (todo p old) (todo p new)
+    → IsPassed (IsCertainMove p false row code) (todo p old) (todo p new)
 
--- and so are drops, where those of a kind are under way
-abbrev pub PassesDrops : Shogi → MovePicker → MovePicker → Type 0
-PassesDrops p old new =
+-- and so are drops on some squares, where those of a kind are under way
+abbrev pub PassesDrops : Shogi → ℕ → ℕ → MovePicker → MovePicker → Type 0
+PassesDrops p squares escapes old new =
     (kind : Kind) (code : ℕ) → IsAtDrops old kind code
-    → IsPassed (IsCertainDrop p kind code) (todo p old) (todo p new)
+    → IsPassed (IsCertainDrop p kind squares escapes code) (todo p old) (todo p new)
 
 -- what the picker holds beside the codes is true of the position
 abbrev pub IsKept : Shogi → MovePicker → Type 0

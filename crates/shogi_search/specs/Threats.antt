@@ -1,7 +1,9 @@
 -- Captures by the side that is not to move, as they are kept to show that a move cannot be worth enough (own choice).
-use Rattle.std.specs.Prelude.{◌≡◌, ◌<◌, ◌≤◌, ◌+◌, ◌+ℤ◌, ◌≤ℤ◌, ℕ, pos, true, false, Option}
+use Rattle.std.specs.Prelude.{◌≡◌, ◌<◌, ◌≤◌, ◌+◌, ◌+ℤ◌, ◌≤ℤ◌, ℕ, pos, Bool, true, false, Option}
 use Rattle.std.specs.Option.{ForSome}
 use Rattle.shogi_core.specs.Bits.{has_bit}
+use Rattle.shogi_core.specs.Cell.{is_slider}
+use Rattle.shogi_core.specs.Lines.{are_aligned}
 use Rattle.shogi_core.specs.declared.moves.Move.{Move}
 use Rattle.shogi_core.specs.declared.piece.Piece.{Piece}
 use Rattle.shogi_core.specs.Movement.{piece_at, reaches}
@@ -17,13 +19,14 @@ use Rattle.shogi_search.specs.declared.threat.Attacker.{Attacker}
 use Rattle.shogi_search.specs.declared.threat.Threat.{Threat}
 use Rattle.shogi_search.specs.declared.threat.Threats.{Threats}
 
--- the piece is unpinnable in the position, all that it reaches is as kept, and so are the lines with its king, if it is on one
+-- the piece is unpinnable in the position, all that it reaches is as kept, and so are the squares on lines with it and with its king, if it is on one
 pub record IsAttackerIn (p : Shogi) (attacker : Attacker) : Type 0 where
   pub free : IsUnpinnable p attacker.from
   pub reach_is : (n : ℕ) → n < 81 → has_bit attacker.reach n ≡ reaches p.cells attacker.from n
   pub line_is : is_aligned_with_king p.cells (opponent_of p.side) attacker.from ≡ true → (n : ℕ)
       → n < 81 → has_bit attacker.line n ≡ false
-      → is_aligned_with_king p.cells (opponent_of p.side) n ≡ false
+      → is_aligned_with_king p.cells (opponent_of p.side) n ≡ true
+      → are_aligned attacker.from n ≡ false
 
 -- its piece threatens its target in the position, and what the capture gains is as kept
 pub record IsThreatIn (p : Shogi) (e : Eval) (threat : Threat) : Type 0 where
@@ -56,6 +59,11 @@ IsSparedAt threat put to = (p : Shogi) (e : Eval) (m : Move) → IsThreatIn p e 
 abbrev pub IsSparedBy : Threat → Option Piece → Move → Type 0
 IsSparedBy threat put m = (p : Shogi) (e : Eval) → IsThreatIn p e threat → put_by p m ≡ put
     → LeavesThreat p threat.attacker.from threat.target m
+
+-- after a move that ends on one of the squares, and puts something there that slides or not, that is so
+abbrev pub AreSpared : Threat → Bool → ℕ → Type 0
+AreSpared threat slides squares = (n : ℕ) (put : Option Piece) → n < 81 → has_bit squares n ≡ true
+    → (is_slider put ≡ true → slides ≡ true) → IsSparedAt threat put n
 
 -- if the other side may carry out its threats after the move, it is worth at least its material and this then, with one ply left
 abbrev pub TakesAfter : Shogi → Eval → Move → ℕ → Type 0

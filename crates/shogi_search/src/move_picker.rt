@@ -11,8 +11,8 @@ ghost use Rattle.shogi_search.specs.Order.{codes_of, drops_to_come, others_to_co
 
 use crate::firsts::Firsts;
 use shogi_core::{Kind, Move, Position};
-use shogi_moves::{BoardSweep, CheckInfo, Destinations, DropSweep, check_info_of};
-use shogi_replies::Replies;
+use shogi_moves::{BoardSweep, CheckInfo, DropSweep, check_info_of};
+use shogi_replies::{Replies, Row};
 
 /// How far the visits of a node's moves have come: the first moves from a place on, and what is
 /// still to come of the captures, of the quiet board moves and of the drops.
@@ -228,24 +228,18 @@ impl MovePicker {
         }
     }
 
-    /// Passes the next moves to visit, as long as they are on the board, take nothing, end on one of
-    /// the squares, and the other side surely has a legal move after them.
+    /// Passes the next moves to visit, as long as they are on the board, take nothing, are of the row,
+    /// and the other side surely has a legal move after them.
     #[tactic(auto, using(crate::proofs::MatchingOthers::passing_others))]
-    pub fn pass_quiets(
-        &mut self,
-        p: &Position,
-        among: &Destinations,
-        replies: &Replies,
-        escapes: u128,
-    )
+    pub fn pass_quiets(&mut self, p: &Position, row: &Row, replies: &Replies)
         requires kept { IsKept p.now self.old }
         requires replies { IsReplies p.now replies.now.sight replies.now.spare }
-        requires escapes { AreEscapes p.now escapes }
+        requires escapes { AreEscapes p.now row.now.escapes }
         ensures kept { IsKept p.now self.new }
-        ensures passed { PassesQuiets p.now among.now self.old self.new }
+        ensures passed { PassesQuiets p.now row.now self.old self.new }
     {
         if let MovePicker::Quiets(_, sweep) = self {
-            replies.pass_moves(p, false, among, escapes, sweep);
+            replies.pass_moves(p, false, row, sweep);
         }
     }
 
@@ -259,18 +253,18 @@ impl MovePicker {
         }
     }
 
-    /// Passes the next moves to visit, as long as they are drops of the kind that is under way and
-    /// the other side surely has a legal move after them.
+    /// Passes the next moves to visit, as long as they are drops of the kind that is under way on these
+    /// squares and the other side surely has a legal move after them.
     #[tactic(auto, using(crate::proofs::MatchingOthers::passing_others))]
-    pub fn pass_drops(&mut self, p: &Position, replies: &Replies, escapes: u128)
+    pub fn pass_drops(&mut self, p: &Position, squares: u128, escapes: u128, replies: &Replies)
         requires kept { IsKept p.now self.old }
         requires replies { IsReplies p.now replies.now.sight replies.now.spare }
         requires escapes { AreEscapes p.now escapes }
         ensures kept { IsKept p.now self.new }
-        ensures passed { PassesDrops p.now self.old self.new }
+        ensures passed { PassesDrops p.now squares escapes self.old self.new }
     {
         if let MovePicker::Drops(_, sweep) = self {
-            replies.pass_drops(p, escapes, sweep);
+            replies.pass_drops(p, squares, escapes, sweep);
         }
     }
 

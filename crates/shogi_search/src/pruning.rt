@@ -1,20 +1,36 @@
 //! What is pruned at a node of depth 2: moves that surely are not worth enough.
 
-ghost use Rattle.std.specs.Prelude.{◌≡◌, ◌≤ℤ◌, pos, true, false};
+ghost use Rattle.std.specs.Prelude.{◌≡◌, ◌≤ℤ◌, ◌-ℤ◌, pos, true, false};
 ghost use Rattle.shogi_moves.specs.Escapes.{AreEscapes};
+ghost use Rattle.shogi_search.specs.Frames.{PromotesWithin};
 
 use crate::frame::{Frame, Waiting};
-use crate::losses::quiet_squares;
 use crate::move_picker::MovePicker;
-use crate::threat::threats_of;
+use crate::threat::{Threat, Threats, slides, threats_of};
 use crate::window::threshold_at;
-use shogi_core::Move;
-use shogi_eval::loss_of_drops;
-use shogi_replies::{Replies, escape_squares, leaves_escape};
+use shogi_core::bits::{ALL_SQUARES, without};
+use shogi_core::{Kind, Move};
+use shogi_eval::{PROMOTION_GAIN_MAX, loss_of_drops, taken_gain};
+use shogi_moves::dropped;
+use shogi_replies::{Replies, Row, escape_squares, leaves_escape};
+
+/// The squares for moves with promotion: none where one may gain more than this.
+#[inline(always)]
+fn promoting_within(most: u32, squares: u128) -> u128
+    ensures { PromotesWithin most squares result }
+{
+    if most < PROMOTION_GAIN_MAX {
+        0
+    } else {
+        squares
+    }
+}
 
 impl Frame {
-    ghost use Rattle.shogi_search.specs.Frames.{HasReply, IsLostWhere, IsWorthAtMost, RepliesLoseAtMost};
+    ghost use Rattle.shogi_search.specs.Frames.{DropsAreLost, FallsShort, HasReply, IsLostWhere, IsWorthAtMost, MovesLeave, RepliesLoseAtMost};
+    ghost use Rattle.shogi_search.specs.Order.{IsAtDrops, IsAtQuiets};
     ghost use Rattle.shogi_search.specs.Stack.{IsSame, KeepsMoves, AsksFor, PrunesRow};
+    ghost use Rattle.shogi_search.specs.Threats.{AreThreatsIn, IsThreatIn};
     ghost use Rattle.shogi_search.specs.Visits.{IsCurrent};
 
     /// Notes what shows which moves surely have a reply, where it is not noted yet.
@@ -103,6 +119,23 @@ impl Frame {
         }
     }
 
+    /// The threats, and with them what shows which moves surely have a reply; none of them where they
+    /// are not looked for.
+    fn known_threats(&mut self) -> Threats
+        ensures threats { AreThreatsIn self.old.node.position self.old.node.eval result }
+        ensures kept { KeepsMoves self.old self.new }
+    {
+        self.look_for_threats();
+        self.look_ahead();
+        match self.threats {
+            Some(threats) => threats,
+            None => Threats {
+                takes: 0,
+                greatest: None,
+            },
+        }
+    }
+
     /// Whether a threat makes the current move of a node of depth 2 not worth enough, if it gives no
     /// check.
     #[inline(always)]
@@ -168,9 +201,63 @@ impl Frame {
         true
     }
 
-    /// Passes the next moves of a node of depth 2 on the board that take nothing, while it is certain
-    /// without making them that the other side has a legal move, where no such move is worth enough;
-    /// those that promote only where no promotion is.
+    /// Passes the next moves of a node of depth 2 on the board that take nothing, of the pieces to the
+    /// squares, while it is certain without making them that they leave the other side its material
+    /// less this, where no such move is worth enough; those that promote only where no promotion is.
+    /// Whether others are not.
+    fn prune_row(
+        &mut self,
+        code: u16,
+        loss: i32,
+        pieces: u128,
+        squares: u128,
+        escapes: u128,
+    ) -> bool
+        requires next { self.old.waiting ≡ Waiting.Next }
+        requires last { self.old.depth ≡ 2 }
+        requires at { IsAtQuiets self.old.picker code }
+        requires escapes { AreEscapes self.old.node.position escapes }
+        requires leave { MovesLeave self.old loss pieces squares escapes }
+        requires least { (pos 0 -ℤ pos 4000) ≤ℤ loss }
+        requires most { loss ≤ℤ pos 100 }
+        ensures pruned { PrunesRow self.old self.new }
+        ensures same { result ≡ false → KeepsMoves self.old self.new }
+    {
+        let threshold = threshold_at(self.best_value, &self.best_move, code);
+        let room = threshold - loss - self.node.score();
+        if room < 0 {
+            return false;
+        }
+        let promoting = promoting_within(room as u32, squares);
+        let row = Row {
+            pieces,
+            plain: squares,
+            promoting,
+            escapes,
+        };
+        self.picker
+            .pass_quiets(self.node.as_position(), &row, &self.replies);
+        true
+    }
+
+    /// Passes the next moves on the board that take nothing, while it is certain without making them
+    /// that the threat stands, where that makes no such move worth enough.
+    fn prune_spared(&mut self, code: u16, threat: &Threat)
+        requires next { self.old.waiting ≡ Waiting.Next }
+        requires last { self.old.depth ≡ 2 }
+        requires at { IsAtQuiets self.old.picker code }
+        requires threat { IsThreatIn self.old.node.position self.old.node.eval threat.now }
+        ensures { PrunesRow self.old self.new }
+    {
+        threat.target.validity();
+        let pieces = without(ALL_SQUARES, threat.target.index());
+        let aside = threat.squares_aside(true);
+        self.prune_row(code, 0 - threat.gain as i32, pieces, aside, 0);
+    }
+
+    /// Passes the next moves on the board that take nothing, while it is certain without making them
+    /// that the other side has a legal move, where no such move is worth enough, or else that the
+    /// greatest threat stands.
     fn prune_quiets(&mut self)
         requires next { self.old.waiting ≡ Waiting.Next }
         requires last { self.old.depth ≡ 2 }
@@ -179,19 +266,94 @@ impl Frame {
         let Some(code) = self.picker.quiets() else {
             return;
         };
-        let threshold = threshold_at(self.best_value, &self.best_move, code);
-        let room = threshold - self.loss_after() - self.node.score();
-        if room < 0 {
+        let (loss, escapes) = (self.loss_after(), self.known_escapes());
+        if self.prune_row(code, loss, ALL_SQUARES, ALL_SQUARES, escapes) {
             return;
         }
-        let among = quiet_squares(self.node.as_position(), room as u32);
-        let escapes = self.known_escapes();
-        self.picker
-            .pass_quiets(self.node.as_position(), &among, &self.replies, escapes);
+        let threats = self.known_threats();
+        if let Some(threat) = &threats.greatest {
+            self.prune_spared(code, threat);
+        }
     }
 
-    /// The same of the drops of the kind that is under way; whether none of that kind is left, and
-    /// those of another one are under way.
+    /// Whether a drop of the kind is not worth enough that leaves the other side its material less
+    /// this.
+    #[inline(always)]
+    fn falls_short(&self, kind: Kind, code: u16, loss: i32) -> bool
+        requires next { self.now.waiting ≡ Waiting.Next }
+        requires last { self.now.depth ≡ 2 }
+        requires least { (pos 0 -ℤ pos 4000) ≤ℤ loss }
+        requires most { loss ≤ℤ pos 100 }
+        ensures { result ≡ true → FallsShort self.now kind code loss }
+    {
+        let threshold = threshold_at(self.best_value, &self.best_move, code);
+        self.node.score_after_drop(kind) >= loss - threshold
+    }
+
+    /// Squares on which a drop of the kind that gives no check is not worth enough, since it is taken
+    /// there.
+    #[inline(always)]
+    fn taken_squares(&self, threats: &Threats, kind: Kind, code: u16) -> u128
+        requires next { self.now.waiting ≡ Waiting.Next }
+        requires last { self.now.depth ≡ 2 }
+        requires threats { AreThreatsIn self.now.node.position self.now.node.eval threats.now }
+        ensures { DropsAreLost self.now kind result 0 code }
+    {
+        let put = dropped(self.node.as_position().side(), kind);
+        let gain = taken_gain(self.node.eval(), put);
+        if self.falls_short(kind, code, 0 - gain as i32) {
+            return threats.takes;
+        }
+        0
+    }
+
+    /// Squares on which it is not, since the threat stands.
+    #[inline(always)]
+    fn spared_squares(&self, threat: &Threat, kind: Kind, code: u16) -> u128
+        requires next { self.now.waiting ≡ Waiting.Next }
+        requires last { self.now.depth ≡ 2 }
+        requires threat { IsThreatIn self.now.node.position self.now.node.eval threat.now }
+        ensures { DropsAreLost self.now kind result 0 code }
+    {
+        if self.falls_short(kind, code, 0 - threat.gain as i32) {
+            let put = dropped(self.node.as_position().side(), kind);
+            return threat.squares_aside(slides(put));
+        }
+        0
+    }
+
+    /// Squares on which it is not, for either.
+    fn lost_squares(&self, threats: &Threats, kind: Kind, code: u16) -> u128
+        requires next { self.now.waiting ≡ Waiting.Next }
+        requires last { self.now.depth ≡ 2 }
+        requires threats { AreThreatsIn self.now.node.position self.now.node.eval threats.now }
+        ensures { DropsAreLost self.now kind result 0 code }
+    {
+        let taken = self.taken_squares(threats, kind, code);
+        match &threats.greatest {
+            Some(threat) => taken | self.spared_squares(threat, kind, code),
+            None => taken,
+        }
+    }
+
+    /// Passes the next drops of a node of depth 2 of the kind that is under way, on these squares;
+    /// whether none of that kind is left, and those of another one are under way.
+    fn pass_kind(&mut self, kind: Kind, code: u16, squares: u128, escapes: u128) -> bool
+        requires next { self.old.waiting ≡ Waiting.Next }
+        requires at { IsAtDrops self.old.picker kind code }
+        requires escapes { AreEscapes self.old.node.position escapes }
+        requires lost { DropsAreLost self.old kind squares escapes code }
+        ensures { PrunesRow self.old self.new }
+    {
+        let _ = (kind, code);
+        self.picker
+            .pass_drops(self.node.as_position(), squares, escapes, &self.replies);
+        self.picker.turn_to_kind(self.node.as_position())
+    }
+
+    /// Passes the next drops of the kind that is under way, where the other side surely has a legal
+    /// move after them and they are not worth enough, or they are surely lost; whether none of that
+    /// kind is left, and those of another one are under way.
     fn prune_kind(&mut self) -> bool
         requires next { self.old.waiting ≡ Waiting.Next }
         requires last { self.old.depth ≡ 2 }
@@ -200,14 +362,16 @@ impl Frame {
         let Some((kind, code)) = self.picker.drops() else {
             return false;
         };
-        let threshold = threshold_at(self.best_value, &self.best_move, code);
-        if self.node.score_after_drop(kind) < self.loss_after() - threshold {
+        if self.falls_short(kind, code, self.loss_after()) {
+            let escapes = self.known_escapes();
+            return self.pass_kind(kind, code, ALL_SQUARES, escapes);
+        }
+        let threats = self.known_threats();
+        let squares = self.lost_squares(&threats, kind, code);
+        if squares == 0 {
             return false;
         }
-        let escapes = self.known_escapes();
-        self.picker
-            .pass_drops(self.node.as_position(), &self.replies, escapes);
-        self.picker.turn_to_kind(self.node.as_position())
+        self.pass_kind(kind, code, squares, 0)
     }
 
     /// The same of the drops, kind after kind.

@@ -9,15 +9,15 @@ ghost use Rattle.shogi_moves.specs.Legal.{is_legal};
 ghost use Rattle.shogi_replies.specs.Replies.{Aligns};
 ghost use Rattle.shogi_replies.specs.Threats.{IsUnpinnable, IsThreat, end_of};
 ghost use Rattle.shogi_core.specs.Validity.{IsValid};
-ghost use Rattle.shogi_search.specs.Threats.{AreThreatsIn, IsAttackerIn, IsThreatIn, IsSparedAt, IsSparedBy, TakesAfter};
+ghost use Rattle.shogi_search.specs.Threats.{AreSpared, AreThreatsIn, IsAttackerIn, IsThreatIn, IsSparedAt, IsSparedBy, TakesAfter};
 
-use shogi_core::bits::{has, lowest, without_lowest};
-use shogi_core::{Move, Piece, Position, Square};
+use shogi_core::bits::{has, lowest, without, without_lowest};
+use shogi_core::{Move, Piece, Position, Square, aligned_squares};
 use shogi_eval::{Eval, promotion_gain, taken_gain};
 use shogi_replies::{attacks_of, line_squares, put_by, unpinnable_pieces};
 
 /// A piece of the side that is not to move that nothing pins, all squares that it reaches, and those
-/// on which a piece that slides might come to pin it.
+/// on which a piece that slides might come to pin it: on lines with it and with its king.
 #[derive(Clone, Copy)]
 pub struct Attacker {
     pub reach: u128,
@@ -62,9 +62,14 @@ fn attacker_at(p: &Position, from: Square, lines: u128) -> Attacker
     ensures { IsAttackerIn p.now result }
 {
     from.validity();
+    let square = from.index();
     Attacker {
         reach: p.as_board().targets(from),
-        line: if has(lines, from.index()) { lines } else { 0 },
+        line: if has(lines, square) {
+            lines & aligned_squares(square)
+        } else {
+            0
+        },
         from,
     }
 }
@@ -142,7 +147,7 @@ pub fn threats_of(p: &Position, e: Eval) -> Threats
 
 /// Whether it slides.
 #[inline(always)]
-fn slides(piece: Option<Piece>) -> bool
+pub fn slides(piece: Option<Piece>) -> bool
     ensures { result ≡ is_slider piece }
 {
     match piece {
@@ -152,16 +157,25 @@ fn slides(piece: Option<Piece>) -> bool
 }
 
 impl Threat {
+    /// The squares on which a move lets the attacker and its way to the target be that puts something
+    /// there that slides, or does not.
+    #[inline(always)]
+    pub fn squares_aside(&self, sliding: bool) -> u128
+        ensures { AreSpared self.now sliding result }
+    {
+        let attacker = &self.attacker;
+        attacker.from.validity();
+        let line = if sliding { attacker.line } else { 0 };
+        without(!(attacker.reach | line), attacker.from.index())
+    }
+
     /// Whether a move that puts this on the square lets the attacker and its way to the target be.
     #[inline(always)]
     fn is_aside(&self, to: Square, put: Option<Piece>) -> bool
         ensures { result ≡ true → IsSparedAt self.now put to }
     {
         to.validity();
-        let attacker = &self.attacker;
-        to.index() != attacker.from.index()
-            && !has(attacker.reach, to.index())
-            && !(has(attacker.line, to.index()) && slides(put))
+        has(self.squares_aside(slides(put)), to.index())
     }
 
     /// Whether the move, which puts this on its square, lets the attacker, the target and the way

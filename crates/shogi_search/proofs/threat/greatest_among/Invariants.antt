@@ -1,10 +1,8 @@
 use Rattle.std.proofs.Common.{◌≡◌, ◌<◌, ◌^◌, ℕ, true}
 use Rattle.std.specs.Option.{ForSome}
 use Rattle.shogi_core.specs.Bits.{has_bit}
-use Rattle.shogi_core.specs.Movement.{piece_at}
-use Rattle.shogi_eval.specs.Material.{promotion_gain}
 use Rattle.shogi_replies.specs.Threats.{IsThreat}
-use Rattle.shogi_search.specs.Threats.{IsAttackerIn, IsThreatIn}
+use Rattle.shogi_search.specs.Threats.{IsThreatIn}
 use Rattle.shogi_search.proofs.threat.greatest_among.Given as goal
 
 abbrev pub invariant-targets : goal.invariant-targets

@@ -1,4 +1,4 @@
-use Rattle.std.proofs.Common.{◌≡◌, ◌<◌, ℕ, true, false, Bool, sym, subst, ap, ◌∙◌, inl, inr, bit_and}
+use Rattle.std.proofs.Common.{◌≡◌, ◌<◌, ℕ, true, false, Bool, sym, subst, ◌∙◌, inl, inr, bit_and}
 use Rattle.std.proofs.lemmas.Bool.{and_parts, or_cases}
 use Rattle.std.proofs.lemmas.Grind.{merely}
 use Rattle.shogi_core.specs.declared.piece.Color.{Color}

@@ -18,4 +18,4 @@ returns-clause-fits c = and_fits c.closing_ends-closing.result _ c.closing_ends-
 
 pub returns-clause-answered : goal.returns-clause-answered
 returns-clause-answered c = answered_off c.args.self.now.scene.node.now.position c.args.from c.args.promote c.args.ends c.closing_ends-closing.result c.certain_destinations.result c.certain_destinations.type_inv c.closing_ends-closing.ensures.answered
-    (rw c.as_position-p.ensures at c.certain_destinations.ensures.certain)
+    (λ n h e. ((rw c.as_position-p.ensures at c.certain_destinations.ensures.certain) n h e).0)

@@ -14,7 +14,7 @@ pub mates_by_drops-requires-clause-legal : goal.mates_by_drops-requires-clause-l
 mates_by_drops-requires-clause-legal c = λ n h e. rw c.as_position-p.ensures at (sym (drop_matching c.as_position-p.result.now c.args.kind n h) ∙ (sym (c.drop_destinations-ends.ensures.squares.0 n h) ∙ (and_parts _ _ (sym (has_bit-and c.drop_destinations-ends.result _ n) ∙ e)).0))
 
 pub returns-clause-none : goal.returns-clause-none
-returns-clause-none c = λ e. leave_closing c.args.self.now.scene.node.now.position c.args.kind c.args.self.now.squares c.closing_drops-closing.result c.certain_drops-certain.result c.args.self.now.dropping c.certain_drops-certain.type_inv c.closing_drops-closing.ensures.answered (rw c.as_position-p.ensures at c.certain_drops-certain.ensures.certain)
+returns-clause-none c = λ e. leave_closing c.args.self.now.scene.node.now.position c.args.kind c.args.self.now.squares c.closing_drops-closing.result c.certain_drops-certain.result c.args.self.now.dropping c.certain_drops-certain.type_inv c.closing_drops-closing.ensures.answered (λ n h e. ((rw c.as_position-p.ensures at c.certain_drops-certain.ensures.certain) n h e).0)
     (λ n h legal on. c.mates_by_drops.ensures.none e n h (has_bit-and c.drop_destinations-ends.result (bit_and c.closing_drops-closing.result (2 ^ 128 - 1 - c.certain_drops-certain.result)) n ∙ and_from _ _ (c.drop_destinations-ends.ensures.squares.0 n h ∙ (drop_matching c.as_position-p.result.now c.args.kind n h ∙ rw c.as_position-p.ensures legal)) on))
 
 pub returns-then-closing-eq0-clause-none : goal.returns-then-closing-eq0-clause-none
@@ -22,5 +22,5 @@ returns-then-closing-eq0-clause-none c = λ _. leave_closing c.args.self.now.sce
     (λ n h legal on. absurd (both_ways (has_bit c.closing_drops-closing.result n) (ap (λ (m : ℕ). has_bit m n) c.if-closing-eq0.true ∙ has_bit-none n) (and_parts _ _ (sym (has_bit-and c.closing_drops-closing.result (2 ^ 128 - 1 - 0) n) ∙ on)).0))
 
 pub returns-then-doubtful-eq0-clause-none : goal.returns-then-doubtful-eq0-clause-none
-returns-then-doubtful-eq0-clause-none c = λ _. leave_closing c.args.self.now.scene.node.now.position c.args.kind c.args.self.now.squares c.closing_drops-closing.result c.certain_drops-certain.result c.args.self.now.dropping c.certain_drops-certain.type_inv c.closing_drops-closing.ensures.answered (rw c.as_position-p.ensures at c.certain_drops-certain.ensures.certain)
+returns-then-doubtful-eq0-clause-none c = λ _. leave_closing c.args.self.now.scene.node.now.position c.args.kind c.args.self.now.squares c.closing_drops-closing.result c.certain_drops-certain.result c.args.self.now.dropping c.certain_drops-certain.type_inv c.closing_drops-closing.ensures.answered (λ n h e. ((rw c.as_position-p.ensures at c.certain_drops-certain.ensures.certain) n h e).0)
     (λ n h legal on. absurd (both_ways (has_bit (bit_and c.closing_drops-closing.result (2 ^ 128 - 1 - c.certain_drops-certain.result)) n) (ap (λ (m : ℕ). has_bit m n) c.if-doubtful-eq0.true ∙ has_bit-none n) on))

@@ -11,7 +11,7 @@ returns-then-open-destinations-clause-among c = λ n e. (and_parts _ _ (sym (has
 pub returns-then-open-destinations-clause-certain : goal.returns-then-open-destinations-clause-certain
 returns-then-open-destinations-clause-certain c = λ n h e.
     let there : _ = and_parts (has_bit c.args.destinations n) (has_bit c.open_squares.result n) (sym (has_bit-and c.args.destinations c.open_squares.result n) ∙ e) in
-    open_board c.args.p.now c.args.from n c.args.promote c.args.self.now.sight c.checking_squares.result c.uncovering_squares.result c.args.self.now.spare c.validity.ensures c.requires.kept (omega arith) h c.uncovering_squares.ensures
+    open_board c.args.p.now c.args.escapes c.args.from n c.args.promote c.args.self.now.sight c.checking_squares.result c.uncovering_squares.result c.args.self.now.spare c.validity.ensures c.requires.kept (omega arith) h c.uncovering_squares.ensures
     (rw (c.piece_moved.ensures, c.at.ensures) at c.checking_squares.ensures n h there.0) (c.open_squares.ensures n h there.1)
 
 pub returns-clause-among : goal.returns-clause-among
@@ -22,7 +22,7 @@ returns-clause-among c = λ n e. elim (among_either c.args.destinations c.open_s
 
 pub returns-clause-certain : goal.returns-clause-certain
 returns-clause-certain c = λ n h e. elim (among_either c.args.destinations c.open_squares.result c.escaped_destinations.result n e) [
-  | inl there ↦ open_board c.args.p.now c.args.from n c.args.promote c.args.self.now.sight c.checking_squares.result c.uncovering_squares.result c.args.self.now.spare c.validity.ensures c.requires.kept (omega arith) h c.uncovering_squares.ensures
+  | inl there ↦ open_board c.args.p.now c.args.escapes c.args.from n c.args.promote c.args.self.now.sight c.checking_squares.result c.uncovering_squares.result c.args.self.now.spare c.validity.ensures c.requires.kept (omega arith) h c.uncovering_squares.ensures
       (rw (c.piece_moved.ensures, c.at.ensures) at c.checking_squares.ensures n h there.0) (c.open_squares.ensures n h there.1)
-  | inr escaped ↦ c.escaped_destinations.ensures.answered n h escaped
+  | inr escaped ↦ (c.escaped_destinations.ensures.answered n h escaped, λ none. absurd (c.if-escapes-eq0.false none))
 ]

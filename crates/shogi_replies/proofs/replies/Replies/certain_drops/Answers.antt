@@ -12,7 +12,7 @@ pub returns-then-open-destinations-clause-certain : goal.returns-then-open-desti
 returns-then-open-destinations-clause-certain c = λ n h e.
     let there : _ = and_parts (has_bit c.args.destinations n) (has_bit c.open_squares.result n) (sym (has_bit-and c.args.destinations c.open_squares.result n) ∙ e) in
     let open_there : _ = c.open_squares.ensures n h there.1 in
-    open_drop c.args.p.now c.args.kind n c.args.self.now.sight c.checking_squares-checking.result c.args.self.now.spare c.validity.ensures c.requires.kept h
+    open_drop c.args.p.now c.args.escapes c.args.kind n c.args.self.now.sight c.checking_squares-checking.result c.args.self.now.spare c.validity.ensures c.requires.kept h
     (rw (c.dropped.ensures, c.side.ensures) at c.checking_squares-checking.ensures n h there.0 open_there.unclosed) open_there
 
 pub returns-clause-among : goal.returns-clause-among
@@ -25,7 +25,7 @@ pub returns-clause-certain : goal.returns-clause-certain
 returns-clause-certain c = λ n h e. elim (among_either c.args.destinations c.open_squares.result c.escaped_drops.result n e) [
   | inl there ↦ (
       let open_there : _ = c.open_squares.ensures n h there.1 in
-      open_drop c.args.p.now c.args.kind n c.args.self.now.sight c.checking_squares-checking.result c.args.self.now.spare c.validity.ensures c.requires.kept h
+      open_drop c.args.p.now c.args.escapes c.args.kind n c.args.self.now.sight c.checking_squares-checking.result c.args.self.now.spare c.validity.ensures c.requires.kept h
       (rw (c.dropped.ensures, c.side.ensures) at c.checking_squares-checking.ensures n h there.0 open_there.unclosed) open_there)
-  | inr escaped ↦ c.escaped_drops.ensures.answered n h escaped
+  | inr escaped ↦ (c.escaped_drops.ensures.answered n h escaped, λ none. absurd (c.if-escapes-eq0.false none))
 ]

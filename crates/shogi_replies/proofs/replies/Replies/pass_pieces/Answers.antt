@@ -30,7 +30,7 @@ squares-preserved c = record {
   matching = c.squares.invariant.matching;
   mine = c.squares.invariant.mine;
   certain = λ n h set out. elim (cases_eq n c.lowest-square.result) [
-    | inl here ↦ subst (λ (x : ℕ). HasCertainMoves c.args.p.now c.args.capture c.args.among.now x) (sym here) ((rw c.of_index-from.ensures at c.has_certain_moves.ensures) c.if-not-has_certain_moves.false)
+    | inl here ↦ subst (λ (x : ℕ). HasCertainMoves c.args.p.now c.args.capture c.args.row.now x) (sym here) ((rw c.of_index-from.ensures at c.has_certain_moves.ensures) c.if-not-has_certain_moves.false)
     | inr other ↦ c.squares.invariant.certain n h set (out_before c.squares.left c.without_lowest-left.result c.lowest-square.result n c.without_lowest-left.ensures.bits out other)
   ];
   within = λ n set. c.squares.invariant.within n (and_parts _ _ (sym (c.without_lowest-left.ensures.bits n) ∙ set)).0;
@@ -43,13 +43,13 @@ pass_pieces-requires-clause-ahead c = rw c.squares.invariant.same ((c.squares.in
 pub returns-then-not-has_certain_moves-clause-passed : goal.returns-then-not-has_certain_moves-clause-passed
 returns-then-not-has_certain_moves-clause-passed c =
     let above : c.args.sweep.now.from < c.lowest-square.result = (c.squares.invariant.mine c.lowest-square.result c.lowest-square.ensures.range (c.squares.invariant.within c.lowest-square.result c.lowest-square.ensures.set)).0 in
-    rw c.pass_pieces.ensures.code (row_passed_to c.args.p.now c.args.capture c.args.among.now c.args.sweep.now.code c.matching_movers-moving.result c.lowest-square.result c.validity.ensures.cells_fit (omega (arith, c.lowest-square.ensures.range)) c.squares.invariant.matching
+    rw c.pass_pieces.ensures.code (row_passed_to c.args.p.now c.args.capture c.args.row.now c.args.sweep.now.code c.matching_movers-moving.result c.lowest-square.result c.validity.ensures.cells_fit (omega (arith, c.lowest-square.ensures.range)) c.squares.invariant.matching
     (λ n h set. (c.squares.invariant.mine n h set).1)
     (λ n h below set. c.squares.invariant.certain n h set (false_from_ne_true (has_bit c.squares.left n) (λ there. absurd (let le : _ = c.lowest-square.ensures.least n there in omega (arith, le, below)))))
     (omega (arith, above, c.requires.kept.destinations.high)))
 
 pub returns-clause-passed : goal.returns-clause-passed
-returns-clause-passed c = rw c.pass_pieces-2.ensures.code (row_passed_to c.args.p.now c.args.capture c.args.among.now c.args.sweep.now.code c.matching_movers-moving.result 81 c.validity.ensures.cells_fit (omega arith) c.squares.invariant.matching
+returns-clause-passed c = rw c.pass_pieces-2.ensures.code (row_passed_to c.args.p.now c.args.capture c.args.row.now c.args.sweep.now.code c.matching_movers-moving.result 81 c.validity.ensures.cells_fit (omega arith) c.squares.invariant.matching
     (λ n h set. (c.squares.invariant.mine n h set).1)
     (λ n h below set. c.squares.invariant.certain n h set (subst (λ (m : ℕ). has_bit m n ≡ false) (sym c.squares-test.false) (has_bit-none n)))
     (omega (arith, c.index.ensures.range, c.index.ensures.index, c.requires.kept.destinations.high)))

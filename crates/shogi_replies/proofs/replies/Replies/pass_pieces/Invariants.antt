@@ -11,7 +11,7 @@ invariant-squares l = record {
   same : l.sweep ≡ l.fn.sweep;
   matching : HasMatchingOn l.p l.capture l.fn.sweep.code l.moving;
   mine : (n : ℕ) → n < 81 → has_bit l.moving n ≡ true → (l.fn.sweep.from < n) × (is_piece_of l.p.side (piece_at l.p.cells n) ≡ true);
-  certain : (n : ℕ) → n < 81 → has_bit l.moving n ≡ true → has_bit l.left n ≡ false → HasCertainMoves l.p l.capture l.among n;
+  certain : (n : ℕ) → n < 81 → has_bit l.moving n ≡ true → has_bit l.left n ≡ false → HasCertainMoves l.p l.capture l.row n;
   within : (n : ℕ) → has_bit l.left n ≡ true → has_bit l.moving n ≡ true;
   fits : l.left < 2 ^ 81;
 }

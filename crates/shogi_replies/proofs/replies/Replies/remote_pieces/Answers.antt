@@ -13,5 +13,5 @@ returns-then-open_squares-ne0 c = λ a n promote ha h e. absurd (both_ways _ (ha
 pub returns : goal.returns
 returns c = λ a n promote ha h set r.
     let far : _ = c.far_pieces.ensures a n ha h set r in
-    open_far c.args.p.now a n promote c.args.self.now.sight 0 c.args.self.now.spare c.validity.ensures c.requires.kept ha h far.unseen (far.harmless promote)
-    (c.open_squares.ensures n h (none_uncertain ALL_SQUARES c.open_squares.result n (omega arith) h (omega arith) (all_squares n h)))
+    (open_far c.args.p.now 0 a n promote c.args.self.now.sight 0 c.args.self.now.spare c.validity.ensures c.requires.kept ha h far.unseen (far.harmless promote)
+    (c.open_squares.ensures n h (none_uncertain ALL_SQUARES c.open_squares.result n (omega arith) h (omega arith) (all_squares n h)))).0

@@ -1,4 +1,4 @@
-use Rattle.std.proofs.Common.{◌≡◌, ◌≤ℤ◌, ◌+ℤ◌, ◌<◌, ◌-◌, ℕ, pos, true, arith, ap, subst, sym, ◌∙◌, rules, FitsSigned, w32}
+use Rattle.std.proofs.Common.{◌≡◌, ◌≤ℤ◌, ◌+ℤ◌, ◌-◌, pos, true, arith, subst, sym, rules, FitsSigned, w32}
 use Rattle.std.proofs.lemmas.Int.{ints}
 use Rattle.shogi_core.specs.Codes.{code_of}
 use Rattle.shogi_core.specs.Position.{Shogi}
@@ -9,8 +9,8 @@ use Rattle.shogi_moves.proofs.LegalLaws.{after_code_of, listed_to_legal}
 use Rattle.shogi_eval.specs.declared.eval.Eval.{Eval}
 use Rattle.shogi_eval.proofs.Bounds.{material_bounds}
 use Rattle.shogi_eval.specs.Material.{material_of}
-use Rattle.minimax.specs.Minimax.{value, worth, negated}
-use Rattle.shogi_search.specs.Threats.{AreThreatsIn, TakesAfter}
+use Rattle.minimax.specs.Minimax.{worth, negated}
+use Rattle.shogi_search.specs.Threats.{TakesAfter}
 use Rattle.shogi_search.proofs.Ahead.{worth_under_threat}
 use Rattle.shogi_search.proofs.Nodes.{waits}
 use Rattle.minimax.proofs.Valid.{after_valid}

@@ -1,4 +1,4 @@
-use Rattle.std.proofs.Common.{rules, arith, refl, true, FitsSigned, w32, ◌≡◌, ◌<◌, ◌+◌, ◌*◌, ◌≤ℤ◌, ◌∙◌}
+use Rattle.std.proofs.Common.{rules, arith, refl, true, FitsSigned, w32, ◌≡◌, ◌<◌, ◌+◌, ◌*◌, ◌∙◌}
 use Rattle.std.proofs.lemmas.Int.{ints, to_z-of_z}
 use mir.Val.{to_z, of_z}
 use Rattle.shogi_search.proofs.CallLaws.{as_counted, asks_in_step}

@@ -1,4 +1,4 @@
-use Rattle.std.proofs.Common.{arith, get_or, rules, refl, ap, subst, sym, ℕ, Some, ◌≡◌, ◌<◌, ◌≤◌, ◌-◌, ◌+◌, ◌∙◌}
+use Rattle.std.proofs.Common.{arith, get_or, rules, refl, ap, subst, sym, ℕ, ◌≡◌, ◌<◌, ◌≤◌, ◌-◌, ◌∙◌}
 use Rattle.shogi_moves.proofs.LegalLaws.{listed_to_legal}
 use Rattle.shogi_moves.specs.After.{after_code}
 use Rattle.shogi_eval.specs.Evaluated.{Evaluated}

@@ -2,7 +2,7 @@ use Rattle.std.proofs.Common.{arith, get_or, subst, ◌≡◌, ◌+◌, ◌≤�
 use Rattle.std.proofs.lemmas.Int.{ints}
 use Rattle.minimax.specs.Minimax.{negated}
 use Rattle.shogi_search.specs.Frames.{IsCutoffAfter, position_after, threshold_of}
-use Rattle.shogi_search.specs.Stack.{IsChildAfter, OnTop, left_of_frame, steps_after, steps_left}
+use Rattle.shogi_search.specs.Stack.{IsChildAfter, OnTop, steps_after, steps_left}
 use Rattle.shogi_search.specs.Visits.{IsFree}
 use Rattle.shogi_search.specs.declared.frame.Frame.{Frame}
 use Rattle.shogi_search.specs.declared.stack.Stack.{Stack}

@@ -5,7 +5,7 @@ use Rattle.shogi_search.specs.declared.frame.Frame.{Frame}
 use Rattle.shogi_search.specs.declared.frame.Waiting.TheVariants.{Asked}
 use Rattle.shogi_search.proofs.Nodes.{is_asked}
 use Rattle.shogi_search.proofs.Places.{asked_below, on_with}
-use Rattle.shogi_search.proofs.NarrowRoots.{IsRootBelow, with_bound, root_below, widened, left_widened, child_widened}
+use Rattle.shogi_search.proofs.NarrowRoots.{with_bound, root_below, widened, left_widened, child_widened}
 use Rattle.shogi_search.proofs.stack.Stack.widen.Goals as goal
 
 pub unreachable-requires : goal.unreachable-requires

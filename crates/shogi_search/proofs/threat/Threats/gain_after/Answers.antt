@@ -1,4 +1,4 @@
-use Rattle.std.proofs.Common.{◌≡◌, ◌<◌, ◌≤ℤ◌, ◌+ℤ◌, ℕ, pos, true, false, Some, sym, subst, ap, ◌∙◌, arith}
+use Rattle.std.proofs.Common.{◌≡◌, ◌<◌, ℕ, true, Some, sym, subst, ap, ◌∙◌, arith}
 use Rattle.std.proofs.Props.{props}
 use Rattle.std.proofs.Math.Logic.{∥∥₁_elim}
 use Rattle.shogi_core.specs.declared.moves.Move.{Move}
@@ -6,12 +6,10 @@ use Rattle.shogi_core.specs.Bits.{has_bit}
 use Rattle.shogi_core.specs.Codes.{move_of, code_of}
 use Rattle.shogi_core.specs.Position.{Shogi}
 use Rattle.shogi_core.specs.Validity.{IsValid}
-use Rattle.shogi_moves.specs.After.{after}
 use Rattle.shogi_moves.specs.Legal.{is_legal}
 use Rattle.shogi_replies.specs.Threats.{end_of, put_by}
 use Rattle.shogi_eval.specs.declared.eval.Eval.{Eval}
-use Rattle.shogi_eval.specs.Material.{material_of, taken_gain}
-use Rattle.minimax.specs.Minimax.{value}
+use Rattle.shogi_eval.specs.Material.{taken_gain}
 use Rattle.shogi_search.specs.declared.threat.Threats.{Threats}
 use Rattle.shogi_search.specs.Threats.{AreThreatsIn, IsThreatIn, TakesAfter}
 use Rattle.shogi_search.proofs.Ahead.{retake_gain, threat_gain}
