@@ -30,7 +30,7 @@ GO_DEPTH_ONE = DEPTH_ONE + b"bestmove 1g1f\n"
 HOST_FULL = b"info string host full\n"
 TOO_LONG = b"info string line too long\n"
 SOCKET_FAILED = b"usi_host: socket failed\n"
-SOCKET_TAKEN = SOCKET_FAILED[:-1] + b": a process listens at it already; end it, or take another path\n"
+SOCKET_TAKEN = SOCKET_FAILED[:-1] + b": a process listens at it; end it, or take another path\n"
 SOCKET_LEFT = SOCKET_FAILED[:-1] + b": nobody listens at it; remove it, and start again\n"
 
 
@@ -1039,8 +1039,8 @@ def a_status_socket_that_cannot_be_made_is_told():
             ("", b"\n"),
             (os.path.join(place, "no", "folder"), b"\n"),
             (left, b": nobody listens at it; remove it, and start again\n"),
-            (listens, b": a process listens at it already; take another path\n"),
-            (path, b": a process listens at it already; take another path\n"),
+            (listens, b": a process listens at it; take another path\n"),
+            (path, b": a process listens at it; take another path\n"),
         ):
             ended = subprocess.run(
                 [PROGRAM, "serve", "--socket", path, f"--status={other}"],

@@ -16,11 +16,11 @@ serve_complaint serving.OutOfMemory = codes "usi_host: out of memory\n"
 serve_complaint serving.ReadFailed = codes "usi_host: read failed\n"
 serve_complaint serving.SocketFailed = codes "usi_host: socket failed\n"
 serve_complaint serving.SocketTaken =
-    codes "usi_host: socket failed: a process listens at it already; end it, or take another path\n"
+    codes "usi_host: socket failed: a process listens at it; end it, or take another path\n"
 serve_complaint serving.SocketLeft =
     codes "usi_host: socket failed: nobody listens at it; remove it, and start again\n"
 serve_complaint serving.StatusFailed = codes "usi_host: status socket failed\n"
 serve_complaint serving.StatusTaken =
-    codes "usi_host: status socket failed: a process listens at it already; take another path\n"
+    codes "usi_host: status socket failed: a process listens at it; take another path\n"
 serve_complaint serving.StatusLeft =
     codes "usi_host: status socket failed: nobody listens at it; remove it, and start again\n"

@@ -109,14 +109,14 @@ impl ServeFault {
             ServeFault::ReadFailed => "usi_host: read failed\n",
             ServeFault::SocketFailed => "usi_host: socket failed\n",
             ServeFault::SocketTaken => {
-                "usi_host: socket failed: a process listens at it already; end it, or take another path\n"
+                "usi_host: socket failed: a process listens at it; end it, or take another path\n"
             }
             ServeFault::SocketLeft => {
                 "usi_host: socket failed: nobody listens at it; remove it, and start again\n"
             }
             ServeFault::StatusFailed => "usi_host: status socket failed\n",
             ServeFault::StatusTaken => {
-                "usi_host: status socket failed: a process listens at it already; take another path\n"
+                "usi_host: status socket failed: a process listens at it; take another path\n"
             }
             ServeFault::StatusLeft => {
                 "usi_host: status socket failed: nobody listens at it; remove it, and start again\n"
