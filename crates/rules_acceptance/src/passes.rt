@@ -8,22 +8,29 @@ use shogi_moves::{BoardSweep, DropSweep, check_info_of};
 use shogi_replies::{Replies, Row, escape_squares};
 use std::test::Fail;
 
-/// The first move on the board of the kind that is not passed of a row.
-fn first_of(p: &Position, capture: bool, row: &Row) -> Option<Move> {
+/// The first move on the board of the kind that is not passed, of some pieces, where moves without
+/// promotion may end on some squares, and moves with promotion on others.
+fn first_of(
+    p: &Position,
+    capture: bool,
+    pieces: u128,
+    plain: u128,
+    promoting: u128,
+) -> Option<Move> {
     let mut sweep = BoardSweep::new(p, check_info_of(p), capture);
-    Replies::of(p).pass_moves(p, capture, row, &mut sweep);
-    sweep.next(p, capture)
-}
-
-/// The same, where moves without promotion may end on some squares, and moves with promotion on others.
-fn first_left(p: &Position, capture: bool, plain: u128, promoting: u128) -> Option<Move> {
     let row = Row {
-        pieces: ALL_SQUARES,
+        pieces,
         plain,
         promoting,
         escapes: escape_squares(p),
     };
-    first_of(p, capture, &row)
+    Replies::of(p).pass_moves(p, capture, &row, &mut sweep);
+    sweep.next(p, capture)
+}
+
+/// The same of all pieces.
+fn first_left(p: &Position, capture: bool, plain: u128, promoting: u128) -> Option<Move> {
+    first_of(p, capture, ALL_SQUARES, plain, promoting)
 }
 
 /// Each of the 30 moves of the opening position takes nothing, promotes nothing and is answered.
@@ -81,22 +88,15 @@ fn quiet_moves_of_a_slider(rt: HostRuntime) -> Result<(), Fail> {
     Ok(())
 }
 
-/// The gold gives check on 4b alone, and leaves the king two ways there. Without a way out none of its
-/// moves is passed, of which that to 2b is the first, nor where its square is left out.
+/// The gold gives check on 4b alone, and leaves the king two ways there. Where its square is left out,
+/// none of its moves is passed, of which that to 2b is the first.
 #[test]
-fn quiet_moves_of_which_one_gives_check(rt: HostRuntime) -> Result<(), Fail> {
+fn quiet_moves_of_some_pieces(rt: HostRuntime) -> Result<(), Fail> {
     let p = position(b"4k4/9/6G2/9/7p1/9/9/9/K8", b"", Black)?;
     let gold = Square::new(3, 3).ok_or("a square")?.index();
-    let row = |pieces: u128, escapes: u128| Row {
-        pieces,
-        plain: ALL_SQUARES,
-        promoting: ALL_SQUARES,
-        escapes,
-    };
-    let (ways, others) = (escape_squares(&p), without(ALL_SQUARES, gold));
-    assert!(rt; first_of(&p, false, &row(ALL_SQUARES, ways)).is_none());
-    assert!(rt; first_of(&p, false, &row(ALL_SQUARES, 0)) == Some(read(b"3c2b ")));
-    assert!(rt; first_of(&p, false, &row(others, ways)) == Some(read(b"3c2b ")));
+    let others = without(ALL_SQUARES, gold);
+    assert!(rt; first_left(&p, false, ALL_SQUARES, 0).is_none());
+    assert!(rt; first_of(&p, false, others, ALL_SQUARES, 0) == Some(read(b"3c2b ")));
     Ok(())
 }
 
