@@ -1,19 +1,16 @@
 //! The search against plain minimax, on positions of played games and two published ones.
 
-ghost use Rattle.std.specs.Prelude.{◌≤◌};
-ghost use Rattle.minimax.specs.declared.bounds.TheConstants.{SEARCH_DEPTH_MAX};
-
 use crate::forgetful::Forgetful;
-use crate::games;
 use crate::plain::minimax;
 use crate::positions::{played, position};
+use crate::searches::{has_few, search};
 use shogi_core::Position;
 use shogi_eval::Eval;
 use shogi_moves::{has_legal, perft};
-use shogi_search::{Found, NoMemo, search};
+use shogi_search::{Found, NoMemo};
 use std::process::Abort;
 use std::test::Fail;
-use test_support::{holds, same};
+use test_support::{games, holds, same};
 
 // The search finds the value and the best move of plain minimax, in no more steps.
 fn assert_same(rt: &impl Abort, found: &Found, plain: &Found, at: usize, depth: u8) {
@@ -31,9 +28,7 @@ fn assert_agrees(
     at: usize,
     depth: u8,
     memo: &mut Forgetful,
-) -> bool
-    requires { depth ≤ SEARCH_DEPTH_MAX }
-{
+) -> bool {
     let plain = minimax(p, e, depth);
     assert_same(rt, &search(p, e, depth, &mut NoMemo), &plain, at, depth);
     assert_same(rt, &search(p, e, depth, memo), &plain, at, depth);
@@ -51,7 +46,7 @@ fn walk(rt: &impl Abort, moves: &[&str]) {
     let (mut known, mut forgotten) = (false, false);
     for (at, text) in moves.iter().enumerate() {
         for depth in 0..4u8 {
-            if perft(&p, depth.saturating_sub(1)) <= Some(1500) {
+            if has_few(&p, depth.saturating_sub(1), 1500) {
                 for e in [Eval::Plain, Eval::Hand] {
                     if assert_agrees(rt, &p, e, at, depth, &mut memo) {
                         known = true;
@@ -69,17 +64,17 @@ fn walk(rt: &impl Abort, moves: &[&str]) {
 
 #[test]
 fn first_game(rt: HostRuntime) {
-    walk(&rt, &games::FIRST);
+    walk(&rt, games::first());
 }
 
 #[test]
 fn second_game(rt: HostRuntime) {
-    walk(&rt, &games::SECOND);
+    walk(&rt, games::second());
 }
 
 #[test]
 fn third_game(rt: HostRuntime) {
-    walk(&rt, &games::THIRD);
+    walk(&rt, games::third());
 }
 
 // A position with so many legal moves, at depths 1 and 2.

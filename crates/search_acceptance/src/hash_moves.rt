@@ -1,16 +1,15 @@
 //! What a search asks its memory, and the hash move that a node visits first.
 
-ghost use Rattle.std.specs.Prelude.{◌≤◌};
-
 use crate::oracle::Oracle;
 use crate::plain::minimax;
 use crate::positions::{played, position};
 use crate::recorder::{Call, Recorder};
+use crate::searches::{TestSearch, search};
 use crate::tables::table_of;
 use shogi_core::{Move, Position};
 use shogi_eval::Eval;
 use shogi_moves::play;
-use shogi_search::{Entry, NoMemo, Search, search};
+use shogi_search::{Entry, NoMemo};
 use std::process::Abort;
 use std::test::Fail;
 use test_support::{holds, same};
@@ -20,7 +19,7 @@ use test_support::{holds, same};
 #[test]
 fn each_node_is_asked_for_on_the_way_down(rt: HostRuntime) -> Result<(), Fail> {
     for depth in 2..=16u8 {
-        let mut search = Search::start(&Position::start(), Eval::Plain, depth);
+        let mut search = TestSearch::start(&Position::start(), Eval::Plain, depth);
         let mut recorder = Recorder::new(rt.alloc(), NoMemo);
         search.advance(&mut recorder, u64::from(depth));
         let calls = recorder.calls();
@@ -42,24 +41,24 @@ fn a_child_visits_its_hash_move_first(rt: HostRuntime) -> Result<(), Fail> {
     let child = played(&rt, &root, "1a1b");
     let capture = played(&rt, &child, "8h3c");
     let mut bare = Recorder::new(rt.alloc(), NoMemo);
-    Search::start(&root, Eval::Plain, 4).advance(&mut bare, 3);
+    TestSearch::start(&root, Eval::Plain, 4).advance(&mut bare, 3);
     let down = [(root, 4), (root, 3), (child, 3), (child, 2), (capture, 2)];
     assert_asked(&rt, bare.calls(), &down);
-    for depth in [4u8, 5] {
-        assert!(rt; depth >= 2 && depth <= 16);
+    for below in [2u8, 3] {
+        let (inner, depth) = (below.saturating_add(1), below.saturating_add(2));
         let mut table = table_of(rt.alloc(), 10000)?;
-        search(&child, Eval::Plain, depth - 2, &mut table);
+        search(&child, Eval::Plain, below, &mut table);
         let mut recorder = Recorder::new(rt.alloc(), table);
-        Search::start(&root, Eval::Plain, depth).advance(&mut recorder, 3);
-        let best = minimax(&child, Eval::Plain, depth - 2).best;
+        TestSearch::start(&root, Eval::Plain, depth).advance(&mut recorder, 3);
+        let best = minimax(&child, Eval::Plain, below).best;
         let last = play(&child, best.ok_or("a move")?).expect(&rt, "a legal move");
         holds!(rt; last != capture, depth);
         let wanted = [
             (root, depth),
-            (root, depth - 1),
-            (child, depth - 1),
-            (child, depth - 2),
-            (last, depth - 2),
+            (root, inner),
+            (child, inner),
+            (child, below),
+            (last, below),
         ];
         assert_asked(&rt, recorder.calls(), &wanted);
     }
@@ -115,7 +114,7 @@ fn the_hash_move_is_visited_before_captures(rt: HostRuntime) -> Result<(), Fail>
 fn advised_moves_are_visited_first(rt: HostRuntime) -> Result<(), Fail> {
     let root = position(FACING)?;
     let quiet = played(&rt, &root, "1g1f");
-    let mut search = Search::start(&root, Eval::Plain, 3);
+    let mut search = TestSearch::start(&root, Eval::Plain, 3);
     search.advise([Move::of_code(0), Move::of_code(982)]);
     let mut recorder = Recorder::new(rt.alloc(), NoMemo);
     search.advance(&mut recorder, 2);

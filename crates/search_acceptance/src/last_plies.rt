@@ -1,8 +1,7 @@
 //! What is known at once of a node with one ply left, in windows around its value.
 
-use crate::games;
 use crate::plain::{branches_of, minimax};
-use crate::positions::{played, position};
+use crate::positions::{each_twentieth, position};
 use last_ply::last_ply;
 use shogi_core::Position;
 use shogi_eval::{Eval, Node};
@@ -10,7 +9,7 @@ use shogi_search::{Entry, INFINITY};
 use std::alloc::Global;
 use std::process::Abort;
 use std::test::Fail;
-use test_support::{holds, same};
+use test_support::{games, holds, same};
 
 // The whole window; those that hold the value, narrow and wide; those that begin or end with it, narrow and
 // wide; and those above and below it.
@@ -65,14 +64,9 @@ fn assert_known_around(rt: &impl Abort, alloc: Global, p: &Position) -> Result<(
 
 #[test]
 fn positions_of_games(rt: HostRuntime) -> Result<(), Fail> {
-    let games: [&[&str]; 3] = [&games::FIRST, &games::SECOND, &games::THIRD];
-    for moves in games {
-        let mut p = Position::start();
-        for (at, text) in moves.iter().enumerate() {
-            if at % 20 == 0 {
-                assert_known_around(&rt, rt.alloc(), &p)?;
-            }
-            p = played(&rt, &p, text);
+    for moves in [games::first(), games::second(), games::third()] {
+        for p in each_twentieth(&rt, rt.alloc(), moves)?.as_slice() {
+            assert_known_around(&rt, rt.alloc(), p)?;
         }
     }
     Ok(())

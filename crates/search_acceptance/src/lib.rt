@@ -9,11 +9,11 @@ mod assertions;
 #[cfg(test)]
 mod below;
 #[cfg(test)]
+mod counted;
+#[cfg(test)]
 mod counts;
 #[cfg(test)]
 mod forgetful;
-#[cfg(test)]
-mod games;
 #[cfg(test)]
 mod hash_moves;
 #[cfg(test)]
@@ -33,7 +33,7 @@ mod ranks;
 #[cfg(test)]
 mod recorder;
 #[cfg(test)]
-mod small;
+mod searches;
 #[cfg(test)]
 mod table_rows;
 #[cfg(test)]

@@ -1,40 +1,21 @@
 //! Lists of several lines, each child searched below the bound that its place in the list needs: against a
 //! plain ranking, and in how many steps.
 
-ghost use Rattle.std.specs.Prelude.{◌≡◌, ◌≤◌, ◌<◌};
-ghost use Rattle.shogi_core.specs.Codes.{code_of};
-ghost use Rattle.shogi_moves.specs.Rising.{is_in};
-ghost use Rattle.shogi_search.specs.Ranked.{codes_in};
-ghost use Rattle.minimax.specs.declared.bounds.TheConstants.{SEARCH_DEPTH_MAX};
-ghost use Rattle.shogi_search.specs.declared.ranks.TheConstants.{MULTI_PV_MAX};
-
-use crate::games;
 use crate::plain::{Branch, Notes, branches_of, minimax, search_plainly_below};
-use crate::positions::{played, position};
+use crate::positions::{each_twentieth, position};
+use crate::ranks::TestRanks;
+use crate::searches::{has_few, search, search_below};
 use crate::tables::table_of;
 use shogi_core::{Move, Position};
 use shogi_eval::Eval;
-use shogi_moves::perft;
-use shogi_search::{INFINITY, Memo, NoMemo, Ranks, search, search_below};
-use std::alloc::{AllocError, Global};
+use shogi_search::{INFINITY, Memo, NoMemo};
+use std::alloc::Global;
 use std::process::Abort;
 use std::test::Fail;
-use test_support::{holds, same};
-
-// Whether the list has the move.
-fn has(pairs: &[(Move, i32)], m: &Move) -> bool
-    ensures { result ≡ is_in (code_of m.now) (codes_in pairs.now) }
-{
-    for pair in pairs {
-        if m.code() == pair.0.code() {
-            return true;
-        }
-    }
-    false
-}
+use test_support::{games, holds, same};
 
 // The end of the window of the next child.
-fn child_beta(ranks: &Ranks) -> i32 {
+fn child_beta(ranks: &TestRanks) -> i32 {
     match ranks.threshold() {
         Some(value) => value.saturating_neg(),
         None => INFINITY,
@@ -45,21 +26,17 @@ fn child_beta(ranks: &Ranks) -> i32 {
 // the last line. Gives the bound and the steps.
 fn take_in<M: Memo>(
     rt: &impl Abort,
-    ranks: &mut Ranks,
+    ranks: &mut TestRanks,
     branch: &Branch,
     e: Eval,
     depth: u8,
     memo: &mut M,
-) -> (i32, u64)
-    requires { depth ≤ SEARCH_DEPTH_MAX }
-{
+) -> (i32, u64) {
     let beta = child_beta(ranks);
-    assert!(rt; -INFINITY < beta && beta <= INFINITY);
     let found = search_below(&branch.position, e, depth, beta, memo);
     if found.value < beta {
         let m = Move::of_code(branch.code).expect(rt, "a move");
-        assert!(rt; !has(ranks.list(), &m));
-        ranks.offer(m, found.value.saturating_neg());
+        ranks.offer(rt, m, found.value.saturating_neg());
     }
     (beta, found.steps)
 }
@@ -89,12 +66,8 @@ fn assert_ranked<M: Memo>(
     depth: u8,
     lines: usize,
     memo: &mut M,
-) -> Result<(), Fail>
-    requires shallow { depth ≤ SEARCH_DEPTH_MAX }
-    requires least { 1 ≤ lines }
-    requires most { lines ≤ MULTI_PV_MAX }
-{
-    let mut ranks = Ranks::new(lines);
+) -> Result<(), Fail> {
+    let mut ranks = TestRanks::new(lines);
     let mut worths = Vec::new(alloc);
     for branch in branches_of(alloc, p, [None; 6])?.as_slice() {
         take_in(rt, &mut ranks, branch, Eval::Plain, depth, memo);
@@ -111,29 +84,27 @@ fn assert_ranked<M: Memo>(
 // Each twentieth position of a game, at depths 1 and 2, and at 3 where two plies have few paths.
 fn walk(rt: &impl Abort, alloc: Global, moves: &[&str]) -> Result<(), Fail> {
     let mut table = table_of(alloc, 1000)?;
-    let mut p = Position::start();
-    for (at, text) in moves.iter().enumerate() {
+    for p in each_twentieth(rt, alloc, moves)?.as_slice() {
         for below in 0..3u8 {
-            if at % 20 == 0 && perft(&p, below) <= Some(1000) {
+            if has_few(p, below, 1000) {
                 for lines in [1usize, 2, 4, 8] {
-                    assert_ranked(rt, alloc, &p, below, lines, &mut NoMemo)?;
-                    assert_ranked(rt, alloc, &p, below, lines, &mut table)?;
+                    assert_ranked(rt, alloc, p, below, lines, &mut NoMemo)?;
+                    assert_ranked(rt, alloc, p, below, lines, &mut table)?;
                 }
             }
         }
-        p = played(rt, &p, text);
     }
     Ok(())
 }
 
 #[test]
 fn lines_of_the_first_game(rt: HostRuntime) -> Result<(), Fail> {
-    walk(&rt, rt.alloc(), &games::FIRST)
+    walk(&rt, rt.alloc(), games::first())
 }
 
 #[test]
 fn lines_of_the_second_game(rt: HostRuntime) -> Result<(), Fail> {
-    walk(&rt, rt.alloc(), &games::SECOND)
+    walk(&rt, rt.alloc(), games::second())
 }
 
 // The children of a position take the steps of the plain search below the same bounds, and fewer than
@@ -144,26 +115,16 @@ fn assert_steps(
     p: &Position,
     depth: u8,
     lines: usize,
-) -> Result<(), Fail>
-    requires shallow { depth ≤ SEARCH_DEPTH_MAX }
-    requires least { 1 ≤ lines }
-    requires most { lines ≤ MULTI_PV_MAX }
-{
-    let mut ranks = Ranks::new(lines);
+) -> Result<(), Fail> {
+    let mut ranks = TestRanks::new(lines);
     let mut notes = Notes::new(alloc, 0, false);
     let (mut steps, mut whole): (u64, u64) = (0, 0);
     for branch in branches_of(alloc, p, [None; 6])?.as_slice() {
         let (beta, made) = take_in(rt, &mut ranks, branch, Eval::Plain, depth, &mut NoMemo);
         steps = steps.saturating_add(made);
-        search_plainly_below(
-            alloc,
-            &branch.position,
-            Eval::Plain,
-            depth,
-            beta,
-            &mut notes,
-        )?;
-        let found = search(&branch.position, Eval::Plain, depth, &mut NoMemo);
+        let p = &branch.position;
+        search_plainly_below(alloc, p, Eval::Plain, depth, beta, &mut notes)?;
+        let found = search(p, Eval::Plain, depth, &mut NoMemo);
         whole = whole.saturating_add(found.steps);
     }
     same!(*rt; steps, notes.steps, lines);
@@ -177,9 +138,7 @@ fn assert_steps_of_lines(
     alloc: Global,
     p: &Position,
     depth: u8,
-) -> Result<(), Fail>
-    requires { depth ≤ SEARCH_DEPTH_MAX }
-{
+) -> Result<(), Fail> {
     for lines in [1usize, 2, 4, 8] {
         assert_steps(rt, alloc, p, depth, lines)?;
     }

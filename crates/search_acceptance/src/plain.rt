@@ -993,7 +993,6 @@ pub fn minimax(p: &Position, e: Eval, depth: u8) -> Found {
         return found;
     }
     let mut walk = Walk::new(p);
-    let replies = Replies::of(p);
     'moves: while let Some(m) = walk.next() {
         let tried = m;
         let below = minimax(&apply(p, tried), e, depth - 1);

@@ -1,21 +1,14 @@
 //! Lists of the best moves, worked by hand.
 
-ghost use Rattle.std.specs.Prelude.{◌≡◌, ◌≤◌, ◌<◌, ◌-◌};
+ghost use Rattle.std.specs.Prelude.{◌≡◌};
 ghost use Rattle.shogi_core.specs.Codes.{code_of};
-ghost use Rattle.shogi_moves.specs.LegalMoves.{legal_codes};
 ghost use Rattle.shogi_moves.specs.Rising.{is_in};
-ghost use Rattle.minimax.specs.Minimax.{worth};
-ghost use Rattle.shogi_search.specs.Ranked.{codes_in, IsTop};
-ghost use Rattle.minimax.specs.declared.bounds.TheConstants.{SEARCH_DEPTH_MAX};
-ghost use Rattle.shogi_search.specs.declared.ranks.TheConstants.{MULTI_PV_MAX};
+ghost use Rattle.shogi_search.specs.Ranked.{codes_in};
 
-use crate::small::position;
-use shogi_core::{Color, Kind, Move, Position, Role};
-use shogi_eval::Eval;
-use shogi_moves::{apply, next_legal};
-use shogi_search::{MULTI_PV_MAX, NoMemo, Ranks, search_below};
+use shogi_core::Move;
+use shogi_search::{MULTI_PV_MAX, Ranks};
+use std::marker::Model;
 use std::process::Abort;
-use std::test::Fail;
 use test_support::{holds, same};
 
 // Whether the list has the move.
@@ -30,14 +23,42 @@ fn has(pairs: &[(Move, i32)], m: &Move) -> bool
     false
 }
 
-// Offers a move with its value.
-fn offer(rt: &impl Abort, ranks: &mut Ranks, m: Move, value: i32) {
-    assert!(rt; !has(ranks.list(), &m));
-    ranks.offer(m, value);
+/// A list of the best moves, on 1 to 8 lines. What its contracts say stays within.
+#[derive(Drop)]
+pub struct TestRanks {
+    ranks: Ranks,
+}
+
+impl Model for TestRanks {
+    ghost Value = { Unit };
+
+    ghost view = { λ _. tt };
+}
+
+impl TestRanks {
+    pub fn new(lines: usize) -> TestRanks {
+        TestRanks {
+            ranks: Ranks::new(lines.clamp(1, MULTI_PV_MAX)),
+        }
+    }
+
+    pub fn list(&self) -> &[(Move, i32)] {
+        self.ranks.list()
+    }
+
+    pub fn threshold(&self) -> Option<i32> {
+        self.ranks.threshold()
+    }
+
+    /// Ends the test where the move is listed.
+    pub fn offer<R: Abort>(&mut self, rt: &R, m: Move, value: i32) {
+        assert!(*rt; !has(self.ranks.list(), &m));
+        self.ranks.offer(m, value);
+    }
 }
 
 // The list has the moves of these codes with these values, in this order.
-fn assert_list(rt: &impl Abort, ranks: &Ranks, wanted: &[(u16, i32)]) {
+fn assert_list(rt: &impl Abort, ranks: &TestRanks, wanted: &[(u16, i32)]) {
     let list = ranks.list();
     same!(*rt; list.len(), wanted.len());
     for ((m, value), wanted) in list.iter().zip(wanted) {
@@ -46,15 +67,12 @@ fn assert_list(rt: &impl Abort, ranks: &Ranks, wanted: &[(u16, i32)]) {
 }
 
 // The list after the moves of these codes are offered with these values.
-fn assert_offered(rt: &impl Abort, lines: usize, offers: &[(u16, i32)], wanted: &[(u16, i32)])
-    requires least { 1 ≤ lines }
-    requires most { lines ≤ MULTI_PV_MAX }
-{
-    let mut ranks = Ranks::new(lines);
+fn assert_offered(rt: &impl Abort, lines: usize, offers: &[(u16, i32)], wanted: &[(u16, i32)]) {
+    let mut ranks = TestRanks::new(lines);
     assert_list(rt, &ranks, &[]);
     for (code, value) in offers {
         let m = Move::of_code(*code).expect(rt, "a move");
-        offer(rt, &mut ranks, m, *value);
+        ranks.offer(rt, m, *value);
     }
     assert_list(rt, &ranks, wanted);
 }
@@ -106,16 +124,13 @@ fn eight_of_nine(rt: HostRuntime) {
 }
 
 // The value on the last line after each offer: none until every line has a move, and then these.
-fn assert_thresholds(rt: &impl Abort, lines: usize, offers: &[(u16, i32)], wanted: &[i32])
-    requires least { 1 ≤ lines }
-    requires most { lines ≤ MULTI_PV_MAX }
-{
-    let mut ranks = Ranks::new(lines);
+fn assert_thresholds(rt: &impl Abort, lines: usize, offers: &[(u16, i32)], wanted: &[i32]) {
+    let mut ranks = TestRanks::new(lines);
     same!(*rt; ranks.threshold(), None);
     let mut left = wanted.iter();
     for (at, (code, value)) in offers.iter().enumerate() {
         let m = Move::of_code(*code).expect(rt, "a move");
-        offer(rt, &mut ranks, m, *value);
+        ranks.offer(rt, m, *value);
         let wanted = if at + 1 < lines {
             None
         } else {
@@ -152,68 +167,4 @@ fn thresholds(rt: HostRuntime) {
     assert_thresholds(&rt, 6, &offers, &[-60, -50, 100, 100]);
     assert_thresholds(&rt, 7, &offers, &[-60, -50, 100]);
     assert_thresholds(&rt, 8, &offers, &[-60, -50]);
-}
-
-// The best lines of a position, each move searched one ply less deep, and no deeper into its window
-// than its place in the list needs: the first of the legal moves as they are ranked.
-fn best_lines(p: &Position, e: Eval, depth: u8, lines: usize) -> Ranks
-    requires shallow { depth ≤ SEARCH_DEPTH_MAX }
-    requires deep { 0 < depth }
-    requires least { 1 ≤ lines }
-    requires most { lines ≤ MULTI_PV_MAX }
-    ensures { IsTop (worth p.now e (depth - 1)) (legal_codes p.now) result }
-{
-    p.validity();
-    let mut ranks = Ranks::new(lines);
-    let mut passed: Option<Move> = None;
-    'moves: while let Some(m) = next_legal(p, passed) {
-        let (visited, offered) = (m, m);
-        let beta = ranks.child_beta();
-        let found = search_below(&apply(p, m), e, depth - 1, beta, &mut NoMemo);
-        if found.value < beta {
-            ranks.offer(offered, -found.value);
-        }
-        passed = Some(visited);
-    }
-    ranks
-}
-
-fn assert_lines(rt: &impl Abort, p: &Position, depth: u8, lines: usize, wanted: &[(u16, i32)])
-    requires shallow { depth ≤ SEARCH_DEPTH_MAX }
-    requires deep { 0 < depth }
-    requires least { 1 ≤ lines }
-    requires most { lines ≤ MULTI_PV_MAX }
-{
-    assert_list(rt, &best_lines(p, Eval::Plain, depth, lines), wanted);
-}
-
-// All moves of the opening position are worth the same at depth 1: 1g1f and 1i1h have the least codes.
-#[test]
-fn two_lines_of_the_opening(rt: HostRuntime) {
-    assert_lines(&rt, &Position::start(), 1, 2, &[(982, 0), (1310, 0)]);
-}
-
-// Black: a pawn on 5c and a gold in hand, against a king on 5a. G*5b mates; 5c5b+ wins a gold's worth.
-#[test]
-fn a_mate_and_another_line(rt: HostRuntime) -> Result<(), Fail> {
-    let pieces = [
-        (5, 1, Color::White, Role::King),
-        (5, 3, Color::Black, Role::Pawn),
-    ];
-    let p = position(&pieces, &[(Color::Black, Kind::Gold, 1)], Color::Black)?;
-    assert_lines(&rt, &p, 1, 2, &[(13483, 30000), (6231, 1200)]);
-    Ok(())
-}
-
-// White's king on 5a can only step to 4a or 6a, and is mated by the gold in hand: two lines of eight.
-#[test]
-fn fewer_moves_than_lines(rt: HostRuntime) -> Result<(), Fail> {
-    let pieces = [
-        (5, 1, Color::White, Role::King),
-        (5, 3, Color::Black, Role::Gold),
-    ];
-    let p = position(&pieces, &[(Color::Black, Kind::Gold, 1)], Color::White)?;
-    assert_lines(&rt, &p, 1, 8, &[(5886, -1200), (5922, -1200)]);
-    assert_lines(&rt, &p, 2, 8, &[(5886, -30000), (5922, -30000)]);
-    Ok(())
 }

@@ -1,26 +1,18 @@
 //! A shared table: what it stores, forgets and finds, and its size.
 
-ghost use Rattle.std.specs.Prelude.{◌≤◌};
-ghost use Rattle.minimax.specs.declared.bounds.TheConstants.{SEARCH_DEPTH_MAX};
-
+use crate::positions::position;
+use crate::searches::search;
+use crate::tables::note_search;
 use linked_list_allocator::LocalHeap;
 use lru::DefaultHasher;
 use shared_table::{SharedTable, TableFault, TableKey};
-use shogi_core::{Color, Hands, KINDS, Kind, Move, Piece, Position, Role};
+use shogi_core::{Color, Hands, KINDS, Move, Piece, Position, Role};
 use shogi_eval::Eval;
-use shogi_search::{Entry, Memo, NoMemo, search};
-use std::alloc::{Allocator, Global};
+use shogi_search::{Entry, Memo};
+use std::alloc::Allocator;
 use std::hash::BuildHasher;
 use std::test::Fail;
 use test_support::{holds, same};
-
-// Notes what a search at the depth finds.
-fn note_search<M: Memo>(table: &mut M, p: &Position, depth: u8)
-    requires { depth ≤ SEARCH_DEPTH_MAX }
-{
-    let found = search(p, Eval::Plain, depth, &mut NoMemo);
-    table.note(p, Eval::Plain, depth, Entry::Exact(found.value, found.best));
-}
 
 // The depths of the entries, from the most recently used, as decimal digits.
 fn depths<S: BuildHasher, A: Allocator>(table: &SharedTable<S, A>) -> u64 {
@@ -43,7 +35,8 @@ fn the_least_recently_used_drops_out(rt: HostRuntime) -> Result<(), Fail> {
     same!(rt; depths(&table), 1);
     note_search(&mut table, &p, 2);
     same!(rt; depths(&table), 20);
-    same!(rt; table.len(), 2);
+    same!(rt; search(&p, Eval::Plain, 2, &mut table).steps, 0);
+    same!(rt; (depths(&table), table.len()), (20, 2));
     same!(rt; table.peek(&p, Eval::Plain, 1), None);
     same!(rt; table.peek(&p, Eval::Plain, 0), Some(Entry::Exact(0, None)));
     same!(rt; table.peek(&p, Eval::Plain, 2), Some(Entry::Exact(0, Move::of_code(982))));
@@ -57,45 +50,8 @@ fn the_least_recently_used_drops_out(rt: HostRuntime) -> Result<(), Fail> {
     Ok(())
 }
 
-// All promoted pieces, at the ends of the words, with all else in hand: White to move.
-fn promoted() -> Result<Position, Fail> {
-    let pieces = [
-        (0, Color::Black, Role::PromotedPawn),
-        (11, Color::Black, Role::PromotedLance),
-        (12, Color::Black, Role::PromotedKnight),
-        (23, Color::Black, Role::PromotedSilver),
-        (24, Color::Black, Role::Horse),
-        (35, Color::Black, Role::Dragon),
-        (47, Color::White, Role::PromotedPawn),
-        (59, Color::White, Role::PromotedLance),
-        (60, Color::White, Role::PromotedKnight),
-        (71, Color::White, Role::PromotedSilver),
-        (72, Color::White, Role::Horse),
-        (80, Color::White, Role::Dragon),
-    ];
-    let mut cells = [None; 81];
-    for &(index, color, role) in &pieces {
-        let square: usize = index;
-        if square < 81 {
-            cells[square] = Some(Piece { color, role });
-        }
-    }
-    let held = [
-        (Color::Black, Kind::Pawn, 9),
-        (Color::Black, Kind::Lance, 1),
-        (Color::Black, Kind::Silver, 2),
-        (Color::Black, Kind::Gold, 3),
-        (Color::White, Kind::Pawn, 7),
-        (Color::White, Kind::Lance, 1),
-        (Color::White, Kind::Knight, 2),
-        (Color::White, Kind::Gold, 1),
-    ];
-    let mut hands = Hands::none();
-    for &(color, kind, count) in &held {
-        hands = hands.with(color, kind, count);
-    }
-    Ok(Position::new(cells, hands, Color::White)?)
-}
+/// All promoted pieces, at the ends of the words, with all else in hand: White to move.
+const PROMOTED: &str = "+b7+P/9/3+p3+L1/7+N1/9/2+l3+S2/2+n3+B2/9/+r+s3+R3 w 3G2SL9Pg2nl7p";
 
 // The words by a script that knows only the rule: digits in base 32, the first the lowest.
 #[test]
@@ -113,7 +69,7 @@ fn words_of_keys(rt: HostRuntime) -> Result<(), Fail> {
             0,
             12
         ]);
-    let late = TableKey::of(&promoted()?, Eval::Hand, 16);
+    let late = TableKey::of(&position(PROMOTED)?, Eval::Hand, 16);
     same!(rt; late.words(), [
             360287970189639689,
             432345564227567627,
@@ -132,7 +88,7 @@ fn words_of_keys(rt: HostRuntime) -> Result<(), Fail> {
 // What a key was made of is had again.
 #[test]
 fn keys_are_had_again(rt: HostRuntime) -> Result<(), Fail> {
-    for p in [Position::start(), promoted()?] {
+    for p in [Position::start(), position(PROMOTED)?] {
         for eval in [Eval::Plain, Eval::Hand] {
             let key = TableKey::of(&p, eval, 200);
             holds!(rt; key.position() == p);
@@ -146,7 +102,7 @@ fn keys_are_had_again(rt: HostRuntime) -> Result<(), Fail> {
 // the depth.
 #[test]
 fn keys_that_differ(rt: HostRuntime) -> Result<(), Fail> {
-    let p = promoted()?;
+    let p = position(PROMOTED)?;
     let key = TableKey::of(&p, Eval::Plain, 3);
     holds!(rt; key.is_same(&TableKey::of(&p, Eval::Plain, 3)));
     holds!(rt; !key.is_same(&TableKey::of(&p, Eval::Plain, 4)));

@@ -4,7 +4,9 @@
 mod allocator;
 mod assertions;
 pub mod fakes;
+pub mod games;
 pub mod pv_lines;
+pub mod random;
 mod requests;
 pub mod rows;
 pub mod scripts;

@@ -1,7 +1,21 @@
-//! Games between other programs, by their moves.
+//! Games between other programs, by their moves, each by a call: what names one itself is proved with its text.
 
 /// Fairy-Stockfish to depth 9 against itself to depth 7, from 2g2f 3c3d on: White is mated.
-pub const FIRST: [&str; 101] = [
+pub fn first() -> &'static [&'static str] {
+    &FIRST
+}
+
+/// Fairy-Stockfish to depth 8 against itself, from 5g5f 5c5d on: Black is mated.
+pub fn second() -> &'static [&'static str] {
+    &SECOND
+}
+
+/// GNU Shogi, a second a move, against Fairy-Stockfish to depth 5: Black is mated.
+pub fn third() -> &'static [&'static str] {
+    &THIRD
+}
+
+const FIRST: [&str; 101] = [
     "2g2f", "3c3d", "6i6h", "3a3b", "7g7f", "2b8h", "7i8h", "B*6e", "B*2b", "6e4g+", "3i3h",
     "4g6e", "2b1a+", "2a3c", "8h7g", "7c7d", "6g6f", "6e5d", "3h4g", "7d7e", "L*5f", "5d6d",
     "7f7e", "6d7e", "P*7f", "7e6d", "1a2b", "8b5b", "5i6i", "5c5d", "2b1c", "5d5e", "1c4f", "6a6b",
@@ -13,8 +27,7 @@ pub const FIRST: [&str; 101] = [
     "B*6a", "7b7c", "R*7b", "7c8d", "7b7e+", "8d9d", "7e7d", "6b8d", "6a8c", "9d9e", "9g9f",
 ];
 
-/// Fairy-Stockfish to depth 8 against itself, from 5g5f 5c5d on: Black is mated.
-pub const SECOND: [&str; 116] = [
+const SECOND: [&str; 116] = [
     "5g5f", "5c5d", "1g1f", "8b5b", "6i6h", "6a6b", "4g4f", "5d5e", "5f5e", "5b5e", "2h5h", "5e5h",
     "4i5h", "R*5d", "7g7f", "3c3d", "8h2b", "3a2b", "B*6e", "5d5b", "6e4c+", "B*7d", "R*2h",
     "4a3b", "4c3d", "7d6e", "3d5b", "6b5b", "R*8e", "B*7d", "8e6e", "7d6e", "P*5e", "7a6b", "B*8b",
@@ -28,8 +41,7 @@ pub const SECOND: [&str; 116] = [
     "G*9e",
 ];
 
-/// GNU Shogi, a second a move, against Fairy-Stockfish to depth 5: Black is mated.
-pub const THIRD: [&str; 70] = [
+const THIRD: [&str; 70] = [
     "7g7f", "8b4b", "4g4f", "1c1d", "4i5h", "3c3d", "2g2f", "9c9d", "2f2e", "1d1e", "5g5f", "2b3c",
     "3g3f", "3c8h", "7i8h", "B*2b", "8i7g", "7a7b", "B*8b", "9a9c", "8b9a+", "2b1c", "5h4g",
     "1c2b", "9a9b", "6c6d", "2e2d", "2c2d", "7g8e", "1e1f", "8e9c", "1f1g+", "2h5h", "P*1h",
