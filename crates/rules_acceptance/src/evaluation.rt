@@ -1,10 +1,13 @@
 //! Material summed by hand.
 
-use shogi_core::{Color, Hands, Kind, Move, Piece, Position, Role, Square};
+use crate::boards::{board, position, read};
+use shogi_core::Color::{Black, White};
+use shogi_core::{Color, Hands, Kind, Position, Role};
 use shogi_eval::{Eval, Node, material};
 use shogi_moves::{is_legal, next_legal};
 use std::process::Abort;
 use std::test::Fail;
+use test_support::same;
 
 const EVALS: [Eval; 2] = [Eval::Plain, Eval::Hand];
 
@@ -12,19 +15,25 @@ const EVALS: [Eval; 2] = [Eval::Plain, Eval::Hand];
 fn even_at_the_opening(rt: HostRuntime) {
     let start = Position::start();
     for e in EVALS {
-        assert_eq!(rt; material(&start, e), 0);
-        assert_eq!(rt; Node::start(e).score(), 0);
+        same!(rt; material(&start, e), 0);
+        same!(rt; Node::start(e).score(), 0);
         if let Some(m) = next_legal(&start, None) {
             let node = Node::of(start, e).play(m);
-            assert_eq!(rt; (node.score(), node.position().side()), (0, Color::White));
+            same!(rt; (node.score(), node.position().side()), (0, White));
         }
     }
 }
 
-// One piece of Black's and one of White's held ones, seen from both sides.
+// The material of one piece of Black's, where White holds two silvers, as the side sees it.
+fn beside_two_silvers(role: Role, side: Color, e: Eval) -> Result<i32, Fail> {
+    let hands = Hands::none().with(White, Kind::Silver, 2);
+    let board = board(&[(Black, role, "5e")])?;
+    Ok(material(&Position::new(*board.cells(), hands, side)?, e))
+}
+
 #[test]
 fn values_of_pieces(rt: HostRuntime) -> Result<(), Fail> {
-    let cases = [
+    for (role, points) in [
         (Role::King, 0i32),
         (Role::Pawn, 100),
         (Role::Lance, 300),
@@ -39,44 +48,19 @@ fn values_of_pieces(rt: HostRuntime) -> Result<(), Fail> {
         (Role::PromotedSilver, 600),
         (Role::Horse, 1100),
         (Role::Dragon, 1300),
-    ];
-    let square = Square::new(5, 5).ok_or("a square")?;
-    for (role, points) in cases {
-        let mut cells: [Option<Piece>; 81] = [None; 81];
-        cells[square.index()] = Some(Piece {
-            color: Color::Black,
-            role,
-        });
-        let hands = Hands::none().with(Color::White, Kind::Silver, 2);
-        let black = Position::new(cells, hands, Color::Black)?;
-        let white = Position::new(cells, hands, Color::White)?;
-        assert_eq!(rt;
-            material(&black, Eval::Plain),
-            points.saturating_sub(1000),
-            "{role:?}"
-        );
-        assert_eq!(rt;
-            material(&white, Eval::Plain),
-            1000i32.saturating_sub(points),
-            "{role:?}"
-        );
-        assert_eq!(rt;
-            material(&black, Eval::Hand),
-            points.saturating_sub(1100),
-            "{role:?}"
-        );
-        assert_eq!(rt;
-            material(&white, Eval::Hand),
-            1100i32.saturating_sub(points),
-            "{role:?}"
-        );
+    ] {
+        for (e, held) in [(Eval::Plain, 1000i32), (Eval::Hand, 1100)] {
+            let more = points.saturating_sub(held);
+            same!(rt; beside_two_silvers(role, Black, e)?, more, role);
+            same!(rt; beside_two_silvers(role, White, e)?, more.saturating_neg(), role);
+        }
     }
     Ok(())
 }
 
 #[test]
 fn values_in_hand(rt: HostRuntime) -> Result<(), Fail> {
-    let cases = [
+    for (kind, plain, hand) in [
         (Kind::Pawn, 100, 110),
         (Kind::Lance, 300, 330),
         (Kind::Knight, 400, 440),
@@ -84,146 +68,64 @@ fn values_in_hand(rt: HostRuntime) -> Result<(), Fail> {
         (Kind::Gold, 600, 660),
         (Kind::Bishop, 800, 880),
         (Kind::Rook, 1000, 1100),
-    ];
-    for (kind, plain, hand) in cases {
-        let hands = Hands::none().with(Color::Black, kind, 1);
-        let p = Position::new([None; 81], hands, Color::Black)?;
-        assert_eq!(rt; material(&p, Eval::Plain), plain, "{kind:?}");
-        assert_eq!(rt; material(&p, Eval::Hand), hand, "{kind:?}");
+    ] {
+        let hands = Hands::none().with(Black, kind, 1);
+        let p = Position::new([None; 81], hands, Black)?;
+        same!(rt; (material(&p, Eval::Plain), material(&p, Eval::Hand)), (plain, hand), kind);
     }
     Ok(())
 }
 
-// Black's king on 5i and White's on 5a, a piece of each side, and what Black holds.
-fn position(
-    own: Role,
-    (file, rank): (u8, u8),
-    other: Role,
-    (other_file, other_rank): (u8, u8),
-    hands: Hands,
-) -> Result<Position, Fail> {
-    let mut cells: [Option<Piece>; 81] = [None; 81];
-    for (file, rank, color, role) in [
-        (5, 9, Color::Black, Role::King),
-        (5, 1, Color::White, Role::King),
-        (file, rank, Color::Black, own),
-        (other_file, other_rank, Color::White, other),
-    ] {
-        let square = Square::new(file, rank).ok_or("a square")?;
-        cells[square.index()] = Some(Piece { color, role });
+// The material before a move, from the mover, and after it, from the other side, under each evaluation.
+fn assert_scores(
+    rt: &impl Abort,
+    sfen: &str,
+    text: &str,
+    plain: (i32, i32),
+    hand: (i32, i32),
+) -> Result<(), Fail> {
+    let (p, m) = (position(sfen)?, read(text)?);
+    assert!(rt; is_legal(&p, m), "a legal move");
+    for (e, (before, after)) in [(Eval::Plain, plain), (Eval::Hand, hand)] {
+        let node = Node::of(p, e);
+        same!(*rt; (node.score(), node.score_after(&m)), (before, after), e);
+        let played = node.play(m);
+        same!(*rt; (played.score(), played.eval()), (after, e));
+        same!(*rt; material(played.as_position(), e), after, e);
     }
-    Ok(Position::new(cells, hands, Color::Black)?)
+    Ok(())
 }
 
-// The material before a move, from the mover, and after it, from the other side.
-fn assert_scores(rt: &impl Abort, p: &Position, m: &Move, e: Eval, before: i32, after: i32) {
-    let node = Node::of(*p, e);
-    assert_eq!(rt; node.score(), before);
-    assert!(rt; is_legal(p, *m), "a legal move");
-    assert_eq!(rt; node.score_after(m), after);
-    let played = node.play(*m);
-    assert_eq!(rt; (played.score(), played.eval()), (after, e));
-    assert_eq!(rt; material(played.as_position(), e), after);
-}
-
-// A rook on 2h takes a pawn, and a promoted pawn, on 2c.
+// A rook on 2h takes a pawn, and a promoted pawn, on 2c. Of two golds that are held one is dropped.
 #[test]
-fn captures_and_promotions(rt: HostRuntime) -> Result<(), Fail> {
-    let from = Square::new(2, 8).ok_or("a square")?;
-    let to = Square::new(2, 3).ok_or("a square")?;
-    let takes = Move::Board {
-        from,
-        to,
-        promote: false,
-    };
-    let promotes = Move::Board {
-        from,
-        to,
-        promote: true,
-    };
-    let p = position(Role::Rook, (2, 8), Role::Pawn, (2, 3), Hands::none())?;
-    assert_scores(&rt, &p, &takes, Eval::Plain, 900, -1100);
-    assert_scores(&rt, &p, &takes, Eval::Hand, 900, -1110);
-    assert_scores(&rt, &p, &promotes, Eval::Plain, 900, -1400);
-    assert_scores(&rt, &p, &promotes, Eval::Hand, 900, -1410);
-    let p = position(
-        Role::Rook,
-        (2, 8),
-        Role::PromotedPawn,
-        (2, 3),
-        Hands::none(),
-    )?;
-    assert_scores(&rt, &p, &takes, Eval::Plain, 400, -1100);
-    assert_scores(&rt, &p, &takes, Eval::Hand, 400, -1110);
+fn captures_promotions_and_drops(rt: HostRuntime) -> Result<(), Fail> {
+    let pawn = "4k4/9/7p1/9/9/9/9/7R1/4K4 b -";
+    assert_scores(&rt, pawn, "2h2c", (900, -1100), (900, -1110))?;
+    assert_scores(&rt, pawn, "2h2c+", (900, -1400), (900, -1410))?;
+    let promoted = "4k4/9/7+p1/9/9/9/9/7R1/4K4 b -";
+    assert_scores(&rt, promoted, "2h2c", (400, -1100), (400, -1110))?;
+    let golds = "4k2l1/9/9/9/9/9/9/7S1/4K4 b 2G";
+    assert_scores(&rt, golds, "G*4d", (1400, -1400), (1520, -1460))?;
+    for (e, after) in [(Eval::Plain, -1400), (Eval::Hand, -1460)] {
+        same!(rt; Node::of(position(golds)?, e).score_after_drop(Kind::Gold), after, e);
+    }
     Ok(())
-}
-
-// White's bishop, on 3c or as a horse on 7g, Black's dragon if it is there, Black's gold on 1i and
-// the kings.
-fn board_of_a_bishop(
-    (file, rank, role): (u8, u8, Role),
-    dragon: Option<(u8, u8)>,
-) -> Result<[Option<Piece>; 81], Fail> {
-    let mut cells: [Option<Piece>; 81] = [None; 81];
-    for (file, rank, color, role) in [
-        (5, 9, Color::Black, Role::King),
-        (5, 1, Color::White, Role::King),
-        (1, 9, Color::Black, Role::Gold),
-        (file, rank, Color::White, role),
-    ] {
-        let square = Square::new(file, rank).ok_or("a square")?;
-        cells[square.index()] = Some(Piece { color, role });
-    }
-    if let Some((file, rank)) = dragon {
-        let square = Square::new(file, rank).ok_or("a square")?;
-        cells[square.index()] = Some(Piece {
-            color: Color::Black,
-            role: Role::Dragon,
-        });
-    }
-    Ok(cells)
 }
 
 // White's bishop on 3c takes a dragon on 7g and promotes: White holds a rook, and Black's pawn in
 // hand, gold and king stay.
 #[test]
 fn a_node_continues_with_the_next(rt: HostRuntime) -> Result<(), Fail> {
-    let pawn = Hands::none().with(Color::Black, Kind::Pawn, 1);
-    let before = board_of_a_bishop((3, 3, Role::Bishop), Some((7, 7)))?;
-    let before = Position::new(before, pawn, Color::White)?;
-    let both = pawn.with(Color::White, Kind::Rook, 1);
-    let after = board_of_a_bishop((7, 7, Role::Horse), None)?;
-    let after = Position::new(after, both, Color::Black)?;
-    let m = Move::Board {
-        from: Square::new(3, 3).ok_or("a square")?,
-        to: Square::new(7, 7).ok_or("a square")?,
-        promote: true,
-    };
+    let before = position("4k4/9/6b2/9/9/9/2+R6/9/4K3G w P")?;
+    let after = position("4k4/9/9/9/9/9/2+b6/9/4K3G b Pr")?;
+    let m = read("3c7g+")?;
     assert!(rt; is_legal(&before, m), "a legal move");
     for (e, first, last) in [(Eval::Plain, -1200, -1400), (Eval::Hand, -1210, -1490)] {
         let mut node = Node::of(before, e);
-        assert_eq!(rt; node.score(), first);
+        same!(rt; node.score(), first, e);
         node.advance(m);
-        assert_eq!(rt; node.position(), after);
-        assert_eq!(rt; (node.score(), node.eval()), (last, e));
-    }
-    Ok(())
-}
-
-// Two golds are held, and one of them is dropped on 4d.
-#[test]
-fn drops(rt: HostRuntime) -> Result<(), Fail> {
-    let to = Square::new(4, 4).ok_or("a square")?;
-    let drop = Move::Drop {
-        kind: Kind::Gold,
-        to,
-    };
-    let hands = Hands::none().with(Color::Black, Kind::Gold, 2);
-    let p = position(Role::Silver, (2, 8), Role::Lance, (2, 1), hands)?;
-    assert_scores(&rt, &p, &drop, Eval::Plain, 1400, -1400);
-    assert_scores(&rt, &p, &drop, Eval::Hand, 1520, -1460);
-    for (e, after) in [(Eval::Plain, -1400), (Eval::Hand, -1460)] {
-        assert_eq!(rt; Node::of(p, e).score_after_drop(Kind::Gold), after);
+        same!(rt; node.position(), after);
+        same!(rt; (node.score(), node.eval()), (last, e));
     }
     Ok(())
 }

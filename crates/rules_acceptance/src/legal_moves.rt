@@ -1,122 +1,25 @@
 //! Positions and counts that are known from elsewhere.
 
+ghost use Rattle.std.specs.Prelude.{◌≡◌, IfOk, true};
+ghost use Rattle.shogi_moves.specs.Legal.{is_legal};
+
+use crate::boards::{mask_of, position, read, square};
 use shogi_core::Color::{Black, White};
-use shogi_core::bits::with;
-use shogi_core::{Color, Hands, Kind, Move, Piece, Position, Role, Square};
+use shogi_core::{Kind, Move, Position};
 use shogi_moves::{
     BoardSweep, DropSweep, check_info_of, has_legal, in_check, is_attacked, is_legal, next_legal,
     perft, play, play_in_place, takers,
 };
 use shogi_replies::{Replies, escape_squares, king_takes, leaves_escape, leaves_king_move};
 use std::test::Fail;
-
-/// The kind of a letter as in SFEN.
-fn kind(letter: u8) -> Option<Kind> {
-    match letter.to_ascii_uppercase() {
-        b'P' => Some(Kind::Pawn),
-        b'L' => Some(Kind::Lance),
-        b'N' => Some(Kind::Knight),
-        b'S' => Some(Kind::Silver),
-        b'G' => Some(Kind::Gold),
-        b'B' => Some(Kind::Bishop),
-        b'R' => Some(Kind::Rook),
-        _ => None,
-    }
-}
-
-fn color(letter: u8) -> Color {
-    if letter.is_ascii_uppercase() {
-        Black
-    } else {
-        White
-    }
-}
-
-fn piece(letter: u8, promoted: bool) -> Piece {
-    let role = match kind(letter) {
-        Some(kind) => Role::from(kind),
-        None => Role::King,
-    };
-    Piece {
-        color: color(letter),
-        role: if promoted { role.promoted() } else { role },
-    }
-}
-
-/// The cells of a board as in SFEN.
-fn board(text: &[u8]) -> [Option<Piece>; 81] {
-    let mut cells = [None; 81];
-    let mut column: usize = 0;
-    let mut rank: usize = 0;
-    let mut promoted = false;
-    for letter in text {
-        match *letter {
-            b'/' => {
-                column = 0;
-                rank = rank.saturating_add(1);
-            }
-            b'+' => promoted = true,
-            b'1'..=b'9' => column = column.saturating_add((*letter - b'0') as usize),
-            _ => {
-                if column < 9 && rank < 9 {
-                    cells[(8 - column) * 9 + rank] = Some(piece(*letter, promoted));
-                }
-                column = column.saturating_add(1);
-                promoted = false;
-            }
-        }
-    }
-    cells
-}
-
-/// The position of a board as in SFEN, with a letter for each piece held.
-pub fn position(text: &[u8], held: &[u8], side: Color) -> Result<Position, &'static str> {
-    let mut hands = Hands::none();
-    for letter in held {
-        if let Some(kind) = kind(*letter) {
-            let side = color(*letter);
-            hands = hands.with(side, kind, hands.count(side, kind).saturating_add(1));
-        }
-    }
-    match Position::new(board(text), hands, side) {
-        Ok(position) => Ok(position),
-        Err(_) => Err("a valid position"),
-    }
-}
-
-/// The square of a digit and a letter as in USI.
-fn square(file: u8, rank: u8) -> Square {
-    let number = Square::new(file.saturating_sub(b'0'), rank.saturating_sub(b'a' - 1));
-    number.unwrap_or(Square::of_index(0))
-}
-
-/// The move of a text as in USI, with a space behind a shorter one.
-pub fn read(text: &[u8; 5]) -> Move {
-    let to = square(text[2], text[3]);
-    match kind(text[0]) {
-        Some(kind) => Move::Drop { kind, to },
-        None => Move::Board {
-            from: square(text[0], text[1]),
-            to,
-            promote: text[4] == b'+',
-        },
-    }
-}
+use test_support::{holds, same};
 
 /// Published numbers of sequences of moves.
 #[test]
 fn counts(rt: HostRuntime) -> Result<(), Fail> {
     let start = Position::start();
-    let most = position(
-        b"R8/2K1S1SSk/4B4/9/9/9/9/9/1L1L1L3",
-        b"RBGSNLPgggnnnppppppppppppppppp",
-        Black,
-    )?;
-    let middle = position(
-        b"l6nl/5+P1gk/2np1S3/p1p4Pp/3P2Sp1/1PPb2P1P/P5GS1/R8/LN4bKL",
-        b"RGgsnppppp",
-        White,
-    )?;
+    let most = position("R8/2K1S1SSk/4B4/9/9/9/9/9/1L1L1L3 b RBGSNLP3g3n17p")?;
+    let middle = position("l6nl/5+P1gk/2np1S3/p1p4Pp/3P2Sp1/1PPb2P1P/P5GS1/R8/LN4bKL w RGgsn5p")?;
     for (p, depth, count) in [
         (start, 0, 1),
         (start, 1, 30),
@@ -126,53 +29,47 @@ fn counts(rt: HostRuntime) -> Result<(), Fail> {
         (middle, 1, 207),
         (middle, 2, 28684),
     ] {
-        assert_eq!(rt; perft(&p, depth), Some(count), "at depth {depth}");
+        same!(rt; perft(&p, depth), Some(count), depth);
     }
     Ok(())
 }
 
-/// JSA playing rules, check.
+/// JSA playing rules, check: of a side with a pinned piece, in a single and in a double check, without a
+/// king, and without a move where it is not in check.
 #[test]
 fn checks(rt: HostRuntime) -> Result<(), Fail> {
-    let pinned = position(b"4r3k/9/9/9/9/9/9/4G4/4K4", b"", Black)?;
-    let single = position(b"4r3k/9/9/9/9/9/9/9/4K4", b"P", Black)?;
-    let double = position(b"4r3k/9/9/9/8b/9/9/9/4KG3", b"P", Black)?;
-    let kingless = position(b"4r3k/9/9/9/9/9/9/9/4G4", b"", Black)?;
-    let stuck = position(b"8k/6G2/7G1/9/9/9/9/9/9", b"", White)?;
-    for (p, check, legal) in [
-        (pinned, false, true),
-        (single, true, true),
-        (double, true, true),
-        (kingless, false, true),
-        (stuck, false, false),
+    for (sfen, check, legal) in [
+        ("4r3k/9/9/9/9/9/9/4G4/4K4 b -", false, true),
+        ("4r3k/9/9/9/9/9/9/9/4K4 b P", true, true),
+        ("4r3k/9/9/9/8b/9/9/9/4KG3 b P", true, true),
+        ("4r3k/9/9/9/9/9/9/9/4G4 b -", false, true),
+        ("8k/6G2/7G1/9/9/9/9/9/9 w -", false, false),
     ] {
-        assert_eq!(rt; (in_check(&p), has_legal(&p)), (check, legal));
+        let p = position(sfen)?;
+        same!(rt; (in_check(&p), has_legal(&p)), (check, legal), sfen);
     }
-    let king = square(b'5', b'i');
-    let beside = square(b'4', b'i');
-    assert!(rt; is_attacked(&single, king, White) && !is_attacked(&single, beside, White));
-    assert!(rt; !is_attacked(&single, king, Black));
+    let single = position("4r3k/9/9/9/9/9/9/9/4K4 b P")?;
+    let (king, beside) = (square("5i")?, square("4i")?);
+    holds!(rt; is_attacked(&single, king, White) && !is_attacked(&single, beside, White));
+    holds!(rt; !is_attacked(&single, king, Black));
     Ok(())
 }
 
-/// The first moves by code, and a captured promoted pawn.
+/// The first moves by code, and a captured promoted pawn. A pawn goes one square.
 #[test]
 fn steps(rt: HostRuntime) -> Result<(), Fail> {
     let start = Position::start();
     let first = next_legal(&start, None).ok_or("a move")?;
-    assert_eq!(rt; first, read(b"1g1f "));
+    same!(rt; first, read("1g1f")?);
     let second = next_legal(&start, Some(first)).ok_or("a second move")?;
-    assert_eq!(rt; second, read(b"1i1h "));
-    let p = position(b"4k4/9/9/4+p4/4P4/9/9/9/4K4", b"", Black)?;
-    let after = play(&p, read(b"5e5d ")).ok_or("a legal capture")?;
-    assert_eq!(rt; (after.hand(Black, Kind::Pawn), after.side()), (1, White));
-    assert!(rt;
-        play(&p, read(b"5e5c ")).is_none(),
-        "a pawn goes one square"
-    );
+    same!(rt; second, read("1i1h")?);
+    let p = position("4k4/9/9/4+p4/4P4/9/9/9/4K4 b -")?;
+    let after = play(&p, read("5e5d")?).ok_or("a legal capture")?;
+    same!(rt; (after.hand(Black, Kind::Pawn), after.side()), (1, White));
+    holds!(rt; play(&p, read("5e5c")?).is_none());
     let mut place = p;
-    assert!(rt; !play_in_place(&mut place, read(b"5e5c ")) && place.is_same(&p));
-    assert!(rt; play_in_place(&mut place, read(b"5e5d ")) && place.is_same(&after));
+    holds!(rt; !play_in_place(&mut place, read("5e5c")?) && place.is_same(&p));
+    holds!(rt; play_in_place(&mut place, read("5e5d")?) && place.is_same(&after));
     Ok(())
 }
 
@@ -180,36 +77,39 @@ fn steps(rt: HostRuntime) -> Result<(), Fail> {
 /// captures and drops.
 #[test]
 fn captures(rt: HostRuntime) -> Result<(), Fail> {
-    let p = position(b"4k4/9/9/4+p4/4P4/9/9/9/4K4", b"P", Black)?;
+    let p = position("4k4/9/9/4+p4/4P4/9/9/9/4K4 b P")?;
     let mut captures = BoardSweep::new(&p, check_info_of(&p), true);
-    assert!(rt; captures.fill(&p, true));
-    assert_eq!(rt; captures.next(&p, true), Some(read(b"5e5d ")));
-    assert!(rt; !captures.fill(&p, true) && captures.next(&p, true).is_none());
+    holds!(rt; captures.fill(&p, true));
+    same!(rt; captures.next(&p, true), Some(read("5e5d")?));
+    holds!(rt; !captures.fill(&p, true) && captures.next(&p, true).is_none());
     let mut quiets = BoardSweep::new(&p, check_info_of(&p), false);
-    assert_eq!(rt; quiets.next(&p, false), Some(read(b"5i4h ")));
+    same!(rt; quiets.next(&p, false), Some(read("5i4h")?));
     let mut drops = DropSweep::new(&p, check_info_of(&p));
-    assert!(rt; drops.fill(&p));
-    assert_eq!(rt; drops.next(&p), Some(read(b"P*1b ")));
+    holds!(rt; drops.fill(&p));
+    same!(rt; drops.next(&p), Some(read("P*1b")?));
     let start = Position::start();
-    let mut captures = BoardSweep::new(&start, check_info_of(&start), true);
-    assert!(rt; captures.next(&start, true).is_none());
-    let mut quiets = BoardSweep::new(&start, check_info_of(&start), false);
-    assert_eq!(rt; quiets.next(&start, false), Some(read(b"1g1f ")));
-    assert!(rt;
-        DropSweep::new(&start, check_info_of(&start))
-            .next(&start)
-            .is_none()
-    );
+    let info = check_info_of(&start);
+    holds!(rt; BoardSweep::new(&start, info, true).next(&start, true).is_none());
+    let mut quiets = BoardSweep::new(&start, info, false);
+    same!(rt; quiets.next(&start, false), Some(read("1g1f")?));
+    holds!(rt; DropSweep::new(&start, info).next(&start).is_none());
     Ok(())
 }
 
-/// Whether it is decided without making the move that it leaves a reply.
-fn leaves_reply(board: &[u8], text: &[u8; 5]) -> Result<bool, Fail> {
-    let p = position(board, b"", Black)?;
-    let m = read(text);
+/// A position and a legal move.
+fn legal(sfen: &str, text: &str) -> Result<(Position, Move), Fail>
+    ensures { IfOk result (λ pair. is_legal pair.0 pair.1 ≡ true) }
+{
+    let (p, m) = (position(sfen)?, read(text)?);
     if !is_legal(&p, m) {
         return Err("a legal move".into());
     }
+    Ok((p, m))
+}
+
+/// Whether it is decided without making the move that it leaves a reply.
+fn leaves_reply(sfen: &str, text: &str) -> Result<bool, Fail> {
+    let (p, m) = legal(sfen, text)?;
     Ok(Replies::of(&p).is_certain(&p, &m))
 }
 
@@ -217,19 +117,18 @@ fn leaves_reply(board: &[u8], text: &[u8; 5]) -> Result<bool, Fail> {
 /// a rook that then gives check, or with a bishop elsewhere.
 #[test]
 fn moves_off_a_line_of_a_king(rt: HostRuntime) -> Result<(), Fail> {
-    for (board, certain) in [
-        (&b"4k4/9/7p1/9/4S4/9/9/9/K3G4"[..], true),
-        (b"4k4/9/7p1/9/4S4/9/9/9/K3R4", false),
-        (b"4k4/9/2p4p1/9/B1P1S4/9/9/9/K8", true),
-        (b"4k4/9/7p1/9/4S4/9/9/4P4/K3R4", true),
-        (b"4k4/4p4/7p1/9/4S4/9/9/9/K3R4", true),
+    for (sfen, text, certain) in [
+        ("4k4/9/7p1/9/4S4/9/9/9/K3G4 b -", "5e4d", true),
+        ("4k4/9/7p1/9/4S4/9/9/9/K3R4 b -", "5e4d", false),
+        ("4k4/9/2p4p1/9/B1P1S4/9/9/9/K8 b -", "5e4d", true),
+        ("4k4/9/7p1/9/4S4/9/9/4P4/K3R4 b -", "5e4d", true),
+        ("4k4/4p4/7p1/9/4S4/9/9/9/K3R4 b -", "5e4d", true),
+        // The king elsewhere, and a lance behind.
+        ("4k4/9/7p1/9/4S4/9/9/9/K3R4 b -", "9i8h", true),
+        ("4k4/9/7p1/9/9/9/9/4S4/K3L4 b -", "5h4g", false),
     ] {
-        assert_eq!(rt; leaves_reply(board, b"5e4d ")?, certain, "{board:?}");
+        same!(rt; leaves_reply(sfen, text)?, certain, (sfen, text));
     }
-    let other = b"4k4/9/7p1/9/4S4/9/9/9/K3R4";
-    assert!(rt; leaves_reply(other, b"9i8h ")?, "the king elsewhere");
-    let lance = b"4k4/9/7p1/9/9/9/9/4S4/K3L4";
-    assert!(rt; !leaves_reply(lance, b"5h4g ")?, "a lance behind");
     Ok(())
 }
 
@@ -238,28 +137,23 @@ fn moves_off_a_line_of_a_king(rt: HostRuntime) -> Result<(), Fail> {
 /// the file.
 #[test]
 fn moves_of_a_slider_off_a_line_of_a_king(rt: HostRuntime) -> Result<(), Fail> {
-    let horse = b"4k4/9/2p4p1/9/4+B4/9/9/9/K8";
-    for (text, certain) in [
-        (b"5e4d ", true),
-        (b"5e2h ", true),
-        (b"5e1a ", false),
-        (b"5e5d ", false),
-        (b"5e3c ", false),
+    let horse = "4k4/9/2p4p1/9/4+B4/9/9/9/K8 b -";
+    for (sfen, text, certain) in [
+        (horse, "5e4d", true),
+        (horse, "5e2h", true),
+        (horse, "5e1a", false),
+        (horse, "5e5d", false),
+        (horse, "5e3c", false),
+        ("4k4/9/2p4p1/9/4+B4/9/9/9/K3R4 b -", "5e4d", false),
     ] {
-        assert_eq!(rt; leaves_reply(horse, text)?, certain, "{text:?}");
+        same!(rt; leaves_reply(sfen, text)?, certain, (sfen, text));
     }
-    let rook = b"4k4/9/2p4p1/9/4+B4/9/9/9/K3R4";
-    assert!(rt; !leaves_reply(rook, b"5e4d ")?, "a rook behind");
     Ok(())
 }
 
 /// Whether it is decided without making the move that it leaves the other king a way out.
-fn leaves_way_out(board: &[u8], hand: &[u8], text: &[u8; 5]) -> Result<bool, Fail> {
-    let p = position(board, hand, Black)?;
-    let m = read(text);
-    if !is_legal(&p, m) {
-        return Err("a legal move".into());
-    }
+fn leaves_way_out(sfen: &str, text: &str) -> Result<bool, Fail> {
+    let (p, m) = legal(sfen, text)?;
     Ok(leaves_escape(&p, escape_squares(&p), &m))
 }
 
@@ -269,28 +163,24 @@ fn leaves_way_out(board: &[u8], hand: &[u8], text: &[u8; 5]) -> Result<bool, Fai
 /// square, behind it. And without a king there is no such square.
 #[test]
 fn ways_out_of_a_check(rt: HostRuntime) -> Result<(), Fail> {
-    for (board, hand, text, left) in [
-        (&b"4k4/9/9/9/9/9/9/9/K7R"[..], &b""[..], b"1i1a ", true),
-        (b"4k4/9/9/9/9/9/9/9/K8", b"S", b"S*5b ", true),
-        (b"4k4/9/4P4/9/9/9/9/9/K8", b"G", b"G*5b ", false),
-        (b"4k4/R1G6/6N2/9/9/9/9/9/K8", b"", b"7b6a ", false),
-        (b"4kg3/9/9/9/9/9/9/9/K8", b"B", b"B*6b ", true),
-        (b"3s1s3/3gkg3/3g1g3/9/9/9/9/9/K8", b"R", b"R*5e ", false),
-        (b"9/9/9/9/9/9/9/9/K7R", b"", b"1i1a ", false),
+    for (sfen, text, left) in [
+        ("4k4/9/9/9/9/9/9/9/K7R b -", "1i1a", true),
+        ("4k4/9/9/9/9/9/9/9/K8 b S", "S*5b", true),
+        ("4k4/9/4P4/9/9/9/9/9/K8 b G", "G*5b", false),
+        ("4k4/R1G6/6N2/9/9/9/9/9/K8 b -", "7b6a", false),
+        ("4kg3/9/9/9/9/9/9/9/K8 b B", "B*6b", true),
+        ("3s1s3/3gkg3/3g1g3/9/9/9/9/9/K8 b R", "R*5e", false),
+        ("9/9/9/9/9/9/9/9/K7R b -", "1i1a", false),
     ] {
-        assert_eq!(rt; leaves_way_out(board, hand, text)?, left, "{board:?}");
+        same!(rt; leaves_way_out(sfen, text)?, left, sfen);
     }
     Ok(())
 }
 
 /// Whether it is decided without making the move that the other king may go on a line with the
 /// square that is left, or take what is dropped.
-fn leaves_way_on_line(board: &[u8], hand: &[u8], text: &[u8; 5]) -> Result<bool, Fail> {
-    let p = position(board, hand, Black)?;
-    let m = read(text);
-    if !is_legal(&p, m) {
-        return Err("a legal move".into());
-    }
+fn leaves_way_on_line(sfen: &str, text: &str) -> Result<bool, Fail> {
+    let (p, m) = legal(sfen, text)?;
     Ok(leaves_king_move(&p, escape_squares(&p), &m))
 }
 
@@ -299,29 +189,20 @@ fn leaves_way_on_line(board: &[u8], hand: &[u8], text: &[u8; 5]) -> Result<bool,
 /// unless a pawn protects it.
 #[test]
 fn ways_out_on_lines_and_of_drops(rt: HostRuntime) -> Result<(), Fail> {
-    for (board, hand, text, left) in [
-        (
-            &b"3lkl3/3p1p3/9/9/4N4/9/9/9/K8"[..],
-            &b""[..],
-            b"5e4c ",
-            true,
-        ),
-        (b"3lkl3/3p1p3/9/9/4N4/9/9/9/K3R4", b"", b"5e4c ", false),
-        (b"4k4/9/9/9/9/9/9/9/K8", b"G", b"G*5b ", true),
-        (b"4k4/9/4P4/9/9/9/9/9/K8", b"G", b"G*5b ", false),
+    for (sfen, text, left) in [
+        ("3lkl3/3p1p3/9/9/4N4/9/9/9/K8 b -", "5e4c", true),
+        ("3lkl3/3p1p3/9/9/4N4/9/9/9/K3R4 b -", "5e4c", false),
+        ("4k4/9/9/9/9/9/9/9/K8 b G", "G*5b", true),
+        ("4k4/9/4P4/9/9/9/9/9/K8 b G", "G*5b", false),
     ] {
-        assert_eq!(rt; leaves_way_on_line(board, hand, text)?, left, "{board:?}");
+        same!(rt; leaves_way_on_line(sfen, text)?, left, sfen);
     }
     Ok(())
 }
 
 /// Whether it is decided without making the move that the other king may take what moves.
-fn lets_king_take(board: &[u8], text: &[u8; 5]) -> Result<bool, Fail> {
-    let p = position(board, b"", Black)?;
-    let m = read(text);
-    if !is_legal(&p, m) {
-        return Err("a legal move".into());
-    }
+fn lets_king_take(sfen: &str, text: &str) -> Result<bool, Fail> {
+    let (p, m) = legal(sfen, text)?;
     Ok(king_takes(&p, &m))
 }
 
@@ -330,14 +211,14 @@ fn lets_king_take(board: &[u8], text: &[u8; 5]) -> Result<bool, Fail> {
 /// not reach a rook that gives check from afar.
 #[test]
 fn pieces_that_a_king_takes(rt: HostRuntime) -> Result<(), Fail> {
-    for (board, text, taken) in [
-        (&b"4k4/9/4G4/9/9/9/9/9/K8"[..], b"5c5b ", true),
-        (b"4k4/4p4/4G4/9/9/9/9/9/K8", b"5c5b ", true),
-        (b"4k4/9/4G4/5N3/9/9/9/9/K8", b"5c5b ", false),
-        (b"4k4/9/4G4/9/9/9/9/9/K3R4", b"5c5b ", false),
-        (b"4k4/9/9/9/9/9/9/9/K7R", b"1i1a ", false),
+    for (sfen, text, taken) in [
+        ("4k4/9/4G4/9/9/9/9/9/K8 b -", "5c5b", true),
+        ("4k4/4p4/4G4/9/9/9/9/9/K8 b -", "5c5b", true),
+        ("4k4/9/4G4/5N3/9/9/9/9/K8 b -", "5c5b", false),
+        ("4k4/9/4G4/9/9/9/9/9/K3R4 b -", "5c5b", false),
+        ("4k4/9/9/9/9/9/9/9/K7R b -", "1i1a", false),
     ] {
-        assert_eq!(rt; lets_king_take(board, text)?, taken, "{board:?}");
+        same!(rt; lets_king_take(sfen, text)?, taken, sfen);
     }
     Ok(())
 }
@@ -346,13 +227,8 @@ fn pieces_that_a_king_takes(rt: HostRuntime) -> Result<(), Fail> {
 /// are far from all that could be taken, and are left out.
 #[test]
 fn pieces_that_may_take(rt: HostRuntime) -> Result<(), Fail> {
-    let p = position(b"4k4/4p4/4G4/9/9/4G4/9/8L/K8", b"", Black)?;
-    let gold = square(b'5', b'c').index();
-    let lance = square(b'1', b'h').index();
-    assert_eq!(rt;
-        takers(&p, p.as_board().own(Black)),
-        with(with(0, gold), lance)
-    );
-    assert_eq!(rt; takers(&p, 0), 0);
+    let p = position("4k4/4p4/4G4/9/9/4G4/9/8L/K8 b -")?;
+    same!(rt; takers(&p, p.as_board().own(Black)), mask_of("5c 1h")?);
+    same!(rt; takers(&p, 0), 0);
     Ok(())
 }

@@ -3,6 +3,10 @@
 #![tactic(auto)]
 
 #[cfg(test)]
+mod assertions;
+#[cfg(test)]
+mod boards;
+#[cfg(test)]
 mod comparison;
 #[cfg(test)]
 mod evaluation;

@@ -1,12 +1,12 @@
 //! Moves of one sort that are passed in a row.
 
-use crate::legal_moves::{position, read};
-use shogi_core::Color::Black;
-use shogi_core::bits::{ALL_SQUARES, with, without};
-use shogi_core::{Move, Position, Square};
+use crate::boards::{mask_of, position, read};
+use shogi_core::bits::ALL_SQUARES;
+use shogi_core::{Move, Position};
 use shogi_moves::{BoardSweep, DropSweep, check_info_of};
 use shogi_replies::{Replies, Row, escape_squares};
 use std::test::Fail;
+use test_support::holds;
 
 /// The first move on the board of the kind that is not passed, of some pieces, where moves without
 /// promotion may end on some squares, and moves with promotion on others.
@@ -36,43 +36,43 @@ fn first_left(p: &Position, capture: bool, plain: u128, promoting: u128) -> Opti
 /// Each of the 30 moves of the opening position takes nothing, promotes nothing and is answered.
 #[test]
 fn quiet_moves_of_the_opening_position(rt: HostRuntime) {
-    assert!(rt; first_left(&Position::start(), false, ALL_SQUARES, 0).is_none());
+    holds!(rt; first_left(&Position::start(), false, ALL_SQUARES, 0).is_none());
 }
 
 /// The pawn on 6e has one move, and no line of the king goes there. The next to move is the pawn on
 /// 7d, which may promote; no move of it, or of the king, gives check.
 #[test]
 fn quiet_moves_and_a_promotion(rt: HostRuntime) -> Result<(), Fail> {
-    let p = position(b"8k/9/9/2P6/3P3p1/9/9/K8/9", b"", Black)?;
-    assert!(rt; first_left(&p, false, ALL_SQUARES, 0) == Some(read(b"7d7c ")));
-    assert!(rt; first_left(&p, false, ALL_SQUARES, ALL_SQUARES).is_none());
-    assert!(rt; first_left(&p, false, 0, ALL_SQUARES) == Some(read(b"6e6d ")));
+    let p = position("8k/9/9/2P6/3P3p1/9/9/K8/9 b -")?;
+    holds!(rt; first_left(&p, false, ALL_SQUARES, 0) == Some(read("7d7c")?));
+    holds!(rt; first_left(&p, false, ALL_SQUARES, ALL_SQUARES).is_none());
+    holds!(rt; first_left(&p, false, 0, ALL_SQUARES) == Some(read("6e6d")?));
     Ok(())
 }
 
 /// The one capture, of 5d, gives no check, and leaves the other side a pawn with a move.
 #[test]
 fn a_capture(rt: HostRuntime) -> Result<(), Fail> {
-    let p = position(b"2k6/9/9/4p4/4P4/8p/9/9/K8", b"", Black)?;
-    let taken = with(0, Square::new(5, 4).ok_or("a square")?.index());
-    assert!(rt; first_left(&p, true, ALL_SQUARES, 0).is_none());
-    assert!(rt; first_left(&p, true, taken, 0).is_none());
-    assert!(rt; first_left(&p, true, ALL_SQUARES & !taken, 0) == Some(read(b"5e5d ")));
+    let p = position("2k6/9/9/4p4/4P4/8p/9/9/K8 b -")?;
+    let taken = mask_of("5d")?;
+    holds!(rt; first_left(&p, true, ALL_SQUARES, 0).is_none());
+    holds!(rt; first_left(&p, true, taken, 0).is_none());
+    holds!(rt; first_left(&p, true, ALL_SQUARES & !taken, 0) == Some(read("5e5d")?));
     Ok(())
 }
 
 /// The same with a promotion.
 #[test]
 fn a_capture_with_promotion(rt: HostRuntime) -> Result<(), Fail> {
-    let p = position(b"2k6/9/4p4/4P4/9/8p/9/9/K8", b"", Black)?;
-    assert!(rt; first_left(&p, true, ALL_SQUARES, 0) == Some(read(b"5d5c ")));
-    assert!(rt; first_left(&p, true, ALL_SQUARES, ALL_SQUARES).is_none());
+    let p = position("2k6/9/4p4/4P4/9/8p/9/9/K8 b -")?;
+    holds!(rt; first_left(&p, true, ALL_SQUARES, 0) == Some(read("5d5c")?));
+    holds!(rt; first_left(&p, true, ALL_SQUARES, ALL_SQUARES).is_none());
     Ok(())
 }
 
 /// The first move that takes nothing, does not promote and is not passed.
-fn first_quiet(board: &[u8]) -> Result<Option<Move>, Fail> {
-    Ok(first_left(&position(board, b"", Black)?, false, ALL_SQUARES, 0))
+fn first_quiet(sfen: &str) -> Result<Option<Move>, Fail> {
+    Ok(first_left(&position(sfen)?, false, ALL_SQUARES, 0))
 }
 
 /// The horse goes to 1a first, on a rank with the king. Where the king is hemmed in by its own
@@ -81,10 +81,10 @@ fn first_quiet(board: &[u8]) -> Result<Option<Move>, Fail> {
 /// checks on 3c and 5d as well; no move of the own king gives check.
 #[test]
 fn quiet_moves_of_a_slider(rt: HostRuntime) -> Result<(), Fail> {
-    let hemmed_in = b"3lkl3/3p1p3/2p4p1/9/4+B4/9/9/9/K8";
-    assert!(rt; first_quiet(hemmed_in)? == Some(read(b"5e1a ")));
-    let free = b"4k4/9/2p4p1/9/4+B4/9/9/9/K8";
-    assert!(rt; first_quiet(free)?.is_none());
+    let hemmed_in = "3lkl3/3p1p3/2p4p1/9/4+B4/9/9/9/K8 b -";
+    holds!(rt; first_quiet(hemmed_in)? == Some(read("5e1a")?));
+    let free = "4k4/9/2p4p1/9/4+B4/9/9/9/K8 b -";
+    holds!(rt; first_quiet(free)?.is_none());
     Ok(())
 }
 
@@ -92,17 +92,16 @@ fn quiet_moves_of_a_slider(rt: HostRuntime) -> Result<(), Fail> {
 /// none of its moves is passed, of which that to 2b is the first.
 #[test]
 fn quiet_moves_of_some_pieces(rt: HostRuntime) -> Result<(), Fail> {
-    let p = position(b"4k4/9/6G2/9/7p1/9/9/9/K8", b"", Black)?;
-    let gold = Square::new(3, 3).ok_or("a square")?.index();
-    let others = without(ALL_SQUARES, gold);
-    assert!(rt; first_left(&p, false, ALL_SQUARES, 0).is_none());
-    assert!(rt; first_of(&p, false, others, ALL_SQUARES, 0) == Some(read(b"3c2b ")));
+    let p = position("4k4/9/6G2/9/7p1/9/9/9/K8 b -")?;
+    let others = ALL_SQUARES & !mask_of("3c")?;
+    holds!(rt; first_left(&p, false, ALL_SQUARES, 0).is_none());
+    holds!(rt; first_of(&p, false, others, ALL_SQUARES, 0) == Some(read("3c2b")?));
     Ok(())
 }
 
 /// The first drop of a pawn that is not passed.
-fn first_drop(board: &[u8]) -> Result<Option<Move>, Fail> {
-    let p = position(board, b"P", Black)?;
+fn first_drop(sfen: &str) -> Result<Option<Move>, Fail> {
+    let p = position(sfen)?;
     let mut sweep = DropSweep::new(&p, check_info_of(&p));
     Replies::of(&p).pass_drops(&p, ALL_SQUARES, escape_squares(&p), &mut sweep);
     Ok(sweep.next(&p))
@@ -112,9 +111,9 @@ fn first_drop(board: &[u8]) -> Result<Option<Move>, Fail> {
 /// take it, which nothing shows; one that is free may step aside.
 #[test]
 fn drops_of_a_pawn(rt: HostRuntime) -> Result<(), Fail> {
-    let hemmed_in = b"3lkl3/3p1p3/9/9/7p1/9/9/9/K8";
-    assert!(rt; first_drop(hemmed_in)? == Some(read(b"P*5b ")));
-    let free = b"4k4/9/9/9/7p1/9/9/9/K8";
-    assert!(rt; first_drop(free)?.is_none());
+    let hemmed_in = "3lkl3/3p1p3/9/9/7p1/9/9/9/K8 b P";
+    holds!(rt; first_drop(hemmed_in)? == Some(read("P*5b")?));
+    let free = "4k4/9/9/9/7p1/9/9/9/K8 b P";
+    holds!(rt; first_drop(free)?.is_none());
     Ok(())
 }

@@ -1,47 +1,31 @@
 //! Outside values: codes and indices by hand, the opening position, faults and moves of pieces of
 //! the rule book.
 
-use shogi_core::bits::has;
+use crate::boards::{Placed, board, mask_of, square};
+use shogi_core::Color::{Black, White};
+use shogi_core::bits::{has, with};
 use shogi_core::{
     Board, Color, Hands, Kind, Move, Piece, Position, PositionFault, Role, Square, aligned_squares,
 };
 use std::test::Fail;
-
-/// A piece of a side on the square of a file and a rank.
-type Placed = (Color, Role, u8, u8);
-
-fn square(file: u8, rank: u8) -> Result<Square, Fail> {
-    Ok(Square::new(file, rank).ok_or("a square of the board")?)
-}
-
-fn board(pieces: &[Placed]) -> Result<Board, Fail> {
-    let mut board = Board::of([None; 81]);
-    for (color, role, file, rank) in pieces {
-        let piece = Piece {
-            color: *color,
-            role: *role,
-        };
-        board = board.put(square(*file, *rank)?, Some(piece));
-    }
-    Ok(board)
-}
+use test_support::{holds, same};
 
 #[test]
 fn squares_by_file_and_rank(rt: HostRuntime) -> Result<(), Fail> {
     for (file, rank, index) in [(1, 1, 0), (1, 9, 8), (5, 1, 36), (9, 9, 80)] {
-        let found = square(file, rank)?;
-        assert_eq!(rt; found.index(), index, "{file} {rank}");
-        assert_eq!(rt; (found.file(), found.rank()), (file, rank));
+        let found = Square::new(file, rank).ok_or("a square")?;
+        same!(rt; found.index(), index, (file, rank));
+        same!(rt; (found.file(), found.rank()), (file, rank));
     }
     for (file, rank) in [(0, 1), (1, 0), (10, 1), (1, 10)] {
-        assert!(rt; Square::new(file, rank).is_none(), "{file} {rank}");
+        holds!(rt; Square::new(file, rank).is_none(), (file, rank));
     }
     Ok(())
 }
 
 /// Squares on one file, on one rank, or as many files as ranks apart.
 #[test]
-fn squares_on_lines(rt: HostRuntime) -> Result<(), Fail> {
+fn squares_on_lines(rt: HostRuntime) {
     for from in 0..81 {
         let lines = aligned_squares(from);
         for to in 0..81 {
@@ -49,30 +33,28 @@ fn squares_on_lines(rt: HostRuntime) -> Result<(), Fail> {
             let files = a.file().abs_diff(b.file());
             let ranks = a.rank().abs_diff(b.rank());
             let aligned = from != to && (files == 0 || ranks == 0 || files == ranks);
-            assert_eq!(rt; has(lines, to), aligned, "{from} {to}");
+            same!(rt; has(lines, to), aligned, (from, to));
         }
     }
-    Ok(())
 }
 
 #[test]
 fn codes_of_moves(rt: HostRuntime) -> Result<(), Fail> {
-    let table = [(1, 1, 1, 2, 2), (1, 7, 1, 6, 982)];
-    for (from_file, from_rank, to_file, to_rank, code) in table {
+    for (from, to, code) in [("1a", "1b", 2), ("1g", "1f", 982)] {
         let step = Move::Board {
-            from: square(from_file, from_rank)?,
-            to: square(to_file, to_rank)?,
+            from: square(from)?,
+            to: square(to)?,
             promote: false,
         };
-        assert_eq!(rt; step.code(), code);
+        same!(rt; step.code(), code);
     }
     let drop = Move::Drop {
         kind: Kind::Gold,
-        to: square(5, 2)?,
+        to: square("5b")?,
     };
-    assert_eq!(rt; drop.code(), 13483);
-    assert!(rt; Move::of_code(13688).is_some());
-    assert!(rt; Move::of_code(13689).is_none());
+    same!(rt; drop.code(), 13483);
+    holds!(rt; Move::of_code(13688).is_some());
+    holds!(rt; Move::of_code(13689).is_none());
     Ok(())
 }
 
@@ -90,274 +72,185 @@ fn opening_position(rt: HostRuntime) -> Result<(), Fail> {
         Role::Knight,
         Role::Lance,
     ];
-    let mut pieces = 0u32;
-    for index in 0..81 {
-        pieces = pieces.saturating_add(u32::from(start.at(Square::of_index(index)).is_some()));
-    }
-    assert_eq!(rt; pieces, 40);
-    for file in 1..10u8 {
-        let role = back[file as usize - 1];
-        let expected = [
-            (Color::White, role, 1),
-            (Color::White, Role::Pawn, 3),
-            (Color::Black, Role::Pawn, 7),
-            (Color::Black, role, 9),
-        ];
-        for (color, role, rank) in expected {
-            assert_eq!(rt;
-                start.at(square(file, rank)?),
-                Some(Piece { color, role }),
-                "{file} {rank}"
-            );
+    let mut wanted = board(&[
+        (Black, Role::Bishop, "8h"),
+        (Black, Role::Rook, "2h"),
+        (White, Role::Bishop, "2b"),
+        (White, Role::Rook, "8b"),
+    ])?;
+    for (file, role) in (1..10u8).zip(back) {
+        for (color, role, rank) in [
+            (White, role, 1),
+            (White, Role::Pawn, 3),
+            (Black, Role::Pawn, 7),
+            (Black, role, 9),
+        ] {
+            let at = Square::new(file, rank).ok_or("a square")?;
+            wanted = wanted.put(at, Some(Piece { color, role }));
         }
     }
-    let far = [
-        (Color::Black, Role::Bishop, 8, 8),
-        (Color::Black, Role::Rook, 2, 8),
-        (Color::White, Role::Bishop, 2, 2),
-        (Color::White, Role::Rook, 8, 2),
-    ];
-    for (color, role, file, rank) in far {
-        assert_eq!(rt;
-            start.at(square(file, rank)?),
-            Some(Piece { color, role }),
-            "{file} {rank}"
-        );
-    }
-    assert_eq!(rt; start.side(), Color::Black);
-    assert_eq!(rt; start.hand(Color::White, Kind::Pawn), 0);
-    assert!(rt; start.reaches(square(7, 7)?, square(7, 6)?));
+    holds!(rt; *start.board().cells() == *wanted.cells());
+    same!(rt; start.side(), Black);
+    same!(rt; start.hand(White, Kind::Pawn), 0);
+    holds!(rt; start.reaches(square("7g")?, square("7f")?));
     Ok(())
 }
 
 /// The fault of a position of these pieces, with the pawns in Black's hand, and Black to move.
-fn fault(pieces: &[Placed], pawns: u8) -> Result<Option<PositionFault>, Fail> {
-    let hands = Hands::none().with(Color::Black, Kind::Pawn, pawns);
-    Ok(Position::new(*board(pieces)?.cells(), hands, Color::Black).err())
+fn fault(pieces: &[Placed<'_>], pawns: u8) -> Result<Option<PositionFault>, Fail> {
+    let hands = Hands::none().with(Black, Kind::Pawn, pawns);
+    Ok(Position::new(*board(pieces)?.cells(), hands, Black).err())
 }
 
 #[test]
 fn faults_of_positions(rt: HostRuntime) -> Result<(), Fail> {
-    let black_king = (Color::Black, Role::King, 5, 9);
-    let white_king = (Color::White, Role::King, 5, 1);
-    assert_eq!(rt; fault(&[], 18)?, None, "no king on either side");
-    assert_eq!(rt; fault(&[black_king, white_king], 0)?, None);
-    assert_eq!(rt; fault(&[], 19)?, Some(PositionFault::TooMany));
-    let promoted = (Color::White, Role::PromotedPawn, 3, 3);
-    assert_eq!(rt;
-        fault(&[promoted], 17)?,
-        None,
-        "17 in hand and a promoted one"
-    );
-    assert_eq!(rt;
-        fault(&[promoted], 18)?,
-        Some(PositionFault::TooMany),
-        "promoted ones count"
-    );
-    let second_king = (Color::Black, Role::King, 4, 9);
-    assert_eq!(rt;
-        fault(&[white_king, black_king, second_king], 0)?,
-        Some(PositionFault::TwoKings)
-    );
-    assert_eq!(rt;
-        fault(&[black_king, second_king], 19)?,
-        Some(PositionFault::TooMany),
-        "the first of two"
-    );
-    let pawns = [
-        black_king,
-        (Color::Black, Role::Pawn, 5, 4),
-        (Color::Black, Role::Pawn, 5, 6),
+    let king = (Black, Role::King, "5i");
+    let white_king = (White, Role::King, "5a");
+    let second_king = (Black, Role::King, "4i");
+    let promoted = (White, Role::PromotedPawn, "3c");
+    let (one, other) = ((Black, Role::Pawn, "5d"), (Black, Role::Pawn, "5f"));
+    let rows: [(&[Placed<'_>], u8, Option<PositionFault>); 13] = [
+        // No king on either side.
+        (&[], 18, None),
+        (&[king, white_king], 0, None),
+        (&[], 19, Some(PositionFault::TooMany)),
+        // Promoted ones count.
+        (&[promoted], 17, None),
+        (&[promoted], 18, Some(PositionFault::TooMany)),
+        (
+            &[white_king, king, second_king],
+            0,
+            Some(PositionFault::TwoKings),
+        ),
+        // The first of two.
+        (&[king, second_king], 19, Some(PositionFault::TooMany)),
+        (&[king, one, other], 0, Some(PositionFault::TwoPawns)),
+        (
+            &[(White, Role::Pawn, "5i")],
+            0,
+            Some(PositionFault::DeadPiece),
+        ),
+        (
+            &[(Black, Role::Lance, "4a")],
+            0,
+            Some(PositionFault::DeadPiece),
+        ),
+        (
+            &[(Black, Role::Knight, "3b")],
+            0,
+            Some(PositionFault::DeadPiece),
+        ),
+        (
+            &[(White, Role::Knight, "3h")],
+            0,
+            Some(PositionFault::DeadPiece),
+        ),
+        (
+            &[white_king, (Black, Role::Pawn, "5b")],
+            0,
+            Some(PositionFault::KingOpen),
+        ),
     ];
-    assert_eq!(rt; fault(&pawns, 0)?, Some(PositionFault::TwoPawns));
-    let dead = [
-        (Color::White, Role::Pawn, 5, 9),
-        (Color::Black, Role::Lance, 4, 1),
-        (Color::Black, Role::Knight, 3, 2),
-        (Color::White, Role::Knight, 3, 8),
-    ];
-    for placed in dead {
-        assert_eq!(rt; fault(&[placed], 0)?, Some(PositionFault::DeadPiece));
+    for (at, (pieces, pawns, wanted)) in rows.iter().enumerate() {
+        same!(rt; fault(pieces, *pawns)?, *wanted, at);
     }
-    let attacked = [white_king, (Color::Black, Role::Pawn, 5, 2)];
-    assert_eq!(rt; fault(&attacked, 0)?, Some(PositionFault::KingOpen));
     let both_hands = Hands::none()
-        .with(Color::Black, Kind::Rook, 1)
-        .with(Color::White, Kind::Rook, 2);
-    let fault = Position::new([None; 81], both_hands, Color::White).err();
-    assert_eq!(rt; fault, Some(PositionFault::TooMany), "both hands together");
-    assert_eq!(rt; PositionFault::KingOpen.number(), 8);
+        .with(Black, Kind::Rook, 1)
+        .with(White, Kind::Rook, 2);
+    let fault = Position::new([None; 81], both_hands, White).err();
+    same!(rt; fault, Some(PositionFault::TooMany), "both hands together");
+    same!(rt; PositionFault::KingOpen.number(), 8);
     Ok(())
 }
 
-/// Whether the piece, alone on 5e, reaches exactly these squares as Black, and their mirror images
-/// as White.
-fn reaches_only(role: Role, targets: &[(u8, u8)]) -> Result<bool, Fail> {
-    let center = square(5, 5)?;
+/// The squares that the piece of the side, alone on 5e, reaches, seen from its side: ranks are turned for
+/// White.
+fn reached(color: Color, role: Role) -> Result<u128, Fail> {
+    let board = board(&[(color, role, "5e")])?;
+    let mut mask = 0;
     for index in 0..81 {
         let to = Square::of_index(index);
-        let listed = targets.contains(&(to.file(), to.rank()));
-        let mirrored = targets.contains(&(to.file(), 10 - to.rank()));
-        if board(&[(Color::Black, role, 5, 5)])?.reaches(center, to) != listed {
-            return Ok(false);
-        }
-        if board(&[(Color::White, role, 5, 5)])?.reaches(center, to) != mirrored {
-            return Ok(false);
+        if board.reaches(square("5e")?, to) {
+            let rank = match color {
+                Black => to.rank(),
+                White => 10 - to.rank(),
+            };
+            mask = with(
+                mask,
+                Square::new(to.file(), rank).ok_or("a square")?.index(),
+            );
         }
     }
-    Ok(true)
+    Ok(mask)
 }
 
 #[test]
 fn moves_of_pieces_in_the_open(rt: HostRuntime) -> Result<(), Fail> {
-    let gold = [(5, 4), (4, 4), (6, 4), (4, 5), (6, 5), (5, 6)];
-    assert!(rt; reaches_only(Role::Pawn, &[(5, 4)])?, "pawn");
-    assert!(rt;
-        reaches_only(Role::Lance, &[(5, 4), (5, 3), (5, 2), (5, 1)])?,
-        "lance"
-    );
-    assert!(rt; reaches_only(Role::Knight, &[(4, 3), (6, 3)])?, "knight");
-    assert!(rt;
-        reaches_only(Role::Silver, &[(5, 4), (4, 4), (6, 4), (4, 6), (6, 6)])?,
-        "silver"
-    );
-    for role in [
-        Role::Gold,
-        Role::PromotedPawn,
-        Role::PromotedLance,
-        Role::PromotedKnight,
-        Role::PromotedSilver,
+    let gold = "5d 4d 6d 4e 6e 5f";
+    let rook = "5a 5b 5c 5d 5f 5g 5h 5i 1e 2e 3e 4e 6e 7e 8e 9e";
+    let bishop = "1a 2b 3c 4d 6f 7g 8h 9i 9a 8b 7c 6d 4f 3g 2h 1i";
+    for (role, names) in [
+        (Role::Pawn, "5d"),
+        (Role::Lance, "5d 5c 5b 5a"),
+        (Role::Knight, "4c 6c"),
+        (Role::Silver, "5d 4d 6d 4f 6f"),
+        (Role::Gold, gold),
+        (Role::PromotedPawn, gold),
+        (Role::PromotedLance, gold),
+        (Role::PromotedKnight, gold),
+        (Role::PromotedSilver, gold),
+        (Role::King, "4d 5d 6d 4e 6e 4f 5f 6f"),
+        (Role::Rook, rook),
+        (Role::Bishop, bishop),
     ] {
-        assert!(rt; reaches_only(role, &gold)?, "gold and what moves as gold");
-    }
-    let around = [
-        (4, 4),
-        (5, 4),
-        (6, 4),
-        (4, 5),
-        (6, 5),
-        (4, 6),
-        (5, 6),
-        (6, 6),
-    ];
-    assert!(rt; reaches_only(Role::King, &around)?, "king");
-    Ok(())
-}
-
-#[test]
-fn moves_of_the_far_pieces_in_the_open(rt: HostRuntime) -> Result<(), Fail> {
-    let crossing = [
-        (5, 1),
-        (5, 2),
-        (5, 3),
-        (5, 4),
-        (5, 6),
-        (5, 7),
-        (5, 8),
-        (5, 9),
-        (1, 5),
-        (2, 5),
-        (3, 5),
-        (4, 5),
-        (6, 5),
-        (7, 5),
-        (8, 5),
-        (9, 5),
-        (4, 4),
-        (6, 4),
-        (4, 6),
-        (6, 6),
-    ];
-    assert!(rt; reaches_only(Role::Rook, &crossing[..16])?, "rook");
-    assert!(rt; reaches_only(Role::Dragon, &crossing)?, "promoted rook");
-    let diagonals = [
-        (1, 1),
-        (2, 2),
-        (3, 3),
-        (4, 4),
-        (6, 6),
-        (7, 7),
-        (8, 8),
-        (9, 9),
-        (9, 1),
-        (8, 2),
-        (7, 3),
-        (6, 4),
-        (4, 6),
-        (3, 7),
-        (2, 8),
-        (1, 9),
-        (5, 4),
-        (5, 6),
-        (4, 5),
-        (6, 5),
-    ];
-    assert!(rt; reaches_only(Role::Bishop, &diagonals[..16])?, "bishop");
-    assert!(rt; reaches_only(Role::Horse, &diagonals)?, "promoted bishop");
-    Ok(())
-}
-
-#[test]
-fn moves_at_the_edge_and_blocked(rt: HostRuntime) -> Result<(), Fail> {
-    let rook = (Color::Black, Role::Rook, 5, 5);
-    let blocked = board(&[
-        rook,
-        (Color::Black, Role::Pawn, 5, 3),
-        (Color::White, Role::Pawn, 3, 5),
-    ])?;
-    for (file, rank, reached) in [
-        (5, 4, true),
-        (5, 3, true),
-        (5, 2, false),
-        (4, 5, true),
-        (3, 5, true),
-        (2, 5, false),
-    ] {
-        assert_eq!(rt;
-            blocked.reaches(square(5, 5)?, square(file, rank)?),
-            reached,
-            "{file} {rank}"
-        );
-    }
-    let knight = board(&[
-        (Color::Black, Role::Knight, 1, 3),
-        (Color::Black, Role::Pawn, 1, 2),
-    ])?;
-    assert!(rt;
-        knight.reaches(square(1, 3)?, square(2, 1)?),
-        "a knight jumps"
-    );
-    assert!(rt;
-        !knight.reaches(square(1, 3)?, square(9, 1)?),
-        "nothing leaves the board"
-    );
-    let pawn = board(&[(Color::Black, Role::Pawn, 5, 1)])?;
-    assert!(rt;
-        !pawn.reaches(square(5, 1)?, square(6, 9)?),
-        "a pawn on its last rank"
-    );
-    assert!(rt;
-        !pawn.reaches(square(4, 4)?, square(4, 3)?),
-        "an empty square"
-    );
-    Ok(())
-}
-
-/// Whether a piece that stands nowhere would reach exactly these squares of the board from the
-/// square.
-fn would_reach_only(
-    board: &Board,
-    (color, role, file, rank): Placed,
-    targets: &[(u8, u8)],
-) -> Result<bool, Fail> {
-    let mask = board.targets_of(Piece { color, role }, square(file, rank)?);
-    for index in 0..81 {
-        let to = Square::of_index(index);
-        if has(mask, index) != targets.contains(&(to.file(), to.rank())) {
-            return Ok(false);
+        for color in [Black, White] {
+            same!(rt; reached(color, role)?, mask_of(names)?, (color, role));
         }
     }
-    Ok(true)
+    for (role, plain, more) in [
+        (Role::Dragon, rook, "4d 6d 4f 6f"),
+        (Role::Horse, bishop, "5d 5f 4e 6e"),
+    ] {
+        for color in [Black, White] {
+            same!(rt; reached(color, role)?, mask_of(plain)? | mask_of(more)?, (color, role));
+        }
+    }
+    Ok(())
+}
+
+/// Black's rook on 5e has a pawn of its own on its file, and one of White's on its rank. A knight jumps
+/// over a pawn, and nothing leaves the board.
+#[test]
+fn moves_at_the_edge_and_blocked(rt: HostRuntime) -> Result<(), Fail> {
+    let board = board(&[
+        (Black, Role::Rook, "5e"),
+        (Black, Role::Pawn, "5c"),
+        (White, Role::Pawn, "3e"),
+        (Black, Role::Knight, "1c"),
+        (Black, Role::Pawn, "1b"),
+        (Black, Role::Pawn, "6a"),
+    ])?;
+    for (from, to, reached) in [
+        ("5e", "5d", true),
+        ("5e", "5c", true),
+        ("5e", "5b", false),
+        ("5e", "4e", true),
+        ("5e", "3e", true),
+        ("5e", "2e", false),
+        ("1c", "2a", true),
+        ("1c", "9a", false),
+        ("6a", "7i", false),
+        ("6a", "5i", false),
+        ("4d", "4c", false),
+    ] {
+        same!(rt; board.reaches(square(from)?, square(to)?), reached, (from, to));
+    }
+    Ok(())
+}
+
+/// The squares that a piece would reach, whatever stands on its square.
+fn would_reach(board: &Board, (color, role, name): Placed<'_>) -> Result<u128, Fail> {
+    Ok(board.targets_of(Piece { color, role }, square(name)?))
 }
 
 // A gold stands where the pieces are thought to stand, or a silver, and neither moves nor blocks
@@ -365,90 +258,48 @@ fn would_reach_only(
 #[test]
 fn moves_from_where_another_stands(rt: HostRuntime) -> Result<(), Fail> {
     let board = board(&[
-        (Color::White, Role::Gold, 5, 5),
-        (Color::Black, Role::Pawn, 5, 3),
-        (Color::White, Role::Pawn, 3, 5),
-        (Color::White, Role::Knight, 4, 4),
-        (Color::Black, Role::Silver, 7, 7),
+        (White, Role::Gold, "5e"),
+        (Black, Role::Pawn, "5c"),
+        (White, Role::Pawn, "3e"),
+        (White, Role::Knight, "4d"),
+        (Black, Role::Silver, "7g"),
     ])?;
-    let dragon = [
-        (5, 4),
-        (5, 3),
-        (5, 6),
-        (5, 7),
-        (5, 8),
-        (5, 9),
-        (4, 5),
-        (3, 5),
-        (6, 5),
-        (7, 5),
-        (8, 5),
-        (9, 5),
-        (4, 4),
-        (6, 4),
-        (4, 6),
-        (6, 6),
-    ];
-    let bishop = [
-        (4, 4),
-        (6, 4),
-        (7, 3),
-        (8, 2),
-        (9, 1),
-        (6, 6),
-        (7, 7),
-        (4, 6),
-        (3, 7),
-        (2, 8),
-        (1, 9),
-    ];
-    let horse = [
-        (6, 6),
-        (5, 5),
-        (8, 6),
-        (9, 5),
-        (8, 8),
-        (9, 9),
-        (6, 8),
-        (5, 9),
-        (7, 6),
-        (7, 8),
-        (6, 7),
-        (8, 7),
-    ];
-    let white_lance = [(5, 6), (5, 7), (5, 8), (5, 9)];
-    let white_silver = [(5, 6), (4, 4), (6, 4), (4, 6), (6, 6)];
     for (placed, targets) in [
-        ((Color::Black, Role::Dragon, 5, 5), &dragon[..]),
-        ((Color::White, Role::Bishop, 5, 5), &bishop),
-        ((Color::Black, Role::Lance, 5, 5), &[(5, 4), (5, 3)]),
-        ((Color::White, Role::Lance, 5, 5), &white_lance),
-        ((Color::Black, Role::Knight, 5, 5), &[(4, 3), (6, 3)]),
-        ((Color::White, Role::Knight, 5, 5), &[(4, 7), (6, 7)]),
-        ((Color::White, Role::Silver, 5, 5), &white_silver),
-        ((Color::Black, Role::Pawn, 5, 5), &[(5, 4)]),
-        ((Color::White, Role::Horse, 7, 7), &horse),
+        (
+            (Black, Role::Dragon, "5e"),
+            "5d 5c 5f 5g 5h 5i 4e 3e 6e 7e 8e 9e 4d 6d 4f 6f",
+        ),
+        (
+            (White, Role::Bishop, "5e"),
+            "4d 6d 7c 8b 9a 6f 7g 4f 3g 2h 1i",
+        ),
+        ((Black, Role::Lance, "5e"), "5d 5c"),
+        ((White, Role::Lance, "5e"), "5f 5g 5h 5i"),
+        ((Black, Role::Knight, "5e"), "4c 6c"),
+        ((White, Role::Knight, "5e"), "4g 6g"),
+        ((White, Role::Silver, "5e"), "5f 4d 6d 4f 6f"),
+        ((Black, Role::Pawn, "5e"), "5d"),
+        (
+            (White, Role::Horse, "7g"),
+            "6f 5e 8f 9e 8h 9i 6h 5i 7f 7h 6g 8g",
+        ),
     ] {
-        assert!(rt; would_reach_only(&board, placed, targets)?, "{placed:?}");
+        same!(rt; would_reach(&board, placed)?, mask_of(targets)?, placed);
     }
     Ok(())
 }
 
 #[test]
 fn moves_from_an_empty_square(rt: HostRuntime) -> Result<(), Fail> {
-    let board = board(&[(Color::White, Role::Pawn, 1, 8)])?;
-    let lance = (Color::Black, Role::Lance, 1, 9);
-    let gold = (Color::Black, Role::Gold, 1, 9);
-    let pawn = (Color::White, Role::Pawn, 1, 9);
-    assert!(rt; would_reach_only(&board, lance, &[(1, 8)])?, "lance");
-    assert!(rt;
-        would_reach_only(&board, gold, &[(1, 8), (2, 8), (2, 9)])?,
-        "gold"
-    );
-    assert!(rt;
-        would_reach_only(&board, pawn, &[])?,
-        "a pawn on its last rank"
-    );
+    let board = board(&[(White, Role::Pawn, "1h")])?;
+    for (placed, targets) in [
+        ((Black, Role::Lance, "1i"), "1h"),
+        ((Black, Role::Gold, "1i"), "1h 2h 2i"),
+        // A pawn on its last rank.
+        ((White, Role::Pawn, "1i"), ""),
+    ] {
+        same!(rt; would_reach(&board, placed)?, mask_of(targets)?, placed);
+    }
     Ok(())
 }
 
@@ -457,154 +308,106 @@ fn moves_from_an_empty_square(rt: HostRuntime) -> Result<(), Fail> {
 // roles, counted from 1 for Black and from 15 for White.
 #[test]
 fn words_of_boards(rt: HostRuntime) -> Result<(), Fail> {
-    assert_eq!(rt; *board(&[])?.words(), [0; 7]);
+    same!(rt; *board(&[])?.words(), [0; 7]);
     let placed = board(&[
-        (Color::Black, Role::King, 1, 2),
-        (Color::Black, Role::Gold, 2, 3),
-        (Color::White, Role::Dragon, 2, 4),
-        (Color::White, Role::Rook, 9, 9),
+        (Black, Role::King, "1b"),
+        (Black, Role::Gold, "2c"),
+        (White, Role::Dragon, "2d"),
+        (White, Role::Rook, "9i"),
     ])?;
     // A king on 1b: 1 * 32. A gold on 2c: 6 * 32^11 = 6 * 36,028,797,018,963,968.
     // A dragon on 2d: 28. A rook on 9i: 22 * 32^8 = 22 * 1,099,511,627,776.
     let words = [216172782113783840, 28, 0, 0, 0, 0, 24189255811072];
-    assert_eq!(rt; *placed.words(), words);
-    assert_eq!(rt; *Board::of(*placed.cells()).words(), words);
+    same!(rt; *placed.words(), words);
+    same!(rt; *Board::of(*placed.cells()).words(), words);
     let pawn = Piece {
-        color: Color::White,
+        color: White,
         role: Role::Pawn,
     };
     let changed = placed
-        .put(square(1, 2)?, None)
-        .put(square(2, 4)?, Some(pawn));
-    assert_eq!(rt;
-        *changed.words(),
-        [216172782113783808, 16, 0, 0, 0, 0, 24189255811072]
-    );
+        .put(square("1b")?, None)
+        .put(square("2d")?, Some(pawn));
+    let words = [216172782113783808, 16, 0, 0, 0, 0, 24189255811072];
+    same!(rt; *changed.words(), words);
     Ok(())
-}
-
-/// Whether the pieces of the side that may be pinned are exactly those on these squares; never,
-/// where it is in check.
-fn pins_only(side: Color, pieces: &[Placed], pinned: &[(u8, u8)]) -> Result<bool, Fail> {
-    let Some(mask) = board(pieces)?.pinned(side) else {
-        return Ok(false);
-    };
-    for index in 0..81 {
-        let at = Square::of_index(index);
-        if has(mask, index) != pinned.contains(&(at.file(), at.rank())) {
-            return Ok(false);
-        }
-    }
-    Ok(true)
 }
 
 #[test]
 fn a_piece_before_a_slider_is_pinned(rt: HostRuntime) -> Result<(), Fail> {
-    let king = (Color::Black, Role::King, 5, 5);
-    for (role, (file, rank), between) in [
-        (Role::Lance, (5, 1), (5, 3)),
-        (Role::Rook, (5, 9), (5, 6)),
-        (Role::Dragon, (9, 5), (7, 5)),
-        (Role::Dragon, (1, 5), (2, 5)),
-        (Role::Bishop, (9, 9), (8, 8)),
-        (Role::Bishop, (9, 1), (6, 4)),
-        (Role::Horse, (2, 2), (4, 4)),
-        (Role::Horse, (1, 9), (2, 8)),
+    let king = (Black, Role::King, "5e");
+    for (role, name, between) in [
+        (Role::Lance, "5a", "5c"),
+        (Role::Rook, "5i", "5f"),
+        (Role::Dragon, "9e", "7e"),
+        (Role::Dragon, "1e", "2e"),
+        (Role::Bishop, "9i", "8h"),
+        (Role::Bishop, "9a", "6d"),
+        (Role::Horse, "2b", "4d"),
+        (Role::Horse, "1i", "2h"),
     ] {
-        let slider = (Color::White, role, file, rank);
-        let gold = (Color::Black, Role::Gold, between.0, between.1);
-        assert!(rt;
-            pins_only(Color::Black, &[king, slider, gold], &[between])?,
-            "{slider:?}"
-        );
-        let checked = board(&[king, slider])?;
-        assert!(rt; checked.pinned(Color::Black).is_none(), "{slider:?}");
+        let slider = (White, role, name);
+        let pinned = board(&[king, slider, (Black, Role::Gold, between)])?.pinned(Black);
+        same!(rt; pinned, Some(mask_of(between)?), slider);
+        same!(rt; board(&[king, slider])?.pinned(Black), None, slider);
     }
-    let white = [
-        (Color::White, Role::King, 5, 1),
-        (Color::White, Role::Pawn, 5, 4),
-        (Color::Black, Role::Lance, 5, 9),
-    ];
-    assert!(rt; pins_only(Color::White, &white, &[(5, 4)])?, "a white pawn");
+    let white = board(&[
+        (White, Role::King, "5a"),
+        (White, Role::Pawn, "5d"),
+        (Black, Role::Lance, "5i"),
+    ])?;
+    same!(rt; white.pinned(White), Some(mask_of("5d")?));
     Ok(())
-}
-
-/// Whether the squares on which another piece may answer the check of the side are exactly these.
-fn answers_only(side: Color, pieces: &[Placed], squares: &[(u8, u8)]) -> Result<bool, Fail> {
-    let mask = board(pieces)?.answers(side);
-    for index in 0..81 {
-        let at = Square::of_index(index);
-        if has(mask, index) != squares.contains(&(at.file(), at.rank())) {
-            return Ok(false);
-        }
-    }
-    Ok(true)
 }
 
 #[test]
 fn a_check_is_answered_on_its_way(rt: HostRuntime) -> Result<(), Fail> {
-    let king = (Color::Black, Role::King, 5, 5);
-    for ((role, file, rank), squares) in [
-        ((Role::Rook, 5, 1), [(5, 1), (5, 2), (5, 3), (5, 4)]),
-        ((Role::Horse, 9, 9), [(9, 9), (8, 8), (7, 7), (6, 6)]),
-        ((Role::Lance, 5, 2), [(5, 2), (5, 3), (5, 4), (5, 4)]),
-        ((Role::Knight, 4, 3), [(4, 3), (4, 3), (4, 3), (4, 3)]),
-        ((Role::Gold, 5, 4), [(5, 4), (5, 4), (5, 4), (5, 4)]),
+    let king = (Black, Role::King, "5e");
+    for (role, name, answers) in [
+        (Role::Rook, "5a", "5a 5b 5c 5d"),
+        (Role::Horse, "9i", "9i 8h 7g 6f"),
+        (Role::Lance, "5b", "5b 5c 5d"),
+        (Role::Knight, "4c", "4c"),
+        (Role::Gold, "5d", "5d"),
     ] {
-        let attacker = (Color::White, role, file, rank);
-        assert!(rt;
-            answers_only(Color::Black, &[king, attacker], &squares)?,
-            "{attacker:?}"
-        );
+        let board = board(&[king, (White, role, name)])?;
+        same!(rt; board.answers(Black), mask_of(answers)?, role);
     }
-    let shut = [
-        king,
-        (Color::White, Role::Rook, 5, 1),
-        (Color::Black, Role::Pawn, 5, 3),
-    ];
-    assert!(rt; answers_only(Color::Black, &shut, &[])?, "no check");
+    let shut = [king, (White, Role::Rook, "5a"), (Black, Role::Pawn, "5c")];
+    same!(rt; board(&shut)?.answers(Black), 0, "no check");
     Ok(())
 }
 
 #[test]
 fn nothing_else_is_pinned(rt: HostRuntime) -> Result<(), Fail> {
-    let king = (Color::Black, Role::King, 5, 5);
-    let rook = (Color::White, Role::Rook, 5, 1);
-    let lance = (Color::White, Role::Lance, 5, 7);
-    let pawn = (Color::Black, Role::Pawn, 5, 3);
-    let gold = (Color::Black, Role::Gold, 5, 4);
-    let silver = (Color::White, Role::Silver, 5, 2);
-    let dragon = (Color::White, Role::Dragon, 5, 9);
-    assert!(rt;
-        pins_only(Color::Black, &[king, lance], &[])?,
-        "a lance behind"
-    );
-    assert!(rt;
-        pins_only(Color::Black, &[king, lance, dragon], &[])?,
-        "a lance between"
-    );
-    assert!(rt;
-        pins_only(Color::Black, &[king, rook, pawn, gold], &[])?,
-        "two pieces between"
-    );
-    assert!(rt;
-        pins_only(Color::Black, &[king, rook, silver], &[])?,
-        "a piece of the other side between"
-    );
-    assert!(rt;
-        pins_only(Color::Black, &[king, rook, silver, gold], &[])?,
-        "a piece of either side between"
-    );
-    assert!(rt;
-        pins_only(Color::Black, &[king, gold, pawn], &[])?,
-        "no slider"
-    );
-    let away = (Color::Black, Role::Gold, 5, 1);
-    let near = (Color::White, Role::Rook, 5, 3);
-    let two = [king, near, gold, away];
-    assert!(rt;
-        pins_only(Color::Black, &two, &[(5, 4)])?,
-        "a piece behind the slider"
-    );
+    let king = (Black, Role::King, "5e");
+    let rook = (White, Role::Rook, "5a");
+    let lance = (White, Role::Lance, "5g");
+    let pawn = (Black, Role::Pawn, "5c");
+    let gold = (Black, Role::Gold, "5d");
+    let silver = (White, Role::Silver, "5b");
+    let rows: [(&[Placed<'_>], &str); 7] = [
+        // A lance behind, and one between.
+        (&[king, lance], ""),
+        (&[king, lance, (White, Role::Dragon, "5i")], ""),
+        // Two pieces between, of either side, and one of the other side.
+        (&[king, rook, pawn, gold], ""),
+        (&[king, rook, silver], ""),
+        (&[king, rook, silver, gold], ""),
+        // No slider.
+        (&[king, gold, pawn], ""),
+        // A piece behind the slider.
+        (
+            &[
+                king,
+                (White, Role::Rook, "5c"),
+                gold,
+                (Black, Role::Gold, "5a"),
+            ],
+            "5d",
+        ),
+    ];
+    for (at, (pieces, pinned)) in rows.iter().enumerate() {
+        same!(rt; board(pieces)?.pinned(Black), Some(mask_of(pinned)?), at);
+    }
     Ok(())
 }

@@ -1,31 +1,22 @@
 //! Squares and pieces that show which replies there are, found by hand.
 
-use crate::legal_moves::{position, read};
+use crate::boards::{mask_of, position, read, square};
 use shogi_core::Color::{Black, White};
-use shogi_core::bits::{has, with};
+use shogi_core::bits::has;
 use shogi_core::{Piece, Position, Role, Square};
 use shogi_moves::Destinations;
 use shogi_replies::{Replies, attacks_of, line_squares, put_by, some_escapes, unpinnable_pieces};
 use std::test::Fail;
-
-/// The mask of squares, each given by its file and its rank.
-fn mask_of(squares: &[(u8, u8)]) -> Result<u128, Fail> {
-    let mut mask = 0;
-    for square in squares {
-        let (file, rank) = *square;
-        mask = with(mask, Square::new(file, rank).ok_or("a square")?.index());
-    }
-    Ok(mask)
-}
+use test_support::{holds, same};
 
 /// A rook on the second file leaves the king in the corner one of its three squares, one on the
 /// ninth file leaves all three.
 #[test]
 fn some_escapes_of_a_king(rt: HostRuntime) -> Result<(), Fail> {
-    let p = position(b"8k/9/9/9/9/9/9/9/K6R1", b"", Black)?;
-    assert!(rt; some_escapes(&p) == mask_of(&[(1, 2)])?);
-    let p = position(b"8k/9/9/9/9/9/9/9/RK7", b"", Black)?;
-    assert!(rt; some_escapes(&p) == mask_of(&[(1, 2), (2, 1), (2, 2)])?);
+    let p = position("8k/9/9/9/9/9/9/9/K6R1 b -")?;
+    same!(rt; some_escapes(&p), mask_of("1b")?);
+    let p = position("8k/9/9/9/9/9/9/9/RK7 b -")?;
+    same!(rt; some_escapes(&p), mask_of("1b 2a 2b")?);
     Ok(())
 }
 
@@ -33,17 +24,17 @@ fn some_escapes_of_a_king(rt: HostRuntime) -> Result<(), Fail> {
 /// stands it may not go.
 #[test]
 fn three_escapes_of_more(rt: HostRuntime) -> Result<(), Fail> {
-    let next = mask_of(&[(6, 1), (4, 1), (6, 2), (5, 2), (4, 2)])?;
-    let escapes = some_escapes(&position(b"4k4/9/9/9/9/9/9/9/4K4", b"", Black)?);
+    let next = mask_of("6a 4a 6b 5b 4b")?;
+    let escapes = some_escapes(&position("4k4/9/9/9/9/9/9/9/4K4 b -")?);
     let mut found = 0u8;
     for square in 0..81usize {
         if has(escapes, square) {
             found = found.saturating_add(1);
         }
     }
-    assert!(rt; found == 3 && escapes & next == escapes);
-    let p = position(b"3gkg3/4p4/9/9/9/9/9/9/4K4", b"", Black)?;
-    assert!(rt; some_escapes(&p) == mask_of(&[(6, 2), (4, 2)])?);
+    holds!(rt; found == 3 && escapes & next == escapes);
+    let p = position("3gkg3/4p4/9/9/9/9/9/9/4K4 b -")?;
+    same!(rt; some_escapes(&p), mask_of("6b 4b")?);
     Ok(())
 }
 
@@ -51,32 +42,32 @@ fn three_escapes_of_more(rt: HostRuntime) -> Result<(), Fail> {
 /// stands between; a side without a king has none.
 #[test]
 fn lines_of_a_king(rt: HostRuntime) -> Result<(), Fail> {
-    let p = position(b"7pk/8p/9/9/4G4/9/9/9/9", b"", Black)?;
+    let p = position("7pk/8p/9/9/4G4/9/9/9/9 b -")?;
     let lines = line_squares(&p, White);
     for file in 1..10u8 {
         for rank in 1..10u8 {
             let square = Square::new(file, rank).ok_or("a square")?.index();
-            assert!(rt; has(lines, square) == (file == 1 || rank == 1 || file == rank));
+            holds!(rt; has(lines, square) == (file == 1 || rank == 1 || file == rank));
         }
     }
-    assert!(rt; line_squares(&p, Black) == 0);
+    holds!(rt; line_squares(&p, Black) == 0);
     Ok(())
 }
 
 /// Pawns far from the king are found. The gold that mates on 5b is not among them.
 #[test]
 fn remote_pieces(rt: HostRuntime) -> Result<(), Fail> {
-    let p = position(b"4k4/9/3GP4/p7p/9/9/P7P/9/K8", b"", Black)?;
+    let p = position("4k4/9/3GP4/p7p/9/9/P7P/9/K8 b -")?;
     let remote = Replies::of(&p).remote_pieces(&p);
-    let pawns = mask_of(&[(9, 7), (1, 7)])?;
-    assert!(rt; remote & pawns == pawns);
-    assert!(rt; remote & mask_of(&[(6, 3)])? == 0);
+    let pawns = mask_of("9g 1g")?;
+    holds!(rt; remote & pawns == pawns);
+    holds!(rt; remote & mask_of("6c")? == 0);
     Ok(())
 }
 
 /// The attacks of what stands on the square, a piece of White's, with Black to move.
-fn attacks(p: &Position, file: u8, rank: u8) -> Result<Destinations, Fail> {
-    let from = Square::new(file, rank).ok_or("a square")?;
+fn attacks(p: &Position, name: &str) -> Result<Destinations, Fail> {
+    let from = square(name)?;
     let free = unpinnable_pieces(p, line_squares(p, p.side().opponent()));
     if !has(free, from.index()) {
         return Err("a piece that nothing pins".into());
@@ -88,25 +79,25 @@ fn attacks(p: &Position, file: u8, rank: u8) -> Result<Destinations, Fail> {
 /// can only promote, and a gold cannot.
 #[test]
 fn attacks_of_a_piece(rt: HostRuntime) -> Result<(), Fail> {
-    let p = position(b"k8/9/9/7g1/4n4/9/9/6p2/9", b"", Black)?;
-    let knight = attacks(&p, 5, 5)?;
-    let jumps = mask_of(&[(6, 7), (4, 7)])?;
-    assert!(rt; knight.plain == jumps && knight.promoting == jumps);
-    let pawn = attacks(&p, 3, 8)?;
-    assert!(rt; pawn.plain == 0 && pawn.promoting == mask_of(&[(3, 9)])?);
-    let gold = attacks(&p, 2, 4)?;
-    let steps = mask_of(&[(2, 3), (3, 4), (1, 4), (3, 5), (2, 5), (1, 5)])?;
-    assert!(rt; gold.plain == steps && gold.promoting == 0);
+    let p = position("k8/9/9/7g1/4n4/9/9/6p2/9 b -")?;
+    let knight = attacks(&p, "5e")?;
+    let jumps = mask_of("6g 4g")?;
+    holds!(rt; knight.plain == jumps && knight.promoting == jumps);
+    let pawn = attacks(&p, "3h")?;
+    holds!(rt; pawn.plain == 0 && pawn.promoting == mask_of("3i")?);
+    let gold = attacks(&p, "2d")?;
+    let steps = mask_of("2c 3d 1d 3e 2e 1e")?;
+    holds!(rt; gold.plain == steps && gold.promoting == 0);
     Ok(())
 }
 
 /// A move puts on its square what it moves, what that becomes by promotion, or what it drops.
 #[test]
 fn what_a_move_puts(rt: HostRuntime) -> Result<(), Fail> {
-    let p = position(b"4k4/9/9/2P6/9/9/9/9/4K4", b"G", Black)?;
+    let p = position("4k4/9/9/2P6/9/9/9/9/4K4 b G")?;
     let black = |role| Some(Piece { color: Black, role });
-    assert!(rt; put_by(&p, &read(b"7d7c ")) == black(Role::Pawn));
-    assert!(rt; put_by(&p, &read(b"7d7c+")) == black(Role::PromotedPawn));
-    assert!(rt; put_by(&p, &read(b"G*5e ")) == black(Role::Gold));
+    holds!(rt; put_by(&p, &read("7d7c")?) == black(Role::Pawn));
+    holds!(rt; put_by(&p, &read("7d7c+")?) == black(Role::PromotedPawn));
+    holds!(rt; put_by(&p, &read("G*5e")?) == black(Role::Gold));
     Ok(())
 }

@@ -1,10 +1,10 @@
 //! Worked texts and what they say, from the formats' own examples.
 
+use crate::boards::{position, read};
 use shogi_core::{Color, Kind, Position};
-use shogi_sfen::{
-    SfenFault, read_move, read_number, read_position, words, write_move, write_position,
-};
+use shogi_sfen::{read_move, read_number, read_position, words, write_move, write_position};
 use std::test::Fail;
+use test_support::{holds, same};
 
 /// The opening position.
 const START: &str = "lnsgkgsnl/1r5b1/ppppppppp/9/9/9/PPPPPPPPP/1B5R1/LNSGKGSNL b -";
@@ -12,12 +12,6 @@ const START: &str = "lnsgkgsnl/1r5b1/ppppppppp/9/9/9/PPPPPPPPP/1B5R1/LNSGKGSNL b
 /// A position with White to move, and a number after it.
 const MIDDLE_GAME: &str =
     "8l/1l+R2P3/p2pBG1pp/kps1p4/Nn1P2G2/P1P1P2PP/1PS6/1KSG3+r1/LN2+p3L w Sbgn3p 124";
-
-/// The position of a text.
-fn position(text: &str) -> Result<Position, SfenFault> {
-    let (position, _) = read_position(text.as_bytes())?;
-    Ok(position)
-}
 
 #[test]
 fn moves_of_texts(rt: HostRuntime) -> Result<(), Fail> {
@@ -31,10 +25,10 @@ fn moves_of_texts(rt: HostRuntime) -> Result<(), Fail> {
         ("5e5e+", (40 * 81 + 40) * 2 + 1),
         ("R*9i", 13_688),
     ] {
-        let m = read_move(text.as_bytes()).ok_or("a move text")?;
+        let m = read(text)?;
         let again = m;
-        assert_eq!(rt; again.code(), code);
-        assert_eq!(rt; write_move(m).as_slice(), text.as_bytes());
+        same!(rt; again.code(), code);
+        same!(rt; write_move(m).as_slice(), text.as_bytes());
     }
     Ok(())
 }
@@ -44,28 +38,28 @@ fn texts_of_no_move(rt: HostRuntime) {
     for text in [
         "7g7", "7g7f++", "p*5e", "K*5e", "0a1a", "7g7f=", "7g7j", "G*5j", "",
     ] {
-        assert!(rt; read_move(text.as_bytes()).is_none());
+        holds!(rt; read_move(text.as_bytes()).is_none());
     }
 }
 
 #[test]
 fn words_and_the_rest(rt: HostRuntime) -> Result<(), Fail> {
     let mut rest = words(b" \tgo  depth\t3 ");
-    assert_eq!(rt; rest.next().ok_or("a word")?, b"go".as_slice());
-    assert_eq!(rt; rest.rest(), b"  depth\t3 ".as_slice());
-    assert_eq!(rt; rest.next().ok_or("a word")?, b"depth".as_slice());
-    assert_eq!(rt; rest.next().ok_or("a word")?, b"3".as_slice());
-    assert!(rt; rest.next().is_none());
-    assert_eq!(rt; rest.rest(), b" ".as_slice());
+    same!(rt; rest.next().ok_or("a word")?, b"go".as_slice());
+    same!(rt; rest.rest(), b"  depth\t3 ".as_slice());
+    same!(rt; rest.next().ok_or("a word")?, b"depth".as_slice());
+    same!(rt; rest.next().ok_or("a word")?, b"3".as_slice());
+    holds!(rt; rest.next().is_none());
+    same!(rt; rest.rest(), b" ".as_slice());
     Ok(())
 }
 
 #[test]
 fn numbers_of_any_length(rt: HostRuntime) {
-    assert_eq!(rt; read_number(b"007", 16), Some(7));
-    assert_eq!(rt; read_number(b"18446744073709551617", 16), Some(16));
-    assert_eq!(rt; read_number(b"", 16), None);
-    assert_eq!(rt; read_number(b"1x", 16), None);
+    same!(rt; read_number(b"007", 16), Some(7));
+    same!(rt; read_number(b"18446744073709551617", 16), Some(16));
+    same!(rt; read_number(b"", 16), None);
+    same!(rt; read_number(b"1x", 16), None);
 }
 
 #[test]
@@ -77,18 +71,18 @@ fn ends_of_positions(rt: HostRuntime) -> Result<(), Fail> {
         (MIDDLE_GAME, 78),
     ] {
         let (_, end) = read_position(text.as_bytes())?;
-        assert_eq!(rt; end, index);
+        same!(rt; end, index);
     }
     Ok(())
 }
 
 #[test]
 fn positions_of_texts(rt: HostRuntime) -> Result<(), Fail> {
-    assert!(rt; position(START)? == Position::start());
+    holds!(rt; position(START)? == Position::start());
     let held = position("9/9/9/9/54/9/9/9/9 b PP1G2P2p")?;
-    assert_eq!(rt; held.hand(Color::Black, Kind::Pawn), 4);
-    assert_eq!(rt; held.hand(Color::White, Kind::Pawn), 2);
-    assert_eq!(rt; held.hand(Color::Black, Kind::Gold), 1);
+    same!(rt; held.hand(Color::Black, Kind::Pawn), 4);
+    same!(rt; held.hand(Color::White, Kind::Pawn), 2);
+    same!(rt; held.hand(Color::Black, Kind::Gold), 1);
     Ok(())
 }
 
@@ -104,7 +98,7 @@ fn texts_of_positions(rt: HostRuntime) -> Result<(), Fail> {
         ("9/9/9/9/9/9/9/9/9 w - 12 moves", "9/9/9/9/9/9/9/9/9 w -"),
         ("9/9/9/9/9/9/9/9/9 b 2b18Pr", "9/9/9/9/9/9/9/9/9 b 18Pr2b"),
     ] {
-        assert_eq!(rt;
+        same!(rt;
             write_position(&position(text)?).as_slice(),
             written.as_bytes()
         );
@@ -115,8 +109,5 @@ fn texts_of_positions(rt: HostRuntime) -> Result<(), Fail> {
 // The text of no words; the other faults are rows of the program `rows`.
 #[test]
 fn an_empty_text(rt: HostRuntime) {
-    match position("") {
-        Ok(_) => assert!(rt; false, "a position"),
-        Err(fault) => assert_eq!(rt; fault.number(), 1),
-    }
+    same!(rt; read_position(b"").err().map(|fault| fault.number()), Some(1));
 }

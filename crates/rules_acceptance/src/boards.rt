@@ -1,0 +1,51 @@
+//! Squares, masks, boards, positions and moves by their texts.
+
+use shogi_core::bits::with;
+use shogi_core::{Board, Color, Move, Piece, Position, Role, Square};
+use shogi_sfen::{read_move, read_position};
+use std::test::Fail;
+
+/// The square of a name, as `5e`.
+pub fn square(name: &str) -> Result<Square, Fail> {
+    let [file, rank] = name.as_bytes() else {
+        return Err("a name of two letters".into());
+    };
+    let square = Square::new(file.saturating_sub(b'0'), rank.saturating_sub(b'a' - 1));
+    Ok(square.ok_or("a square")?)
+}
+
+/// The mask of squares, by their names.
+pub fn mask_of(names: &str) -> Result<u128, Fail> {
+    let mut mask = 0;
+    for name in names.split_whitespace() {
+        mask = with(mask, square(name)?.index());
+    }
+    Ok(mask)
+}
+
+/// A piece of a side on the square of this name.
+pub type Placed<'a> = (Color, Role, &'a str);
+
+/// The board of these pieces.
+pub fn board(pieces: &[Placed<'_>]) -> Result<Board, Fail> {
+    let mut board = Board::of([None; 81]);
+    for (color, role, name) in pieces {
+        let piece = Piece {
+            color: *color,
+            role: *role,
+        };
+        board = board.put(square(name)?, Some(piece));
+    }
+    Ok(board)
+}
+
+/// The position of an SFEN text.
+pub fn position(sfen: &str) -> Result<Position, Fail> {
+    let (p, _) = read_position(sfen.as_bytes())?;
+    Ok(p)
+}
+
+/// The move of a text as in USI.
+pub fn read(text: &str) -> Result<Move, Fail> {
+    Ok(read_move(text.as_bytes()).ok_or("a move")?)
+}
