@@ -120,30 +120,16 @@ fn refused_lines(rt: HostRuntime) {
         ("search 3 0 startpos moves 7g7f", FurtherWords),
         ("perft 3 9/9/9/9/9/9/9/9/9 b - moves", FurtherWords),
         ("search 3 0 9/9/9/9/9/9/9/9/9 b - 1 1", FurtherWords),
-    ];
-    for (line, refusal) in rows {
-        match read(line) {
-            Ok(_) => assert!(rt; false, "for {line:?}"),
-            Err(found) => assert_eq!(rt; found, refusal, "for {line:?}"),
-        }
-    }
-}
-
-#[test]
-fn the_first_fault_from_the_left(rt: HostRuntime) {
-    let rows = [
-        ("go 17 1000001 9 b", Refusal::UnknownWord),
-        ("search 17 1000001 9 b", Refusal::BadDepth),
-        ("search 16 1000001 9 b", Refusal::BadEntries),
-        (
-            "search 16 1000000 9 b",
-            Refusal::BadPosition(SfenFault::BadBoard),
-        ),
-        ("perft 17 startpos more", Refusal::BadDepth),
-        ("perft 16 startpos more", Refusal::FurtherWords),
+        // The first fault from the left.
+        ("go 17 1000001 9 b", UnknownWord),
+        ("search 17 1000001 9 b", BadDepth),
+        ("search 16 1000001 9 b", BadEntries),
+        ("search 16 1000000 9 b", BadPosition(BadBoard)),
+        ("perft 17 startpos more", BadDepth),
+        ("perft 16 startpos more", FurtherWords),
         (
             "perft 16 9/9/9/9/9/9/9/9/9 b 19P more",
-            Refusal::BadPosition(SfenFault::Invalid(PositionFault::TooMany)),
+            BadPosition(Invalid(PositionFault::TooMany)),
         ),
     ];
     for (line, refusal) in rows {
