@@ -1,8 +1,10 @@
 //! Rows through a host of many sessions.
 
-use crate::host::{Brief, TestHost};
+use crate::host::{Brief, expect, expect_run, output_is};
 use host_core::{Event, HostFault};
+use opaque::OpaqueHost;
 use session_slots::SessionId;
+use std::alloc::Global;
 use std::process::Abort;
 use std::test::Fail;
 use test_support::rows::{INFO_AND_BEST_ONE, INFO_ONE, INFO_THREE, joined};
@@ -17,14 +19,18 @@ const NOT_READY: Brief = Brief::Refused(HostFault::NotReady);
 
 // From the opening position `go depth 1` takes one step, and its answer has 46 bytes.
 // What the first session searched, the second finds in the table.
-fn assert_two_sessions<R: Abort>(rt: &R, host: &mut TestHost) -> Result<SessionId, Fail> {
-    let a = host.opened()?;
+fn assert_two_sessions<R: Abort>(
+    rt: &R,
+    alloc: Global,
+    host: &mut OpaqueHost<Global>,
+) -> Result<SessionId, Fail> {
+    let a = host.open()?;
     let go = b"go depth 1\n".as_slice();
     let events = [Event::Feed(a, go), Event::Work(a, 62)];
-    host.expect_run(rt, &events, &[Brief::Done, Brief::Worked(1)])?;
+    expect_run(rt, alloc, host, &events, &[Brief::Done, Brief::Worked(1)])?;
     holds!(*rt; !host.pending(a) && host.wants_input(a));
 
-    let b = host.opened()?;
+    let b = host.open()?;
     let events = [
         Event::Open,
         Event::Feed(b, go),
@@ -32,9 +38,10 @@ fn assert_two_sessions<R: Abort>(rt: &R, host: &mut TestHost) -> Result<SessionI
         Event::Take(b, 47),
     ];
     let wanted = [FULL, Brief::Done, Brief::Worked(0), NOT_READY];
-    host.expect_run(rt, &events, &wanted)?;
-    host.takes(rt, b, INFO_AND_BEST_ONE)?;
-    host.expect(rt, &[(Event::Take(b, 1), NOT_READY)]);
+    expect_run(rt, alloc, host, &events, &wanted)?;
+    let taken = host.take(b, INFO_AND_BEST_ONE.len())?;
+    holds!(*rt; taken.as_slice() == INFO_AND_BEST_ONE.as_bytes());
+    expect(rt, host, &[(Event::Take(b, 1), NOT_READY)]);
     Ok(a)
 }
 
@@ -42,15 +49,15 @@ fn assert_two_sessions<R: Abort>(rt: &R, host: &mut TestHost) -> Result<SessionI
 fn two_slots_and_three_sessions(rt: HostRuntime) -> Result<(), Fail> {
     let row = opening();
     let answer = joined(rt.alloc(), row.answer)?;
-    let mut host = TestHost::new(rt.alloc(), 2, 4096)?;
-    let a = assert_two_sessions(&rt, &mut host)?;
-    host.expect(&rt, &[(Event::Close(a), Brief::Done)]);
-    let c = host.opened()?;
+    let mut host = OpaqueHost::new(rt.alloc(), 2, 4096)?;
+    let a = assert_two_sessions(&rt, rt.alloc(), &mut host)?;
+    expect(&rt, &mut host, &[(Event::Close(a), Brief::Done)]);
+    let c = host.open()?;
     same!(rt; (c.slot, c.generation), (a.slot, 2));
     let events = [Event::Feed(a, b""), Event::Feed(c, b"go\n")];
-    host.expect_run(&rt, &events, &[UNKNOWN, Brief::Done])?;
-    holds!(rt; host.steps_of(c, u64::MAX).is_some() && !host.pending(c));
-    host.output_is(&rt, c, answer.as_bytes());
+    expect_run(&rt, rt.alloc(), &mut host, &events, &[UNKNOWN, Brief::Done])?;
+    holds!(rt; host.work(c, u64::MAX).is_ok() && !host.pending(c));
+    output_is(&rt, &host, c, answer.as_bytes());
     Ok(())
 }
 
@@ -59,20 +66,21 @@ fn two_slots_and_three_sessions(rt: HostRuntime) -> Result<(), Fail> {
 // then the position after that move is answered.
 #[test]
 fn one_step_less_than_the_search(rt: HostRuntime) -> Result<(), Fail> {
-    let mut host = TestHost::new(rt.alloc(), 1, 1)?;
-    let id = host.opened()?;
-    host.expect(
+    let mut host = OpaqueHost::new(rt.alloc(), 1, 1)?;
+    let id = host.open()?;
+    expect(
         &rt,
+        &mut host,
         &[
             (Event::Open, FULL),
             (Event::Feed(id, b"go infinite depth 2\n"), Brief::Done),
         ],
     );
     holds!(rt; host.pending(id) && !host.wants_input(id));
-    host.expect(&rt, &[(Event::Work(id, 4), Brief::Worked(4))]);
+    expect(&rt, &mut host, &[(Event::Work(id, 4), Brief::Worked(4))]);
     holds!(rt; host.pending(id));
-    host.output_is(&rt, id, INFO_ONE.as_bytes());
-    host.expect(&rt, &[(Event::Work(id, 3), Brief::Worked(1))]);
+    output_is(&rt, &host, id, INFO_ONE.as_bytes());
+    expect(&rt, &mut host, &[(Event::Work(id, 3), Brief::Worked(1))]);
     holds!(rt; !host.pending(id));
     same!(rt; host.output(id).map(|bytes| bytes.len()), Some(32 + 37));
     Ok(())
@@ -91,14 +99,19 @@ fn assert_at_depth_four<R: Abort>(rt: &R, said: &[u8]) -> Result<(), Fail> {
 // memory is there, no note is refused.
 #[test]
 fn a_search_is_shared(rt: HostRuntime) -> Result<(), Fail> {
-    let mut host = TestHost::new(rt.alloc(), 2, 100_000)?;
-    let first = host.opened()?;
-    host.expect(&rt, &[(Event::Feed(first, b"go depth 4\n"), Brief::Done)]);
-    holds!(rt; host.steps_of(first, u64::MAX) > Some(1));
-
-    let second = host.opened()?;
-    host.expect(
+    let mut host = OpaqueHost::new(rt.alloc(), 2, 100_000)?;
+    let first = host.open()?;
+    expect(
         &rt,
+        &mut host,
+        &[(Event::Feed(first, b"go depth 4\n"), Brief::Done)],
+    );
+    holds!(rt; host.work(first, u64::MAX)? > 1);
+
+    let second = host.open()?;
+    expect(
+        &rt,
+        &mut host,
         &[
             (Event::Feed(second, b"go depth 4\n"), Brief::Done),
             (Event::Work(second, 0), Brief::Worked(0)),

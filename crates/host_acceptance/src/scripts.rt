@@ -32,15 +32,11 @@ fn assert_read(rt: &impl Abort, alloc: Global, reads: usize) -> Result<bool, Fai
 
 #[test]
 fn each_read_of_a_script_fails_in_turn(rt: HostRuntime) -> Result<(), Fail> {
-    let (mut failed, mut passed) = (false, false);
+    let mut passed = 0usize;
     for reads in 0..14usize {
-        if assert_read(&rt, rt.alloc(), reads)? {
-            passed = true;
-        } else {
-            failed = true;
-        }
+        passed = passed.saturating_add(usize::from(assert_read(&rt, rt.alloc(), reads)?));
     }
-    holds!(rt; failed && passed, failed);
+    holds!(rt; 0 < passed && passed < 14, passed);
     Ok(())
 }
 
@@ -80,15 +76,12 @@ fn is_written(
 
 #[test]
 fn each_write_of_an_output_fails_in_turn(rt: HostRuntime) -> Result<(), Fail> {
-    let (mut failed, mut passed) = (false, false);
+    let mut passed = 0usize;
     for writes in 0..10usize {
-        if is_written(&rt, rt.alloc(), 32, writes, usize::MAX)? {
-            passed = true;
-        } else {
-            failed = true;
-        }
+        let is_written = is_written(&rt, rt.alloc(), 32, writes, usize::MAX)?;
+        passed = passed.saturating_add(usize::from(is_written));
     }
-    holds!(rt; failed && passed, failed);
+    holds!(rt; 0 < passed && passed < 10, passed);
     Ok(())
 }
 

@@ -5,13 +5,11 @@ use crate::digest::Digest;
 use crate::game::Game;
 use crate::random::Random;
 use anyhow::{Result, anyhow, bail};
-use host_core::Host;
+use opaque::OpaqueHost;
 use session_slots::SessionId;
 use shogi_core::Move;
 use shogi_sfen::write_move;
 use std::alloc::Global;
-use std::hash::{BuildHasherDefault, FoldHasher};
-use std::marker::Model;
 
 /// The entries of the host's table.
 const ENTRIES: usize = 4096;
@@ -31,57 +29,13 @@ const NUMBERS: usize = 10_000;
 /// The first ply that is asked about. No two games of the benchmark share so many.
 const FIRST_PLY: usize = 8;
 
-/// A host for so many clients. What its contracts say stays within.
-#[derive(Drop)]
-struct Server {
-    host: Host<BuildHasherDefault<FoldHasher>, Global>,
-}
-
-impl Model for Server {
-    ghost Value = { Unit };
-
-    ghost view = { λ _. tt };
-}
-
-impl Server {
-    fn new(alloc: Global, slots: usize) -> Result<Server> {
-        let hasher = BuildHasherDefault::<FoldHasher>::new();
-        match Host::new(alloc, slots.clamp(1, 1024), ENTRIES, hasher) {
-            Ok(host) => Ok(Server { host }),
-            Err(_) => bail!("no memory for a host"),
+/// Works round by round until nothing is pending.
+fn work_all(host: &mut OpaqueHost<Global>) {
+    for _ in 0..u64::MAX {
+        let round = host.round(SLICE);
+        if round.worked == 0 && round.refused == 0 {
+            break;
         }
-    }
-
-    fn open(&mut self) -> Result<SessionId> {
-        self.host
-            .open()
-            .map_err(|_| anyhow!("no room for a client"))
-    }
-
-    fn feed(&mut self, id: SessionId, sent: &[u8]) -> Result<()> {
-        self.host
-            .feed(id, sent)
-            .map_err(|_| anyhow!("a client is not heard"))
-    }
-
-    /// Works round by round until nothing is pending.
-    fn work_all(&mut self) {
-        for _ in 0..u64::MAX {
-            let round = self.host.round(SLICE);
-            if round.worked == 0 && round.refused == 0 {
-                break;
-            }
-        }
-    }
-
-    /// Takes in all that is queued for a client.
-    fn take(&mut self, id: SessionId, digest: &mut Digest) -> Result<()> {
-        let queued = self.host.output(id).unwrap_or(b"").len();
-        match self.host.take(id, queued) {
-            Ok(bytes) => digest.take_in(bytes.as_slice()),
-            Err(_) => bail!("no memory for an answer"),
-        }
-        Ok(())
     }
 }
 
@@ -155,12 +109,14 @@ pub fn clients(
     random: &mut Random,
     digest: &mut Digest,
 ) -> Result<()> {
-    let mut server = Server::new(alloc, games.len().saturating_mul(CLIENTS_OF_A_GAME))?;
+    let slots = games.len().saturating_mul(CLIENTS_OF_A_GAME);
+    let host = OpaqueHost::new(alloc, slots, ENTRIES);
+    let mut host = host.map_err(|_| anyhow!("no memory for a host"))?;
     let mut clients = Vec::new(alloc);
     for game in games {
         let mut number = random.below(1000);
         for _ in 0..CLIENTS_OF_A_GAME {
-            let id = server.open()?;
+            let id = host.open().map_err(|_| anyhow!("no room for a client"))?;
             let questions = next_questions(alloc, game, &mut number)?;
             clients.push(Client {
                 id,
@@ -172,11 +128,14 @@ pub fn clients(
     for turn in 0..TURNS {
         for client in clients.as_slice() {
             let sent = client.request(alloc, turn)?;
-            server.feed(client.id, sent.as_slice())?;
+            let fed = host.feed(client.id, sent.as_slice());
+            fed.map_err(|_| anyhow!("a client is not heard"))?;
         }
-        server.work_all();
+        work_all(&mut host);
         for client in clients.as_slice() {
-            server.take(client.id, digest)?;
+            let taken = host.take(client.id, usize::MAX);
+            let taken = taken.map_err(|_| anyhow!("no memory for an answer"))?;
+            digest.take_in(taken.as_slice());
         }
     }
     Ok(())

@@ -45,11 +45,8 @@ fn take_in_count(p: &Position, depth: u8, digest: &mut Digest) {
 /// game at depth 5, and that after some move of the position of most moves at depth 3.
 pub fn count(games: &[Game], random: &mut Random, digest: &mut Digest) {
     for game in games {
-        let plies = game.plies() / 36;
         for part in 0..36usize {
-            let ply = plies
-                .saturating_mul(part)
-                .saturating_add(random.below(plies));
+            let ply = game.some_ply(part, 36, random);
             take_in_count(&game.position(ply), 3, digest);
         }
     }

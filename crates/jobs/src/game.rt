@@ -1,5 +1,8 @@
 //! Games as they are read from standard input.
 
+ghost use Rattle.std.specs.Prelude.{◌≤◌};
+
+use crate::random::Random;
 use anyhow::{Result, anyhow};
 use shogi_core::Position;
 use shogi_moves::play;
@@ -28,6 +31,16 @@ impl Game {
             None => self.text.len(),
         };
         self.text.as_slice().get(..end).unwrap_or(b"")
+    }
+
+    /// The number of plies at some place of this part of the game, of so many parts.
+    pub fn some_ply(&self, part: usize, parts: usize, random: &mut Random) -> usize
+        requires { 1 ≤ parts }
+    {
+        let plies = self.plies() / parts;
+        plies
+            .saturating_mul(part)
+            .saturating_add(random.below(plies))
     }
 
     /// The position after so many plies, or the opening position where the game has fewer.

@@ -5,19 +5,18 @@ use crate::digest::Digest;
 use crate::game::Game;
 use crate::random::Random;
 use anyhow::{Result, anyhow};
-use shared_table::SharedTable;
+use opaque::{SeedlessTable, table_of};
 use shogi_core::Position;
 use shogi_eval::Eval;
 use shogi_search::{Found, Search};
 use std::alloc::Global;
-use std::hash::{BuildHasherDefault, FoldHasher};
 
 /// A search to its end in slices of so many steps.
 fn search(
     p: &Position,
     (eval, depth): (Eval, u8),
     slice: u64,
-    table: &mut SharedTable<BuildHasherDefault<FoldHasher>, Global>,
+    table: &mut SeedlessTable<Global>,
 ) -> Option<Found> {
     let mut search = Search::start(p, eval, depth.min(16));
     for _ in 0..u64::MAX {
@@ -39,9 +38,7 @@ fn take_in_found(found: Option<Found>, digest: &mut Digest) {
 
 /// One search of the position at depth 5 over a table far too small, in slices of one step.
 fn search_in_steps(alloc: Global, p: &Position, digest: &mut Digest) -> Result<()> {
-    let hasher = BuildHasherDefault::<FoldHasher>::new();
-    let small = SharedTable::new(alloc, 64, hasher);
-    let mut small = small.map_err(|_| anyhow!("no memory for a table"))?;
+    let mut small = table_of(alloc, 64).map_err(|_| anyhow!("no memory for a table"))?;
     take_in_found(search(p, (Eval::Hand, 5), 1, &mut small), digest);
     Ok(())
 }
@@ -55,16 +52,11 @@ pub fn library(
     random: &mut Random,
     digest: &mut Digest,
 ) -> Result<()> {
-    let hasher = BuildHasherDefault::<FoldHasher>::new();
-    let large = SharedTable::new(alloc, 1_000_000, hasher);
+    let large = table_of(alloc, 1_000_000);
     let mut large = large.map_err(|_| anyhow!("no memory for a table"))?;
     for game in games {
-        let plies = game.plies() / 16;
         for part in 12..16usize {
-            let ply = plies
-                .saturating_mul(part)
-                .saturating_add(random.below(plies));
-            let p = game.position(ply);
+            let p = game.position(game.some_ply(part, 16, random));
             if part % 2 == 0 {
                 search_in_steps(alloc, &p, digest)?;
             } else {

@@ -90,10 +90,7 @@ pub fn grade(
         sent.extend_from_slice(b"setoption name Eval value ")?;
         sent.extend_from_slice(eval)?;
         for game in games {
-            let plies = game.plies() / 12;
-            let ply = plies
-                .saturating_mul(part)
-                .saturating_add(random.below(plies));
+            let ply = game.some_ply(part, 12, random);
             sent.extend_from_slice(b"position sfen ")?;
             sent.extend_from_slice(write_position(&game.position(ply)).as_slice())?;
             let go = if part % 3 == 0 {

@@ -1,8 +1,9 @@
 //! Each request of a host refused in turn, and the event that was refused sent again.
 
-use crate::host::{TestHost, gave, is_done, is_refused, opened};
+use crate::host::{gave, is_done, is_refused, opened};
 use crate::refusals::{Memory, Trial, refuse_each};
 use host_core::{Event, HostFault, Outcome};
+use opaque::OpaqueHost;
 use session_slots::SessionId;
 use std::alloc::Global;
 use std::process::Abort;
@@ -22,18 +23,18 @@ const ROUNDS: u64 = 100_000;
 struct Served<'a> {
     memory: &'a Memory,
     stays_gone: bool,
-    host: TestHost<&'a Memory>,
+    host: OpaqueHost<&'a Memory>,
     refused: u64,
 }
 
 impl<'a> Served<'a> {
     /// A host of three slots. Where allocation fails it is made again.
     fn new(memory: &'a Memory, stays_gone: bool) -> Result<Served<'a>, Fail> {
-        let (host, refused) = match TestHost::new(memory, 3, 4096) {
+        let (host, refused) = match OpaqueHost::new(memory, 3, 4096) {
             Ok(host) => (host, 0),
             Err(_) => {
                 memory.refuse_nothing();
-                (TestHost::new(memory, 3, 4096)?, 1)
+                (OpaqueHost::new(memory, 3, 4096)?, 1)
             }
         };
         Ok(Served {
@@ -168,12 +169,12 @@ impl<'a> Served<'a> {
         self.feed(rt, id, b"isready\n");
         self.work(rt, id, "readyok\n");
         self.memory.refuse_at(n);
-        let fault = self.host.run(&[
+        let ended = self.host.run(&[
             Event::Feed(id, b"go depth 1\n"),
             Event::Work(id, u64::MAX),
             Event::Close(id),
         ]);
-        self.assert_run(rt, id, n, fault);
+        self.assert_run(rt, id, n, ended.err());
         self.open(rt, 1)?;
         Ok(())
     }

@@ -2,15 +2,14 @@
 
 use crate::refusals::Memory;
 use crate::tables::assert_answers;
-use shared_table::{SharedTable, TableFault};
+use opaque::{SeedlessTable, table_of};
 use shogi_core::{Color, Hands, Kind, Piece, Position, PositionFault, Role};
 use shogi_eval::Eval;
 use shogi_search::{Entry, Memo, NoMemo, search};
-use std::hash::{BuildHasherDefault, FoldHasher};
 use std::test::Fail;
 use test_support::{FailingAllocator, holds, same};
 
-type FailingTable<'a> = SharedTable<BuildHasherDefault<FoldHasher>, &'a Memory>;
+type FailingTable<'a> = SeedlessTable<&'a Memory>;
 
 const ENTRIES: usize = 1_000_000;
 
@@ -43,10 +42,6 @@ fn position(number: usize) -> Result<Position, PositionFault> {
     Position::new(cells, hands, Color::Black)
 }
 
-fn new_table(memory: &Memory) -> Result<FailingTable<'_>, TableFault> {
-    SharedTable::new(memory, ENTRIES, BuildHasherDefault::<FoldHasher>::new())
-}
-
 // Notes the values of so many positions.
 fn fill(table: &mut FailingTable<'_>, count: usize) {
     for number in 0..count {
@@ -60,7 +55,7 @@ fn fill(table: &mut FailingTable<'_>, count: usize) {
 #[test]
 fn a_full_table_keeps_its_room(rt: HostRuntime) -> Result<(), Fail> {
     let memory = FailingAllocator::new(rt.alloc());
-    let mut table = new_table(&memory)?;
+    let mut table = table_of(&memory, ENTRIES)?;
     let empty = memory.held();
     fill(&mut table, ENTRIES);
     same!(rt; table.len(), ENTRIES);
@@ -76,7 +71,7 @@ fn a_full_table_keeps_its_room(rt: HostRuntime) -> Result<(), Fail> {
 #[test]
 fn a_table_that_may_not_grow_on_loses_notes_alone(rt: HostRuntime) -> Result<(), Fail> {
     let memory = FailingAllocator::new(rt.alloc());
-    let mut table = new_table(&memory)?;
+    let mut table = table_of(&memory, ENTRIES)?;
     fill(&mut table, ENTRIES / 2);
     same!(rt; table.len(), ENTRIES / 2);
     let half = memory.held();

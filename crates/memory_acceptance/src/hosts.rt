@@ -2,10 +2,10 @@
 
 ghost use Rattle.std.specs.Prelude.{◌≤◌};
 
-use crate::host::{TestHost, gave, is_done, is_refused, opened};
-use crate::session::{TestSession, table_of};
+use crate::host::{gave, is_done, is_refused, opened};
 use host_core::{Event, HostFault, Outcome};
 use linked_list_allocator::LocalHeap;
+use opaque::{OpaqueHost, OpaqueSession, table_of};
 use session_slots::SessionId;
 use shogi_search::Memo;
 use std::alloc::{AllocError, Global};
@@ -34,7 +34,7 @@ struct Refused {
 /// A session, and a ballast that takes memory away from it.
 #[derive(Drop)]
 struct Scarce<'a> {
-    session: TestSession<&'a LocalHeap>,
+    session: OpaqueSession<&'a LocalHeap>,
     ballast: Option<Vec<u8, &'a LocalHeap>>,
     refused: Refused,
 }
@@ -44,7 +44,7 @@ impl<'a> Scarce<'a> {
     fn new(heap: &'a LocalHeap, left: usize) -> Option<Scarce<'a>> {
         match Vec::with_capacity(heap, HEAP.saturating_sub(left)) {
             Ok(block) => Some(Scarce {
-                session: TestSession::new(heap),
+                session: OpaqueSession::new(heap),
                 ballast: Some(block),
                 refused: Refused {
                     feed: false,
@@ -57,11 +57,11 @@ impl<'a> Scarce<'a> {
 
     /// Feeds the session. Where that is refused the ballast is dropped, and it is fed again.
     fn feed(&mut self, rt: &impl Abort, sent: &str) -> Result<(), Fail> {
-        if self.session.feed(rt, sent.as_bytes()).is_err() {
+        if self.session.feed(sent.as_bytes()).is_err() {
             self.refused.feed = true;
             self.ballast = None;
             holds!(*rt; self.session.output().is_empty() && self.session.wants_input());
-            self.session.feed(rt, sent.as_bytes())?;
+            self.session.feed(sent.as_bytes())?;
         }
         Ok(())
     }
@@ -181,14 +181,14 @@ fn ballast_but<'a>(
 /// A host with little memory.
 #[derive(Drop)]
 struct Starved<'a> {
-    host: TestHost<&'a LocalHeap>,
+    host: OpaqueHost<&'a LocalHeap>,
     ballast: Ballast<'a>,
 }
 
 impl<'a> Starved<'a> {
     fn new(alloc: Global, heap: &'a LocalHeap, entries: usize) -> Result<Starved<'a>, Fail> {
         Ok(Starved {
-            host: TestHost::new(heap, 2, entries)?,
+            host: OpaqueHost::new(heap, 2, entries)?,
             ballast: Vec::new(alloc),
         })
     }
@@ -203,7 +203,7 @@ impl<'a> Starved<'a> {
     ) -> Result<(), Fail> {
         self.ballast = ballast_but(alloc, heap, dropped)?;
         if dropped == 0 {
-            same!(*rt; self.host.run(events), Some(HostFault::OutOfMemory));
+            same!(*rt; self.host.run(events).err(), Some(HostFault::OutOfMemory));
         }
         Ok(())
     }
@@ -250,15 +250,11 @@ fn assert_opened(rt: &impl Abort, alloc: Global, dropped: usize) -> Result<bool,
 // event.
 #[test]
 fn sessions_are_opened_after_a_refusal(rt: HostRuntime) -> Result<(), Fail> {
-    let (mut refused, mut never) = (false, false);
+    let mut refused = 0usize;
     for dropped in 0..24 {
-        if assert_opened(&rt, rt.alloc(), dropped)? {
-            refused = true;
-        } else {
-            never = true;
-        }
+        refused = refused.saturating_add(usize::from(assert_opened(&rt, rt.alloc(), dropped)?));
     }
-    holds!(rt; refused && never, refused);
+    holds!(rt; 0 < refused && refused < 24, refused);
     Ok(())
 }
 
@@ -294,15 +290,12 @@ fn assert_answered(
 #[test]
 fn two_sessions_continue_after_a_refusal(rt: HostRuntime) -> Result<(), Fail> {
     for scarce_from in [0, 2, 4] {
-        let (mut refused, mut never) = (false, false);
+        let mut refused = 0usize;
         for dropped in 0..24 {
-            if assert_answered(&rt, rt.alloc(), scarce_from, dropped)? {
-                refused = true;
-            } else {
-                never = true;
-            }
+            let is_refused = assert_answered(&rt, rt.alloc(), scarce_from, dropped)?;
+            refused = refused.saturating_add(usize::from(is_refused));
         }
-        holds!(rt; refused && never, refused);
+        holds!(rt; 0 < refused && refused < 24, refused);
     }
     Ok(())
 }

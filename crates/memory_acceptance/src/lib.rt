@@ -24,8 +24,6 @@ mod room;
 #[cfg(test)]
 mod scripts;
 #[cfg(test)]
-mod session;
-#[cfg(test)]
 mod sockets;
 #[cfg(test)]
 mod streams;

@@ -1,9 +1,9 @@
 //! Each request refused in turn while a `go` with several lines is answered.
 
-use crate::host::{TestHost, is_done, is_refused, opened};
+use crate::host::{is_done, is_refused, opened};
 use crate::refusals::{Memory, Trial, refuse_each};
-use crate::session::{TestSession, table_of};
 use host_core::{Event, Outcome};
+use opaque::{OpaqueHost, OpaqueSession, table_of};
 use session_slots::SessionId;
 use shogi_search::Memo;
 use std::alloc::Global;
@@ -27,17 +27,17 @@ struct Slices {
 // prefix of the answer, and in the end it is all of it.
 fn answer<M: Memo>(
     rt: &impl Abort,
-    session: &mut TestSession<&Memory>,
+    session: &mut OpaqueSession<&Memory>,
     memory: &Memory,
     table: &mut M,
     run: &Slices,
     whole: &str,
 ) -> Result<(), Fail> {
     let sent = run.row.sent.as_bytes();
-    if session.feed(rt, sent).is_err() {
+    if session.feed(sent).is_err() {
         memory.refuse_nothing();
         holds!(*rt; session.output().is_empty() && session.wants_input());
-        session.feed(rt, sent)?;
+        session.feed(sent)?;
     }
     for _ in 0..SLICES {
         if !session.pending() {
@@ -57,7 +57,7 @@ impl Trial for Slices {
     fn run<R: Abort>(&self, rt: &R, alloc: Global, memory: &Memory) -> Result<u64, Fail> {
         let whole = joined(alloc, self.row.answer)?;
         let mut table = table_of(alloc, 64)?;
-        let mut session = TestSession::new(memory);
+        let mut session = OpaqueSession::new(memory);
         answer(rt, &mut session, memory, &mut table, self, whole.as_str())?;
         Ok(0)
     }
@@ -80,7 +80,7 @@ fn each_request_of_a_session_is_refused_in_turn(rt: HostRuntime) -> Result<(), F
 #[derive(Drop)]
 struct Served<'a> {
     memory: &'a Memory,
-    host: TestHost<&'a Memory>,
+    host: OpaqueHost<&'a Memory>,
 }
 
 impl<'a> Served<'a> {
@@ -136,7 +136,7 @@ struct Both;
 
 impl Trial for Both {
     fn run<R: Abort>(&self, rt: &R, alloc: Global, memory: &Memory) -> Result<u64, Fail> {
-        match TestHost::new(memory, 2, 64) {
+        match OpaqueHost::new(memory, 2, 64) {
             Ok(host) => {
                 Served { memory, host }.answers_both(rt, alloc)?;
                 Ok(0)

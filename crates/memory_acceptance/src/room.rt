@@ -1,9 +1,9 @@
 //! What is given back: idle sessions are small, and so is a host whose sessions were closed.
 
-use crate::host::{TestHost, is_done, opened};
+use crate::host::{is_done, opened};
 use crate::refusals::Memory;
-use crate::session::TestSession;
 use host_core::{Event, Outcome};
+use opaque::{OpaqueHost, OpaqueSession};
 use session_slots::SessionId;
 use shogi_search::NoMemo;
 use std::alloc::Global;
@@ -34,9 +34,9 @@ fn usi_lines(alloc: Global) -> Result<Vec<u8>, Fail> {
 }
 
 // Feeds the bytes in chunks, and answers each.
-fn say(rt: &impl Abort, session: &mut TestSession<&Memory>, bytes: &[u8]) -> Result<(), Fail> {
+fn say(session: &mut OpaqueSession<&Memory>, bytes: &[u8]) -> Result<(), Fail> {
     for chunk in bytes.chunks(CHUNK_MAX) {
-        session.feed(rt, chunk)?;
+        session.feed(chunk)?;
         session.work(&mut NoMemo, u64::MAX)?;
     }
     Ok(())
@@ -46,19 +46,24 @@ fn say(rt: &impl Abort, session: &mut TestSession<&Memory>, bytes: &[u8]) -> Res
 fn assert_line(
     rt: &impl Abort,
     memory: &Memory,
-    session: &mut TestSession<&Memory>,
+    session: &mut OpaqueSession<&Memory>,
     unended: &[u8],
 ) -> Result<(), Fail> {
-    say(rt, session, unended)?;
+    say(session, unended)?;
     holds!(*rt; memory.held() >= 65_535);
-    say(rt, session, b"\n")?;
+    say(session, b"\n")?;
     holds!(*rt; memory.held() <= KEPT, memory.held());
     Ok(())
 }
 
 // What is kept is at most eight times what is queued, however small the chunks are in which it is
 // taken.
-fn assert_taken(rt: &impl Abort, memory: &Memory, session: &mut TestSession<&Memory>, most: usize) {
+fn assert_taken(
+    rt: &impl Abort,
+    memory: &Memory,
+    session: &mut OpaqueSession<&Memory>,
+    most: usize,
+) {
     for _ in 0..234_496 {
         if session.output().is_empty() {
             break;
@@ -76,12 +81,12 @@ fn assert_small(
     rt: &impl Abort,
     alloc: Global,
     memory: &Memory,
-    session: &mut TestSession<&Memory>,
+    session: &mut OpaqueSession<&Memory>,
     most: usize,
 ) -> Result<(), Fail> {
     let unended = vec![in alloc; b'x'; 65_535]?;
     assert_line(rt, memory, session, unended.as_slice())?;
-    say(rt, session, usi_lines(alloc)?.as_slice())?;
+    say(session, usi_lines(alloc)?.as_slice())?;
     holds!(*rt; memory.held() >= 234_496);
     assert_taken(rt, memory, session, most);
     Ok(())
@@ -90,7 +95,7 @@ fn assert_small(
 #[test]
 fn an_idle_session_is_small(rt: HostRuntime) -> Result<(), Fail> {
     let memory = FailingAllocator::new(rt.alloc());
-    let mut session = TestSession::new(&memory);
+    let mut session = OpaqueSession::new(&memory);
     same!(rt; memory.held(), 0);
     for most in [1, 117, 4096, usize::MAX] {
         assert_small(&rt, rt.alloc(), &memory, &mut session, most)?;
@@ -104,12 +109,9 @@ fn an_idle_session_is_small(rt: HostRuntime) -> Result<(), Fail> {
 #[test]
 fn a_session_that_is_over_is_small(rt: HostRuntime) -> Result<(), Fail> {
     let memory = FailingAllocator::new(rt.alloc());
-    let mut session = TestSession::new(&memory);
-    say(
-        &rt,
-        &mut session,
-        vec![in rt.alloc(); b'x'; 65_536]?.as_slice(),
-    )?;
+    let mut session = OpaqueSession::new(&memory);
+    let line = vec![in rt.alloc(); b'x'; 65_536]?;
+    say(&mut session, line.as_slice())?;
     holds!(rt; session.is_over());
     session.take(usize::MAX);
     holds!(rt; memory.held() <= KEPT, memory.held());
@@ -121,7 +123,7 @@ fn a_session_that_is_over_is_small(rt: HostRuntime) -> Result<(), Fail> {
 fn assert_nothing_lost(
     rt: &impl Abort,
     memory: &Memory,
-    session: &mut TestSession<&Memory>,
+    session: &mut OpaqueSession<&Memory>,
 ) -> Result<(), Fail> {
     memory.refuse_from(1);
     session.take(234_496 - 20);
@@ -132,7 +134,7 @@ fn assert_nothing_lost(
     session.take(10);
     holds!(*rt; memory.held() <= KEPT, memory.held());
     memory.refuse_nothing();
-    say(rt, session, b"isready\n")?;
+    say(session, b"isready\n")?;
     holds!(*rt; session.output() == b"readyok\n".as_slice());
     Ok(())
 }
@@ -140,9 +142,9 @@ fn assert_nothing_lost(
 #[test]
 fn a_refused_block_loses_nothing(rt: HostRuntime) -> Result<(), Fail> {
     let memory = FailingAllocator::new(rt.alloc());
-    let mut session = TestSession::new(&memory);
-    say(&rt, &mut session, longest_line(rt.alloc())?.as_slice())?;
-    say(&rt, &mut session, usi_lines(rt.alloc())?.as_slice())?;
+    let mut session = OpaqueSession::new(&memory);
+    say(&mut session, longest_line(rt.alloc())?.as_slice())?;
+    say(&mut session, usi_lines(rt.alloc())?.as_slice())?;
     assert_nothing_lost(&rt, &memory, &mut session)
 }
 
@@ -162,11 +164,11 @@ fn usual_lines(alloc: Global) -> Result<Vec<u8>, Fail> {
 #[test]
 fn usual_lines_keep_their_room(rt: HostRuntime) -> Result<(), Fail> {
     let memory = FailingAllocator::new(rt.alloc());
-    let mut session = TestSession::new(&memory);
+    let mut session = OpaqueSession::new(&memory);
     let lines = usual_lines(rt.alloc())?;
     let mut held = 0;
     for round in 0..100 {
-        say(&rt, &mut session, lines.as_slice())?;
+        say(&mut session, lines.as_slice())?;
         session.take(usize::MAX);
         if round == 0 {
             held = memory.held();
@@ -176,11 +178,11 @@ fn usual_lines_keep_their_room(rt: HostRuntime) -> Result<(), Fail> {
     Ok(())
 }
 
-fn does(rt: &impl Abort, host: &mut TestHost<&Memory>, event: Event<'_>) {
+fn does(rt: &impl Abort, host: &mut OpaqueHost<&Memory>, event: Event<'_>) {
     holds!(*rt; is_done(&host.step(event)), event);
 }
 
-fn answer(rt: &impl Abort, host: &mut TestHost<&Memory>, id: SessionId, bytes: &[u8]) {
+fn answer(rt: &impl Abort, host: &mut OpaqueHost<&Memory>, id: SessionId, bytes: &[u8]) {
     for chunk in bytes.chunks(CHUNK_MAX) {
         does(rt, host, Event::Feed(id, chunk));
         does(rt, host, Event::Work(id, u64::MAX));
@@ -191,7 +193,7 @@ fn answer(rt: &impl Abort, host: &mut TestHost<&Memory>, id: SessionId, bytes: &
 // closes it.
 fn serve(
     rt: &impl Abort,
-    host: &mut TestHost<&Memory>,
+    host: &mut OpaqueHost<&Memory>,
     bytes: &[u8],
     answered: usize,
 ) -> Result<(), Fail> {
@@ -210,7 +212,7 @@ fn assert_as_small(
     rt: &impl Abort,
     alloc: Global,
     memory: &Memory,
-    host: &mut TestHost<&Memory>,
+    host: &mut OpaqueHost<&Memory>,
 ) -> Result<(), Fail> {
     let (line, lines) = (longest_line(alloc)?, usi_lines(alloc)?);
     let mut held = 0;
@@ -232,7 +234,7 @@ fn assert_as_small(
 #[test]
 fn a_host_is_as_small_as_it_was(rt: HostRuntime) -> Result<(), Fail> {
     let memory = FailingAllocator::new(rt.alloc());
-    let mut host = TestHost::new(&memory, 2, 1)?;
+    let mut host = OpaqueHost::new(&memory, 2, 1)?;
     assert_as_small(&rt, rt.alloc(), &memory, &mut host)?;
     drop(host);
     same!(rt; memory.held(), 0);

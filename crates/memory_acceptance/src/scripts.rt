@@ -77,16 +77,12 @@ fn assert_heaps(
         entries,
         slice: 1000,
     };
-    let (mut refused, mut passed) = (false, false);
+    let mut passed = 0usize;
     for blocks in 0..200usize {
         let heap = LocalHeap::new(alloc, blocks.saturating_mul(step))?;
-        if is_played(rt, alloc, &heap, &run)? {
-            passed = true;
-        } else {
-            refused = true;
-        }
+        passed = passed.saturating_add(usize::from(is_played(rt, alloc, &heap, &run)?));
     }
-    holds!(*rt; refused && passed, refused);
+    holds!(*rt; 0 < passed && passed < 200, passed);
     Ok(())
 }
 

@@ -54,16 +54,12 @@ fn is_whole(rt: &impl Abort, ended: Result<(), StdioFault>, written: &[u8], whol
 // Heaps of growing sizes, from nothing on. The largest block is the current search, and the small
 // ones come before and after it.
 fn assert_heaps(rt: &impl Abort, alloc: Global, run: &Run<'_>, step: usize) -> Result<(), Fail> {
-    let (mut refused, mut passed) = (false, false);
+    let mut passed = 0usize;
     for blocks in 0..200usize {
         let heap = LocalHeap::new(alloc, blocks.saturating_mul(step))?;
-        if is_written(rt, alloc, &heap, run) {
-            passed = true;
-        } else {
-            refused = true;
-        }
+        passed = passed.saturating_add(usize::from(is_written(rt, alloc, &heap, run)));
     }
-    holds!(*rt; refused && passed, refused);
+    holds!(*rt; 0 < passed && passed < 200, passed);
     Ok(())
 }
 

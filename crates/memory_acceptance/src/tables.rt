@@ -1,11 +1,9 @@
 //! A table whose growth is refused.
 
 use crate::refusals::{Memory, Trial, refuse_each};
-use crate::session::TestSession;
-use shared_table::SharedTable;
+use opaque::{OpaqueSession, table_of};
 use shogi_search::Memo;
 use std::alloc::Global;
-use std::hash::{BuildHasherDefault, FoldHasher};
 use std::process::Abort;
 use std::test::Fail;
 use test_support::holds;
@@ -16,8 +14,8 @@ use test_support::tables::opening;
 pub fn assert_answers<M: Memo>(rt: &impl Abort, alloc: Global, table: &mut M) -> Result<(), Fail> {
     let row = opening();
     let answer = joined(alloc, row.answer)?;
-    let mut session = TestSession::new(alloc);
-    session.feed(rt, row.sent.as_bytes())?;
+    let mut session = OpaqueSession::new(alloc);
+    session.feed(row.sent.as_bytes())?;
     session.work(table, u64::MAX)?;
     holds!(*rt; session.output() == answer.as_bytes());
     Ok(())
@@ -30,8 +28,7 @@ struct LargeTable;
 // It is refused what it needs where the table is not made, and not where it may not grow.
 impl Trial for LargeTable {
     fn run<R: Abort>(&self, rt: &R, alloc: Global, memory: &Memory) -> Result<u64, Fail> {
-        let hasher = BuildHasherDefault::<FoldHasher>::new();
-        let Ok(mut table) = SharedTable::new(memory, 1_000_000, hasher) else {
+        let Ok(mut table) = table_of(memory, 1_000_000) else {
             return Ok(1);
         };
         assert_answers(rt, alloc, &mut table)?;

@@ -1,14 +1,11 @@
 //! Rows as the sessions of one host: all at once in rounds, and in random order, as clients that come and go.
 
-ghost use Rattle.std.specs.Prelude.{◌<◌};
-
 use crate::found::Found;
 use crate::row::Row;
-use host_core::Host;
+use opaque::OpaqueHost;
 use session_slots::SessionId;
 use std::alloc::{AllocError, Global};
-use std::hash::{BuildHasherDefault, FoldHasher};
-use std::marker::Model;
+use test_support::random::Random;
 
 /// The most rounds of one run.
 const ROUNDS: u64 = 1_000_000;
@@ -16,85 +13,41 @@ const ROUNDS: u64 = 1_000_000;
 /// The events of one run in random order.
 const EVENTS: u64 = 4000;
 
-/// A host. What its contracts say stays within.
-#[derive(Drop)]
-struct Server {
-    host: Host<BuildHasherDefault<FoldHasher>, Global>,
+type Server = OpaqueHost<Global>;
+
+fn server_of(alloc: Global, slots: usize, entries: usize) -> Result<Server, AllocError> {
+    OpaqueHost::new(alloc, slots, entries).map_err(|_| AllocError)
 }
 
-impl Model for Server {
-    ghost Value = { Unit };
-
-    ghost view = { λ _. tt };
+/// Works one slice; returns whether it made at most its budget, and all of it where something is left.
+fn works(server: &mut Server, id: SessionId, budget: u64) -> bool {
+    match server.work(id, budget) {
+        Ok(steps) => steps <= budget && (steps == budget || !server.pending(id)),
+        Err(_) => false,
+    }
 }
 
-impl Server {
-    /// A host of 1 to 1,024 slots and 1 to 1,000,000 entries.
-    fn new(alloc: Global, slots: usize, entries: usize) -> Result<Server, AllocError> {
-        let hasher = BuildHasherDefault::<FoldHasher>::new();
-        match Host::new(
-            alloc,
-            slots.clamp(1, 1024),
-            entries.clamp(1, 1_000_000),
-            hasher,
-        ) {
-            Ok(host) => Ok(Server { host }),
-            Err(_) => Err(AllocError),
+/// One slice for each session with something pending. Gives how many had one.
+fn round(server: &mut Server, budget: u64) -> u64 {
+    let round = server.round(budget);
+    round.worked.saturating_add(round.refused) as u64
+}
+
+/// Takes so many of the queued bytes, and all of them where there are fewer. Where memory runs out
+/// other bytes are taken.
+fn take(server: &mut Server, id: SessionId, most: usize, taken: &mut Vec<u8>) {
+    if let Ok(bytes) = server.take(id, most) {
+        if taken.extend_from_slice(bytes.as_slice()).is_err() {
+            taken.clear();
         }
-    }
-
-    fn open(&mut self) -> Option<SessionId> {
-        self.host.open().ok()
-    }
-
-    /// Stores the bytes; returns whether they were stored.
-    fn feed(&mut self, id: SessionId, chunk: &[u8]) -> bool {
-        self.host.feed(id, chunk).is_ok()
-    }
-
-    /// Works one slice; returns whether it made at most its budget, and all of it where something is left.
-    fn work(&mut self, id: SessionId, budget: u64) -> bool {
-        match self.host.work(id, budget) {
-            Ok(steps) => steps <= budget && (steps == budget || !self.host.pending(id)),
-            Err(_) => false,
-        }
-    }
-
-    /// One slice for each session with something pending. Gives how many had one.
-    fn round(&mut self, budget: u64) -> u64 {
-        let round = self.host.round(budget);
-        round.worked.saturating_add(round.refused) as u64
-    }
-
-    /// Takes so many of the queued bytes, and all of them where there are fewer. Where memory runs out
-    /// other bytes are taken.
-    fn take(&mut self, id: SessionId, most: usize, taken: &mut Vec<u8>) {
-        let queued = self.host.output(id).unwrap_or(b"").len();
-        if let Ok(bytes) = self.host.take(id, queued.min(most)) {
-            if taken.extend_from_slice(bytes.as_slice()).is_err() {
-                taken.clear();
-            }
-        }
-    }
-
-    fn close(&mut self, id: SessionId) -> bool {
-        self.host.close(id).is_ok()
-    }
-
-    fn is_over(&self, id: SessionId) -> bool {
-        self.host.is_over(id)
-    }
-
-    fn pending(&self, id: SessionId) -> bool {
-        self.host.pending(id)
     }
 }
 
 /// Feeds the row to a session that is opened for it.
 fn fed(server: &mut Server, row: &Row, how: &str, found: &mut Found) -> Option<SessionId> {
-    let id = server.open();
+    let id = server.open().ok();
     let is_fed = match id {
-        Some(id) => server.feed(id, row.sent.as_bytes()),
+        Some(id) => server.feed(id, row.sent.as_bytes()).is_ok(),
         None => false,
     };
     found.holds(row, how, "no session takes the bytes\n", is_fed);
@@ -111,7 +64,7 @@ fn take_all(
     found: &mut Found,
 ) {
     let mut taken = Vec::new(alloc);
-    server.take(id, usize::MAX, &mut taken);
+    take(server, id, usize::MAX, &mut taken);
     found.said(row, how, taken.as_slice());
 }
 
@@ -122,13 +75,13 @@ fn run_rounds(
     (entries, budget): (usize, u64),
     found: &mut Found,
 ) -> Result<(), AllocError> {
-    let mut server = Server::new(alloc, rows.len(), entries)?;
+    let mut server = server_of(alloc, rows.len(), entries)?;
     let mut ids = Vec::new(alloc);
     for row in rows {
         ids.push(fed(&mut server, row, "in a host", found))?;
     }
     for _ in 0..ROUNDS {
-        if server.round(budget) == 0 {
+        if round(&mut server, budget) == 0 {
             break;
         }
     }
@@ -142,36 +95,21 @@ fn run_rounds(
 
 /// The rows one after another in one slot: a new session is at its start.
 fn run_slot(alloc: Global, rows: &[Row], found: &mut Found) -> Result<(), AllocError> {
-    let mut server = Server::new(alloc, 1, 4096)?;
+    let mut server = server_of(alloc, 1, 4096)?;
     for row in rows {
         if let Some(id) = fed(&mut server, row, "in one slot", found) {
-            let worked = server.work(id, u64::MAX);
+            let worked = works(&mut server, id, u64::MAX);
             found.holds(row, "in one slot", "it is refused\n", worked);
             take_all(alloc, &mut server, row, id, "in one slot", found);
-            found.holds(row, "in one slot", "it stays open\n", server.close(id));
+            found.holds(
+                row,
+                "in one slot",
+                "it stays open\n",
+                server.close(id).is_ok(),
+            );
         }
     }
     Ok(())
-}
-
-/// Numbers that follow from a seed (a linear congruence modulo 2^64).
-#[derive(Drop)]
-struct Random {
-    state: u64,
-}
-
-impl Random {
-    /// A number below `n`.
-    fn below(&mut self, n: u64) -> u64
-        requires { 0 < n }
-        ensures { result < n }
-    {
-        self.state = self
-            .state
-            .wrapping_mul(6364136223846793005)
-            .wrapping_add(1442695040888963407);
-        (self.state >> 33) % n
-    }
 }
 
 /// A client: the row that it sends, how much of it was stored, and what was taken for it.
@@ -192,7 +130,7 @@ impl Client<'_> {
         let sent = self.row.sent.as_bytes();
         let rest = sent.get(self.stored..).unwrap_or(b"");
         let chunk = rest.get(..most).unwrap_or(rest);
-        if server.feed(self.id, chunk) {
+        if server.feed(self.id, chunk).is_ok() {
             self.stored = self.stored.saturating_add(chunk.len());
         }
     }
@@ -210,7 +148,7 @@ fn act(server: &mut Server, client: &mut Client<'_>, random: &mut Random, found:
     match random.below(8) {
         0..=2 => client.store(server, random.below(12) as usize),
         3..=5 => {
-            let worked = server.work(client.id, random.below(400));
+            let worked = works(server, client.id, random.below(400));
             found.holds(
                 client.row,
                 IN_RANDOM_ORDER,
@@ -218,9 +156,14 @@ fn act(server: &mut Server, client: &mut Client<'_>, random: &mut Random, found:
                 worked,
             );
         }
-        6 => server.take(client.id, random.below(40) as usize, &mut client.taken),
+        6 => take(
+            server,
+            client.id,
+            random.below(40) as usize,
+            &mut client.taken,
+        ),
         _ => {
-            let few = server.round(random.below(100)) <= 8;
+            let few = round(server, random.below(100)) <= 8;
             found.holds(
                 client.row,
                 IN_RANDOM_ORDER,
@@ -246,7 +189,7 @@ fn act(server: &mut Server, client: &mut Client<'_>, random: &mut Random, found:
 fn is_served(server: &mut Server, client: &mut Client<'_>, found: &mut Found) -> bool {
     let done = client.is_done(server);
     if done {
-        server.take(client.id, usize::MAX, &mut client.taken);
+        take(server, client.id, usize::MAX, &mut client.taken);
         found.said(client.row, IN_RANDOM_ORDER, client.taken.as_slice());
     }
     done
@@ -266,7 +209,7 @@ fn leaves(
     if !done && random.below(100) != 0 {
         return false;
     }
-    let closed = server.close(client.id);
+    let closed = server.close(client.id).is_ok();
     found.holds(client.row, IN_RANDOM_ORDER, "it stays open\n", closed);
     true
 }
@@ -283,7 +226,7 @@ fn next_client<'a>(
     }
     let place = random.below(rows.len() as u64) as usize;
     Some(Client {
-        id: server.open()?,
+        id: server.open().ok()?,
         row: rows.get(place)?,
         stored: 0,
         taken: Vec::new(alloc),
@@ -298,8 +241,8 @@ fn served_at_random(
     (seed, clients, entries): (u64, usize, usize),
     found: &mut Found,
 ) -> Result<u64, AllocError> {
-    let mut random = Random { state: seed };
-    let mut server = Server::new(alloc, clients, entries)?;
+    let mut random = Random::new(seed);
+    let mut server = server_of(alloc, clients, entries)?;
     let (mut present, mut served) = (Vec::new(alloc), 0u64);
     for _ in 0..EVENTS {
         if present.len() < clients {

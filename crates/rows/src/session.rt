@@ -3,37 +3,28 @@
 
 use crate::found::Found;
 use crate::row::Row;
-use shared_table::SharedTable;
+use opaque::{OpaqueSession, SeedlessTable, table_of};
 use shogi_search::{Memo, NoMemo};
 use std::alloc::{AllocError, Global};
-use std::hash::{BuildHasherDefault, FoldHasher};
-use std::marker::Model;
-use usi_session::Session;
 use usi_stdio::{Duplex, stdio};
 
 /// The most slices of one run.
 const SLICES: u64 = 1_000_000;
 
-type Table = SharedTable<BuildHasherDefault<FoldHasher>, Global>;
+type Table = SeedlessTable<Global>;
 
 /// A session, and the steps that it made. It is fed nothing that it may not be fed.
 #[derive(Drop)]
 struct Talk {
-    session: Session<Global>,
+    session: OpaqueSession<Global>,
     steps: u64,
     is_short: bool,
-}
-
-impl Model for Talk {
-    ghost Value = { Unit };
-
-    ghost view = { λ _. tt };
 }
 
 impl Talk {
     fn new(alloc: Global) -> Talk {
         Talk {
-            session: Session::new(alloc),
+            session: OpaqueSession::new(alloc),
             steps: 0,
             is_short: false,
         }
@@ -41,10 +32,8 @@ impl Talk {
 
     /// Feeds the bytes, where input is wanted.
     fn feed(&mut self, chunk: &[u8]) {
-        if self.session.wants_input() && chunk.len() <= 4096 {
-            if self.session.feed(chunk).is_err() {
-                self.is_short = true;
-            }
+        if self.session.wants_input() && self.session.feed(chunk).is_err() {
+            self.is_short = true;
         }
     }
 
@@ -79,9 +68,8 @@ impl Talk {
     }
 }
 
-fn table_of(alloc: Global, entries: usize) -> Result<Table, AllocError> {
-    let hasher = BuildHasherDefault::<FoldHasher>::new();
-    SharedTable::new(alloc, entries.clamp(1, 1_000_000), hasher).map_err(|_| AllocError)
+fn new_table(alloc: Global, entries: usize) -> Result<Table, AllocError> {
+    table_of(alloc, entries).map_err(|_| AllocError)
 }
 
 /// What the program's streams write, and whether they ended well.
@@ -183,14 +171,14 @@ fn run_row(alloc: Global, small: &mut Table, large: &mut Table, row: &Row, found
 }
 
 pub fn run(alloc: Global, rows: &[Row], found: &mut Found) -> Result<(), AllocError> {
-    let (mut small, mut large) = (table_of(alloc, 1)?, table_of(alloc, 4096)?);
+    let (mut small, mut large) = (new_table(alloc, 1)?, new_table(alloc, 4096)?);
     for row in rows {
         run_row(alloc, &mut small, &mut large, row, found);
     }
     for pair in rows.windows(2) {
         if let [one, other] = pair {
             run_turns(alloc, &mut small, one, other, found);
-            run_turns(alloc, &mut table_of(alloc, 4096)?, one, other, found);
+            run_turns(alloc, &mut new_table(alloc, 4096)?, one, other, found);
         }
     }
     Ok(())

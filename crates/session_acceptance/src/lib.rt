@@ -11,8 +11,6 @@ mod memory;
 #[cfg(test)]
 mod rows;
 #[cfg(test)]
-mod session;
-#[cfg(test)]
 mod slices;
 #[cfg(test)]
 mod streams;

@@ -1,23 +1,17 @@
 //! Over memory that refuses nothing, no call says that it was refused.
 
-use shared_table::SharedTable;
+use opaque::{OpaqueSession, table_of};
 use std::alloc::Global;
-use std::hash::{BuildHasherDefault, FoldHasher};
 use std::process::Abort;
 use std::test::Fail;
 use test_support::{FailingAllocator, holds, same};
-use usi_session::Session;
 
 // The first steps of a search to this depth, with so many lines.
 fn assert_begins(rt: &impl Abort, alloc: Global, depth: u64, lines: u64) -> Result<(), Fail> {
     let text = format!(in alloc; "setoption name MultiPV value {lines}\ngo depth {depth}\n")?;
     let memory = FailingAllocator::new(alloc);
-    let hasher = BuildHasherDefault::<FoldHasher>::new();
-    let mut table = SharedTable::new(&memory, 4096, hasher)?;
-    let mut session = Session::new(&memory);
-    if !session.wants_input() || text.len() > 4096 {
-        return Err("a new session is fed two lines".into());
-    }
+    let mut table = table_of(&memory, 4096)?;
+    let mut session = OpaqueSession::new(&memory);
     session.feed(text.as_bytes())?;
     for _ in 0..4 {
         session.work(&mut table, 500)?;

@@ -1,11 +1,9 @@
 //! Sessions that are worked in slices, the steps that they make, and what they queue.
 
 use crate::rows::assert_answer;
-use crate::session::TestSession;
-use shared_table::{SharedTable, TableFault};
+use opaque::{OpaqueSession, table_of};
 use shogi_search::{Memo, NoMemo};
 use std::alloc::Global;
-use std::hash::{BuildHasherDefault, FoldHasher};
 use std::process::Abort;
 use std::test::Fail;
 use test_support::pv_lines::TWO_AT_ONE;
@@ -16,15 +14,11 @@ use test_support::{holds, same};
 // The most slices that a test works.
 const SLICES: u64 = 200_000;
 
-type TestTable = SharedTable<BuildHasherDefault<FoldHasher>, Global>;
-
-fn small_table(alloc: Global) -> Result<TestTable, TableFault> {
-    SharedTable::new(alloc, 1, BuildHasherDefault::<FoldHasher>::new())
-}
+type TestSession = OpaqueSession<Global>;
 
 // A session that was fed the row, and nothing more.
 fn fed(alloc: Global, sent: &str) -> Result<TestSession, Fail> {
-    let mut session = TestSession::new(alloc);
+    let mut session = OpaqueSession::new(alloc);
     session.feed(sent.as_bytes())?;
     Ok(session)
 }
@@ -178,8 +172,8 @@ fn assert_cut(
     let was_pending = session.pending();
     let queued = session.output().len();
     holds!(*rt; answer.starts_with(session.output()), cut);
-    session.take(queued)?;
-    session.work(&mut small_table(alloc)?, u64::MAX)?;
+    session.take(queued);
+    session.work(&mut table_of(alloc, 1)?, u64::MAX)?;
     holds!(*rt; !session.pending(), cut);
     let rest = answer.get(queued..).unwrap_or(b"");
     holds!(*rt; session.output() == rest, cut);
@@ -231,8 +225,7 @@ fn searches_cut_anywhere(rt: HostRuntime) -> Result<(), Fail> {
 // Each root along the best lines is known from the first session, so the second makes no step.
 #[test]
 fn a_second_session_finds_what_the_first_one_searched(rt: HostRuntime) -> Result<(), Fail> {
-    let hasher = BuildHasherDefault::<FoldHasher>::new();
-    let mut table = SharedTable::new(rt.alloc(), 4096, hasher)?;
+    let mut table = table_of(rt.alloc(), 4096)?;
     for row in sliced() {
         let steps = assert_worked(&rt, rt.alloc(), &mut table, &row, 1)?;
         holds!(rt; steps > 0);
@@ -253,7 +246,7 @@ fn fed_usi(alloc: Global) -> Result<TestSession, Fail> {
     for _ in 0..1024 {
         chunk.extend_from_slice(b"usi\n")?;
     }
-    let mut session = TestSession::new(alloc);
+    let mut session = OpaqueSession::new(alloc);
     session.feed(chunk.as_slice())?;
     Ok(session)
 }
@@ -266,9 +259,9 @@ fn input_waits_for_a_full_queue(rt: HostRuntime) -> Result<(), Fail> {
     assert_queued(&rt, &session, 0, false);
     session.work(&mut NoMemo, u64::MAX)?;
     assert_queued(&rt, &session, 234_496, false);
-    session.take(168_960)?;
+    session.take(168_960);
     assert_queued(&rt, &session, 65_536, false);
-    session.take(1)?;
+    session.take(1);
     assert_queued(&rt, &session, 65_535, true);
     Ok(())
 }

@@ -45,15 +45,11 @@ fn assert_read(rt: &impl Abort, alloc: Global, reads: usize) -> Result<bool, Fai
 // Each read failing in turn.
 #[test]
 fn each_read_fails_in_turn(rt: HostRuntime) -> Result<(), Fail> {
-    let (mut failed, mut passed) = (false, false);
+    let mut passed = 0usize;
     for reads in 0..20usize {
-        if assert_read(&rt, rt.alloc(), reads)? {
-            passed = true;
-        } else {
-            failed = true;
-        }
+        passed = passed.saturating_add(usize::from(assert_read(&rt, rt.alloc(), reads)?));
     }
-    holds!(rt; failed && passed, failed);
+    holds!(rt; 0 < passed && passed < 20, passed);
     Ok(())
 }
 
@@ -84,20 +80,17 @@ fn assert_prefix(rt: &impl Abort, alloc: Global, output: FailingWriter) -> Resul
 
 // Writers that fail at each write in turn, or at each flush.
 fn fails_in_turn(rt: &impl Abort, alloc: Global, most: usize, at_flush: bool) -> Result<(), Fail> {
-    let (mut failed, mut passed) = (false, false);
+    let mut passed = 0usize;
     for n in 0..40usize {
         let (writes, flushes) = if at_flush {
             (usize::MAX, n)
         } else {
             (n, usize::MAX)
         };
-        if assert_prefix(rt, alloc, FailingWriter::new(alloc, most, writes, flushes))? {
-            passed = true;
-        } else {
-            failed = true;
-        }
+        let writer = FailingWriter::new(alloc, most, writes, flushes);
+        passed = passed.saturating_add(usize::from(assert_prefix(rt, alloc, writer)?));
     }
-    holds!(*rt; failed && passed, failed);
+    holds!(*rt; 0 < passed && passed < 40, passed);
     Ok(())
 }
 

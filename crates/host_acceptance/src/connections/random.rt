@@ -1,34 +1,13 @@
 //! Wires by chance, with fixed seeds: each connection beside a session of its own.
 
-ghost use Rattle.std.specs.Prelude.{◌≤◌, ◌<◌};
-
 use crate::connections::scene::{HOST_FULL, Scene};
+use opaque::OpaqueSession;
 use shogi_search::NoMemo;
 use std::alloc::Global;
 use std::process::Abort;
 use std::test::Fail;
 use test_support::holds;
-use usi_session::Session;
-
-/// Numbers that follow from a seed (a linear congruence modulo 2^64).
-#[derive(Drop)]
-struct Random {
-    state: u64,
-}
-
-impl Random {
-    /// A number below `n`.
-    fn below(&mut self, n: u64) -> u64
-        requires { 0 < n }
-        ensures { result < n }
-    {
-        self.state = self
-            .state
-            .wrapping_mul(6364136223846793005)
-            .wrapping_add(1442695040888963407);
-        (self.state >> 33) % n
-    }
-}
+use test_support::random::Random;
 
 /// Lines that peers send.
 const LINES: [&[u8]; 12] = [
@@ -85,9 +64,9 @@ fn connected(alloc: Global, scene: &mut Scene, random: &mut Random) -> Result<Cl
 
 /// What a session of its own says to the bytes, without a table.
 fn said_alone(alloc: Global, bytes: &[u8]) -> Result<Vec<u8>, Fail> {
-    let mut session = Session::new(alloc);
+    let mut session = OpaqueSession::new(alloc);
     for chunk in bytes.chunks(4096) {
-        if session.wants_input() && chunk.len() <= 4096 {
+        if session.wants_input() {
             session.feed(chunk)?;
             session.work(&mut NoMemo, u64::MAX)?;
         }
@@ -153,7 +132,7 @@ fn comes_to_rest(scene: &mut Scene) -> bool {
 
 /// How many connections have all that a session of its own says.
 fn served_whole(rt: &impl Abort, alloc: Global, seed: u64) -> Result<usize, Fail> {
-    let mut random = Random { state: seed };
+    let mut random = Random::new(seed);
     let mut scene = empty(alloc, &mut random)?;
     let clients = connect_some(alloc, &mut scene, &mut random)?;
     holds!(*rt; comes_to_rest(&mut scene), seed);
