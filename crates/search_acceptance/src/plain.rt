@@ -669,13 +669,14 @@ fn greater(first: Option<Threat>, other: Threat) -> Option<Threat> {
 }
 
 /// Whether a move lets the piece, its target and the squares that it reaches be, and puts nothing that
-/// slides on a line with a king of the other side, where the piece is on one too.
+/// slides on a line with the piece and with a king of its side, where the piece is on one too.
 fn is_left(p: &Position, threat: &Threat, branch: &Branch) -> bool {
     let side = p.side().opponent();
     let is_slider = matches!(branch.put, Some(piece) if piece.role.is_sliding());
     let may_pin = is_slider
         && is_on_a_line_with_king(p, side, threat.from)
-        && (is_on_a_line_with_king(p, side, branch.to));
+        && is_on_a_line_with_king(p, side, branch.to)
+        && are_on_a_line(branch.to, threat.from);
     branch.from != Some(threat.target)
         && branch.to != threat.from
         && !p.reaches(threat.from, branch.to)
