@@ -5,6 +5,7 @@ use Rattle.socket_loop.specs.Links.{links_of}
 use Rattle.socket_loop.specs.Turns.{LoopState}
 use Rattle.socket_loop.specs.Tallies.{pending_count}
 use Rattle.socket_loop.specs.declared.tally.Tally.{Tally}
+use Rattle.stream_wire.specs.declared.wire.StreamWire.{StreamWire}
 use Rattle.host_status.specs.declared.numbers.Limits.{Limits}
 use Rattle.host_status.specs.declared.numbers.Totals.{Totals}
 use Rattle.host_status.specs.declared.numbers.Status.{Status}
@@ -39,16 +40,17 @@ counted totals tally = record {
   refused_work = plus totals.refused_work tally.refused;
 }
 
--- the numbers of a host and its connections, with what was read and written and how many calls failed
-abbrev pub status_from : Limits → Totals → HostState → LoopState → ℕ → ℕ → ℕ → Status
-status_from limits totals host connections received sent faults = record {
+-- the numbers of a host, its connections and its wire
+abbrev pub status_from : {L A S : Type 0} → Limits → Totals → HostState → LoopState
+    → StreamWire L A S → Status
+status_from limits totals host connections wire = record {
   limits = limits;
   totals = totals;
   used = length connections.held;
   searching = pending_count host (links_of connections.held);
   filled = length host.table.pairs;
   refused_notes = host.table.refused;
-  received = received;
-  sent = sent;
-  faults = faults;
+  received = wire.received;
+  sent = wire.sent;
+  faults = wire.failed;
 }

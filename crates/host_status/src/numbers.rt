@@ -103,8 +103,7 @@ pub fn status_of<S: BuildHasher, A: Allocator + Copy>(
     connections: &Loop<A>,
     wire: &MioWire<A>,
 ) -> Status
-    ensures { result ≡ status_from limits totals host.now connections.now
-        wire.now.received wire.now.sent wire.now.failed }
+    ensures { result ≡ status_from limits totals host.now connections.now wire.now }
 {
     Status {
         limits,

@@ -20,8 +20,8 @@ fn read_all<A: Allocator, T: FrontEnd>(
     alloc: A,
     front_end: &mut T,
 ) -> Result<Vec<u8, A>, ReplayFault>
-    ensures read { IfOk result (λ bytes.
-        GivesAll (T.report front_end.old) (T.report front_end.new) bytes.items) }
+    ensures read { IfOk result (λ all.
+        GivesAll (T.report front_end.old) (T.report front_end.new) all.items) }
     ensures kept { Keeps (T.report front_end.old).written (T.report front_end.new).written }
     ensures flushed { OnOk result (FlushesAll (T.report front_end.old) (T.report front_end.new)) }
     ensures fault { IfErr result IsReadFault }
