@@ -112,20 +112,23 @@ fn captures_promotions_and_drops(rt: HostRuntime) -> Result<(), Fail> {
     Ok(())
 }
 
+// The material before and after a move that is made where the node stands.
+fn assert_advances(rt: &impl Abort, e: Eval, first: i32, last: i32) -> Result<(), Fail> {
+    let after = position("4k4/9/9/9/9/9/2+b6/9/4K3G b Pr")?;
+    let (p, m) = (position("4k4/9/6b2/9/9/9/2+R6/9/4K3G w P")?, read("3c7g+")?);
+    assert!(rt; is_legal(&p, m), "a legal move");
+    let mut node = Node::of(p, e);
+    same!(*rt; node.score(), first, e);
+    node.advance(m);
+    same!(*rt; node.position(), after);
+    same!(*rt; (node.score(), node.eval()), (last, e));
+    Ok(())
+}
+
 // White's bishop on 3c takes a dragon on 7g and promotes: White holds a rook, and Black's pawn in
 // hand, gold and king stay.
 #[test]
 fn a_node_continues_with_the_next(rt: HostRuntime) -> Result<(), Fail> {
-    let before = position("4k4/9/6b2/9/9/9/2+R6/9/4K3G w P")?;
-    let after = position("4k4/9/9/9/9/9/2+b6/9/4K3G b Pr")?;
-    let m = read("3c7g+")?;
-    assert!(rt; is_legal(&before, m), "a legal move");
-    for (e, first, last) in [(Eval::Plain, -1200, -1400), (Eval::Hand, -1210, -1490)] {
-        let mut node = Node::of(before, e);
-        same!(rt; node.score(), first, e);
-        node.advance(m);
-        same!(rt; node.position(), after);
-        same!(rt; (node.score(), node.eval()), (last, e));
-    }
-    Ok(())
+    assert_advances(&rt, Eval::Plain, -1200, -1400)?;
+    assert_advances(&rt, Eval::Hand, -1210, -1490)
 }
