@@ -4,11 +4,11 @@
 mod buffer;
 mod command;
 mod first;
+mod keywords;
 mod line;
 mod options;
 mod read;
 mod room;
-mod words;
 
 pub use buffer::{LineBuffer, LineFault};
 pub use command::{Command, Hold};

@@ -6,7 +6,7 @@ ghost use Rattle.usi_lines.specs.Options.{clamped_read, depth_read, eval_read, m
 ghost use Rattle.usi_lines.specs.Seen.{meaning_of};
 
 use crate::command::Command;
-use crate::words::is;
+use crate::keywords::is;
 use shogi_eval::Eval;
 use shogi_sfen::{read_number, words};
 

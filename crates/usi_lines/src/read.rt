@@ -7,8 +7,8 @@ ghost use Rattle.usi_lines.specs.Options.{IsInRange};
 ghost use Rattle.usi_lines.specs.Seen.{meaning_of};
 
 use crate::command::{Command, Hold};
+use crate::keywords::{has_word, is};
 use crate::options::{read_depth, read_option};
-use crate::words::{has_word, is};
 use shogi_sfen::words;
 
 /// What follows `position`.

@@ -1,7 +1,7 @@
 use Rattle.std.proofs.Common.{◌≡◌}
 use Rattle.shogi_sfen.specs.Words.{words}
 use Rattle.usi_lines.specs.CommandLines.{has_word}
-use Rattle.usi_lines.proofs.words.has_word.Given as goal
+use Rattle.usi_lines.proofs.keywords.has_word.Given as goal
 
 -- it is not among the words so far
 abbrev pub invariant-loop-word : goal.invariant-loop-word
