@@ -1,6 +1,6 @@
 -- Who is asked: the listener, who may be ready, and the stream of each connection that is held; and what is given first (own
 -- choice).
-use Rattle.std.specs.Prelude.{◌≡◌, ◌≢◌, ◌<◌, ◌⊎◌, ⊤, ◌&&◌, not, cond, length, take, ℕ, Bool, true, false, List, [], ◌∷◌, Option, None, Some, Result, Ok, Err, IsOk, slice_get}
+use Rattle.std.specs.Prelude.{◌≡◌, ◌≢◌, ◌<◌, ◌⊎◌, ⊤, ◌&&◌, ◌||◌, not, cond, length, take, ℕ, Bool, true, false, List, [], ◌∷◌, Option, None, Some, Result, Ok, Err, IsOk, slice_get}
 use Rattle.usi_lines.specs.OneLine.{one_line}
 use Rattle.wires.specs.Asked.{Asks}
 use Rattle.wires.specs.Report.{bytes_read}
@@ -9,7 +9,7 @@ use Rattle.wires.specs.declared.wire.Got.TheVariants.{Nothing}
 use Rattle.wires.specs.declared.wire.WireFault.{WireFault}
 use Rattle.wires.specs.declared.wire.WireFault.TheVariants.{OutOfMemory}
 use Rattle.stream_wire.specs.Streams.{Accept, Ask, IsCalledOnce, Look, NamesListener, Wait}
-use Rattle.stream_wire.specs.Held.{held}
+use Rattle.stream_wire.specs.Held.{has_kept, held}
 use Rattle.stream_wire.specs.declared.listener.Ready.{Ready}
 use Rattle.stream_wire.specs.declared.listener.Ready.TheVariants.{Stream}
 use Rattle.stream_wire.specs.declared.connection.Connection.{Connection}
@@ -112,6 +112,22 @@ module _ {L A S : Type 0} where
       → (old new : StreamWire L A S) → Type 0
   OfNumber number Relates old new =
       OfHeld Relates (held old.places.items number) (held new.places.items number)
+
+  -- the stream of this number was asked so by a read into this buffer
+  abbrev pub AsksByRead : (S → Option ℕ) → ℕ → List ℕ → Result Got WireFault
+      → (old new : StreamWire L A S) → Type 0
+  AsksByRead calls number buf result old new =
+      OfNumber number (AsksToGive calls (length buf) result) old new
+
+  -- a read of this number has left something to be given, where there was something or it is kept now
+  abbrev pub LeavesMore : ℕ → (old new : StreamWire L A S) → Type 0
+  LeavesMore number old new =
+      new.has_more ≡ (old.has_more || has_kept new.places.items number)
+
+  -- its listener was asked for the next one who waits, with this answer
+  abbrev pub AsksNext : (L → Option (List Ask)) → (old new : StreamWire L A S)
+      → Result (Option ℕ) WireFault → Type 0
+  AsksNext asked old new result = IsAskedForNext (asked old.listener) (asked new.listener) result
 
   -- its listener was asked so by an accept with this answer
   abbrev pub AsksByAccept : (L → List Ready) → (L → Option (List Ask))

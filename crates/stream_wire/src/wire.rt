@@ -1,11 +1,11 @@
 //! A wire over a listener.
 
-ghost use Rattle.std.specs.Prelude.{◌≡◌, ◌≢◌, ◌≤◌, ◌-◌, ◌^◌, ◌&&◌, ◌||◌, not, false, true, length, is_some, IfOk, None, Ok, Some, OnErr, OnOk};
+ghost use Rattle.std.specs.Prelude.{◌≡◌, ◌≢◌, ◌≤◌, ◌-◌, ◌^◌, ◌&&◌, not, false, true, length, is_some, IfOk, None, Ok, Some, OnErr, OnOk};
 ghost use Rattle.usi_lines.specs.OneLine.{IsOneLine};
 ghost use Rattle.wires.specs.Report.{GivesNumber, HasCause, HasRisen, IsWithin, KeepsAll, bytes_read, bytes_written};
 ghost use Rattle.wires.specs.declared.wire.WireFault.TheVariants.{Device};
-ghost use Rattle.stream_wire.specs.Asking.{AreAwake, AreAwakeStill, AsksByAccept, AsksByWait, AsksToGive, AsksToTake, GivesKept, IsAskedForNext, IsNamedAwake, OfNumber, StaysOpen, WakesByWait};
-ghost use Rattle.stream_wire.specs.Held.{AreAlike, counted, has_kept, kept_of};
+ghost use Rattle.stream_wire.specs.Asking.{AreAwake, AreAwakeStill, AsksByAccept, AsksByRead, AsksByWait, AsksNext, AsksToTake, GivesKept, IsNamedAwake, LeavesMore, OfNumber, StaysOpen, WakesByWait};
+ghost use Rattle.stream_wire.specs.Held.{AreAlike, counted, kept_of};
 ghost use Rattle.stream_wire.specs.Reporting.{KeepsReport, ReportsRead, ReportsShut, ReportsWrite};
 ghost use Rattle.stream_wire.specs.Streams.{NamesListener, Notes};
 ghost use Rattle.stream_wire.specs.declared.listener.Ready.TheVariants as who;
@@ -207,8 +207,7 @@ impl<L: Listener, A: Allocator + Copy> StreamWire<L, A> {
         requires left { self.old.next ≤ 2 ^ 64 - 1 - PLACES }
         ensures number { GivesNumber self.old.next self.new.next result }
         ensures cause { HasCause self.old.failed self.new.failed result }
-        ensures asks { IsAskedForNext
-            (L.asked self.old.listener) (L.asked self.new.listener) result }
+        ensures asks { AsksNext L.asked self.old self.new result }
         ensures named { L.named self.new.listener ≡ L.named self.old.listener }
         ensures awake { AreAwakeStill self.old.places.items self.new.places.items }
         ensures opens { result ≢ Ok None → self.new.may_accept ≡ self.old.may_accept }
@@ -245,8 +244,7 @@ impl<L: Listener, A: Allocator + Copy> StreamWire<L, A> {
         requires left { self.old.next ≤ 2 ^ 64 - 1 - PLACES }
         ensures number { GivesNumber self.old.next self.new.next result }
         ensures cause { HasCause self.old.failed self.new.failed result }
-        ensures asks { IsAskedForNext
-            (L.asked self.old.listener) (L.asked self.new.listener) result }
+        ensures asks { AsksNext L.asked self.old self.new result }
         ensures named { L.named self.new.listener ≡ L.named self.old.listener }
         ensures awake { AreAwakeStill self.old.places.items self.new.places.items }
         ensures opens { result ≢ Ok None → self.new.may_accept ≡ self.old.may_accept }
@@ -272,11 +270,9 @@ impl<L: Listener, A: Allocator + Copy> StreamWire<L, A> {
         ensures cause { HasCause self.old.failed self.new.failed result }
         ensures first { GivesKept (kept_of self.old.places.items number) result buf.new }
         ensures asks { L.asked self.new.listener ≡ L.asked self.old.listener }
-        ensures gives { OfNumber number (AsksToGive L.Stream.calls (length buf.old) result)
-            self.old self.new }
+        ensures gives { AsksByRead L.Stream.calls number buf.old result self.old self.new }
         ensures opens { self.new.may_accept ≡ self.old.may_accept }
-        ensures more { self.new.has_more
-            ≡ (self.old.has_more || has_kept self.new.places.items number) }
+        ensures more { LeavesMore number self.old self.new }
         ensures received { self.new.received ≡ self.old.received }
         ensures sent { self.new.sent ≡ self.old.sent }
     {
@@ -354,11 +350,9 @@ impl<L: Listener, A: Allocator + Copy> Wire for StreamWire<L, A> {
         ensures cause { HasCause self.old.failed self.new.failed result }
         ensures first { GivesKept (kept_of self.old.places.items number) result buf.new }
         ensures asks { L.asked self.new.listener ≡ L.asked self.old.listener }
-        ensures gives { OfNumber number (AsksToGive L.Stream.calls (length buf.old) result)
-            self.old self.new }
+        ensures gives { AsksByRead L.Stream.calls number buf.old result self.old self.new }
         ensures opens { self.new.may_accept ≡ self.old.may_accept }
-        ensures more { self.new.has_more
-            ≡ (self.old.has_more || has_kept self.new.places.items number) }
+        ensures more { LeavesMore number self.old self.new }
         ensures received { self.new.received
             ≡ counted self.old.received (bytes_read result buf.new) }
         ensures sent { self.new.sent ≡ self.old.sent }
