@@ -8,7 +8,7 @@ use Rattle.minimax.specs.declared.entry.Entry.{Entry}
 use Rattle.shogi_search.specs.Calls.{Call, Probe, Note, AreCalled, Asks, CallsInSteps, EndsWith, TellsOnce, question_of, telling_of}
 
 -- calls and then further ones
-calls_and_calls : {M : Type 0} (called : M → Call → M → Type 0) (a b c : M) (xs ys : List Call)
+pub calls_and_calls : {M : Type 0} (called : M → Call → M → Type 0) (a b c : M) (xs ys : List Call)
     → AreCalled called a xs b → AreCalled called b ys c → AreCalled called a (xs ++ ys) c
 unfolding AreCalled
 calls_and_calls called a b c [] ys first second = subst (λ m. AreCalled called m ys c) first second
