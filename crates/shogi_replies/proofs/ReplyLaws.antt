@@ -231,19 +231,18 @@ steps_reach cells (Some piece) a t e = or_left (has_step piece a t) (has_slide c
 pub right_step : (new : Cells) (color : Color) (a t : ℕ) → is_piece_of color (piece_at new a) ≡ true → is_piece_of color (piece_at new t) ≡ false → reaches new a t ≡ true → is_immobile t (piece_at new a) ≡ false → is_pseudo_legal_board_move new color a t false ≡ true
 right_step new color a t own free reach alive = rw (own, free, reach, still t (piece_at new a), alive) refl
 
--- what a move that ends on a square leaves to the other side: its pieces and its kings stand, it is in no check, and each empty square but that one is still empty
+-- what a move that ends on a square leaves to the other side: its pieces and its kings stand, and each empty square but that one is still empty
 pub record LeavesStanding (old new : Cells) (color : Color) (to : ℕ) : Type 0 where
   pub len : length new ≡ 81
   pub kings : (k : ℕ) → is_king color (piece_at new k) ≡ true → piece_at old k ≡ piece_at new k
-  pub shut : in_check new color ≡ false
   pub stays : (a : ℕ) → is_piece_of color (piece_at old a) ≡ true → a ≢ to → piece_at new a ≡ piece_at old a
   pub clear : (t : ℕ) → is_piece_of color (piece_at old t) ≡ false → is_piece_of color (piece_at new t) ≡ false
   pub empty : (x : ℕ) → is_none (piece_at old x) ≡ true → x ≢ to → is_none (piece_at new x) ≡ true
 
 module _ (old new : Cells) (hands : HandCounts) (color : Color) where
-  replied_step : (to : ℕ) → LeavesStanding old new color to → (a : ℕ) → a < 81 → a ≢ to → is_spare old color a ≡ true → legal_codes (record { cells = new; hands = hands; side = color }) ≢ []
+  replied_step : (to : ℕ) → LeavesStanding old new color to → in_check new color ≡ false → (a : ℕ) → a < 81 → a ≢ to → is_spare old color a ≡ true → legal_codes (record { cells = new; hands = hands; side = color }) ≢ []
   unfolding is_spare reaches
-  replied_step to k a ha other e =
+  replied_step to k shut a ha other e =
       let q : Shogi = record { cells = new; hands = hands; side = color } in
       let four = and_parts (is_piece_of color (piece_at old a) && not (is_king color (piece_at old a)) && not (is_aligned_with_king old color a)) (some_below 81 (is_open_step old color a)) e in
       let three = and_parts (is_piece_of color (piece_at old a) && not (is_king color (piece_at old a))) (not (is_aligned_with_king old color a)) four.0 in
@@ -262,14 +261,14 @@ module _ (old new : Cells) (hands : HandCounts) (color : Color) where
       some_legal q (code_of (Board a which.0 false))
       (is_legal_code_of q (code_of (Board a which.0 false)) (Board a which.0 false) (move_of-board a which.0 false ha which.1)
       ∙ (legal_board q a which.0 false
-      ∙ and_from _ _ (right_step new color a which.0 own open_end reach alive) (ap not (quiet_board new color a which.0 false k.len ha which.1 own plain off k.shut))))
+      ∙ and_from _ _ (right_step new color a which.0 own open_end reach alive) (ap not (quiet_board new color a which.0 false k.len ha which.1 own plain off shut))))
 
-  replied : (to : ℕ) → LeavesStanding old new color to → (a : ℕ) → a < 81 → a ≢ to → (is_spare old color a ≡ true) ⊎ ((is_none (piece_at old a) ≡ true) × (holds_free hands color ≡ true)) → legal_codes (record { cells = new; hands = hands; side = color }) ≢ []
-  replied to k a ha other way = elim way [
-    | inl e ↦ replied_step to k a ha other e
+  replied : (to : ℕ) → LeavesStanding old new color to → in_check new color ≡ false → (a : ℕ) → a < 81 → a ≢ to → (is_spare old color a ≡ true) ⊎ ((is_none (piece_at old a) ≡ true) × (holds_free hands color ≡ true)) → legal_codes (record { cells = new; hands = hands; side = color }) ≢ []
+  replied to k shut a ha other way = elim way [
+    | inl e ↦ replied_step to k shut a ha other e
     | inr e ↦ (
         let held = held_kind hands color e.1 in
-        free_drop new hands color held.0 a k.len ha held.1 held.2 (k.empty a e.0 other) k.shut)
+        free_drop new hands color held.0 a k.len ha held.1 held.2 (k.empty a e.0 other) shut)
   ]
 
 -- ---- what moves attacks no king from where it ends, once it is gone
@@ -344,11 +343,10 @@ module _ (p : Shogi) (from to : ℕ) (promote : Bool) (v : IsValid p) (hf : from
       (reach_was (set p.cells from None) (set (set p.cells from None) to (piece_moved promote (piece_at p.cells from))) (λ x. ⊥) stays_bare what_moved to k (λ x left. absurd left) reach)))
       (faultless_from p v.no_fault).shut covering.1
 
-  pub left_board : in_check (cells_after p.cells p.side (Board from to promote)) (opponent_of p.side) ≡ false → LeavesStanding p.cells (cells_after p.cells p.side (Board from to promote)) (opponent_of p.side) to
-  left_board unchecked = record {
+  pub left_board : LeavesStanding p.cells (cells_after p.cells p.side (Board from to promote)) (opponent_of p.side) to
+  left_board = record {
     len = length-set (set p.cells from None) to what_moved ∙ (length-set p.cells from None ∙ v.cells_fit);
     kings = crown_board;
-    shut = unchecked;
     stays = λ x e ne. elim (see_board x) [
       | inl there ↦ absurd (ne there.0)
       | inr rest ↦ elim rest [
@@ -366,11 +364,63 @@ module _ (p : Shogi) (from to : ℕ) (promote : Bool) (v : IsValid p) (hf : from
     ];
   }
 
+-- ---- the board without what moves
+
+module _ (p : Shogi) (from to : ℕ) (v : IsValid p) (hf : from < 81) (own : is_piece_of p.side (piece_at p.cells from) ≡ true) where
+  bare : piece_at (set p.cells from None) from ≡ None
+  bare = get_or-set_same p.cells from None None (omega (arith, v.cells_fit))
+
+  pub see_lifted : (x : ℕ) → ((x ≡ from) × (piece_at (set p.cells from None) x ≡ None)) ⊎ (piece_at (set p.cells from None) x ≡ piece_at p.cells x)
+  see_lifted x = elim (cases_eq x from) [
+    | inl here ↦ inl (here, ap (piece_at (set p.cells from None)) here ∙ bare)
+    | inr off ↦ inr (get_or-set_other p.cells from x None None off)
+  ]
+
+  opened_lifted : (x : ℕ) → is_none (piece_at (set p.cells from None) x) ≡ true → (is_none (piece_at p.cells x) ≡ true) ⊎ (x ≡ from)
+  opened_lifted x e = elim (see_lifted x) [ inl here ↦ inr here.0 | inr same ↦ inl (ap is_none (sym same) ∙ e) ]
+
+  crown_lifted : (k : ℕ) → is_king (opponent_of p.side) (piece_at (set p.cells from None) k) ≡ true → piece_at p.cells k ≡ piece_at (set p.cells from None) k
+  crown_lifted k e = elim (see_lifted k) [
+    | inl here ↦ absurd (let clash : false ≡ true = ap (is_king (opponent_of p.side)) (sym here.1) ∙ e in cc)
+    | inr same ↦ sym same
+  ]
+
+  theirs_lifted : (x : ℕ) → is_piece_of (opponent_of (opponent_of p.side)) (piece_at (set p.cells from None) x) ≡ true → (piece_at p.cells x ≡ piece_at (set p.cells from None) x) ⊎ (x ≡ from)
+  theirs_lifted x e = elim (see_lifted x) [ inl here ↦ inr here.0 | inr same ↦ inl (sym same) ]
+
+  pub left_lifted : LeavesStanding p.cells (set p.cells from None) (opponent_of p.side) to
+  left_lifted = record {
+    len = length-set p.cells from None ∙ v.cells_fit;
+    kings = crown_lifted;
+    stays = λ x e ne. elim (see_lifted x) [
+      | inl here ↦ absurd (both_ways (is_piece_of (opponent_of p.side) (piece_at p.cells from)) (other_side p.side (piece_at p.cells from) own) (subst (λ (y : ℕ). is_piece_of (opponent_of p.side) (piece_at p.cells y) ≡ true) here.0 e))
+      | inr same ↦ same
+    ];
+    clear = λ t e. elim (see_lifted t) [ inl here ↦ ap (is_piece_of (opponent_of p.side)) here.1 | inr same ↦ ap (is_piece_of (opponent_of p.side)) same ∙ e ];
+    empty = λ x e ne. elim (see_lifted x) [ inl here ↦ ap is_none here.1 | inr same ↦ ap is_none same ∙ e ];
+  }
+
+  -- it has no check where no king sees the square, or what stands there covers none
+  pub shut_lifted : (sight : ℕ) → Sees p.cells (opponent_of p.side) 0 sight → (has_bit sight from ≡ false) ⊎ StaysCovered p.cells (opponent_of p.side) from → in_check (set p.cells from None) (opponent_of p.side) ≡ false
+  shut_lifted sight sees (inl unseen_from) =
+      no_check p.cells (set p.cells from None) (λ x. x ≡ from) opened_lifted (opponent_of p.side) from hf theirs_lifted crown_lifted
+      (λ x left. subst (λ (y : ℕ). is_lined_with_king p.cells (opponent_of p.side) y ≡ false) (sym left) (unlined p.cells (opponent_of p.side) sight from sees hf unseen_from))
+      (λ k l e. ap (λ cell. cell_reaches p.cells cell from k) bare)
+      (faultless_from p v.no_fault).shut
+  shut_lifted sight sees (inr covered) =
+      left_unpinned p.cells (set p.cells from None) from opened_lifted (opponent_of p.side) from theirs_lifted crown_lifted
+      (λ k l e. ap (λ cell. cell_reaches (set p.cells from None) cell from k) bare)
+      (faultless_from p v.no_fault).shut covered
+
+  pub shut_uncovering : (sight : ℕ) (cell : Option Piece) → Sees p.cells (opponent_of p.side) 0 sight → UncoversNothing p.cells (opponent_of p.side) sight from cell to → in_check (set p.cells from None) (opponent_of p.side) ≡ false
+  shut_uncovering sight cell sees (inl unseen_from) = shut_lifted sight sees (inl unseen_from)
+  shut_uncovering sight cell sees (inr covering) = shut_lifted sight sees (inr covering.1)
+
 pub replied_board : (p : Shogi) (from to : ℕ) (promote : Bool) (sight spare a : ℕ) → IsValid p → IsReplies p sight spare → from < 81 → to < 81 → is_piece_of p.side (piece_at p.cells from) ≡ true → UncoversNothing p.cells (opponent_of p.side) sight from (piece_moved promote (piece_at p.cells from)) to → IsHarmless p.cells (opponent_of p.side) (piece_moved promote (piece_at p.cells from)) to
     → a < 81 → has_bit spare a ≡ true → a ≢ to → legal_codes (after p (Board from to promote)) ≢ []
 replied_board p from to promote sight spare a v r hf ht own out off ha some other =
     replied p.cells (cells_after p.cells p.side (Board from to promote)) (after p (Board from to promote)).hands (opponent_of p.side)
-    to (left_board p from to promote v hf ht own (shut_board p from to promote v hf ht own sight spare r out off)) a ha other (way_after p (Board from to promote) a (r.spares a ha some))
+    to (left_board p from to promote v hf ht own) (shut_board p from to promote v hf ht own sight spare r out off) a ha other (way_after p (Board from to promote) a (r.spares a ha some))
 
 module _ (p : Shogi) (kind : Kind) (to : ℕ) (v : IsValid p) (ht : to < 81) where
   see_drop : (x : ℕ) → ((x ≡ to) × (piece_at (cells_after p.cells p.side (Drop kind to)) x ≡ dropped p.side kind)) ⊎ (piece_at (cells_after p.cells p.side (Drop kind to)) x ≡ piece_at p.cells x)
@@ -395,11 +445,10 @@ module _ (p : Shogi) (kind : Kind) (to : ℕ) (v : IsValid p) (ht : to < 81) whe
       (λ k l e. ap (λ cell. cell_reaches p.cells cell to k) (get_or-set_same p.cells to (dropped p.side kind) None (omega (arith, v.cells_fit))) ∙ off k l e)
       (faultless_from p v.no_fault).shut
 
-  pub left_drop : in_check (cells_after p.cells p.side (Drop kind to)) (opponent_of p.side) ≡ false → LeavesStanding p.cells (cells_after p.cells p.side (Drop kind to)) (opponent_of p.side) to
-  left_drop unchecked = record {
+  pub left_drop : LeavesStanding p.cells (cells_after p.cells p.side (Drop kind to)) (opponent_of p.side) to
+  left_drop = record {
     len = length-set p.cells to (dropped p.side kind) ∙ v.cells_fit;
     kings = crown_drop;
-    shut = unchecked;
     stays = λ x e ne. elim (see_drop x) [ inl there ↦ absurd (ne there.0) | inr same ↦ same ];
     clear = λ t e. elim (see_drop t) [
       | inl there ↦ ap (is_piece_of (opponent_of p.side)) there.1 ∙ other_side p.side (dropped p.side kind) (dropped_of p.side kind)
@@ -412,7 +461,7 @@ pub replied_drop : (p : Shogi) (kind : Kind) (to sight spare a : ℕ) → IsVali
     → a < 81 → has_bit spare a ≡ true → a ≢ to → legal_codes (after p (Drop kind to)) ≢ []
 replied_drop p kind to sight spare a v r ht off ha some other =
     replied p.cells (cells_after p.cells p.side (Drop kind to)) (after p (Drop kind to)).hands (opponent_of p.side)
-    to (left_drop p kind to v ht (shut_drop p kind to v ht off)) a ha other (way_after p (Drop kind to) a (r.spares a ha some))
+    to (left_drop p kind to v ht) (shut_drop p kind to v ht off) a ha other (way_after p (Drop kind to) a (r.spares a ha some))
 
 -- ---- spare pieces are found one by one
 

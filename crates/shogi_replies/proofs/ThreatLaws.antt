@@ -34,7 +34,9 @@ use Rattle.shogi_moves.proofs.DropChecks as drops
 use Rattle.shogi_moves.proofs.DestinationLaws.{alive, legal_board, still}
 use Rattle.shogi_moves.proofs.CheckInfoLaws.{dropped_of, filled, is_piece_of-piece_moved, look, other_side, quiet_board}
 use Rattle.shogi_moves.proofs.MovedPieces.{is_king-piece_moved}
-use Rattle.shogi_replies.proofs.ReplyLaws.{LeavesStanding, left_board, left_drop, legal_own, stays_unlined, unaligned}
+use Rattle.shogi_core.proofs.Faults.{faultless_from}
+use Rattle.shogi_replies.proofs.ReplyLaws.{LeavesStanding, left_board, left_drop, left_lifted, see_lifted, legal_own, stays_unlined, unaligned}
+use Rattle.std.proofs.lemmas.List.{set_comm, set-set}
 
 -- ---- what a piece reaches without the end of the move, it reaches after it
 
@@ -191,17 +193,17 @@ sniped_before old new side to x adds kings l e =
     ]
 
 -- a capture by an unpinnable piece leaves its king in no check, if what came to the square is taken or pins nothing
-takes_safely : (p : Shogi) (new : Cells) (a t to : ℕ) (promote : Bool) → LeavesStanding p.cells new (opponent_of p.side) to → AddsOne p.cells new (opponent_of p.side) to → IsUnpinnable p a → t < 81 → a ≢ t → a ≢ to
+takes_safely : (p : Shogi) (new : Cells) (a t to : ℕ) (promote : Bool) → LeavesStanding p.cells new (opponent_of p.side) to → in_check new (opponent_of p.side) ≡ false → AddsOne p.cells new (opponent_of p.side) to → IsUnpinnable p a → t < 81 → a ≢ t → a ≢ to
     → ((to ≡ t) ⊎ (is_slider (piece_at new to) ≡ true → is_aligned_with_king p.cells (opponent_of p.side) a ≡ true → is_aligned_with_king p.cells (opponent_of p.side) to ≡ true → are_aligned a to ≡ false))
     → in_check (cells_after new (opponent_of p.side) (Board a t promote)) (opponent_of p.side) ≡ false
 unfolding is_pinnable
-takes_safely p new a t to promote k adds free ht other away pins =
+takes_safely p new a t to promote k shut adds free ht other away pins =
     let color : Color = opponent_of p.side in
     let same : piece_at new a ≡ piece_at p.cells a = k.stays a free.theirs away in
     let own : is_piece_of color (piece_at new a) ≡ true = ap (is_piece_of color) same ∙ free.theirs in
     let plain : is_king color (piece_at new a) ≡ false = ap (is_king color) same ∙ free.no_king in
     elim (cases_Bool (is_aligned_with_king p.cells (opponent_of p.side) a)) [
-      | inl lined ↦ unpinned_take new color a t (piece_moved promote (piece_at new a)) k.len free.on_board ht other (is_piece_of-piece_moved color promote (piece_at new a) ∙ own) (is_king-piece_moved color promote (piece_at new a) ∙ plain) plain own k.shut
+      | inl lined ↦ unpinned_take new color a t (piece_moved promote (piece_at new a)) k.len free.on_board ht other (is_piece_of-piece_moved color promote (piece_at new a) ∙ own) (is_king-piece_moved color promote (piece_at new a) ∙ plain) plain own shut
           (λ x l off sniping. elim (sniped_before p.cells new color to x adds k.kings l sniping) [
             | inl was ↦ false_from_ne_true (are_aligned a x) (λ near. both_ways (some_below 81 (is_sniped_from p.cells color a)) (unsniped lined) (some_below_at 81 (is_sniped_from p.cells color a) x l (and_from _ _ was near)))
             | inr came ↦ elim pins [
@@ -209,19 +211,18 @@ takes_safely p new a t to promote k adds free ht other away pins =
               | inr harmless ↦ subst (λ (y : ℕ). are_aligned a y ≡ false) (sym came.0) (harmless (subst (λ (y : ℕ). is_slider (piece_at new y) ≡ true) came.0 came.1) lined (subst (λ (y : ℕ). is_aligned_with_king p.cells (opponent_of p.side) y ≡ true) came.0 came.2))
             ]
           ])
-      | inr off ↦ quiet_board new color a t promote k.len free.on_board ht own plain (stays_unlined p.cells new color a free.on_board k.kings off) k.shut
+      | inr off ↦ quiet_board new color a t promote k.len free.on_board ht own plain (stays_unlined p.cells new color a free.on_board k.kings off) shut
     ]
   where
     unsniped : is_aligned_with_king p.cells (opponent_of p.side) a ≡ true → some_below 81 (is_sniped_from p.cells (opponent_of p.side) a) ≡ false
     unsniped lined = false_from_ne_true _ (λ e. both_ways (is_pinnable p.cells (opponent_of p.side) a) free.unpinned (and_from _ _ lined e))
 
 -- so it is legal where the piece still reaches the square
-takes_legally : (p : Shogi) (new : Cells) (hands : HandCounts) (a t to : ℕ) (promote : Bool) → LeavesStanding p.cells new (opponent_of p.side) to → AddsOne p.cells new (opponent_of p.side) to → IsAttack p a t promote → a ≢ t → a ≢ to
-    → ((to ≡ t) ⊎ (is_slider (piece_at new to) ≡ true → is_aligned_with_king p.cells (opponent_of p.side) a ≡ true → is_aligned_with_king p.cells (opponent_of p.side) to ≡ true → are_aligned a to ≡ false))
-    → is_piece_of (opponent_of p.side) (piece_at new t) ≡ false → cell_reaches new (piece_at p.cells a) a t ≡ true
+takes_legally : (p : Shogi) (new : Cells) (hands : HandCounts) (a t to : ℕ) (promote : Bool) → LeavesStanding p.cells new (opponent_of p.side) to → IsAttack p a t promote → a ≢ to
+    → is_piece_of (opponent_of p.side) (piece_at new t) ≡ false → cell_reaches new (piece_at p.cells a) a t ≡ true → in_check (cells_after new (opponent_of p.side) (Board a t promote)) (opponent_of p.side) ≡ false
     → is_legal (record { cells = new; hands = hands; side = opponent_of p.side }) (Board a t promote) ≡ true
 unfolding reaches
-takes_legally p new hands a t to promote k adds attack other away pins open_end reach =
+takes_legally p new hands a t to promote k attack away open_end reach safe =
     let color : Color = opponent_of p.side in
     let free = attack.attacker in
     let same : piece_at new a ≡ piece_at p.cells a = k.stays a free.theirs away in
@@ -230,7 +231,7 @@ takes_legally p new hands a t to promote k adds attack other away pins open_end 
     let promotes : (not promote || may_promote (piece_at new a) a t) ≡ true = ap (λ cell. not promote || may_promote cell a t) same ∙ either promote attack.promotes in
     let mobile : is_immobile t (piece_moved promote (piece_at new a)) ≡ false = ap (λ cell. is_immobile t (piece_moved promote cell)) same ∙ attack.mobile in
     legal_board (record { cells = new; hands = hands; side = color }) a t promote
-    ∙ and_from _ _ (pseudo own open_end arrives promotes mobile) (ap not (takes_safely p new a t to promote k adds free attack.on_board other away pins))
+    ∙ and_from _ _ (pseudo own open_end arrives promotes mobile) (ap not safe)
   where
     either : (promote : Bool) → (promote ≡ true → may_promote (piece_at p.cells a) a t ≡ true) → (not promote || may_promote (piece_at p.cells a) a t) ≡ true
     either true h = h refl
@@ -244,27 +245,40 @@ elsewhere : (p : Shogi) (a t to : ℕ) (promote : Bool) → IsAttack p a t promo
 elsewhere p a t to promote attack out same = both_ways (reaches p.cells a to) out (subst (λ (x : ℕ). reaches p.cells a x ≡ true) (sym same) attack.reached)
 
 -- by a threat that the move leaves
-still_takes : (p : Shogi) (m : Move) (a t : ℕ) (promote : Bool) → LeavesStanding p.cells (after p m).cells (opponent_of p.side) (end_of m) → AddsOne p.cells (after p m).cells (opponent_of p.side) (end_of m) → piece_at (after p m).cells (end_of m) ≡ put_by p m → IsThreat p a t promote → EndsAside p a m
+still_takes : (p : Shogi) (m : Move) (a t : ℕ) (promote : Bool) → LeavesStanding p.cells (after p m).cells (opponent_of p.side) (end_of m) → in_check (after p m).cells (opponent_of p.side) ≡ false → AddsOne p.cells (after p m).cells (opponent_of p.side) (end_of m) → piece_at (after p m).cells (end_of m) ≡ put_by p m → IsThreat p a t promote → EndsAside p a m
     → is_legal (record { cells = (after p m).cells; hands = (after p m).hands; side = opponent_of p.side }) (Board a t promote) ≡ true
 unfolding reaches
-still_takes p m a t promote k adds put threat aside =
-    takes_legally p (after p m).cells (after p m).hands a t (end_of m) promote k adds threat.attack threat.attack.apart (λ at. aside.attacker_stays (sym at))
-    (inr (λ slides lined met. aside.unpinned (ap is_slider (sym put) ∙ slides) lined met))
+still_takes p m a t promote k shut adds put threat aside =
+    let away : a ≢ end_of m = λ at. aside.attacker_stays (sym at) in
+    takes_legally p (after p m).cells (after p m).hands a t (end_of m) promote k threat.attack away
     (k.clear t (other_side p.side (piece_at p.cells t) threat.target))
     (reach_kept p.cells (after p m).cells (end_of m) k.empty (piece_at p.cells a) a t threat.attack.reached aside.unreached)
+    (takes_safely p (after p m).cells a t (end_of m) promote k shut adds threat.attack.attacker threat.attack.on_board threat.attack.apart away
+    (inr (λ slides lined met. aside.unpinned (ap is_slider (sym put) ∙ slides) lined met)))
 
--- by an attack on the square where it ends
-retakes : (p : Shogi) (m : Move) (a : ℕ) (promote : Bool) → LeavesStanding p.cells (after p m).cells (opponent_of p.side) (end_of m) → AddsOne p.cells (after p m).cells (opponent_of p.side) (end_of m) → piece_at (after p m).cells (end_of m) ≡ put_by p m → is_piece_of p.side (put_by p m) ≡ true → IsAttack p a (end_of m) promote
+-- what is taken where it came to stand might as well not have come
+taken_again : (lifted : Cells) (side : Color) (a to : ℕ) (promote : Bool) (put : Option Piece) → a ≢ to → cells_after (set lifted to put) side (Board a to promote) ≡ cells_after lifted side (Board a to promote)
+taken_again lifted side a to promote put apart =
+    ap (λ (cell : Option Piece). set (set (set lifted to put) a None) to (piece_moved promote cell)) (get_or-set_other lifted to a put None apart)
+    ∙ (ap (λ (cells : Cells). set cells to (piece_moved promote (piece_at lifted a))) (set_comm lifted to a put None (λ same. apart (sym same)))
+    ∙ set-set (set lifted a None) to put (piece_moved promote (piece_at lifted a)))
+
+-- by an attack on the square where it ends, if the board without what moves has no check
+retakes : (p : Shogi) (m : Move) (lifted : Cells) (a : ℕ) (promote : Bool) → LeavesStanding p.cells lifted (opponent_of p.side) (end_of m) → in_check lifted (opponent_of p.side) ≡ false → AddsOne p.cells lifted (opponent_of p.side) (end_of m) → (after p m).cells ≡ set lifted (end_of m) (put_by p m)
+    → LeavesStanding p.cells (after p m).cells (opponent_of p.side) (end_of m) → piece_at (after p m).cells (end_of m) ≡ put_by p m → is_piece_of p.side (put_by p m) ≡ true → IsAttack p a (end_of m) promote
     → is_legal (record { cells = (after p m).cells; hands = (after p m).hands; side = opponent_of p.side }) (Board a (end_of m) promote) ≡ true
 unfolding reaches
-retakes p m a promote k adds put own attack =
-    takes_legally p (after p m).cells (after p m).hands a (end_of m) (end_of m) promote k adds attack attack.apart attack.apart (inl refl)
+retakes p m lifted a promote before shut adds made k put own attack =
+    takes_legally p (after p m).cells (after p m).hands a (end_of m) (end_of m) promote k attack attack.apart
     (ap (is_piece_of (opponent_of p.side)) put ∙ other_side p.side (put_by p m) own)
     (reach_to p.cells (after p m).cells (end_of m) k.empty (piece_at p.cells a) a attack.reached)
+    (ap (λ (cells : Cells). in_check (cells_after cells (opponent_of p.side) (Board a (end_of m) promote)) (opponent_of p.side)) made
+    ∙ (ap (λ (cells : Cells). in_check cells (opponent_of p.side)) (taken_again lifted (opponent_of p.side) a (end_of m) promote (put_by p m) attack.apart)
+    ∙ takes_safely p lifted a (end_of m) (end_of m) promote before shut adds attack.attacker attack.on_board attack.apart attack.apart (inl refl)))
 
-module _ (p : Shogi) (from to : ℕ) (promote : Bool) (v : IsValid p) (hf : from < 81) (ht : to < 81) (legal : is_legal p (Board from to promote) ≡ true) (shut : in_check (after p (Board from to promote)).cells (opponent_of p.side) ≡ false) where
+module _ (p : Shogi) (from to : ℕ) (promote : Bool) (v : IsValid p) (hf : from < 81) (ht : to < 81) (legal : is_legal p (Board from to promote) ≡ true) where
   standing : LeavesStanding p.cells (after p (Board from to promote)).cells (opponent_of p.side) to
-  standing = left_board p from to promote v hf ht (legal_own p from to promote legal) shut
+  standing = left_board p from to promote v hf ht (legal_own p from to promote legal)
 
   adds_board : AddsOne p.cells (after p (Board from to promote)).cells (opponent_of p.side) to
   adds_board x e ne = elim (look p.cells p.side from to (piece_moved promote (piece_at p.cells from)) v.cells_fit hf ht x) [
@@ -278,24 +292,30 @@ module _ (p : Shogi) (from to : ℕ) (promote : Bool) (v : IsValid p) (hf : from
   put_board : piece_at (after p (Board from to promote)).cells to ≡ piece_moved promote (piece_at p.cells from)
   put_board = get_or-set_same (set p.cells from None) to (piece_moved promote (piece_at p.cells from)) None (omega (arith, length-set p.cells from None, v.cells_fit))
 
-  pub threat_board : (a t : ℕ) (promoted : Bool) → IsThreat p a t promoted → LeavesThreat p a t (Board from to promote) → MayTake (after p (Board from to promote)) a t promoted (piece_at p.cells t)
-  threat_board a t promoted threat leaves = record {
-    legal = still_takes p (Board from to promote) a t promoted standing adds_board put_board threat leaves.1;
+  pub threat_board : in_check (after p (Board from to promote)).cells (opponent_of p.side) ≡ false → (a t : ℕ) (promoted : Bool) → IsThreat p a t promoted → LeavesThreat p a t (Board from to promote) → MayTake (after p (Board from to promote)) a t promoted (piece_at p.cells t)
+  threat_board shut a t promoted threat leaves = record {
+    legal = still_takes p (Board from to promote) a t promoted standing shut adds_board put_board threat leaves.1;
     stands = elim (look p.cells p.side from to (piece_moved promote (piece_at p.cells from)) v.cells_fit hf ht t) [
       | inl there ↦ absurd (elsewhere p a t to promoted threat.attack leaves.1.unreached (sym there.0))
       | inr rest ↦ elim rest [ inl here ↦ absurd (leaves.0 (sym here.0)) | inr same ↦ same ]
     ];
   }
 
-  pub retake_board : (a : ℕ) (promoted : Bool) → IsAttack p a to promoted → MayTake (after p (Board from to promote)) a to promoted (piece_moved promote (piece_at p.cells from))
-  retake_board a promoted attack = record {
-    legal = retakes p (Board from to promote) a promoted standing adds_board put_board (is_piece_of-piece_moved p.side promote (piece_at p.cells from) ∙ legal_own p from to promote legal) attack;
+  adds_lifted : AddsOne p.cells (set p.cells from None) (opponent_of p.side) to
+  adds_lifted x e ne = elim (see_lifted p from to v hf (legal_own p from to promote legal) x) [
+    | inl here ↦ absurd (let clash : false ≡ true = ap (is_piece_of (opponent_of (opponent_of p.side))) (sym here.1) ∙ e in cc)
+    | inr same ↦ sym same
+  ]
+
+  pub retake_board : in_check (set p.cells from None) (opponent_of p.side) ≡ false → (a : ℕ) (promoted : Bool) → IsAttack p a to promoted → MayTake (after p (Board from to promote)) a to promoted (piece_moved promote (piece_at p.cells from))
+  retake_board shut a promoted attack = record {
+    legal = retakes p (Board from to promote) (set p.cells from None) a promoted (left_lifted p from to v hf (legal_own p from to promote legal)) shut adds_lifted refl standing put_board (is_piece_of-piece_moved p.side promote (piece_at p.cells from) ∙ legal_own p from to promote legal) attack;
     stands = put_board;
   }
 
-module _ (p : Shogi) (kind : Kind) (to : ℕ) (v : IsValid p) (ht : to < 81) (shut : in_check (after p (Drop kind to)).cells (opponent_of p.side) ≡ false) where
+module _ (p : Shogi) (kind : Kind) (to : ℕ) (v : IsValid p) (ht : to < 81) where
   standing_drop : LeavesStanding p.cells (after p (Drop kind to)).cells (opponent_of p.side) to
-  standing_drop = left_drop p kind to v ht shut
+  standing_drop = left_drop p kind to v ht
 
   adds_drop : AddsOne p.cells (after p (Drop kind to)).cells (opponent_of p.side) to
   adds_drop x e ne = elim (drops.look p.cells p.side kind to v.cells_fit ht x) [ inl there ↦ absurd (ne there.0) | inr same ↦ sym same ]
@@ -303,18 +323,21 @@ module _ (p : Shogi) (kind : Kind) (to : ℕ) (v : IsValid p) (ht : to < 81) (sh
   put_drop : piece_at (after p (Drop kind to)).cells to ≡ dropped p.side kind
   put_drop = get_or-set_same p.cells to (dropped p.side kind) None (omega (arith, v.cells_fit))
 
-  pub threat_drop : (a t : ℕ) (promoted : Bool) → IsThreat p a t promoted → LeavesThreat p a t (Drop kind to) → MayTake (after p (Drop kind to)) a t promoted (piece_at p.cells t)
-  threat_drop a t promoted threat leaves = record {
-    legal = still_takes p (Drop kind to) a t promoted standing_drop adds_drop put_drop threat leaves;
+  pub threat_drop : in_check (after p (Drop kind to)).cells (opponent_of p.side) ≡ false → (a t : ℕ) (promoted : Bool) → IsThreat p a t promoted → LeavesThreat p a t (Drop kind to) → MayTake (after p (Drop kind to)) a t promoted (piece_at p.cells t)
+  threat_drop shut a t promoted threat leaves = record {
+    legal = still_takes p (Drop kind to) a t promoted standing_drop shut adds_drop put_drop threat leaves;
     stands = elim (drops.look p.cells p.side kind to v.cells_fit ht t) [
       | inl there ↦ absurd (elsewhere p a t to promoted threat.attack leaves.unreached (sym there.0))
       | inr same ↦ same
     ];
   }
 
+  standing_before : LeavesStanding p.cells p.cells (opponent_of p.side) to
+  standing_before = record { len = v.cells_fit; kings = λ k e. refl; stays = λ a e ne. refl; clear = λ t e. e; empty = λ x e ne. e }
+
   pub retake_drop : (a : ℕ) (promoted : Bool) → IsAttack p a to promoted → MayTake (after p (Drop kind to)) a to promoted (dropped p.side kind)
   retake_drop a promoted attack = record {
-    legal = retakes p (Drop kind to) a promoted standing_drop adds_drop put_drop (dropped_of p.side kind) attack;
+    legal = retakes p (Drop kind to) p.cells a promoted standing_before (faultless_from p v.no_fault).shut (λ x e ne. refl) refl standing_drop put_drop (dropped_of p.side kind) attack;
     stands = put_drop;
   }
 

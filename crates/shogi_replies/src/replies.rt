@@ -269,6 +269,27 @@ impl Replies {
         }
     }
 
+    /// Whether the legal move surely uncovers no check: what it puts on its square may then be taken
+    /// by each such attack, also where that gives check.
+    pub fn uncovers_nothing(&self, p: &Position, m: &Move) -> bool
+        requires kept { IsReplies p.now self.now.sight self.now.spare }
+        requires legal { is_legal p.now m.now ≡ true }
+        ensures { result ≡ true → MayRetake p.now m.now }
+    {
+        p.validity();
+        match m {
+            Move::Board { from, to, .. } => {
+                from.validity();
+                to.validity();
+                !has(self.sight, from.index()) || !may_uncover(p, p.side().opponent(), *from)
+            }
+            Move::Drop { to, .. } => {
+                to.validity();
+                true
+            }
+        }
+    }
+
     /// Those of the squares on which what comes to stand may give check.
     fn checking_squares(&self, p: &Position, cell: Option<Piece>, destinations: u128) -> u128
         requires kept { IsReplies p.now self.now.sight self.now.spare }
