@@ -50,7 +50,7 @@ pub record IsWholeLine (question : Question) (depths_done lines_done : ℕ) (roo
   pub none : root_move ≡ None
   pub plies_is : walk.plies ≡ 0
 
-not_above : (n : ℕ) → nat_lt 0 n ≡ false → n ≡ 0
+pub not_above : (n : ℕ) → nat_lt 0 n ≡ false → n ≡ 0
 not_above n e = let l : n ≤ 0 = ltb-false 0 n e in omega arith
 
 pub whole_line : (question : Question) (depths_done lines_done : ℕ) (root_move : Option Move) (ranks : Ranking) (walk : Walked) (kept : HeldBestmove) (search : Progress) → IsAtDepth question depths_done lines_done root_move ranks walk kept search → (is_some root_move || nat_lt 0 walk.plies) ≡ false → IsWholeLine question depths_done lines_done root_move ranks walk kept

@@ -1,7 +1,7 @@
 -- The searches along pvs that a running `go` has still to end.
-use Rattle.std.proofs.Common.{◌≡◌, ◌∙◌, ◌<◌, ◌≤◌, ℕ, zero, suc, ◌+◌, ◌-◌, ◌==◌, List, [], ◌∷◌, ◌++◌, Bool, true, false, cond, Option, Some, None, refl, sym, ap, arith, append-nil, drop, length}
+use Rattle.std.proofs.Common.{◌≡◌, ◌∙◌, ◌<◌, ℕ, zero, suc, ◌+◌, ◌-◌, ◌==◌, List, [], ◌∷◌, ◌++◌, Bool, true, false, cond, Option, Some, None, refl, sym, ap, arith, append-nil, drop, length}
 use Rattle.std.specs.Prelude.{nat_lt, ◌||◌, is_some, slice_get}
-use Rattle.std.proofs.lemmas.Bool.{eqb-true, and_parts, ltb-false, ltb-true}
+use Rattle.std.proofs.lemmas.Bool.{eqb-true, and_parts, ltb-true}
 use Rattle.std.proofs.lemmas.List.{drop_all}
 use Rattle.shogi_core.specs.Position.{Shogi}
 use Rattle.shogi_core.specs.declared.moves.Move.{Move}
@@ -18,6 +18,7 @@ use Rattle.usi_session.specs.Roots.{Root, root_of, pv_roots, pvs_roots, then_pv_
 use Rattle.usi_session.specs.RunningGo.{RunningGo, current_roots, deeper_roots, ends_depth, is_last, is_last_of_depth, is_searching, lines_roots, listed_at, roots_of}
 use Rattle.usi_session.specs.Walked.{IsAtDepth, IsFirst, LeavesRoots, Walked, first_root_move, roots_after, running_go_of, walk_from, walk_roots}
 use Rattle.usi_session.proofs.Listed.{drop_at, first_some, one_listed}
+use Rattle.usi_session.proofs.NextSearch.{not_above}
 
 pv_roots-leaf : (p : Shogi) (eval : Eval) → pv_roots p eval 0 ≡ []
 unfolding pv_roots
@@ -84,14 +85,11 @@ begun_roots question first depths_done search h f =
     ap (λ (roots : List Root). roots ++ deeper_roots question depths_done) (begun_at question first depths_done search (question.multi_pv == 1) refl f)
     ∙ depth_and_deeper question depths_done h
 
-no_plies : (n : ℕ) → nat_lt 0 n ≡ false → n ≡ 0
-no_plies n e = let l : n ≤ 0 = ltb-false 0 n e in omega arith
-
 current_whole : (go : RunningGo) (root_move : Option Move) → (is_some root_move || nat_lt 0 go.walk_plies) ≡ false
     → current_roots root_move go ≡ lines_roots go.question go.depths_done (go.lines_done + 1)
 current_whole go (Some m) e = absurd (cc)
 current_whole go None e =
-    ap (λ (k : ℕ). pv_roots go.walk_position go.question.eval k ++ lines_roots go.question go.depths_done (go.lines_done + 1)) (no_plies go.walk_plies e)
+    ap (λ (k : ℕ). pv_roots go.walk_position go.question.eval k ++ lines_roots go.question go.depths_done (go.lines_done + 1)) (not_above go.walk_plies e)
     ∙ ap (λ (roots : List Root). roots ++ lines_roots go.question go.depths_done (go.lines_done + 1)) (pv_roots-leaf go.walk_position go.question.eval)
 
 -- once a pv is whole, those along the pvs behind it are left, and those of the depths above

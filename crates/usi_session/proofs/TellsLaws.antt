@@ -10,25 +10,17 @@ use Rattle.minimax.specs.Minimax.{value, best}
 use Rattle.minimax.specs.declared.bounds.TheConstants.{INFINITY}
 use Rattle.minimax.specs.declared.entry.Entry.{Entry}
 use Rattle.minimax.specs.declared.entry.Entry.TheVariants.{Exact, AtLeast, AtMost}
-use Rattle.shogi_search.specs.Calls.{Call, Probe, Note, AreCalled, EndsWith}
+use Rattle.shogi_search.specs.Calls.{Call, Probe, Note, EndsWith}
 use Rattle.shogi_search.specs.Progress.{Progress, FindsBest, FindsValue, IsFoundBy}
 use Rattle.shogi_search.specs.SearchCalls.{Says, TellsRoot}
 use Rattle.shogi_search.specs.declared.found.Found.{Found}
-use Rattle.shogi_search.proofs.CallLaws.{no_calls, one_call}
+use Rattle.shogi_search.proofs.CallLaws.{calls_and_calls, no_calls, one_call}
 use Rattle.usi_session.specs.declared.question.Question.{Question}
 use Rattle.usi_session.specs.Roots.{Root, pv_roots, root_of}
 use Rattle.usi_session.specs.RunningGo.{deeper_roots, lines_roots, roots_of}
 use Rattle.usi_session.specs.Walked.{IsUnder, Walked, roots_after, running_go_of, walk_roots}
 use Rattle.usi_session.specs.Told.{AreTold, IsCalled, TellsEnded, TellsValue, entry_of_root}
 use Rattle.usi_session.proofs.RootLaws.{walked_roots}
-
--- calls and then further ones
-calls_then : {M : Type 0} (called : M → Call → M → Type 0) (a b c : M) (xs ys : List Call)
-    → AreCalled called a xs b → AreCalled called b ys c → AreCalled called a (xs ++ ys) c
-unfolding AreCalled
-calls_then called a b c [] ys first second = subst (λ m. AreCalled called m ys c) first second
-calls_then called a b c (x ∷ xs) ys first second =
-    (first.0, (first.1.0, calls_then called first.0 b c xs ys first.1.1 second))
 
 -- no call
 pub none_called : {M : Type 0} (called : M → Call → M → Type 0) (a : M) → IsCalled called a a
@@ -38,7 +30,7 @@ is_called_then : {M : Type 0} (called : M → Call → M → Type 0) (a b c : M)
     → IsCalled called a b → IsCalled called b c → IsCalled called a c
 is_called_then called a b c first second = record {
   calls = first.calls ++ second.calls;
-  each = calls_then called a b c first.calls second.calls first.each second.each;
+  each = calls_and_calls called a b c first.calls second.calls first.each second.each;
 }
 
 -- the last call comes after further ones
@@ -47,7 +39,7 @@ ends_later : {M : Type 0} (called : M → Call → M → Type 0) (a b c : M) (ca
 ends_later called a b c call first last = record {
   calls = first.calls ++ last.calls;
   before = last.before;
-  each = calls_then called a b last.before first.calls last.calls first.each last.each;
+  each = calls_and_calls called a b last.before first.calls last.calls first.each last.each;
   ends = last.ends;
 }
 
@@ -134,7 +126,7 @@ last_called : {M : Type 0} (called : M → Call → M → Type 0) (a b : M) (cal
     → EndsWith called a b call → IsCalled called a b
 last_called called a b call last = record {
   calls = last.calls ++ call ∷ [];
-  each = calls_then called a last.before b last.calls (call ∷ []) last.each (one_call called last.before b call last.ends);
+  each = calls_and_calls called a last.before b last.calls (call ∷ []) last.each (one_call called last.before b call last.ends);
 }
 
 called_at : {M : Type 0} (called : M → Call → M → Type 0) (a b : M) (root : Root)

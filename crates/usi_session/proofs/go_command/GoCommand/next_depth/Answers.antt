@@ -3,14 +3,14 @@ use Rattle.shogi_search.specs.Ranked.{Ranking, child_beta}
 use Rattle.usi_session.specs.RunningGo.{RunningGo, is_searching}
 use Rattle.usi_session.proofs.Listed.{line_below}
 use Rattle.usi_session.proofs.Reports.{reported_depth}
-use Rattle.usi_session.proofs.NextSearch.{begun, next_depth_cost, whole_line, IsWholeLine}
+use Rattle.usi_session.proofs.NextSearch.{begun, next_depth_cost, whole_line}
 use Rattle.usi_session.proofs.RootLaws.{begun_roots}
 use Rattle.usi_session.proofs.go_command.GoCommand.next_depth.Goals as goal
 
 pub and_first_of-self-inside-requires : goal.and_first_of-self-inside-requires
 and_first_of-self-inside-requires g c =
     let s = c.self.inside in
-    let w : IsWholeLine s.question s.depths_done s.lines_done s.root_move s.ranks s.walk s.bestmove = whole_line s.question s.depths_done s.lines_done s.root_move s.ranks s.walk s.bestmove s.search.value c.self.invariant.at_depth (ap is_searching c.self.view_is ∙ c.requires.whole) in
+    let w = whole_line _ _ _ _ _ _ _ _ c.self.invariant.at_depth (ap is_searching c.self.view_is ∙ c.requires.whole) in
     record { whole = w.plies_is }
 
 pub invariant_of-self : goal.invariant_of-self
@@ -35,7 +35,7 @@ returns-clause-load g c =
 pub returns-clause-fewer : goal.returns-clause-fewer
 returns-clause-fewer g c =
     let s = c.self.inside in
-    let w : IsWholeLine s.question s.depths_done s.lines_done s.root_move s.ranks s.walk s.bestmove = whole_line s.question s.depths_done s.lines_done s.root_move s.ranks s.walk s.bestmove s.search.value c.self.invariant.at_depth (ap is_searching c.self.view_is ∙ c.requires.whole) in
+    let w = whole_line _ _ _ _ _ _ _ _ c.self.invariant.at_depth (ap is_searching c.self.view_is ∙ c.requires.whole) in
     let l : s.lines_done < s.question.multi_pv = line_below s.question s.depths_done s.lines_done s.walk w.line in
     let m = c.self.invariant.range.multi_pv_fits.most in
     let h = c.self.invariant.left in

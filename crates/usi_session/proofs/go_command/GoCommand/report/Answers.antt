@@ -2,14 +2,14 @@ use Rattle.std.proofs.Common.{◌+◌, ◌<◌, ap, ◌∙◌, arith, rules, ref
 use Rattle.std.proofs.lemmas.Result.{on_ok_weaker}
 use Rattle.usi_session.specs.RunningGo.{is_searching}
 use Rattle.usi_session.proofs.Listed.{line_below, first_some}
-use Rattle.usi_session.proofs.NextSearch.{whole_line, IsWholeLine}
+use Rattle.usi_session.proofs.NextSearch.{whole_line}
 use Rattle.usi_session.proofs.Reports.{reported_one, reported_several, one_grows, several_grow}
 use Rattle.usi_session.proofs.go_command.GoCommand.report.Goals as goal
 
 pub returns-then-self-eq1-clause-rest : goal.returns-then-self-eq1-clause-rest
 returns-then-self-eq1-clause-rest g c =
     let s = c.self.inside in
-    let w : IsWholeLine s.question s.depths_done s.lines_done s.root_move s.ranks s.walk s.bestmove = whole_line s.question s.depths_done s.lines_done s.root_move s.ranks s.walk s.bestmove s.search.value c.self.invariant.at_depth (ap is_searching c.self.view_is ∙ c.requires.whole) in
+    let w = whole_line _ _ _ _ _ _ _ _ c.self.invariant.at_depth (ap is_searching c.self.view_is ∙ c.requires.whole) in
     rw (← c.self.view_is) (on_ok_weaker c.write_info.result (λ e. reported_one s.question s.depths_done s.lines_done s.walk _ _ s.walk.value s.walk.pv w.line c.if-self-eq1.true (first_some s.question.position s.first c.self.invariant.first_is) refl refl (search rules)) c.write_info.ensures)
 
 pub returns-then-self-eq1-clause-lines : goal.returns-then-self-eq1-clause-lines
@@ -20,7 +20,7 @@ returns-then-self-eq1-clause-lines g c =
 pub overflow_add-self-inside : goal.overflow_add-self-inside
 overflow_add-self-inside g c =
     let s = c.self.inside in
-    let w : IsWholeLine s.question s.depths_done s.lines_done s.root_move s.ranks s.walk s.bestmove = whole_line s.question s.depths_done s.lines_done s.root_move s.ranks s.walk s.bestmove s.search.value c.self.invariant.at_depth (ap is_searching c.self.view_is ∙ c.requires.whole) in
+    let w = whole_line _ _ _ _ _ _ _ _ c.self.invariant.at_depth (ap is_searching c.self.view_is ∙ c.requires.whole) in
     let l : s.lines_done < s.question.multi_pv = line_below s.question s.depths_done s.lines_done s.walk w.line in
     let m = c.self.invariant.range.multi_pv_fits.most in
     omega arith
@@ -28,7 +28,7 @@ overflow_add-self-inside g c =
 pub returns-clause-rest : goal.returns-clause-rest
 returns-clause-rest g c =
     let s = c.self.inside in
-    let w : IsWholeLine s.question s.depths_done s.lines_done s.root_move s.ranks s.walk s.bestmove = whole_line s.question s.depths_done s.lines_done s.root_move s.ranks s.walk s.bestmove s.search.value c.self.invariant.at_depth (ap is_searching c.self.view_is ∙ c.requires.whole) in
+    let w = whole_line _ _ _ _ _ _ _ _ c.self.invariant.at_depth (ap is_searching c.self.view_is ∙ c.requires.whole) in
     rw (← c.self.view_is) (on_ok_weaker c.write_numbered_info.result (λ e. reported_several s.question s.depths_done s.lines_done s.walk _ _ s.walk.value s.walk.pv w.line (search rules) refl refl (search rules)) c.write_numbered_info.ensures)
 
 pub returns-clause-lines : goal.returns-clause-lines
