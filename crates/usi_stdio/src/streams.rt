@@ -2,7 +2,7 @@
 
 ghost use Rattle.std.specs.Prelude.{◌≡◌, ◌<◌, ◌≤◌, [], true, false, length, IfErr, OnOk, OnErr, Err};
 ghost use Rattle.usi_stdio.specs.Dialogue.{Talks};
-ghost use Rattle.usi_stdio.specs.Saying.{Answered, Says, SaysPrefix, WorkedOn, Wrote, WrotePrefix, WrotePrefixOfDue, slices_of};
+ghost use Rattle.usi_stdio.specs.Saying.{Answered, Says, WorkedOn, Wrote, WrotePrefix, WrotePrefixOfDue, slices_of};
 ghost use Rattle.usi_stdio.specs.Stdio.{IsLeft, IsServed};
 ghost use Rattle.usi_stdio.specs.declared.streams.StdioFault.TheVariants.{OutOfMemory, WriteFailed};
 ghost use Rattle.usi_lines.specs.OneLine.{IsOneLine};
@@ -62,8 +62,7 @@ impl From<TableFault> for StdioFault {
 pub fn write_out<T: FrontEnd>(front_end: &mut T, bytes: &[u8]) -> Result<(), StdioFault>
     ensures ok { OnOk result
         (Says (T.report front_end.old) (T.report front_end.new) bytes.now) }
-    ensures err { IfErr result
-        (SaysPrefix (T.report front_end.old) (T.report front_end.new) bytes.now) }
+    ensures err { IfErr result (WrotePrefix T.report front_end.old front_end.new bytes.now) }
     ensures fault { OnErr result (result ≡ Err WriteFailed) }
 {
     let mut rest = bytes;
