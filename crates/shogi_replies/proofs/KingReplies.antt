@@ -1,35 +1,45 @@
 -- A king that is given check goes away where what moves uncovers nothing, or takes what moved.
-use Rattle.std.proofs.Common.{◌≡◌, ◌≢◌, ◌^◌, ℕ, ◌<◌, Bool, true, false, Option, Some, None, [], sym, ap, subst, ◌∙◌, arith, inl, inr, set, length, length-set, get_or-set_same, get_or-set_other, bit_and}
+use Rattle.std.proofs.Common.{◌≡◌, ◌≢◌, ◌^◌, ◌%◌, ℕ, ◌<◌, Bool, true, false, not, refl, Option, Some, None, [], sym, ap, subst, ◌∙◌, arith, inl, inr, set, length, length-set, get_or-set_same, get_or-set_other, bit_and}
 use Rattle.std.specs.Prelude.{is_none}
 use Rattle.std.specs.Int.{trailing_zeros, w128}
-use Rattle.std.proofs.lemmas.Bool.{cases_eq, false_from_ne_true, both_ways, or_cases}
+use Rattle.std.proofs.lemmas.Bool.{cases_eq, false_from_ne_true, both_ways, or_cases, and_parts, and_from}
+use Rattle.std.proofs.lemmas.List.{set-set}
 use Rattle.shogi_core.specs.declared.moves.Move.TheVariants.{Board, Drop}
 use Rattle.shogi_core.specs.declared.piece.Color.{Color}
+use Rattle.shogi_core.specs.declared.piece.Color.TheVariants.{Black, White}
 use Rattle.shogi_core.specs.declared.piece.Kind.{Kind}
 use Rattle.shogi_core.specs.declared.piece.Piece.{Piece}
+use Rattle.shogi_core.specs.declared.piece.Role.{Role}
+use Rattle.shogi_core.specs.declared.piece.Role.TheVariants.{King}
+use Rattle.shogi_core.specs.Codes.{code_of}
 use Rattle.shogi_core.specs.Attack.{is_attacked, is_sniper}
 use Rattle.shogi_core.specs.Bits.{has_bit}
-use Rattle.shogi_core.specs.Cell.{is_piece_of, is_king, is_slider, is_sliding_role, HasNoOtherKing}
+use Rattle.shogi_core.specs.Cell.{is_piece_of, is_king, is_king_role, is_immobile, is_immobile_role, is_slider, is_sliding_role, HasNoOtherKing}
 use Rattle.shogi_core.specs.Lines.{are_aligned}
 use Rattle.shogi_core.specs.Movement.{Cells, piece_at, reaches, cell_reaches, has_step, has_slide, slides, for_side}
-use Rattle.shogi_core.specs.Pieces.{opponent_of}
+use Rattle.shogi_core.specs.Pieces.{is_same_color, opponent_of}
 use Rattle.shogi_core.specs.Position.{Shogi, HandCounts}
 use Rattle.shogi_core.specs.Validity.{IsValid}
 use Rattle.shogi_core.proofs.BitLaws.{has_bit-none}
+use Rattle.shogi_core.proofs.CodesBack.{move_of-board}
 use Rattle.shogi_core.proofs.LineBits.{lowest_set}
 use Rattle.shogi_core.proofs.SeenLaws.{slides_role, sniper_bits}
 use Rattle.shogi_core.proofs.Uncovered.{attacked_was_but}
 use Rattle.shogi_moves.specs.After.{after, cells_after, piece_moved, dropped}
 use Rattle.shogi_moves.specs.Escapes.{IsEscape, AreEscapes, HasOpenEscape}
 use Rattle.shogi_replies.specs.Escapes.{HasNoSniper}
+use Rattle.shogi_replies.specs.Threats.{MayTake, put_by}
 use Rattle.shogi_moves.specs.Legal.{is_legal}
 use Rattle.shogi_moves.specs.LegalMoves.{legal_codes}
-use Rattle.shogi_moves.proofs.CheckInfoLaws.{look, other_side, own_some, is_piece_of-piece_moved, dropped_of}
-use Rattle.shogi_moves.proofs.EscapeLaws.{escape_legal, king_reach, crowned}
+use Rattle.shogi_moves.proofs.CheckInfoLaws.{look, other_side, own_some, is_piece_of-piece_moved, dropped_of, king_set}
+use Rattle.shogi_moves.proofs.DestinationLaws.{legal_board}
+use Rattle.shogi_moves.proofs.ExistenceLaws.{some_legal}
+use Rattle.shogi_moves.proofs.LegalLaws.{is_legal_code_of}
+use Rattle.shogi_moves.proofs.EscapeLaws.{king_reach, crowned}
 use Rattle.shogi_replies.proofs.EscapeLaws.{escaped_covered}
 use Rattle.shogi_moves.proofs.KingLaws.{king_own, unreached}
 use Rattle.shogi_moves.proofs.MovedPieces.{opponent_twice}
-use Rattle.shogi_replies.proofs.ReplyLaws.{legal_own}
+use Rattle.shogi_replies.proofs.ReplyLaws.{legal_own, right_step}
 
 -- ---- the king goes away
 
@@ -78,6 +88,23 @@ covered_board p from to steps promote piece v hf ht legal moved still none bits 
     ]
 
 -- ---- the king takes
+
+-- it moves on from everywhere
+king_lives : (side : Color) (cell : Option Piece) (t : ℕ) → is_king side cell ≡ true → is_immobile t cell ≡ false
+king_lives side None t e = refl
+king_lives side (Some piece) t e = go piece.color piece.role (and_parts (is_same_color side piece.color) (is_king_role piece.role) e).1
+  where
+    go : (color : Color) (role : Role) → is_king_role role ≡ true → is_immobile_role color role (t % 9) ≡ false
+    go Black King h = refl
+    go White King h = refl
+    go color _ h = absurd (cc)
+
+-- so where it may take, the side has a legal move
+reply_by : (q : Shogi) (k to : ℕ) → k < 81 → to < 81 → is_legal q (Board k to false) ≡ true → legal_codes q ≢ []
+reply_by q k to hk ht legal = some_legal q (code_of (Board k to false)) (is_legal_code_of q (code_of (Board k to false)) (Board k to false) (move_of-board k to false hk ht) ∙ legal)
+
+pub reply_taking : (q : Shogi) (k to : ℕ) (cell : Option Piece) → k < 81 → to < 81 → MayTake q k to false cell → legal_codes q ≢ []
+reply_taking q k to cell hk ht may = reply_by q k to hk ht may.legal
 
 module _ (cells : Cells) (side : Color) (k to : ℕ) (v : Option Piece) (len : length cells ≡ 81) (hk : k < 81) (ht : to < 81) (crown : is_king side (piece_at cells k) ≡ true) (lone : HasNoOtherKing cells side k) (reached : reaches cells k to ≡ true)
     (foe : is_piece_of (opponent_of side) v ≡ true) (safe : is_attacked (set cells k None) (opponent_of side) to ≡ false) where
@@ -128,9 +155,17 @@ module _ (cells : Cells) (side : Color) (k to : ℕ) (v : Option Piece) (len : l
   unfolding reaches
   still_reached = ap (λ (x : Option Piece). cell_reaches (set cells to v) x k to) there ∙ king_reach cells (set cells to v) side (piece_at cells k) k to crown reached
 
-  pub takes : (hands : HandCounts) → legal_codes (record { cells = set cells to v; hands = hands; side = side }) ≢ []
-  takes hands = escape_legal (record { cells = set cells to v; hands = hands; side = side }) k to (length-set cells to v ∙ len) hk ht (ap (is_king side) there ∙ crown)
-      (record { step = record { lone = still_lone; reached = still_reached; open_end = ap (is_piece_of side) at_end ∙ not_own }; safe = safe_there })
+  crown_there : is_king side (piece_at (set cells to v) k) ≡ true
+  crown_there = ap (is_king side) there ∙ crown
+
+  own_there : is_piece_of side (piece_at (set cells to v) k) ≡ true
+  own_there = king_own side (piece_at (set cells to v) k) crown_there
+
+  pub takes : (hands : HandCounts) → is_legal (record { cells = set cells to v; hands = hands; side = side }) (Board k to false) ≡ true
+  takes hands =
+      legal_board (record { cells = set cells to v; hands = hands; side = side }) k to false
+      ∙ and_from _ _ (right_step (set cells to v) side k to own_there (ap (is_piece_of side) at_end ∙ not_own) still_reached (king_lives side (piece_at (set cells to v) k) to crown_there))
+      (ap not (king_set (set cells to v) side k to (piece_moved false (piece_at (set cells to v) k)) (length-set cells to v ∙ len) hk ht (is_piece_of-piece_moved side false (piece_at (set cells to v) k) ∙ own_there) still_lone safe_there))
 
 -- the king takes what was dropped on a square to which it may go
 pub taken_drop : (p : Shogi) (kind : Kind) (escapes kings to : ℕ) → IsValid p → to < 81 → AreEscapes p escapes → kings < 2 ^ 81 → ((n : ℕ) → n < 81 → has_bit kings n ≡ is_king (opponent_of p.side) (piece_at p.cells n)) → kings ≢ 0 → has_bit escapes to ≡ true
@@ -139,31 +174,50 @@ taken_drop p kind escapes kings to v ht h fits bits some among =
     let low = lowest_set kings some fits in
     let crown : is_king (opponent_of p.side) (piece_at p.cells (trailing_zeros w128 kings)) ≡ true = sym (bits (trailing_zeros w128 kings) low.0) ∙ low.1 in
     let way : IsEscape p.cells (opponent_of p.side) (trailing_zeros w128 kings) to = h.escapes (trailing_zeros w128 kings) to low.0 crown ht among in
-    takes p.cells (opponent_of p.side) (trailing_zeros w128 kings) to (dropped p.side kind) v.cells_fit low.0 ht crown way.step.lone way.step.reached
-    (ap (λ (color : Color). is_piece_of color (dropped p.side kind)) (opponent_twice p.side) ∙ dropped_of p.side kind) way.safe (after p (Drop kind to)).hands
+    reply_by (after p (Drop kind to)) (trailing_zeros w128 kings) to low.0 ht
+    (takes p.cells (opponent_of p.side) (trailing_zeros w128 kings) to (dropped p.side kind) v.cells_fit low.0 ht crown way.step.lone way.step.reached
+    (ap (λ (color : Color). is_piece_of color (dropped p.side kind)) (opponent_twice p.side) ∙ dropped_of p.side kind) way.safe (after p (Drop kind to)).hands)
 
--- the king takes what moved next to it, where no other piece of the mover's attacks the square
-pub taken_board : (p : Shogi) (from k to : ℕ) (promote : Bool) → IsValid p → from < 81 → k < 81 → to < 81 → is_legal p (Board from to promote) ≡ true → is_king (opponent_of p.side) (piece_at p.cells k) ≡ true → HasNoOtherKing p.cells (opponent_of p.side) k
-    → reaches p.cells k to ≡ true → is_attacked (set (set p.cells from None) k None) p.side to ≡ false → legal_codes (after p (Board from to promote)) ≢ []
-unfolding reaches
-taken_board p from k to promote v hf hk ht legal crown lone reached safe =
-    takes (set p.cells from None) (opponent_of p.side) k to (piece_moved promote (piece_at p.cells from)) (length-set p.cells from None ∙ v.cells_fit) hk ht
-    (ap (is_king (opponent_of p.side)) king_stays ∙ crown) alone reached_still
-    (ap (λ (color : Color). is_piece_of color (piece_moved promote (piece_at p.cells from))) (opponent_twice p.side) ∙ (is_piece_of-piece_moved p.side promote (piece_at p.cells from) ∙ own))
-    (ap (λ (color : Color). is_attacked (set (set p.cells from None) k None) color to) (opponent_twice p.side) ∙ safe)
-    (after p (Board from to promote)).hands
+-- the king takes what came next to it, where no other piece of the mover's attacks the square
+module _ (p : Shogi) (from k to : ℕ) (put : Option Piece) (v : IsValid p) (hk : k < 81) (ht : to < 81) (off : k ≢ from) (crown : is_king (opponent_of p.side) (piece_at p.cells k) ≡ true) (lone : HasNoOtherKing p.cells (opponent_of p.side) k)
+    (reached : reaches p.cells k to ≡ true) (mine : is_piece_of p.side put ≡ true) (safe : is_attacked (set (set p.cells from None) k None) p.side to ≡ false) where
+  king_stays : piece_at (set p.cells from None) k ≡ piece_at p.cells k
+  king_stays = get_or-set_other p.cells from k None None off
+
+  alone : HasNoOtherKing (set p.cells from None) (opponent_of p.side) k
+  alone x h other = elim (cases_eq x from) [
+    | inl at ↦ ap (is_king (opponent_of p.side)) (ap (piece_at (set p.cells from None)) at ∙ get_or-set_same p.cells from None None (omega (arith, at, h, v.cells_fit)))
+    | inr apart ↦ ap (is_king (opponent_of p.side)) (get_or-set_other p.cells from x None None apart) ∙ lone x h other
+  ]
+
+  reached_still : reaches (set p.cells from None) k to ≡ true
+  unfolding reaches
+  reached_still = ap (λ (x : Option Piece). cell_reaches (set p.cells from None) x k to) king_stays ∙ king_reach p.cells (set p.cells from None) (opponent_of p.side) (piece_at p.cells k) k to crown reached
+
+  king_legal : (hands : HandCounts) → is_legal (record { cells = set (set p.cells from None) to put; hands = hands; side = opponent_of p.side }) (Board k to false) ≡ true
+  king_legal hands =
+      takes (set p.cells from None) (opponent_of p.side) k to put (length-set p.cells from None ∙ v.cells_fit) hk ht
+      (ap (is_king (opponent_of p.side)) king_stays ∙ crown) alone reached_still
+      (ap (λ (color : Color). is_piece_of color put) (opponent_twice p.side) ∙ mine)
+      (ap (λ (color : Color). is_attacked (set (set p.cells from None) k None) color to) (opponent_twice p.side) ∙ safe)
+      hands
+
+pub taken_by_king : (p : Shogi) (from k to : ℕ) (promote : Bool) → IsValid p → from < 81 → k < 81 → to < 81 → is_king (opponent_of p.side) (piece_at p.cells k) ≡ true → HasNoOtherKing p.cells (opponent_of p.side) k
+    → reaches p.cells k to ≡ true → is_attacked (set (set p.cells from None) k None) p.side to ≡ false → is_legal p (Board from to promote) ≡ true → MayTake (after p (Board from to promote)) k to false (put_by p (Board from to promote))
+taken_by_king p from k to promote v hf hk ht crown lone reached safe legal =
+    let own : is_piece_of p.side (piece_at p.cells from) ≡ true = legal_own p from to promote legal in
+    record {
+      legal = king_legal p from k to (piece_moved promote (piece_at p.cells from)) v hk ht (king_off p from k own crown) crown lone reached (is_piece_of-piece_moved p.side promote (piece_at p.cells from) ∙ own) safe (after p (Board from to promote)).hands;
+      stands = get_or-set_same (set p.cells from None) to (piece_moved promote (piece_at p.cells from)) None (omega (arith, length-set p.cells from None, v.cells_fit));
+    }
+
+pub drop_taken_by_king : (p : Shogi) (kind : Kind) (k to : ℕ) → IsValid p → k < 81 → to < 81 → is_king (opponent_of p.side) (piece_at p.cells k) ≡ true → HasNoOtherKing p.cells (opponent_of p.side) k
+    → reaches p.cells k to ≡ true → is_attacked (set (set p.cells to None) k None) p.side to ≡ false → MayTake (after p (Drop kind to)) k to false (put_by p (Drop kind to))
+drop_taken_by_king p kind k to v hk ht crown lone reached safe = record {
+  legal = subst (λ (cells : Cells). is_legal (record { cells = cells; hands = (after p (Drop kind to)).hands; side = opponent_of p.side }) (Board k to false) ≡ true) (set-set p.cells to None (dropped p.side kind))
+      (king_legal p to k to (dropped p.side kind) v hk ht off crown lone reached (dropped_of p.side kind) safe (after p (Drop kind to)).hands);
+  stands = get_or-set_same p.cells to (dropped p.side kind) None (omega (arith, v.cells_fit));
+}
   where
-    own : is_piece_of p.side (piece_at p.cells from) ≡ true
-    own = legal_own p from to promote legal
-
-    king_stays : piece_at (set p.cells from None) k ≡ piece_at p.cells k
-    king_stays = get_or-set_other p.cells from k None None (king_off p from k own crown)
-
-    alone : HasNoOtherKing (set p.cells from None) (opponent_of p.side) k
-    alone x h other = elim (cases_eq x from) [
-      | inl at ↦ ap (is_king (opponent_of p.side)) (ap (piece_at (set p.cells from None)) at ∙ get_or-set_same p.cells from None None (omega (arith, v.cells_fit)))
-      | inr off ↦ ap (is_king (opponent_of p.side)) (get_or-set_other p.cells from x None None off) ∙ lone x h other
-    ]
-
-    reached_still : reaches (set p.cells from None) k to ≡ true
-    reached_still = ap (λ (x : Option Piece). cell_reaches (set p.cells from None) x k to) king_stays ∙ king_reach p.cells (set p.cells from None) (opponent_of p.side) (piece_at p.cells k) k to crown reached
+    off : k ≢ to
+    off same = both_ways (reaches p.cells k to) (subst (λ (y : ℕ). reaches p.cells k y ≡ false) same (unreached p.cells k hk)) reached

@@ -81,6 +81,10 @@ pub record MayTake (q : Shogi) (a t : ℕ) (promote : Bool) (cell : Option Piece
   pub legal : is_legal q (Board a t promote) ≡ true
   pub stands : piece_at q.cells t ≡ cell
 
+-- after the move the other side may take what that puts on its square, with some piece that does not promote
+abbrev pub IsTaken : Shogi → Move → Type 0
+IsTaken p m = (a : ℕ) × (a < 81) × MayTake (after p m) a (end_of m) false (put_by p m)
+
 -- after the move the other side may take by each threat that it leaves
 abbrev pub KeepsThreats : Shogi → Move → Type 0
 KeepsThreats p m = (a t : ℕ) (promote : Bool) → IsThreat p a t promote → LeavesThreat p a t m

@@ -7,8 +7,10 @@ ghost use Rattle.shogi_core.specs.Bits.{IsMaskOf, has_bit};
 ghost use Rattle.shogi_core.specs.Movement.{reaches};
 ghost use Rattle.shogi_moves.specs.Destinations.{IsWithin};
 ghost use Rattle.shogi_moves.specs.Escapes.{AreEscapes};
+ghost use Rattle.shogi_moves.specs.Legal.{is_legal};
 ghost use Rattle.shogi_replies.specs.Escapes.{without_both, AreUnattacked, HasRaysBehind, HasKingsRays, ReachesWithin, HasNoSniper};
 ghost use Rattle.shogi_replies.specs.Replies.{IsAnswered, AreAnswered, AreDropsAnswered};
+ghost use Rattle.shogi_replies.specs.Threats.{IsTaken};
 
 use shogi_core::bits::{ALL_SQUARES, cleared, has, lowest, without_lowest};
 use shogi_core::{
@@ -225,21 +227,27 @@ fn is_unprotected(p: &Position, king: Square, from: Square, to: Square) -> bool
 }
 
 /// Whether the king of the side that is not to move, where it has just one, surely may take what
-/// moves on the board to a square next to it, if the move is legal.
+/// comes to a square next to it, if the move is legal.
 pub fn king_takes(p: &Position, m: &Move) -> bool
-    ensures { result ≡ true → IsAnswered p.now m.now }
+    ensures answered { result ≡ true → IsAnswered p.now m.now }
+    ensures taken { result ≡ true → is_legal p.now m.now ≡ true → IsTaken p.now m.now }
 {
     p.validity();
-    let Move::Board { from, to, .. } = m else {
-        return false
-    };
     let Some(king) = p.king(p.side().opponent()) else {
         return false
     };
     king.validity();
-    from.validity();
-    to.validity();
-    is_unprotected(p, king, *from, *to)
+    match m {
+        Move::Board { from, to, .. } => {
+            from.validity();
+            to.validity();
+            is_unprotected(p, king, *from, *to)
+        }
+        Move::Drop { to, .. } => {
+            to.validity();
+            is_unprotected(p, king, *to, *to)
+        }
+    }
 }
 
 /// Those of the squares to which what stands on a square may move, promoting or not, so that one of
