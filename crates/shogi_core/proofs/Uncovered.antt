@@ -139,35 +139,15 @@ module _ (old new : Cells) (Left : ℕ → Type 0) (opened : (x : ℕ) → is_no
             | inr later ↦ or_right (slides old (for_side piece.color o) a s) _ (each os parts.1 later)
           ]
 
-  -- a square that is attacked was attacked before
-  pub attacked_was : (color : Color) (s : ℕ) → ((a : ℕ) → is_piece_of color (piece_at new a) ≡ true → piece_at old a ≡ piece_at new a)
-      → ((x : ℕ) → Left x → are_lined old x s ≡ false) → is_attacked old color s ≡ false → is_attacked new color s ≡ false
-  unfolding reaches
-  attacked_was color s kept free safe = some_below_no 81 (is_attacked_from new color s) (λ a l. false_from_ne_true (is_attacked_from new color s a) (λ e.
-      let parts : (is_piece_of color (piece_at new a) ≡ true) × (reaches new a s ≡ true) = and_parts _ _ e in
-      let same : piece_at old a ≡ piece_at new a = kept a parts.0 in
-      let was : is_attacked_from old color s a ≡ true = and_from _ _ (ap (is_piece_of color) same ∙ parts.0) (ap (λ cell. cell_reaches old cell a s) same ∙ reached (piece_at new a) a parts.1) in
-      both_ways (is_attacked_from old color s a) (some_below_not 81 (is_attacked_from old color s) a safe l) was))
-    where
-      reached : (cell : Option Piece) (a : ℕ) → cell_reaches new cell a s ≡ true → cell_reaches old cell a s ≡ true
-      reached None a e = e
-      reached (Some piece) a e = elim (or_cases (has_step piece a s) (has_slide new piece a s) e) [
-        | inl step ↦ or_left (has_step piece a s) (has_slide old piece a s) step
-        | inr slide ↦ or_right (has_step piece a s) (has_slide old piece a s) (has_slide_was piece a s free slide)
-      ]
+  -- what reaches a square after the move reached it before, from where it stands after
+  pub reach_was : (cell : Option Piece) (a s : ℕ) → ((x : ℕ) → Left x → are_lined old x s ≡ false) → cell_reaches new cell a s ≡ true → cell_reaches old cell a s ≡ true
+  reach_was None a s free e = e
+  reach_was (Some piece) a s free e = elim (or_cases (has_step piece a s) (has_slide new piece a s) e) [
+    | inl step ↦ or_left (has_step piece a s) (has_slide old piece a s) step
+    | inr slide ↦ or_right (has_step piece a s) (has_slide old piece a s) (has_slide_was piece a s free slide)
+  ]
 
-  pub check_was : (color : Color) → ((a : ℕ) → is_piece_of (opponent_of color) (piece_at new a) ≡ true → piece_at old a ≡ piece_at new a)
-      → ((k : ℕ) → is_king color (piece_at new k) ≡ true → piece_at old k ≡ piece_at new k)
-      → ((x : ℕ) → Left x → is_lined_with_king old color x ≡ false) → in_check old color ≡ false → in_check new color ≡ false
-  unfolding in_check is_lined_with_king
-  check_was color kept kings free safe = some_below_no 81 (is_open_king new color) (λ k l. false_from_ne_true (is_open_king new color k) (λ e.
-      let parts : (is_king color (piece_at new k) ≡ true) × (is_attacked new (opponent_of color) k ≡ true) = and_parts _ _ e in
-      let king : is_king color (piece_at old k) ≡ true = ap (is_king color) (kings k parts.0) ∙ parts.0 in
-      let shut : is_attacked old (opponent_of color) k ≡ false = false_from_ne_true _ (λ attacked. both_ways (is_open_king old color k) (some_below_not 81 (is_open_king old color) k safe l) (and_from _ _ king attacked)) in
-      both_ways (is_attacked new (opponent_of color) k)
-      (attacked_was (opponent_of color) k kept (λ x left. false_from_ne_true _ (λ lined. both_ways (is_line_to_king old color x k) (some_below_not 81 (is_line_to_king old color x) k (free x left) l) (and_from _ _ king lined))) shut) parts.1))
-
-  -- the same where some pieces may be new, which reach nothing that matters
+  -- a square that is attacked was attacked before; some pieces may be new, which reach nothing that matters
   pub attacked_was_but : (color : Color) (s : ℕ) → ((a : ℕ) → is_piece_of color (piece_at new a) ≡ true → (piece_at old a ≡ piece_at new a) ⊎ (reaches new a s ≡ false))
       → ((x : ℕ) → Left x → are_lined old x s ≡ false) → is_attacked old color s ≡ false → is_attacked new color s ≡ false
   unfolding reaches
@@ -175,17 +155,10 @@ module _ (old new : Cells) (Left : ℕ → Type 0) (opened : (x : ℕ) → is_no
       let parts : (is_piece_of color (piece_at new a) ≡ true) × (reaches new a s ≡ true) = and_parts _ _ e in
       elim (kept a parts.0) [
         | inl same ↦ (
-            let was : is_attacked_from old color s a ≡ true = and_from _ _ (ap (is_piece_of color) same ∙ parts.0) (ap (λ cell. cell_reaches old cell a s) same ∙ reached (piece_at new a) a parts.1) in
+            let was : is_attacked_from old color s a ≡ true = and_from _ _ (ap (is_piece_of color) same ∙ parts.0) (ap (λ cell. cell_reaches old cell a s) same ∙ reach_was (piece_at new a) a s free parts.1) in
             both_ways (is_attacked_from old color s a) (some_below_not 81 (is_attacked_from old color s) a safe l) was)
         | inr short ↦ both_ways (reaches new a s) short parts.1
       ]))
-    where
-      reached : (cell : Option Piece) (a : ℕ) → cell_reaches new cell a s ≡ true → cell_reaches old cell a s ≡ true
-      reached None a e = e
-      reached (Some piece) a e = elim (or_cases (has_step piece a s) (has_slide new piece a s) e) [
-        | inl step ↦ or_left (has_step piece a s) (has_slide old piece a s) step
-        | inr slide ↦ or_right (has_step piece a s) (has_slide old piece a s) (has_slide_was piece a s free slide)
-      ]
 
   pub check_was_but : (color : Color) → ((a : ℕ) → is_piece_of (opponent_of color) (piece_at new a) ≡ true → (piece_at old a ≡ piece_at new a) ⊎ ((k : ℕ) → k < 81 → is_king color (piece_at new k) ≡ true → reaches new a k ≡ false))
       → ((k : ℕ) → is_king color (piece_at new k) ≡ true → piece_at old k ≡ piece_at new k)
@@ -199,13 +172,15 @@ module _ (old new : Cells) (Left : ℕ → Type 0) (opened : (x : ℕ) → is_no
       (attacked_was_but (opponent_of color) k (λ a own. elim (kept a own) [ inl same ↦ inl same | inr short ↦ inr (short k l parts.0) ])
       (λ x left. false_from_ne_true _ (λ lined. both_ways (is_line_to_king old color x k) (some_below_not 81 (is_line_to_king old color x) k (free x left) l) (and_from _ _ king lined))) shut) parts.1))
 
-  -- what reaches a square after the move reached it before, from where it stands after
-  pub reach_was : (cell : Option Piece) (a s : ℕ) → ((x : ℕ) → Left x → are_lined old x s ≡ false) → cell_reaches new cell a s ≡ true → cell_reaches old cell a s ≡ true
-  reach_was None a s free e = e
-  reach_was (Some piece) a s free e = elim (or_cases (has_step piece a s) (has_slide new piece a s) e) [
-    | inl step ↦ or_left (has_step piece a s) (has_slide old piece a s) step
-    | inr slide ↦ or_right (has_step piece a s) (has_slide old piece a s) (has_slide_was piece a s free slide)
-  ]
+  -- the same where no piece is new
+  pub attacked_was : (color : Color) (s : ℕ) → ((a : ℕ) → is_piece_of color (piece_at new a) ≡ true → piece_at old a ≡ piece_at new a)
+      → ((x : ℕ) → Left x → are_lined old x s ≡ false) → is_attacked old color s ≡ false → is_attacked new color s ≡ false
+  attacked_was color s kept = attacked_was_but color s (λ a own. inl (kept a own))
+
+  pub check_was : (color : Color) → ((a : ℕ) → is_piece_of (opponent_of color) (piece_at new a) ≡ true → piece_at old a ≡ piece_at new a)
+      → ((k : ℕ) → is_king color (piece_at new k) ≡ true → piece_at old k ≡ piece_at new k)
+      → ((x : ℕ) → Left x → is_lined_with_king old color x ≡ false) → in_check old color ≡ false → in_check new color ≡ false
+  check_was color kept = check_was_but color (λ a own. inl (kept a own))
 
 -- ---- a check that stays
 

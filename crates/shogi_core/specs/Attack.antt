@@ -128,6 +128,11 @@ FindsPiece cells direction from found =
     MatchOption found (IsOpenLine cells (direction_at direction) from)
     (IsFirstPiece cells (direction_at direction) from)
 
+-- the same on each board whose pieces stand on the occupied squares
+abbrev pub FindsOccupied : ℕ → ℕ → ℕ → Option ℕ → Type 0
+FindsOccupied occupied direction from found =
+    (cells : Cells) → AreOccupied occupied cells → FindsPiece cells direction from found
+
 -- the piece on `from` is of the side and stands alone between the square and a sniper of the other side's, which is on `sniper`, in the direction
 abbrev pub is_pinned_by : Cells → Color → ℕ → Offset → ℕ → ℕ → Bool
 is_pinned_by cells color square o from sniper =

@@ -1,13 +1,12 @@
 //! Attacks and checks, seen from the square that is attacked.
 
 ghost use Rattle.std.specs.Prelude.{◌≡◌, ◌≢◌, ◌<◌, ◌≤◌, ◌^◌, ℕ, true, false, not, None, IfSome, IsNone, is_none};
-ghost use Rattle.shogi_core.specs.Attack.{is_attacked, is_open_king, in_check, is_sniper, is_sniping, cell_steps, cell_slides_back, is_step_from, is_step_among, is_shot_along, is_shot, AreOccupied, FindsPiece, TellsAttack, TellsShot, TellsShotAlong, HasPinned, HasPinnedAlong, OthersAreUnpinned, StaysAttacked, StaysInCheck};
+ghost use Rattle.shogi_core.specs.Attack.{is_attacked, is_open_king, in_check, is_sniper, is_sniping, cell_steps, cell_slides_back, is_step_from, is_step_among, is_shot_along, is_shot, FindsOccupied, FindsPiece, TellsAttack, TellsShot, TellsShotAlong, HasPinned, HasPinnedAlong, OthersAreUnpinned, StaysAttacked, StaysInCheck};
 ghost use Rattle.shogi_core.specs.Below.{some_below};
 ghost use Rattle.shogi_core.specs.Bits.{HasBits, IsMaskOf, has_bit};
 ghost use Rattle.shogi_core.specs.Cell.{is_king};
 ghost use Rattle.shogi_core.specs.Lines.{are_lined, is_seen};
 ghost use Rattle.shogi_core.specs.Pieces.{opponent_of};
-ghost use Rattle.shogi_core.specs.Movement.{Cells};
 ghost use Rattle.shogi_core.specs.declared.piece.Color.{Color};
 ghost use Rattle.shogi_core.specs.Rays.{direction_at};
 
@@ -204,8 +203,7 @@ fn first_occupied(occupied: u128, direction: usize, from: usize) -> Option<usize
     requires direction { direction < 8 }
     requires from { from < 81 }
     ensures range { IfSome result (λ n. n < 81) }
-    ensures first { (cells : Cells) → AreOccupied occupied cells
-        → FindsPiece cells direction from result }
+    ensures first { FindsOccupied occupied direction from result }
 {
     let pieces = ray(direction, from) & occupied;
     if pieces == 0 {
