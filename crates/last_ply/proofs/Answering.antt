@@ -12,11 +12,11 @@ use Rattle.shogi_core.proofs.BitLaws.{has_bit-and, has_bit-or}
 use Rattle.shogi_core.proofs.LineBits.{has_bit-not}
 use Rattle.shogi_core.proofs.CodesBack.{move_of-board}
 use Rattle.shogi_moves.specs.CheckInfo.{IsCheckInfo}
-use Rattle.shogi_moves.specs.Destinations.{is_unchecked}
+use Rattle.shogi_moves.specs.Destinations.{is_own, is_unchecked}
 use Rattle.shogi_moves.specs.Legal.{is_pseudo_legal_board_move}
 use Rattle.shogi_moves.proofs.DestinationLaws.{legal_board, no_answer, unchecked_either}
 use Rattle.shogi_moves.proofs.LegalLaws.{is_legal_code_of}
-use Rattle.last_ply.specs.LastPly.{is_legal_board_move, is_own, HasNoneFrom, HasReachers, OnEach, OnRest}
+use Rattle.last_ply.specs.LastPly.{is_legal_board_move, HasNoneFrom, HasReachers, OnEach, OnRest}
 use Rattle.last_ply.proofs.Scores.{legal_parts}
 use Rattle.last_ply.proofs.Squares.{out_within}
 

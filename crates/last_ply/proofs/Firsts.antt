@@ -20,7 +20,8 @@ use Rattle.shogi_moves.proofs.LegalLaws.{in_legal, legal_in, no_piece}
 use Rattle.shogi_eval.specs.declared.eval.Eval.{Eval}
 use Rattle.shogi_eval.specs.Evaluated.{Evaluated}
 use Rattle.shogi_eval.specs.Material.{material_of}
-use Rattle.last_ply.specs.LastPly.{is_legal_board_move, is_own, score_at, IsFirstFrom, NoneScoresFrom, Scores, ScoresFromAtMost, OnOwn, NoneScores, IsFirstToScore}
+use Rattle.shogi_moves.specs.Destinations.{is_own}
+use Rattle.last_ply.specs.LastPly.{is_legal_board_move, score_at, IsFirstFrom, NoneScoresFrom, Scores, ScoresFromAtMost, OnOwn, NoneScores, IsFirstToScore}
 use Rattle.last_ply.proofs.Scores.{by_moves, legal_parts, score_drop, score_quiet}
 use Rattle.last_ply.proofs.Squares.{out_within}
 

@@ -26,7 +26,7 @@ use Rattle.shogi_core.proofs.CodesBack.{move_of-board, move_of-drop, code_of-boa
 use Rattle.shogi_moves.specs.After.{after, after_code}
 use Rattle.shogi_moves.specs.Legal.{is_legal, is_legal_code, is_pseudo_legal_board_move}
 use Rattle.shogi_core.specs.Zones.{may_promote, is_near_zone}
-use Rattle.shogi_moves.specs.Destinations.{AreEnterable, HasMovers, is_destination, is_unchecked}
+use Rattle.shogi_moves.specs.Destinations.{is_own, AreEnterable, HasMovers, is_destination, is_unchecked}
 use Rattle.shogi_moves.specs.LegalMoves.{legal_codes}
 use Rattle.shogi_moves.specs.Rising.{is_in}
 use Rattle.shogi_moves.proofs.DestinationLaws.{all_ways, legal_board}
@@ -40,7 +40,7 @@ use Rattle.shogi_eval.specs.declared.gain.TheConstants.{PROMOTION_GAIN_MAX}
 use Rattle.shogi_eval.specs.Material.{material_of, taken_gain, promotion_gain, drop_gain, value_of}
 use Rattle.shogi_eval.proofs.Gains.{material_after_board, material_after_drop}
 use Rattle.last_ply.proofs.Squares.{left_clear}
-use Rattle.last_ply.specs.LastPly.{is_legal_board_move, is_own, score_at, HasScore, ScoresAtMost, ScoresFromAtMost, ScoresAmongAtMost, OnOwn}
+use Rattle.last_ply.specs.LastPly.{is_legal_board_move, score_at, HasScore, ScoresAtMost, ScoresFromAtMost, ScoresAmongAtMost, OnOwn}
 
 -- what the move on the board of a code scores
 pub score_board : (p : Shogi) (e : Eval) (from to : ℕ) (promote : Bool) → IsValid p → from < 81 → to < 81 → is_legal_board_move p from to promote ≡ true

@@ -5,13 +5,12 @@ use Rattle.shogi_core.specs.declared.moves.TheConstants.{SQUARE_CODES}
 use Rattle.shogi_core.specs.declared.piece.Kind.{Kind}
 use Rattle.shogi_core.specs.declared.piece.Piece.{Piece}
 use Rattle.shogi_core.specs.Below.{some_below}
-use Rattle.shogi_core.specs.Bits.{has_bit, IsMaskOf}
-use Rattle.shogi_core.specs.Cell.{is_piece_of}
+use Rattle.shogi_core.specs.Bits.{has_bit}
 use Rattle.shogi_core.specs.Codes.{code_of}
 use Rattle.shogi_core.specs.Movement.{Cells, cell_reaches, piece_at, reaches}
 use Rattle.shogi_core.specs.Position.{Shogi}
 use Rattle.shogi_moves.specs.After.{after_code}
-use Rattle.shogi_moves.specs.Destinations.{AreEnterable}
+use Rattle.shogi_moves.specs.Destinations.{is_own, AreEnterable}
 use Rattle.shogi_moves.specs.Legal.{is_legal_code}
 use Rattle.shogi_moves.specs.LegalMoves.{legal_codes}
 use Rattle.shogi_moves.specs.Rising.{is_in}
@@ -22,10 +21,6 @@ use Rattle.shogi_eval.specs.Evaluated.{Evaluated}
 use Rattle.shogi_eval.specs.Material.{material_of, taken_gain}
 use Rattle.minimax.specs.Minimax.{negated, lost_value, IsTrueEntry}
 use Rattle.minimax.specs.declared.entry.Entry.{Entry}
-
--- a piece of the side to move stands on the square
-abbrev pub is_own : Shogi → ℕ → Bool
-is_own p n = is_piece_of p.side (piece_at p.cells n)
 
 -- the move of what stands on the square to another one is legal, promoting or not
 abbrev pub is_legal_board_move : Shogi → ℕ → ℕ → Bool → Bool
@@ -227,11 +222,6 @@ HasOthers mask = (n : ℕ) → some_below 81 (λ a. has_bit mask a && not (a == 
 -- the piece does not reach one square from another one, whatever stands between
 abbrev pub IsOutOfReach : Piece → ℕ → ℕ → Type 0
 IsOutOfReach piece from to = (cells : Cells) → cell_reaches cells (Some piece) from to ≡ false
-
--- the mask has the squares at which the move of the piece is legal, promoting or not
-abbrev pub AreLegalDestinations : Shogi → ℕ → Bool → ℕ → Type 0
-AreLegalDestinations p from promote mask =
-    IsMaskOf mask (λ n. is_legal_board_move p from n promote)
 
 -- the moves of what stands on the square to the ends that the mask lacks are answered, promoting or not
 abbrev pub AreAnsweredOff : Shogi → ℕ → Bool → ℕ → ℕ → Type 0

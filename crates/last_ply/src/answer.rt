@@ -149,7 +149,7 @@ pub fn last_ply(node: &Node, alpha: i32, beta: i32) -> Entry
     ensures cutoff { IsCutoff alpha beta result }
 {
     let scene = Scene::of(node);
-    if scene.info.checked && alpha < -MATE - 1 && beta > MATE {
+    if scene.known.info.checked && alpha < -MATE - 1 && beta > MATE {
         return scene.by_one_walk();
     }
     let base = node.score();

@@ -4,9 +4,9 @@ ghost use Rattle.std.specs.Prelude.{◌≡◌, ◌<◌, ◌^◌, ◌≤ℤ◌, �
 ghost use Rattle.shogi_core.specs.declared.moves.Move.TheVariants as moves;
 ghost use Rattle.shogi_core.specs.Codes.{code_of};
 ghost use Rattle.shogi_core.specs.Movement.{reaches};
-ghost use Rattle.shogi_moves.specs.Destinations.{AreEnterable, IsWithin};
+ghost use Rattle.shogi_moves.specs.Destinations.{is_own, AreEnterable, IsWithin};
 ghost use Rattle.minimax.specs.Entries.{IsCutoff};
-ghost use Rattle.last_ply.specs.LastPly.{base_of, is_legal_board_move, is_own, HasNoMate, IsFirstFrom, IsFirstMate, IsFirstToScore, NoneScores, NoneScoresAmong, NoneScoresFrom, OnRest, Scores, ScoresElse, NodeHasScore, NodeScoresAtMost, IsTrueOf};
+ghost use Rattle.last_ply.specs.LastPly.{base_of, is_legal_board_move, HasNoMate, IsFirstFrom, IsFirstMate, IsFirstToScore, NoneScores, NoneScoresAmong, NoneScoresFrom, OnRest, Scores, ScoresElse, NodeHasScore, NodeScoresAtMost, IsTrueOf};
 
 use crate::mates::Outlook;
 use crate::scene::Scene;

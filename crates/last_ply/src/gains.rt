@@ -5,14 +5,14 @@ ghost use Rattle.shogi_core.specs.declared.piece.Piece as pieces;
 ghost use Rattle.shogi_core.specs.Cell.{is_slider};
 ghost use Rattle.shogi_core.specs.Codes.{code_of};
 ghost use Rattle.shogi_core.specs.Movement.{reaches};
-ghost use Rattle.shogi_moves.specs.Destinations.{AreEnterable, IsWithin};
+ghost use Rattle.shogi_moves.specs.Destinations.{is_own, AreEnterable, IsWithin};
 ghost use Rattle.shogi_moves.specs.Legal.{is_legal};
 ghost use Rattle.shogi_moves.specs.LegalMoves.{legal_codes};
 ghost use Rattle.shogi_moves.specs.Rising.{is_in};
 ghost use Rattle.shogi_eval.specs.declared.gain.TheConstants.{PROMOTION_GAIN_MAX};
 ghost use Rattle.shogi_eval.specs.declared.points.TheConstants.{PIECE_VALUE_MAX, POINTS_MAX};
 ghost use Rattle.shogi_eval.specs.Material.{taken_gain};
-ghost use Rattle.last_ply.specs.LastPly.{base_of, is_legal_board_move, is_own, score_at, HasNoneFrom, HasReachers, NodeHasScore, NodeScoresAtMost, NodeScoresFromAtMost, OnEach, OnRest, Outside, ScoresAmongAtMost, ScoresTo, ScoresToAtMost, TakesLittle};
+ghost use Rattle.last_ply.specs.LastPly.{base_of, is_legal_board_move, score_at, HasNoneFrom, HasReachers, NodeHasScore, NodeScoresAtMost, NodeScoresFromAtMost, OnEach, OnRest, Outside, ScoresAmongAtMost, ScoresTo, ScoresToAtMost, TakesLittle};
 
 use crate::scene::Scene;
 use shogi_core::bits::{has, lowest, with, without_lowest};
@@ -82,7 +82,7 @@ impl Scene<'_> {
     {
         to.validity();
         let square = with(0, to.index());
-        let ends = legal_destinations(self.node.as_position(), &self.info, from, square);
+        let ends = legal_destinations(&self.known, from, square);
         if promote {
             has(ends.promoting, to.index())
         } else {
@@ -211,14 +211,14 @@ impl Scene<'_> {
     /// In check, the side's kings and those of its pieces that may reach a square where it is answered:
     /// no other one has a legal move.
     fn answerers(&self) -> u128
-        requires { self.now.info.checked ≡ true }
+        requires { self.now.known.info.checked ≡ true }
         ensures within { IsWithin result self.now.own }
         ensures fits { result < 2 ^ 81 }
         ensures others { OnRest self.now.own result (HasNoneFrom self.now.node.now.position) }
     {
         let p = self.node.as_position();
         p.validity();
-        let answers = self.info.pinned_or_king & !self.own;
+        let answers = self.known.info.pinned_or_king & !self.own;
         let reaching = self.squares_reaching_some(answers);
         self.own & (p.as_board().kings(p.side()) | reaching)
     }
@@ -229,7 +229,7 @@ impl Scene<'_> {
         ensures fits { result < 2 ^ 81 }
         ensures others { OnRest self.now.own result (HasNoneFrom self.now.node.now.position) }
     {
-        if self.info.checked {
+        if self.known.info.checked {
             return self.answerers();
         }
         self.own
@@ -244,7 +244,7 @@ impl Scene<'_> {
         ensures fits { result < 2 ^ 81 }
         ensures others { OnRest self.now.own result (NodeScoresFromAtMost self.now.node.now floor) }
     {
-        if self.info.checked {
+        if self.known.info.checked {
             return self.answerers();
         }
         let p = self.node.as_position();

@@ -6,12 +6,12 @@ ghost use Rattle.shogi_core.specs.Bits.{has_bit};
 ghost use Rattle.shogi_core.specs.Codes.{code_of};
 ghost use Rattle.shogi_core.specs.Movement.{piece_at};
 ghost use Rattle.shogi_moves.specs.After.{piece_moved};
-ghost use Rattle.shogi_moves.specs.Destinations.{AreDropSquares, IsWithin};
+ghost use Rattle.shogi_moves.specs.Destinations.{is_own, AreDropSquares, IsWithin};
 ghost use Rattle.shogi_moves.specs.Escapes.{AreEscapes};
 ghost use Rattle.shogi_moves.specs.LegalMoves.{legal_codes};
 ghost use Rattle.shogi_moves.specs.Legal.{is_legal};
 ghost use Rattle.shogi_replies.specs.Replies.{IsAnswered, IsReplies};
-ghost use Rattle.last_ply.specs.LastPly.{is_own, AreAnsweredOff, AreDropsAnsweredOff, AreLegalDropEnds, BoardLeavesSome, DropsLeaveSomeAmong, OnEach, Outside, HasMate, HasNoMate, LeavesNone, LeavesSome, AreDoubtfulEnds, AreLegalEnds, LeaveSomeAmong, LeaveSomeFrom, DropsLeaveSome, IsOutOfReach, HasOthers};
+ghost use Rattle.last_ply.specs.LastPly.{AreAnsweredOff, AreDropsAnsweredOff, AreLegalDropEnds, BoardLeavesSome, DropsLeaveSomeAmong, OnEach, Outside, HasMate, HasNoMate, LeavesNone, LeavesSome, AreDoubtfulEnds, AreLegalEnds, LeaveSomeAmong, LeaveSomeFrom, DropsLeaveSome, IsOutOfReach, HasOthers};
 
 use crate::scene::Scene;
 use shogi_core::bits::{has, lowest, with, without_lowest};
@@ -169,7 +169,7 @@ impl Outlook<'_> {
             scene: *scene,
             replies,
             escapes: some_escapes(p),
-            squares: drop_squares(p, &scene.info),
+            squares: drop_squares(&scene.known),
             spared: has_two(replies.spare),
         }
     }
@@ -367,8 +367,7 @@ impl Outlook<'_> {
         if among == 0 {
             return false;
         }
-        let p = self.scene.node.as_position();
-        let ends = legal_destinations(p, &self.scene.info, from, among);
+        let ends = legal_destinations(&self.scene.known, from, among);
         self.mates_among(from, false, ends.plain & doubtful.plain)
             || self.mates_among(from, true, ends.promoting & doubtful.promoting)
     }

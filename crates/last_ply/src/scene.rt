@@ -6,31 +6,30 @@ ghost use Rattle.shogi_core.specs.Cell.{is_piece_of};
 ghost use Rattle.shogi_core.specs.Movement.{piece_at};
 ghost use Rattle.shogi_core.specs.Pieces.{opponent_of};
 ghost use Rattle.shogi_core.specs.Validity.{IsValid};
-ghost use Rattle.shogi_moves.specs.CheckInfo.{IsCheckInfoOf};
-ghost use Rattle.last_ply.specs.LastPly.{is_own};
+ghost use Rattle.shogi_moves.specs.Destinations.{is_own};
 
 use shogi_core::Square;
 use shogi_eval::Node;
-use shogi_moves::{CheckInfo, Destinations, check_info_of, legal_destinations};
+use shogi_moves::{Destinations, KnownPosition, all_destinations, check_info_of};
 
 /// A node, and what is known of it: of checks, which squares the pieces of the side to move stand
 /// on, and those of the other side.
 #[derive(Clone, Copy)]
 pub struct Scene<'a> {
     pub node: &'a Node,
-    pub info: CheckInfo,
+    pub known: KnownPosition<'a>,
     pub own: u128,
     pub foe: u128,
     ghost valid: { IsValid node.now.position },
-    ghost known: { IsCheckInfoOf info node.now.position },
+    ghost same: { known.position.now ≡ node.now.position },
     ghost owns: { IsMaskOf own (is_own node.now.position) },
     ghost foes: { IsMaskOf foe (λ n. is_piece_of (opponent_of node.now.position.side)
         (piece_at node.now.position.cells n)) },
 }
 
 impl Scene<'_> {
-    ghost use Rattle.std.specs.Prelude.{◌<◌, ◌^◌, true, false};
-    ghost use Rattle.last_ply.specs.LastPly.{AreLegalDestinations};
+    ghost use Rattle.std.specs.Prelude.{true};
+    ghost use Rattle.shogi_moves.specs.Destinations.{AreAllDestinations};
 
     /// The scene of the node.
     pub fn of(node: &Node) -> Scene<'_>
@@ -41,7 +40,7 @@ impl Scene<'_> {
         let board = p.as_board();
         Scene {
             node,
-            info: check_info_of(p),
+            known: check_info_of(p).at(p),
             own: board.own(p.side()),
             foe: board.own(p.side().opponent()),
         }
@@ -59,13 +58,8 @@ impl Scene<'_> {
     /// The legal destinations of one of the side's pieces.
     pub fn destinations(&self, from: Square) -> Destinations
         requires { is_own self.now.node.now.position from ≡ true }
-        ensures plain { AreLegalDestinations self.now.node.now.position from false result.plain }
-        ensures promoting { AreLegalDestinations self.now.node.now.position from true
-            result.promoting }
+        ensures { AreAllDestinations self.now.node.now.position from result }
     {
-        let p = self.node.as_position();
-        from.validity();
-        let among = p.as_board().targets(from) & self.enterable();
-        legal_destinations(p, &self.info, from, among)
+        all_destinations(&self.known, from, self.enterable())
     }
 }

@@ -47,10 +47,10 @@ fn next_matching(
 // codes.
 fn assert_moves(rt: &impl Abort, p: &Position, at: usize) {
     let mut walk = Walk::new(p);
-    let info = check_info_of(p);
-    let mut captures = BoardSweep::new(p, info, true);
-    let mut quiets = BoardSweep::new(p, info, false);
-    let mut drops = DropSweep::new(p, info);
+    let known = check_info_of(p).at(p);
+    let mut captures = BoardSweep::new(&known, true);
+    let mut quiets = BoardSweep::new(&known, false);
+    let mut drops = DropSweep::new(&known);
     let mut passed = None;
     let mut count: u64 = 0;
     for code in 0..MOVE_CODE_COUNT {

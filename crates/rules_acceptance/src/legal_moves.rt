@@ -78,21 +78,22 @@ fn steps(rt: HostRuntime) -> Result<(), Fail> {
 #[test]
 fn captures(rt: HostRuntime) -> Result<(), Fail> {
     let p = position("4k4/9/9/4+p4/4P4/9/9/9/4K4 b P")?;
-    let mut captures = BoardSweep::new(&p, check_info_of(&p), true);
+    let known = check_info_of(&p).at(&p);
+    let mut captures = BoardSweep::new(&known, true);
     holds!(rt; captures.fill(&p, true));
     same!(rt; captures.next(&p, true), Some(read("5e5d")?));
     holds!(rt; !captures.fill(&p, true) && captures.next(&p, true).is_none());
-    let mut quiets = BoardSweep::new(&p, check_info_of(&p), false);
+    let mut quiets = BoardSweep::new(&known, false);
     same!(rt; quiets.next(&p, false), Some(read("5i4h")?));
-    let mut drops = DropSweep::new(&p, check_info_of(&p));
+    let mut drops = DropSweep::new(&known);
     holds!(rt; drops.fill(&p));
     same!(rt; drops.next(&p), Some(read("P*1b")?));
     let start = Position::start();
-    let info = check_info_of(&start);
-    holds!(rt; BoardSweep::new(&start, info, true).next(&start, true).is_none());
-    let mut quiets = BoardSweep::new(&start, info, false);
+    let known = check_info_of(&start).at(&start);
+    holds!(rt; BoardSweep::new(&known, true).next(&start, true).is_none());
+    let mut quiets = BoardSweep::new(&known, false);
     same!(rt; quiets.next(&start, false), Some(read("1g1f")?));
-    holds!(rt; DropSweep::new(&start, info).next(&start).is_none());
+    holds!(rt; DropSweep::new(&known).next(&start).is_none());
     Ok(())
 }
 

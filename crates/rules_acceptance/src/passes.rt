@@ -17,7 +17,7 @@ fn first_of(
     plain: u128,
     promoting: u128,
 ) -> Option<Move> {
-    let mut sweep = BoardSweep::new(p, check_info_of(p), capture);
+    let mut sweep = BoardSweep::new(&check_info_of(p).at(p), capture);
     let row = Row {
         pieces,
         plain,
@@ -102,7 +102,7 @@ fn quiet_moves_of_some_pieces(rt: HostRuntime) -> Result<(), Fail> {
 /// The first drop of a pawn that is not passed.
 fn first_drop(sfen: &str) -> Result<Option<Move>, Fail> {
     let p = position(sfen)?;
-    let mut sweep = DropSweep::new(&p, check_info_of(&p));
+    let mut sweep = DropSweep::new(&check_info_of(&p).at(&p));
     Replies::of(&p).pass_drops(&p, ALL_SQUARES, escape_squares(&p), &mut sweep);
     Ok(sweep.next(&p))
 }

@@ -8,7 +8,7 @@ use Rattle.shogi_core.specs.declared.moves.Move.{Move}
 use Rattle.shogi_core.specs.declared.moves.Move.TheVariants.{Board, Drop}
 use Rattle.shogi_core.specs.Attack.{in_check, is_attacked}
 use Rattle.shogi_core.specs.Bits.{HasBits, IsMaskOf, has_bit}
-use Rattle.shogi_core.specs.Cell.{is_piece_of}
+use Rattle.shogi_core.specs.Cell.{is_king, is_piece_of}
 use Rattle.shogi_core.specs.Codes.{code_of}
 use Rattle.shogi_core.specs.Movement.{Cells, piece_at, reaches}
 use Rattle.shogi_core.specs.Pieces.{opponent_of}
@@ -24,6 +24,14 @@ abbrev pub is_destination : Bool → Color → Option Piece → Bool
 is_destination true side cell = is_piece_of (opponent_of side) cell
 is_destination false side cell = is_none cell
 
+-- a piece of the side to move stands on the square
+abbrev pub is_own : Shogi → ℕ → Bool
+is_own p n = is_piece_of p.side (piece_at p.cells n)
+
+-- its king stands there
+abbrev pub is_own_king : Shogi → ℕ → Bool
+is_own_king p n = is_king p.side (piece_at p.cells n)
+
 -- the move leaves the mover's king unattacked
 abbrev pub is_unchecked : Shogi → Move → Bool
 is_unchecked p m = not (in_check (cells_after p.cells p.side m) p.side)
@@ -33,15 +41,18 @@ abbrev pub AreUncheckedDestinations : Shogi → ℕ → ℕ → ℕ → Type 0
 AreUncheckedDestinations p from destinations mask =
     IsMaskOf mask (λ n. has_bit destinations n && is_unchecked p (Board from n false))
 
--- the mask has those of the destinations at which the move of the piece is legal, promoting or not
-abbrev pub AreLegalDestinations : Shogi → ℕ → Bool → ℕ → ℕ → Type 0
-AreLegalDestinations p from promote destinations mask =
-    HasBits mask (λ n. has_bit destinations n && is_legal_code p (code_of (Board from n promote)))
+-- the masks have the squares that pass, without promotion and with it
+pub record AreDestinations (test : ℕ → Bool → Bool) (destinations : Destinations) : Type 0 where
+  pub plain : IsMaskOf destinations.plain (λ n. test n false)
+  pub promoting : IsMaskOf destinations.promoting (λ n. test n true)
 
--- the masks have the destinations at which the move of the piece is legal, without promotion and with it
-pub record AreAllDestinations (p : Shogi) (from : ℕ) (destinations : Destinations) : Type 0 where
-  pub plain : IsMaskOf destinations.plain (λ n. is_legal_code p (code_of (Board from n false)))
-  pub promoting : IsMaskOf destinations.promoting (λ n. is_legal_code p (code_of (Board from n true)))
+-- they have those of the destinations at which the move of the piece is legal, and all such destinations
+abbrev pub AreLegalDestinations : Shogi → ℕ → ℕ → Destinations → Type 0
+AreLegalDestinations p from among =
+    AreDestinations (λ n b. has_bit among n && is_legal_code p (code_of (Board from n b)))
+
+abbrev pub AreAllDestinations : Shogi → ℕ → Destinations → Type 0
+AreAllDestinations p from = AreDestinations (λ n b. is_legal_code p (code_of (Board from n b)))
 
 -- the mask has those of the squares on which a dropped pawn leaves its king unattacked
 abbrev pub AreUncheckedDrops : Shogi → ℕ → ℕ → Type 0
@@ -65,7 +76,7 @@ pub record AreDropSquares (p : Shogi) (mask : ℕ) : Type 0 where
 -- the piece reaches each square of the mask, and none of the side to move stands there
 abbrev pub AreEnterable : Shogi → ℕ → ℕ → Type 0
 AreEnterable p from mask = (n : ℕ) → n < 81 → has_bit mask n ≡ true
-    → (reaches p.cells from n ≡ true) × (is_piece_of p.side (piece_at p.cells n) ≡ false)
+    → (reaches p.cells from n ≡ true) × (is_own p n ≡ false)
 
 -- the mask has the squares of the zone, those from which a piece may leave its king attacked, and in check all
 abbrev pub AreMarked : CheckInfo → ℕ → ℕ → Type 0

@@ -1,6 +1,7 @@
 -- The legal moves of a position by their codes, and sequences of legal moves (their order is an own choice).
 use Rattle.std.specs.Prelude.{◌≡◌, ℕ, zero, suc, ◌+◌, List, [], ◌∷◌, Option, Some, None, MatchOption, filter, length, sum_by}
 use Rattle.shogi_core.specs.declared.moves.Move.{Move}
+use Rattle.shogi_core.specs.declared.moves.TheConstants.{FIRST_DROP}
 use Rattle.shogi_core.specs.Codes.{code_of, codes_from}
 use Rattle.shogi_core.specs.Position.{Shogi}
 use Rattle.shogi_moves.specs.After.{after_code}
@@ -18,6 +19,16 @@ legal_codes p = legal_from p 0
 abbrev pub legal_above : Shogi → Option Move → List ℕ
 legal_above p None = legal_from p 0
 legal_above p (Some m) = legal_from p (code_of m + 1)
+
+-- no move of a piece on the board is legal; no drop of a pawn; no drop of another piece
+abbrev pub HasNoBoardMove : Shogi → Type 0
+HasNoBoardMove p = legal_codes p ≡ legal_from p FIRST_DROP
+
+abbrev pub HasNoPawnDrop : Shogi → Type 0
+HasNoPawnDrop p = legal_from p FIRST_DROP ≡ legal_from p (FIRST_DROP + 81)
+
+abbrev pub HasNoPieceDrop : Shogi → Type 0
+HasNoPieceDrop p = legal_from p (FIRST_DROP + 81) ≡ []
 
 -- so many moves are legal from the first code on and before the end
 abbrev pub CountsLegal : Shogi → ℕ → ℕ → ℕ → Type 0

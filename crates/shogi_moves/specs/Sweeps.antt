@@ -4,10 +4,11 @@ use Rattle.shogi_core.specs.declared.moves.TheConstants.{FIRST_DROP, SQUARE_CODE
 use Rattle.shogi_core.specs.declared.moves.Move.{Move}
 use Rattle.shogi_core.specs.declared.moves.Move.TheVariants.{Board, Drop}
 use Rattle.shogi_core.specs.declared.piece.Kind.{Kind}
-use Rattle.shogi_core.specs.Bits.{HasBits, has_bit}
+use Rattle.shogi_core.specs.Bits.{has_bit}
 use Rattle.shogi_core.specs.Codes.{code_of}
 use Rattle.shogi_core.specs.Pieces.{kind_number}
 use Rattle.shogi_core.specs.Position.{Shogi}
+use Rattle.shogi_moves.specs.declared.destinations.Destinations.{Destinations}
 use Rattle.shogi_moves.specs.declared.next.KeptDestinations.{KeptDestinations}
 use Rattle.shogi_moves.specs.declared.sweep.BoardSweep.{BoardSweep}
 use Rattle.shogi_moves.specs.declared.sweep.DropSweep.{DropSweep}
@@ -15,7 +16,7 @@ use Rattle.shogi_moves.specs.declared.walk.Place.{Place}
 use Rattle.shogi_moves.specs.declared.walk.Place.TheVariants as places
 use Rattle.shogi_moves.specs.Captures.{matches_kind, is_matching}
 use Rattle.shogi_moves.specs.CheckInfo.{IsCheckInfoOf}
-use Rattle.shogi_moves.specs.Destinations.{AreDropSquares, AreAllDestinations}
+use Rattle.shogi_moves.specs.Destinations.{AreDropSquares, AreAllDestinations, AreDestinations}
 use Rattle.shogi_moves.specs.Legal.{is_legal_code}
 use Rattle.shogi_moves.specs.LegalMoves.{legal_from}
 use Rattle.shogi_moves.specs.Walks.{IsNextOf}
@@ -28,10 +29,10 @@ matching_from p capture first = filter (matches_kind p capture) (legal_from p fi
 abbrev pub matching_drops : Shogi → Bool → List ℕ
 matching_drops p capture = matching_from p capture FIRST_DROP
 
--- the mask has the destinations at which the move of the piece is legal and of the kind, promoting or not
-abbrev pub AreMatchingDestinations : Shogi → Bool → ℕ → Bool → ℕ → Type 0
-AreMatchingDestinations p capture from promote mask =
-    HasBits mask (λ n. is_matching p capture (code_of (Board from n promote)))
+-- the masks have the destinations at which the move of the piece is legal and of the kind
+abbrev pub AreMatchingDestinations : Shogi → Bool → ℕ → Destinations → Type 0
+AreMatchingDestinations p capture from =
+    AreDestinations (λ n b. is_matching p capture (code_of (Board from n b)))
 
 -- the mask has the squares whose codes pass, from a code on
 pub record Keeps (test : ℕ → Bool) (place : ℕ → ℕ) (code mask : ℕ) : Type 0 where

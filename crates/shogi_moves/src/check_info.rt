@@ -17,6 +17,14 @@ pub struct CheckInfo {
     pub pinned_or_king: u128,
 }
 
+/// A position with what is known of it.
+#[derive(Clone, Copy)]
+pub struct KnownPosition<'a> {
+    pub position: &'a Position,
+    pub info: CheckInfo,
+    ghost right: { IsCheckInfoOf info position.now },
+}
+
 /// What is kept where there is a check.
 #[tactic(auto, using(crate::proofs::CheckInfoLaws::with_check))]
 fn checked_info(p: &Position) -> CheckInfo
@@ -74,6 +82,20 @@ pub fn rough_check_info(p: &Position) -> CheckInfo
     CheckInfo {
         checked: in_check(p),
         pinned_or_king: ALL_SQUARES,
+    }
+}
+
+impl CheckInfo {
+    /// The position that this is kept of, with it.
+    #[inline(always)]
+    pub fn at(self, position: &Position) -> KnownPosition<'_>
+        requires { IsCheckInfoOf self position.now }
+        ensures { result.position.now ≡ position.now }
+    {
+        KnownPosition {
+            position,
+            info: self,
+        }
     }
 }
 

@@ -3,12 +3,11 @@
 ghost use Rattle.std.specs.Prelude.{◌≡◌, ◌≤◌, ◌<◌, ◌^◌, ◌+◌, ◌-◌, ◌↔◌, IfSome, IsNone, length};
 ghost use Rattle.shogi_core.specs.declared.moves.TheConstants.{MOVE_CODE_COUNT, FIRST_DROP};
 ghost use Rattle.shogi_moves.specs.LegalMoves.{CountsLegal, legal_from, perft};
-ghost use Rattle.shogi_moves.specs.CheckInfo.{IsCheckInfoOf};
 ghost use Rattle.shogi_moves.specs.Destinations.{AreDropSquares};
 ghost use Rattle.shogi_moves.specs.Places.{first_of_kind};
 
 use crate::after::advance;
-use crate::check_info::{CheckInfo, check_info_of};
+use crate::check_info::{KnownPosition, check_info_of};
 use crate::destinations::{enterable, legal_by_marks, marked_squares};
 use crate::drops::drop_squares;
 use crate::pawn_drop::drop_destinations;
@@ -18,15 +17,15 @@ use shogi_core::zones::zone_squares;
 use shogi_core::{Kind, Position, Square};
 
 /// How many board moves are legal.
-fn count_board(p: &Position, info: &CheckInfo) -> u64
-    requires info { IsCheckInfoOf info.now p.now }
-    ensures count { CountsLegal p.now 0 FIRST_DROP result }
+fn count_board(known: &KnownPosition<'_>) -> u64
+    ensures count { CountsLegal known.now.position.now 0 FIRST_DROP result }
     ensures range { result ≤ FIRST_DROP }
 {
+    let p = known.position;
     let squares = enterable(p);
     let side = p.side();
     let zone = zone_squares(side);
-    let marked = marked_squares(info, zone);
+    let marked = marked_squares(&known.info, zone);
     let board = p.as_board();
     let mut left = board.own(side);
     let mut total: u64 = 0;
@@ -34,7 +33,7 @@ fn count_board(p: &Position, info: &CheckInfo) -> u64
         let square = lowest(left);
         let from = Square::of_index(square);
         let among = board.targets(from) & squares;
-        let destinations = legal_by_marks(p, info, zone, marked, from, among);
+        let destinations = legal_by_marks(known, zone, marked, from, among);
         total += (destinations.plain.count_ones() + destinations.promoting.count_ones()) as u64;
         left = without_lowest(left, square);
     }
@@ -53,12 +52,12 @@ fn count_kind(p: &Position, squares: u128, kind: Kind) -> u64
 
 /// How many drops are legal. Each kind is named, so that one that is not held costs no more than a
 /// look at its count.
-fn count_drops(p: &Position, info: &CheckInfo) -> u64
-    requires info { IsCheckInfoOf info.now p.now }
-    ensures count { result ≡ length (legal_from p.now FIRST_DROP) }
+fn count_drops(known: &KnownPosition<'_>) -> u64
+    ensures count { result ≡ length (legal_from known.now.position.now FIRST_DROP) }
     ensures range { result ≤ MOVE_CODE_COUNT - FIRST_DROP }
 {
-    let squares = drop_squares(p, info);
+    let p = known.position;
+    let squares = drop_squares(known);
     let pawns = count_kind(p, squares, Kind::Pawn);
     let lances = count_kind(p, squares, Kind::Lance);
     let knights = count_kind(p, squares, Kind::Knight);
@@ -75,8 +74,8 @@ fn count_legal(p: &Position) -> u64
     ensures count { result ≡ perft p.now 1 }
     ensures range { result < 2 ^ 64 }
 {
-    let info = check_info_of(p);
-    count_board(p, &info) + count_drops(p, &info)
+    let known = check_info_of(p).at(p);
+    count_board(&known) + count_drops(&known)
 }
 
 /// How many sequences of n legal moves there are from the position, with `None` exactly where the

@@ -4,13 +4,12 @@ ghost use Rattle.std.specs.Prelude.{◌≡◌, ◌<◌, ◌^◌, ◌&&◌, ℕ, 
 ghost use Rattle.shogi_core.specs.declared.moves.Move.TheVariants as moves;
 ghost use Rattle.shogi_core.specs.Attack.{in_check};
 ghost use Rattle.shogi_core.specs.Bits.{HasBits, IsMaskOf, has_bit};
-ghost use Rattle.shogi_core.specs.Cell.{is_piece_of, is_king, is_immobile};
+ghost use Rattle.shogi_core.specs.Cell.{is_immobile};
 ghost use Rattle.shogi_core.specs.Movement.{piece_at};
 ghost use Rattle.shogi_core.specs.Zones.{in_promotion_zone, may_promote};
-ghost use Rattle.shogi_moves.specs.Destinations.{is_destination, is_unchecked, AreUncheckedDestinations, AreLegalDestinations, AreAllDestinations, AreEnterable, AreMarked, ShowsAttack};
-ghost use Rattle.shogi_moves.specs.CheckInfo.{IsCheckInfoOf};
+ghost use Rattle.shogi_moves.specs.Destinations.{is_destination, is_own, is_own_king, is_unchecked, AreUncheckedDestinations, AreLegalDestinations, AreAllDestinations, AreEnterable, AreMarked, ShowsAttack};
 
-use crate::check_info::{CheckInfo, is_unpinned};
+use crate::check_info::{CheckInfo, KnownPosition, is_unpinned};
 use crate::unchecked::is_unchecked;
 use shogi_core::bits::{ALL_SQUARES, has};
 use shogi_core::squares::sift;
@@ -64,7 +63,7 @@ fn is_free(p: &Position, from: Square) -> bool
 /// Whether the king of the side to move may go from the one square to the other: nothing attacks
 /// that square, as seen on a board where the king stands in no piece's way.
 pub fn is_king_safe(p: &Position, seen: &Board, from: Square, to: Square) -> bool
-    requires king { is_king p.now.side (piece_at p.now.cells from) ≡ true }
+    requires king { is_own_king p.now from ≡ true }
     requires seen { ShowsAttack p.now seen.now from to }
     ensures { result ≡ is_unchecked p.now (moves.Board from to false) }
 {
@@ -77,7 +76,7 @@ pub fn is_king_safe(p: &Position, seen: &Board, from: Square, to: Square) -> boo
 /// Those of the destinations on which the king of the side to move is unattacked, as seen on that
 /// board.
 fn seen_king_destinations(p: &Position, seen: &Board, from: Square, destinations: u128) -> u128
-    requires king { is_king p.now.side (piece_at p.now.cells from) ≡ true }
+    requires king { is_own_king p.now from ≡ true }
     requires seen { (n : ℕ) → n < 81 → ShowsAttack p.now seen.now from n }
     requires fits { destinations < 2 ^ 81 }
     ensures squares { AreUncheckedDestinations p.now from destinations result }
@@ -87,15 +86,15 @@ fn seen_king_destinations(p: &Position, seen: &Board, from: Square, destinations
 
 /// Those of the destinations on which the king of the side to move is unattacked. Out of check, it
 /// stands in no piece's way; in check, the board is seen with the king lifted off its square.
-fn king_destinations(p: &Position, checked: bool, from: Square, destinations: u128) -> u128
-    requires king { is_king p.now.side (piece_at p.now.cells from) ≡ true }
-    requires checked { checked ≡ in_check p.now.cells p.now.side }
+fn king_destinations(known: &KnownPosition<'_>, from: Square, destinations: u128) -> u128
+    requires king { is_own_king known.now.position.now from ≡ true }
     requires fits { destinations < 2 ^ 81 }
-    ensures squares { AreUncheckedDestinations p.now from destinations result }
+    ensures squares { AreUncheckedDestinations known.now.position.now from destinations result }
 {
+    let p = known.position;
     p.validity();
     from.validity();
-    if !checked {
+    if !known.info.checked {
         return seen_king_destinations(p, p.as_board(), from, destinations);
     }
     let mut lifted = *p.as_board();
@@ -107,24 +106,19 @@ fn king_destinations(p: &Position, checked: bool, from: Square, destinations: u1
 /// attacked.
 #[inline(never)]
 #[tactic(auto, using(crate::proofs::DestinationLaws::unpinned_destinations))]
-fn may_be_pinned_destinations(
-    p: &Position,
-    info: &CheckInfo,
-    from: Square,
-    destinations: u128,
-) -> u128
-    requires info { IsCheckInfoOf info.now p.now }
-    requires own { is_piece_of p.now.side (piece_at p.now.cells from) ≡ true }
+fn may_be_pinned_destinations(known: &KnownPosition<'_>, from: Square, destinations: u128) -> u128
+    requires own { is_own known.now.position.now from ≡ true }
     requires fits { destinations < 2 ^ 81 }
-    ensures squares { AreUncheckedDestinations p.now from destinations result }
+    ensures squares { AreUncheckedDestinations known.now.position.now from destinations result }
 {
+    let p = known.position;
     p.validity();
     from.validity();
     if has(p.as_board().kings(p.side()), from.index()) {
-        return king_destinations(p, info.checked, from, destinations);
+        return king_destinations(known, from, destinations);
     }
-    if info.checked {
-        return tried_destinations(p, from, destinations & info.pinned_or_king);
+    if known.info.checked {
+        return tried_destinations(p, from, destinations & known.info.pinned_or_king);
     }
     if is_free(p, from) {
         return destinations;
@@ -135,18 +129,17 @@ fn may_be_pinned_destinations(
 /// Those of the destinations that leave the king unattacked. Most pieces may end anywhere, and keep
 /// them all.
 #[tactic(auto, using(crate::proofs::DestinationLaws::unpinned_destinations))]
-fn safe_destinations(p: &Position, info: &CheckInfo, from: Square, destinations: u128) -> u128
-    requires info { IsCheckInfoOf info.now p.now }
-    requires own { is_piece_of p.now.side (piece_at p.now.cells from) ≡ true }
+fn safe_destinations(known: &KnownPosition<'_>, from: Square, destinations: u128) -> u128
+    requires own { is_own known.now.position.now from ≡ true }
     requires fits { destinations < 2 ^ 81 }
-    ensures squares { AreUncheckedDestinations p.now from destinations result }
+    ensures squares { AreUncheckedDestinations known.now.position.now from destinations result }
 {
-    p.validity();
+    known.position.validity();
     from.validity();
-    if is_unpinned(info, from) {
+    if is_unpinned(&known.info, from) {
         return destinations;
     }
-    may_be_pinned_destinations(p, info, from, destinations)
+    may_be_pinned_destinations(known, from, destinations)
 }
 
 /// The destinations of a piece without and with promotion, by the rules on promotion. Most pieces
@@ -177,7 +170,7 @@ fn with_promotions(cell: Option<Piece>, from: Square, among: u128) -> Destinatio
 /// The squares on which no piece of the side to move stands.
 #[tactic(auto, using(crate::proofs::DestinationLaws::entering_bits))]
 pub fn enterable(p: &Position) -> u128
-    ensures { HasBits result (λ n. not (is_piece_of p.now.side (piece_at p.now.cells n))) }
+    ensures { HasBits result (λ n. not (is_own p.now n)) }
 {
     !p.as_board().own(p.side())
 }
@@ -186,16 +179,13 @@ pub fn enterable(p: &Position) -> u128
 /// and on which no other one stands.
 #[inline(always)]
 #[tactic(auto, using(crate::proofs::DestinationLaws::legal_sets))]
-pub fn legal_destinations(p: &Position, info: &CheckInfo, from: Square, among: u128) -> Destinations
-    requires info { IsCheckInfoOf info.now p.now }
-    requires own { is_piece_of p.now.side (piece_at p.now.cells from) ≡ true }
-    requires among { AreEnterable p.now from among }
+pub fn legal_destinations(known: &KnownPosition<'_>, from: Square, among: u128) -> Destinations
+    requires own { is_own known.now.position.now from ≡ true }
+    requires among { AreEnterable known.now.position.now from among }
     requires fits { among < 2 ^ 81 }
-    ensures plain { AreLegalDestinations p.now from false among result.plain }
-    ensures promoting { AreLegalDestinations p.now from true among result.promoting }
-    ensures plain_fits { result.plain < 2 ^ 81 }
-    ensures promoting_fits { result.promoting < 2 ^ 81 }
+    ensures { AreLegalDestinations known.now.position.now from among result }
 {
+    let p = known.position;
     p.validity();
     from.validity();
     if among == 0 {
@@ -204,22 +194,21 @@ pub fn legal_destinations(p: &Position, info: &CheckInfo, from: Square, among: u
             promoting: 0,
         };
     }
-    let destinations = safe_destinations(p, info, from, among);
+    let destinations = safe_destinations(known, from, among);
     with_promotions(p.at(from), from, destinations)
 }
 
 /// All legal destinations of one of the pieces of the side to move; the squares are those on which
 /// no other one stands.
 #[inline(always)]
-pub fn all_destinations(p: &Position, info: &CheckInfo, from: Square, squares: u128) -> Destinations
-    requires info { IsCheckInfoOf info.now p.now }
-    requires own { is_piece_of p.now.side (piece_at p.now.cells from) ≡ true }
-    requires squares { HasBits squares
-        (λ n. not (is_piece_of p.now.side (piece_at p.now.cells n))) }
-    ensures { AreAllDestinations p.now from result }
+pub fn all_destinations(known: &KnownPosition<'_>, from: Square, squares: u128) -> Destinations
+    requires own { is_own known.now.position.now from ≡ true }
+    requires squares { HasBits squares (λ n. not (is_own known.now.position.now n)) }
+    ensures { AreAllDestinations known.now.position.now from result }
 {
     from.validity();
-    legal_destinations(p, info, from, p.as_board().targets(from) & squares)
+    let among = known.position.as_board().targets(from) & squares;
+    legal_destinations(known, from, among)
 }
 
 /// The squares from which a piece of the side to move may promote, or may leave its king attacked;
@@ -239,25 +228,20 @@ pub fn marked_squares(info: &CheckInfo, zone: u128) -> u128
 /// whatever it is.
 #[inline(always)]
 pub fn legal_by_marks(
-    p: &Position,
-    info: &CheckInfo,
+    known: &KnownPosition<'_>,
     zone: u128,
     marked: u128,
     from: Square,
     among: u128,
 ) -> Destinations
-    requires info { IsCheckInfoOf info.now p.now }
-    requires zone { HasBits zone (in_promotion_zone p.now.side) }
-    requires marked { AreMarked info.now zone marked }
-    requires own { is_piece_of p.now.side (piece_at p.now.cells from) ≡ true }
-    requires among { AreEnterable p.now from among }
+    requires zone { HasBits zone (in_promotion_zone known.now.position.now.side) }
+    requires marked { AreMarked known.now.info zone marked }
+    requires own { is_own known.now.position.now from ≡ true }
+    requires among { AreEnterable known.now.position.now from among }
     requires fits { among < 2 ^ 81 }
-    ensures plain { AreLegalDestinations p.now from false among result.plain }
-    ensures promoting { AreLegalDestinations p.now from true among result.promoting }
-    ensures plain_fits { result.plain < 2 ^ 81 }
-    ensures promoting_fits { result.promoting < 2 ^ 81 }
+    ensures { AreLegalDestinations known.now.position.now from among result }
 {
-    p.validity();
+    known.position.validity();
     from.validity();
     if among & zone == 0 && !has(marked, from.index()) {
         return Destinations {
@@ -265,5 +249,5 @@ pub fn legal_by_marks(
             promoting: 0,
         };
     }
-    legal_destinations(p, info, from, among)
+    legal_destinations(known, from, among)
 }

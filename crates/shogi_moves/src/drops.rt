@@ -5,12 +5,11 @@ ghost use Rattle.shogi_core.specs.declared.moves.Move.TheVariants as moves;
 ghost use Rattle.shogi_core.specs.declared.piece.Kind.{Kind};
 ghost use Rattle.shogi_core.specs.Bits.{IsMaskOf};
 ghost use Rattle.shogi_core.specs.Position.{count_in_hand};
-ghost use Rattle.shogi_moves.specs.CheckInfo.{IsCheckInfoOf};
 ghost use Rattle.shogi_moves.specs.Destinations.{AreUncheckedDrops, AreDropSquares};
 ghost use Rattle.shogi_moves.specs.Legal.{is_pawn_kind, is_safe};
 
 use crate::after::dropped;
-use crate::check_info::CheckInfo;
+use crate::check_info::KnownPosition;
 use crate::unchecked::is_unchecked;
 use shogi_core::squares::sift;
 use shogi_core::zones::{dead_squares, pawn_files};
@@ -40,8 +39,7 @@ fn tried_drops(p: &Position, squares: u128) -> u128
 
 /// Whether the side to move holds no piece.
 fn holds_none(p: &Position) -> bool
-    ensures { result ≡ true
-        → (kind : Kind) → count_in_hand p.now.hands p.now.side kind ≡ 0 }
+    ensures { result ≡ true → (kind : Kind) → count_in_hand p.now.hands p.now.side kind ≡ 0 }
 {
     let side = p.side();
     p.hand(side, Kind::Pawn) == 0
@@ -54,20 +52,19 @@ fn holds_none(p: &Position) -> bool
 }
 
 /// The empty squares on which a held piece leaves the king unattacked, whatever its kind.
-pub fn drop_squares(p: &Position, info: &CheckInfo) -> u128
-    requires info { IsCheckInfoOf info.now p.now }
-    ensures { AreDropSquares p.now result }
+pub fn drop_squares(known: &KnownPosition<'_>) -> u128
+    ensures { AreDropSquares known.now.position.now result }
 {
+    let p = known.position;
     p.validity();
-    let board = p.as_board();
-    let free = board.free();
-    if !info.checked {
+    let free = p.as_board().free();
+    if !known.info.checked {
         return free;
     }
     if holds_none(p) {
         return 0;
     }
-    tried_drops(p, free & info.pinned_or_king)
+    tried_drops(p, free & known.info.pinned_or_king)
 }
 
 /// Where one of the held pieces may be dropped, apart from mate by a pawn.

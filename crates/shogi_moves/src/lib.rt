@@ -28,9 +28,9 @@ mod walk;
 
 pub use after::{advance, apply, dropped, piece_moved};
 pub use attack::{in_check, is_attacked};
-pub use check_info::{CheckInfo, check_info_of};
+pub use check_info::{CheckInfo, KnownPosition, check_info_of};
 pub use count::perft;
-pub use destinations::{Destinations, legal_destinations, matching_destinations};
+pub use destinations::{Destinations, all_destinations, legal_destinations, matching_destinations};
 pub use drops::drop_squares;
 pub use existence::has_legal;
 pub use legal::{is_legal, play, play_in_place};

@@ -4,13 +4,12 @@ ghost use Rattle.std.specs.Prelude.{◌≡◌, ◌≤◌, ◌<◌, ◌+◌, ◌*
 ghost use Rattle.shogi_core.specs.declared.moves.TheConstants.{FIRST_DROP, SQUARE_CODES};
 ghost use Rattle.shogi_core.specs.Cell.{is_piece_of};
 ghost use Rattle.shogi_core.specs.Codes.{code_of};
-ghost use Rattle.shogi_moves.specs.CheckInfo.{IsCheckInfoOf};
 ghost use Rattle.shogi_moves.specs.Legal.{is_legal};
 ghost use Rattle.shogi_moves.specs.LegalMoves.{IsLeastFrom};
 ghost use Rattle.shogi_moves.specs.Places.{IsAtSquare};
 ghost use Rattle.shogi_moves.specs.Sweeps.{AreKept, KeepsLegal};
 
-use crate::check_info::CheckInfo;
+use crate::check_info::KnownPosition;
 use crate::destinations::{Destinations, all_destinations, enterable};
 use shogi_core::bits::{bits_from, has, lowest};
 use shogi_core::{FIRST_DROP, Move, Position, SQUARE_CODES, Square, is_piece_of};
@@ -23,11 +22,11 @@ pub struct KeptDestinations {
 }
 
 /// Those of what stands on the square: none, where that is no piece of the side to move.
-pub fn kept_at(p: &Position, info: &CheckInfo, from: Square) -> KeptDestinations
-    requires info { IsCheckInfoOf info.now p.now }
+pub fn kept_at(known: &KnownPosition<'_>, from: Square) -> KeptDestinations
     ensures from { result.from ≡ from }
-    ensures kept { AreKept p.now result }
+    ensures kept { AreKept known.now.position.now result }
 {
+    let p = known.position;
     from.validity();
     if !is_piece_of(p.at(from), p.side()) {
         return KeptDestinations {
@@ -40,19 +39,18 @@ pub fn kept_at(p: &Position, info: &CheckInfo, from: Square) -> KeptDestinations
     }
     KeptDestinations {
         from,
-        destinations: all_destinations(p, info, from, enterable(p)),
+        destinations: all_destinations(known, from, enterable(p)),
     }
 }
 
 /// Keeps those of what stands on the square, if it is another than before.
-fn keep(p: &Position, info: &CheckInfo, from: Square, kept: &mut KeptDestinations)
-    requires info { IsCheckInfoOf info.now p.now }
-    requires kept { AreKept p.now kept.old }
+fn keep(known: &KnownPosition<'_>, from: Square, kept: &mut KeptDestinations)
+    requires kept { AreKept known.now.position.now kept.old }
     ensures from { kept.new.from ≡ from }
-    ensures kept { AreKept p.now kept.new }
+    ensures kept { AreKept known.now.position.now kept.new }
 {
     if kept.from.index() != from.index() {
-        *kept = kept_at(p, info, from);
+        *kept = kept_at(known, from);
     }
 }
 
@@ -75,25 +73,25 @@ fn destinations_left(p: &Position, kept: &KeptDestinations, code: u16) -> Destin
 /// The legal move of least code from the given one on, of what stands on the square.
 #[inline(always)]
 fn least_destination(
-    p: &Position,
-    info: &CheckInfo,
+    known: &KnownPosition<'_>,
     from: Square,
     code: u16,
     kept: &mut KeptDestinations,
 ) -> Option<Move>
-    requires info { IsCheckInfoOf info.now p.now }
     requires code { IsAtSquare from code }
-    requires kept { AreKept p.now kept.old }
-    ensures next { IsLeastFrom p.now result code (from * SQUARE_CODES + SQUARE_CODES) }
-    ensures legal { IfSome result (λ m. is_legal p.now m ≡ true) }
+    requires kept { AreKept known.now.position.now kept.old }
+    ensures next { IsLeastFrom known.now.position.now result code
+        (from * SQUARE_CODES + SQUARE_CODES) }
+    ensures legal { IfSome result (λ m. is_legal known.now.position.now m ≡ true) }
     ensures on_board { IfSome result (λ m. code_of m < FIRST_DROP) }
-    ensures kept { AreKept p.now kept.new }
+    ensures kept { AreKept known.now.position.now kept.new }
 {
+    let p = known.position;
     from.validity();
     if !is_piece_of(p.at(from), p.side()) {
         return None;
     }
-    keep(p, info, from, kept);
+    keep(known, from, kept);
     let destinations = destinations_left(p, kept, code);
     let both = destinations.plain | destinations.promoting;
     if both == 0 {
@@ -109,23 +107,21 @@ fn least_destination(
 
 /// The legal move of least code from the given one on, of a piece on the board.
 pub fn least_board(
-    p: &Position,
-    info: &CheckInfo,
+    known: &KnownPosition<'_>,
     first: u16,
     kept: &mut KeptDestinations,
 ) -> Option<Move>
     requires first { first ≤ FIRST_DROP }
-    requires info { IsCheckInfoOf info.now p.now }
-    requires kept { AreKept p.now kept.old }
-    ensures next { IsLeastFrom p.now result first FIRST_DROP }
-    ensures legal { IfSome result (λ m. is_legal p.now m ≡ true) }
+    requires kept { AreKept known.now.position.now kept.old }
+    ensures next { IsLeastFrom known.now.position.now result first FIRST_DROP }
+    ensures legal { IfSome result (λ m. is_legal known.now.position.now m ≡ true) }
     ensures on_board { IfSome result (λ m. code_of m < FIRST_DROP) }
-    ensures kept { AreKept p.now kept.new }
+    ensures kept { AreKept known.now.position.now kept.new }
 {
     let mut code = first;
     'squares: while code < FIRST_DROP {
         let square = code / SQUARE_CODES;
-        let found = least_destination(p, info, Square::of_index(square as usize), code, kept);
+        let found = least_destination(known, Square::of_index(square as usize), code, kept);
         if found.is_some() {
             return found;
         }

@@ -1,17 +1,14 @@
 //! Whether some move is safe: legal but for mate by the drop of a pawn.
 
-ghost use Rattle.std.specs.Prelude.{◌≡◌, ◌+◌, ◌<◌, ◌^◌, ◌≢◌, true, false, []};
-ghost use Rattle.shogi_core.specs.declared.moves.TheConstants.{MOVE_CODE_COUNT, FIRST_DROP};
+ghost use Rattle.std.specs.Prelude.{◌≡◌, ◌<◌, ◌^◌, ◌≢◌, true, false, []};
+ghost use Rattle.shogi_core.specs.declared.moves.TheConstants.{MOVE_CODE_COUNT};
 ghost use Rattle.shogi_core.specs.Attack.{in_check};
 ghost use Rattle.shogi_core.specs.Below.{some_below};
-ghost use Rattle.shogi_core.specs.Cell.{is_king};
-ghost use Rattle.shogi_core.specs.Movement.{piece_at};
-ghost use Rattle.shogi_moves.specs.CheckInfo.{IsCheckInfoOf};
-ghost use Rattle.shogi_moves.specs.Destinations.{AreDropSquares, AreEnterable};
+ghost use Rattle.shogi_moves.specs.Destinations.{is_own_king, AreDropSquares, AreEnterable};
 ghost use Rattle.shogi_moves.specs.Legal.{is_safe_code};
-ghost use Rattle.shogi_moves.specs.LegalMoves.{legal_from, legal_codes};
+ghost use Rattle.shogi_moves.specs.LegalMoves.{legal_codes, HasNoBoardMove, HasNoPieceDrop};
 
-use crate::check_info::{CheckInfo, full_check_info};
+use crate::check_info::{KnownPosition, full_check_info};
 use crate::destinations::{all_destinations, enterable, is_king_safe};
 use crate::drops::{drop_squares, safe_drops};
 use shogi_core::bits::{lowest, without_lowest};
@@ -21,7 +18,7 @@ use shogi_core::{Kind, Position, Square};
 /// Whether the king of the side to move may go to one of the squares, which it reaches and where no
 /// piece of its own stands.
 fn king_escapes(p: &Position, from: Square, destinations: u128) -> bool
-    requires king { is_king p.now.side (piece_at p.now.cells from) ≡ true }
+    requires king { is_own_king p.now from ≡ true }
     requires destinations { AreEnterable p.now from destinations }
     requires fits { destinations < 2 ^ 81 }
     ensures { result ≡ true → legal_codes p.now ≢ [] }
@@ -50,17 +47,17 @@ pub fn has_king_move(p: &Position) -> bool
 }
 
 /// Whether a piece on the board has a legal move.
-fn has_board_move(p: &Position, info: &CheckInfo) -> bool
-    requires { IsCheckInfoOf info.now p.now }
-    ensures some { result ≡ true → legal_codes p.now ≢ [] }
-    ensures none { result ≡ false → legal_codes p.now ≡ legal_from p.now FIRST_DROP }
+fn has_board_move(known: &KnownPosition<'_>) -> bool
+    ensures some { result ≡ true → legal_codes known.now.position.now ≢ [] }
+    ensures none { result ≡ false → HasNoBoardMove known.now.position.now }
 {
+    let p = known.position;
     let squares = enterable(p);
     let mut left = p.as_board().own(p.side());
     'pieces: while left != 0 {
         let square = lowest(left);
         let from = Square::of_index(square);
-        let destinations = all_destinations(p, info, from, squares);
+        let destinations = all_destinations(known, from, squares);
         if destinations.plain | destinations.promoting != 0 {
             return true;
         }
@@ -73,7 +70,7 @@ fn has_board_move(p: &Position, info: &CheckInfo) -> bool
 pub fn has_piece_drop(p: &Position, squares: u128) -> bool
     requires { AreDropSquares p.now squares }
     ensures some { result ≡ true → legal_codes p.now ≢ [] }
-    ensures none { result ≡ false → legal_from p.now (FIRST_DROP + 81) ≡ [] }
+    ensures none { result ≡ false → HasNoPieceDrop p.now }
 {
     let mut kind = Kind::Pawn;
     'kinds: while let Some(next) = kind.next() {
@@ -86,13 +83,12 @@ pub fn has_piece_drop(p: &Position, squares: u128) -> bool
 }
 
 /// Whether some move is legal other than the drop of a pawn.
-pub fn has_other_move(p: &Position, info: &CheckInfo) -> bool
-    requires { IsCheckInfoOf info.now p.now }
-    ensures some { result ≡ true → legal_codes p.now ≢ [] }
-    ensures board { result ≡ false → legal_codes p.now ≡ legal_from p.now FIRST_DROP }
-    ensures drops { result ≡ false → legal_from p.now (FIRST_DROP + 81) ≡ [] }
+pub fn has_other_move(known: &KnownPosition<'_>) -> bool
+    ensures some { result ≡ true → legal_codes known.now.position.now ≢ [] }
+    ensures board { result ≡ false → HasNoBoardMove known.now.position.now }
+    ensures drops { result ≡ false → HasNoPieceDrop known.now.position.now }
 {
-    has_board_move(p, info) || has_piece_drop(p, drop_squares(p, info))
+    has_board_move(known) || has_piece_drop(known.position, drop_squares(known))
 }
 
 /// Whether some move of a side in check is safe. The king, which most often has a way out, is asked
@@ -104,9 +100,9 @@ pub fn has_safe(p: &Position) -> bool
     if has_king_move(p) {
         return true;
     }
-    let info = full_check_info(p, true);
-    if has_other_move(p, &info) {
+    let known = full_check_info(p, true).at(p);
+    if has_other_move(&known) {
         return true;
     }
-    safe_drops(p, drop_squares(p, &info), Kind::Pawn) != 0
+    safe_drops(p, drop_squares(&known), Kind::Pawn) != 0
 }

@@ -6,11 +6,10 @@ ghost use Rattle.shogi_core.specs.declared.moves.Move.TheVariants as moves;
 ghost use Rattle.shogi_core.specs.Cell.{is_piece_of};
 ghost use Rattle.shogi_core.specs.Codes.{code_of};
 ghost use Rattle.shogi_core.specs.Pieces.{kind_number};
-ghost use Rattle.shogi_moves.specs.CheckInfo.{IsCheckInfoOf};
 ghost use Rattle.shogi_moves.specs.Legal.{is_legal};
 ghost use Rattle.shogi_moves.specs.Sweeps.{matching_drops, board_left, drops_left, AreMatchingDestinations, IsBoardSweep, IsDropSweep, HasDestination, ContinuesBoard, ContinuesDrops, IsNextOnBoard, IsNextDrop};
 
-use crate::check_info::CheckInfo;
+use crate::check_info::{CheckInfo, KnownPosition};
 use crate::destinations::{Destinations, legal_destinations, matching_destinations};
 use crate::drops::drop_squares;
 use crate::movers::matching_movers;
@@ -40,17 +39,14 @@ pub struct DropSweep {
 /// The legal destinations of what stands on the square; none where that is no piece of the side to
 /// move.
 #[tactic(auto, using(crate::proofs::SweepLaws::no_piece))]
-fn destinations_on(p: &Position, info: &CheckInfo, capture: bool, from: Square) -> Destinations
-    requires info { IsCheckInfoOf info.now p.now }
-    ensures plain { AreMatchingDestinations p.now capture from false result.plain }
-    ensures promoting { AreMatchingDestinations p.now capture from true result.promoting }
-    ensures plain_fits { result.plain < 2 ^ 81 }
-    ensures promoting_fits { result.promoting < 2 ^ 81 }
+fn destinations_on(known: &KnownPosition<'_>, capture: bool, from: Square) -> Destinations
+    ensures { AreMatchingDestinations known.now.position.now capture from result }
 {
+    let p = known.position;
     from.validity();
     if is_piece_of(p.at(from), p.side()) {
         let among = p.as_board().targets(from) & matching_destinations(p, capture);
-        legal_destinations(p, info, from, among)
+        legal_destinations(known, from, among)
     } else {
         Destinations {
             plain: 0,
@@ -62,16 +58,15 @@ fn destinations_on(p: &Position, info: &CheckInfo, capture: bool, from: Square) 
 impl BoardSweep {
     /// Through all board moves of the kind.
     #[tactic(auto, using(crate::proofs::SweepLaws::sweeping))]
-    pub fn new(p: &Position, info: CheckInfo, capture: bool) -> BoardSweep
-        requires info { IsCheckInfoOf info p.now }
-        ensures kept { IsBoardSweep p.now capture result }
+    pub fn new(known: &KnownPosition<'_>, capture: bool) -> BoardSweep
+        ensures kept { IsBoardSweep known.now.position.now capture result }
         ensures code { result.code ≡ 0 }
     {
         let from = Square::of_index(0);
         BoardSweep {
-            info,
+            info: known.info,
             from,
-            destinations: destinations_on(p, &info, capture, from),
+            destinations: destinations_on(known, capture, from),
             code: 0,
         }
     }
@@ -130,6 +125,7 @@ impl BoardSweep {
         ensures same { result ≡ false → self.new.code ≡ self.old.code }
     {
         p.validity();
+        let known = self.info.at(p);
         let matching = matching_destinations(p, capture);
         let board = p.as_board();
         let pieces = bits_above(board.own(p.side()), self.from.index());
@@ -139,7 +135,7 @@ impl BoardSweep {
             let from = Square::of_index(square);
             let among = board.targets(from) & matching;
             if among != 0 {
-                let destinations = legal_destinations(p, &self.info, from, among);
+                let destinations = legal_destinations(&known, from, among);
                 if destinations.plain | destinations.promoting != 0 {
                     self.from = from;
                     self.destinations = destinations;
@@ -224,32 +220,30 @@ impl BoardSweep {
 impl DropSweep {
     /// Through all drops.
     #[tactic(auto, using(crate::proofs::SweepLaws::keeps_kind))]
-    pub fn new(p: &Position, info: CheckInfo) -> DropSweep
-        requires info { IsCheckInfoOf info p.now }
-        ensures kept { IsDropSweep p.now result }
+    pub fn new(known: &KnownPosition<'_>) -> DropSweep
+        ensures kept { IsDropSweep known.now.position.now result }
         ensures code { result.code ≡ FIRST_DROP }
     {
-        let squares = drop_squares(p, &info);
+        let squares = drop_squares(known);
         DropSweep {
             squares,
             kind: Kind::Pawn,
-            destinations: drop_destinations(p, squares, Kind::Pawn),
+            destinations: drop_destinations(known.position, squares, Kind::Pawn),
             code: FIRST_DROP,
         }
     }
 
     /// Through the drops above one.
-    pub fn above(p: &Position, info: CheckInfo, kind: Kind, to: Square) -> DropSweep
-        requires info { IsCheckInfoOf info p.now }
-        ensures kept { IsDropSweep p.now result }
+    pub fn above(known: &KnownPosition<'_>, kind: Kind, to: Square) -> DropSweep
+        ensures kept { IsDropSweep known.now.position.now result }
         ensures code { result.code ≡ code_of (moves.Drop kind to) + 1 }
     {
         to.validity();
-        let squares = drop_squares(p, &info);
+        let squares = drop_squares(known);
         DropSweep {
             squares,
             kind,
-            destinations: bits_above(drop_destinations(p, squares, kind), to.index()),
+            destinations: bits_above(drop_destinations(known.position, squares, kind), to.index()),
             code: Move::Drop { kind, to }.code_above(),
         }
     }

@@ -1,9 +1,8 @@
 //! Whether a move leaves the mover's king unattacked, without making it where the side has a king.
 
 ghost use Rattle.std.specs.Prelude.{◌≡◌, true};
-ghost use Rattle.shogi_core.specs.Cell.{is_king, HasNoOtherKing};
-ghost use Rattle.shogi_core.specs.Movement.{piece_at};
-ghost use Rattle.shogi_moves.specs.Destinations.{is_unchecked};
+ghost use Rattle.shogi_core.specs.Cell.{HasNoOtherKing};
+ghost use Rattle.shogi_moves.specs.Destinations.{is_own_king, is_unchecked};
 ghost use Rattle.shogi_moves.specs.Legal.{is_pseudo_legal};
 
 use crate::after::is_checked_after;
@@ -22,7 +21,7 @@ pub fn is_unchecked(p: &Position, m: &Move) -> bool
 #[inline(always)]
 fn is_king_unattacked(p: &Position, king: Square, m: &Move) -> bool
     requires pseudo { is_pseudo_legal p.now m.now ≡ true }
-    requires king { is_king p.now.side (piece_at p.now.cells king) ≡ true }
+    requires king { is_own_king p.now king ≡ true }
     requires lone { HasNoOtherKing p.now.cells p.now.side king }
     ensures { result ≡ is_unchecked p.now m.now }
 {

@@ -2,14 +2,13 @@
 
 ghost use Rattle.std.specs.Prelude.{◌≡◌, ◌≤◌, true, Some, IfSome};
 ghost use Rattle.shogi_core.specs.declared.moves.TheConstants.{FIRST_DROP};
-ghost use Rattle.shogi_moves.specs.CheckInfo.{IsCheckInfoOf};
 ghost use Rattle.shogi_moves.specs.Legal.{is_legal};
 ghost use Rattle.shogi_moves.specs.LegalMoves.{IsNextAbove, legal_above, legal_codes, legal_from};
 ghost use Rattle.shogi_moves.specs.Rising.{IsRising};
 ghost use Rattle.shogi_moves.specs.Sweeps.{IsPlace, codes_at};
 ghost use Rattle.shogi_moves.specs.Walks.{TakesNext};
 
-use crate::check_info::{CheckInfo, check_info_of};
+use crate::check_info::{CheckInfo, KnownPosition, check_info_of};
 use crate::next::{KeptDestinations, kept_at, least_board};
 use crate::sweep::DropSweep;
 use shogi_core::{Move, Position, Square};
@@ -47,13 +46,13 @@ impl Model for Walk {
 
 /// The place at the board moves from a code on, which are first those of what stands on the square.
 #[inline(always)]
-fn board_place(p: &Position, info: CheckInfo, code: u16, from: Square) -> Place
-    requires info { IsCheckInfoOf info p.now }
+fn board_place(known: &KnownPosition<'_>, code: u16, from: Square) -> Place
     requires code { code ≤ FIRST_DROP }
-    ensures place { IsPlace p.now result }
-    ensures codes { codes_at p.now result ≡ legal_from p.now code }
+    ensures place { IsPlace known.now.position.now result }
+    ensures codes { codes_at known.now.position.now result
+        ≡ legal_from known.now.position.now code }
 {
-    Place::Board(info, code, kept_at(p, &info, from))
+    Place::Board(known.info, code, kept_at(known, from))
 }
 
 /// The place behind a move, or at the first move.
@@ -62,14 +61,14 @@ fn place_behind(p: &Position, passed: Option<Move>) -> Place
     ensures place { IsPlace p.now result }
     ensures codes { codes_at p.now result ≡ legal_above p.now passed }
 {
-    let info = check_info_of(p);
+    let known = check_info_of(p).at(p);
     let Some(m) = passed else {
-        return board_place(p, info, 0, Square::of_index(0))
+        return board_place(&known, 0, Square::of_index(0))
     };
     m.validity();
     match m {
-        Move::Board { from, .. } => board_place(p, info, m.code_above(), from),
-        Move::Drop { kind, to } => Place::Drops(DropSweep::above(p, info, kind, to)),
+        Move::Board { from, .. } => board_place(&known, m.code_above(), from),
+        Move::Drop { kind, to } => Place::Drops(DropSweep::above(&known, kind, to)),
     }
 }
 
@@ -86,11 +85,12 @@ impl Place {
         match self {
             Place::Drops(sweep) => sweep.next(p),
             Place::Board(info, code, kept) => {
-                if let Some(m) = least_board(p, info, *code, kept) {
+                let known = info.at(p);
+                if let Some(m) = least_board(&known, *code, kept) {
                     *code = m.code_above();
                     return Some(m);
                 }
-                let mut sweep = DropSweep::new(p, *info);
+                let mut sweep = DropSweep::new(&known);
                 let found = sweep.next(p);
                 *self = Place::Drops(sweep);
                 found

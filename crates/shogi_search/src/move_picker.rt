@@ -4,14 +4,13 @@ ghost use Rattle.std.specs.Prelude.{◌≡◌, ◌<◌, Some, None, IfSome, true
 ghost use Rattle.shogi_core.specs.Attack.{in_check};
 ghost use Rattle.shogi_core.specs.Codes.{code_of};
 ghost use Rattle.shogi_moves.specs.Escapes.{AreEscapes};
-ghost use Rattle.shogi_moves.specs.CheckInfo.{IsCheckInfoOf};
 ghost use Rattle.shogi_replies.specs.Replies.{IsReplies};
 ghost use Rattle.shogi_moves.specs.Sweeps.{IsBoardSweep, IsDropSweep};
 ghost use Rattle.shogi_search.specs.Order.{codes_of, drops_to_come, others_to_come, quiets_to_come, todo, todo_after, todo_from, IsAtDrops, IsAtQuiets, IsKept, PassesDrops, PassesQuiets, TakesBoardPick, TakesDropPick, TakesFirst, TakesFromSweep};
 
 use crate::firsts::Firsts;
 use shogi_core::{Kind, Move, Position};
-use shogi_moves::{BoardSweep, CheckInfo, DropSweep, check_info_of};
+use shogi_moves::{BoardSweep, DropSweep, KnownPosition, check_info_of};
 use shogi_replies::{Replies, Row};
 
 /// How far the visits of a node's moves have come: the first moves from a place on, and what is
@@ -70,12 +69,13 @@ impl MovePicker {
     }
 
     /// Begins with the drops.
-    fn enter_drops(&mut self, p: &Position, firsts: Firsts, info: CheckInfo) -> Option<Move>
-        requires info { IsCheckInfoOf info p.now }
-        ensures next { TakesFirst p.now result (drops_to_come p.now (codes_of firsts)) self.new }
-        ensures kept { IsKept p.now self.new }
+    fn enter_drops(&mut self, known: &KnownPosition<'_>, firsts: Firsts) -> Option<Move>
+        ensures next { TakesFirst known.now.position.now result
+            (drops_to_come known.now.position.now (codes_of firsts)) self.new }
+        ensures kept { IsKept known.now.position.now self.new }
     {
-        let mut sweep = DropSweep::new(p, info);
+        let p = known.position;
+        let mut sweep = DropSweep::new(known);
         match next_drop(p, &firsts, &mut sweep) {
             Some(m) => {
                 *self = MovePicker::Drops(firsts, sweep);
@@ -89,18 +89,19 @@ impl MovePicker {
     }
 
     /// Begins with the quiet moves.
-    fn enter_quiets(&mut self, p: &Position, firsts: Firsts, info: CheckInfo) -> Option<Move>
-        requires info { IsCheckInfoOf info p.now }
-        ensures next { TakesFirst p.now result (quiets_to_come p.now (codes_of firsts)) self.new }
-        ensures kept { IsKept p.now self.new }
+    fn enter_quiets(&mut self, known: &KnownPosition<'_>, firsts: Firsts) -> Option<Move>
+        ensures next { TakesFirst known.now.position.now result
+            (quiets_to_come known.now.position.now (codes_of firsts)) self.new }
+        ensures kept { IsKept known.now.position.now self.new }
     {
-        let mut sweep = BoardSweep::new(p, info, false);
+        let p = known.position;
+        let mut sweep = BoardSweep::new(known, false);
         match next_board(p, &firsts, false, &mut sweep) {
             Some(m) => {
                 *self = MovePicker::Quiets(firsts, sweep);
                 Some(m)
             }
-            None => self.enter_drops(p, firsts, info),
+            None => self.enter_drops(known, firsts),
         }
     }
 
@@ -110,14 +111,14 @@ impl MovePicker {
         ensures next { TakesFirst p.now result (others_to_come p.now (codes_of firsts)) self.new }
         ensures kept { IsKept p.now self.new }
     {
-        let info = check_info_of(p);
-        let mut sweep = BoardSweep::new(p, info, true);
+        let known = check_info_of(p).at(p);
+        let mut sweep = BoardSweep::new(&known, true);
         match next_board(p, &firsts, true, &mut sweep) {
             Some(m) => {
                 *self = MovePicker::Captures(firsts, sweep);
                 Some(m)
             }
-            None => self.enter_quiets(p, firsts, info),
+            None => self.enter_quiets(&known, firsts),
         }
     }
 
@@ -180,8 +181,8 @@ impl MovePicker {
         if sweep.fill(p, true) {
             return;
         }
-        let (firsts, info) = (*firsts, sweep.info);
-        *self = MovePicker::Quiets(firsts, BoardSweep::new(p, info, false));
+        let (firsts, known) = (*firsts, sweep.info.at(p));
+        *self = MovePicker::Quiets(firsts, BoardSweep::new(&known, false));
     }
 
     /// Turns to the drops in the same way, where the quiet moves on the board are under way.
@@ -197,8 +198,8 @@ impl MovePicker {
         if sweep.fill(p, false) {
             return;
         }
-        let (firsts, info) = (*firsts, sweep.info);
-        *self = MovePicker::Drops(firsts, DropSweep::new(p, info));
+        let (firsts, known) = (*firsts, sweep.info.at(p));
+        *self = MovePicker::Drops(firsts, DropSweep::new(&known));
     }
 
     /// Turns to the next kind of drops where those of a kind are under way and none is left;
@@ -277,8 +278,8 @@ impl MovePicker {
     {
         match *self {
             MovePicker::First(firsts, passed) => self.next_first(p, firsts, passed),
-            MovePicker::Captures(firsts, sweep) => self.enter_quiets(p, firsts, sweep.info),
-            MovePicker::Quiets(firsts, sweep) => self.enter_drops(p, firsts, sweep.info),
+            MovePicker::Captures(firsts, sweep) => self.enter_quiets(&sweep.info.at(p), firsts),
+            MovePicker::Quiets(firsts, sweep) => self.enter_drops(&sweep.info.at(p), firsts),
             MovePicker::Drops(_, _) | MovePicker::Done => {
                 *self = MovePicker::Done;
                 None

@@ -11,7 +11,7 @@ pub pieces-init : goal.pieces-init
 pieces-init c = record {
   counted = record {
     first = 0;
-    pieces = pieces_first c.args.p.now c.own-left.result (rw (c.side-side.ensures, c.as_board-board.ensures) at c.own-left.ensures.squares.0);
+    pieces = pieces_first c.args.known.now.position.now c.own-left.result (rw (c.side-side.ensures, c.as_board-board.ensures) at c.own-left.ensures.squares.0);
     whole = omega arith;
     range = omega arith;
   };
@@ -20,15 +20,15 @@ pieces-init c = record {
 
 pub pieces-preserved : goal.pieces-preserved
 pieces-preserved c = record {
-  counted = piece_counted c.args.p.now c.pieces.left c.without_lowest-left.result c.pieces.total c.lowest-square.result c.legal_by_marks-destinations.result.plain c.legal_by_marks-destinations.result.promoting c.pieces.invariant.counted c.lowest-square.ensures.range c.lowest-square.ensures.set c.lowest-square.ensures.least c.without_lowest-left.ensures.bits
-      c.legal_by_marks-destinations.ensures.plain_fits c.legal_by_marks-destinations.ensures.promoting_fits
-      (all_destinations c.args.p.now false c.lowest-square.result c.targets.result c.enterable-squares.result c.legal_by_marks-destinations.result.plain c.lowest-square.ensures.range (rw (c.of_index-from.ensures, c.as_board-board.ensures) at c.targets.ensures.squares.0) c.enterable-squares.ensures (rw c.of_index-from.ensures at c.legal_by_marks-destinations.ensures.plain))
-      (all_destinations c.args.p.now true c.lowest-square.result c.targets.result c.enterable-squares.result c.legal_by_marks-destinations.result.promoting c.lowest-square.ensures.range (rw (c.of_index-from.ensures, c.as_board-board.ensures) at c.targets.ensures.squares.0) c.enterable-squares.ensures (rw c.of_index-from.ensures at c.legal_by_marks-destinations.ensures.promoting));
+  counted = piece_counted c.args.known.now.position.now c.pieces.left c.without_lowest-left.result c.pieces.total c.lowest-square.result c.legal_by_marks-destinations.result.plain c.legal_by_marks-destinations.result.promoting c.pieces.invariant.counted c.lowest-square.ensures.range c.lowest-square.ensures.set c.lowest-square.ensures.least c.without_lowest-left.ensures.bits
+      c.legal_by_marks-destinations.ensures.plain.1 c.legal_by_marks-destinations.ensures.promoting.1
+      (all_destinations c.args.known.now.position.now false c.lowest-square.result c.targets.result c.enterable-squares.result c.legal_by_marks-destinations.result.plain c.lowest-square.ensures.range (rw (c.of_index-from.ensures, c.as_board-board.ensures) at c.targets.ensures.squares.0) c.enterable-squares.ensures (rw c.of_index-from.ensures at c.legal_by_marks-destinations.ensures.plain.0))
+      (all_destinations c.args.known.now.position.now true c.lowest-square.result c.targets.result c.enterable-squares.result c.legal_by_marks-destinations.result.promoting c.lowest-square.ensures.range (rw (c.of_index-from.ensures, c.as_board-board.ensures) at c.targets.ensures.squares.0) c.enterable-squares.ensures (rw c.of_index-from.ensures at c.legal_by_marks-destinations.ensures.promoting.0));
   fits = omega (arith, c.without_lowest-left.ensures.less, c.pieces.invariant.fits);
 }
 
 pub returns-clause-count : goal.returns-clause-count
-returns-clause-count c = (board_counted c.args.p.now c.pieces.left c.pieces.total c.pieces.invariant.counted (omega (arith, c.pieces-test.false))).0
+returns-clause-count c = (board_counted c.args.known.now.position.now c.pieces.left c.pieces.total c.pieces.invariant.counted (omega (arith, c.pieces-test.false))).0
 
 pub returns-clause-range : goal.returns-clause-range
-returns-clause-range c = (board_counted c.args.p.now c.pieces.left c.pieces.total c.pieces.invariant.counted (omega (arith, c.pieces-test.false))).1
+returns-clause-range c = (board_counted c.args.known.now.position.now c.pieces.left c.pieces.total c.pieces.invariant.counted (omega (arith, c.pieces-test.false))).1

@@ -4,7 +4,7 @@ use Rattle.shogi_moves.proofs.count.count_board.Given as goal
 
 abbrev pub invariant-pieces : goal.invariant-pieces
 invariant-pieces l = record {
-  counted : IsCounted l.p l.left l.total;
+  counted : IsCounted l.known.position.now l.left l.total;
   fits : l.left < 2 ^ 81;
 }
 

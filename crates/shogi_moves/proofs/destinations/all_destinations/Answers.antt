@@ -7,6 +7,6 @@ legal_destinations-requires-clause-among c = λ n h. all_ways c.targets.result c
 
 pub returns : goal.returns
 returns c = record {
-  plain = (all_destinations c.args.p.now false c.args.from c.targets.result c.args.squares c.legal_destinations.result.plain c.validity.ensures (rw c.as_board.ensures at c.targets.ensures.squares.0) c.requires.squares c.legal_destinations.ensures.plain, c.legal_destinations.ensures.plain_fits);
-  promoting = (all_destinations c.args.p.now true c.args.from c.targets.result c.args.squares c.legal_destinations.result.promoting c.validity.ensures (rw c.as_board.ensures at c.targets.ensures.squares.0) c.requires.squares c.legal_destinations.ensures.promoting, c.legal_destinations.ensures.promoting_fits);
+  plain = (all_destinations c.args.known.now.position.now false c.args.from c.targets.result c.args.squares c.legal_destinations.result.plain c.validity.ensures (rw c.as_board.ensures at c.targets.ensures.squares.0) c.requires.squares c.legal_destinations.ensures.plain.0, c.legal_destinations.ensures.plain.1);
+  promoting = (all_destinations c.args.known.now.position.now true c.args.from c.targets.result c.args.squares c.legal_destinations.result.promoting c.validity.ensures (rw c.as_board.ensures at c.targets.ensures.squares.0) c.requires.squares c.legal_destinations.ensures.promoting.0, c.legal_destinations.ensures.promoting.1);
 }

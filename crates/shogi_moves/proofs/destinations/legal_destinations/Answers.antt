@@ -2,10 +2,16 @@ use Rattle.std.proofs.Common.{arith}
 use Rattle.shogi_moves.proofs.DestinationLaws.{plain_destinations, promoting_destinations}
 use Rattle.shogi_moves.proofs.destinations.legal_destinations.Goals as goal
 
-pub returns-clause-plain : goal.returns-clause-plain
-returns-clause-plain c = λ n h. plain_destinations c.args.p.now c.args.from n c.args.among c.safe_destinations-destinations.result c.with_promotions.result.plain c.validity.ensures.cells_fit (omega arith) h c.requires.own (c.requires.among n h)
-    (c.safe_destinations-destinations.ensures.squares.0 n h) (rw c.at.ensures at c.with_promotions.ensures.plain n h)
-
-pub returns-clause-promoting : goal.returns-clause-promoting
-returns-clause-promoting c = λ n h. promoting_destinations c.args.p.now c.args.from n c.args.among c.safe_destinations-destinations.result c.with_promotions.result.promoting c.validity.ensures.cells_fit (omega arith) h c.requires.own (c.requires.among n h)
-    (c.safe_destinations-destinations.ensures.squares.0 n h) (rw c.at.ensures at c.with_promotions.ensures.promoting n h)
+pub returns : goal.returns
+returns c = record {
+  plain = (
+    λ n h. plain_destinations c.args.known.now.position.now c.args.from n c.args.among c.safe_destinations-destinations.result c.with_promotions.result.plain c.validity.ensures.cells_fit (omega arith) h c.requires.own (c.requires.among n h)
+        (c.safe_destinations-destinations.ensures.squares.0 n h) (rw c.at.ensures at c.with_promotions.ensures.plain n h),
+    c.with_promotions.ensures.plain_fits,
+  );
+  promoting = (
+    λ n h. promoting_destinations c.args.known.now.position.now c.args.from n c.args.among c.safe_destinations-destinations.result c.with_promotions.result.promoting c.validity.ensures.cells_fit (omega arith) h c.requires.own (c.requires.among n h)
+        (c.safe_destinations-destinations.ensures.squares.0 n h) (rw c.at.ensures at c.with_promotions.ensures.promoting n h),
+    c.with_promotions.ensures.promoting_fits,
+  );
+}

@@ -5,14 +5,14 @@ use Rattle.shogi_moves.specs.Destinations.{is_unchecked}
 use Rattle.shogi_moves.proofs.DestinationLaws.{narrowed, no_answer}
 use Rattle.shogi_moves.proofs.destinations.may_be_pinned_destinations.Goals as goal
 
-pub returns-then-info : goal.returns-then-info
-returns-then-info c = record {
+pub returns-then-known : goal.returns-then-known
+returns-then-known c = record {
   squares = (
     λ n h. (
         let off : has_bit c.kings.result c.args.from ≡ false = search rules in
         c.tried_destinations.ensures.squares.0 n h
-        ∙ narrowed c.args.destinations c.args.info.now.pinned_or_king n (is_unchecked c.args.p.now (Board c.args.from n false))
-        (λ _ out. no_answer c.args.p.now c.args.info.now.checked c.args.info.now.pinned_or_king c.args.from n c.requires.info c.if-info.true c.validity.ensures.cells_fit (omega arith) h c.requires.own (sym (rw (c.side.ensures, c.as_board.ensures) at c.kings.ensures.squares.0 c.args.from (omega arith)) ∙ off) out)),
+        ∙ narrowed c.args.destinations c.args.known.now.info.pinned_or_king n (is_unchecked c.args.known.now.position.now (Board c.args.from n false))
+        (λ _ out. no_answer c.args.known.now.position.now c.args.known.now.info.checked c.args.known.now.info.pinned_or_king c.args.from n c.args.known.now.right c.if-known.true c.validity.ensures.cells_fit (omega arith) h c.requires.own (sym (rw (c.side.ensures, c.as_board.ensures) at c.kings.ensures.squares.0 c.args.from (omega arith)) ∙ off) out)),
     c.tried_destinations.ensures.squares.1,
   );
 }

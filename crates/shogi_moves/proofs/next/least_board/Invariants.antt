@@ -7,8 +7,8 @@ use Rattle.shogi_moves.proofs.next.least_board.Given as goal
 abbrev pub invariant-squares : goal.invariant-squares
 invariant-squares l = record {
   within : l.code ≤ FIRST_DROP;
-  same : legal_from l.p l.fn.first ≡ legal_from l.p l.code;
-  kept : AreKept l.p l.kept;
+  same : legal_from l.known.position.now l.fn.first ≡ legal_from l.known.position.now l.code;
+  kept : AreKept l.known.position.now l.kept;
 }
 
 abbrev pub decreases-squares : goal.decreases-squares

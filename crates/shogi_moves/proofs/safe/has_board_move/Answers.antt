@@ -6,23 +6,23 @@ use Rattle.shogi_moves.proofs.safe.has_board_move.Goals as goal
 pub pieces-init : goal.pieces-init
 pieces-init c = record {
   first = 0;
-  pieces = pieces_first c.args.p.now c.own-left.result (rw (c.side.ensures, c.as_board.ensures) at c.own-left.ensures.squares.0);
+  pieces = pieces_first c.args.known.now.position.now c.own-left.result (rw (c.side.ensures, c.as_board.ensures) at c.own-left.ensures.squares.0);
   same = refl;
   fits = c.own-left.ensures.squares.1;
 }
 
 pub returns-then-destinations-ne0-clause-some : goal.returns-then-destinations-ne0-clause-some
-returns-then-destinations-ne0-clause-some c = λ _. piece_with c.args.p.now c.of_index-from.result c.all_destinations-destinations.result c.all_destinations-destinations.ensures c.if-destinations-ne0.true
+returns-then-destinations-ne0-clause-some c = λ _. piece_with c.args.known.now.position.now c.of_index-from.result c.all_destinations-destinations.result c.all_destinations-destinations.ensures c.if-destinations-ne0.true
 
 pub pieces-preserved : goal.pieces-preserved
 pieces-preserved c =
-    let reached = next_piece c.args.p.now c.pieces.left c.pieces.invariant.first c.lowest-square.result c.pieces.invariant.pieces c.lowest-square.ensures.range c.lowest-square.ensures.set c.lowest-square.ensures.least in
+    let reached = next_piece c.args.known.now.position.now c.pieces.left c.pieces.invariant.first c.lowest-square.result c.pieces.invariant.pieces c.lowest-square.ensures.range c.lowest-square.ensures.set c.lowest-square.ensures.least in
     record {
       first = c.lowest-square.result + 1;
-      pieces = pieces_after c.args.p.now c.pieces.left c.without_lowest-left.result c.pieces.invariant.first c.lowest-square.result c.pieces.invariant.pieces reached.0 c.lowest-square.ensures.range c.lowest-square.ensures.least c.without_lowest-left.ensures.bits;
-      same = c.pieces.invariant.same ∙ (reached.2 ∙ piece_without c.args.p.now c.lowest-square.result c.all_destinations-destinations.result c.lowest-square.ensures.range (rw c.of_index-from.ensures at c.all_destinations-destinations.ensures) (omega (arith, c.if-destinations-ne0.false)));
+      pieces = pieces_after c.args.known.now.position.now c.pieces.left c.without_lowest-left.result c.pieces.invariant.first c.lowest-square.result c.pieces.invariant.pieces reached.0 c.lowest-square.ensures.range c.lowest-square.ensures.least c.without_lowest-left.ensures.bits;
+      same = c.pieces.invariant.same ∙ (reached.2 ∙ piece_without c.args.known.now.position.now c.lowest-square.result c.all_destinations-destinations.result c.lowest-square.ensures.range (rw c.of_index-from.ensures at c.all_destinations-destinations.ensures) (omega (arith, c.if-destinations-ne0.false)));
       fits = omega (arith, c.without_lowest-left.ensures.less, c.pieces.invariant.fits);
     }
 
 pub returns-clause-none : goal.returns-clause-none
-returns-clause-none c = λ _. c.pieces.invariant.same ∙ no_piece_left c.args.p.now c.pieces.left c.pieces.invariant.first c.pieces.invariant.pieces (omega (arith, c.pieces-test.false))
+returns-clause-none c = λ _. c.pieces.invariant.same ∙ no_piece_left c.args.known.now.position.now c.pieces.left c.pieces.invariant.first c.pieces.invariant.pieces (omega (arith, c.pieces-test.false))

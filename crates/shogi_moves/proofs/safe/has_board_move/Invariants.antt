@@ -7,8 +7,8 @@ use Rattle.shogi_moves.proofs.safe.has_board_move.Given as goal
 abbrev pub invariant-pieces : goal.invariant-pieces
 invariant-pieces l = record {
   first : ℕ;
-  pieces : HasPiecesFrom l.p l.left first;
-  same : legal_codes l.p ≡ legal_from l.p (first * SQUARE_CODES);
+  pieces : HasPiecesFrom l.known.position.now l.left first;
+  same : legal_codes l.known.position.now ≡ legal_from l.known.position.now (first * SQUARE_CODES);
   fits : l.left < 2 ^ 81;
 }
 

@@ -1,6 +1,7 @@
 use Rattle.std.proofs.Common.{◌≡◌, ◌<◌, ◌^◌, true, false}
 use Rattle.shogi_core.specs.Bits.{has_bit}
-use Rattle.last_ply.specs.LastPly.{is_own, NoneScoresFrom, OnEach, OnOwn}
+use Rattle.shogi_moves.specs.Destinations.{is_own}
+use Rattle.last_ply.specs.LastPly.{NoneScoresFrom, OnEach, OnOwn}
 use Rattle.last_ply.proofs.scene.Scene.first_on_board.Given as goal
 
 abbrev pub invariant-loop-left : goal.invariant-loop-left

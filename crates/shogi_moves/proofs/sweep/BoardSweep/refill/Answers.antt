@@ -24,7 +24,7 @@ squares-init c =
     }
 
 pub legal_destinations-destinations-requires-clause-among : goal.legal_destinations-destinations-requires-clause-among
-legal_destinations-destinations-requires-clause-among c = λ n h. matching_ways c.args.p.now.side c.args.capture _ c.targets.result c.matching_destinations-matching.result n _ (rw c.as_board-board.ensures at c.targets.ensures.squares.0 n h) (c.matching_destinations-matching.ensures.squares.0 n h)
+legal_destinations-destinations-requires-clause-among c = rw c.at-known.ensures (λ n h. matching_ways c.args.p.now.side c.args.capture _ c.targets.result c.matching_destinations-matching.result n _ (rw c.as_board-board.ensures at c.targets.ensures.squares.0 n h) (c.matching_destinations-matching.ensures.squares.0 n h))
 
 pub returns-then-destinations-ne0-clause-some : goal.returns-then-destinations-ne0-clause-some
 returns-then-destinations-ne0-clause-some c = λ _. (
@@ -37,8 +37,8 @@ returns-then-destinations-ne0-clause-some c = λ _. (
 pub returns-then-destinations-ne0-clause-kept : goal.returns-then-destinations-ne0-clause-kept
 returns-then-destinations-ne0-clause-kept c = rw c.of_index-from.ensures (record {
   info = c.squares.invariant.kept.info;
-  destinations = keeps_matching c.args.p.now c.args.capture c.lowest-square.result c.targets.result c.matching_destinations-matching.result c.legal_destinations-destinations.result.plain c.legal_destinations-destinations.result.promoting c.lowest-square.ensures.range (rw (c.of_index-from.ensures, c.as_board-board.ensures) at c.targets.ensures.squares.0) c.matching_destinations-matching.ensures.squares.0 c.legal_destinations-destinations.ensures.plain_fits c.legal_destinations-destinations.ensures.promoting_fits
-      (rw c.of_index-from.ensures at c.legal_destinations-destinations.ensures.plain) (rw c.of_index-from.ensures at c.legal_destinations-destinations.ensures.promoting);
+  destinations = keeps_matching c.args.p.now c.args.capture c.lowest-square.result c.targets.result c.matching_destinations-matching.result c.legal_destinations-destinations.result.plain c.legal_destinations-destinations.result.promoting c.lowest-square.ensures.range (rw (c.of_index-from.ensures, c.as_board-board.ensures) at c.targets.ensures.squares.0) c.matching_destinations-matching.ensures.squares.0 c.legal_destinations-destinations.ensures.plain.1 c.legal_destinations-destinations.ensures.promoting.1
+      (rw (c.of_index-from.ensures, c.at-known.ensures) at c.legal_destinations-destinations.ensures.plain.0) (rw (c.of_index-from.ensures, c.at-known.ensures) at c.legal_destinations-destinations.ensures.promoting.0);
 })
 
 pub squares-preserved : goal.squares-preserved
@@ -47,8 +47,8 @@ squares-preserved c = record {
   same = c.squares.invariant.same;
   matching = elim c.if-among-ne0.branch [
     | then-among-ne0+else-destinations-ne0 w ↦ on_less c.args.p.now c.args.capture c.squares.left c.without_lowest-left.result c.lowest-square.result c.args.self.now.code _ _ c.squares.invariant.matching
-        (keeps_matching c.args.p.now c.args.capture c.lowest-square.result c.targets.result c.matching_destinations-matching.result w.legal_destinations-destinations.result.plain w.legal_destinations-destinations.result.promoting c.lowest-square.ensures.range (rw (c.of_index-from.ensures, c.as_board-board.ensures) at c.targets.ensures.squares.0) c.matching_destinations-matching.ensures.squares.0 w.legal_destinations-destinations.ensures.plain_fits w.legal_destinations-destinations.ensures.promoting_fits
-        (rw c.of_index-from.ensures at w.legal_destinations-destinations.ensures.plain) (rw c.of_index-from.ensures at w.legal_destinations-destinations.ensures.promoting))
+        (keeps_matching c.args.p.now c.args.capture c.lowest-square.result c.targets.result c.matching_destinations-matching.result w.legal_destinations-destinations.result.plain w.legal_destinations-destinations.result.promoting c.lowest-square.ensures.range (rw (c.of_index-from.ensures, c.as_board-board.ensures) at c.targets.ensures.squares.0) c.matching_destinations-matching.ensures.squares.0 w.legal_destinations-destinations.ensures.plain.1 w.legal_destinations-destinations.ensures.promoting.1
+        (rw (c.of_index-from.ensures, c.at-known.ensures) at w.legal_destinations-destinations.ensures.plain.0) (rw (c.of_index-from.ensures, c.at-known.ensures) at w.legal_destinations-destinations.ensures.promoting.0))
         (omega (arith, w.if-destinations-ne0.false)) c.without_lowest-left.ensures.bits
     | else-among-ne0 w ↦ (
         let none : bit_and c.targets.result c.matching_destinations-matching.result ≡ 0 = omega (arith, w.if-among-ne0.false) in
