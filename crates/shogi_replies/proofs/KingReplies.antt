@@ -4,6 +4,7 @@ use Rattle.std.specs.Prelude.{is_none}
 use Rattle.std.specs.Int.{trailing_zeros, w128}
 use Rattle.std.proofs.lemmas.Bool.{cases_eq, false_from_ne_true, both_ways, or_cases, and_parts, and_from}
 use Rattle.std.proofs.lemmas.List.{set-set}
+use Rattle.shogi_core.specs.declared.moves.Move.{Move}
 use Rattle.shogi_core.specs.declared.moves.Move.TheVariants.{Board, Drop}
 use Rattle.shogi_core.specs.declared.piece.Color.{Color}
 use Rattle.shogi_core.specs.declared.piece.Color.TheVariants.{Black, White}
@@ -28,7 +29,7 @@ use Rattle.shogi_core.proofs.Uncovered.{attacked_was_but}
 use Rattle.shogi_moves.specs.After.{after, cells_after, piece_moved, dropped}
 use Rattle.shogi_moves.specs.Escapes.{IsEscape, AreEscapes, HasOpenEscape}
 use Rattle.shogi_replies.specs.Escapes.{HasNoSniper}
-use Rattle.shogi_replies.specs.Threats.{MayTake, put_by}
+use Rattle.shogi_replies.specs.Threats.{IsTaken, MayTake, end_of, put_by}
 use Rattle.shogi_moves.specs.Legal.{is_legal}
 use Rattle.shogi_moves.specs.LegalMoves.{legal_codes}
 use Rattle.shogi_moves.proofs.CheckInfoLaws.{look, other_side, own_some, is_piece_of-piece_moved, dropped_of, king_set}
@@ -103,8 +104,8 @@ king_lives side (Some piece) t e = go piece.color piece.role (and_parts (is_same
 reply_by : (q : Shogi) (k to : ℕ) → k < 81 → to < 81 → is_legal q (Board k to false) ≡ true → legal_codes q ≢ []
 reply_by q k to hk ht legal = some_legal q (code_of (Board k to false)) (is_legal_code_of q (code_of (Board k to false)) (Board k to false) (move_of-board k to false hk ht) ∙ legal)
 
-pub reply_taking : (q : Shogi) (k to : ℕ) (cell : Option Piece) → k < 81 → to < 81 → MayTake q k to false cell → legal_codes q ≢ []
-reply_taking q k to cell hk ht may = reply_by q k to hk ht may.legal
+pub taken_reply : (p : Shogi) (m : Move) → IsTaken p m → legal_codes (after p m) ≢ []
+taken_reply p m taken = reply_by (after p m) taken.taker (end_of m) taken.on_board.0 taken.on_board.1 taken.takes.legal
 
 module _ (cells : Cells) (side : Color) (k to : ℕ) (v : Option Piece) (len : length cells ≡ 81) (hk : k < 81) (ht : to < 81) (crown : is_king side (piece_at cells k) ≡ true) (lone : HasNoOtherKing cells side k) (reached : reaches cells k to ≡ true)
     (foe : is_piece_of (opponent_of side) v ≡ true) (safe : is_attacked (set cells k None) (opponent_of side) to ≡ false) where

@@ -82,8 +82,10 @@ pub record MayTake (q : Shogi) (a t : ℕ) (promote : Bool) (cell : Option Piece
   pub stands : piece_at q.cells t ≡ cell
 
 -- after the move the other side may take what that puts on its square, with some piece that does not promote
-abbrev pub IsTaken : Shogi → Move → Type 0
-IsTaken p m = (a : ℕ) × (a < 81) × MayTake (after p m) a (end_of m) false (put_by p m)
+pub record IsTaken (p : Shogi) (m : Move) : Type 0 where
+  pub taker : ℕ
+  pub on_board : (taker < 81) × (end_of m < 81)
+  pub takes : MayTake (after p m) taker (end_of m) false (put_by p m)
 
 -- after the move the other side may take by each threat that it leaves
 abbrev pub KeepsThreats : Shogi → Move → Type 0

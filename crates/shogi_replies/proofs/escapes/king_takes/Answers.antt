@@ -1,4 +1,4 @@
-use Rattle.std.proofs.Common.{◌≡◌, ◌≢◌, ◌<◌, ◌∙◌, ℕ, Bool, true, false, [], ap, sym, subst, arith}
+use Rattle.std.proofs.Common.{◌≡◌, ◌<◌, ◌∙◌, ℕ, Bool, true, false, ap, sym, subst, arith}
 use Rattle.shogi_core.specs.declared.moves.Move.{Move}
 use Rattle.shogi_core.specs.declared.moves.Move.TheVariants.{Board, Drop}
 use Rattle.shogi_core.specs.declared.piece.Color.{Color}
@@ -9,12 +9,10 @@ use Rattle.shogi_core.specs.Movement.{piece_at, reaches}
 use Rattle.shogi_core.specs.Pieces.{opponent_of}
 use Rattle.shogi_core.specs.Position.{Shogi}
 use Rattle.shogi_core.specs.Validity.{IsValid}
-use Rattle.shogi_moves.specs.After.{after}
 use Rattle.shogi_moves.specs.Legal.{is_legal}
-use Rattle.shogi_moves.specs.LegalMoves.{legal_codes}
 use Rattle.shogi_replies.specs.Escapes.{without_both}
-use Rattle.shogi_replies.specs.Threats.{IsTaken, end_of, put_by}
-use Rattle.shogi_replies.proofs.KingReplies.{taken_by_king, drop_taken_by_king, reply_taking}
+use Rattle.shogi_replies.specs.Threats.{IsTaken}
+use Rattle.shogi_replies.proofs.KingReplies.{taken_by_king, drop_taken_by_king, taken_reply}
 use Rattle.shogi_replies.proofs.escapes.king_takes.Goals as goal
 
 -- the king on k steps to the square, which no piece of the mover's attacks once the king and what stands on another one have left theirs
@@ -29,16 +27,18 @@ record IsUnprotected (p : Shogi) (side : Color) (from k to : ℕ) : Type 0 where
   safe : is_attacked (without_both p.cells from k) p.side to ≡ false
 
 board_taken : (p : Shogi) (m : Move) (side : Color) (from k to : ℕ) (promote : Bool) → m ≡ Board from to promote → from < 81 → IsUnprotected p side from k to → is_legal p m ≡ true → IsTaken p m
-board_taken p m side from k to promote is hf h legal = subst (IsTaken p) (sym is)
-    (k, h.king_fits, taken_by_king p from k to promote h.valid hf h.king_fits h.fits (subst (λ (color : Color). is_king color (piece_at p.cells k) ≡ true) h.is_side h.crown) (subst (λ (color : Color). HasNoOtherKing p.cells color k) h.is_side h.lone) h.reached h.safe (subst (λ (x : Move). is_legal p x ≡ true) is legal))
+board_taken p m side from k to promote is hf h legal = subst (IsTaken p) (sym is) (record {
+      taker = k;
+      on_board = (h.king_fits, h.fits);
+      takes = taken_by_king p from k to promote h.valid hf h.king_fits h.fits (subst (λ (color : Color). is_king color (piece_at p.cells k) ≡ true) h.is_side h.crown) (subst (λ (color : Color). HasNoOtherKing p.cells color k) h.is_side h.lone) h.reached h.safe (subst (λ (x : Move). is_legal p x ≡ true) is legal);
+    })
 
 drop_taken : (p : Shogi) (m : Move) (side : Color) (k to : ℕ) (kind : Kind) → m ≡ Drop kind to → IsUnprotected p side to k to → IsTaken p m
-drop_taken p m side k to kind is h = subst (IsTaken p) (sym is)
-    (k, h.king_fits, drop_taken_by_king p kind k to h.valid h.king_fits h.fits (subst (λ (color : Color). is_king color (piece_at p.cells k) ≡ true) h.is_side h.crown) (subst (λ (color : Color). HasNoOtherKing p.cells color k) h.is_side h.lone) h.reached h.safe)
-
--- such a capture is a reply
-replied : (p : Shogi) (m : Move) (to : ℕ) → end_of m ≡ to → to < 81 → IsTaken p m → legal_codes (after p m) ≢ []
-replied p m to ends ht taken = reply_taking (after p m) taken.0 (end_of m) (put_by p m) taken.1 (omega (arith, ends, ht)) taken.2
+drop_taken p m side k to kind is h = subst (IsTaken p) (sym is) (record {
+      taker = k;
+      on_board = (h.king_fits, h.fits);
+      takes = drop_taken_by_king p kind k to h.valid h.king_fits h.fits (subst (λ (color : Color). is_king color (piece_at p.cells k) ≡ true) h.is_side h.crown) (subst (λ (color : Color). HasNoOtherKing p.cells color k) h.is_side h.lone) h.reached h.safe;
+    })
 
 pub returns-in-Board-clause-taken : goal.returns-in-Board-clause-taken
 returns-in-Board-clause-taken c = λ e. board_taken _ _ _ _ _ _ _ c.in-Board.is (omega arith) (record {
@@ -53,7 +53,7 @@ returns-in-Board-clause-taken c = λ e. board_taken _ _ _ _ _ _ _ c.in-Board.is 
 })
 
 pub returns-in-Board-clause-answered : goal.returns-in-Board-clause-answered
-returns-in-Board-clause-answered c = λ e legal. replied _ _ _ (ap end_of c.in-Board.is) (omega arith) (board_taken _ _ _ _ _ _ _ c.in-Board.is (omega arith) (record {
+returns-in-Board-clause-answered c = λ e legal. taken_reply _ _ (board_taken _ _ _ _ _ _ _ c.in-Board.is (omega arith) (record {
   is_side = c.opponent.ensures ∙ ap opponent_of c.side.ensures;
   valid = c.validity.ensures;
   king_fits = omega arith;
@@ -77,7 +77,7 @@ returns-in-Drop-clause-taken c = λ e legal. drop_taken _ _ _ _ _ _ c.in-Drop.is
 })
 
 pub returns-in-Drop-clause-answered : goal.returns-in-Drop-clause-answered
-returns-in-Drop-clause-answered c = λ e legal. replied _ _ _ (ap end_of c.in-Drop.is) (omega arith) (drop_taken _ _ _ _ _ _ c.in-Drop.is (record {
+returns-in-Drop-clause-answered c = λ e legal. taken_reply _ _ (drop_taken _ _ _ _ _ _ c.in-Drop.is (record {
   is_side = c.opponent.ensures ∙ ap opponent_of c.side.ensures;
   valid = c.validity.ensures;
   king_fits = omega arith;
