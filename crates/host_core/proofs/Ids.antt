@@ -1,6 +1,6 @@
 -- Ids that are the same.
 use Rattle.std.proofs.Common.{◌≡◌, ◌≢◌, ◌==◌, true, false, refl, ap, ◌∙◌}
-use Rattle.std.proofs.lemmas.Bool.{eqb-true, eq-eqb, and_parts, and_from, both_ways}
+use Rattle.std.proofs.lemmas.Bool.{eqb-true, eq-eqb, and_parts, and_from, both_ways, false_from_ne_true}
 use Rattle.session_slots.specs.declared.id.SessionId.{SessionId}
 use Rattle.host_core.specs.Made.{is_same_id}
 
@@ -16,3 +16,6 @@ is_same_id-refl a = and_from (a.slot == a.slot) (a.generation == a.generation) (
 
 pub other_id : (a b : SessionId) → is_same_id a b ≡ false → b ≢ a
 other_id a b e same = both_ways (is_same_id a b) e (ap (is_same_id a) same ∙ is_same_id-refl a)
+
+pub apart_ids : (a b : SessionId) → (a ≡ b → ⊥) → is_same_id a b ≡ false
+apart_ids a b f = false_from_ne_true (is_same_id a b) (λ e. f (same_id a b e))

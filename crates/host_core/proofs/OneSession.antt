@@ -53,7 +53,7 @@ gone old new id (step ∷ rest) e h r =
     gone_more id step rest new (find r.0.slots id) a (gone r.0 new id rest a.none (omega arith) r.2)
 
 -- one step more before it
-ends_more : (owes more : List ℕ → List ℕ) (own_ taken_ rest_own rest_taken : List ℕ) (now : Option SessionView) → ((x : List ℕ) → taken_ ++ more x ≡ owes (own_ ++ x)) → EndsFrom more rest_own rest_taken now → EndsFrom owes (own_ ++ rest_own) (taken_ ++ rest_taken) now
+pub ends_more : (owes more : List ℕ → List ℕ) (own_ taken_ rest_own rest_taken : List ℕ) (now : Option SessionView) → ((x : List ℕ) → taken_ ++ more x ≡ owes (own_ ++ x)) → EndsFrom more rest_own rest_taken now → EndsFrom owes (own_ ++ rest_own) (taken_ ++ rest_taken) now
 ends_more owes more own_ taken_ rest_own rest_taken None h (rest, e) =
     (rest, append_assoc taken_ rest_taken rest ∙ (ap (λ xs. taken_ ++ xs) e ∙ h rest_own))
 ends_more owes more own_ taken_ rest_own rest_taken (Some t) h e = λ x.

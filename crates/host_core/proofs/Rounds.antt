@@ -1,6 +1,7 @@
 -- A round, session by session.
 use Rattle.std.proofs.Common.{◌≡◌, ℕ, zero, suc, ◌+◌, ◌-◌, ◌≤◌, List, [], ◌∷◌, ◌++◌, Bool, true, false, cond, Option, Some, None, length, drop, count_by, refl, sym, ap, ◌∙◌, arith, append_assoc, append-nil, length-append}
-use Rattle.std.specs.Prelude.{slice_index_or, IfNone, IfSome, IsSome}
+use Rattle.std.specs.Prelude.{slice_index_or, IfNone, IfSome, IsSome, ◌||◌}
+use Rattle.std.proofs.lemmas.Bool.{or_right}
 use Rattle.std.proofs.lemmas.List.{drop-drop, drop-set-lt}
 use Rattle.std.proofs.lemmas.List.Sums.{sum_by-cons}
 use Rattle.session_slots.specs.declared.id.SessionId.{SessionId}
@@ -10,11 +11,13 @@ use Rattle.session_slots.proofs.Finds.{slot_of}
 use Rattle.usi_session.specs.Due.{SessionView, is_pending}
 use Rattle.host_core.specs.Events.{Outcome, Opened, Done, Worked, Gave, Refused, Work}
 use Rattle.host_core.specs.ById.{pending_of}
+use Rattle.host_core.specs.Made.{is_same_id}
 use Rattle.host_core.specs.Steps.{HostState, Stepped, OnSession}
 use Rattle.host_core.specs.Sessions.{Works}
 use Rattle.host_core.specs.Still.{AreSettled, IsNext}
 use Rattle.host_core.specs.Rounds.{pending_from, pending_ids, works, has_worked, was_refused, IsRound, RoundTo}
 use Rattle.host_core.proofs.Chains.{run-start, run-last}
+use Rattle.host_core.proofs.Ids.{is_same_id-refl}
 
 suc_plus : (i : ℕ) → suc i + 1 ≡ suc (i + 1)
 suc_plus i = omega arith
@@ -156,3 +159,25 @@ round_all old budget slot worked refused now t e =
     let all : t.ids ≡ pending_ids old = sym (append-nil t.ids) ∙ (ap (λ xs. t.ids ++ xs) (sym e) ∙ t.rest) in
     let r : IsRound old budget t.ids worked refused now = t.so_far in
     rw all at r
+
+-- the id is one of these
+abbrev pub is_in : SessionId → List SessionId → Bool
+is_in id [] = false
+is_in id (at ∷ ids) = is_same_id at id || is_in id ids
+
+-- what is pending from a later slot on is pending from an earlier one on
+in_more : (b : Bool) (id first : SessionId) (rest : List SessionId) → is_in id rest ≡ true → is_in id (cond b (first ∷ rest) rest) ≡ true
+in_more true id first rest e = or_right (is_same_id first id) (is_in id rest) e
+in_more false id first rest e = e
+
+in_later : (slot i later : ℕ) (slots : List (Option OpenSession)) (id : SessionId) → later ≡ slot + i → is_in id (pending_from later (drop i slots)) ≡ true → is_in id (pending_from slot slots) ≡ true
+in_later slot zero later slots id f e = let here : later ≡ slot = omega arith in rw here at e
+in_later slot (suc i) later [] id f e = absurd (cc)
+in_later slot (suc i) later (None ∷ rest) id f e = in_later (slot + 1) i later rest id (omega arith) e
+in_later slot (suc i) later (Some o ∷ rest) id f e = in_more (is_pending o.session) id _ (pending_from (slot + 1) rest) (in_later (slot + 1) i later rest id (omega arith) e)
+
+-- a pending session is among those of a round
+pub pending_in : (h : HostState) (id : SessionId) → pending_of (find h.slots id) ≡ true → is_in id (pending_ids h) ≡ true
+pending_in h id p =
+    in_later 0 id.slot id.slot h.slots.slots id (omega arith)
+    (ap (is_in id) (first_pending h id (find h.slots id) refl p) ∙ ap (λ b. b || is_in id (pending_from (id.slot + 1) (drop (id.slot + 1) h.slots.slots))) (is_same_id-refl id))

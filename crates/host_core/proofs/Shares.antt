@@ -7,9 +7,9 @@ use Rattle.session_slots.proofs.Finds.{find-with_session}
 use Rattle.shared_table.specs.Recent.{Table}
 use Rattle.shared_table.specs.Uses.{IsUsed}
 use Rattle.shared_table.proofs.UseLaws.{remembers}
-use Rattle.usi_session.specs.Due.{SessionView, roots_left}
+use Rattle.usi_session.specs.Due.{SessionView, roots_left, EndsSearches}
 use Rattle.usi_session.specs.Roots.{Root}
-use Rattle.usi_session.specs.Told.{AreTold, IsCalled, TellsEnded, TellsValue, entry_of_root}
+use Rattle.usi_session.specs.Told.{AreTold, IsCalled, TellsValue, entry_of_root}
 use Rattle.usi_session.proofs.TellsLaws.{called_after_told}
 use Rattle.host_core.specs.Events.{Work, Outcome}
 use Rattle.host_core.specs.Shared.{IsShared, key_of_root}
@@ -44,19 +44,19 @@ pub shares : (old new : HostState) (id : SessionId) (budget : ℕ) (outcome : Ou
     → Stepped old (Work id budget) outcome new → find old.slots id ≡ Some before → find new.slots id ≡ Some after
     → roots_left before ≡ (front ++ root ∷ back) ++ roots_left after → IsShared root new.table
 shares old new id budget outcome before after front root back stepped was now left =
-    let tells : TellsEnded IsUsed old.table new.table (roots_left before) (roots_left after) = stepped.1.told before after was now in
+    let tells : EndsSearches IsUsed old.table new.table before after = stepped.1.told before after was now in
     let same : tells.ended ≡ front ++ root ∷ back = append_cancel_right tells.ended (front ++ root ∷ back) (roots_left after) (sym tells.left ∙ left) in
     shared_among root front back old.table new.table (subst (λ (roots : List Root). AreTold IsUsed old.table roots new.table) same tells.told)
 
 -- a session that was written back is the one that the table was told of
 pub told_written : (old new : OpenSessions) (id : SessionId) (s t : SessionView) (table later : Table)
-    → find old id ≡ Some s → new ≡ with_session old id t → TellsEnded IsUsed table later (roots_left s) (roots_left t)
+    → find old id ≡ Some s → new ≡ with_session old id t → EndsSearches IsUsed table later s t
     → (before after : SessionView) → find old id ≡ Some before → find new id ≡ Some after
-    → TellsEnded IsUsed table later (roots_left before) (roots_left after)
+    → EndsSearches IsUsed table later before after
 told_written old new id s t table later e is told before after was now =
     let p : Some s ≡ Some before = sym e ∙ was in
     let q : Some t ≡ Some after = sym (find-with_session old id s t e) ∙ (sym (ap (λ slots. find slots id) is) ∙ now) in
     let b : s ≡ before = cc in
     let a : t ≡ after = cc in
-    subst (λ (v : SessionView). TellsEnded IsUsed table later (roots_left before) (roots_left v)) a
-    (subst (λ (v : SessionView). TellsEnded IsUsed table later (roots_left v) (roots_left t)) b told)
+    subst (λ (v : SessionView). EndsSearches IsUsed table later before v) a
+    (subst (λ (v : SessionView). EndsSearches IsUsed table later v t) b told)

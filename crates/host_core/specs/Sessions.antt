@@ -1,5 +1,5 @@
 -- What one session answers to an event of its own: its own calls, with their refusals in order (own choice).
-use Rattle.std.specs.Prelude.{◌≡◌, ℕ, ◌+◌, ◌≤◌, ◌<◌, List, ◌++◌, length, take, drop, true, false, Result, Ok, Err}
+use Rattle.std.specs.Prelude.{◌≡◌, ℕ, ◌+◌, ◌≤◌, ◌<◌, List, ◌++◌, length, take, drop, true, false}
 use Rattle.usi_session.specs.WholeLines.{GrowsByLines}
 use Rattle.usi_session.specs.Due.{SessionView, due, state_due, load, is_pending, wants_input, IsMidSearch}
 use Rattle.host_core.specs.declared.event.HostFault.TheVariants.{OutOfMemory, NotReady}
@@ -37,11 +37,6 @@ pub record Stopped (old new : SessionView) : Type 0 where
   pub after : (x : List ℕ) → state_due new x ≡ state_due old x
   pub grown : GrowsByLines old.queued new.queued
   pub made : load new ≤ load old
-
--- what a call of `work` left: it went on by so many steps, or was out of memory on the way
-abbrev pub ContinuesBy : {E : Type 0} → SessionView → ℕ → Result ℕ E → SessionView → Type 0
-ContinuesBy old budget (Ok steps) new = WorkedOn old budget steps new
-ContinuesBy old budget (Err fault) new = Stopped old new
 
 -- the first bytes of its queue were taken
 pub record Taken (old : SessionView) (n : ℕ) (bytes : List ℕ) (new : SessionView) : Type 0 where

@@ -4,8 +4,7 @@ use Rattle.session_slots.specs.declared.id.SessionId.{SessionId}
 use Rattle.session_slots.specs.Slots.{OpenSessions, find, with_session, count, Opens, OthersKept, IsFull}
 use Rattle.shared_table.specs.Recent.{Table, new_table}
 use Rattle.shared_table.specs.Uses.{IsUsed}
-use Rattle.usi_session.specs.Due.{SessionView, roots_left}
-use Rattle.usi_session.specs.Told.{TellsEnded}
+use Rattle.usi_session.specs.Due.{SessionView, EndsSearches}
 use Rattle.host_core.specs.declared.event.HostFault.TheVariants.{Full, OutOfMemory, UnknownSession}
 use Rattle.host_core.specs.Events.{Event, Open, Feed, Work, Take, Close, Outcome, Opened, Done, Refused}
 use Rattle.host_core.specs.ById.{pending_of}
@@ -76,7 +75,7 @@ pub record KeepsTable (old : HostState) (id : SessionId) (new : HostState) : Typ
   pub told :
       (before after : SessionView)
       → find old.slots id ≡ Some before → find new.slots id ≡ Some after
-      → TellsEnded IsUsed old.table new.table (roots_left before) (roots_left after)
+      → EndsSearches IsUsed old.table new.table before after
 
 -- the session of the id continues
 abbrev pub IsWorked : ℕ → HostState → SessionId → Outcome → HostState → Type 0

@@ -148,7 +148,7 @@ impl<S: BuildHasher, A: Allocator + Copy> Host<S, A> {
         let worked = on_session::work(session, &mut self.table, budget);
         notes::set(&mut self.noted, id.slot, notes::of(id, session));
         self.table.validity();
-        Ok(worked?)
+        worked
     }
 
     /// Hands out the first n queued bytes of a session: `NotReady` where fewer are queued.

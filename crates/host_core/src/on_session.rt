@@ -1,17 +1,16 @@
 //! What one session answers to the events that name it.
 
 ghost use Rattle.std.specs.Prelude.{◌≡◌, false, take, IsErrOf};
-ghost use Rattle.usi_session.specs.Due.{is_pending, roots_left};
-ghost use Rattle.usi_session.specs.Told.{TellsEnded};
-ghost use Rattle.host_core.specs.Events.{Gave};
+ghost use Rattle.usi_session.specs.Due.{is_pending, EndsSearches};
+ghost use Rattle.host_core.specs.Events.{Gave, Worked};
 ghost use Rattle.host_core.specs.Seen.{as_outcome, done_of, passed_of};
-ghost use Rattle.host_core.specs.Sessions.{Feeds, ContinuesBy, Takes};
+ghost use Rattle.host_core.specs.Sessions.{Feeds, Works, Takes};
 ghost use Rattle.host_core.specs.declared.event.HostFault.TheVariants.{OutOfMemory};
 
 use crate::bytes::Bytes;
 use crate::event::HostFault;
 use shogi_search::Memo;
-use std::alloc::{AllocError, Allocator};
+use std::alloc::Allocator;
 use usi_session::{CHUNK_MAX, Session};
 
 /// Stores the bytes, where the session may be fed.
@@ -33,11 +32,10 @@ pub fn work<A: Allocator + Copy, M: Memo>(
     session: &mut Session<A>,
     memo: &mut M,
     budget: u64,
-) -> Result<u64, AllocError>
-    ensures works { ContinuesBy session.old budget result session.new }
+) -> Result<u64, HostFault>
+    ensures works { Works budget session.old (as_outcome Worked result) session.new }
     ensures idle { is_pending session.old ≡ false → memo.new ≡ memo.old }
-    ensures told { TellsEnded M.called memo.old memo.new (roots_left session.old)
-        (roots_left session.new) }
+    ensures told { EndsSearches M.called memo.old memo.new session.old session.new }
     ensures capacity { M.capacity memo.new ≡ M.capacity memo.old }
 {
     if !session.pending() {
@@ -45,7 +43,7 @@ pub fn work<A: Allocator + Copy, M: Memo>(
     }
     match session.work(memo, budget) {
         Ok(steps) => Ok(steps),
-        Err(_) => Err(AllocError),
+        Err(_) => Err(HostFault::OutOfMemory),
     }
 }
 

@@ -1,5 +1,6 @@
 -- A session between two calls, and what it owes (own choice).
 use Rattle.std.specs.Prelude.{◌≡◌, ℕ, ◌+◌, ◌*◌, List, [], ◌∷◌, ◌++◌, length, Bool, true, false, ◌&&◌, ◌||◌, not, nat_lt, cond, Option, None, Some, is_some, ◌<◌}
+use Rattle.shogi_search.specs.Calls.{Call}
 use Rattle.usi_lines.specs.Lines.{Buffer, Line, ahead}
 use Rattle.usi_session.specs.declared.state.State.{State}
 use Rattle.usi_session.specs.Answer.{Answer, initial_state}
@@ -7,6 +8,7 @@ use Rattle.usi_session.specs.RunningGo.{RunningGo, rest_of_go_if, load_of_if, ro
 use Rattle.usi_session.specs.Replies.{replies_from, state_from}
 use Rattle.usi_session.specs.Costs.{costs_from}
 use Rattle.usi_session.specs.Roots.{Root, roots_from}
+use Rattle.usi_session.specs.Told.{TellsEnded}
 use Rattle.usi_session.specs.declared.limits.TheConstants.{QUEUE_FULL}
 
 -- the state after the lines that were answered, the running `go`, the replies not yet taken, and what was fed and not yet answered
@@ -57,6 +59,12 @@ roots_ahead state running_go ahead =
 -- the searches along pvs that a session has still to end
 abbrev pub roots_left : SessionView → List Root
 roots_left session = roots_ahead session.state session.running_go (ahead session.input [])
+
+-- of the searches that a session has still to end, a memory was told the first, and the others are left to a later state of it
+abbrev pub EndsSearches : {M : Type 0} → (M → Call → M → Type 0) → M → M → SessionView → SessionView
+    → Type 0
+EndsSearches called old new before after =
+    TellsEnded called old new (roots_left before) (roots_left after)
 
 -- a line is there
 abbrev pub has_line : List Line → Bool

@@ -1,10 +1,9 @@
 //! One USI session.
 
 ghost use Rattle.std.specs.Prelude.{◌≡◌, ◌≤◌, ◌++◌, ℕ, List, true, false, OnOk, OnErr, IfOk, OnSome, IfSome, IfNone, None, length, take, drop, ◌<◌, ◌+◌};
-ghost use Rattle.usi_session.specs.Due.{due, state_due, load, roots_left, turns, is_pending, wants_input, new_session, HasSpent, IsMidSearch, IsPvWhole, IsSameAfter};
+ghost use Rattle.usi_session.specs.Due.{due, state_due, load, roots_left, turns, is_pending, wants_input, new_session, EndsSearches, HasSpent, IsMidSearch, IsPvWhole, IsSameAfter};
 ghost use Rattle.usi_session.specs.Replies.{replies, state_from};
 ghost use Rattle.usi_session.specs.Answer.{initial_state};
-ghost use Rattle.usi_session.specs.Told.{TellsEnded};
 ghost use Rattle.usi_session.specs.WholeLines.{GrowsByLines};
 ghost use Rattle.usi_lines.specs.Lines.{lines};
 ghost use Rattle.usi_session.specs.declared.limits.TheConstants.{CHUNK_MAX};
@@ -165,8 +164,7 @@ impl<A: Allocator + Copy> Session<A> {
         ensures made { IfOk result (λ made. IfSome made (λ n. n + load self.new ≤ load self.old)) }
         ensures fewer { IfOk result (λ made. OnSome made (turns self.new < turns self.old)) }
         ensures grown { GrowsByLines self.old.queued self.new.queued }
-        ensures told { TellsEnded M.called memo.old memo.new (roots_left self.old)
-            (roots_left self.new) }
+        ensures told { EndsSearches M.called memo.old memo.new self.old self.new }
         ensures capacity { M.capacity memo.new ≡ M.capacity memo.old }
         ensures err { OnErr result (self.new ≡ self.old) }
     {
@@ -197,8 +195,7 @@ impl<A: Allocator + Copy> Session<A> {
         ensures spent { IfOk result (HasSpent self.new budget) }
         ensures enough { load self.old ≤ budget → OnOk result (is_pending self.new ≡ false) }
         ensures grown { GrowsByLines self.old.queued self.new.queued }
-        ensures told { TellsEnded M.called memo.old memo.new (roots_left self.old)
-            (roots_left self.new) }
+        ensures told { EndsSearches M.called memo.old memo.new self.old self.new }
         ensures capacity { M.capacity memo.new ≡ M.capacity memo.old }
         ensures err { OnErr result (load self.new ≤ load self.old) }
     {

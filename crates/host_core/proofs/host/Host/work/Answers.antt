@@ -10,23 +10,6 @@ invariant_of-self-2 g c =
     rw (c.set.ensures, c.of.ensures)
     (still_written c.self.inside.noted.items c.self.inside.slots c.args.id c.in-Some.session.now c.work-worked.new.session (search rules) c.self.invariant)
 
-pub invariant_of-self-in_err-worked : goal.invariant_of-self-in_err-worked
-invariant_of-self-in_err-worked g c =
-    rw (c.set.ensures, c.of.ensures)
-    (still_written c.self.inside.noted.items c.self.inside.slots c.args.id c.in-Some.session.now c.work-worked.new.session (search rules) c.self.invariant)
-
-pub returns-in_err-worked-clause-worked : goal.returns-in_err-worked-clause-worked
-returns-in_err-worked-clause-worked g c =
-    let slots : OpenSessions = c.self.inside.slots in
-    let is : find slots c.args.id ≡ Some c.in-Some.session.now = search rules in (
-      search rules,
-      rw (← c.self.view_is) (record {
-        capacity_is = c.work-worked.ensures.capacity;
-        idle = λ h. c.work-worked.ensures.idle (sym (ap pending_of is) ∙ h);
-        told = told_written slots (with_session slots c.args.id c.work-worked.new.session) c.args.id c.in-Some.session.now c.work-worked.new.session c.self.inside.table c.work-worked.new.memo is refl c.work-worked.ensures.told;
-      }),
-    )
-
 pub returns-clause-worked : goal.returns-clause-worked
 returns-clause-worked g c =
     let slots : OpenSessions = c.self.inside.slots in

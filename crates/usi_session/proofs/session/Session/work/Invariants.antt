@@ -1,6 +1,5 @@
 use Rattle.std.proofs.Common.{◌≡◌, ◌≤◌, ◌+◌, ℕ, List}
-use Rattle.usi_session.specs.Due.{due, state_due, load, roots_left, turns}
-use Rattle.usi_session.specs.Told.{TellsEnded}
+use Rattle.usi_session.specs.Due.{due, state_due, load, turns, EndsSearches}
 use Rattle.usi_session.specs.WholeLines.{GrowsByLines}
 use Rattle.usi_session.proofs.session.Session.work.Given as goal
 
@@ -12,7 +11,7 @@ invariant-turns g l = record {
   within : l.left ≤ l.budget;
   grown : GrowsByLines l.fn.self.queued l.self.queued;
   made : l.budget + load l.self ≤ load l.fn.self + l.left;
-  told : TellsEnded g.M.Memo.called l.fn.memo l.memo (roots_left l.fn.self) (roots_left l.self);
+  told : EndsSearches g.M.Memo.called l.fn.memo l.memo l.fn.self l.self;
   capacity : g.M.Memo.capacity l.memo ≡ g.M.Memo.capacity l.fn.memo;
 }
 
