@@ -313,6 +313,19 @@ module _ (p : Shogi) (from to : ℕ) (promote : Bool) (v : IsValid p) (hf : from
     stands = put_board;
   }
 
+  -- the same where the move gives no check
+  pub retake_unchecked : in_check (after p (Board from to promote)).cells (opponent_of p.side) ≡ false → (a : ℕ) (promoted : Bool) → IsAttack p a to promoted → MayTake (after p (Board from to promote)) a to promoted (piece_moved promote (piece_at p.cells from))
+  unfolding reaches
+  retake_unchecked shut a promoted attack =
+      let new : Cells = (after p (Board from to promote)).cells in
+      record {
+        legal = takes_legally p new (after p (Board from to promote)).hands a to to promoted standing attack attack.apart
+            (ap (is_piece_of (opponent_of p.side)) put_board ∙ other_side p.side (piece_moved promote (piece_at p.cells from)) (is_piece_of-piece_moved p.side promote (piece_at p.cells from) ∙ legal_own p from to promote legal))
+            (reach_to p.cells new to standing.empty (piece_at p.cells a) a attack.reached)
+            (takes_safely p new a to to promoted standing shut adds_board attack.attacker attack.on_board attack.apart attack.apart (inl refl));
+        stands = put_board;
+      }
+
 module _ (p : Shogi) (kind : Kind) (to : ℕ) (v : IsValid p) (ht : to < 81) where
   standing_drop : LeavesStanding p.cells (after p (Drop kind to)).cells (opponent_of p.side) to
   standing_drop = left_drop p kind to v ht

@@ -17,7 +17,7 @@ use Rattle.shogi_moves.specs.After.{after, dropped}
 use Rattle.shogi_moves.specs.Escapes.{AreEscapes}
 use Rattle.shogi_replies.specs.declared.row.Row.{Row}
 use Rattle.shogi_replies.specs.Passes.{IsCertainDrop, IsCertainMove, IsPassed}
-use Rattle.shogi_replies.proofs.ThreatLaws.{retake_board, retake_drop, threat_board, threat_drop}
+use Rattle.shogi_replies.proofs.ThreatLaws.{retake_drop, retake_unchecked, threat_board, threat_drop}
 use Rattle.shogi_eval.specs.Material.{material_of, taken_gain}
 use Rattle.minimax.specs.Window.{code_at, threshold}
 use Rattle.shogi_search.specs.declared.frame.Frame.{Frame}
@@ -64,7 +64,7 @@ threat_leaves f threat loss pieces aside is gains others spared = λ from to pro
     let shut : in_check (after f.node.position (Board from to promote)).cells (opponent_of f.node.position.side) ≡ false = certain.1 refl legal in
     let takes : TakesAfter f.node.position f.node.eval (Board from to promote) threat.gain = threat_gain f.node.position f.node.eval (Board from to promote) threat.attacker.from threat.target threat.gain threat.promote f.valid (move_of-board from to promote hf ht) legal is.is_threat is.gain_is
     (others from piece, spared to _ ht set (λ _. refl) f.node.position f.node.eval (Board from to promote) is refl refl) in
-    let least : _ = threat_left f.node.position f.node.eval (Board from to promote) threat.gain (threat_board f.node.position from to promote f.valid hf ht legal shut) (retake_board f.node.position from to promote f.valid hf ht legal shut) takes in
+    let least : _ = threat_left f.node.position f.node.eval (Board from to promote) threat.gain (threat_board f.node.position from to promote f.valid hf ht legal shut) (retake_unchecked f.node.position from to promote f.valid hf ht legal shut) takes in
     subst (λ (x : ℤ). LeavesAtLeast f x (Board from to promote)) (sym gains) least
 
 -- and so do such drops
@@ -74,7 +74,7 @@ drop_spared f threat loss kind sliding aside squares c to is gains spared slides
     let shut : in_check (after f.node.position (Drop kind to)).cells (opponent_of f.node.position.side) ≡ false = at.certain.1 refl at.legal in
     let takes : TakesAfter f.node.position f.node.eval (Drop kind to) threat.gain = threat_gain f.node.position f.node.eval (Drop kind to) threat.attacker.from threat.target threat.gain threat.promote f.valid (move_of-drop kind to at.fits) at.legal is.is_threat is.gain_is
     (spared to _ at.fits set slides f.node.position f.node.eval (Drop kind to) is refl refl) in
-    let least : _ = threat_left f.node.position f.node.eval (Drop kind to) threat.gain (threat_drop f.node.position kind to f.valid at.fits shut) (retake_drop f.node.position kind to f.valid at.fits shut) takes in
+    let least : _ = threat_left f.node.position f.node.eval (Drop kind to) threat.gain (threat_drop f.node.position kind to f.valid at.fits shut) (retake_drop f.node.position kind to f.valid at.fits) takes in
     subst (λ (x : ℤ). LeavesAtLeast f x (Drop kind to)) (sym gains) least
 
 -- a drop that gives no check is taken where such a piece attacks its square
@@ -82,7 +82,7 @@ pub drop_retaken : (f : Frame) (loss : ℤ) (kind : Kind) (gain squares c to : �
 drop_retaken f loss kind gain squares c to value gains attacked at =
     let shut : in_check (after f.node.position (Drop kind to)).cells (opponent_of f.node.position.side) ≡ false = at.certain.1 refl at.legal in
     let takes : TakesAfter f.node.position f.node.eval (Drop kind to) gain = λ keeps retakes. ∥∥₁_elim attacked (Prim.hlevel props) (λ here. retake_gain f.node.position f.node.eval (Drop kind to) to gain f.valid (move_of-drop kind to at.fits) at.legal refl here value keeps retakes) in
-    let least : _ = threat_left f.node.position f.node.eval (Drop kind to) gain (threat_drop f.node.position kind to f.valid at.fits shut) (retake_drop f.node.position kind to f.valid at.fits shut) takes in
+    let least : _ = threat_left f.node.position f.node.eval (Drop kind to) gain (threat_drop f.node.position kind to f.valid at.fits shut) (retake_drop f.node.position kind to f.valid at.fits) takes in
     subst (λ (x : ℤ). LeavesAtLeast f x (Drop kind to)) (sym gains) least
 
 -- so such drops are lost that do not suffice by it
