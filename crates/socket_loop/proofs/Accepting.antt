@@ -20,12 +20,12 @@ use Rattle.socket_loop.specs.declared.tally.Admission.{Admission}
 use Rattle.socket_loop.specs.Tallies.{AreArrivals, full_of, fulls, unopened_of, unopeneds, with_one}
 use Rattle.socket_loop.specs.declared.connection.Connection.{Connection}
 use Rattle.wires.specs.declared.wire.WireFault.{WireFault}
-use Rattle.wires.specs.Report.{Report, KeepsPeer, KeepsAll, Writes, Shuts, bytes_written, GivesNumber}
+use Rattle.wires.specs.Report.{Report, KeepsConnection, KeepsAll, Writes, Shuts, bytes_written, GivesNumber}
 use Rattle.socket_loop.specs.Links.{Ties, IsTied, IsAmong, IsApart, links_of}
 use Rattle.socket_loop.specs.Parts.{IsAdmission}
 use Rattle.wires.specs.Moves.{AllMove}
 use Rattle.socket_loop.specs.Turns.{Fits, Accepted, AreNumbered, HasSession, HaveSessions, IsOneOf, IsRejected, IsAway, IsNew, Accepts, Admits, openings, rejection_text}
-use Rattle.wires.proofs.Peers.{kept_same, kept_then, all_kept, moves_then, away_moves, stays_raised, rises_then, stays_rise, reported_failure, raised_rises, Consumes-none, Appends-none, Keeps-Appends}
+use Rattle.wires.proofs.Reported.{kept_same, kept_then, all_kept, moves_then, away_moves, stays_raised, rises_then, stays_rise, reported_failure, raised_rises, Consumes-none, Appends-none, Keeps-Appends}
 use Rattle.wires.specs.Asked.{Call, Accept, Asks}
 use Rattle.socket_loop.specs.Calls.{AllAccepted, AsksAdmission, AsksAll, GivesNobody}
 use Rattle.socket_loop.proofs.Calls.{AsksAccepts, asks_accept, asks_full, asks_no_accept, asks_on, asks_stop}
@@ -113,7 +113,7 @@ away_one a b c from number to o k least most w = record {
   failed = rises_then _ _ _ (stays_rise _ _ (k number).failed) w.failed;
 }
 
-away_each : (a b c : Report) (from number to n : ℕ) (o : HostFault) → KeepsAll a b → from ≤ number → number < to → IsAway to (rejection_text o) b c number → KeepsPeer a c n ⊎ IsRejected from to (record { number = number; outcome = Refused o } ∷ []) a c n
+away_each : (a b c : Report) (from number to n : ℕ) (o : HostFault) → KeepsAll a b → from ≤ number → number < to → IsAway to (rejection_text o) b c number → KeepsConnection a c n ⊎ IsRejected from to (record { number = number; outcome = Refused o } ∷ []) a c n
 away_each a b c from number to n o k least most w =
     elim (cases_eq n number) [
       | inl same ↦ inr (rw same (away_one a b c from number to o k least most w))
@@ -298,7 +298,7 @@ numbered_then f m t [] ys p q = numbered_from f m t ys p q
 numbered_then f m t (x ∷ xs) ys p q = (p.0, numbered_then (x.number + 1) m t xs ys p.1 q)
 
 -- rejected, and nothing after that
-turned_then : (f m t : ℕ) (x y : List Accepted) (a b c : Report) (n : ℕ) → m ≤ t → IsRejected f m x a b n → KeepsPeer b c n → IsRejected f t (x ++ y) a c n
+turned_then : (f m t : ℕ) (x y : List Accepted) (a b c : Report) (n : ℕ) → m ≤ t → IsRejected f m x a b n → KeepsConnection b c n → IsRejected f t (x ++ y) a c n
 turned_then f m t x y a b c n v w k =
     let u : n < m = w.most in
     record {
@@ -315,7 +315,7 @@ turned_then f m t x y a b c n v w k =
     }
 
 -- nothing, and then rejected
-then_away : (f m t : ℕ) (x y : List Accepted) (a b c : Report) (n : ℕ) → f ≤ m → KeepsPeer a b n → IsRejected m t y b c n → IsRejected f t (x ++ y) a c n
+then_away : (f m t : ℕ) (x y : List Accepted) (a b c : Report) (n : ℕ) → f ≤ m → KeepsConnection a b n → IsRejected m t y b c n → IsRejected f t (x ++ y) a c n
 then_away f m t x y a b c n v k w =
     let u : m ≤ n = w.least in
     record {
@@ -331,27 +331,27 @@ then_away f m t x y a b c n v k w =
       failed = rises_then _ _ _ (stays_rise _ _ k.failed) w.failed;
     }
 
-each_then : (f m t : ℕ) (x y : List Accepted) (a b c : Report) (n : ℕ) → f ≤ m → m ≤ t → KeepsPeer a b n ⊎ IsRejected f m x a b n → KeepsPeer b c n ⊎ IsRejected m t y b c n → (n < m → KeepsPeer b c n) → KeepsPeer a c n ⊎ IsRejected f t (x ++ y) a c n
+each_then : (f m t : ℕ) (x y : List Accepted) (a b c : Report) (n : ℕ) → f ≤ m → m ≤ t → KeepsConnection a b n ⊎ IsRejected f m x a b n → KeepsConnection b c n ⊎ IsRejected m t y b c n → (n < m → KeepsConnection b c n) → KeepsConnection a c n ⊎ IsRejected f t (x ++ y) a c n
 each_then f m t x y a b c n u v (inl k) (inl q) s = inl (kept_then a b c n k q)
 each_then f m t x y a b c n u v (inl k) (inr w) s = inr (then_away f m t x y a b c n u k w)
 each_then f m t x y a b c n u v (inr w) q s = inr (turned_then f m t x y a b c n v w (s w.most))
 
-kept_before : (f m : ℕ) (x : List Accepted) (a b : Report) (n : ℕ) → m ≤ n → KeepsPeer a b n ⊎ IsRejected f m x a b n → KeepsPeer a b n
+kept_before : (f m : ℕ) (x : List Accepted) (a b : Report) (n : ℕ) → m ≤ n → KeepsConnection a b n ⊎ IsRejected f m x a b n → KeepsConnection a b n
 kept_before f m x a b n u (inl k) = k
 kept_before f m x a b n u (inr w) = (let y : n < m = w.most in absurd (omega arith))
 
-new_then : (g f m t : ℕ) (x y : List Accepted) (a b c : Report) (s r : List Step) (l : Link) → m ≤ t → IsNew f m x g a b s l → (l.number < m → KeepsPeer b c l.number) → IsNew f t (x ++ y) g a c (s ++ r) l
+new_then : (g f m t : ℕ) (x y : List Accepted) (a b c : Report) (s r : List Step) (l : Link) → m ≤ t → IsNew f m x g a b s l → (l.number < m → KeepsConnection b c l.number) → IsNew f t (x ++ y) g a c (s ++ r) l
 new_then g f m t x y a b c s r l v n k =
     let u : l.number < m = n.most in
     record { least = n.least; most = omega arith; answered = one_left x y _ n.answered; opened = opened_left l.id s r n.opened; fresh = n.fresh; kept = kept_then a b c l.number n.kept (k u) }
 
-then_new : (g k f m t : ℕ) (x y : List Accepted) (a b c : Report) (s r : List Step) (l : Link) → g ≤ k → f ≤ m → KeepsPeer a b l.number ⊎ IsRejected f m x a b l.number → IsNew m t y k b c r l → IsNew f t (x ++ y) g a c (s ++ r) l
+then_new : (g k f m t : ℕ) (x y : List Accepted) (a b c : Report) (s r : List Step) (l : Link) → g ≤ k → f ≤ m → KeepsConnection a b l.number ⊎ IsRejected f m x a b l.number → IsNew m t y k b c r l → IsNew f t (x ++ y) g a c (s ++ r) l
 then_new g k f m t x y a b c s r l w u e n =
     let v : m ≤ l.number = n.least in
     let z : k ≤ l.id.generation = n.fresh in
     record { least = omega arith; most = n.most; answered = one_right x y _ n.answered; opened = opened_right l.id s r n.opened; fresh = omega arith; kept = kept_then a b c l.number (kept_before f m x a b l.number v e) n.kept }
 
-are_then : (ls : List Link) (g f m t : ℕ) (x y : List Accepted) (a b c : Report) (s r : List Step) (l : Link) → m ≤ t → IsAmong ls l ⊎ IsNew f m x g a b s l → (l.number < m → KeepsPeer b c l.number) → IsAmong ls l ⊎ IsNew f t (x ++ y) g a c (s ++ r) l
+are_then : (ls : List Link) (g f m t : ℕ) (x y : List Accepted) (a b c : Report) (s r : List Step) (l : Link) → m ≤ t → IsAmong ls l ⊎ IsNew f m x g a b s l → (l.number < m → KeepsConnection b c l.number) → IsAmong ls l ⊎ IsNew f t (x ++ y) g a c (s ++ r) l
 are_then ls g f m t x y a b c s r l v (inl old) k = inl old
 are_then ls g f m t x y a b c s r l v (inr n) k = inr (new_then g f m t x y a b c s r l v n k)
 

@@ -6,7 +6,7 @@ use Rattle.host_core.specs.Events.{Event}
 use Rattle.wires.specs.Asked.{Call}
 use Rattle.wires.specs.Moves.{AllMove, IsEmptied}
 use Rattle.wires.proofs.Asked.{asks_none}
-use Rattle.wires.proofs.Peers.{kept_same}
+use Rattle.wires.proofs.Reported.{kept_same}
 use Rattle.socket_loop.specs.declared.connection.Connection.{Connection}
 use Rattle.socket_loop.specs.Scenes.{Scene}
 use Rattle.socket_loop.specs.Calls.{IsVisit}

@@ -16,11 +16,11 @@ use Rattle.host_core.proofs.OneSession.{kept, gone, IsGone as IsOut}
 use Rattle.host_core.proofs.Overs.{kept_over, over_more, over_none}
 use Rattle.socket_loop.specs.declared.connection.Link.{Link}
 use Rattle.socket_loop.specs.declared.connection.Connection.{Connection}
-use Rattle.wires.specs.Report.{Report, KeepsPeer}
+use Rattle.wires.specs.Report.{Report, KeepsConnection}
 use Rattle.socket_loop.specs.Links.{IsAmong, IsStrange}
 use Rattle.socket_loop.specs.Parts.{Carried, LeavesAlone}
 use Rattle.socket_loop.specs.Turns.{Served}
-use Rattle.wires.proofs.Peers.{Consumes-none, Appends-none}
+use Rattle.wires.proofs.Reported.{Consumes-none, Appends-none}
 use Rattle.socket_loop.proofs.Parts.{lost_order}
 use Rattle.socket_loop.proofs.Turning.{not_lost}
 
@@ -75,7 +75,7 @@ served_on owes marks bound a b c h m steps l lt r s k =
     served_then owes a b c h m l.number l.id steps k.lost lt r s k.consumed k.appended (λ some. not_lost m l.id k.lost k.whole some)
 
 -- it was not met
-abbrev pub served_aside : (owes : List ℕ → List ℕ) (a b c : Report) (h m : HostState) (n : ℕ) (id : SessionId) (steps : List Step) → id.generation < h.slots.next → IsRun h steps m → Served owes a b n (find h.slots id) → LeavesAlone id steps → KeepsPeer b c n → Served owes a c n (find m.slots id)
+abbrev pub served_aside : (owes : List ℕ → List ℕ) (a b c : Report) (h m : HostState) (n : ℕ) (id : SessionId) (steps : List Step) → id.generation < h.slots.next → IsRun h steps m → Served owes a b n (find h.slots id) → LeavesAlone id steps → KeepsConnection b c n → Served owes a c n (find m.slots id)
 served_aside owes a b c h m n id steps lt r s alone k =
     served_then owes a b c h m n id steps [] lt r s (rw alone.stored (Consumes-none _ _ k.unread)) (rw alone.passed (Appends-none _ _ k.written)) (λ some. refl)
 

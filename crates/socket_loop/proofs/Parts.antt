@@ -15,11 +15,11 @@ use Rattle.host_core.proofs.Chains.{run-start}
 use Rattle.host_core.proofs.OneSession.{gone, IsGone as IsOut}
 use Rattle.socket_loop.specs.declared.connection.Link.{Link}
 use Rattle.socket_loop.specs.declared.connection.Connection.{Connection}
-use Rattle.wires.specs.Report.{Report, KeepsPeer, KeepsAll}
+use Rattle.wires.specs.Report.{Report, KeepsConnection, KeepsAll}
 use Rattle.socket_loop.specs.Links.{IsTied, IsApart, IsStrange, links_of}
 use Rattle.socket_loop.specs.Parts.{IsGone, closes, starves, Finished, Cause, IsSpared, IsShutDown, Carried, Carries, ServesLinks}
 use Rattle.wires.specs.Moves.{AllMove}
-use Rattle.wires.proofs.Peers.{stays_then, stays_raised, raised_rises, rises_raised, kept_same, kept_then, all_kept, moves_then, Consumes-none, Appends-none}
+use Rattle.wires.proofs.Reported.{stays_then, stays_raised, raised_rises, rises_raised, kept_same, kept_then, all_kept, moves_then, Consumes-none, Appends-none}
 use Rattle.socket_loop.proofs.Runs.{run-append, own-append, taken-append, own-works, taken-works, closes-works, closes_left, closes_right, closes_neither, starves_left, starves_right, starves_either, starves_neither, starves-works, alone_then, all_append, next_rises}
 
 -- ---- why a connection is shut
@@ -76,7 +76,7 @@ ends_then m n a b c h i j s t l x y r w (inr p) q =
 -- ---- one connection
 
 -- nothing of it happened
-pub carried_nothing : (m : List Connection) (n : ℕ) (a b : Report) (h i : HostState) (s : List Step) (l : Link) → own l.id s ≡ [] → taken l.id s ≡ [] → closes l.id s ≡ false → starves l.id s ≡ false → KeepsPeer a b l.number → Carried m n a h s b i l
+pub carried_nothing : (m : List Connection) (n : ℕ) (a b : Report) (h i : HostState) (s : List Step) (l : Link) → own l.id s ≡ [] → taken l.id s ≡ [] → closes l.id s ≡ false → starves l.id s ≡ false → KeepsConnection a b l.number → Carried m n a h s b i l
 carried_nothing m n a b h i s l o g e f k = record {
   lost = [];
   consumed = rw o (Consumes-none _ _ k.unread);

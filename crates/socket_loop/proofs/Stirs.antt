@@ -7,7 +7,7 @@ use Rattle.socket_loop.specs.declared.connection.Connection.{Connection}
 use Rattle.wires.specs.Report.{Report, KeepsAll}
 use Rattle.socket_loop.specs.Links.{links_of, IsAmong}
 use Rattle.wires.specs.Moves.{AllMove, Transfers}
-use Rattle.wires.proofs.Peers.{all_kept}
+use Rattle.wires.proofs.Reported.{all_kept}
 use Rattle.socket_loop.specs.Turns.{KeepsMade, EndsOrShuts, AllKeepMade, OneEndsOrShuts, Stirs, StirsHeld, IsQuiet, any_pending}
 use Rattle.wires.proofs.Transfers.{transfers_then, then_transfers}
 

@@ -16,7 +16,7 @@ use Rattle.host_core.specs.Headline.{EndsFrom}
 use Rattle.host_core.proofs.OneSession.{kept, opened_ends}
 use Rattle.socket_loop.specs.declared.connection.Link.{Link}
 use Rattle.socket_loop.specs.declared.connection.Connection.{Connection}
-use Rattle.wires.specs.Report.{Report, KeepsPeer}
+use Rattle.wires.specs.Report.{Report, KeepsConnection}
 use Rattle.socket_loop.specs.Links.{IsTied, IsAmong, IsApart, IsMarked, IsRising, links_of, reads_ended, unshut_of, was_shut}
 use Rattle.socket_loop.specs.Parts.{IsGone, closes, Carried, Carries, ServesLinks, IsInput, IsOutput, IsEnd, KeepsAllMarks, AddsNoMark, Grows}
 use Rattle.wires.specs.Moves.{IsEmptied, AllMove}
@@ -27,14 +27,14 @@ use Rattle.socket_loop.specs.Scenes.{Scene}
 use Rattle.socket_loop.specs.declared.tally.Tally.{Tally}
 use Rattle.socket_loop.specs.declared.tally.Arrivals.{Arrivals}
 use Rattle.socket_loop.specs.Tallies.{IsTally}
-use Rattle.wires.proofs.Peers.{kept_then, moves_then, emptied_move, raised_rises, rises_then, stays_rise}
+use Rattle.wires.proofs.Reported.{kept_then, moves_then, emptied_move, raised_rises, rises_then, stays_rise}
 use Rattle.socket_loop.proofs.Runs.{run-append, next_rises, opened_left, starves-admissions, closes-admissions, alone_then}
 use Rattle.socket_loop.proofs.Parts.{carried_nothing, carried_then, carries_then, carries_round}
 use Rattle.socket_loop.proofs.Marks.{marks_none, marks_then, marked_filter, remove_shut}
 use Rattle.socket_loop.proofs.Quiet.{either_false}
 use Rattle.socket_loop.proofs.Shutting.{ShutsAll}
 
-away_kept : (f t : ℕ) (x : List Accepted) (a b c : Report) (n : ℕ) → IsRejected f t x a b n → KeepsPeer b c n → IsRejected f t x a c n
+away_kept : (f t : ℕ) (x : List Accepted) (a b c : Report) (n : ℕ) → IsRejected f t x a b n → KeepsConnection b c n → IsRejected f t x a c n
 away_kept f t x a b c n w q = record {
   least = w.least;
   most = w.most;
@@ -48,11 +48,11 @@ away_kept f t x a b c n w q = record {
   failed = rises_then _ _ _ w.failed (stays_rise _ _ q.failed);
 }
 
-each_kept : (f t : ℕ) (x : List Accepted) (a b c : Report) (n : ℕ) → KeepsPeer a b n ⊎ IsRejected f t x a b n → KeepsPeer b c n → KeepsPeer a c n ⊎ IsRejected f t x a c n
+each_kept : (f t : ℕ) (x : List Accepted) (a b c : Report) (n : ℕ) → KeepsConnection a b n ⊎ IsRejected f t x a b n → KeepsConnection b c n → KeepsConnection a c n ⊎ IsRejected f t x a c n
 each_kept f t x a b c n (inl k) q = inl (kept_then a b c n k q)
 each_kept f t x a b c n (inr w) q = inr (away_kept f t x a b c n w q)
 
-met_keeps : (ls : List Link) (f t : ℕ) (x : List Accepted) (g : ℕ) (a b : Report) (h : HostState) (s : List Step) (l : Link) → Fits ls f h → ((n : ℕ) → n < f → KeepsPeer a b n) → IsAmong ls l ⊎ IsNew f t x g a b s l → KeepsPeer a b l.number
+met_keeps : (ls : List Link) (f t : ℕ) (x : List Accepted) (g : ℕ) (a b : Report) (h : HostState) (s : List Step) (l : Link) → Fits ls f h → ((n : ℕ) → n < f → KeepsConnection a b n) → IsAmong ls l ⊎ IsNew f t x g a b s l → KeepsConnection a b l.number
 met_keeps ls f t x g a b h s l fit k (inl old) = k l.number (fit l old).number
 met_keeps ls f t x g a b h s l fit k (inr new) = new.kept
 
@@ -193,7 +193,7 @@ turned slice p q r s w held accepted_ read_ written_ last f t a b c d e h i j k 
         let z : l.slots.next ≤ m.slots.next = next_rises l m shuts.steps shuts.carries.chain in
         omega arith
 
-    over_accounted : (x : Accepted) → ((n : ℕ) → IsApart (links_of accepted_) n → KeepsPeer b e n) → HasSession (links_of accepted_) x ⊎ (IsRejected f t some.accepts.accepted a b x.number × IsApart (links_of accepted_) x.number)
+    over_accounted : (x : Accepted) → ((n : ℕ) → IsApart (links_of accepted_) n → KeepsConnection b e n) → HasSession (links_of accepted_) x ⊎ (IsRejected f t some.accepts.accepted a b x.number × IsApart (links_of accepted_) x.number)
         → HasSession (links_of accepted_) x ⊎ IsRejected f t some.accepts.accepted a e x.number
     over_accounted x keep (inl met) = inl met
     over_accounted x keep (inr away) = inr (away_kept f t some.accepts.accepted a b e x.number away.0 (keep x.number away.1))

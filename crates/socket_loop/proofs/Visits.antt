@@ -24,11 +24,11 @@ use Rattle.socket_loop.specs.declared.connection.Link.{Link}
 use Rattle.socket_loop.specs.declared.connection.Connection.{Connection}
 use Rattle.wires.specs.declared.wire.Got.TheVariants.{Bytes}
 use Rattle.wires.specs.declared.wire.WireFault.{WireFault}
-use Rattle.wires.specs.Report.{Report, KeepsPeer, Stays, IsRaised, Reads, Writes, Shuts}
+use Rattle.wires.specs.Report.{Report, KeepsConnection, Stays, IsRaised, Reads, Writes, Shuts}
 use Rattle.socket_loop.specs.Links.{Ties, IsMarked, reads_ended}
 use Rattle.socket_loop.specs.Parts.{IsGone, IsClosing, AreAll, IsInput, IsOutput, IsEnd, closes, starves, Cause, Carried, ServesLinks, is_finished_with}
 use Rattle.wires.specs.Moves.{GaveBytes}
-use Rattle.wires.proofs.Peers.{kept_same, kept_then, moves_then, writes_move, shuts_move, gave_move, stays_rise, raised_rise, stays_raised, raised_rises, stays-refl, rises-refl, Consumes-none, Keeps-nothing, Appends-none}
+use Rattle.wires.proofs.Reported.{kept_same, kept_then, moves_then, writes_move, shuts_move, gave_move, stays_rise, raised_rise, stays_raised, raised_rises, stays-refl, rises-refl, Consumes-none, Keeps-nothing, Appends-none}
 use Rattle.socket_loop.proofs.Runs.{run-one, run-two, step_rises}
 use Rattle.socket_loop.proofs.Parts.{carried_nothing}
 
@@ -62,7 +62,7 @@ closes_this h id e = or_left (is_same_id h.id id) false (this_id h.id id e)
 closes_other : (h : Link) (id : SessionId) → (h.id ≡ id → ⊥) → (is_same_id h.id id || false) ≡ false
 closes_other h id f = ap (λ (b : Bool). b || false) (other_id h.id id f)
 
-gave_others : (a b : Report) (h : Link) (bytes : List ℕ) (x : ℕ) → GaveBytes a b h.number bytes → h.number ≢ x → KeepsPeer a b x
+gave_others : (a b : Report) (h : Link) (bytes : List ℕ) (x : ℕ) → GaveBytes a b h.number bytes → h.number ≢ x → KeepsConnection a b x
 gave_others a b h bytes x g apart = g.others x (λ e. apart (sym e))
 
 -- ---- reads
@@ -153,7 +153,7 @@ shut_ends m bound h a b c before after steps chunk l t g s closing whole fed why
             ends = inr (record { shut = f; closed = closing.this l.id id; cause = subst (λ (x : Link). Cause m a before steps c after x) (same_link h l same id) why });
           }
       | inr apart ↦
-          let kept : KeepsPeer a c l.number = kept_then a b c l.number (gave_others a b h chunk l.number g apart) (s.others l.number (λ e. apart (sym e))) in
+          let kept : KeepsConnection a c l.number = kept_then a b c l.number (gave_others a b h chunk l.number g apart) (s.others l.number (λ e. apart (sym e))) in
           carried_nothing m bound a c before after steps l (closing.no_own l.id) (closing.no_taken l.id) (closing.no_other l.id (λ e. apart (t.by_id e))) (closing.no_hunger l.id (λ e. apart (t.by_id e))) kept
     ]
 

@@ -11,7 +11,7 @@ use Rattle.host_core.specs.Made.{Step, own, taken, is_same_id}
 use Rattle.host_core.specs.Runs.{IsStep, IsRun}
 use Rattle.socket_loop.specs.declared.connection.Link.{Link}
 use Rattle.socket_loop.specs.declared.connection.Connection.{Connection}
-use Rattle.wires.specs.Report.{Report, KeepsPeer, Stays, IsRaised}
+use Rattle.wires.specs.Report.{Report, KeepsConnection, Stays, IsRaised}
 use Rattle.wires.specs.Moves.{AllMove, IsEmptied}
 use Rattle.socket_loop.specs.Links.{IsTied, IsApart, IsStrange, IsHeld, IsMarked, IsRising, links_of, reads_ended, was_shut}
 use Rattle.socket_loop.specs.Scenes.{Scene}
@@ -169,7 +169,7 @@ pub record Carries (marks : List Connection) (bound : ℕ) (links : List Link) (
   pub chain : IsRun before steps after
   pub carried : (link : Link) → IsTied links link
       → Carried marks bound old before steps new after link
-  pub others : (number : ℕ) → IsApart links number → KeepsPeer old new number
+  pub others : (number : ℕ) → IsApart links number → KeepsConnection old new number
   pub foreign : (id : SessionId) → IsStrange links id → LeavesAlone id steps
   pub all : AllMove old new
 

@@ -16,7 +16,7 @@ use Rattle.host_core.specs.Rounds.{IsRound, works, pending_ids}
 use Rattle.host_core.specs.Headline.{EndsFrom, IsPrefixOf}
 use Rattle.socket_loop.specs.declared.connection.Link.{Link}
 use Rattle.socket_loop.specs.declared.connection.Connection.{Connection}
-use Rattle.wires.specs.Report.{Report, KeepsPeer, KeepsOthers, KeepsAll, IsRaised, OnlyRises}
+use Rattle.wires.specs.Report.{Report, KeepsConnection, KeepsOthers, KeepsAll, IsRaised, OnlyRises}
 use Rattle.socket_loop.specs.Links.{AreOnce, IsTied, IsAmong, IsApart, IsStrange, IsMarked, links_of, reads_ended, unshut_of, was_shut}
 use Rattle.socket_loop.specs.Parts.{AreAll, IsAdmission, IsInput, IsOutput, IsEnd, Carried, IsGone, LeavesAlone, closes, is_finished}
 use Rattle.wires.specs.Moves.{AllMove, IsEmptied, Transfers}
@@ -121,7 +121,7 @@ pub record IsNew (from to : ℕ) (accepted : List Accepted) (next : ℕ) (old ne
   pub answered : IsOneOf accepted (record { number = link.number; outcome = Opened link.id })
   pub opened : is_opened link.id steps ≡ true
   pub fresh : next ≤ link.id.generation
-  pub kept : KeepsPeer old new link.number
+  pub kept : KeepsConnection old new link.number
 
 -- a connection that was accepted has a session, which was opened for it
 abbrev pub HasSession : List Link → Accepted → Type 0
@@ -141,8 +141,8 @@ pub record Accepts (links : List Link) (from : ℕ) (old : Report) (before : Hos
   pub accepted : List Accepted
   pub numbered : AreNumbered from accepted to
   pub answers : openings steps ≡ map (λ new. new.outcome) accepted
-  pub kept : (number : ℕ) → number < from → KeepsPeer old new number
-  pub each : (number : ℕ) → KeepsPeer old new number ⊎ IsRejected from to accepted old new number
+  pub kept : (number : ℕ) → number < from → KeepsConnection old new number
+  pub each : (number : ℕ) → KeepsConnection old new number ⊎ IsRejected from to accepted old new number
   pub all : AllMove old new
   pub accounted : Fits links from before → (new_one : Accepted) → IsOneOf accepted new_one
       → HasSession met new_one
@@ -266,7 +266,7 @@ pub record IsTurn (slice : ℕ) (moved : Bool) (before after : Scene) : Type 0 w
   pub carried : (link : Link) → IsAmong met link
       → Carried marks after.bound before.report before.host steps after.report after.host link
   pub others : (number : ℕ) → IsApart met number
-      → KeepsPeer before.report after.report number
+      → KeepsConnection before.report after.report number
       ⊎ IsRejected before.bound after.bound accepted before.report after.report number
   pub foreign : (id : SessionId) → id.generation < before.host.slots.next → IsStrange met id
       → LeavesAlone id steps

@@ -3,8 +3,8 @@ use Rattle.std.proofs.Common.{◌≡◌, ℕ, List, [], Option, Some, None, sym,
 use Rattle.std.proofs.lemmas.Bool.{cases_eq}
 use Rattle.std.specs.Io.KnownBytes.{Keeps, prepend_known}
 use Rattle.std.proofs.KnownBytes.{Keeps-refl}
-use Rattle.wires.specs.Report.{Report, KeepsAll, KeepsOthers, KeepsPeer, Shuts}
-use Rattle.wires.proofs.Peers.{kept_same, kept_then, raised_rise, raised_rises, stays_rise, stays_then}
+use Rattle.wires.specs.Report.{Report, KeepsAll, KeepsOthers, KeepsConnection, Shuts}
+use Rattle.wires.proofs.Reported.{kept_same, kept_then, raised_rise, raised_rises, stays_rise, stays_then}
 use Rattle.stream_wire.specs.declared.connection.Connection.{Connection}
 use Rattle.stream_wire.specs.Streams.{HasBack, IsToldShut, KeepsElse}
 use Rattle.stream_wire.specs.Held.{AreAlike, HoldsOthers, IsAlike, bytes_of, held, reported, unread_of, written_of}
@@ -71,7 +71,7 @@ module _ {S A : Type 0} where
       kept_then (reported r c t old) (reported r c t mid) (reported r c u new) n
       (alike_keeps r c t t old mid alike (kept_same t) n)
       (elim (cases_eq n number) [
-        | inl same ↦ subst (λ (m : ℕ). KeepsPeer (reported r c t mid) (reported r c u new) m) (sym same) (record {
+        | inl same ↦ subst (λ (m : ℕ). KeepsConnection (reported r c t mid) (reported r c u new) m) (sym same) (record {
           unread = at_start (λ a b. Keeps a b) (unread_of r) (t.unread number) (u.unread number) (held mid number) (held new number) q none some (subst (λ x. Keeps (t.unread number) (prepend_known x (r q.stream))) (sym nil) (keeps_nil (t.unread number) (r q.stream) out.0));
           written = at_start (λ a b. Keeps a b) (written_of c) (t.written number) (u.written number) (held mid number) (held new number) q none some out.1;
           shut = rest.shut;

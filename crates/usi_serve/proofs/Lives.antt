@@ -10,12 +10,12 @@ use Rattle.host_core.specs.Events.{Close}
 use Rattle.host_core.specs.Headline.{EndsFrom, OverFrom}
 use Rattle.socket_loop.specs.declared.connection.Link.{Link}
 use Rattle.wires.specs.declared.wire.WireFault.{WireFault}
-use Rattle.wires.specs.Report.{KeepsPeer}
+use Rattle.wires.specs.Report.{KeepsConnection}
 use Rattle.socket_loop.specs.Links.{Ties, IsAmong, IsApart, IsMarked, links_of, reads_ended, was_shut}
 use Rattle.socket_loop.specs.Turns.{FitsOne, Fits, IsTurn, IsRemoved, IsRejected, Joins, Served}
 use Rattle.socket_loop.proofs.Accepting.{apart_each, each_apart, fresh_tied, tied_of, ties_apart}
 use Rattle.socket_loop.proofs.Lives.{served_on, served_aside, then_ends, over_then, Keeps-Consumes, prefix_written, all_written, strange_each}
-use Rattle.wires.proofs.Peers.{kept_same, kept_then, all_kept, moves_then, emptied_move, move_emptied, rises_raised, Keeps-Appends, stays_raised, raised_rises, stays_rise}
+use Rattle.wires.proofs.Reported.{kept_same, kept_then, all_kept, moves_then, emptied_move, move_emptied, rises_raised, Keeps-Appends, stays_raised, raised_rises, stays_rise}
 use Rattle.socket_loop.proofs.Runs.{next_rises, opened_left}
 use Rattle.socket_loop.proofs.Parts.{some_lost}
 use Rattle.socket_loop.proofs.Turning.{not_lost}
@@ -202,7 +202,7 @@ kept_aside slice moved a b c t l p f (inr (inr g)) = inr (inr (record {
   closed = (gone b.host c.host l.id t.steps g.closed f.opened t.chain).none;
 }))
 
-answered_aside : (slice : ℕ) (moved : Bool) (a b c : Scene) (t : IsTurn slice moved b c) (duty : Duty) (l : Link) → IsApart t.met l.number → KeepsPeer b.report c.report l.number → IsAnswered duty a b l → IsAnswered duty a c l
+answered_aside : (slice : ℕ) (moved : Bool) (a b c : Scene) (t : IsTurn slice moved b c) (duty : Duty) (l : Link) → IsApart t.met l.number → KeepsConnection b.report c.report l.number → IsAnswered duty a b l → IsAnswered duty a c l
 answered_aside slice moved a b c t duty l p k x =
     let alone : LeavesAlone l.id t.steps = t.foreign l.id x.fits.opened (strange_each t.met l.id (λ j m. strange_met slice moved b c t j l x.fits p m (t.are j m))) in
     answered duty a c l
@@ -212,7 +212,7 @@ answered_aside slice moved a b c t duty l p k x =
     (kept_aside slice moved a b c t l p x.fits x.kept)
     (fits_kept slice moved b c t l x.fits)
 
-served_apart : (slice : ℕ) (moved : Bool) (a b c : Scene) (t : IsTurn slice moved b c) (l : Link) → IsApart t.met l.number → KeepsPeer b.report c.report l.number → IsServed a b l → IsServed a c l
+served_apart : (slice : ℕ) (moved : Bool) (a b c : Scene) (t : IsTurn slice moved b c) (l : Link) → IsApart t.met l.number → KeepsConnection b.report c.report l.number → IsServed a b l → IsServed a c l
 served_apart slice moved a b c t l p k (inl s) = inl (s.0, answered_aside slice moved a b c t (duty_of (find a.host.slots l.id)) l p k s.1)
 served_apart slice moved a b c t l p k (inr s) = inr (s.0, answered_aside slice moved a b c t new_duty l p k s.1)
 
@@ -244,7 +244,7 @@ rejected_now slice moved a b c t n le p w (inr h) =
     let v : b.bound ≤ n = w.least in
     absurd (omega arith)
 
-accounted_apart : (slice : ℕ) (moved : Bool) (a b c : Scene) (t : IsTurn slice moved b c) (n : ℕ) → IsApart t.met n → KeepsPeer b.report c.report n ⊎ IsRejected b.bound c.bound t.accepted b.report c.report n → IsAccountedFor a b n → IsAccountedFor a c n
+accounted_apart : (slice : ℕ) (moved : Bool) (a b c : Scene) (t : IsTurn slice moved b c) (n : ℕ) → IsApart t.met n → KeepsConnection b.report c.report n ⊎ IsRejected b.bound c.bound t.accepted b.report c.report n → IsAccountedFor a b n → IsAccountedFor a c n
 accounted_apart slice moved a b c t n p (inl k) (inl w) =
     let v : n < b.bound = w.most in
     let x : b.bound ≤ c.bound = t.rises in
@@ -265,7 +265,7 @@ accounted_apart slice moved a b c t n p (inr away) h =
     let v : b.bound ≤ n = away.least in
     absurd (omega arith)
 
-life_apart : (slice : ℕ) (moved : Bool) (a b c : Scene) (t : IsTurn slice moved b c) (n : ℕ) → a.bound ≤ b.bound → IsApart t.met n → KeepsPeer b.report c.report n ⊎ IsRejected b.bound c.bound t.accepted b.report c.report n → Life a b n → Life a c n
+life_apart : (slice : ℕ) (moved : Bool) (a b c : Scene) (t : IsTurn slice moved b c) (n : ℕ) → a.bound ≤ b.bound → IsApart t.met n → KeepsConnection b.report c.report n ⊎ IsRejected b.bound c.bound t.accepted b.report c.report n → Life a b n → Life a c n
 life_apart slice moved a b c t n le p (inl k) (inl u) = inl (record { kept = kept_then a.report b.report c.report n u.kept k; unheld = still_apart t.met (links_of c.held) n t.left p })
 life_apart slice moved a b c t n le p (inr w) (inl u) = inr (rejected_now slice moved a b c t n le p w (inl u))
 life_apart slice moved a b c t n le p q (inr h) = inr (accounted_apart slice moved a b c t n p q h)
@@ -379,7 +379,7 @@ new_ends slice moved a b c t l k lives new g none (inl spared) =
     absurd (not_none (find c.host.slots l.id) (opened_stays b.host c.host l.id t.steps t.chain spared.closed (opened_all slice moved b c t l new)) none)
 new_ends slice moved a b c t l k lives new g none (inr d) = new_cause slice moved a b c t l k lives new g d.cause
 
-new_answered : (slice : ℕ) (moved : Bool) (a b c : Scene) (t : IsTurn slice moved b c) (l : Link) → Lives a b → IsAmong t.met l → Joins b.bound c.bound t.accepted b.host.slots.next c.host.slots.next t.admissions l → KeepsPeer a.report b.report l.number → IsAnswered new_duty a c l
+new_answered : (slice : ℕ) (moved : Bool) (a b c : Scene) (t : IsTurn slice moved b c) (l : Link) → Lives a b → IsAmong t.met l → Joins b.bound c.bound t.accepted b.host.slots.next c.host.slots.next t.admissions l → KeepsConnection a.report b.report l.number → IsAnswered new_duty a c l
 new_answered slice moved a b c t l lives among new kept_ =
     let k : Carried t.marks c.bound b.report b.host t.steps c.report c.host l = t.carried l among in
     answered new_duty a c l
@@ -460,7 +460,7 @@ kept_wait a b c l w (inr (inr g)) = inr (inr (record { shut = raised_rises _ _ _
 answered_wait : {moved : Bool} {answer : Result (Unit {0}) WireFault} (a b c : Scene) (duty : Duty) (l : Link) → IsWait moved answer b c → IsAnswered duty a b l → IsAnswered duty a c l
 answered_wait a b c duty l w x =
     let s : Served duty.owes a.report b.report l.number (find b.host.slots l.id) = x.served in
-    let k : KeepsPeer b.report c.report l.number = w.report l.number in
+    let k : KeepsConnection b.report c.report l.number = w.report l.number in
     answered duty a c l
     (record {
       read = s.read;
@@ -482,7 +482,7 @@ served_wait a b c l w (inr s) = inr (s.0, answered_wait a b c new_duty l w s.1)
 
 accounted_wait : {moved : Bool} {answer : Result (Unit {0}) WireFault} (a b c : Scene) (n : ℕ) → IsWait moved answer b c → IsAccountedFor a b n → IsAccountedFor a c n
 accounted_wait a b c n w (inl x) =
-    let k : KeepsPeer b.report c.report n = w.report n in
+    let k : KeepsConnection b.report c.report n = w.report n in
     inl (record {
       least = x.least;
       most = rw w.bound x.most;

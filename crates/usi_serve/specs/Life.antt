@@ -9,7 +9,7 @@ use Rattle.host_core.specs.declared.event.HostFault.{HostFault}
 use Rattle.host_core.specs.ById.{queued_of, pending_of}
 use Rattle.host_core.specs.Headline.{IsPrefixOf, IsSettled, OverFrom, is_over_due}
 use Rattle.socket_loop.specs.declared.connection.Link.{Link}
-use Rattle.wires.specs.Report.{KeepsPeer, IsRaised}
+use Rattle.wires.specs.Report.{KeepsConnection, IsRaised}
 use Rattle.socket_loop.specs.Links.{links_of, reads_ended, was_shut, IsAmong, IsApart, IsMarked}
 use Rattle.wires.specs.Moves.{AllMove, IsEmptied}
 use Rattle.socket_loop.specs.Turns.{FitsOne, Served, rejection_text}
@@ -86,7 +86,7 @@ IsServed before after link =
 
 -- it was not held and is not, and all that is reported of it stays
 pub record IsUntouched (before after : Scene) (number : ℕ) : Type 0 where
-  pub kept : KeepsPeer before.report after.report number
+  pub kept : KeepsConnection before.report after.report number
   pub unheld : IsApart (links_of after.held) number
 
 -- it was accepted since, and rejected, as its `Open` was refused: it was read nothing from, written a prefix of `info string host full` where the host was full and else nothing, and shut

@@ -1,4 +1,4 @@
 pub mod Asked
 pub mod Chunks
-pub mod Peers
+pub mod Reported
 pub mod Transfers

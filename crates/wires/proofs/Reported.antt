@@ -6,7 +6,7 @@ use Rattle.std.specs.Io.KnownBytes.{Keeps, Appends, Consumes}
 use Rattle.std.proofs.KnownBytes.{Keeps-refl, Keeps-trans, Appends-trans, Consumes-trans}
 use Rattle.wires.specs.declared.wire.Got.TheVariants.{Nothing, Ended}
 use Rattle.wires.specs.declared.wire.WireFault.{WireFault}
-use Rattle.wires.specs.Report.{Report, Stays, IsRaised, OnlyRises, KeepsPeer, KeepsAll, KeepsOthers, ReportsFailure, Reads, Writes, Shuts, bytes_written}
+use Rattle.wires.specs.Report.{Report, Stays, IsRaised, OnlyRises, KeepsConnection, KeepsAll, KeepsOthers, ReportsFailure, Reads, Writes, Shuts, bytes_written}
 use Rattle.wires.specs.Moves.{Moves, AllMove, GaveBytes, IsEmptied}
 
 -- ---- flags
@@ -87,10 +87,10 @@ Keeps-Appends (Some x) (Some y) (Some z) bs p q = q ∙ ap (λ l. l ++ bs) p
 
 -- ---- all that is reported of a connection
 
-pub kept_same : (a : Report) (n : ℕ) → KeepsPeer a a n
+pub kept_same : (a : Report) (n : ℕ) → KeepsConnection a a n
 kept_same a n = record { unread = Keeps-refl _; written = Keeps-refl _; shut = stays-refl _; failed = stays-refl _ }
 
-pub kept_then : (a b c : Report) (n : ℕ) → KeepsPeer a b n → KeepsPeer b c n → KeepsPeer a c n
+pub kept_then : (a b c : Report) (n : ℕ) → KeepsConnection a b n → KeepsConnection b c n → KeepsConnection a c n
 kept_then a b c n p q = record {
   unread = Keeps-trans _ _ _ p.unread q.unread;
   written = Keeps-trans _ _ _ p.written q.written;
@@ -98,7 +98,7 @@ kept_then a b c n p q = record {
   failed = stays_then _ _ _ p.failed q.failed;
 }
 
-kept_each : (a b : Report) (number : ℕ) → KeepsPeer a b number → KeepsOthers a b number → KeepsAll a b
+kept_each : (a b : Report) (number : ℕ) → KeepsConnection a b number → KeepsOthers a b number → KeepsAll a b
 kept_each a b number k o n =
     elim (cases_eq n number) [
       | inl same ↦ rw same k
@@ -113,7 +113,7 @@ ended_keeps a b number buf r = kept_each a b number (record { unread = Keeps-non
 
 -- ---- what moves
 
-pub kept_move : (a b : Report) (n : ℕ) → KeepsPeer a b n → Moves a b n
+pub kept_move : (a b : Report) (n : ℕ) → KeepsConnection a b n → Moves a b n
 kept_move a b n k = record {
   gave = [];
   unread = Consumes-none _ _ k.unread;

@@ -37,7 +37,7 @@ OnlyRises (Some true) (Some now) = now ≡ true
 OnlyRises (Some false) (Some now) = ⊤
 
 -- what is reported of a connection stays
-pub record KeepsPeer (old new : Report) (number : ℕ) : Type 0 where
+pub record KeepsConnection (old new : Report) (number : ℕ) : Type 0 where
   pub unread : Keeps (old.unread number) (new.unread number)
   pub written : Keeps (old.written number) (new.written number)
   pub shut : Stays (old.is_shut number) (new.is_shut number)
@@ -45,10 +45,10 @@ pub record KeepsPeer (old new : Report) (number : ℕ) : Type 0 where
 
 -- what is reported of every connection stays
 abbrev pub KeepsAll : Report → Report → Type 0
-KeepsAll old new = (number : ℕ) → KeepsPeer old new number
+KeepsAll old new = (number : ℕ) → KeepsConnection old new number
 
 abbrev pub KeepsOthers : Report → Report → ℕ → Type 0
-KeepsOthers old new number = (other : ℕ) → other ≢ number → KeepsPeer old new other
+KeepsOthers old new number = (other : ℕ) → other ≢ number → KeepsConnection old new other
 
 -- a call that failed is reported of its connection
 abbrev pub ReportsFailure : {T : Type 0} → Result T WireFault → Option Bool → Option Bool → Type 0

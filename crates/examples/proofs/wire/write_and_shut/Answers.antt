@@ -2,7 +2,7 @@ use Rattle.std.proofs.Common.{[], ◌∷◌}
 use Rattle.std.proofs.KnownBytes.{Appends-kept}
 use Rattle.wires.specs.Asked.{Write, Shut}
 use Rattle.wires.proofs.Asked.{asks_then}
-use Rattle.wires.proofs.Peers.{stays_raised}
+use Rattle.wires.proofs.Reported.{stays_raised}
 use Rattle.examples.proofs.wire.write_and_shut.Goals as goal
 
 pub returns-clause-asked : goal.returns-clause-asked

@@ -1,5 +1,5 @@
 use Rattle.std.proofs.Common.{true, rules, arith, inl, refl}
-use Rattle.wires.proofs.Peers.{nothing_keeps, ended_keeps}
+use Rattle.wires.proofs.Reported.{nothing_keeps, ended_keeps}
 use Rattle.socket_loop.proofs.Parts.{serves_same, serves_wire}
 use Rattle.socket_loop.proofs.Visits.{read_fault, serves_fault, shut_after}
 use Rattle.wires.proofs.Transfers.{read_shorter}

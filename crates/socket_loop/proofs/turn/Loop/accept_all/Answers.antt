@@ -5,7 +5,7 @@ use Rattle.socket_loop.specs.Links.{links_of}
 use Rattle.socket_loop.proofs.Accepting.{some_start, some_stop, some_full, some_more, number_rises}
 use Rattle.socket_loop.proofs.Few.{few_met}
 use Rattle.socket_loop.proofs.Marks.{more_same, more_then}
-use Rattle.wires.proofs.Peers.{kept_same}
+use Rattle.wires.proofs.Reported.{kept_same}
 use Rattle.socket_loop.proofs.Quiet.{quiet_stop}
 use Rattle.socket_loop.proofs.turn.Loop.accept_all.Goals as goal
 

@@ -1,4 +1,4 @@
-use Rattle.wires.proofs.Peers.{kept_then}
+use Rattle.wires.proofs.Reported.{kept_then}
 use Rattle.stream_wire.specs.Held.{reported}
 use Rattle.stream_wire.proofs.Asked.{asked_next}
 use Rattle.stream_wire.proofs.Reports.{alike_keeps}
