@@ -17,7 +17,7 @@ use Rattle.socket_loop.specs.declared.connection.Link.{Link}
 use Rattle.socket_loop.specs.declared.connection.Connection.{Connection}
 use Rattle.wires.specs.Report.{Report, KeepsConnection, KeepsAll}
 use Rattle.socket_loop.specs.Links.{IsTied, IsApart, IsStrange, links_of}
-use Rattle.socket_loop.specs.Parts.{IsGone, closes, starves, Finished, Cause, IsSpared, IsShutDown, Carried, Carries, ServesLinks}
+use Rattle.socket_loop.specs.Parts.{IsGone, closes, starves, Finished, Cause, IsSpared, IsShutDown, Carried, Carries, CarriesBy}
 use Rattle.wires.specs.Moves.{AllMove}
 use Rattle.wires.proofs.Reported.{stays_then, stays_raised, raised_rises, rises_raised, kept_same, kept_then, all_kept, moves_then, Consumes-none, Appends-none}
 use Rattle.socket_loop.proofs.Runs.{run-append, own-append, taken-append, own-works, taken-works, closes-works, closes_left, closes_right, closes_neither, starves_left, starves_right, starves_either, starves_neither, starves-works, alone_then, all_append, next_rises}
@@ -179,32 +179,32 @@ carries_at m n ls i d s a b h j lt w = record {
   all = w.all;
 }
 
-pub serves_then : (kind : Event → Type 0) (m : List Connection) (n : ℕ) (ls : List Link) (a b c : Report) (h i j : HostState) → ServesLinks kind m n ls a h b i → ServesLinks kind m n ls b i c j → ServesLinks kind m n ls a h c j
-serves_then kind m n ls a b c h i j p q = record {
+pub carries_by_then : (kind : Event → Type 0) (m : List Connection) (n : ℕ) (ls : List Link) (a b c : Report) (h i j : HostState) → CarriesBy kind m n ls a h b i → CarriesBy kind m n ls b i c j → CarriesBy kind m n ls a h c j
+carries_by_then kind m n ls a b c h i j p q = record {
   steps = p.steps ++ q.steps;
   kinds = all_append kind p.steps q.steps p.kinds q.kinds;
   carries = carries_then m n ls p.steps q.steps a b c h i j p.carries q.carries;
 }
 
-serves_at : (kind : Event → Type 0) (m : List Connection) (n : ℕ) (ls : List Link) (i : ℕ) (d : Link) (a b : Report) (h j : HostState) → i < length ls → ServesLinks kind m n (get_or ls i d ∷ []) a h b j → ServesLinks kind m n ls a h b j
-serves_at kind m n ls i d a b h j lt s = record { steps = s.steps; kinds = s.kinds; carries = carries_at m n ls i d s.steps a b h j lt s.carries }
+carries_by_at : (kind : Event → Type 0) (m : List Connection) (n : ℕ) (ls : List Link) (i : ℕ) (d : Link) (a b : Report) (h j : HostState) → i < length ls → CarriesBy kind m n (get_or ls i d ∷ []) a h b j → CarriesBy kind m n ls a h b j
+carries_by_at kind m n ls i d a b h j lt s = record { steps = s.steps; kinds = s.kinds; carries = carries_at m n ls i d s.steps a b h j lt s.carries }
 
-pub serves_wire : (kind : Event → Type 0) (m : List Connection) (n : ℕ) (ls : List Link) (a b : Report) (h : HostState) → KeepsAll a b → ServesLinks kind m n ls a h b h
-serves_wire kind m n ls a b h k = record { steps = []; kinds = tt; carries = carries_quiet m n ls [] a b h h (run-start h) k (λ id. refl) (λ id. refl) (λ id. refl) (λ id. refl) }
+pub carries_by_wire : (kind : Event → Type 0) (m : List Connection) (n : ℕ) (ls : List Link) (a b : Report) (h : HostState) → KeepsAll a b → CarriesBy kind m n ls a h b h
+carries_by_wire kind m n ls a b h k = record { steps = []; kinds = tt; carries = carries_quiet m n ls [] a b h h (run-start h) k (λ id. refl) (λ id. refl) (λ id. refl) (λ id. refl) }
 
-pub serves_same : (kind : Event → Type 0) (m : List Connection) (n : ℕ) (ls : List Link) (a : Report) (h : HostState) → ServesLinks kind m n ls a h a h
-serves_same kind m n ls a h = serves_wire kind m n ls a a h (kept_same a)
+pub carries_by_same : (kind : Event → Type 0) (m : List Connection) (n : ℕ) (ls : List Link) (a : Report) (h : HostState) → CarriesBy kind m n ls a h a h
+carries_by_same kind m n ls a h = carries_by_wire kind m n ls a a h (kept_same a)
 
 links_at : (items : List Connection) (i : ℕ) (d : Connection) (e : Link) → i < length items → get_or (links_of items) i e ≡ (get_or items i d).link
 links_at items i d e lt = get_or-map (λ (c : Connection). c.link) items i d e lt
 
--- the connection at an index was served
-pub serves_next : (kind : Event → Type 0) (m : List Connection) (n : ℕ) (items : List Connection) (ls : List Link) (i : ℕ) (d : Connection) (a b c : Report) (h j k : HostState) → i < length items → links_of items ≡ ls → ServesLinks kind m n ls a h b j → ServesLinks kind m n ((get_or items i d).link ∷ []) b j c k → ServesLinks kind m n ls a h c k
-serves_next kind m n items ls i d a b c h j k lt e s t =
+-- the bytes of the connection at an index were carried
+pub carries_by_next : (kind : Event → Type 0) (m : List Connection) (n : ℕ) (items : List Connection) (ls : List Link) (i : ℕ) (d : Connection) (a b c : Report) (h j k : HostState) → i < length items → links_of items ≡ ls → CarriesBy kind m n ls a h b j → CarriesBy kind m n ((get_or items i d).link ∷ []) b j c k → CarriesBy kind m n ls a h c k
+carries_by_next kind m n items ls i d a b c h j k lt e s t =
     let e_ : Link = d.link in
-    let at : ServesLinks kind m n (get_or (links_of items) i e_ ∷ []) b j c k = subst (λ (x : Link). ServesLinks kind m n (x ∷ []) b j c k) (sym (links_at items i d e_ lt)) t in
-    let one : ServesLinks kind m n (links_of items) b j c k = serves_at kind m n (links_of items) i e_ b c j k (omega (arith, length-map items (λ (x : Connection). x.link))) at in
-    serves_then kind m n ls a b c h j k s (rw e at one)
+    let at : CarriesBy kind m n (get_or (links_of items) i e_ ∷ []) b j c k = subst (λ (x : Link). CarriesBy kind m n (x ∷ []) b j c k) (sym (links_at items i d e_ lt)) t in
+    let one : CarriesBy kind m n (links_of items) b j c k = carries_by_at kind m n (links_of items) i e_ b c j k (omega (arith, length-map items (λ (x : Connection). x.link))) at in
+    carries_by_then kind m n ls a b c h j k s (rw e at one)
 
 pub links_set : (items : List Connection) (i : ℕ) (d y : Connection) → y.link ≡ (get_or items i d).link → links_of (set items i y) ≡ links_of items
 links_set items i d y e = map-set_same (λ (x : Connection). x.link) items i y d e

@@ -18,7 +18,7 @@ use Rattle.socket_loop.specs.declared.connection.Link.{Link}
 use Rattle.socket_loop.specs.declared.connection.Connection.{Connection}
 use Rattle.wires.specs.Report.{Report, KeepsConnection}
 use Rattle.socket_loop.specs.Links.{IsTied, IsAmong, IsApart, IsMarked, IsRising, links_of, reads_ended, unshut_of, was_shut}
-use Rattle.socket_loop.specs.Parts.{IsGone, closes, Carried, Carries, ServesLinks, IsInput, IsOutput, IsEnd, KeepsAllMarks, AddsNoMark, Grows}
+use Rattle.socket_loop.specs.Parts.{IsGone, closes, Carried, Carries, CarriesBy, IsInput, IsOutput, IsEnd, KeepsAllMarks, AddsNoMark, Grows}
 use Rattle.wires.specs.Moves.{IsEmptied, AllMove}
 use Rattle.wires.specs.Asked.{Call}
 use Rattle.socket_loop.specs.Calls.{AllAccepted, AsksAll, AsksEach, AsksTurn, Turns, reads_of, writes_of, ends_of}
@@ -112,10 +112,10 @@ starts_one ls f t x g marks a b h m first steps l r c up (inr new) = inr (served
 -- accept, read, work, write, shut
 turned : (slice : ℕ) (p : Arrivals) (q r s w : Bool) (held accepted_ read_ written_ last : List Connection) (f t : ℕ) (a b c d e : Report) (h i j k l m : HostState) (worked refused : ℕ) (calls asked_calls last_calls : Option (List Call)) (u v : ℕ) → Fits (links_of held) f h
     → AllAccepted p (links_of held) f a h (links_of accepted_) t b i calls asked_calls → ((n : ℕ) → AddsNoMark held accepted_ n)
-    → ServesLinks IsInput written_ t (links_of accepted_) b i c j → KeepsAllMarks t b accepted_ c read_
+    → CarriesBy IsInput written_ t (links_of accepted_) b i c j → KeepsAllMarks t b accepted_ c read_
     → IsRound j slice (pending_ids j) worked refused k
-    → ServesLinks IsOutput written_ t (links_of accepted_) c k d l → KeepsAllMarks t c read_ d written_
-    → ServesLinks IsEnd written_ t (links_of accepted_) d l e m → KeepsAllMarks t d written_ e last → ((n : ℕ) → IsMarked reads_ended last n → IsMarked reads_ended written_ n)
+    → CarriesBy IsOutput written_ t (links_of accepted_) c k d l → KeepsAllMarks t c read_ d written_
+    → CarriesBy IsEnd written_ t (links_of accepted_) d l e m → KeepsAllMarks t d written_ e last → ((n : ℕ) → IsMarked reads_ended last n → IsMarked reads_ended written_ n)
     → links_of last ≡ links_of accepted_ → ShutsAll held accepted_ last m → IsTurn slice ((((p.moved || q) || r) || s) || w)
     (record { held = held; bound = f; report = a; asked = calls; failed = u; host = h })
     (record { held = filter (λ x. not x.is_shut) last; bound = t; report = e; asked = last_calls; failed = v; host = m })
@@ -215,10 +215,10 @@ pub record TurnWith (slice : ℕ) (moved : Bool) (before after : Scene) (admissi
 
 pub turn_with : (slice : ℕ) (p : Arrivals) (q r s w : Bool) (held accepted_ read_ written_ last : List Connection) (f t : ℕ) (a b c d e : Report) (h i j k l m : HostState) (worked refused : ℕ) (calls asked_calls last_calls : Option (List Call)) (u v : ℕ) → Fits (links_of held) f h
     → (x : AllAccepted p (links_of held) f a h (links_of accepted_) t b i calls asked_calls) → ((n : ℕ) → AddsNoMark held accepted_ n)
-    → ServesLinks IsInput written_ t (links_of accepted_) b i c j → KeepsAllMarks t b accepted_ c read_
+    → CarriesBy IsInput written_ t (links_of accepted_) b i c j → KeepsAllMarks t b accepted_ c read_
     → IsRound j slice (pending_ids j) worked refused k
-    → ServesLinks IsOutput written_ t (links_of accepted_) c k d l → KeepsAllMarks t c read_ d written_
-    → ServesLinks IsEnd written_ t (links_of accepted_) d l e m → KeepsAllMarks t d written_ e last → ((n : ℕ) → IsMarked reads_ended last n → IsMarked reads_ended written_ n)
+    → CarriesBy IsOutput written_ t (links_of accepted_) c k d l → KeepsAllMarks t c read_ d written_
+    → CarriesBy IsEnd written_ t (links_of accepted_) d l e m → KeepsAllMarks t d written_ e last → ((n : ℕ) → IsMarked reads_ended last n → IsMarked reads_ended written_ n)
     → links_of last ≡ links_of accepted_ → ShutsAll held accepted_ last m → TurnWith slice ((((p.moved || q) || r) || s) || w)
     (record { held = held; bound = f; report = a; asked = calls; failed = u; host = h })
     (record { held = filter (λ x. not x.is_shut) last; bound = t; report = e; asked = last_calls; failed = v; host = m })
@@ -283,5 +283,5 @@ fits_left p held t h i rises fit = λ l m.
 pub turn_fits : (held met last : List Connection) (f t : ℕ) (a b : Report) (h i m : HostState) → Fits (links_of held) f h → Accepts (links_of held) f a h (links_of met) t b i → i.slots.next ≤ m.slots.next → links_of last ≡ links_of met → Fits (links_of (filter (λ x. not x.is_shut) last)) t m
 turn_fits held met last f t a b h i m fit accepts rises same = fits_left (λ x. not x.is_shut) last t i m rises (rw same (accepts.fits fit))
 
-pub serves_rises : (kind : Event → Type 0) (marks : List Connection) (bound : ℕ) (ls : List Link) (a b : Report) (h i : HostState) → ServesLinks kind marks bound ls a h b i → h.slots.next ≤ i.slots.next
-serves_rises kind marks bound ls a b h i s = next_rises h i s.steps s.carries.chain
+pub carries_by_rises : (kind : Event → Type 0) (marks : List Connection) (bound : ℕ) (ls : List Link) (a b : Report) (h i : HostState) → CarriesBy kind marks bound ls a h b i → h.slots.next ≤ i.slots.next
+carries_by_rises kind marks bound ls a b h i s = next_rises h i s.steps s.carries.chain

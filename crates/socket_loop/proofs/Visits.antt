@@ -26,7 +26,7 @@ use Rattle.wires.specs.declared.wire.Got.TheVariants.{Bytes}
 use Rattle.wires.specs.declared.wire.WireFault.{WireFault}
 use Rattle.wires.specs.Report.{Report, KeepsConnection, Stays, IsRaised, Reads, Writes, Shuts}
 use Rattle.socket_loop.specs.Links.{Ties, IsMarked, reads_ended}
-use Rattle.socket_loop.specs.Parts.{IsGone, IsClosing, AreAll, IsInput, IsOutput, IsEnd, closes, starves, Cause, Carried, ServesLinks, is_finished_with}
+use Rattle.socket_loop.specs.Parts.{IsGone, IsClosing, AreAll, IsInput, IsOutput, IsEnd, closes, starves, Cause, Carried, CarriesBy, is_finished_with}
 use Rattle.wires.specs.Moves.{GaveBytes}
 use Rattle.wires.proofs.Reported.{kept_same, kept_then, moves_then, writes_move, shuts_move, gave_move, stays_rise, raised_rise, stays_raised, raised_rises, stays-refl, rises-refl, Consumes-none, Keeps-nothing, Appends-none}
 use Rattle.socket_loop.proofs.Runs.{run-one, run-two, step_rises}
@@ -104,8 +104,8 @@ carried_fed m bound h a b before after chunk l t g none =
     ]
 
 -- what was read was stored
-pub serves_fed : (m : List Connection) (bound : ℕ) (h : Link) (a b : Report) (before after : HostState) (chunk : List ℕ) (o : Outcome) → is_done o ≡ true → GaveBytes a b h.number chunk → Stays (a.has_failed h.number) (b.has_failed h.number) → IsStep before (record { event = Feed h.id chunk; outcome = o }) after → ServesLinks IsInput m bound (h ∷ []) a before b after
-serves_fed m bound h a b before after chunk Done e g none s = record {
+pub carries_by_fed : (m : List Connection) (bound : ℕ) (h : Link) (a b : Report) (before after : HostState) (chunk : List ℕ) (o : Outcome) → is_done o ≡ true → GaveBytes a b h.number chunk → Stays (a.has_failed h.number) (b.has_failed h.number) → IsStep before (record { event = Feed h.id chunk; outcome = o }) after → CarriesBy IsInput m bound (h ∷ []) a before b after
+carries_by_fed m bound h a b before after chunk Done e g none s = record {
   steps = record { event = Feed h.id chunk; outcome = Done } ∷ [];
   kinds = (tt, tt);
   carries = record {
@@ -116,10 +116,10 @@ serves_fed m bound h a b before after chunk Done e g none s = record {
     all = gave_move a b h.number chunk g;
   };
 }
-serves_fed m bound h a b before after chunk (Opened id) e g none s = absurd (cc)
-serves_fed m bound h a b before after chunk (Worked n) e g none s = absurd (cc)
-serves_fed m bound h a b before after chunk (Gave bytes) e g none s = absurd (cc)
-serves_fed m bound h a b before after chunk (Refused fault) e g none s = absurd (cc)
+carries_by_fed m bound h a b before after chunk (Opened id) e g none s = absurd (cc)
+carries_by_fed m bound h a b before after chunk (Worked n) e g none s = absurd (cc)
+carries_by_fed m bound h a b before after chunk (Gave bytes) e g none s = absurd (cc)
+carries_by_fed m bound h a b before after chunk (Refused fault) e g none s = absurd (cc)
 
 -- ---- shutting
 
@@ -157,8 +157,8 @@ shut_ends m bound h a b c before after steps chunk l t g s closing whole fed why
           carried_nothing m bound a c before after steps l (closing.no_own l.id) (closing.no_taken l.id) (closing.no_other l.id (λ e. apart (t.by_id e))) (closing.no_hunger l.id (λ e. apart (t.by_id e))) kept
     ]
 
-serves_closing : (kind : Event → Type 0) (m : List Connection) (bound : ℕ) (h : Link) (a b c : Report) (before after : HostState) (steps : List Step) (chunk : List ℕ) → AreAll kind steps → IsRun before steps after → GaveBytes a b h.number chunk → Shuts bound b c h.number → Closing h.id steps → (chunk ≡ []) ⊎ (IsGone after h.id × (starves h.id steps ≡ true)) → (starves h.id steps ≡ true → chunk ≢ []) → Cause m a before steps c after h → ServesLinks kind m bound (h ∷ []) a before c after
-serves_closing kind m bound h a b c before after steps chunk kinds chain g s closing whole fed why = record {
+carries_by_closing : (kind : Event → Type 0) (m : List Connection) (bound : ℕ) (h : Link) (a b c : Report) (before after : HostState) (steps : List Step) (chunk : List ℕ) → AreAll kind steps → IsRun before steps after → GaveBytes a b h.number chunk → Shuts bound b c h.number → Closing h.id steps → (chunk ≡ []) ⊎ (IsGone after h.id × (starves h.id steps ≡ true)) → (starves h.id steps ≡ true → chunk ≢ []) → Cause m a before steps c after h → CarriesBy kind m bound (h ∷ []) a before c after
+carries_by_closing kind m bound h a b c before after steps chunk kinds chain g s closing whole fed why = record {
   steps = steps;
   kinds = kinds;
   carries = record {
@@ -177,14 +177,14 @@ failed_through : (a b c : Report) (bound : ℕ) (number : ℕ) → IsRaised (a.h
 failed_through a b c bound number e s = raised_rises _ _ _ e (stays_rise _ _ s.failed)
 
 -- a read or a write failed, and the connection was shut
-pub serves_fault : (kind : Event → Type 0) (m : List Connection) (bound : ℕ) (h : Link) (a b c : Report) (before after : HostState) → kind (Close h.id) → GaveBytes a b h.number [] → IsRaised (a.has_failed h.number) (b.has_failed h.number) → Shuts bound b c h.number → IsClosing before h.id after → ServesLinks kind m bound (h ∷ []) a before c after
-serves_fault kind m bound h a b c before after can g e s close =
-    serves_closing kind m bound h a b c before after (record { event = Close h.id; outcome = close.outcome } ∷ []) [] (can, tt) (run-one before after _ close.step) g s (closing_alone h close.outcome) (inl refl) (λ e. absurd (cc)) (inl (failed_through a b c bound h.number e s))
+pub carries_by_fault : (kind : Event → Type 0) (m : List Connection) (bound : ℕ) (h : Link) (a b c : Report) (before after : HostState) → kind (Close h.id) → GaveBytes a b h.number [] → IsRaised (a.has_failed h.number) (b.has_failed h.number) → Shuts bound b c h.number → IsClosing before h.id after → CarriesBy kind m bound (h ∷ []) a before c after
+carries_by_fault kind m bound h a b c before after can g e s close =
+    carries_by_closing kind m bound h a b c before after (record { event = Close h.id; outcome = close.outcome } ∷ []) [] (can, tt) (run-one before after _ close.step) g s (closing_alone h close.outcome) (inl refl) (λ e. absurd (cc)) (inl (failed_through a b c bound h.number e s))
 
 -- it was finished with, and the connection was shut
-pub serves_finished : (m : List Connection) (bound : ℕ) (h : Link) (a c : Report) (before after : HostState) (has_ended : Bool) → (has_ended ≡ true → IsMarked reads_ended m h.number) → is_finished_with has_ended (find before.slots h.id) ≡ true → Shuts bound a c h.number → IsClosing before h.id after → ServesLinks IsEnd m bound (h ∷ []) a before c after
-serves_finished m bound h a c before after has_ended marked finished s close =
-    serves_closing IsEnd m bound h a a c before after (record { event = Close h.id; outcome = close.outcome } ∷ []) [] (tt, tt) (run-one before after _ close.step) (gave_nothing a h.number) s (closing_alone h close.outcome) (inl refl) (λ e. absurd (cc))
+pub carries_by_finished : (m : List Connection) (bound : ℕ) (h : Link) (a c : Report) (before after : HostState) (has_ended : Bool) → (has_ended ≡ true → IsMarked reads_ended m h.number) → is_finished_with has_ended (find before.slots h.id) ≡ true → Shuts bound a c h.number → IsClosing before h.id after → CarriesBy IsEnd m bound (h ∷ []) a before c after
+carries_by_finished m bound h a c before after has_ended marked finished s close =
+    carries_by_closing IsEnd m bound h a a c before after (record { event = Close h.id; outcome = close.outcome } ∷ []) [] (tt, tt) (run-one before after _ close.step) (gave_nothing a h.number) s (closing_alone h close.outcome) (inl refl) (λ e. absurd (cc))
     (inr (inr (record { earlier = []; outcome = close.outcome; later = []; steps_are = refl; moment = before; run = run-start before; onward = run-one before after _ close.step; first = refl; has_ended = has_ended; marked = marked; finished = finished })))
 
 -- a feed of a session that wants input is refused for memory alone
@@ -200,8 +200,8 @@ refused_for_memory before after id chunk (Refused OutOfMemory) (Some t) e w few 
 refused_for_memory before after id chunk (Refused NotReady) (Some t) e w few p d = absurd (p.went.0 (w, few))
 
 -- what was read was refused for memory, and the connection was shut
-pub serves_starved : (m : List Connection) (bound : ℕ) (h : Link) (a b c : Report) (before mid after : HostState) (chunk : List ℕ) (o : Outcome) → wants_input_of (find before.slots h.id) ≡ true → length chunk ≤ CHUNK_MAX → 1 ≤ length chunk → is_done o ≡ false → GaveBytes a b h.number chunk → Shuts bound b c h.number → IsStep before (record { event = Feed h.id chunk; outcome = o }) mid → IsClosing mid h.id after → IsGone after h.id → ServesLinks IsInput m bound (h ∷ []) a before c after
-serves_starved m bound h a b c before mid after chunk o wants few some d g s step close out =
+pub carries_by_starved : (m : List Connection) (bound : ℕ) (h : Link) (a b c : Report) (before mid after : HostState) (chunk : List ℕ) (o : Outcome) → wants_input_of (find before.slots h.id) ≡ true → length chunk ≤ CHUNK_MAX → 1 ≤ length chunk → is_done o ≡ false → GaveBytes a b h.number chunk → Shuts bound b c h.number → IsStep before (record { event = Feed h.id chunk; outcome = o }) mid → IsClosing mid h.id after → IsGone after h.id → CarriesBy IsInput m bound (h ∷ []) a before c after
+carries_by_starved m bound h a b c before mid after chunk o wants few some d g s step close out =
     let is : o ≡ Refused OutOfMemory = refused_for_memory before mid h.id chunk o (find before.slots h.id) refl wants few step.stepped.0 d in
     starved (rw is at step)
   where
@@ -211,9 +211,9 @@ serves_starved m bound h a b c before mid after chunk o wants few some d g s ste
     closing : Closing h.id (record { event = Feed h.id chunk; outcome = Refused OutOfMemory } ∷ record { event = Close h.id; outcome = close.outcome } ∷ [])
     closing = record { no_own = λ x. refl; no_taken = λ x. refl; this = λ x e. closes_this h x e; no_other = λ x f. closes_other h x f; no_hunger = λ x f. closes_other h x f }
 
-    starved : IsStep before (record { event = Feed h.id chunk; outcome = Refused OutOfMemory }) mid → ServesLinks IsInput m bound (h ∷ []) a before c after
+    starved : IsStep before (record { event = Feed h.id chunk; outcome = Refused OutOfMemory }) mid → CarriesBy IsInput m bound (h ∷ []) a before c after
     starved first =
-        serves_closing IsInput m bound h a b c before after (record { event = Feed h.id chunk; outcome = Refused OutOfMemory } ∷ record { event = Close h.id; outcome = close.outcome } ∷ []) chunk (tt, (tt, tt)) (run-two before mid after _ _ first close.step) g s closing (inr (out, or_left (is_same_id h.id h.id) (false || false) (is_same_id-refl h.id))) (λ e none. not_none chunk some none)
+        carries_by_closing IsInput m bound h a b c before after (record { event = Feed h.id chunk; outcome = Refused OutOfMemory } ∷ record { event = Close h.id; outcome = close.outcome } ∷ []) chunk (tt, (tt, tt)) (run-two before mid after _ _ first close.step) g s closing (inr (out, or_left (is_same_id h.id h.id) (false || false) (is_same_id-refl h.id))) (λ e none. not_none chunk some none)
         (inr (inl (or_left (is_same_id h.id h.id) (false || false) (is_same_id-refl h.id))))
 
 wants_some : (f : Option SessionView) → wants_input_of f ≡ true → IsSome f
@@ -275,13 +275,13 @@ passed_done before after id n bytes (Err OutOfMemory) (Some t) e some q few p no
 passed_done before after id n bytes (Err NotReady) (Some t) e some q few p none = (let l : length t.queued ≡ length bytes = ap length q in let m : length t.queued < n = p.went.0 in absurd (omega arith))
 
 -- what was written was passed
-pub serves_passed : {U : Type 0} (m : List Connection) (bound : ℕ) (h : Link) (a b : Report) (before after : HostState) (n : ℕ) (bytes : Bor (List ℕ)) (r : Result U HostFault) → IsQueue (find before.slots h.id) (Some bytes) → n ≤ length bytes.now → Writes a b h.number (Ok n) bytes.now → IsBelow before.slots
-    → Stepped before (Take h.id n) (passed_of (take n (queued_of (find before.slots h.id))) r) after → (IsErrOf r OutOfMemory → ⊥) → ServesLinks IsOutput m bound (h ∷ []) a before b after
-serves_passed m bound h a b before after n bytes r queue few w below p none =
+pub carries_by_passed : {U : Type 0} (m : List Connection) (bound : ℕ) (h : Link) (a b : Report) (before after : HostState) (n : ℕ) (bytes : Bor (List ℕ)) (r : Result U HostFault) → IsQueue (find before.slots h.id) (Some bytes) → n ≤ length bytes.now → Writes a b h.number (Ok n) bytes.now → IsBelow before.slots
+    → Stepped before (Take h.id n) (passed_of (take n (queued_of (find before.slots h.id))) r) after → (IsErrOf r OutOfMemory → ⊥) → CarriesBy IsOutput m bound (h ∷ []) a before b after
+carries_by_passed m bound h a b before after n bytes r queue few w below p none =
     let is : passed_of (take n (queued_of (find before.slots h.id))) r ≡ Gave (take n bytes.now) = passed_done before after h.id n bytes.now r (find before.slots h.id) refl (has_session before h.id bytes queue) (has_queue before h.id bytes queue) few p.0 none in
     passed (rw is at p)
   where
-    passed : Stepped before (Take h.id n) (Gave (take n bytes.now)) after → ServesLinks IsOutput m bound (h ∷ []) a before b after
+    passed : Stepped before (Take h.id n) (Gave (take n bytes.now)) after → CarriesBy IsOutput m bound (h ∷ []) a before b after
     passed s = record {
       steps = record { event = Take h.id n; outcome = Gave (take n bytes.now) } ∷ [];
       kinds = (tt, tt);

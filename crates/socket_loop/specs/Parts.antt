@@ -174,7 +174,7 @@ pub record Carries (marks : List Connection) (bound : ℕ) (links : List Link) (
   pub all : AllMove old new
 
 -- some steps of this kind, with these connections
-pub record ServesLinks (kind : Event → Type 0) (marks : List Connection) (bound : ℕ)
+pub record CarriesBy (kind : Event → Type 0) (marks : List Connection) (bound : ℕ)
     (links : List Link) (old : Report) (before : HostState) (new : Report) (after : HostState)
     : Type 0 where
   pub steps : List Step
@@ -182,9 +182,9 @@ pub record ServesLinks (kind : Event → Type 0) (marks : List Connection) (boun
   pub carries : Carries marks bound links old before steps new after
 
 -- the same of the connections that are held
-abbrev pub Serves : (Event → Type 0) → List Connection → Scene → Scene → Type 0
-Serves kind marks before after =
-    ServesLinks kind marks before.bound (links_of before.held) before.report before.host
+abbrev pub CarriesHeld : (Event → Type 0) → List Connection → Scene → Scene → Type 0
+CarriesHeld kind marks before after =
+    CarriesBy kind marks before.bound (links_of before.held) before.report before.host
     after.report after.host
 
 -- ---- marks

@@ -12,7 +12,7 @@ use Rattle.wires.specs.Report.{Report, IsRaised, Stays}
 use Rattle.wires.specs.declared.wire.Wire.{Ghosts}
 use Rattle.socket_loop.specs.Links.{links_of, reads_ended, AreOnce, IsMarked}
 use Rattle.socket_loop.specs.Scenes.{Scene, scene}
-use Rattle.socket_loop.specs.Parts.{IsEnd, IsInput, IsOutput, KeepsAllMarks, Serves, ServesLinks}
+use Rattle.socket_loop.specs.Parts.{IsEnd, IsInput, IsOutput, KeepsAllMarks, CarriesHeld, CarriesBy}
 use Rattle.socket_loop.specs.Turns.{AllKeepMade, AreLeft, EndsOrShuts, IsQuiet, KeepsMade, Stirs}
 use Rattle.socket_loop.specs.Calls.{AsksTo, Visits, ends_of, reads_of, shuts_of, writes_of}
 
@@ -44,18 +44,18 @@ pub record VisitsOne (due : HostState → Connection → Connection → List Cal
       → Transfers before.report after.report old.link.number ⊎ EndsOrShuts old new
 
 -- where the connection gave these bytes before, and no call of it failed then, its bytes are carried from there
-abbrev pub ServesGiven : Link → List ℕ → Scene → Scene → Type 0
-ServesGiven link chunk before after =
+abbrev pub CarriesGiven : Link → List ℕ → Scene → Scene → Type 0
+CarriesGiven link chunk before after =
     (marks : List Connection) (earlier : Report)
     → GaveBytes earlier before.report link.number chunk
     → Stays (earlier.has_failed link.number) (before.report.has_failed link.number)
-    → ServesLinks IsInput marks before.bound (link ∷ []) earlier before.host after.report after.host
+    → CarriesBy IsInput marks before.bound (link ∷ []) earlier before.host after.report after.host
 
 -- a connection was fed these bytes, or shut where an allocation failed
 pub record FeedsOne (chunk : List ℕ) (old new : Connection) (before after : Scene) : Type 0 where
   pub visit : IsVisited IsInput old new before after
   pub asked : old.is_shut ≡ false → Asks before.asked after.asked (shuts_of old new)
-  pub serves : ServesGiven old.link chunk before after
+  pub carries : CarriesGiven old.link chunk before after
   pub unread : Keeps (before.report.unread old.link.number) (after.report.unread old.link.number)
 
 -- where the reads of a connection have ended, they had ended before, or nothing is left to be read
@@ -66,23 +66,23 @@ EndsEmptied old new before after =
     ⊎ IsEmptied (before.unread old.link.number) (after.unread old.link.number)
 
 -- it was visited, with the calls that are due, and its bytes are carried
-pub record ServesOne (due : HostState → Connection → Connection → List Call) (kind : Event → Type 0)
+pub record CarriesOne (due : HostState → Connection → Connection → List Call) (kind : Event → Type 0)
     (moved : Bool) (old new : Connection) (before after : Scene) : Type 0 where
   pub visited : VisitsOne due kind moved old new before after
-  pub serves : (marks : List Connection) → Serves kind marks before after
+  pub carries : (marks : List Connection) → CarriesHeld kind marks before after
 
 abbrev pub ReadsOne : Bool → Connection → Connection → Scene → Scene → Type 0
-ReadsOne moved old new before after = ServesOne reads_of IsInput moved old new before after
+ReadsOne moved old new before after = CarriesOne reads_of IsInput moved old new before after
 
 abbrev pub WritesOne : Bool → Connection → Connection → Scene → Scene → Type 0
-WritesOne moved old new before after = ServesOne writes_of IsOutput moved old new before after
+WritesOne moved old new before after = CarriesOne writes_of IsOutput moved old new before after
 
 -- it was shut where it was finished with, by these marks
 pub record EndsOne (moved : Bool) (old new : Connection) (before after : Scene) : Type 0 where
   pub visited : VisitsOne ends_of IsEnd moved old new before after
-  pub serves : (marks : List Connection)
+  pub carries : (marks : List Connection)
       → (old.has_ended ≡ true → IsMarked reads_ended marks old.link.number)
-      → Serves IsEnd marks before after
+      → CarriesHeld IsEnd marks before after
 
 -- ---- the same of a connection, a host and a wire of the code
 
@@ -129,21 +129,21 @@ abbrev pub VisitsEach : (HostState → Connection → Connection → List Call) 
 VisitsEach due kind moved before after = VisitsTo (length before.held) due kind moved before after
 
 -- each was visited, with the calls that are due, and the bytes of each are carried
-pub record ServesEach (due : HostState → Connection → Connection → List Call)
+pub record CarriesEach (due : HostState → Connection → Connection → List Call)
     (kind : Event → Type 0) (moved : Bool) (before after : Scene) : Type 0 where
   pub visited : VisitsEach due kind moved before after
-  pub serves : (marks : List Connection) → Serves kind marks before after
+  pub carries : (marks : List Connection) → CarriesHeld kind marks before after
 
 abbrev pub ReadsEach : Bool → Scene → Scene → Type 0
-ReadsEach moved before after = ServesEach reads_of IsInput moved before after
+ReadsEach moved before after = CarriesEach reads_of IsInput moved before after
 
 abbrev pub WritesEach : Bool → Scene → Scene → Type 0
-WritesEach moved before after = ServesEach writes_of IsOutput moved before after
+WritesEach moved before after = CarriesEach writes_of IsOutput moved before after
 
 -- each was shut that was finished with, and no other; no reads end
 pub record EndsEach (moved : Bool) (before after : Scene) : Type 0 where
   pub visited : VisitsEach ends_of IsEnd moved before after
-  pub serves : Serves IsEnd before.held before after
+  pub carries : CarriesHeld IsEnd before.held before after
   pub ended : (number : ℕ) → IsMarked reads_ended after.held number
       → IsMarked reads_ended before.held number
   pub left : AreOnce (links_of before.held) → AreLeft after.host after.held

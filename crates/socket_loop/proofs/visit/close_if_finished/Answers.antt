@@ -1,13 +1,13 @@
 use Rattle.std.proofs.Common.{arith, rules}
-use Rattle.socket_loop.proofs.Parts.{serves_same}
-use Rattle.socket_loop.proofs.Visits.{serves_finished}
+use Rattle.socket_loop.proofs.Parts.{carries_by_same}
+use Rattle.socket_loop.proofs.Visits.{carries_by_finished}
 use Rattle.socket_loop.specs.Parts.{IsEnd}
 use Rattle.socket_loop.proofs.Calls.{visits_closing}
 use Rattle.socket_loop.proofs.Each.{visit_none}
 use Rattle.socket_loop.proofs.visit.close_if_finished.Goals as goal
 
 pub returns-then-connection-clause-ends : goal.returns-then-connection-clause-ends
-returns-then-connection-clause-ends g c = record { visited = visit_none _ _ _ _ (search rules); serves = λ marks marked. serves_same _ _ _ _ _ _ }
+returns-then-connection-clause-ends g c = record { visited = visit_none _ _ _ _ (search rules); carries = λ marks marked. carries_by_same _ _ _ _ _ _ }
 
 pub returns-clause-ends : goal.returns-clause-ends
 returns-clause-ends g c = record {
@@ -17,5 +17,5 @@ returns-clause-ends g c = record {
     quiet = search rules;
     stirs = search rules;
   };
-  serves = λ marks marked. serves_finished marks _ c.args.connection.now.link _ _ _ _ c.args.connection.now.has_ended marked (search rules) c.shut_down.ensures.shuts c.shut_down.ensures.closed;
+  carries = λ marks marked. carries_by_finished marks _ c.args.connection.now.link _ _ _ _ c.args.connection.now.has_ended marked (search rules) c.shut_down.ensures.shuts c.shut_down.ensures.closed;
 }

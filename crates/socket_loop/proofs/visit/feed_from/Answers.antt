@@ -4,7 +4,7 @@ use Rattle.host_core.specs.declared.event.HostFault.{HostFault}
 use Rattle.std.specs.Prelude.{Result, Ok, Err}
 use Rattle.std.specs.Result.{is_ok}
 use Rattle.std.proofs.Common.{rules, arith, ◌≡◌, ◌∙◌, sym, refl}
-use Rattle.socket_loop.proofs.Visits.{is_done, serves_fed, serves_starved, wanted_below}
+use Rattle.socket_loop.proofs.Visits.{is_done, carries_by_fed, carries_by_starved, wanted_below}
 use Rattle.socket_loop.specs.Parts.{IsInput}
 use Rattle.socket_loop.specs.Calls.{Visits}
 use Rattle.socket_loop.proofs.Runs.{next_rises}
@@ -21,8 +21,8 @@ returns-then-is_ok-clause-fed g c =
     record {
       visit = record { steps = visits; link = search rules; made = search rules; closed = search rules; shut = search rules; bound = search rules; faults = omega arith; next = next_rises _ _ _ visits.run };
       asked = search rules;
-      serves = λ marks before gave none.
-          serves_fed marks _ c.args.connection.now.link before _ _ _ c.args.chunk.now _ (done-is_ok c.feed.result ∙ (sym c.is_ok.ensures.value ∙ c.if-is_ok.true)) gave none (record { below = c.feed.ensures.below; stepped = c.feed.ensures.fed });
+      carries = λ marks before gave none.
+          carries_by_fed marks _ c.args.connection.now.link before _ _ _ c.args.chunk.now _ (done-is_ok c.feed.result ∙ (sym c.is_ok.ensures.value ∙ c.if-is_ok.true)) gave none (record { below = c.feed.ensures.below; stepped = c.feed.ensures.fed });
       unread = search rules;
     }
 
@@ -32,8 +32,8 @@ returns-clause-fed g c =
     record {
       visit = record { steps = visits; link = search rules; made = search rules; closed = search rules; shut = search rules; bound = search rules; faults = omega arith; next = next_rises _ _ _ visits.run };
       asked = search rules;
-      serves = λ marks before gave none.
-          serves_starved marks _ c.args.connection.now.link before _ _ _ _ _ c.args.chunk.now _ c.requires.wants c.requires.few c.requires.some (done-is_ok c.feed.result ∙ (sym c.is_ok.ensures.value ∙ c.if-is_ok.false)) gave c.shut_down.ensures.shuts (record { below = c.feed.ensures.below; stepped = c.feed.ensures.fed }) c.shut_down.ensures.closed
+      carries = λ marks before gave none.
+          carries_by_starved marks _ c.args.connection.now.link before _ _ _ _ _ c.args.chunk.now _ c.requires.wants c.requires.few c.requires.some (done-is_ok c.feed.result ∙ (sym c.is_ok.ensures.value ∙ c.if-is_ok.false)) gave c.shut_down.ensures.shuts (record { below = c.feed.ensures.below; stepped = c.feed.ensures.fed }) c.shut_down.ensures.closed
           (c.shut_down.ensures.gone (wanted_below c.args.host.now c.feed.new.self c.args.connection.now.link.id (Feed c.args.connection.now.link.id c.args.chunk.now) (as_outcome (λ _. Done) c.feed.result) c.requires.wants c.feed.ensures.below c.feed.ensures.fed));
       unread = search rules;
     }

@@ -1,6 +1,6 @@
 use Rattle.std.proofs.Common.{true, arith, rules, inl, inr, refl}
-use Rattle.socket_loop.proofs.Parts.{serves_same}
-use Rattle.socket_loop.proofs.Visits.{write_fault, serves_fault, serves_passed}
+use Rattle.socket_loop.proofs.Parts.{carries_by_same}
+use Rattle.socket_loop.proofs.Visits.{write_fault, carries_by_fault, carries_by_passed}
 use Rattle.wires.proofs.Transfers.{write_longer}
 use Rattle.socket_loop.specs.Parts.{IsOutput}
 use Rattle.host_core.specs.Events.{Take}
@@ -14,13 +14,13 @@ use Rattle.socket_loop.proofs.Each.{visit_none}
 use Rattle.socket_loop.proofs.visit.write_to.Goals as goal
 
 pub returns-then-connection-clause-writes : goal.returns-then-connection-clause-writes
-returns-then-connection-clause-writes g c = record { visited = visit_none _ _ _ _ (search rules); serves = λ marks. serves_same _ _ _ _ _ _ }
+returns-then-connection-clause-writes g c = record { visited = visit_none _ _ _ _ (search rules); carries = λ marks. carries_by_same _ _ _ _ _ _ }
 
 pub returns-in_default-clause-writes : goal.returns-in_default-clause-writes
-returns-in_default-clause-writes g c = record { visited = visit_none _ _ _ _ (search rules); serves = λ marks. serves_same _ _ _ _ _ _ }
+returns-in_default-clause-writes g c = record { visited = visit_none _ _ _ _ (search rules); carries = λ marks. carries_by_same _ _ _ _ _ _ }
 
 pub returns-then-is_empty-clause-writes : goal.returns-then-is_empty-clause-writes
-returns-then-is_empty-clause-writes g c = record { visited = visit_none _ _ _ _ (search rules); serves = λ marks. serves_same _ _ _ _ _ _ }
+returns-then-is_empty-clause-writes g c = record { visited = visit_none _ _ _ _ (search rules); carries = λ marks. carries_by_same _ _ _ _ _ _ }
 
 pub returns-in-Ok-clause-writes : goal.returns-in-Ok-clause-writes
 returns-in-Ok-clause-writes g c =
@@ -32,7 +32,7 @@ returns-in-Ok-clause-writes g c =
         quiet = search rules;
         stirs = λ e. inl (inr (write_longer _ _ c.args.connection.now.link.number c.in-Ok.n c.in-Some.bytes.now (search rules) c.in-Ok.ensures.written));
       };
-      serves = λ marks. serves_passed marks _ c.args.connection.now.link _ _ _ _ c.in-Ok.n c.in-Some.bytes c.pass-passed.result c.in-Some.ensures c.in-Ok.ensures.written.within c.in-Ok.ensures.written c.pass-passed.ensures.below c.pass-passed.ensures.taken c.pass-passed.ensures.no_memory;
+      carries = λ marks. carries_by_passed marks _ c.args.connection.now.link _ _ _ _ c.in-Ok.n c.in-Some.bytes c.pass-passed.result c.in-Some.ensures c.in-Ok.ensures.written.within c.in-Ok.ensures.written c.pass-passed.ensures.below c.pass-passed.ensures.taken c.pass-passed.ensures.no_memory;
     }
 
 pub returns-in-Err-clause-writes : goal.returns-in-Err-clause-writes
@@ -43,5 +43,5 @@ returns-in-Err-clause-writes g c = record {
     quiet = search rules;
     stirs = search rules;
   };
-  serves = λ marks. serves_fault _ marks _ c.args.connection.now.link _ _ _ _ _ tt (write_fault _ _ c.args.connection.now.link.number c.in-Err.field-0 c.in-Some.bytes.now c.in-Err.ensures.written) c.in-Err.ensures.written.failed (rw c.in-Err.ensures.bound at c.shut_down.ensures.shuts) c.shut_down.ensures.closed;
+  carries = λ marks. carries_by_fault _ marks _ c.args.connection.now.link _ _ _ _ _ tt (write_fault _ _ c.args.connection.now.link.number c.in-Err.field-0 c.in-Some.bytes.now c.in-Err.ensures.written) c.in-Err.ensures.written.failed (rw c.in-Err.ensures.bound at c.shut_down.ensures.shuts) c.shut_down.ensures.closed;
 }

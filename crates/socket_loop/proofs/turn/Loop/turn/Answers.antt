@@ -1,7 +1,7 @@
 use Rattle.std.proofs.Common.{rules, ◌≡◌, ◌≤◌, ◌∙◌, arith, refl, []}
 use Rattle.socket_loop.specs.Links.{links_of, AreOnce, IsRising}
 use Rattle.socket_loop.proofs.Shutting.{shuts_all}
-use Rattle.socket_loop.proofs.Turning.{turn_with, asks_turn, turn_fits, turns, serves_rises}
+use Rattle.socket_loop.proofs.Turning.{turn_with, asks_turn, turn_fits, turns, carries_by_rises}
 use Rattle.wires.proofs.Reported.{known_move, moves_then}
 use Rattle.socket_loop.proofs.Quiet.{quiet_turn}
 use Rattle.socket_loop.proofs.Runs.{next_rises}
@@ -25,12 +25,12 @@ returns-clause-turned g c = record {
       turn_with c.args.self.now.slice c.accept_all-arrivals.result c.read_all-read.result.moved c.write_all-written.result.moved c.close_all-closed.result.moved _ c.args.self.now.held c.accept_all-arrivals.new.self.held c.read_all-read.new.self.held c.write_all-written.new.self.held c.close_all-closed.new.self.held _ _ _ _ _ _ _ _ _ _ _ _ _ c.round-round.result.worked c.round-round.result.refused _ _ _ _ _ c.requires.fits
       c.accept_all-arrivals.ensures.scenes.accepts
       c.accept_all-arrivals.ensures.scenes.more.marks
-      (c.read_all-read.ensures.each.scenes.serves c.write_all-written.new.self.held)
+      (c.read_all-read.ensures.each.scenes.carries c.write_all-written.new.self.held)
       c.read_all-read.ensures.each.scenes.visited.marks
       (rw slice at c.round-round.ensures)
-      (rw (bound_read, c.read_all-read.ensures.each.scenes.visited.links) at (c.write_all-written.ensures.each.scenes.serves c.write_all-written.new.self.held))
+      (rw (bound_read, c.read_all-read.ensures.each.scenes.visited.links) at (c.write_all-written.ensures.each.scenes.carries c.write_all-written.new.self.held))
       (rw bound_read at c.write_all-written.ensures.each.scenes.visited.marks)
-      (rw (bound_written, c.write_all-written.ensures.each.scenes.visited.links, c.read_all-read.ensures.each.scenes.visited.links) at c.close_all-closed.ensures.each.scenes.serves)
+      (rw (bound_written, c.write_all-written.ensures.each.scenes.visited.links, c.read_all-read.ensures.each.scenes.visited.links) at c.close_all-closed.ensures.each.scenes.carries)
       (rw bound_written at c.close_all-closed.ensures.each.scenes.visited.marks)
       c.close_all-closed.ensures.each.scenes.ended
       same
@@ -59,7 +59,7 @@ returns-clause-turned g c = record {
       rw bound (
       moved_turn c.accept_all-arrivals.result.moved c.read_all-read.result.moved c.write_all-written.result.moved c.close_all-closed.result.moved c.is_pending-is_pending.result _ _ _ _ _ _ _ c.args.self.now.held c.accept_all-arrivals.new.self.held c.read_all-read.new.self.held c.write_all-written.new.self.held c.close_all-closed.new.self.held _ c.close_all-closed.new.host
       c.accept_all-arrivals.ensures.scenes.accepted c.accept_all-arrivals.ensures.scenes.quiet c.read_all-read.ensures.each.scenes.visited.links c.write_all-written.ensures.each.scenes.visited.links
-      (c.read_all-read.ensures.each.scenes.serves []).carries.all (c.write_all-written.ensures.each.scenes.serves []).carries.all c.close_all-closed.ensures.each.scenes.serves.carries.all
+      (c.read_all-read.ensures.each.scenes.carries []).carries.all (c.write_all-written.ensures.each.scenes.carries []).carries.all c.close_all-closed.ensures.each.scenes.carries.carries.all
       c.read_all-read.ensures.each.scenes.visited.made c.write_all-written.ensures.each.scenes.visited.made c.close_all-closed.ensures.each.scenes.visited.made
       c.read_all-read.ensures.each.scenes.visited.stirs c.write_all-written.ensures.each.scenes.visited.stirs c.close_all-closed.ensures.each.scenes.visited.stirs
       same c.remove_shut.ensures.held c.is_pending-is_pending.ensures)
@@ -73,7 +73,7 @@ returns-clause-turned g c = record {
 
 pub returns-clause-known : goal.returns-clause-known
 returns-clause-known g c =
-    known_move _ _ (moves_then _ _ _ c.accept_all-arrivals.ensures.scenes.accepts.accepts.all (moves_then _ _ _ (c.read_all-read.ensures.each.scenes.serves []).carries.all (moves_then _ _ _ (c.write_all-written.ensures.each.scenes.serves []).carries.all c.close_all-closed.ensures.each.scenes.serves.carries.all)))
+    known_move _ _ (moves_then _ _ _ c.accept_all-arrivals.ensures.scenes.accepts.accepts.all (moves_then _ _ _ (c.read_all-read.ensures.each.scenes.carries []).carries.all (moves_then _ _ _ (c.write_all-written.ensures.each.scenes.carries []).carries.all c.close_all-closed.ensures.each.scenes.carries.carries.all)))
 
 pub returns-clause-faults : goal.returns-clause-faults
 returns-clause-faults g c =
@@ -87,10 +87,10 @@ pub returns-clause-fits : goal.returns-clause-fits
 returns-clause-fits g c =
     let same : links_of c.close_all-closed.new.self.held ≡ links_of c.accept_all-arrivals.new.self.held = c.close_all-closed.ensures.each.scenes.visited.links ∙ (c.write_all-written.ensures.each.scenes.visited.links ∙ c.read_all-read.ensures.each.scenes.visited.links) in
     let bound = c.close_all-closed.ensures.each.scenes.visited.bound ∙ (c.write_all-written.ensures.each.scenes.visited.bound ∙ c.read_all-read.ensures.each.scenes.visited.bound) in
-    let u : c.accept_all-arrivals.new.host.slots.next ≤ c.read_all-read.new.host.slots.next = serves_rises _ _ _ _ _ _ _ _ (c.read_all-read.ensures.each.scenes.serves c.args.self.now.held) in
+    let u : c.accept_all-arrivals.new.host.slots.next ≤ c.read_all-read.new.host.slots.next = carries_by_rises _ _ _ _ _ _ _ _ (c.read_all-read.ensures.each.scenes.carries c.args.self.now.held) in
     let v : c.read_all-read.new.host.slots.next ≤ c.round-round.new.self.slots.next = next_rises _ _ _ c.round-round.ensures.run in
-    let w : c.round-round.new.self.slots.next ≤ c.write_all-written.new.host.slots.next = serves_rises _ _ _ _ _ _ _ _ (c.write_all-written.ensures.each.scenes.serves c.args.self.now.held) in
-    let x : c.write_all-written.new.host.slots.next ≤ c.close_all-closed.new.host.slots.next = serves_rises _ _ _ _ _ _ _ _ c.close_all-closed.ensures.each.scenes.serves in
+    let w : c.round-round.new.self.slots.next ≤ c.write_all-written.new.host.slots.next = carries_by_rises _ _ _ _ _ _ _ _ (c.write_all-written.ensures.each.scenes.carries c.args.self.now.held) in
+    let x : c.write_all-written.new.host.slots.next ≤ c.close_all-closed.new.host.slots.next = carries_by_rises _ _ _ _ _ _ _ _ c.close_all-closed.ensures.each.scenes.carries in
     rw (bound, c.remove_shut.ensures.held) (
     turn_fits c.args.self.now.held c.accept_all-arrivals.new.self.held c.close_all-closed.new.self.held _ _ _ _ _ _ _ c.requires.fits
     c.accept_all-arrivals.ensures.scenes.accepts.accepts
