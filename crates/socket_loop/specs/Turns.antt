@@ -333,6 +333,10 @@ abbrev pub any_pending : HostState → List Link → Bool
 any_pending host [] = false
 any_pending host (link ∷ rest) = pending_of (find host.slots link.id) || any_pending host rest
 
+-- no session of these connections is pending
+abbrev pub NonePending : HostState → List Connection → Type 0
+NonePending host held = any_pending host (links_of held) ≡ false
+
 -- a connection was accepted, gave or took at least one byte, ended or was shut, or the session of one that is held is pending
 abbrev pub HasMoved : Scene → Scene → Type 0
 HasMoved before after =

@@ -2,7 +2,7 @@
 
 ghost use Rattle.std.specs.Prelude.{false, ◌≡◌, ◌≤◌, ◌<◌, [], ◌∷◌, ◌+◌, length, IfOk, vec_capacity};
 ghost use Rattle.socket_loop.specs.Links.{links_of, new_connection, place_for, unshut_of, with_connection, AreOnce, IsRising};
-ghost use Rattle.socket_loop.specs.Turns.{any_pending, host_full, NoneFinished, Fits, IsAway, Over};
+ghost use Rattle.socket_loop.specs.Turns.{any_pending, host_full, NoneFinished, NonePending, Fits, IsAway, Over};
 ghost use Rattle.socket_loop.specs.Tallies.{pending_count, shut_count};
 ghost use Rattle.socket_loop.specs.Visits.{EndsEach, ReadsEach, WritesEach};
 ghost use Rattle.wires.specs.Moves.{StaysKnown};
@@ -293,8 +293,7 @@ impl<A: Allocator + Copy> Loop<A> {
         requires fits { Fits (links_of self.old.held) (W.bound wire.old) host.old }
         ensures turned { Turned W.Wire result
             self.old host.old wire.old self.new host.new wire.new }
-        ensures pending { result.moved ≡ false
-            → any_pending host.new (links_of self.new.held) ≡ false }
+        ensures pending { result.moved ≡ false → NonePending host.new self.new.held }
         ensures known { StaysKnown (W.report wire.old) (W.report wire.new) }
         ensures fits { Fits (links_of self.new.held) (W.bound wire.new) host.new }
         ensures faults { W.failed wire.old ≤ W.failed wire.new }

@@ -7,7 +7,7 @@ use Rattle.wires.specs.Moves.{StaysKnown}
 use Rattle.socket_loop.specs.Links.{links_of, AreOnce, IsRising}
 use Rattle.socket_loop.specs.Scenes.{Scene}
 use Rattle.socket_loop.specs.declared.tally.Tally.{Tally}
-use Rattle.socket_loop.specs.Turns.{any_pending, Accepted, Fits, IsOneOf, NoneFinished}
+use Rattle.socket_loop.specs.Turns.{Accepted, Fits, IsOneOf, NoneFinished, NonePending}
 use Rattle.host_core.specs.Events.{Outcome}
 use Rattle.socket_loop.specs.Calls.{Turns}
 
@@ -16,7 +16,7 @@ pub record IsTurnTo (slice : ℕ) (before after : Scene) : Type 0 where
   pub moved : Bool
   pub tally : Tally
   pub turned : Turns slice moved tally before after
-  pub pending : moved ≡ false → any_pending after.host (links_of after.held) ≡ false
+  pub pending : moved ≡ false → NonePending after.host after.held
   pub known : StaysKnown before.report after.report
   pub fits : Fits (links_of after.held) after.bound after.host
   pub faults : before.failed ≤ after.failed
