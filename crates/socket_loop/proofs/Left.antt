@@ -7,11 +7,11 @@ use Rattle.session_slots.specs.declared.id.SessionId.{SessionId}
 use Rattle.session_slots.specs.Slots.{find}
 use Rattle.host_core.specs.Steps.{HostState}
 use Rattle.host_core.specs.Events.{Event, Open, Feed, Work, Take, Close, Outcome}
-use Rattle.host_core.specs.Made.{Step, is_same_id}
+use Rattle.host_core.specs.Made.{Step}
 use Rattle.host_core.specs.Runs.{IsRun}
 use Rattle.host_core.specs.Kept.{names}
 use Rattle.host_core.proofs.Kept.{keeps_others}
-use Rattle.host_core.proofs.Ids.{same_id}
+use Rattle.host_core.proofs.Ids.{apart_ids}
 use Rattle.socket_loop.specs.declared.connection.Link.{Link}
 use Rattle.socket_loop.specs.declared.connection.Connection.{Connection}
 use Rattle.socket_loop.specs.Links.{AreOnce, IsAmong, IsStrange, links_of}
@@ -21,16 +21,12 @@ use Rattle.socket_loop.specs.Turns.{AreLeft, NoneFinished}
 
 -- ---- steps of another session
 
-not_same : (a b : SessionId) (c : Bool) → is_same_id a b ≡ c → (a ≡ b → ⊥) → is_same_id a b ≡ false
-not_same a b true e f = absurd (f (same_id a b e))
-not_same a b false e f = e
-
 not_named : (id other : SessionId) (event : Event) (o : Outcome) → IsOf id event → (id ≡ other → ⊥) → names other event o ≡ false
 not_named id other Open o p f = absurd p
-not_named id other (Feed at chunk) o p f = not_same at other (is_same_id at other) refl (λ e. f (sym p ∙ e))
-not_named id other (Work at budget) o p f = not_same at other (is_same_id at other) refl (λ e. f (sym p ∙ e))
-not_named id other (Take at n) o p f = not_same at other (is_same_id at other) refl (λ e. f (sym p ∙ e))
-not_named id other (Close at) o p f = not_same at other (is_same_id at other) refl (λ e. f (sym p ∙ e))
+not_named id other (Feed at chunk) o p f = apart_ids at other (λ e. f (sym p ∙ e))
+not_named id other (Work at budget) o p f = apart_ids at other (λ e. f (sym p ∙ e))
+not_named id other (Take at n) o p f = apart_ids at other (λ e. f (sym p ∙ e))
+not_named id other (Close at) o p f = apart_ids at other (λ e. f (sym p ∙ e))
 
 -- another session is what it was
 pub finds_other : (h i : HostState) (id other : SessionId) (steps : List Step) → AreAll (IsOf id) steps → IsRun h steps i → (id ≡ other → ⊥) → find i.slots other ≡ find h.slots other

@@ -1,5 +1,5 @@
 -- What was read from one connection and written to it, part after part.
-use Rattle.std.proofs.Common.{◌≡◌, ◌⊎◌, ℕ, ◌<◌, Bool, List, [], ◌∷◌, ◌++◌, Option, Some, None, refl, sym, ap, ◌∙◌, subst, append_assoc, append-nil, inl, inr}
+use Rattle.std.proofs.Common.{◌≡◌, ◌⊎◌, ℕ, ◌<◌, Bool, List, [], ◌∷◌, ◌++◌, Option, Some, None, refl, sym, ap, ◌∙◌, subst, append-nil, inl, inr}
 use Rattle.std.specs.Prelude.{IsSome}
 use Rattle.std.specs.Io.KnownBytes.{Keeps, Appends, Consumes}
 use Rattle.std.proofs.KnownBytes.{Appends-trans, Consumes-trans}
@@ -12,7 +12,7 @@ use Rattle.host_core.specs.Made.{Step, own, taken}
 use Rattle.host_core.specs.Runs.{IsRun}
 use Rattle.host_core.specs.ById.{queued_of}
 use Rattle.host_core.specs.Headline.{EndsFrom, IsPrefixOf, IsSettled, OverFrom, is_over_due}
-use Rattle.host_core.proofs.OneSession.{kept, gone, IsGone as IsOut}
+use Rattle.host_core.proofs.OneSession.{ends_more, kept, gone, IsGone as IsOut}
 use Rattle.host_core.proofs.Overs.{kept_over, over_more, over_none}
 use Rattle.socket_loop.specs.declared.connection.Link.{Link}
 use Rattle.socket_loop.specs.declared.connection.Connection.{Connection}
@@ -22,21 +22,10 @@ use Rattle.socket_loop.specs.Parts.{Carried, LeavesAlone}
 use Rattle.socket_loop.specs.Turns.{Served}
 use Rattle.wires.proofs.Reported.{Consumes-none, Appends-none}
 use Rattle.socket_loop.proofs.Parts.{lost_order}
-use Rattle.socket_loop.proofs.Turning.{not_lost}
-
--- one part more
-pub ends_more : (owes more : List ℕ → List ℕ) (own_ taken_ rest_own rest_taken : List ℕ) (now : Option SessionView) → ((x : List ℕ) → taken_ ++ more x ≡ owes (own_ ++ x)) → EndsFrom more rest_own rest_taken now → EndsFrom owes (own_ ++ rest_own) (taken_ ++ rest_taken) now
-ends_more owes more own_ taken_ rest_own rest_taken None h (rest, e) =
-    (rest, append_assoc taken_ rest_taken rest ∙ (ap (λ xs. taken_ ++ xs) e ∙ h rest_own))
-ends_more owes more own_ taken_ rest_own rest_taken (Some t) h e = λ x.
-    append_assoc taken_ rest_taken (due t x) ∙ (ap (λ xs. taken_ ++ xs) (e x) ∙ (h (rest_own ++ x) ∙ ap owes (sym (append_assoc own_ rest_own x))))
+use Rattle.socket_loop.proofs.Turning.{not_lost, some_none}
 
 ends_gone : (owes : List ℕ → List ℕ) (read written more_read more_written : List ℕ) (now : Option SessionView) → more_read ≡ [] → more_written ≡ [] → now ≡ None → EndsFrom owes read written None → EndsFrom owes (read ++ more_read) (written ++ more_written) now
 ends_gone owes read written more_read more_written now e f g p = rw (e, f, g, append-nil read, append-nil written) p
-
-none_some : (found : Option SessionView) (lost : List ℕ) → found ≡ None → IsSome found → lost ≡ []
-none_some None lost e some = absurd (cc)
-none_some (Some t) lost e some = absurd (cc)
 
 pub then_order : (h m : HostState) (id : SessionId) (steps : List Step) (lost : List ℕ) (old : Option SessionView) → find h.slots id ≡ old → id.generation < h.slots.next → IsRun h steps m → (IsSome old → lost ≡ []) → (lost ≡ []) ⊎ (own id steps ≡ [])
 then_order h m id steps lost None e lt r whole = inr (gone h m id steps e lt r).no_own
@@ -53,7 +42,7 @@ over_then ends h m id steps read None e lt r p = over_none ends (read ++ own id 
 over_then ends h m id steps read (Some t) e lt r p = over_more ends (is_over_due t) read (own id steps) (find m.slots id) p (kept_over h m id steps t e r)
 
 pub then_whole : (h m : HostState) (id : SessionId) (steps : List Step) (lost more : List ℕ) (old : Option SessionView) → find h.slots id ≡ old → id.generation < h.slots.next → IsRun h steps m → (IsSome old → lost ≡ []) → (IsSome (find m.slots id) → more ≡ []) → IsSome (find m.slots id) → lost ++ more ≡ []
-then_whole h m id steps lost more None e lt r p q some = none_some (find m.slots id) (lost ++ more) (gone h m id steps e lt r).none some
+then_whole h m id steps lost more None e lt r p q some = some_none (find m.slots id) (lost ++ more) (gone h m id steps e lt r).none some
 then_whole h m id steps lost more (Some t) e lt r p q some = rw (p refl, q some) refl
 
 -- a connection was served, and then its session stored and gave bytes

@@ -1,9 +1,8 @@
 -- What a turn does to a session that is pending.
-use Rattle.std.proofs.Common.{◌≡◌, ◌⊎◌, ℕ, zero, suc, ◌+◌, ◌<◌, ◌≤◌, Bool, true, false, cond, List, [], ◌∷◌, ◌++◌, length, Option, Some, None, refl, sym, ap, ◌∙◌, arith, inl, inr}
-use Rattle.std.specs.Prelude.{slice_index_or, is_some, nat_lt, ◌||◌, ◌&&◌, ◌==◌, not}
-use Rattle.std.proofs.lemmas.Bool.{eqb-true, or_cases, or_left, or_right, both_ways}
+use Rattle.std.proofs.Common.{◌≡◌, ◌⊎◌, ℕ, ◌+◌, ◌<◌, ◌≤◌, Bool, true, false, List, [], ◌∷◌, ◌++◌, length, Option, Some, None, refl, sym, ap, ◌∙◌, arith, inl, inr}
+use Rattle.std.specs.Prelude.{is_some, nat_lt, ◌||◌, ◌&&◌, not}
+use Rattle.std.proofs.lemmas.Bool.{or_cases, or_left, or_right, both_ways}
 use Rattle.session_slots.specs.declared.id.SessionId.{SessionId}
-use Rattle.session_slots.specs.Slots as slots
 use Rattle.session_slots.specs.Slots.{find}
 use Rattle.session_slots.proofs.Finds.{find-with_session, find-with_session-other}
 use Rattle.usi_lines.specs.Lines.{ahead}
@@ -15,10 +14,11 @@ use Rattle.host_core.specs.Sessions.{Feeds, Works, Takes, WorkedOn}
 use Rattle.host_core.specs.Steps.{HostState, OnSession, IsOpened, IsClosed, Stepped}
 use Rattle.host_core.specs.Made.{Step, is_same_id}
 use Rattle.host_core.specs.Runs.{IsRun}
-use Rattle.host_core.specs.Rounds.{IsRound, works, pending_from, pending_ids}
+use Rattle.host_core.specs.Rounds.{IsRound, works, pending_ids}
 use Rattle.host_core.specs.ById.{pending_of}
 use Rattle.host_core.proofs.Ids.{same_id, other_id, is_same_id-refl}
 use Rattle.host_core.proofs.OneSession.{gone}
+use Rattle.host_core.proofs.Rounds.{is_in, pending_in}
 use Rattle.socket_loop.specs.Parts.{AreAll, IsAdmission, IsInput, IsOutput, IsEnd, refuses, refuses_by}
 use Rattle.socket_loop.specs.Scenes.{Scene}
 use Rattle.socket_loop.specs.Turns.{IsTurn}
@@ -210,10 +210,6 @@ nearer_by budget n s t true (Some u) e w q =
     inr (omega arith)
 nearer_by budget n s t false (Some u) e w q = inl (q.1 e)
 
-abbrev pub is_in : SessionId → List SessionId → Bool
-is_in id [] = false
-is_in id (at ∷ ids) = is_same_id at id || is_in id ids
-
 works_near_by : (budget : ℕ) (at : SessionId) (ids : List SessionId) (o : Outcome) (os : List Outcome) (h mid i : HostState) (id : SessionId) (s : SessionView) (same : Bool) → is_same_id at id ≡ same → (is_same_id at id || is_in id ids) ≡ true → find h.slots id ≡ Some s → Stepped h (Work at budget) o mid → IsRun mid (works budget ids os) i
     → (is_in id ids ≡ true → find mid.slots id ≡ Some s → (refuses id (works budget ids os) ≡ true) ⊎ Nearer budget s (find i.slots id)) → (refuses id (works budget (at ∷ ids) (o ∷ os)) ≡ true) ⊎ Nearer budget s (find i.slots id)
 works_near_by budget at ids o os h mid i id s true e there f p r more = elim (once_worked budget h mid at id o s (find h.slots at) (same_id at id e) f refl p.0) [
@@ -236,36 +232,6 @@ works_near budget [] os h i id s len there f r = absurd (cc)
 works_near budget (at ∷ ids) [] h i id s len there f r = absurd (omega arith)
 works_near budget (at ∷ ids) (o ∷ os) h i id s len there f r =
     works_near_by budget at ids o os h r.0 i id s (is_same_id at id) refl there f r.1.stepped r.2 (λ rest e. works_near budget ids os r.0 i id s (omega arith) rest e r.2)
-
--- a pending session is among those of a round
-in_more : (b : Bool) (id first : SessionId) (rest : List SessionId) → is_in id rest ≡ true → is_in id (cond b (first ∷ rest) rest) ≡ true
-in_more true id first rest e = or_right (is_same_id first id) (is_in id rest) e
-in_more false id first rest e = e
-
-in_from : (slot : ℕ) (slots_ : List (Option slots.OpenSession)) (i n : ℕ) (o : slots.OpenSession) → slice_index_or slots_ i None ≡ Some o → is_pending o.session ≡ true → n ≡ slot + i → is_in (record { slot = n; generation = o.generation }) (pending_from slot slots_) ≡ true
-in_from slot [] zero n o e p f = absurd (cc)
-in_from slot [] (suc i) n o e p f = absurd (cc)
-in_from slot (None ∷ rest) zero n o e p f = absurd (cc)
-in_from slot (Some q ∷ rest) zero n o e p f =
-    let same : q ≡ o = cc in
-    let here : n ≡ slot = omega arith in
-    rw (same, here) (ap (λ (b : Bool). is_in (record { slot = slot; generation = o.generation }) (cond b (record { slot = slot; generation = o.generation } ∷ pending_from (slot + 1) rest) (pending_from (slot + 1) rest))) p
-    ∙ ap (λ (b : Bool). b || is_in (record { slot = slot; generation = o.generation }) (pending_from (slot + 1) rest)) (is_same_id-refl (record { slot = slot; generation = o.generation })))
-in_from slot (None ∷ rest) (suc i) n o e p f = in_from (slot + 1) rest i n o e p (omega arith)
-in_from slot (Some q ∷ rest) (suc i) n o e p f = in_more (is_pending q.session) _ _ (pending_from (slot + 1) rest) (in_from (slot + 1) rest i n o e p (omega arith))
-
-session_of : (generation : ℕ) (slot : Option slots.OpenSession) → pending_of (slots.of_generation generation slot) ≡ true → (o : slots.OpenSession) × (slot ≡ Some o) × (o.generation ≡ generation) × (is_pending o.session ≡ true)
-session_of generation None p = absurd (cc)
-session_of generation (Some o) p = session_by (o.generation == generation) refl where
-  session_by : (b : Bool) → (o.generation == generation) ≡ b → (q : slots.OpenSession) × (Some o ≡ Some q) × (q.generation ≡ generation) × (is_pending q.session ≡ true)
-  session_by true e = (o, refl, eqb-true o.generation generation e, sym (ap (λ (b : Bool). pending_of (cond b (Some o.session) None)) e) ∙ p)
-  session_by false e = (let q : pending_of None ≡ true = sym (ap (λ (b : Bool). pending_of (cond b (Some o.session) None)) e) ∙ p in absurd (cc))
-
-pending_in : (h : HostState) (id : SessionId) → pending_of (find h.slots id) ≡ true → is_in id (pending_ids h) ≡ true
-pending_in h id p =
-    let a = session_of id.generation (slice_index_or h.slots.slots id.slot None) p in
-    let i = in_from 0 h.slots.slots id.slot id.slot a.0 a.1 a.3 (omega arith) in
-    ap (λ (g : ℕ). is_in (record { slot = id.slot; generation = g }) (pending_ids h)) (sym a.2) ∙ i
 
 -- ---- a turn
 

@@ -91,7 +91,7 @@ among_filtered p (y ∷ ys) x n =
 
 -- ---- one connection
 
-some_none : (found : Option SessionView) (lost : List ℕ) → found ≡ None → IsSome found → lost ≡ []
+pub some_none : (found : Option SessionView) (lost : List ℕ) → found ≡ None → IsSome found → lost ≡ []
 some_none None lost e some = absurd (cc)
 some_none (Some t) lost e some = absurd (cc)
 

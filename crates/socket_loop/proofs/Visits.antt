@@ -19,7 +19,7 @@ use Rattle.host_core.specs.Seen.{passed_of}
 use Rattle.host_core.specs.Made.{Step, own, taken, is_same_id}
 use Rattle.host_core.specs.Runs.{IsStep, IsRun}
 use Rattle.host_core.proofs.Chains.{run-start}
-use Rattle.host_core.proofs.Ids.{same_id, is_same_id-refl}
+use Rattle.host_core.proofs.Ids.{apart_ids, is_same_id-refl}
 use Rattle.socket_loop.specs.declared.connection.Link.{Link}
 use Rattle.socket_loop.specs.declared.connection.Connection.{Connection}
 use Rattle.wires.specs.declared.wire.Got.TheVariants.{Bytes}
@@ -40,13 +40,6 @@ is_done (Worked steps) = false
 is_done (Gave bytes) = false
 is_done (Refused fault) = false
 
-id_apart : (a b : SessionId) (c : Bool) → is_same_id a b ≡ c → (a ≡ b → ⊥) → is_same_id a b ≡ false
-id_apart a b true e f = absurd (f (same_id a b e))
-id_apart a b false e f = e
-
-other_id : (a b : SessionId) → (a ≡ b → ⊥) → is_same_id a b ≡ false
-other_id a b f = id_apart a b (is_same_id a b) refl f
-
 this_id : (a b : SessionId) → a ≡ b → is_same_id a b ≡ true
 this_id a b e = ap (is_same_id a) (sym e) ∙ is_same_id-refl a
 
@@ -54,13 +47,13 @@ at_id : (a b : SessionId) (xs : List ℕ) → a ≡ b → cond (is_same_id a b) 
 at_id a b xs e = ap (λ (c : Bool). cond c xs []) (this_id a b e)
 
 off_id : (a b : SessionId) (xs : List ℕ) → (a ≡ b → ⊥) → cond (is_same_id a b) xs [] ≡ []
-off_id a b xs f = ap (λ (c : Bool). cond c xs []) (other_id a b f)
+off_id a b xs f = ap (λ (c : Bool). cond c xs []) (apart_ids a b f)
 
 closes_this : (h : Link) (id : SessionId) → h.id ≡ id → (is_same_id h.id id || false) ≡ true
 closes_this h id e = or_left (is_same_id h.id id) false (this_id h.id id e)
 
 closes_other : (h : Link) (id : SessionId) → (h.id ≡ id → ⊥) → (is_same_id h.id id || false) ≡ false
-closes_other h id f = ap (λ (b : Bool). b || false) (other_id h.id id f)
+closes_other h id f = ap (λ (b : Bool). b || false) (apart_ids h.id id f)
 
 gave_others : (a b : Report) (h : Link) (bytes : List ℕ) (x : ℕ) → GaveBytes a b h.number bytes → h.number ≢ x → KeepsConnection a b x
 gave_others a b h bytes x g apart = g.others x (λ e. apart (sym e))

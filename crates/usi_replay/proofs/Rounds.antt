@@ -1,7 +1,6 @@
 -- What a round does to one session.
-use Rattle.std.proofs.Common.{◌≡◌, ℕ, zero, suc, ◌+◌, ◌*◌, ◌<◌, ◌≤◌, List, [], ◌∷◌, Bool, true, false, cond, Option, Some, None, length, get_or, count_by, refl, sym, ap, ◌∙◌, arith, ◌==◌}
+use Rattle.std.proofs.Common.{◌≡◌, ℕ, ◌+◌, ◌*◌, ◌<◌, ◌≤◌, List, [], ◌∷◌, Bool, true, false, cond, Option, Some, None, length, get_or, count_by, refl, sym, ap, ◌∙◌, arith}
 use Rattle.std.specs.Prelude.{slice_index_or, is_some, ◌||◌}
-use Rattle.std.proofs.lemmas.Bool.{eqb-true}
 use Rattle.std.proofs.lemmas.List.{get_or_past}
 use Rattle.std.proofs.lemmas.List.Sums.{sum_by-cons, sum_by-set}
 use Rattle.session_slots.specs.declared.id.SessionId.{SessionId}
@@ -16,8 +15,9 @@ use Rattle.host_core.specs.Runs.{IsRun}
 use Rattle.host_core.specs.Steps.{HostState, Stepped, OnSession, Changed}
 use Rattle.host_core.specs.Sessions.{Works, WorkedOn}
 use Rattle.host_core.specs.ById.{pending_of}
-use Rattle.host_core.specs.Rounds.{pending_from, pending_ids, works, was_refused, IsRound}
-use Rattle.host_core.proofs.Ids.{same_id, other_id, is_same_id-refl}
+use Rattle.host_core.specs.Rounds.{pending_ids, works, was_refused, IsRound}
+use Rattle.host_core.proofs.Ids.{same_id, other_id}
+use Rattle.host_core.proofs.Rounds.{is_in, pending_in}
 use Rattle.usi_replay.specs.Sessions.{OwesTheSame, KeepsDue, KeepsAllBut, works_left}
 
 -- as many are open after a write to a session
@@ -178,10 +178,6 @@ run_never budget (at ∷ ids) (o ∷ os) old new id one ok r =
     let b = run_never budget ids os r.0 new id one (no_more o os ok).1 r.2 in
     omega (arith, a, b)
 
-abbrev is_in : SessionId → List SessionId → Bool
-is_in id [] = false
-is_in id (at ∷ ids) = is_same_id at id || is_in id ids
-
 same_by : (budget : ℕ) (old new : HostState) (at id : SessionId) (o : Outcome) (found : Option SessionView) → find old.slots at ≡ found → is_same_id at id ≡ false → OnSession (Works budget) old at found o new → find new.slots id ≡ find old.slots id
 same_by budget old new at id o None f e u = ap (λ (x : HostState). find x.slots id) u.same
 same_by budget old new at id o (Some s) f e c = (changes_keep (Works budget) old new at s o f c).others id (other_id at id e)
@@ -207,39 +203,6 @@ run_less budget (at ∷ ids) [] old new id one len ok is p r = absurd (omega ari
 run_less budget (at ∷ ids) (o ∷ os) old new id one len ok is p r =
     run_less_by (is_same_id at id) budget at ids o os old r.0 new id refl one (no_more o os ok).0 r.1.stepped is p (run_never budget ids os r.0 new id one (no_more o os ok).1 r.2)
     (λ there waits. run_less budget ids os r.0 new id one (omega arith) (no_more o os ok).1 there waits r.2)
-
--- a pending session is among those of a round
-in_more : (b : Bool) (id first : SessionId) (rest : List SessionId) → is_in id rest ≡ true → is_in id (cond b (first ∷ rest) rest) ≡ true
-in_more true id first rest e = in_by (is_same_id first id) where
-  in_by : (b : Bool) → (b || is_in id rest) ≡ true
-  in_by true = refl
-  in_by false = e
-in_more false id first rest e = e
-
-in_from : (slot : ℕ) (slots_ : List (Option slots.OpenSession)) (i n : ℕ) (o : slots.OpenSession) → slice_index_or slots_ i None ≡ Some o → is_pending o.session ≡ true → n ≡ slot + i → is_in (record { slot = n; generation = o.generation }) (pending_from slot slots_) ≡ true
-in_from slot [] zero n o e p f = absurd (cc)
-in_from slot [] (suc i) n o e p f = absurd (cc)
-in_from slot (None ∷ rest) zero n o e p f = absurd (cc)
-in_from slot (Some q ∷ rest) zero n o e p f =
-    let same : q ≡ o = cc in
-    let here : n ≡ slot = omega arith in
-    rw (same, here) (ap (λ (b : Bool). is_in (record { slot = slot; generation = o.generation }) (cond b (record { slot = slot; generation = o.generation } ∷ pending_from (slot + 1) rest) (pending_from (slot + 1) rest))) p
-    ∙ ap (λ (b : Bool). b || is_in (record { slot = slot; generation = o.generation }) (pending_from (slot + 1) rest)) (is_same_id-refl (record { slot = slot; generation = o.generation })))
-in_from slot (None ∷ rest) (suc i) n o e p f = in_from (slot + 1) rest i n o e p (omega arith)
-in_from slot (Some q ∷ rest) (suc i) n o e p f = in_more (is_pending q.session) _ _ (pending_from (slot + 1) rest) (in_from (slot + 1) rest i n o e p (omega arith))
-
-session_of : (generation : ℕ) (slot : Option slots.OpenSession) → pending_of (slots.of_generation generation slot) ≡ true → (o : slots.OpenSession) × (slot ≡ Some o) × (o.generation ≡ generation) × (is_pending o.session ≡ true)
-session_of generation None p = absurd (cc)
-session_of generation (Some o) p = session_by (o.generation == generation) refl where
-  session_by : (b : Bool) → (o.generation == generation) ≡ b → (q : slots.OpenSession) × (Some o ≡ Some q) × (q.generation ≡ generation) × (is_pending q.session ≡ true)
-  session_by true e = (o, refl, eqb-true o.generation generation e, sym (ap (λ (b : Bool). pending_of (cond b (Some o.session) None)) e) ∙ p)
-  session_by false e = (let q : pending_of None ≡ true = sym (ap (λ (b : Bool). pending_of (cond b (Some o.session) None)) e) ∙ p in absurd (cc))
-
-pending_in : (h : HostState) (id : SessionId) → pending_of (find h.slots id) ≡ true → is_in id (pending_ids h) ≡ true
-pending_in h id p =
-    let a = session_of id.generation (slice_index_or h.slots.slots id.slot None) p in
-    let i = in_from 0 h.slots.slots id.slot id.slot a.0 a.1 a.3 (omega arith) in
-    ap (λ (g : ℕ). is_in (record { slot = id.slot; generation = g }) (pending_ids h)) (sym a.2) ∙ i
 
 -- a round that is never refused brings a pending session nearer to its end
 pub round_falls : (old new : HostState) (budget worked refused : ℕ) (id : SessionId) → 1 ≤ budget → refused ≡ 0 → pending_of (find old.slots id) ≡ true → IsRound old budget (pending_ids old) worked refused new → works_left (find new.slots id) < works_left (find old.slots id)
