@@ -2,7 +2,7 @@
 
 ghost use Rattle.std.specs.Prelude.{◌≡◌, ◌≤◌, IfOk, IfSome, length, false};
 ghost use Rattle.usi_session.specs.Due.{is_pending};
-ghost use Rattle.usi_session.specs.Replies.{replies};
+ghost use Rattle.usi_session.specs.WholeStream.{replies};
 
 use shogi_search::NoMemo;
 use std::alloc::Allocator;

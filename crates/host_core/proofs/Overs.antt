@@ -4,7 +4,7 @@ use Rattle.std.proofs.lemmas.Bool.{or_cases, both_ways}
 use Rattle.session_slots.specs.declared.id.SessionId.{SessionId}
 use Rattle.session_slots.specs.Slots.{find}
 use Rattle.usi_session.specs.Due.{SessionView, is_pending}
-use Rattle.usi_session.specs.Replies.{is_over_after}
+use Rattle.usi_session.specs.WholeStream.{is_over_after}
 use Rattle.usi_session.specs.declared.state.State.{State}
 use Rattle.usi_session.proofs.Settled.{state_due-over, state_due-settled}
 use Rattle.host_core.specs.Steps.{HostState}

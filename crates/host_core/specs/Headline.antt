@@ -3,7 +3,7 @@ use Rattle.std.specs.Prelude.{◌≡◌, ⊤, ℕ, List, ◌++◌, Bool, true, f
 use Rattle.session_slots.specs.declared.id.SessionId.{SessionId}
 use Rattle.session_slots.specs.Slots.{find}
 use Rattle.usi_session.specs.Due.{SessionView, due, state_due, is_pending}
-use Rattle.usi_session.specs.Replies.{replies, is_over_after}
+use Rattle.usi_session.specs.WholeStream.{replies, is_over_after}
 use Rattle.host_core.specs.Made.{Step, own, taken, is_opened, made}
 use Rattle.host_core.specs.Steps.{HostState}
 use Rattle.host_core.specs.Runs.{IsRun}

@@ -6,7 +6,7 @@ use Rattle.std.proofs.KnownBytes.{Appends-kept, Keeps-trans}
 use Rattle.session_slots.specs.declared.id.SessionId.{SessionId}
 use Rattle.session_slots.specs.Slots.{find}
 use Rattle.usi_session.specs.Due.{SessionView, due}
-use Rattle.usi_session.specs.Replies.{replies}
+use Rattle.usi_session.specs.WholeStream.{replies}
 use Rattle.host_core.specs.Steps.{HostState}
 use Rattle.host_core.specs.Events.{Event}
 use Rattle.host_core.specs.Made.{Step, own, taken, is_opened}

@@ -4,7 +4,7 @@ use Rattle.std.specs.Prelude.{codes, is_some}
 use Rattle.std.proofs.lemmas.List.{drop_all}
 use Rattle.session_slots.specs.declared.id.SessionId.{SessionId}
 use Rattle.usi_lines.specs.Lines.{Line, lines}
-use Rattle.usi_session.specs.Replies.{replies}
+use Rattle.usi_session.specs.WholeStream.{replies}
 use Rattle.host_core.specs.Steps.{HostState}
 use Rattle.host_core.specs.Steps.{new_host}
 use Rattle.usi_replay.specs.Script.{Opening, section, output, or_else, openings_after_line, read_from, read_script, meaning}

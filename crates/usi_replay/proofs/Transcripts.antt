@@ -6,7 +6,7 @@ use Rattle.std.proofs.lemmas.List.Sums.{sum_by-cons, sum_by-set}
 use Rattle.session_slots.specs.declared.id.SessionId.{SessionId}
 use Rattle.session_slots.specs.Slots.{find}
 use Rattle.usi_session.specs.Due.{SessionView, due}
-use Rattle.usi_session.specs.Replies.{replies}
+use Rattle.usi_session.specs.WholeStream.{replies}
 use Rattle.usi_session.proofs.Settled.{due-settled}
 use Rattle.host_core.specs.Steps.{HostState}
 use Rattle.host_core.specs.ById.{pending_of}

@@ -3,7 +3,7 @@ use Rattle.std.specs.Prelude.{◌≡◌, ◌≢◌, ℕ, ◌+◌, ◌≤◌, Lis
 use Rattle.session_slots.specs.declared.id.SessionId.{SessionId}
 use Rattle.session_slots.specs.Slots.{find, count}
 use Rattle.usi_session.specs.Due.{SessionView, due}
-use Rattle.usi_session.specs.Replies.{replies}
+use Rattle.usi_session.specs.WholeStream.{replies}
 use Rattle.usi_lines.specs.Lines.{lines}
 use Rattle.host_core.specs.Steps.{HostState}
 use Rattle.usi_replay.specs.Script.{ScriptLine, Opening, has_session, closed_opening, new_opening, openings_after, read_from, read_script, output}

@@ -1,7 +1,7 @@
 -- Scripts: what a line means, and the output that a script asks for (own choice).
 use Rattle.std.specs.Prelude.{ℕ, ◌+◌, List, [], ◌∷◌, ◌++◌, Bool, true, false, ◌&&◌, ◌==◌, not, nat_le, cond, Option, Some, None, Result, Ok, Err, count_by, codes, length}
 use Rattle.usi_lines.specs.Lines.{Line, Text, TooLong, lines}
-use Rattle.usi_session.specs.Replies.{replies}
+use Rattle.usi_session.specs.WholeStream.{replies}
 use Rattle.usi_lines.specs.declared.line.TheConstants.{LINE_FEED}
 
 -- what a line means: nothing, a session is opened under a name, the session of a name is closed, or is sent a text

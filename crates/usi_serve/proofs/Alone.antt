@@ -12,7 +12,7 @@ use Rattle.usi_lines.specs.declared.line.TheConstants.{LINE_MAX}
 use Rattle.usi_lines.proofs.LineLaws.{lines-long, lines-open, lines-text, longer}
 use Rattle.usi_session.specs.declared.state.State.{State}
 use Rattle.usi_session.specs.Answer.{initial_state}
-use Rattle.usi_session.specs.Replies.{answer_line, replies, replies_from, state_from, is_over_after}
+use Rattle.usi_session.specs.WholeStream.{answer_line, replies, replies_from, state_from, is_over_after}
 use Rattle.usi_session.proofs.Settled.{replies_from-over}
 use Rattle.socket_loop.specs.declared.connection.Link.{Link}
 use Rattle.usi_stdio.specs.Stdio as stdio

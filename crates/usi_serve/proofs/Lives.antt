@@ -5,7 +5,7 @@ use Rattle.std.proofs.KnownBytes.{Appends-kept, Consumes-kept, Keeps-trans, Appe
 use Rattle.session_slots.specs.declared.id.SessionId.{SessionId}
 use Rattle.session_slots.specs.Slots.{find}
 use Rattle.usi_session.specs.Due.{SessionView}
-use Rattle.usi_session.specs.Replies.{replies, is_over_after}
+use Rattle.usi_session.specs.WholeStream.{replies, is_over_after}
 use Rattle.host_core.specs.Events.{Close}
 use Rattle.host_core.specs.Headline.{EndsFrom, OverFrom}
 use Rattle.socket_loop.specs.declared.connection.Link.{Link}

@@ -4,7 +4,7 @@ use Rattle.std.specs.Io.KnownBytes.{Keeps, Appends}
 use Rattle.session_slots.specs.declared.id.SessionId.{SessionId}
 use Rattle.session_slots.specs.Slots.{find}
 use Rattle.usi_session.specs.Due.{SessionView, due}
-use Rattle.usi_session.specs.Replies.{replies, is_over_after}
+use Rattle.usi_session.specs.WholeStream.{replies, is_over_after}
 use Rattle.host_core.specs.declared.event.HostFault.{HostFault}
 use Rattle.host_core.specs.ById.{queued_of, pending_of}
 use Rattle.host_core.specs.Headline.{IsPrefixOf, IsSettled, OverFrom, is_over_due}

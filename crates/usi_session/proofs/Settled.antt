@@ -6,7 +6,7 @@ use Rattle.usi_session.specs.declared.state.State.{State}
 use Rattle.usi_session.specs.RunningGo.{RunningGo, rest_of_go_if, infos_left, bestmove_to}
 use Rattle.usi_session.proofs.RunningGoLaws.{write_or_hold-over}
 use Rattle.usi_session.specs.Due.{SessionView, due, state_due, owed, owed_after, has_line, is_pending, wants_input, new_session}
-use Rattle.usi_session.specs.Replies.{replies_from, state_from, is_over_after, answer_unless}
+use Rattle.usi_session.specs.WholeStream.{replies_from, state_from, is_over_after, answer_unless}
 use Rattle.usi_session.specs.declared.limits.TheConstants.{QUEUE_FULL}
 
 -- no line, no reply

@@ -8,7 +8,7 @@ use Rattle.usi_session.specs.Answer.{write_or_hold}
 use Rattle.usi_session.proofs.RunningGoLaws.{infos_after_line-last, write_or_hold-bytes, write_or_hold-state}
 use Rattle.usi_lines.specs.Lines.{Line}
 use Rattle.usi_session.specs.declared.state.State.{State}
-use Rattle.usi_session.specs.Replies.{replies_from, state_from, answer_to, answer_unless}
+use Rattle.usi_session.specs.WholeStream.{replies_from, state_from, answer_to, answer_unless}
 use Rattle.usi_session.specs.RunningGo.{RunningGo, rest_of_go, rest_of_go_if, with_rest, load_of, load_of_if, infos_left, infos_after, bestmove_to, is_last, reports_of_if, roots_of, roots_of_if, is_searching, most_reports}
 use Rattle.usi_session.specs.Costs.{costs_from, cost_to}
 use Rattle.usi_session.specs.Roots.{roots_to, roots_from}

@@ -21,7 +21,7 @@ use Rattle.usi_session.specs.Texts.{usi_reply, score_text, moves_text, info_for,
 use Rattle.usi_session.specs.PositionCommand.{position_of_startpos, position_of_sfen}
 use Rattle.usi_session.specs.GoInfos.{listed, pv_by, numbered_line, numbered_lines, depth_lines, info_lines, go_infos, go_infos_where}
 use Rattle.usi_session.specs.Answer.{answer, answer_position, write_or_hold, answer_stop, answer_ponderhit_held, answer_ponderhit, held_line, bestmove_at}
-use Rattle.usi_session.specs.Replies.{answer_to}
+use Rattle.usi_session.specs.WholeStream.{answer_to}
 use Rattle.usi_session.specs.RunningGo.{RunningGo, with_rest}
 use Rattle.usi_session.specs.WholeLines.{last_byte, AreWholeLines, GrowsByLines}
 use Rattle.usi_lines.specs.declared.line.TheConstants.{LINE_FEED}

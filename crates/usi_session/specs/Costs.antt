@@ -10,7 +10,7 @@ use Rattle.usi_lines.specs.CommandLines.{command_of}
 use Rattle.usi_lines.specs.Lines.{Line, Text, TooLong}
 use Rattle.usi_session.specs.declared.state.State.{State}
 use Rattle.usi_session.specs.GoInfos.{listed}
-use Rattle.usi_session.specs.Replies.{answer_line}
+use Rattle.usi_session.specs.WholeStream.{answer_line}
 
 -- the most search steps along the pvs of these moves, each with so many plies after the move
 abbrev pub pvs_cost : Shogi → Eval → ℕ → List ℕ → ℕ

@@ -5,7 +5,7 @@ use Rattle.usi_lines.specs.Lines.{Buffer, Line, ahead}
 use Rattle.usi_session.specs.declared.state.State.{State}
 use Rattle.usi_session.specs.Answer.{Answer, initial_state}
 use Rattle.usi_session.specs.RunningGo.{RunningGo, rest_of_go_if, load_of_if, roots_of_if, is_searching, reports_of_if, most_reports}
-use Rattle.usi_session.specs.Replies.{replies_from, state_from}
+use Rattle.usi_session.specs.WholeStream.{replies_from, state_from}
 use Rattle.usi_session.specs.Costs.{costs_from}
 use Rattle.usi_session.specs.Roots.{Root, roots_from}
 use Rattle.usi_session.specs.Told.{TellsEnded}

@@ -3,7 +3,7 @@ pub mod Texts
 pub mod PositionCommand
 pub mod GoInfos
 pub mod Answer
-pub mod Replies
+pub mod WholeStream
 pub mod Costs
 pub mod Roots
 pub mod Told

@@ -11,7 +11,7 @@ use Rattle.usi_lines.specs.CommandLines.{command_of}
 use Rattle.usi_lines.specs.Lines.{Line, Text, TooLong}
 use Rattle.usi_session.specs.declared.state.State.{State}
 use Rattle.usi_session.specs.GoInfos.{listed}
-use Rattle.usi_session.specs.Replies.{answer_line}
+use Rattle.usi_session.specs.WholeStream.{answer_line}
 
 -- what is searched: a position under an evaluation at a depth
 pub record Root : Type 0 where

@@ -16,7 +16,7 @@ use Rattle.usi_session.specs.GoInfos.{listed, numbered_lines, depth_lines}
 use Rattle.usi_session.specs.Costs.{cost_of_command, cost_to, depth_cost, go_cost, pvs_cost}
 use Rattle.usi_session.specs.Roots.{Root, pv_roots, pvs_roots, roots_of_depths, roots_of_go, roots_of_command, roots_to}
 use Rattle.usi_session.specs.Answer.{Answer, answer, answer_go, bestmove_at, write_or_hold, answer_with}
-use Rattle.usi_session.specs.Replies.{answer_to}
+use Rattle.usi_session.specs.WholeStream.{answer_to}
 
 -- what was asked; how many depths are done, so that the current depth is the next one, and a move of it has as many plies after it; how many lines of the current depth are done;
 -- with several lines the root move after which the position is searched for what the move is worth, and none where a pv is walked;

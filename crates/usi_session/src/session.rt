@@ -2,7 +2,7 @@
 
 ghost use Rattle.std.specs.Prelude.{◌≡◌, ◌≤◌, ◌++◌, ℕ, List, true, false, OnOk, OnErr, IfOk, OnSome, IfSome, IfNone, None, length, take, drop, ◌<◌, ◌+◌};
 ghost use Rattle.usi_session.specs.Due.{due, state_due, load, roots_left, turns, is_pending, wants_input, new_session, EndsSearches, HasSpent, IsMidSearch, IsPvWhole, IsSameAfter};
-ghost use Rattle.usi_session.specs.Replies.{replies, state_from};
+ghost use Rattle.usi_session.specs.WholeStream.{replies, state_from};
 ghost use Rattle.usi_session.specs.Answer.{initial_state};
 ghost use Rattle.usi_session.specs.WholeLines.{GrowsByLines};
 ghost use Rattle.usi_lines.specs.Lines.{lines};

@@ -6,7 +6,7 @@ use Rattle.usi_lines.specs.Lines.{lines}
 use Rattle.usi_session.specs.declared.state.State.{State}
 use Rattle.usi_session.specs.Answer.{initial_state}
 use Rattle.usi_session.specs.Due.{SessionView, due, state_due, wants_input, new_session}
-use Rattle.usi_session.specs.Replies.{replies, state_from, is_over_after}
+use Rattle.usi_session.specs.WholeStream.{replies, state_from, is_over_after}
 use Rattle.usi_session.proofs.Settled.{due-over, due-wanting, state_due-over, state_due-wanting, wants_after, new_wants, initial_state_alive}
 use Rattle.usi_session.specs.declared.limits.TheConstants.{CHUNK_MAX}
 use Rattle.usi_stdio.specs.Calls.{Call, Read, FailedRead, Report, Reads, Makes}

@@ -1,6 +1,6 @@
 -- The calls of a run in their order: what is due is written and flushed before more is read, and the result is what the last call asks for (own choice).
 use Rattle.std.specs.Prelude.{◌≡◌, ◌+◌, ◌-◌, ◌^◌, ◌⊎◌, ℕ, List, [], ◌∷◌, ◌++◌, Bool, true, false, Option, None, Some, Result, Ok, Err}
-use Rattle.usi_session.specs.Replies.{replies, is_over_after}
+use Rattle.usi_session.specs.WholeStream.{replies, is_over_after}
 use Rattle.usi_stdio.specs.Calls.{Call, Read, Write, Flush, FailedRead, FailedWrite, FailedFlush, Makes}
 use Rattle.usi_stdio.specs.declared.streams.StdioFault.{StdioFault}
 use Rattle.usi_stdio.specs.declared.streams.StdioFault.TheVariants as fault

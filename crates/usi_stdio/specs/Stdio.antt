@@ -1,7 +1,7 @@
 -- One session over a front end: what is written is what the session's replies are to what was read (own choice).
 use Rattle.std.specs.Prelude.{◌≡◌, ℕ, ◌≤◌, length, List, ◌++◌, Option, ◌⊎◌, true, false}
 use Rattle.std.specs.Io.KnownBytes.{Appends, Consumes, IsAtEnd}
-use Rattle.usi_session.specs.Replies.{replies, is_over_after}
+use Rattle.usi_session.specs.WholeStream.{replies, is_over_after}
 use Rattle.usi_session.specs.declared.limits.TheConstants.{CHUNK_MAX}
 use Rattle.usi_stdio.specs.Calls.{Report}
 
