@@ -346,11 +346,17 @@ impl Outlook<'_> {
                 promoting: promotions,
             }
         };
+        let plain = self.doubtful_among(from, false, piece, ends);
+        if promotions == 0 {
+            return Destinations {
+                plain,
+                promoting: 0,
+            };
+        }
         let promoted = Piece {
             color: piece.color,
             role: piece.role.promoted(),
         };
-        let plain = self.doubtful_among(from, false, piece, ends);
         let promoting = self.doubtful_among(from, true, promoted, promotions);
         Destinations { plain, promoting }
     }

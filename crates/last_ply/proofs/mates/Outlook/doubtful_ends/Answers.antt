@@ -1,7 +1,7 @@
-use Rattle.std.proofs.Common.{◌∙◌, ap, bit_and, ℕ, sym, true, false, not}
+use Rattle.std.proofs.Common.{◌∙◌, ap, arith, bit_and, ℕ, sym, true, false, not}
 use Rattle.std.proofs.lemmas.Bool.{and_from, and_parts, both_ways}
 use Rattle.shogi_core.specs.Bits.{has_bit}
-use Rattle.shogi_core.proofs.BitLaws.{has_bit-and}
+use Rattle.shogi_core.proofs.BitLaws.{has_bit-and, has_bit-none}
 use Rattle.shogi_core.proofs.LineBits.{and_fits}
 use Rattle.shogi_moves.specs.After.{piece_moved}
 use Rattle.shogi_moves.proofs.DestinationLaws.{all_ways}
@@ -19,6 +19,24 @@ doubtful_among-plain-requires-clause-fits c = (and_fits c.targets.result c.enter
 
 pub doubtful_among-promoting-requires-clause-fits : goal.doubtful_among-promoting-requires-clause-fits
 doubtful_among-promoting-requires-clause-fits c = and_fits (bit_and c.targets.result c.enterable.result) c.promoting_squares.result (and_fits c.targets.result c.enterable.result c.targets.ensures.squares.1)
+
+pub returns-then-promotions-eq0-clause-plain : goal.returns-then-promotions-eq0-clause-plain
+returns-then-promotions-eq0-clause-plain c =
+    let ends : ℕ = bit_and c.targets.result c.enterable.result in
+    let reach = rw (c.as_board.ensures, c.as_position-p.ensures) at c.targets.ensures.squares.0 in
+    let enters = c.enterable.ensures in
+    doubtful_within c.args.self.now.scene.node.now.position c.args.from false ends c.doubtful_among-plain.result c.validity.ensures (λ n h. all_ways c.targets.result c.enterable.result n _ _ (reach n h) (enters n h)) (λ n h legal. legal_end c.args.self.now.scene.node.now.position c.args.from c.targets.result c.enterable.result n false c.validity.ensures h reach enters legal)
+    c.doubtful_among-plain.ensures.fits c.doubtful_among-plain.ensures.within c.doubtful_among-plain.ensures.answered
+
+pub returns-then-promotions-eq0-clause-promoting : goal.returns-then-promotions-eq0-clause-promoting
+returns-then-promotions-eq0-clause-promoting c =
+    let ends : ℕ = bit_and c.targets.result c.enterable.result in
+    let reach = rw (c.as_board.ensures, c.as_position-p.ensures) at c.targets.ensures.squares.0 in
+    let enters = c.enterable.ensures in
+    let zone = rw (c.at-cell.ensures, c.as_position-p.ensures) at c.promoting_squares.ensures.squares.0 in
+    doubtful_within c.args.self.now.scene.node.now.position c.args.from true (bit_and ends c.promoting_squares.result) 0 c.validity.ensures (λ n h set. all_ways c.targets.result c.enterable.result n _ _ (reach n h) (enters n h) (and_parts (has_bit ends n) (has_bit c.promoting_squares.result n) (sym (has_bit-and ends c.promoting_squares.result n) ∙ set)).0)
+    (λ n h legal. legal_promotion c.args.self.now.scene.node.now.position c.args.from c.targets.result c.enterable.result c.promoting_squares.result n c.validity.ensures h reach enters (zone n h) legal)
+    (omega arith) (λ n e. absurd (both_ways (has_bit 0 n) (has_bit-none n) e)) (λ n h e out. absurd (both_ways (has_bit (bit_and ends c.promoting_squares.result) n) (ap (λ m. has_bit m n) c.if-promotions-eq0.true ∙ has_bit-none n) e))
 
 pub returns-clause-plain : goal.returns-clause-plain
 returns-clause-plain c =
