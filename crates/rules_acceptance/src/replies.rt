@@ -68,7 +68,7 @@ fn remote_pieces(rt: HostRuntime) -> Result<(), Fail> {
 /// The attacks of what stands on the square, a piece of White's, with Black to move.
 fn attacks(p: &Position, name: &str) -> Result<Destinations, Fail> {
     let from = square(name)?;
-    let free = unpinnable_pieces(p, line_squares(p, p.side().opponent()));
+    let free = unpinnable_pieces(p);
     if !has(free, from.index()) {
         return Err("a piece that nothing pins".into());
     }

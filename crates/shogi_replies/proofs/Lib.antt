@@ -4,5 +4,6 @@ pub mod FarLaws
 pub mod SlideOrigins
 pub mod EscapeLaws
 pub mod KingReplies
+pub mod PinLaws
 pub mod ThreatLaws
 pub mod PassLaws

@@ -1,42 +1,42 @@
 -- A capture by a piece that no move can pin stands after the moves that let it be.
-use Rattle.std.proofs.Common.{◌≡◌, ◌≢◌, ℕ, zero, suc, ◌+◌, ◌-◌, ◌^◌, ◌<◌, ◌≤◌, ◌⊎◌, Bool, true, false, not, Option, Some, None, List, [], ◌∷◌, refl, sym, ap, subst, ◌∙◌, arith, inl, inr, set, length, length-set, get_or-set_same, get_or-set_other, bit_and, bit_or}
+use Rattle.std.proofs.Common.{◌≡◌, ◌≢◌, ℕ, zero, suc, ◌+◌, ◌-◌, ◌^◌, ◌<◌, ◌≤◌, ◌⊎◌, Bool, true, false, not, Option, Some, None, List, [], ◌∷◌, refl, sym, ap, subst, ◌∙◌, arith, inl, inr, set, length, length-set, get_or-set_same, get_or-set_other, bit_and}
 use Rattle.std.specs.Prelude.{is_none, ◌==◌, ◌&&◌, ◌||◌}
 use Rattle.std.specs.List.{list_any}
-use Rattle.std.proofs.lemmas.Nat.{and_le_l}
-use Rattle.std.proofs.lemmas.Bool.{cases_Bool, cases_eq, false_from_ne_true, both_ways, and_parts, and_from, or_left, or_right, or_cases, or_parts, not-true, not_from_false, ne_eqb, eq-eqb}
+use Rattle.std.proofs.lemmas.Bool.{cases_Bool, cases_eq, false_from_ne_true, both_ways, and_parts, and_from, or_left, or_right, or_cases, or_parts, not-true, eq-eqb}
 use Rattle.shogi_core.specs.declared.moves.Move.{Move}
 use Rattle.shogi_core.specs.declared.moves.Move.TheVariants.{Board, Drop}
 use Rattle.shogi_core.specs.declared.offset.Offset.{Offset}
 use Rattle.shogi_core.specs.declared.piece.Color.{Color}
 use Rattle.shogi_core.specs.declared.piece.Kind.{Kind}
 use Rattle.shogi_core.specs.declared.piece.Piece.{Piece}
-use Rattle.shogi_core.specs.Attack.{in_check, is_sniper, is_sniper_of_king, is_sniping}
+use Rattle.shogi_core.specs.Attack.{in_check, is_sniper, is_sniper_of_king}
 use Rattle.shogi_core.specs.Below.{some_below, all_below}
 use Rattle.shogi_core.specs.Bits.{has_bit}
 use Rattle.shogi_core.specs.Cell.{is_piece_of, is_king, is_immobile, is_slider}
-use Rattle.shogi_core.specs.Lines.{are_aligned, are_lined}
+use Rattle.shogi_core.specs.Lines.{are_aligned, are_lined, around}
 use Rattle.shogi_core.specs.Movement.{Cells, piece_at, reaches, cell_reaches, has_step, has_slide, slides, slides_across, slides_of, is_step_empty, is_same_square, is_empty, away, leads, for_side}
 use Rattle.shogi_core.specs.Pieces.{opponent_of}
 use Rattle.shogi_core.specs.Position.{Shogi, HandCounts}
+use Rattle.shogi_core.specs.Rays.{direction_at, is_on_ray}
 use Rattle.shogi_core.specs.Validity.{IsValid}
 use Rattle.shogi_core.proofs.Below.{some_below_at, some_below_not, all_below_at, all_below_yes}
-use Rattle.shogi_core.proofs.BitLaws.{has_bit-and, has_bit-none, has_bit-or}
+use Rattle.shogi_core.proofs.BitLaws.{has_bit-and}
 use Rattle.shogi_core.proofs.LineBits.{has_bit-not}
-use Rattle.shogi_core.proofs.SeenLaws.{lined_aligned, lined_back}
-use Rattle.shogi_core.proofs.Snipers.{left_unpinned}
-use Rattle.shogi_core.proofs.Uncovered.{list_any_kept, some_below_which}
+use Rattle.shogi_core.proofs.Shots.{direction_around}
+use Rattle.shogi_core.proofs.Uncovered.{list_any_kept, one_of, some_below_which}
 use Rattle.shogi_moves.specs.After.{after, cells_after, piece_moved, dropped}
 use Rattle.shogi_moves.specs.Legal.{is_legal, is_pseudo_legal_board_move}
 use Rattle.shogi_core.specs.Zones.{may_promote}
-use Rattle.shogi_replies.specs.Replies.{is_aligned_with_king, is_line_of_king, Aligns}
-use Rattle.shogi_replies.specs.Threats.{is_pinnable, is_sniped_from, Snipes, IsUnpinnable, IsAttack, IsThreat, EndsAside, LeavesThreat, MayTake, end_of, put_by}
+use Rattle.shogi_replies.specs.Replies.{is_aligned_with_king, is_line_of_king}
+use Rattle.shogi_replies.specs.Threats.{IsOffPins, IsUnpinnable, IsAttack, IsThreat, EndsAside, LeavesThreat, MayTake, end_of, put_by}
 use Rattle.shogi_moves.proofs.DropChecks as drops
 use Rattle.shogi_moves.proofs.DestinationLaws.{alive, legal_board, still}
 use Rattle.shogi_moves.proofs.CheckInfoLaws.{dropped_of, filled, is_piece_of-piece_moved, look, other_side, quiet_board}
 use Rattle.shogi_moves.proofs.MovedPieces.{is_king-piece_moved}
 use Rattle.shogi_core.proofs.Faults.{faultless_from}
-use Rattle.shogi_replies.proofs.ReplyLaws.{LeavesStanding, left_board, left_drop, left_lifted, see_lifted, legal_own, stays_unlined, unaligned}
+use Rattle.shogi_replies.proofs.ReplyLaws.{LeavesStanding, left_board, left_drop, left_lifted, see_lifted, legal_own, stays_unlined}
 use Rattle.std.proofs.lemmas.List.{set_comm, set-set}
+use Rattle.shogi_replies.proofs.PinLaws.{left_off_pins}
 
 -- ---- what a piece reaches without the end of the move, it reaches after it
 
@@ -117,16 +117,12 @@ reach_to old new to clear (Some piece) a e = elim (or_cases (has_step piece a to
 
 -- ---- a capture by a piece that is not pinned
 
--- a piece on an open line with none that slides and is on a line with its king, but that on the square where it takes, leaves the king in no check
+-- a piece between its king and no piece that slides, but that on the square where it takes, leaves the king in no check
 unpinned_take : (cells : Cells) (side : Color) (a t : ℕ) (v : Option Piece) → length cells ≡ 81 → a < 81 → t < 81 → a ≢ t → is_piece_of side v ≡ true → is_king side v ≡ false → is_king side (piece_at cells a) ≡ false → is_piece_of side (piece_at cells a) ≡ true → in_check cells side ≡ false
-    → ((x : ℕ) → x < 81 → x ≢ t → is_sniping cells side x ≡ true → are_aligned a x ≡ false) → in_check (set (set cells a None) t v) side ≡ false
-unfolding is_sniping
+    → ((k x d : ℕ) → k < 81 → x < 81 → d < 8 → x ≢ t → is_sniper_of_king cells side x k ≡ true → is_on_ray (direction_at d) k a ≡ true → is_on_ray (direction_at d) a x ≡ false) → in_check (set (set cells a None) t v) side ≡ false
 unpinned_take cells side a t v len ha ht other own plain bare mine safe apart =
-    left_unpinned (set cells t v) (set (set cells a None) t v) a opened side a theirs crown none_there (filled cells side t v len ht own plain safe) unlined_snipers
+    left_off_pins (set cells t v) (set (set cells a None) t v) a ha opened side theirs crown (filled cells side t v len ht own plain safe) off_pins
   where
-    see : (x : ℕ) → ((x ≡ t) × (piece_at (set (set cells a None) t v) x ≡ v)) ⊎ (((x ≡ a) × (piece_at (set (set cells a None) t v) x ≡ None)) ⊎ (piece_at (set (set cells a None) t v) x ≡ piece_at cells x))
-    see x = look cells side a t v len ha ht x
-
     placed : piece_at (set cells t v) t ≡ v
     placed = get_or-set_same cells t v None (omega (arith, len))
 
@@ -148,8 +144,11 @@ unpinned_take cells side a t v len ha ht other own plain bare mine safe apart =
       | inr off ↦ inl (ap is_none (same_unless x off) ∙ e)
     ]
 
-    theirs : (x : ℕ) → is_piece_of (opponent_of side) (piece_at (set (set cells a None) t v) x) ≡ true → (piece_at (set cells t v) x ≡ piece_at (set (set cells a None) t v) x) ⊎ (x ≡ a)
-    theirs x e = elim (cases_eq x a) [ inl here ↦ inr here | inr off ↦ inl (same_unless x off) ]
+    theirs : (x : ℕ) → is_piece_of (opponent_of side) (piece_at (set (set cells a None) t v) x) ≡ true → piece_at (set cells t v) x ≡ piece_at (set (set cells a None) t v) x
+    theirs x e = elim (cases_eq x a) [
+      | inl here ↦ absurd (let clash : false ≡ true = ap (is_piece_of (opponent_of side)) (sym (ap (piece_at (set (set cells a None) t v)) here ∙ left_bare)) ∙ e in cc)
+      | inr off ↦ same_unless x off
+    ]
 
     crown : (k : ℕ) → is_king side (piece_at (set (set cells a None) t v) k) ≡ true → piece_at (set cells t v) k ≡ piece_at (set (set cells a None) t v) k
     crown k e = elim (cases_eq k a) [
@@ -157,20 +156,16 @@ unpinned_take cells side a t v len ha ht other own plain bare mine safe apart =
       | inr off ↦ same_unless k off
     ]
 
-    none_there : (k : ℕ) → k < 81 → is_king side (piece_at (set cells t v) k) ≡ true → cell_reaches (set (set cells a None) t v) (piece_at (set (set cells a None) t v) a) a k ≡ false
-    none_there k l e = ap (λ cell. cell_reaches (set (set cells a None) t v) cell a k) left_bare
-
-    unlined_snipers : (x : ℕ) → x < 81 → is_sniping (set cells t v) side x ≡ true → are_lined (set cells t v) a x ≡ false
-    unlined_snipers x l e = false_from_ne_true _ (λ lined. (
-        let which = some_below_which 81 (is_sniper_of_king (set cells t v) side x) e in
-        let two : (is_king side (piece_at (set cells t v) which.0) ≡ true) × (is_sniper (set cells t v) (opponent_of side) which.0 x ≡ true) = and_parts _ _ which.2 in
-        let inner = and_parts (is_piece_of (opponent_of side) (piece_at (set cells t v) x) && is_slider (piece_at (set cells t v) x)) (are_aligned which.0 x) two.1 in
+    off_pins : (k x d : ℕ) → k < 81 → x < 81 → d < 8 → is_sniper_of_king (set cells t v) side x k ≡ true → is_on_ray (direction_at d) k a ≡ true → is_on_ray (direction_at d) a x ≡ false
+    off_pins k x d hk hx hd e on =
+        let two : (is_king side (piece_at (set cells t v) k) ≡ true) × (is_sniper (set cells t v) (opponent_of side) k x ≡ true) = and_parts _ _ e in
+        let inner = and_parts (is_piece_of (opponent_of side) (piece_at (set cells t v) x) && is_slider (piece_at (set cells t v) x)) (are_aligned k x) two.1 in
         let foe = and_parts (is_piece_of (opponent_of side) (piece_at (set cells t v) x)) (is_slider (piece_at (set cells t v) x)) inner.0 in
         let off : x ≢ t = λ (there : x ≡ t). both_ways (is_piece_of (opponent_of side) v) (other_side side v own) (subst (λ (cell : Option Piece). is_piece_of (opponent_of side) cell ≡ true) (ap (piece_at (set cells t v)) there ∙ placed) foe.0) in
-        let king_off : which.0 ≢ t = λ (there : which.0 ≡ t). both_ways (is_king side v) plain (subst (λ (cell : Option Piece). is_king side cell ≡ true) (ap (piece_at (set cells t v)) there ∙ placed) two.0) in
-        let king : is_king side (piece_at cells which.0) ≡ true = ap (is_king side) (sym (before which.0 king_off)) ∙ two.0 in
-        let slides : is_sniper cells (opponent_of side) which.0 x ≡ true = and_from _ _ (and_from _ _ (ap (is_piece_of (opponent_of side)) (sym (before x off)) ∙ foe.0) (ap is_slider (sym (before x off)) ∙ foe.1)) inner.1 in
-        both_ways (are_aligned a x) (apart x l off (some_below_at 81 (is_sniper_of_king cells side x) which.0 which.1 (and_from _ _ king slides))) (lined_aligned (set cells t v) a x lined)))
+        let king_off : k ≢ t = λ (there : k ≡ t). both_ways (is_king side v) plain (subst (λ (cell : Option Piece). is_king side cell ≡ true) (ap (piece_at (set cells t v)) there ∙ placed) two.0) in
+        let king : is_king side (piece_at cells k) ≡ true = ap (is_king side) (sym (before k king_off)) ∙ two.0 in
+        let slides : is_sniper cells (opponent_of side) k x ≡ true = and_from _ _ (and_from _ _ (ap (is_piece_of (opponent_of side)) (sym (before x off)) ∙ foe.0) (ap is_slider (sym (before x off)) ∙ foe.1)) inner.1 in
+        apart k x d hk hx hd off (and_from _ _ king slides) on
 
 -- ---- the capture stands
 
@@ -179,24 +174,28 @@ abbrev pub AddsOne : Cells → Cells → Color → ℕ → Type 0
 AddsOne old new side to = (x : ℕ) → is_piece_of (opponent_of side) (piece_at new x) ≡ true → x ≢ to → piece_at old x ≡ piece_at new x
 
 -- a piece that sniped not before is that which came to the square
-sniped_before : (old new : Cells) (side : Color) (to x : ℕ) → AddsOne old new side to → ((k : ℕ) → is_king side (piece_at new k) ≡ true → piece_at old k ≡ piece_at new k) → x < 81 → is_sniping new side x ≡ true → (is_sniping old side x ≡ true) ⊎ ((x ≡ to) × (is_slider (piece_at new x) ≡ true) × (is_aligned_with_king old side x ≡ true))
-unfolding is_sniping is_aligned_with_king
-sniped_before old new side to x adds kings l e =
-    let which = some_below_which 81 (is_sniper_of_king new side x) e in
-    let two : (is_king side (piece_at new which.0) ≡ true) × (is_sniper new (opponent_of side) which.0 x ≡ true) = and_parts _ _ which.2 in
-    let inner = and_parts (is_piece_of (opponent_of side) (piece_at new x) && is_slider (piece_at new x)) (are_aligned which.0 x) two.1 in
+sniper_before : (old new : Cells) (side : Color) (to k x : ℕ) → AddsOne old new side to → ((k : ℕ) → is_king side (piece_at new k) ≡ true → piece_at old k ≡ piece_at new k) → k < 81 → is_sniper_of_king new side x k ≡ true
+    → (is_sniper_of_king old side x k ≡ true) ⊎ ((x ≡ to) × (is_slider (piece_at new x) ≡ true) × (is_aligned_with_king old side x ≡ true))
+unfolding is_aligned_with_king
+sniper_before old new side to k x adds kings h e =
+    let two : (is_king side (piece_at new k) ≡ true) × (is_sniper new (opponent_of side) k x ≡ true) = and_parts _ _ e in
+    let inner = and_parts (is_piece_of (opponent_of side) (piece_at new x) && is_slider (piece_at new x)) (are_aligned k x) two.1 in
     let foe = and_parts (is_piece_of (opponent_of side) (piece_at new x)) (is_slider (piece_at new x)) inner.0 in
-    let king : is_king side (piece_at old which.0) ≡ true = ap (is_king side) (kings which.0 two.0) ∙ two.0 in
+    let king : is_king side (piece_at old k) ≡ true = ap (is_king side) (kings k two.0) ∙ two.0 in
     elim (cases_eq x to) [
-      | inl there ↦ inr (there, foe.1, some_below_at 81 (is_line_of_king old side x) which.0 which.1 (and_from _ _ king inner.1))
-      | inr off ↦ (let same = adds x foe.0 off in inl (some_below_at 81 (is_sniper_of_king old side x) which.0 which.1 (and_from _ _ king (and_from _ _ (and_from _ _ (ap (is_piece_of (opponent_of side)) same ∙ foe.0) (ap is_slider same ∙ foe.1)) inner.1))))
+      | inl there ↦ inr (there, foe.1, some_below_at 81 (is_line_of_king old side x) k h (and_from _ _ king inner.1))
+      | inr off ↦ (let same = adds x foe.0 off in inl (and_from _ _ king (and_from _ _ (and_from _ _ (ap (is_piece_of (opponent_of side)) same ∙ foe.0) (ap is_slider same ∙ foe.1)) inner.1)))
     ]
+
+-- what is on no line with the square is in no direction from it
+off_ray : (a x d : ℕ) → d < 8 → are_aligned a x ≡ false → is_on_ray (direction_at d) a x ≡ false
+unfolding are_lined
+off_ray a x d hd off = false_from_ne_true (is_on_ray (direction_at d) a x) (λ on. both_ways (are_aligned a x) off (one_of (λ q. slides [] q a x) (direction_at d) around (direction_around d hd) on))
 
 -- a capture by an unpinnable piece leaves its king in no check, if what came to the square is taken or pins nothing
 takes_safely : (p : Shogi) (new : Cells) (a t to : ℕ) (promote : Bool) → LeavesStanding p.cells new (opponent_of p.side) to → in_check new (opponent_of p.side) ≡ false → AddsOne p.cells new (opponent_of p.side) to → IsUnpinnable p a → t < 81 → a ≢ t → a ≢ to
     → ((to ≡ t) ⊎ (is_slider (piece_at new to) ≡ true → is_aligned_with_king p.cells (opponent_of p.side) a ≡ true → is_aligned_with_king p.cells (opponent_of p.side) to ≡ true → are_aligned a to ≡ false))
     → in_check (cells_after new (opponent_of p.side) (Board a t promote)) (opponent_of p.side) ≡ false
-unfolding is_pinnable
 takes_safely p new a t to promote k shut adds free ht other away pins =
     let color : Color = opponent_of p.side in
     let same : piece_at new a ≡ piece_at p.cells a = k.stays a free.theirs away in
@@ -204,18 +203,15 @@ takes_safely p new a t to promote k shut adds free ht other away pins =
     let plain : is_king color (piece_at new a) ≡ false = ap (is_king color) same ∙ free.no_king in
     elim (cases_Bool (is_aligned_with_king p.cells (opponent_of p.side) a)) [
       | inl lined ↦ unpinned_take new color a t (piece_moved promote (piece_at new a)) k.len free.on_board ht other (is_piece_of-piece_moved color promote (piece_at new a) ∙ own) (is_king-piece_moved color promote (piece_at new a) ∙ plain) plain own shut
-          (λ x l off sniping. elim (sniped_before p.cells new color to x adds k.kings l sniping) [
-            | inl was ↦ false_from_ne_true (are_aligned a x) (λ near. both_ways (some_below 81 (is_sniped_from p.cells color a)) (unsniped lined) (some_below_at 81 (is_sniped_from p.cells color a) x l (and_from _ _ was near)))
+          (λ king x d hk hx hd off sniping on. elim (sniper_before p.cells new color to king x adds k.kings hk sniping) [
+            | inl was ↦ free.unpinned king x d hk hx hd was on
             | inr came ↦ elim pins [
               | inl taken ↦ absurd (off (came.0 ∙ taken))
-              | inr harmless ↦ subst (λ (y : ℕ). are_aligned a y ≡ false) (sym came.0) (harmless (subst (λ (y : ℕ). is_slider (piece_at new y) ≡ true) came.0 came.1) lined (subst (λ (y : ℕ). is_aligned_with_king p.cells (opponent_of p.side) y ≡ true) came.0 came.2))
+              | inr harmless ↦ off_ray a x d hd (subst (λ (y : ℕ). are_aligned a y ≡ false) (sym came.0) (harmless (subst (λ (y : ℕ). is_slider (piece_at new y) ≡ true) came.0 came.1) lined (subst (λ (y : ℕ). is_aligned_with_king p.cells (opponent_of p.side) y ≡ true) came.0 came.2)))
             ]
           ])
       | inr off ↦ quiet_board new color a t promote k.len free.on_board ht own plain (stays_unlined p.cells new color a free.on_board k.kings off) shut
     ]
-  where
-    unsniped : is_aligned_with_king p.cells (opponent_of p.side) a ≡ true → some_below 81 (is_sniped_from p.cells (opponent_of p.side) a) ≡ false
-    unsniped lined = false_from_ne_true _ (λ e. both_ways (is_pinnable p.cells (opponent_of p.side) a) free.unpinned (and_from _ _ lined e))
 
 -- so it is legal where the piece still reaches the square
 takes_legally : (p : Shogi) (new : Cells) (hands : HandCounts) (a t to : ℕ) (promote : Bool) → LeavesStanding p.cells new (opponent_of p.side) to → IsAttack p a t promote → a ≢ to
@@ -356,44 +352,17 @@ module _ (p : Shogi) (kind : Kind) (to : ℕ) (v : IsValid p) (ht : to < 81) whe
 
 -- ---- such captures are found by masks
 
-pub snipings_first : (cells : Cells) (side : Color) (m : ℕ) → ((n : ℕ) → n < 81 → has_bit m n ≡ is_sniping cells side n) → Snipes cells side m 0
-snipings_first cells side m bits = record { squares = λ x a h l e out lined. absurd (both_ways (has_bit m x) out (bits x h ∙ e)) }
-
-pub snipings_more : (cells : Cells) (side : Color) (left next sniped sniper squares : ℕ) → Snipes cells side left sniped → sniper < 81 → ((i : ℕ) → has_bit next i ≡ (has_bit left i && not (i == sniper))) → ((n : ℕ) → n < 81 → has_bit squares n ≡ are_aligned sniper n) → Snipes cells side next (bit_or sniped squares)
-snipings_more cells side left next sniped sniper squares h l bits on_line = record {
-  squares = λ x a hx ha e out lined. has_bit-or sniped squares a ∙ elim (cases_eq x sniper) [
-    | inl same ↦ or_right (has_bit sniped a) (has_bit squares a) (on_line a ha ∙ subst (λ (j : ℕ). are_aligned j a ≡ true) same (lined_back [] a x ha lined))
-    | inr other ↦ or_left _ _ (h.squares x a hx ha e (false_from_ne_true (has_bit left x) (λ set. both_ways (has_bit next x) out (bits x ∙ and_from _ _ set (not_from_false _ (ne_eqb x sniper other))))) lined)
-  ];
-}
-
-pub ruleset snipings = (snipings_first)
-
-pub found_unpinnable : (p : Shogi) (lines sniped own kings a : ℕ) → Aligns p.cells (opponent_of p.side) 0 lines → Snipes p.cells (opponent_of p.side) 0 sniped → lines < 2 ^ 128 → kings < 2 ^ 128 → ((n : ℕ) → n < 81 → has_bit own n ≡ is_piece_of (opponent_of p.side) (piece_at p.cells n)) → ((n : ℕ) → n < 81 → has_bit kings n ≡ is_king (opponent_of p.side) (piece_at p.cells n)) → a < 81
-    → has_bit (bit_and (bit_and own (2 ^ 128 - 1 - kings)) (2 ^ 128 - 1 - bit_and lines sniped)) a ≡ true → IsUnpinnable p a
-unfolding is_pinnable
-found_unpinnable p lines sniped own kings a s x fits low bits crown h e =
-    let two : (has_bit (bit_and own (2 ^ 128 - 1 - kings)) a ≡ true) × (has_bit (2 ^ 128 - 1 - bit_and lines sniped) a ≡ true) = and_parts _ _ (sym (has_bit-and (bit_and own (2 ^ 128 - 1 - kings)) (2 ^ 128 - 1 - bit_and lines sniped) a) ∙ e) in
+pub found_unpinnable : (p : Shogi) (own kings pinnable a : ℕ) → kings < 2 ^ 128 → pinnable < 2 ^ 128 → ((n : ℕ) → n < 81 → has_bit own n ≡ is_piece_of (opponent_of p.side) (piece_at p.cells n)) → ((n : ℕ) → n < 81 → has_bit kings n ≡ is_king (opponent_of p.side) (piece_at p.cells n))
+    → ((n : ℕ) → n < 81 → has_bit pinnable n ≡ false → IsOffPins p.cells (opponent_of p.side) n) → a < 81 → has_bit (bit_and (bit_and own (2 ^ 128 - 1 - kings)) (2 ^ 128 - 1 - pinnable)) a ≡ true → IsUnpinnable p a
+found_unpinnable p own kings pinnable a low fits bits crown off h e =
+    let two : (has_bit (bit_and own (2 ^ 128 - 1 - kings)) a ≡ true) × (has_bit (2 ^ 128 - 1 - pinnable) a ≡ true) = and_parts _ _ (sym (has_bit-and (bit_and own (2 ^ 128 - 1 - kings)) (2 ^ 128 - 1 - pinnable) a) ∙ e) in
     let one : (has_bit own a ≡ true) × (has_bit (2 ^ 128 - 1 - kings) a ≡ true) = and_parts _ _ (sym (has_bit-and own (2 ^ 128 - 1 - kings) a) ∙ two.0) in
-    let off : has_bit (bit_and lines sniped) a ≡ false = not-true _ (sym (has_bit-not (bit_and lines sniped) a (and_fits_all lines sniped fits) (omega arith)) ∙ two.1) in
     record {
       on_board = h;
       theirs = sym (bits a h) ∙ one.0;
       no_king = sym (crown a h) ∙ not-true _ (sym (has_bit-not kings a low (omega arith)) ∙ one.1);
-      unpinned = false_from_ne_true _ (λ pinned. (
-          let parts : (is_aligned_with_king p.cells (opponent_of p.side) a ≡ true) × (some_below 81 (is_sniped_from p.cells (opponent_of p.side) a) ≡ true) = and_parts _ _ pinned in
-          let which = some_below_which 81 (is_sniped_from p.cells (opponent_of p.side) a) parts.1 in
-          let sniper : (is_sniping p.cells (opponent_of p.side) which.0 ≡ true) × (are_aligned a which.0 ≡ true) = and_parts _ _ which.2 in
-          both_ways (has_bit (bit_and lines sniped) a) off
-          (has_bit-and lines sniped a ∙ and_from _ _ (false_or_true (has_bit lines a) (λ out. both_ways (is_aligned_with_king p.cells (opponent_of p.side) a) (unaligned p.cells (opponent_of p.side) lines a s h out) parts.0)) (x.squares which.0 a which.1 h sniper.0 (has_bit-none which.0) sniper.1))));
+      unpinned = off a h (not-true _ (sym (has_bit-not pinnable a fits (omega arith)) ∙ two.1));
     }
-  where
-    and_fits_all : (a b : ℕ) → a < 2 ^ 128 → bit_and a b < 2 ^ 128
-    and_fits_all a b h = omega (arith, and_le_l a b, h)
-
-    false_or_true : (b : Bool) → (b ≡ false → ⊥) → b ≡ true
-    false_or_true true h = refl
-    false_or_true false h = absurd (h refl)
 
 -- where such a piece may go without promotion
 pub found_plain : (p : Shogi) (a t targets reach dead : ℕ) → IsUnpinnable p a → dead < 2 ^ 128 → ((n : ℕ) → n < 81 → has_bit targets n ≡ reaches p.cells a n) → ((i : ℕ) → has_bit reach i ≡ (has_bit targets i && not (i == a))) → ((n : ℕ) → n < 81 → has_bit dead n ≡ is_immobile n (piece_at p.cells a))

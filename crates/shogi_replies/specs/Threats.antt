@@ -1,42 +1,44 @@
 -- Captures by the side that is not to move that stand after most moves (own choice).
-use Rattle.std.specs.Prelude.{ℕ, ◌≡◌, ◌≢◌, ◌<◌, ◌&&◌, Bool, true, false, Option}
+use Rattle.std.specs.Prelude.{ℕ, ◌≡◌, ◌≢◌, ◌<◌, Bool, true, false, Option}
 use Rattle.shogi_core.specs.declared.moves.Move.{Move}
 use Rattle.shogi_core.specs.declared.moves.Move.TheVariants.{Board, Drop}
 use Rattle.shogi_core.specs.declared.piece.Color.{Color}
 use Rattle.shogi_core.specs.declared.piece.Piece.{Piece}
-use Rattle.shogi_core.specs.Attack.{is_sniping}
-use Rattle.shogi_core.specs.Below.{some_below}
+use Rattle.shogi_core.specs.Attack.{is_sniper, is_sniper_of_king}
 use Rattle.shogi_core.specs.Bits.{has_bit}
 use Rattle.shogi_core.specs.Cell.{is_piece_of, is_king, is_immobile, is_slider}
 use Rattle.shogi_core.specs.Lines.{are_aligned}
 use Rattle.shogi_core.specs.Movement.{Cells, piece_at, reaches}
 use Rattle.shogi_core.specs.Pieces.{opponent_of}
 use Rattle.shogi_core.specs.Position.{Shogi}
+use Rattle.shogi_core.specs.Rays.{direction_at, is_on_ray}
 use Rattle.shogi_moves.specs.After.{after, piece_moved, dropped}
 use Rattle.shogi_moves.specs.Legal.{is_legal}
 use Rattle.shogi_core.specs.Zones.{may_promote}
 use Rattle.shogi_replies.specs.Replies.{is_aligned_with_king}
 
--- the square lies on a line with a piece that slides and is on a line with a king of the side, whatever stands between
-abbrev pub is_sniped_from : Cells → Color → ℕ → ℕ → Bool
-is_sniped_from cells side a x = is_sniping cells side x && are_aligned a x
+-- the mask has the squares to which one direction leads from the one square and from which it leads on to the other, whatever stands between
+abbrev pub HasBetween : ℕ → ℕ → ℕ → Type 0
+HasBetween from to mask = (d n : ℕ) → d < 8 → n < 81 → is_on_ray (direction_at d) from n ≡ true
+    → is_on_ray (direction_at d) n to ≡ true → has_bit mask n ≡ true
 
--- some such piece may pin what stands on the square: that is on a line with a king of the side as well
-unfoldable pub is_pinnable : Cells → Color → ℕ → Bool
-is_pinnable cells side a =
-    is_aligned_with_king cells side a && some_below 81 (is_sniped_from cells side a)
+-- and so all between the king and those pieces of the other side which slide, are on a line with it and are not left
+abbrev pub HasBeforeSnipers : Cells → Color → ℕ → ℕ → ℕ → Type 0
+HasBeforeSnipers cells side king left mask = (x : ℕ) → x < 81
+    → is_sniper cells (opponent_of side) king x ≡ true → has_bit left x ≡ false → HasBetween king x mask
 
--- a mask with all squares on lines with such pieces which are not left
-pub record Snipes (cells : Cells) (side : Color) (left sniped : ℕ) : Type 0 where
-  pub squares : (x a : ℕ) → x < 81 → a < 81 → is_sniping cells side x ≡ true
-      → has_bit left x ≡ false → are_aligned a x ≡ true → has_bit sniped a ≡ true
+-- no direction leads from a king of the side to the square and on to such a piece, whatever stands between
+abbrev pub IsOffPins : Cells → Color → ℕ → Type 0
+IsOffPins cells side a = (k x d : ℕ) → k < 81 → x < 81 → d < 8
+    → is_sniper_of_king cells side x k ≡ true → is_on_ray (direction_at d) k a ≡ true
+    → is_on_ray (direction_at d) a x ≡ false
 
 -- a piece of the side that is not to move, no king, that none of the pieces may pin that stand there, whatever leaves its square
 pub record IsUnpinnable (p : Shogi) (a : ℕ) : Type 0 where
   pub on_board : a < 81
   pub theirs : is_piece_of (opponent_of p.side) (piece_at p.cells a) ≡ true
   pub no_king : is_king (opponent_of p.side) (piece_at p.cells a) ≡ false
-  pub unpinned : is_pinnable p.cells (opponent_of p.side) a ≡ false
+  pub unpinned : IsOffPins p.cells (opponent_of p.side) a
 
 -- such a piece reaches another square, and may go there, promoting or not, as far as its role goes
 pub record IsAttack (p : Shogi) (a t : ℕ) (promote : Bool) : Type 0 where

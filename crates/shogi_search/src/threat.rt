@@ -131,7 +131,7 @@ pub fn threats_of(p: &Position, e: Eval) -> Threats
     ensures { AreThreatsIn p.now e result }
 {
     let lines = line_squares(p, p.side().opponent());
-    let mut left = unpinnable_pieces(p, lines);
+    let mut left = unpinnable_pieces(p);
     let mut threats = Threats {
         takes: 0,
         greatest: None,

@@ -1,20 +1,19 @@
-use Rattle.std.proofs.Common.{◌≡◌, ◌<◌, ◌∙◌, ℕ, ap, subst, arith}
+use Rattle.std.proofs.Common.{◌≡◌, ◌<◌, ◌∙◌, ℕ, false, ap, subst, arith}
 use Rattle.shogi_core.specs.declared.piece.Color.{Color}
 use Rattle.shogi_core.specs.Bits.{has_bit}
 use Rattle.shogi_core.specs.Cell.{is_king, is_piece_of}
 use Rattle.shogi_core.specs.Movement.{piece_at}
 use Rattle.shogi_core.specs.Pieces.{opponent_of}
-use Rattle.shogi_replies.specs.Threats.{Snipes}
+use Rattle.shogi_replies.specs.Threats.{IsOffPins}
 use Rattle.shogi_replies.proofs.ThreatLaws.{found_unpinnable}
 use Rattle.shogi_replies.proofs.threats.unpinnable_pieces.Goals as goal
 
 pub returns-clause-unpinnable : goal.returns-clause-unpinnable
 returns-clause-unpinnable c = λ a h e.
     let side : c.opponent-side.result ≡ opponent_of c.args.p.now.side = c.opponent-side.ensures ∙ ap opponent_of c.side.ensures in
-    found_unpinnable c.args.p.now c.args.lines c.sniped_squares.result c.own.result c.kings.result a
-    c.requires
-    (subst (λ (s : Color). Snipes c.args.p.now.cells s 0 c.sniped_squares.result) side c.sniped_squares.ensures)
+    found_unpinnable c.args.p.now c.own.result c.kings.result c.pinnable_squares.result a
     (omega arith) (omega arith)
     (subst (λ (s : Color). (n : ℕ) → n < 81 → has_bit c.own.result n ≡ is_piece_of s (piece_at c.args.p.now.cells n)) side (rw c.as_board-board.ensures at c.own.ensures.squares.0))
     (subst (λ (s : Color). (n : ℕ) → n < 81 → has_bit c.kings.result n ≡ is_king s (piece_at c.args.p.now.cells n)) side (rw c.as_board-board.ensures at c.kings.ensures.squares.0))
+    (subst (λ (s : Color). (n : ℕ) → n < 81 → has_bit c.pinnable_squares.result n ≡ false → IsOffPins c.args.p.now.cells s n) side c.pinnable_squares.ensures)
     h e

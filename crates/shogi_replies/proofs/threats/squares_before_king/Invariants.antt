@@ -1,10 +1,10 @@
 use Rattle.std.proofs.Common.{◌<◌, ◌^◌}
-use Rattle.shogi_replies.specs.Threats.{Snipes}
-use Rattle.shogi_replies.proofs.threats.sniped_squares.Given as goal
+use Rattle.shogi_replies.specs.Threats.{HasBeforeSnipers}
+use Rattle.shogi_replies.proofs.threats.squares_before_king.Given as goal
 
 abbrev pub invariant-loop-left : goal.invariant-loop-left
 invariant-loop-left l = record {
-  all : Snipes l.p.cells l.fn.side l.left l.sniped;
+  all : HasBeforeSnipers l.p.cells l.fn.side l.king l.left l.squares;
   left : l.left < 2 ^ 81;
 }
 

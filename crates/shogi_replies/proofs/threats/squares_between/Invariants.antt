@@ -1,0 +1,5 @@
+use Rattle.shogi_replies.proofs.PinLaws.{HasBetweenBelow}
+use Rattle.shogi_replies.proofs.threats.squares_between.Given as goal
+
+abbrev pub invariant-loop-direction : goal.invariant-loop-direction
+invariant-loop-direction l = HasBetweenBelow l.fn.from l.fn.to l.direction l.between
