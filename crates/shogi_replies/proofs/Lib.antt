@@ -1,4 +1,5 @@
 pub mod ReplyLaws
+pub mod UncoverLaws
 pub mod CheckLaws
 pub mod FarLaws
 pub mod SlideOrigins

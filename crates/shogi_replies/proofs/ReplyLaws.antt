@@ -295,16 +295,16 @@ module _ (p : Shogi) (from to : ℕ) (promote : Bool) (v : IsValid p) (hf : from
   abbrev what_moved : Option Piece
   what_moved = piece_moved promote (piece_at p.cells from)
 
-  moved_own : is_piece_of p.side (piece_moved promote (piece_at p.cells from)) ≡ true
+  pub moved_own : is_piece_of p.side (piece_moved promote (piece_at p.cells from)) ≡ true
   moved_own = is_piece_of-piece_moved p.side promote (piece_at p.cells from) ∙ own
 
-  see_board : (x : ℕ) → ((x ≡ to) × (piece_at (set (set p.cells from None) to (piece_moved promote (piece_at p.cells from))) x ≡ piece_moved promote (piece_at p.cells from))) ⊎ (((x ≡ from) × (piece_at (set (set p.cells from None) to (piece_moved promote (piece_at p.cells from))) x ≡ None)) ⊎ (piece_at (set (set p.cells from None) to (piece_moved promote (piece_at p.cells from))) x ≡ piece_at p.cells x))
+  pub see_board : (x : ℕ) → ((x ≡ to) × (piece_at (set (set p.cells from None) to (piece_moved promote (piece_at p.cells from))) x ≡ piece_moved promote (piece_at p.cells from))) ⊎ (((x ≡ from) × (piece_at (set (set p.cells from None) to (piece_moved promote (piece_at p.cells from))) x ≡ None)) ⊎ (piece_at (set (set p.cells from None) to (piece_moved promote (piece_at p.cells from))) x ≡ piece_at p.cells x))
   see_board x = look p.cells p.side from to (piece_moved promote (piece_at p.cells from)) v.cells_fit hf ht x
 
-  lands_board : piece_at (set (set p.cells from None) to (piece_moved promote (piece_at p.cells from))) to ≡ piece_moved promote (piece_at p.cells from)
+  pub lands_board : piece_at (set (set p.cells from None) to (piece_moved promote (piece_at p.cells from))) to ≡ piece_moved promote (piece_at p.cells from)
   lands_board = get_or-set_same (set p.cells from None) to what_moved None (omega (arith, length-set p.cells from None, v.cells_fit))
 
-  opened_board : (x : ℕ) → is_none (piece_at (set (set p.cells from None) to (piece_moved promote (piece_at p.cells from))) x) ≡ true → (is_none (piece_at p.cells x) ≡ true) ⊎ (x ≡ from)
+  pub opened_board : (x : ℕ) → is_none (piece_at (set (set p.cells from None) to (piece_moved promote (piece_at p.cells from))) x) ≡ true → (is_none (piece_at p.cells x) ≡ true) ⊎ (x ≡ from)
   opened_board x e = elim (see_board x) [
     | inl there ↦ absurd (both_ways (is_none what_moved) (own_some p.side what_moved moved_own) (ap is_none (sym there.1) ∙ e))
     | inr rest ↦ elim rest [ inl here ↦ inr here.0 | inr same ↦ inl (ap is_none (sym same) ∙ e) ]
@@ -316,13 +316,13 @@ module _ (p : Shogi) (from to : ℕ) (promote : Bool) (v : IsValid p) (hf : from
     | inr rest ↦ elim rest [ inl here ↦ absurd (let clash : false ≡ true = ap (is_piece_of (opponent_of (opponent_of p.side))) (sym here.1) ∙ e in cc) | inr same ↦ inl (sym same) ]
   ]
 
-  crown_board : (k : ℕ) → is_king (opponent_of p.side) (piece_at (set (set p.cells from None) to (piece_moved promote (piece_at p.cells from))) k) ≡ true → piece_at p.cells k ≡ piece_at (set (set p.cells from None) to (piece_moved promote (piece_at p.cells from))) k
+  pub crown_board : (k : ℕ) → is_king (opponent_of p.side) (piece_at (set (set p.cells from None) to (piece_moved promote (piece_at p.cells from))) k) ≡ true → piece_at p.cells k ≡ piece_at (set (set p.cells from None) to (piece_moved promote (piece_at p.cells from))) k
   crown_board k e = elim (see_board k) [
     | inl there ↦ absurd (both_ways (is_king (opponent_of p.side) what_moved) (crowned (opponent_of p.side) what_moved (other_side p.side what_moved moved_own)) (ap (is_king (opponent_of p.side)) (sym there.1) ∙ e))
     | inr rest ↦ elim rest [ inl here ↦ absurd (let clash : false ≡ true = ap (is_king (opponent_of p.side)) (sym here.1) ∙ e in cc) | inr same ↦ sym same ]
   ]
 
-  stays_bare : (x : ℕ) → is_none (piece_at (set (set p.cells from None) to (piece_moved promote (piece_at p.cells from))) x) ≡ true → (is_none (piece_at (set p.cells from None) x) ≡ true) ⊎ ⊥
+  pub stays_bare : (x : ℕ) → is_none (piece_at (set (set p.cells from None) to (piece_moved promote (piece_at p.cells from))) x) ≡ true → (is_none (piece_at (set p.cells from None) x) ≡ true) ⊎ ⊥
   stays_bare x e = elim (cases_eq x to) [
     | inl there ↦ absurd (both_ways (is_none what_moved) (own_some p.side what_moved moved_own) (ap is_none (sym (ap (piece_at (set (set p.cells from None) to (piece_moved promote (piece_at p.cells from)))) there ∙ lands_board)) ∙ e))
     | inr other ↦ inl (ap is_none (sym (get_or-set_other (set p.cells from None) to x what_moved None other)) ∙ e)
@@ -412,15 +412,15 @@ module _ (p : Shogi) (from to : ℕ) (v : IsValid p) (hf : from < 81) (own : is_
       (λ k l e. ap (λ cell. cell_reaches (set p.cells from None) cell from k) bare)
       (faultless_from p v.no_fault).shut covered
 
-  pub shut_uncovering : (sight : ℕ) (cell : Option Piece) → Sees p.cells (opponent_of p.side) 0 sight → UncoversNothing p.cells (opponent_of p.side) sight from cell to → in_check (set p.cells from None) (opponent_of p.side) ≡ false
-  shut_uncovering sight cell sees (inl unseen_from) = shut_lifted sight sees (inl unseen_from)
-  shut_uncovering sight cell sees (inr covering) = shut_lifted sight sees (inr covering.1)
+replied_shut : (p : Shogi) (from to : ℕ) (promote : Bool) (sight spare a : ℕ) → IsValid p → IsReplies p sight spare → from < 81 → to < 81 → is_piece_of p.side (piece_at p.cells from) ≡ true → in_check (after p (Board from to promote)).cells (opponent_of p.side) ≡ false
+    → a < 81 → has_bit spare a ≡ true → a ≢ to → legal_codes (after p (Board from to promote)) ≢ []
+replied_shut p from to promote sight spare a v r hf ht own shut ha some other =
+    replied p.cells (cells_after p.cells p.side (Board from to promote)) (after p (Board from to promote)).hands (opponent_of p.side)
+    to (left_board p from to promote v hf ht own) shut a ha other (way_after p (Board from to promote) a (r.spares a ha some))
 
 pub replied_board : (p : Shogi) (from to : ℕ) (promote : Bool) (sight spare a : ℕ) → IsValid p → IsReplies p sight spare → from < 81 → to < 81 → is_piece_of p.side (piece_at p.cells from) ≡ true → UncoversNothing p.cells (opponent_of p.side) sight from (piece_moved promote (piece_at p.cells from)) to → IsHarmless p.cells (opponent_of p.side) (piece_moved promote (piece_at p.cells from)) to
     → a < 81 → has_bit spare a ≡ true → a ≢ to → legal_codes (after p (Board from to promote)) ≢ []
-replied_board p from to promote sight spare a v r hf ht own out off ha some other =
-    replied p.cells (cells_after p.cells p.side (Board from to promote)) (after p (Board from to promote)).hands (opponent_of p.side)
-    to (left_board p from to promote v hf ht own) (shut_board p from to promote v hf ht own sight spare r out off) a ha other (way_after p (Board from to promote) a (r.spares a ha some))
+replied_board p from to promote sight spare a v r hf ht own out off = replied_shut p from to promote sight spare a v r hf ht own (shut_board p from to promote v hf ht own sight spare r out off)
 
 module _ (p : Shogi) (kind : Kind) (to : ℕ) (v : IsValid p) (ht : to < 81) where
   see_drop : (x : ℕ) → ((x ≡ to) × (piece_at (cells_after p.cells p.side (Drop kind to)) x ≡ dropped p.side kind)) ⊎ (piece_at (cells_after p.cells p.side (Drop kind to)) x ≡ piece_at p.cells x)
@@ -550,11 +550,11 @@ legal_own p from to promote e =
     let two = and_parts _ _ three.0 in
     (and_parts _ _ two.0).0
 
-pub certain_board : (p : Shogi) (from to end : ℕ) (promote : Bool) (sight spare : ℕ) → IsValid p → IsReplies p sight spare → from < 81 → to < 81 → end ≡ to → is_legal p (Board from to promote) ≡ true → UncoversNothing p.cells (opponent_of p.side) sight from (piece_moved promote (piece_at p.cells from)) to → IsHarmless p.cells (opponent_of p.side) (piece_moved promote (piece_at p.cells from)) to
+pub certain_board : (p : Shogi) (from to end : ℕ) (promote : Bool) (sight spare : ℕ) → IsValid p → IsReplies p sight spare → from < 81 → to < 81 → end ≡ to → is_legal p (Board from to promote) ≡ true → in_check (after p (Board from to promote)).cells (opponent_of p.side) ≡ false
     → bit_and spare (2 ^ 128 - 1 - 1 * 2 ^ end % 2 ^ 128) ≢ 0 → legal_codes (after p (Board from to promote)) ≢ []
-certain_board p from to end promote sight spare v r hf ht e legal out off some =
+certain_board p from to end promote sight spare v r hf ht e legal shut some =
     let a = another spare end r.fits (omega arith) some in
-    replied_board p from to promote sight spare a.0 v r hf ht (legal_own p from to promote legal) out off a.1 a.2 (λ same. a.3 (same ∙ sym e))
+    replied_shut p from to promote sight spare a.0 v r hf ht (legal_own p from to promote legal) shut a.1 a.2 (λ same. a.3 (same ∙ sym e))
 
 pub certain_drop : (p : Shogi) (kind : Kind) (to end sight spare : ℕ) → IsValid p → IsReplies p sight spare → to < 81 → end ≡ to → IsHarmless p.cells (opponent_of p.side) (dropped p.side kind) to
     → bit_and spare (2 ^ 128 - 1 - 1 * 2 ^ end % 2 ^ 128) ≢ 0 → legal_codes (after p (Drop kind to)) ≢ []

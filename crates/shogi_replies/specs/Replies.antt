@@ -184,3 +184,9 @@ AreFarPieces p sight promotes mask = (a n : ℕ) → a < 81 → n < 81 → has_b
 abbrev pub ChecksAmong : Shogi → Option Piece → ℕ → ℕ → Type 0
 ChecksAmong p cell among mask = (n : ℕ) → n < 81 → has_bit among n ≡ true → has_bit mask n ≡ false
     → IsHarmless p.cells (opponent_of p.side) cell n
+
+-- a legal move from the one square to the other gives no check where it attacks no king from where it ends
+abbrev pub UncoversNoCheck : Shogi → ℕ → ℕ → Type 0
+UncoversNoCheck p from to = (promote : Bool)
+    → IsHarmless p.cells (opponent_of p.side) (piece_moved promote (piece_at p.cells from)) to
+    → GivesNoCheck p (Board from to promote)

@@ -10,13 +10,13 @@ ghost use Rattle.shogi_moves.specs.Destinations.{IsWithin};
 ghost use Rattle.shogi_moves.specs.Escapes.{AreEscapes};
 ghost use Rattle.shogi_moves.specs.Legal.{is_legal};
 ghost use Rattle.shogi_moves.specs.LegalMoves.{legal_codes};
-ghost use Rattle.shogi_replies.specs.Replies.{ChecksAmong, holds_free, is_open_step, is_spare, Sees, Aligns, IsReplies, IsHarmless, IsOpen, StaysCovered, UncoversWithin, AreCertain, AreDropsCertain, AreRemote, HasCertainMoves, PromotesWithin};
+ghost use Rattle.shogi_replies.specs.Replies.{ChecksAmong, holds_free, is_open_step, is_spare, Sees, Aligns, IsReplies, IsHarmless, IsOpen, StaysCovered, UncoversNoCheck, UncoversWithin, AreCertain, AreDropsCertain, AreRemote, HasCertainMoves, PromotesWithin};
 ghost use Rattle.shogi_replies.specs.Threats.{KeepsThreats, MayRetake};
 
 use crate::escapes::{escaped_destinations, escaped_drops};
 use crate::far::far_pieces;
 use crate::row::Row;
-use shogi_core::bits::{ALL_SQUARES, cleared, has, lowest, without, without_lowest};
+use shogi_core::bits::{ALL_SQUARES, cleared, has, lowest, with, without, without_lowest};
 use shogi_core::zones::{dead_squares, promoting_squares};
 use shogi_core::{Color, Kind, Move, Piece, Position, Square, aligned_squares, step_squares};
 use shogi_moves::{dropped, matching_destinations, piece_moved};
@@ -69,6 +69,27 @@ fn may_uncover(p: &Position, side: Color, from: Square) -> bool
     from.validity();
     let snipers = p.as_board().snipers(side) & aligned_squares(from.index());
     snipers != 0 && p.as_board().lined(from) & snipers != 0
+}
+
+/// Whether another piece of the side to move reaches the other side's king once what stands on the
+/// one square has gone to the other.
+#[inline(never)]
+fn is_uncovered(p: &Position, from: Square, to: Square) -> bool
+    ensures { result ≡ false → UncoversNoCheck p.now from to }
+{
+    p.validity();
+    from.validity();
+    to.validity();
+    match p.king(p.side().opponent()) {
+        None => false,
+        Some(king) => {
+            king.validity();
+            let board = p.as_board();
+            let others = without(board.own(p.side()), from.index());
+            let occupied = with(without(board.occupied(), from.index()), to.index());
+            board.is_attacked_among(king, others, occupied)
+        }
+    }
 }
 
 /// Whether what stands on the square has a step to where none of the side's own stands, and from
@@ -210,6 +231,21 @@ impl Replies {
         }
     }
 
+    /// Whether what stands on the one square may uncover a check on its way to the other.
+    #[inline(always)]
+    fn uncovers(&self, p: &Position, from: Square, to: Square) -> bool
+        requires kept { IsReplies p.now self.now.sight self.now.spare }
+        ensures { result ≡ false → UncoversNoCheck p.now from to }
+    {
+        p.validity();
+        from.validity();
+        to.validity();
+        if has(self.uncovering_squares(p, from), to.index()) {
+            return is_uncovered(p, from, to);
+        }
+        false
+    }
+
     /// What is kept of the position.
     pub fn of(p: &Position) -> Replies
         ensures { IsReplies p.now result.sight result.spare }
@@ -254,7 +290,7 @@ impl Replies {
                 if !self.is_harmless(p, piece_moved(p.at(*from), *promote), *to) {
                     return false;
                 }
-                if has(self.uncovering_squares(p, *from), end) {
+                if self.uncovers(p, *from, *to) {
                     return false;
                 }
                 self.spare & !(1 << end) != 0
