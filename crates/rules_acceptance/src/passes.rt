@@ -4,23 +4,23 @@ use crate::boards::{mask_of, position, read};
 use shogi_core::bits::ALL_SQUARES;
 use shogi_core::{Move, Position};
 use shogi_moves::{BoardSweep, DropSweep, check_info_of};
-use shogi_replies::{Replies, Row, escape_squares};
+use shogi_replies::{ALL_ROLES, Replies, Row, escape_squares};
 use std::test::Fail;
 use test_support::holds;
 
-/// The first move on the board of the kind that is not passed, of some pieces, where moves without
-/// promotion may end on some squares, and moves with promotion on others.
+/// The first move on the board of the kind that is not passed, of some pieces, where it may end on
+/// some squares, and some roles may promote.
 fn first_of(
     p: &Position,
     capture: bool,
     pieces: u128,
-    plain: u128,
-    promoting: u128,
+    squares: u128,
+    promoting: u32,
 ) -> Option<Move> {
     let mut sweep = BoardSweep::new(&check_info_of(p).at(p), capture);
     let row = Row {
         pieces,
-        plain,
+        squares,
         promoting,
         escapes: escape_squares(p),
     };
@@ -29,8 +29,8 @@ fn first_of(
 }
 
 /// The same of all pieces.
-fn first_left(p: &Position, capture: bool, plain: u128, promoting: u128) -> Option<Move> {
-    first_of(p, capture, ALL_SQUARES, plain, promoting)
+fn first_left(p: &Position, capture: bool, squares: u128, promoting: u32) -> Option<Move> {
+    first_of(p, capture, ALL_SQUARES, squares, promoting)
 }
 
 /// Each of the 30 moves of the opening position takes nothing, promotes nothing and is answered.
@@ -40,13 +40,15 @@ fn quiet_moves_of_the_opening_position(rt: HostRuntime) {
 }
 
 /// The pawn on 6e has one move, and no line of the king goes there. The next to move is the pawn on
-/// 7d, which may promote; no move of it, or of the king, gives check.
+/// 7d, which may promote; no move of it, or of the king, gives check. Pawns are the second role.
 #[test]
 fn quiet_moves_and_a_promotion(rt: HostRuntime) -> Result<(), Fail> {
     let p = position("8k/9/9/2P6/3P3p1/9/9/K8/9 b -")?;
     holds!(rt; first_left(&p, false, ALL_SQUARES, 0) == Some(read("7d7c")?));
-    holds!(rt; first_left(&p, false, ALL_SQUARES, ALL_SQUARES).is_none());
-    holds!(rt; first_left(&p, false, 0, ALL_SQUARES) == Some(read("6e6d")?));
+    holds!(rt; first_left(&p, false, ALL_SQUARES, ALL_ROLES).is_none());
+    holds!(rt; first_left(&p, false, ALL_SQUARES, 2).is_none());
+    holds!(rt; first_left(&p, false, ALL_SQUARES, ALL_ROLES - 2) == Some(read("7d7c")?));
+    holds!(rt; first_left(&p, false, 0, ALL_ROLES) == Some(read("6e6d")?));
     Ok(())
 }
 
@@ -66,7 +68,7 @@ fn a_capture(rt: HostRuntime) -> Result<(), Fail> {
 fn a_capture_with_promotion(rt: HostRuntime) -> Result<(), Fail> {
     let p = position("2k6/9/4p4/4P4/9/8p/9/9/K8 b -")?;
     holds!(rt; first_left(&p, true, ALL_SQUARES, 0) == Some(read("5d5c")?));
-    holds!(rt; first_left(&p, true, ALL_SQUARES, ALL_SQUARES).is_none());
+    holds!(rt; first_left(&p, true, ALL_SQUARES, ALL_ROLES).is_none());
     Ok(())
 }
 

@@ -1,5 +1,5 @@
 -- Moves that are passed in a row.
-use Rattle.std.proofs.Common.{◌≡◌, ◌≢◌, ℕ, zero, suc, ◌+◌, ◌-◌, ◌*◌, ◌/◌, ◌%◌, ◌^◌, ◌<◌, ◌≤◌, List, [], ◌∷◌, ◌⊎◌, Bool, true, false, bit_and, bit_or, length, inl, inr, sym, ap, ◌∙◌, arith, subst, not, Some}
+use Rattle.std.proofs.Common.{◌≡◌, ◌≢◌, ℕ, zero, suc, ◌+◌, ◌-◌, ◌*◌, ◌/◌, ◌%◌, ◌^◌, ◌<◌, ◌≤◌, List, [], ◌∷◌, ◌⊎◌, Bool, true, false, bit_and, bit_or, length, inl, inr, sym, ap, ◌∙◌, arith, subst, not, Option, Some, None, refl}
 use Rattle.std.specs.Prelude.{◌&&◌, ◌==◌}
 use Rattle.std.proofs.lemmas.Nat.{and_le_l}
 use Rattle.std.proofs.lemmas.Bool.{cases_Bool, both_ways, and_parts, and_from, ne_eqb, or_parts, true_from_ne_false, false_from_ne_true}
@@ -7,12 +7,16 @@ use Rattle.shogi_core.specs.declared.moves.TheConstants.{MOVE_CODE_COUNT, FIRST_
 use Rattle.shogi_core.specs.declared.moves.Move.{Move}
 use Rattle.shogi_core.specs.declared.moves.Move.TheVariants.{Board, Drop}
 use Rattle.shogi_core.specs.declared.piece.Kind.{Kind}
+use Rattle.shogi_core.specs.declared.piece.Piece.{Piece}
+use Rattle.shogi_core.specs.declared.piece.Role.{Role}
+use Rattle.shogi_core.specs.declared.piece.Role.TheVariants.{King, Pawn, Lance, Knight, Silver, Gold, Bishop, Rook, PromotedPawn, PromotedLance, PromotedKnight, PromotedSilver, Horse, Dragon}
 use Rattle.shogi_core.specs.Bits.{has_bit}
 use Rattle.shogi_core.specs.Cell.{is_piece_of}
 use Rattle.shogi_core.specs.Codes.{move_of, code_of}
 use Rattle.shogi_core.specs.Movement.{piece_at}
 use Rattle.shogi_core.specs.Pieces.{kind_number, opponent_of}
 use Rattle.shogi_core.specs.Position.{Shogi}
+use Rattle.shogi_core.specs.Same.{role_number}
 use Rattle.shogi_core.proofs.BitLaws.{has_bit-and, has_bit-or, has_bit-none}
 use Rattle.shogi_core.proofs.LineBits.{has_bit-not}
 use Rattle.shogi_core.proofs.CodesBack.{move_of-board, move_of-drop}
@@ -23,8 +27,9 @@ use Rattle.shogi_moves.specs.Legal.{is_legal, is_legal_code}
 use Rattle.shogi_core.specs.Zones.{may_promote}
 use Rattle.shogi_moves.specs.LegalMoves.{legal_codes}
 use Rattle.shogi_replies.specs.declared.row.Row.{Row}
+use Rattle.shogi_replies.specs.declared.row.TheConstants.{ALL_ROLES}
 use Rattle.shogi_moves.specs.Captures.{is_matching}
-use Rattle.shogi_replies.specs.Replies.{HasCertainMoves, IsCertain, is_reached}
+use Rattle.shogi_replies.specs.Replies.{HasCertainMoves, IsCertain, is_reached, lets_promote}
 use Rattle.shogi_moves.specs.Sweeps.{matching_from, KeepsBoard, KeepsDrop}
 use Rattle.shogi_replies.specs.Passes.{IsCertainMove, IsCertainDrop, IsPassed, IsPassedTo, LeavesReply}
 use Rattle.shogi_moves.proofs.CaptureLaws.{HasMatchingOn, skip_one, matching_found}
@@ -88,39 +93,39 @@ leaves_reply p escapes c m at back listed certain =
     }
 
 -- a matching move on the board that is certain, without promotion and with it
-certain_move : (p : Shogi) (capture : Bool) (row : Row) (first c from n : ℕ) → from < 81 → n < 81 → first ≤ c → c ≡ code_of (Board from n false) → is_matching p capture c ≡ true → has_bit row.pieces from ≡ true → has_bit row.plain n ≡ true → IsCertain p row.escapes (Board from n false) → IsCertainMove p capture row first c
+certain_move : (p : Shogi) (capture : Bool) (row : Row) (first c from n : ℕ) → from < 81 → n < 81 → first ≤ c → c ≡ code_of (Board from n false) → is_matching p capture c ≡ true → has_bit row.pieces from ≡ true → has_bit row.squares n ≡ true → IsCertain p row.escapes (Board from n false) → IsCertainMove p capture row first c
 certain_move p capture row first c from n hf hn above at matching piece set certain = record {
   above = above;
   on_board = omega (arith, at);
   piece = subst (λ (k : ℕ). has_bit row.pieces k ≡ true) (omega (arith, at)) piece;
-  plain = λ even. subst (λ (k : ℕ). has_bit row.plain k ≡ true) (omega (arith, at)) set;
+  end = subst (λ (k : ℕ). has_bit row.squares k ≡ true) (omega (arith, at)) set;
   promoting = λ odd. absurd (omega (arith, at, odd));
   matching = matching;
   leaves = leaves_reply p row.escapes c (Board from n false) at (move_of-board from n false hf hn) (and_parts _ _ matching).0 certain;
 }
 
-certain_promotion : (p : Shogi) (capture : Bool) (row : Row) (first c from n : ℕ) → from < 81 → n < 81 → first ≤ c → c ≡ code_of (Board from n true) → is_matching p capture c ≡ true → has_bit row.pieces from ≡ true → has_bit row.promoting n ≡ true → IsCertain p row.escapes (Board from n true) → IsCertainMove p capture row first c
-certain_promotion p capture row first c from n hf hn above at matching piece set certain = record {
+certain_promotion : (p : Shogi) (capture : Bool) (row : Row) (first c from n : ℕ) → from < 81 → n < 81 → first ≤ c → c ≡ code_of (Board from n true) → is_matching p capture c ≡ true → has_bit row.pieces from ≡ true → has_bit row.squares n ≡ true → lets_promote row.promoting (piece_at p.cells from) ≡ true → IsCertain p row.escapes (Board from n true) → IsCertainMove p capture row first c
+certain_promotion p capture row first c from n hf hn above at matching piece set lets certain = record {
   above = above;
   on_board = omega (arith, at);
   piece = subst (λ (k : ℕ). has_bit row.pieces k ≡ true) (omega (arith, at)) piece;
-  plain = λ even. absurd (omega (arith, at, even));
-  promoting = λ odd. subst (λ (k : ℕ). has_bit row.promoting k ≡ true) (omega (arith, at)) set;
+  end = subst (λ (k : ℕ). has_bit row.squares k ≡ true) (omega (arith, at)) set;
+  promoting = λ odd. subst (λ (k : ℕ). lets_promote row.promoting (piece_at p.cells k) ≡ true) (omega (arith, at)) lets;
   matching = matching;
   leaves = leaves_reply p row.escapes c (Board from n true) at (move_of-board from n true hf hn) (and_parts _ _ matching).0 certain;
 }
 
 -- those below another code are passed, where each of them is certain
 pub destinations_passed : (p : Shogi) (capture : Bool) (row : Row) (from code next plain promoting first : ℕ) → from < 81 → has_bit row.pieces from ≡ true → KeepsBoard p capture from code plain promoting → first ≤ code → code ≤ next → next ≤ from * SQUARE_CODES + SQUARE_CODES
-    → ((n : ℕ) → n < 81 → has_bit plain n ≡ true → code_of (Board from n false) < next → (has_bit row.plain n ≡ true) × IsCertain p row.escapes (Board from n false))
-    → ((n : ℕ) → n < 81 → has_bit promoting n ≡ true → code_of (Board from n true) < next → (has_bit row.promoting n ≡ true) × IsCertain p row.escapes (Board from n true))
+    → ((n : ℕ) → n < 81 → has_bit plain n ≡ true → code_of (Board from n false) < next → (has_bit row.squares n ≡ true) × IsCertain p row.escapes (Board from n false))
+    → ((n : ℕ) → n < 81 → has_bit promoting n ≡ true → code_of (Board from n true) < next → (has_bit row.squares n ≡ true) × (lets_promote row.promoting (piece_at p.cells from) ≡ true) × IsCertain p row.escapes (Board from n true))
     → IsPassed (IsCertainMove p capture row first) (matching_from p capture code) (matching_from p capture next)
 destinations_passed p capture row from code next plain promoting first hf piece k low up high plainly by_promotion =
     passed_to p capture (IsCertainMove p capture row first) code next up (omega arith) (λ c above below matching.
     let hn : c / 2 % 81 < 81 = omega arith in
     elim (destination_of p capture from code plain promoting c k above (omega arith) matching) [
       | inl at ↦ (let it : _ = plainly (c / 2 % 81) hn at.1 (omega (arith, at.0)) in certain_move p capture row first c from (c / 2 % 81) hf hn (omega arith) at.0 matching piece it.0 it.1)
-      | inr at ↦ (let it : _ = by_promotion (c / 2 % 81) hn at.1 (omega (arith, at.0)) in certain_promotion p capture row first c from (c / 2 % 81) hf hn (omega arith) at.0 matching piece it.0 it.1)
+      | inr at ↦ (let it : _ = by_promotion (c / 2 % 81) hn at.1 (omega (arith, at.0)) in certain_promotion p capture row first c from (c / 2 % 81) hf hn (omega arith) at.0 matching piece it.0 it.1 it.2)
     ])
 
 -- what is not uncertain is certain
@@ -162,15 +167,15 @@ promoting_among p capture from n len hf hn own matching =
     ((and_parts _ _ parts.0).0, (and_parts _ _ parts.1).0)
 
 -- no move of a piece but certain ones
-pub certain_moves : (p : Shogi) (capture : Bool) (row : Row) (from ends zone certain promoted : ℕ) → ((n : ℕ) → n < 81 → has_bit ends n ≡ is_reached p capture from n) → ((n : ℕ) → n < 81 → has_bit zone n ≡ may_promote (piece_at p.cells from) from n)
-    → has_bit row.pieces from ≡ true → row.plain < 2 ^ 128 → row.promoting < 2 ^ 128 → ((n : ℕ) → n < 81 → has_bit certain n ≡ true → IsCertain p row.escapes (Board from n false)) → ((n : ℕ) → n < 81 → has_bit promoted n ≡ true → IsCertain p row.escapes (Board from n true))
-    → bit_or (bit_and ends (2 ^ 128 - 1 - bit_and row.plain certain)) (bit_and (bit_and ends zone) (2 ^ 128 - 1 - bit_and row.promoting promoted)) ≡ 0 → HasCertainMoves p capture row from
-certain_moves p capture row from ends zone certain promoted ends_bits zone_bits piece f g answered by_promotion none =
-    let at : (n : ℕ) → n < 81 → _ = λ n h. of_both ends row.plain certain (bit_and ends zone) row.promoting promoted n f g h (ap (λ m. has_bit m n) none ∙ has_bit-none n) in
+pub certain_moves : (p : Shogi) (capture : Bool) (row : Row) (from ends zone certain promotions promoted : ℕ) → ((n : ℕ) → n < 81 → has_bit ends n ≡ is_reached p capture from n) → ((n : ℕ) → n < 81 → has_bit zone n ≡ may_promote (piece_at p.cells from) from n)
+    → has_bit row.pieces from ≡ true → row.squares < 2 ^ 128 → promotions < 2 ^ 128 → ((n : ℕ) → has_bit promotions n ≡ true → lets_promote row.promoting (piece_at p.cells from) ≡ true) → ((n : ℕ) → n < 81 → has_bit certain n ≡ true → IsCertain p row.escapes (Board from n false)) → ((n : ℕ) → n < 81 → has_bit promoted n ≡ true → IsCertain p row.escapes (Board from n true))
+    → bit_or (bit_and ends (2 ^ 128 - 1 - bit_and row.squares certain)) (bit_and (bit_and ends zone) (2 ^ 128 - 1 - bit_and promotions promoted)) ≡ 0 → HasCertainMoves p capture row from
+certain_moves p capture row from ends zone certain promotions promoted ends_bits zone_bits piece f g lets answered by_promotion none =
+    let at : (n : ℕ) → n < 81 → _ = λ n h. of_both ends row.squares certain (bit_and ends zone) promotions promoted n f g h (ap (λ m. has_bit m n) none ∙ has_bit-none n) in
     record {
       piece = piece;
       plain = λ n h e. (let it : _ = (at n h).0 (ends_bits n h ∙ e) in (it.0, answered n h it.1));
-      promoting = λ n h e may. (let it : _ = (at n h).1 (has_bit-and ends zone n ∙ and_from _ _ (ends_bits n h ∙ e) (zone_bits n h ∙ may)) in (it.0, by_promotion n h it.1));
+      promoting = λ n h e may. (let it : _ = (at n h).1 (has_bit-and ends zone n ∙ and_from _ _ (ends_bits n h ∙ e) (zone_bits n h ∙ may)) in (lets n it.0, by_promotion n h it.1));
     }
 
 -- the moves of all pieces below a square are passed, where each of them is certain
@@ -191,7 +196,7 @@ row_passed p capture row first code moving end len he on mine certain low up =
       | inr at ↦ (
           let there : (is_reached p capture (c / SQUARE_CODES) (c / 2 % 81) ≡ true) × (may_promote (piece_at p.cells (c / SQUARE_CODES)) (c / SQUARE_CODES) (c / 2 % 81) ≡ true) = promoting_among p capture (c / SQUARE_CODES) (c / 2 % 81) len hf hn own (ap (is_matching p capture) (sym at) ∙ matching) in
           let it : _ = moves.promoting (c / 2 % 81) hn there.0 there.1 in
-          certain_promotion p capture row first c (c / SQUARE_CODES) (c / 2 % 81) hf hn (omega arith) at matching moves.piece it.0 it.1)
+          certain_promotion p capture row first c (c / SQUARE_CODES) (c / 2 % 81) hf hn (omega arith) at matching moves.piece (moves.plain (c / 2 % 81) hn there.0).0 it.0 it.1)
     ])
 
 pub row_passed_to : (p : Shogi) (capture : Bool) (row : Row) (code moving end : ℕ) → length p.cells ≡ 81 → end ≤ 81 → HasMatchingOn p capture code moving
@@ -232,3 +237,27 @@ drops_passed p kind squares escapes code next destinations k up high certain =
       legal = legal;
       leaves = leaves_reply p escapes c (Drop kind (c - FIRST_DROP - kind_number kind * 81)) at.0 (move_of-drop kind (c - FIRST_DROP - kind_number kind * 81) ht) legal it.1;
     })
+
+-- ---- roles that promote
+
+all_roles : (role : Role) → has_bit ALL_ROLES (role_number role) ≡ true
+unfolding has_bit
+all_roles King = refl
+all_roles Pawn = refl
+all_roles Lance = refl
+all_roles Knight = refl
+all_roles Silver = refl
+all_roles Gold = refl
+all_roles Bishop = refl
+all_roles Rook = refl
+all_roles PromotedPawn = refl
+all_roles PromotedLance = refl
+all_roles PromotedKnight = refl
+all_roles PromotedSilver = refl
+all_roles Horse = refl
+all_roles Dragon = refl
+
+-- where all are let, each piece is that may promote
+pub all_promote : (roles : ℕ) (cell : Option Piece) (from to : ℕ) → roles ≡ ALL_ROLES → may_promote cell from to ≡ true → lets_promote roles cell ≡ true
+all_promote roles None from to all may = absurd (cc)
+all_promote roles (Some piece) from to all may = ap (λ (m : ℕ). has_bit m (role_number piece.role)) all ∙ all_roles piece.role

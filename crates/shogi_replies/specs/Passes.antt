@@ -4,6 +4,7 @@ use Rattle.shogi_core.specs.declared.moves.TheConstants.{FIRST_DROP, SQUARE_CODE
 use Rattle.shogi_core.specs.declared.piece.Kind.{Kind}
 use Rattle.shogi_core.specs.Attack.{in_check}
 use Rattle.shogi_core.specs.Bits.{has_bit}
+use Rattle.shogi_core.specs.Movement.{piece_at}
 use Rattle.shogi_core.specs.Pieces.{kind_number, opponent_of}
 use Rattle.shogi_core.specs.Position.{Shogi}
 use Rattle.shogi_moves.specs.declared.sweep.BoardSweep.{BoardSweep}
@@ -14,6 +15,7 @@ use Rattle.shogi_moves.specs.Legal.{is_legal_code}
 use Rattle.shogi_moves.specs.LegalMoves.{legal_codes}
 use Rattle.shogi_moves.specs.Sweeps.{matching_from, board_left, drops_left}
 use Rattle.shogi_replies.specs.declared.row.Row.{Row}
+use Rattle.shogi_replies.specs.Replies.{lets_promote}
 
 -- after the move of the code the other side has a legal move and, where no escapes are given, is in no check
 pub record LeavesReply (p : Shogi) (escapes code : ℕ) : Type 0 where
@@ -25,8 +27,9 @@ pub record IsCertainMove (p : Shogi) (capture : Bool) (row : Row) (first code : 
   pub above : first ≤ code
   pub on_board : code < FIRST_DROP
   pub piece : has_bit row.pieces (code / SQUARE_CODES) ≡ true
-  pub plain : code % 2 ≡ 0 → has_bit row.plain (code / 2 % 81) ≡ true
-  pub promoting : code % 2 ≡ 1 → has_bit row.promoting (code / 2 % 81) ≡ true
+  pub end : has_bit row.squares (code / 2 % 81) ≡ true
+  pub promoting : code % 2 ≡ 1
+      → lets_promote row.promoting (piece_at p.cells (code / SQUARE_CODES)) ≡ true
   pub matching : is_matching p capture code ≡ true
   pub leaves : LeavesReply p row.escapes code
 

@@ -1,5 +1,5 @@
 -- What is kept of a position to decide that after most of its moves the other side is in no check and has a legal move.
-use Rattle.std.specs.Prelude.{ℕ, ◌≡◌, ◌≢◌, ◌<◌, ◌^◌, ◌⊎◌, ◌&&◌, ◌||◌, Bool, true, false, not, nat_lt, Option, None, is_none, [], slice_set}
+use Rattle.std.specs.Prelude.{ℕ, ◌≡◌, ◌≢◌, ◌<◌, ◌^◌, ◌⊎◌, ◌&&◌, ◌||◌, Bool, true, false, not, nat_lt, Option, Some, None, is_none, [], slice_set}
 use Rattle.shogi_core.specs.declared.moves.Move.{Move}
 use Rattle.shogi_core.specs.declared.moves.Move.TheVariants.{Board, Drop}
 use Rattle.shogi_core.specs.declared.piece.Color.{Color}
@@ -14,6 +14,7 @@ use Rattle.shogi_core.specs.Lines.{are_aligned, are_lined, is_seen}
 use Rattle.shogi_core.specs.Movement.{Cells, piece_at, reaches, cell_reaches}
 use Rattle.shogi_core.specs.Pieces.{opponent_of}
 use Rattle.shogi_core.specs.Position.{Shogi, HandCounts, count_in_hand}
+use Rattle.shogi_core.specs.Same.{role_number}
 use Rattle.shogi_moves.specs.After.{after, piece_moved}
 use Rattle.shogi_moves.specs.Destinations.{is_destination}
 use Rattle.shogi_moves.specs.Legal.{is_legal}
@@ -166,14 +167,20 @@ abbrev pub is_reached : Shogi → Bool → ℕ → ℕ → Bool
 is_reached p capture from n =
     reaches p.cells from n && is_destination capture p.side (piece_at p.cells n)
 
+-- the role of what stands there is one of the mask, in which each role has the bit of its number
+abbrev pub lets_promote : ℕ → Option Piece → Bool
+lets_promote roles None = false
+lets_promote roles (Some piece) = has_bit roles (role_number piece.role)
+
 -- the row has each move of the kind of what stands on the square, and it is certain
 pub record HasCertainMoves (p : Shogi) (capture : Bool) (row : Row) (from : ℕ) : Type 0 where
   pub piece : has_bit row.pieces from ≡ true
   pub plain : (n : ℕ) → n < 81 → is_reached p capture from n ≡ true
-      → (has_bit row.plain n ≡ true) × IsCertain p row.escapes (Board from n false)
+      → (has_bit row.squares n ≡ true) × IsCertain p row.escapes (Board from n false)
   pub promoting : (n : ℕ) → n < 81 → is_reached p capture from n ≡ true
       → may_promote (piece_at p.cells from) from n ≡ true
-      → (has_bit row.promoting n ≡ true) × IsCertain p row.escapes (Board from n true)
+      → (lets_promote row.promoting (piece_at p.cells from) ≡ true)
+      × IsCertain p row.escapes (Board from n true)
 
 -- what stands on the squares of the mask makes such moves alone
 abbrev pub AreFarPieces : Shogi → ℕ → Bool → ℕ → Type 0

@@ -16,5 +16,5 @@ mod threats;
 
 pub use escapes::{escape_squares, king_takes, leaves_escape, leaves_king_move, some_escapes};
 pub use replies::{Replies, line_squares};
-pub use row::Row;
+pub use row::{ALL_ROLES, Row};
 pub use threats::{attacks_of, put_by, unpinnable_pieces};

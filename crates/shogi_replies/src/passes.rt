@@ -33,7 +33,8 @@ impl Replies {
         }
         let certain = self.certain_destinations(p, row.escapes, from, false, plain);
         let promoted = self.certain_destinations(p, row.escapes, from, true, promoting);
-        let uncertain = plain & !(row.plain & certain) | promoting & !(row.promoting & promoted);
+        let promotions = row.promotions(p.at(from));
+        let uncertain = plain & !(row.squares & certain) | promoting & !(promotions & promoted);
         if uncertain == 0 {
             sweep.pass_ends(p, capture, 81);
             return;

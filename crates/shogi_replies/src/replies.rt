@@ -15,7 +15,7 @@ ghost use Rattle.shogi_replies.specs.Threats.{KeepsThreats, MayRetake};
 
 use crate::escapes::{escaped_destinations, escaped_drops};
 use crate::far::far_pieces;
-use crate::row::Row;
+use crate::row::{ALL_ROLES, Row};
 use shogi_core::bits::{ALL_SQUARES, cleared, has, lowest, with, without, without_lowest};
 use shogi_core::zones::{dead_squares, promoting_squares};
 use shogi_core::{Color, Kind, Move, Piece, Position, Square, aligned_squares, step_squares};
@@ -367,10 +367,10 @@ impl Replies {
             return 0;
         }
         let ends = matching_destinations(p, capture);
-        if ends & !row.plain != 0 {
+        if ends & !row.squares != 0 {
             return 0;
         }
-        let promotes = ends & !row.promoting == 0;
+        let promotes = row.promoting == ALL_ROLES;
         far_pieces(p, self.sight, promotes) & row.pieces
     }
 
@@ -401,13 +401,14 @@ impl Replies {
         if !has(row.pieces, from.index()) {
             return false;
         }
+        let promotions = row.promotions(p.at(from));
         let ends = p.as_board().targets(from) & matching_destinations(p, capture);
         if ends & self.sight == 0 && !has(self.sight, from.index()) {
             let certain = self.unseen_destinations(p, from, ends);
-            return are_among(p, from, ends, row.plain & certain, row.promoting & certain);
+            return are_among(p, from, ends, row.squares & certain, promotions & certain);
         }
         let promoting = ends & promoting_squares(p.at(from), from);
-        if ends & !row.plain | promoting & !row.promoting != 0 {
+        if ends & !row.squares | promoting & !promotions != 0 {
             return false;
         }
         let certain = self.certain_destinations(p, row.escapes, from, false, ends);
@@ -415,7 +416,7 @@ impl Replies {
             return false;
         }
         let promoted = self.certain_destinations(p, row.escapes, from, true, promoting);
-        ends & !(row.plain & certain) | promoting & !(row.promoting & promoted) == 0
+        ends & !(row.squares & certain) | promoting & !(promotions & promoted) == 0
     }
 
     /// Those of the squares to which what stands on a square may move so that the other side surely

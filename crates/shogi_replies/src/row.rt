@@ -1,12 +1,48 @@
 //! Which moves on the board may be passed in a row.
 
-/// Moves of the pieces on some squares, without promotion to some squares and with it to some; and
+ghost use Rattle.std.specs.Prelude.{◌≡◌, ◌<◌, ℕ, true};
+ghost use Rattle.shogi_core.specs.Bits.{has_bit};
+ghost use Rattle.shogi_core.specs.Same.{role_number};
+ghost use Rattle.shogi_replies.specs.Replies.{lets_promote};
+
+use shogi_core::{Piece, Role};
+
+/// All roles, as a mask of their places in the order in which they are declared.
+pub const ALL_ROLES: u32 = 16383;
+
+/// Moves of the pieces on some squares to some squares, with promotion those of some roles alone; and
 /// squares to which the other side's king may go, should a move give it check. Where there are none of
 /// these, a move that gives check is not passed.
 #[derive(Clone, Copy, Debug)]
 pub struct Row {
     pub pieces: u128,
-    pub plain: u128,
-    pub promoting: u128,
+    pub squares: u128,
+    pub promoting: u32,
     pub escapes: u128,
+}
+
+/// The place of the role in the order in which roles are declared.
+fn number_of(role: Role) -> usize
+    ensures number { result ≡ role_number role }
+    ensures range { result < 14 }
+{
+    role as usize
+}
+
+impl Row {
+    /// The squares for moves with promotion of what stands there: none where its role is none of
+    /// those.
+    #[inline(always)]
+    pub fn promotions(&self, cell: Option<Piece>) -> u128
+        ensures squares { (n : ℕ) → has_bit result n ≡ true → has_bit self.now.squares n ≡ true }
+        ensures promoting { (n : ℕ) → has_bit result n ≡ true
+            → lets_promote self.now.promoting cell ≡ true }
+    {
+        let Some(piece) = cell else { return 0 };
+        if (self.promoting >> number_of(piece.role)) & 1 == 1 {
+            self.squares
+        } else {
+            0
+        }
+    }
 }

@@ -1,7 +1,7 @@
 -- Moves that are passed in a row.
 use Rattle.std.proofs.Common.{◌≡◌, ◌≢◌, ◌<◌, ◌≤◌, ◌+◌, ◌-◌, ◌*◌, ℕ, ℤ, ◌≤ℤ◌, ◌<ℤ◌, List, [], ◌∷◌, true, inl, inr, Bool, Option, Some, None, refl, sym, ap, ◌∙◌, arith, subst, ◌/◌, ◌%◌, ◌+ℤ◌, false, pos, ◌-ℤ◌}
 use Rattle.std.specs.Prelude.{not, is_some}
-use Rattle.std.proofs.lemmas.Bool.{and_parts, cases_eq}
+use Rattle.std.proofs.lemmas.Bool.{and_parts, both_ways, cases_eq}
 use Rattle.std.proofs.lemmas.Int.{ints}
 use Rattle.std.proofs.lemmas.Bool.Decides.{nat_tests}
 use Rattle.shogi_core.specs.declared.moves.TheConstants.{FIRST_DROP, SQUARE_CODES}
@@ -17,13 +17,16 @@ use Rattle.shogi_core.specs.declared.piece.Role.TheVariants.{King, Pawn, Lance, 
 use Rattle.shogi_core.specs.Codes.{move_of, code_of}
 use Rattle.shogi_core.specs.Pieces.{kind_number, opponent_of, promoted}
 use Rattle.shogi_core.specs.Position.{Shogi}
+use Rattle.shogi_core.specs.Same.{role_number}
 use Rattle.shogi_core.specs.Validity.{IsValid}
+use Rattle.shogi_core.proofs.BitLaws.{has_bit-none}
 use Rattle.shogi_core.proofs.CodesBack.{move_of-board, move_of-drop}
 use Rattle.shogi_moves.specs.After.{after, after_code}
 use Rattle.shogi_moves.specs.Legal.{is_legal}
 use Rattle.shogi_moves.specs.LegalMoves.{legal_codes}
 use Rattle.shogi_moves.specs.Captures.{is_matching}
 use Rattle.shogi_replies.specs.declared.row.Row.{Row}
+use Rattle.shogi_replies.specs.declared.row.TheConstants.{ALL_ROLES}
 use Rattle.shogi_replies.specs.Passes.{IsCertainMove, IsCertainDrop, IsPassed, LeavesReply}
 use Rattle.shogi_replies.specs.Replies.{IsCertain}
 use Rattle.shogi_moves.proofs.DestinationLaws.{matching_move}
@@ -40,6 +43,7 @@ use Rattle.shogi_search.specs.Stack.{left_of_frame}
 use Rattle.minimax.specs.declared.bounds.TheConstants.{SEARCH_DEPTH_MAX, INFINITY}
 use Rattle.shogi_eval.specs.declared.gain.TheConstants.{PROMOTION_GAIN_MAX}
 use Rattle.shogi_search.specs.declared.frame.Frame.{Frame}
+use Rattle.shogi_search.specs.declared.pruning.TheConstants.{ALL_BUT_PAWN, SILVER, SILVER_AND_KNIGHT}
 use Rattle.shogi_search.specs.declared.move_picker.MovePicker.{MovePicker}
 use Rattle.shogi_search.specs.declared.frame.Waiting.{Waiting}
 use Rattle.shogi_search.specs.declared.frame.Waiting.TheVariants.{Next}
@@ -124,9 +128,44 @@ most_of_role PromotedSilver = omega arith
 most_of_role Horse = omega arith
 most_of_role Dragon = omega arith
 
-promotion_most : (cell : Option Piece) → promotion_gain true cell ≤ PROMOTION_GAIN_MAX
-promotion_most None = omega arith
-promotion_most (Some piece) = most_of_role piece.role
+-- nor one of these more than this
+but_pawn : (role : Role) → has_bit ALL_BUT_PAWN (role_number role) ≡ true → value_of (promoted role) - value_of role ≤ 300
+unfolding has_bit
+but_pawn Pawn e = absurd (cc)
+but_pawn _ e = omega arith
+
+silver_and_knight : (role : Role) → has_bit SILVER_AND_KNIGHT (role_number role) ≡ true → value_of (promoted role) - value_of role ≤ 200
+unfolding has_bit
+silver_and_knight Silver e = omega arith
+silver_and_knight Knight e = omega arith
+silver_and_knight _ e = absurd (cc)
+
+silver : (role : Role) → has_bit SILVER (role_number role) ≡ true → value_of (promoted role) - value_of role ≤ 100
+unfolding has_bit
+silver Silver e = omega arith
+silver _ e = absurd (cc)
+
+-- so with each piece of such a role
+promotes : (roles gain most : ℕ) → gain ≤ most → ((role : Role) → has_bit roles (role_number role) ≡ true → value_of (promoted role) - value_of role ≤ gain) → PromotesWithin most roles
+promotes roles gain most least each None e = absurd (cc)
+promotes roles gain most least each (Some piece) e = omega (arith, least, each piece.role e)
+
+pub all_within : (most : ℕ) → PROMOTION_GAIN_MAX ≤ most → PromotesWithin most ALL_ROLES
+all_within most least = promotes ALL_ROLES PROMOTION_GAIN_MAX most least (λ role e. most_of_role role)
+
+pub but_pawn_within : (most : ℕ) → 300 ≤ most → PromotesWithin most ALL_BUT_PAWN
+but_pawn_within most least = promotes ALL_BUT_PAWN 300 most least but_pawn
+
+pub silver_and_knight_within : (most : ℕ) → 200 ≤ most → PromotesWithin most SILVER_AND_KNIGHT
+silver_and_knight_within most least = promotes SILVER_AND_KNIGHT 200 most least silver_and_knight
+
+pub silver_within : (most : ℕ) → 100 ≤ most → PromotesWithin most SILVER
+silver_within most least = promotes SILVER 100 most least silver
+
+pub none_within : (most : ℕ) → PromotesWithin most 0
+none_within most = promotes 0 0 most (omega arith) (λ role e. absurd (both_ways _ (has_bit-none (role_number role)) e))
+
+pub ruleset promoting = (all_within, but_pawn_within, silver_and_knight_within, silver_within, none_within)
 
 no_promotion : (cell : Option Piece) → promotion_gain false cell ≡ 0
 no_promotion None = refl
@@ -146,7 +185,7 @@ nothing_taken e None h = refl
 nothing_taken e (Some piece) h = cc
 
 -- a move that takes nothing is worth no more than it leaves, with what promotion adds
-quiet_at : (f : Frame) (row : Row) (first c most from to : ℕ) (promote : Bool) (loss : ℤ) → f.depth ≡ 2 → MovesLeave f loss row.pieces row.plain row.escapes → IsCertainMove f.node.position false row first c → from < 81 → to < 81 → c ≡ code_of (Board from to promote) → has_bit row.pieces from ≡ true → has_bit row.plain to ≡ true → promotion_gain promote (piece_at f.node.position.cells from) ≤ most
+quiet_at : (f : Frame) (row : Row) (first c most from to : ℕ) (promote : Bool) (loss : ℤ) → f.depth ≡ 2 → MovesLeave f loss row.pieces row.squares row.escapes → IsCertainMove f.node.position false row first c → from < 81 → to < 81 → c ≡ code_of (Board from to promote) → has_bit row.pieces from ≡ true → has_bit row.squares to ≡ true → promotion_gain promote (piece_at f.node.position.cells from) ≤ most
     → worth f.node.position f.node.eval (f.depth - 1) c ≤ℤ (material_of f.node.position f.node.eval +ℤ pos most +ℤ loss)
 quiet_at f row first c most from to promote loss last leave k from_fits to_fits is piece set more =
     let back : move_of (code_of (Board from to promote)) ≡ Some (Board from to promote) = move_of-board from to promote from_fits to_fits in
@@ -155,7 +194,7 @@ quiet_at f row first c most from to promote loss last leave k from_fits to_fits 
     let worth_most : _ = gain_worth f.node.position f.node.eval f.depth c from to promote loss f.valid last from_fits to_fits is parts.0 (leave from to promote from_fits to_fits piece set parts.0 certain) in
     omega (arith, ints, worth_most, nothing_taken f.node.eval (piece_at f.node.position.cells to) parts.1, more)
 
-quiet_worth : (f : Frame) (row : Row) (first c most : ℕ) (loss : ℤ) → f.depth ≡ 2 → MovesLeave f loss row.pieces row.plain row.escapes → PromotesWithin most row.plain row.promoting → IsCertainMove f.node.position false row first c
+quiet_worth : (f : Frame) (row : Row) (first c most : ℕ) (loss : ℤ) → f.depth ≡ 2 → MovesLeave f loss row.pieces row.squares row.escapes → PromotesWithin most row.promoting → IsCertainMove f.node.position false row first c
     → worth f.node.position f.node.eval (f.depth - 1) c ≤ℤ (material_of f.node.position f.node.eval +ℤ pos most +ℤ loss)
 quiet_worth f row first c most loss last leave within k =
     let from : ℕ = c / SQUARE_CODES in
@@ -165,11 +204,8 @@ quiet_worth f row first c most loss last leave within k =
     elim (cases_eq (c % 2) 0) [
       | inl even ↦ (
           let none : promotion_gain false (piece_at f.node.position.cells from) ≡ 0 = no_promotion (piece_at f.node.position.cells from) in
-          quiet_at f row first c most from to false loss last leave k from_fits to_fits (omega (arith, even)) k.piece (k.plain even) (omega (arith, none)))
-      | inr odd ↦ (
-          let fits : _ = within to (k.promoting (omega (arith, odd))) in
-          let more : promotion_gain true (piece_at f.node.position.cells from) ≤ PROMOTION_GAIN_MAX = promotion_most (piece_at f.node.position.cells from) in
-          quiet_at f row first c most from to true loss last leave k from_fits to_fits (omega (arith, odd)) k.piece fits.0 (omega (arith, fits.1, more)))
+          quiet_at f row first c most from to false loss last leave k from_fits to_fits (omega (arith, even)) k.piece k.end (omega (arith, none)))
+      | inr odd ↦ quiet_at f row first c most from to true loss last leave k from_fits to_fits (omega (arith, odd)) k.piece k.end (within (piece_at f.node.position.cells from) (k.promoting (omega (arith, odd))))
     ]
 
 -- what is known of a node that waits for nothing
@@ -185,7 +221,7 @@ pub drops_covered : (f : Frame) (kind : Kind) (squares escapes first : ℕ) (cod
 drops_covered f kind squares escapes first codes left lost passed k = covered_passed (worth f.node.position f.node.eval (f.depth - 1)) (IsCertainDrop f.node.position kind squares escapes first) (moves_at f.node.position f.depth) codes left f.alpha f.best_value (code_at f.best_move) passed lost k
 
 -- and moves on the board that take nothing
-pub quiets_covered : (f : Frame) (row : Row) (first most : ℕ) (loss : ℤ) (codes left : List ℕ) → f.depth ≡ 2 → MovesLeave f loss row.pieces row.plain row.escapes → PromotesWithin most row.plain row.promoting → (material_of f.node.position f.node.eval +ℤ pos most +ℤ loss) ≤ℤ threshold f.best_value (code_at f.best_move) first → IsPassed (IsCertainMove f.node.position false row first) codes left
+pub quiets_covered : (f : Frame) (row : Row) (first most : ℕ) (loss : ℤ) (codes left : List ℕ) → f.depth ≡ 2 → MovesLeave f loss row.pieces row.squares row.escapes → PromotesWithin most row.promoting → (material_of f.node.position f.node.eval +ℤ pos most +ℤ loss) ≤ℤ threshold f.best_value (code_at f.best_move) first → IsPassed (IsCertainMove f.node.position false row first) codes left
     → IsCovered (worth f.node.position f.node.eval (f.depth - 1)) (moves_at f.node.position f.depth) codes f.alpha f.best_value (code_at f.best_move) → IsCovered (worth f.node.position f.node.eval (f.depth - 1)) (moves_at f.node.position f.depth) left f.alpha f.best_value (code_at f.best_move)
 quiets_covered f row first most loss codes left last leave within low passed k =
     covered_passed (worth f.node.position f.node.eval (f.depth - 1)) (IsCertainMove f.node.position false row first) (moves_at f.node.position f.depth) codes left f.alpha f.best_value (code_at f.best_move) passed

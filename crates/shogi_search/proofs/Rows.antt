@@ -39,7 +39,7 @@ pub within_of : (f : Frame) (first : ℕ) → f.waiting ≡ Next → f.depth ≡
 within_of f first next last = threshold_within _ _ _ _ _ _ _ _ first f.valid f.shallow (omega (arith, last)) f.least f.open f.most (known_next _ _ _ _ _ _ _ _ _ next f.known)
 
 -- a row of moves that take nothing leaves what is known
-pub row_known : (f : Frame) (row : Row) (first most : ℕ) (loss : ℤ) (picker : MovePicker) → f.waiting ≡ Next → f.depth ≡ 2 → MovesLeave f loss row.pieces row.plain row.escapes → PromotesWithin most row.plain row.promoting → (material_of f.node.position f.node.eval +ℤ pos most +ℤ loss) ≤ℤ threshold f.best_value (code_at f.best_move) first
+pub row_known : (f : Frame) (row : Row) (first most : ℕ) (loss : ℤ) (picker : MovePicker) → f.waiting ≡ Next → f.depth ≡ 2 → MovesLeave f loss row.pieces row.squares row.escapes → PromotesWithin most row.promoting → (material_of f.node.position f.node.eval +ℤ pos most +ℤ loss) ≤ℤ threshold f.best_value (code_at f.best_move) first
     → IsPassed (IsCertainMove f.node.position false row first) (todo f.node.position f.picker) (todo f.node.position picker) → IsKnownWhile f.node.position f.node.eval f.depth f.alpha f.beta f.best_value (code_at f.best_move) (todo f.node.position picker) f.waiting
 row_known f row first most loss picker next last leave within low passed = next_known _ _ _ _ _ _ _ _ _ next (quiets_covered f row first most loss _ _ last leave within low passed (known_next _ _ _ _ _ _ _ _ _ next f.known))
 

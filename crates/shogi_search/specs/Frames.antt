@@ -3,6 +3,7 @@ use Rattle.std.specs.Prelude.{◌≡◌, ◌≢◌, ◌≤◌, ◌<◌, ℕ, ◌
 use Rattle.shogi_core.specs.declared.moves.Move.{Move}
 use Rattle.shogi_core.specs.declared.moves.Move.TheVariants.{Board, Drop}
 use Rattle.shogi_core.specs.declared.piece.Kind.{Kind}
+use Rattle.shogi_core.specs.declared.piece.Piece.{Piece}
 use Rattle.shogi_core.specs.Bits.{has_bit}
 use Rattle.shogi_core.specs.Codes.{code_of}
 use Rattle.shogi_core.specs.Pieces.{opponent_of}
@@ -11,14 +12,13 @@ use Rattle.shogi_moves.specs.After.{after, after_code}
 use Rattle.shogi_moves.specs.Legal.{is_legal}
 use Rattle.shogi_moves.specs.LegalMoves.{legal_codes}
 use Rattle.shogi_replies.specs.Passes.{IsCertainDrop}
-use Rattle.shogi_replies.specs.Replies.{IsCertain}
+use Rattle.shogi_replies.specs.Replies.{IsCertain, lets_promote}
 use Rattle.shogi_replies.specs.Threats.{KeepsThreats, MayRetake}
 use Rattle.shogi_search.specs.declared.frame.Frame.{Frame}
 use Rattle.minimax.specs.declared.entry.Entry.{Entry}
 use Rattle.minimax.specs.Entries.{IsCutoff}
-use Rattle.shogi_eval.specs.declared.gain.TheConstants.{PROMOTION_GAIN_MAX}
 use Rattle.shogi_eval.specs.Losses.{LosesAtMost}
-use Rattle.shogi_eval.specs.Material.{material_of}
+use Rattle.shogi_eval.specs.Material.{material_of, promotion_gain}
 use Rattle.minimax.specs.Minimax.{value, worth, IsTrueEntry, negated}
 use Rattle.shogi_search.specs.Firsts.{with_each, with_some}
 use Rattle.shogi_search.specs.Order.{todo}
@@ -112,7 +112,7 @@ abbrev pub firsts_at : List ℕ → Option Move → Frame → ℕ → List ℕ
 firsts_at given hash_move f depth =
     with_each (with_some (with_some given hash_move) f.best_move) (killers_at f depth)
 
--- those of the squares for moves with promotion, some only where none gains more than this
-abbrev pub PromotesWithin : ℕ → ℕ → ℕ → Type 0
-PromotesWithin most squares promoting = (n : ℕ) → has_bit promoting n ≡ true
-    → (has_bit squares n ≡ true) × (PROMOTION_GAIN_MAX ≤ most)
+-- no promotion of a piece whose role is one of the mask gains more than this
+abbrev pub PromotesWithin : ℕ → ℕ → Type 0
+PromotesWithin most roles = (cell : Option Piece) → lets_promote roles cell ≡ true
+    → promotion_gain true cell ≤ most

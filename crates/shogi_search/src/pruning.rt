@@ -12,18 +12,34 @@ use shogi_core::bits::{ALL_SQUARES, without};
 use shogi_core::{Kind, Move};
 use shogi_eval::{PROMOTION_GAIN_MAX, loss_of_drops, taken_gain};
 use shogi_moves::dropped;
-use shogi_replies::{Replies, Row, escape_squares, leaves_escape};
+use shogi_replies::{ALL_ROLES, Replies, Row, escape_squares, leaves_escape};
 
-/// The squares for moves with promotion: none where one may gain more than this.
+// Some roles, as masks of their places in the order in which they are declared.
+const ALL_BUT_PAWN: u32 = 16381;
+
+const SILVER_AND_KNIGHT: u32 = 24;
+
+const SILVER: u32 = 16;
+
+/// Roles whose promotion gains no more than this, as such a mask; all roles where none gains more.
 #[inline(always)]
-fn promoting_within(most: u32, squares: u128) -> u128
-    ensures { PromotesWithin most squares result }
+#[tactic(auto, using(crate::proofs::Passed::promoting))]
+fn roles_within(most: u32) -> u32
+    ensures { PromotesWithin most result }
 {
-    if most < PROMOTION_GAIN_MAX {
-        0
-    } else {
-        squares
+    if most >= PROMOTION_GAIN_MAX {
+        return ALL_ROLES;
     }
+    if most >= 300 {
+        return ALL_BUT_PAWN;
+    }
+    if most >= 200 {
+        return SILVER_AND_KNIGHT;
+    }
+    if most >= 100 {
+        return SILVER;
+    }
+    0
 }
 
 impl Frame {
@@ -228,10 +244,10 @@ impl Frame {
         if room < 0 {
             return false;
         }
-        let promoting = promoting_within(room as u32, squares);
+        let promoting = roles_within(room as u32);
         let row = Row {
             pieces,
-            plain: squares,
+            squares,
             promoting,
             escapes,
         };

@@ -28,17 +28,17 @@ record IsUnprotected (p : Shogi) (side : Color) (from k to : ℕ) : Type 0 where
 
 board_taken : (p : Shogi) (m : Move) (side : Color) (from k to : ℕ) (promote : Bool) → m ≡ Board from to promote → from < 81 → IsUnprotected p side from k to → is_legal p m ≡ true → IsTaken p m
 board_taken p m side from k to promote is hf h legal = subst (IsTaken p) (sym is) (record {
-      taker = k;
-      on_board = (h.king_fits, h.fits);
-      takes = taken_by_king p from k to promote h.valid hf h.king_fits h.fits (subst (λ (color : Color). is_king color (piece_at p.cells k) ≡ true) h.is_side h.crown) (subst (λ (color : Color). HasNoOtherKing p.cells color k) h.is_side h.lone) h.reached h.safe (subst (λ (x : Move). is_legal p x ≡ true) is legal);
-    })
+  taker = k;
+  on_board = (h.king_fits, h.fits);
+  takes = taken_by_king p from k to promote h.valid hf h.king_fits h.fits (subst (λ (color : Color). is_king color (piece_at p.cells k) ≡ true) h.is_side h.crown) (subst (λ (color : Color). HasNoOtherKing p.cells color k) h.is_side h.lone) h.reached h.safe (subst (λ (x : Move). is_legal p x ≡ true) is legal);
+})
 
 drop_taken : (p : Shogi) (m : Move) (side : Color) (k to : ℕ) (kind : Kind) → m ≡ Drop kind to → IsUnprotected p side to k to → IsTaken p m
 drop_taken p m side k to kind is h = subst (IsTaken p) (sym is) (record {
-      taker = k;
-      on_board = (h.king_fits, h.fits);
-      takes = drop_taken_by_king p kind k to h.valid h.king_fits h.fits (subst (λ (color : Color). is_king color (piece_at p.cells k) ≡ true) h.is_side h.crown) (subst (λ (color : Color). HasNoOtherKing p.cells color k) h.is_side h.lone) h.reached h.safe;
-    })
+  taker = k;
+  on_board = (h.king_fits, h.fits);
+  takes = drop_taken_by_king p kind k to h.valid h.king_fits h.fits (subst (λ (color : Color). is_king color (piece_at p.cells k) ≡ true) h.is_side h.crown) (subst (λ (color : Color). HasNoOtherKing p.cells color k) h.is_side h.lone) h.reached h.safe;
+})
 
 pub returns-in-Board-clause-taken : goal.returns-in-Board-clause-taken
 returns-in-Board-clause-taken c = λ e. board_taken _ _ _ _ _ _ _ c.in-Board.is (omega arith) (record {

@@ -8,12 +8,12 @@ use Rattle.shogi_replies.proofs.replies.Replies.pass_destinations.Goals as goal
 
 pub returns-then-uncertain-eq0-clause-passed : goal.returns-then-uncertain-eq0-clause-passed
 returns-then-uncertain-eq0-clause-passed c =
-    let at : (n : ℕ) → n < 81 → _ = λ n h. of_both c.args.sweep.now.destinations.plain c.args.row.now.plain c.certain_destinations-certain.result c.args.sweep.now.destinations.promoting c.args.row.now.promoting c.certain_destinations-promoted.result n (omega arith) (omega arith) h (ap (λ m. has_bit m n) (omega (arith, c.if-uncertain-eq0.true)) ∙ has_bit-none n) in
+    let at : (n : ℕ) → n < 81 → _ = λ n h. of_both c.args.sweep.now.destinations.plain c.args.row.now.squares c.certain_destinations-certain.result c.args.sweep.now.destinations.promoting c.promotions-promotions.result c.certain_destinations-promoted.result n (omega arith) (omega arith) h (ap (λ m. has_bit m n) (omega (arith, c.if-uncertain-eq0.true)) ∙ has_bit-none n) in
     rw c.pass_ends.ensures.code (record {
       up = omega (arith, c.requires.kept.destinations.high);
       passed = λ first low. destinations_passed c.args.p.now c.args.capture c.args.row.now c.args.sweep.now.from c.args.sweep.now.code _ c.args.sweep.now.destinations.plain c.args.sweep.now.destinations.promoting first c.validity.ensures (rw c.index.ensures.index at (sym c.has.ensures ∙ c.if-not-has.false)) c.requires.kept.destinations low (omega (arith, c.requires.kept.destinations.high)) (omega arith)
           (λ n h set below. (let it : _ = (at n h).0 set in (it.0, c.certain_destinations-certain.ensures.certain n h it.1)))
-          (λ n h set below. (let it : _ = (at n h).1 set in (it.0, c.certain_destinations-promoted.ensures.certain n h it.1)));
+          (λ n h set below. (let it : _ = (at n h).1 set in (c.promotions-promotions.ensures.squares n it.0, (rw c.at.ensures at c.promotions-promotions.ensures.promoting) n it.0, c.certain_destinations-promoted.ensures.certain n h it.1)));
     })
 
 pub lowest-to-requires-clause-fits : goal.lowest-to-requires-clause-fits
@@ -21,13 +21,13 @@ lowest-to-requires-clause-fits c = or_fits _ _ (and_fits _ _ c.requires.kept.des
 
 pub returns-then-index-to-clause-passed : goal.returns-then-index-to-clause-passed
 returns-then-index-to-clause-passed c =
-    let at : (n : ℕ) → n < 81 → n < c.lowest-to.result → _ = λ n h down. of_both c.args.sweep.now.destinations.plain c.args.row.now.plain c.certain_destinations-certain.result c.args.sweep.now.destinations.promoting c.args.row.now.promoting c.certain_destinations-promoted.result n (omega arith) (omega arith) h
+    let at : (n : ℕ) → n < 81 → n < c.lowest-to.result → _ = λ n h down. of_both c.args.sweep.now.destinations.plain c.args.row.now.squares c.certain_destinations-certain.result c.args.sweep.now.destinations.promoting c.promotions-promotions.result c.certain_destinations-promoted.result n (omega arith) (omega arith) h
     (false_from_ne_true _ (λ set. (let least : c.lowest-to.result ≤ n = c.lowest-to.ensures.least n set in omega arith))) in
     rw c.pass_ends-then-index-to.ensures.code (record {
       up = omega (arith, c.if-index-to.true, c.index.ensures.index);
       passed = λ first low. destinations_passed c.args.p.now c.args.capture c.args.row.now c.args.sweep.now.from c.args.sweep.now.code _ c.args.sweep.now.destinations.plain c.args.sweep.now.destinations.promoting first c.validity.ensures (rw c.index.ensures.index at (sym c.has.ensures ∙ c.if-not-has.false)) c.requires.kept.destinations low (omega (arith, c.if-index-to.true, c.index.ensures.index)) (omega (arith, c.lowest-to.ensures.range))
           (λ n h set below. (let it : _ = (at n h (omega (arith, below))).0 set in (it.0, c.certain_destinations-certain.ensures.certain n h it.1)))
-          (λ n h set below. (let it : _ = (at n h (omega (arith, below))).1 set in (it.0, c.certain_destinations-promoted.ensures.certain n h it.1)));
+          (λ n h set below. (let it : _ = (at n h (omega (arith, below))).1 set in (c.promotions-promotions.ensures.squares n it.0, (rw c.at.ensures at c.promotions-promotions.ensures.promoting) n it.0, c.certain_destinations-promoted.ensures.certain n h it.1)));
     })
 
 pub returns-else-index-to-clause-passed : goal.returns-else-index-to-clause-passed
