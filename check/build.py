@@ -1,7 +1,8 @@
 #!/usr/bin/env python3
 """Proves and builds the program, where a source is newer than it. Crates that do not stand on each
-other are proved side by side, as many as there are processors and memory; the one with the longest chain
-of crates that wait for it may use all processors, each other half of them and only what the first leaves.
+other are proved side by side, as many as there are processors and memory. The one with the longest chain
+of crates that wait for it may use all processors, one with a chain that is nearly as long half of them, and
+each other one processor, which costs a third less time of processors, and only where these leave it.
 Standard error tells how far it is: which crates are done, after how many seconds, what is under way, and
 about how long is left, once a crate of the longest chain was proved from nothing or takes longer than is
 usual. What the toolchain says of a crate is kept in the file `build.log` of its `out/`, and shown where
@@ -52,11 +53,14 @@ USUAL = {
     "host_status": 27,
     "usi_replay": 71,
     "usi_words": 100,
+    "usi_runs": 45,
     "usi_host": 143,
 }
 # What a line of another crate takes, in seconds.
 A_LINE = 0.03
-# What a crate is put back behind the one with the longest chain, as nice(1) has it.
+# How much shorter a chain is than the longest at most, where it is nearly as long, in seconds.
+NEARLY = 20
+# What a crate is put back behind those with such chains, as nice(1) has it.
 BEHIND = 19
 # What a crate is proved from, and what is kept of that.
 TEXTS = ("src", "specs", "proofs")
@@ -177,9 +181,9 @@ def move(one, other):
 class Run:
     """A crate that is being proved: as a library in a room of its own, or as the program in its place."""
 
-    def __init__(self, crates, crate, jobs, behind, lock):
+    def __init__(self, crates, crate, jobs, behind, is_first, lock):
         self.crate, self.start, self.processor = crate, time.time(), 0.0
-        self.home, self.room, self.is_first = os.path.join(CRATES, crate), None, not behind
+        self.home, self.room, self.is_first = os.path.join(CRATES, crate), None, is_first
         self.has_kept = os.path.isdir(os.path.join(self.home, "out", "incremental"))
         os.makedirs(os.path.join(self.home, "out"), exist_ok=True)
         self.path = os.path.join(self.home, "out", "build.log")
@@ -331,10 +335,11 @@ class Build:
         if not calm and not self.running:
             calm = ready[:1]
         for crate in calm[: self.lanes - len(self.running)]:
-            is_first = all(self.chain[crate] >= self.chain[it.crate] for it in self.running)
-            jobs = 1 if crate in self.again else self.lanes if is_first else max(1, self.lanes // 2)
+            shorter = max((self.chain[it.crate] for it in self.running), default=0.0) - self.chain[crate]
+            is_first, is_near = shorter <= 0, shorter <= NEARLY and crate not in self.again
+            jobs = (self.lanes if is_first else max(1, self.lanes // 2)) if is_near else 1
             try:
-                run = Run(self.crates, crate, jobs, 0 if is_first else BEHIND, self.lock)
+                run = Run(self.crates, crate, jobs, 0 if is_near else BEHIND, is_first, self.lock)
             except BlockingIOError:
                 # Another command of the toolchain works in that crate.
                 continue

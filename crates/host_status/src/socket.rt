@@ -9,14 +9,13 @@ use crate::numbers::{Limits, Totals, status_of};
 use host_core::Host;
 use mio::Registry;
 use mio::net::{UnixListener, UnixStream};
-use socket_loop::{Loop, Turn};
+use socket_loop::{Loop, Monitor, Turn};
 use std::alloc::Allocator;
 use std::fs::Files;
 use std::hash::BuildHasher;
 use std::io::Write;
 use std::net::Net;
 use stream_wire::{MioWire, watch_again};
-use usi_serve::Monitor;
 use wires::WireFault;
 
 /// How many are answered after a turn.

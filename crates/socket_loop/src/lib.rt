@@ -2,10 +2,12 @@
 #![tactic(auto)]
 
 mod connection;
+mod monitor;
 mod tally;
 mod turn;
 mod visit;
 
 pub use connection::{Connection, Link};
+pub use monitor::{Monitor, Unseen};
 pub use tally::Tally;
 pub use turn::{Loop, Turn};

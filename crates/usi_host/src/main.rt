@@ -1,45 +1,22 @@
 //! The shogi host as a program.
 #![tactic(auto)]
 
-ghost use Rattle.std.specs.Prelude.{◌≡◌, ◌≤◌, IfOk};
+ghost use Rattle.std.specs.Prelude.{◌≡◌, ◌≤◌};
 ghost use Rattle.session_slots.specs.declared.limits.TheConstants.{SESSIONS_MAX};
 ghost use Rattle.shared_table.specs.declared.table.TheConstants.{CAPACITY_MAX};
-ghost use Rattle.usi_words.specs.Answers.{HasRanges};
-
-mod refusal;
-mod runs;
-mod serving;
 
 use host_core::Host;
 use host_status::{Limits, StatusSocket};
-use refusal::{complaint, status};
-use runs::{DONE, print_out, script, session};
-use serving::{ServeFault, socket_fault, status_fault};
 use socket_loop::Loop;
 use std::alloc::Global;
 use std::hash::RandomState;
+use std::io;
 use std::process::ExitCode;
-use std::{env, io};
+use usi_runs::{DONE, ServeFault, print_out, script, session, socket_fault, status_fault};
 use usi_serve::{MioWire, Unseen, serve};
 use usi_stdio::Duplex;
-use usi_words::{Job, WordsFault, read_words, unread_words, version_text};
+use usi_words::{Job, asked, complaint, status, version_text};
 use wires::WireFault;
-
-/// The words after the program's name, read as a job.
-fn asked(rt: &HostRuntime) -> Result<Job, WordsFault>
-    ensures { IfOk result HasRanges }
-{
-    let mut given = match env::args(rt) {
-        Ok(given) => given,
-        Err(error) => return Err(unread_words(rt.alloc(), error.kind())),
-    };
-    let _program = given.next();
-    let mut words = Vec::new(rt.alloc());
-    for word in given {
-        words.push(word).map_err(|_| WordsFault::OutOfMemory)?;
-    }
-    read_words(rt.alloc(), words.as_slice())
-}
 
 /// Writes the text to standard error, and gives the status.
 fn complain(rt: &HostRuntime, text: &str, status: u8) -> u8

@@ -5,5 +5,6 @@ mod laws;
 mod serving;
 
 pub use laws::{answers_as_alone, isolation};
-pub use serving::{Monitor, Unseen, serve};
+pub use serving::serve;
+pub use socket_loop::{Monitor, Unseen};
 pub use stream_wire::MioWire;

@@ -5,24 +5,10 @@ ghost use Rattle.socket_loop.specs.Turns.{Fits};
 ghost use Rattle.usi_serve.specs.Promises.{Ran};
 
 use host_core::Host;
-use socket_loop::{Loop, Turn};
+use socket_loop::{Loop, Monitor};
 use std::alloc::Allocator;
 use std::hash::BuildHasher;
 use wires::{Wire, WireFault};
-
-/// Is shown each turn of a host, and what it left, before the wait that follows.
-pub trait Monitor<W, S: BuildHasher, A: Allocator + Copy> {
-    /// A turn was taken, of this host, these connections and this wire.
-    fn see(&mut self, turn: &Turn, host: &Host<S, A>, connections: &Loop<A>, wire: &W);
-}
-
-/// A monitor that looks at nothing.
-#[derive(Clone, Copy, Debug, PartialEq, Eq)]
-pub struct Unseen;
-
-impl<W, S: BuildHasher, A: Allocator + Copy> Monitor<W, S, A> for Unseen {
-    fn see(&mut self, _turn: &Turn, _host: &Host<S, A>, _connections: &Loop<A>, _wire: &W) {}
-}
 
 /// Takes so many turns, shows each to the monitor, and waits after each of them, the last one too:
 /// until something may be ready where the turn did not move, and not at all where it did. A wait that

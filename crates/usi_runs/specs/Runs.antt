@@ -1,18 +1,25 @@
 -- What the program does over a front end, and the status with which it ends then (own choice).
 use Rattle.std.specs.Prelude.{◌≡◌, ℕ, List, Result, Ok, Err, IfErr, OnErr, OnOk}
 use Rattle.usi_replay.specs.declared.fault.ReplayFault.{ReplayFault}
+use Rattle.usi_replay.specs.declared.fault.ReplayFault.TheVariants.{OutOfMemory, ReadFailed, WriteFailed, BadScript}
 use Rattle.usi_replay.specs.Replayed.{FlushesAll, Leaves, Replays}
 use Rattle.usi_stdio.specs.declared.streams.StdioFault.{StdioFault}
 use Rattle.usi_stdio.specs.Calls.{Report}
 use Rattle.usi_stdio.specs.Dialogue.{Talks}
 use Rattle.usi_stdio.specs.Saying.{Says, SaysPrefix}
 use Rattle.usi_stdio.specs.Stdio.{IsLeft, IsServed}
-use Rattle.usi_host.specs.Statuses.{replay_status}
 
 -- 0 where it was done, and 1 after a fault
 abbrev pub ended_status : Result (Unit {0}) StdioFault → ℕ
 ended_status (Ok done) = 0
 ended_status (Err fault) = 1
+
+-- 3 for a bad script, 1 for any other fault
+abbrev pub replay_status : ReplayFault → ℕ
+replay_status (BadScript line) = 3
+replay_status OutOfMemory = 1
+replay_status ReadFailed = 1
+replay_status WriteFailed = 1
 
 -- 0 where a script was replayed, and else the status of its fault
 abbrev pub replayed_status : Result (Unit {0}) ReplayFault → ℕ

@@ -1,14 +1,13 @@
-//! What is said of words that name no job.
+//! What the program says of words that name no job.
 ghost use Rattle.std.specs.Prelude.{◌≡◌};
-ghost use Rattle.usi_host.specs.Refusals.{complaint_of};
-ghost use Rattle.usi_host.specs.Statuses.{words_status};
+ghost use Rattle.usi_words.specs.Refusals.{complaint_of, words_status};
 
-use usi_words::WordsFault;
+use crate::words::WordsFault;
 
-/// The status of a run that ended early.
-pub const FAULT: u8 = 1;
+/// The exit status where memory ran out.
+const FAULT: u8 = 1;
 
-/// The status of a command line that is not accepted.
+/// The exit status of a command line that is not accepted.
 const NOT_ACCEPTED: u8 = 2;
 
 /// The status with which the program ends.

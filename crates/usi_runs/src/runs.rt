@@ -3,16 +3,17 @@
 ghost use Rattle.std.specs.Prelude.{◌≡◌, ◌≤◌};
 ghost use Rattle.session_slots.specs.declared.limits.TheConstants.{SESSIONS_MAX};
 ghost use Rattle.shared_table.specs.declared.table.TheConstants.{CAPACITY_MAX};
-ghost use Rattle.usi_host.specs.Runs.{IsPrint, IsReplay, IsSession, ended_status};
-ghost use Rattle.usi_host.specs.Statuses.{replay_status};
+ghost use Rattle.usi_runs.specs.Runs.{IsPrint, IsReplay, IsSession, ended_status, replay_status};
 
-use crate::refusal::FAULT;
 use std::alloc::Allocator;
 use usi_replay::{ReplayFault, replay};
 use usi_stdio::{FrontEnd, StdioFault, stdio, write_out};
 
 /// The status of what was done.
 pub const DONE: u8 = 0;
+
+/// The status of a run that ended early.
+pub const FAULT: u8 = 1;
 
 /// The status of a script that has a bad line.
 const BAD_SCRIPT: u8 = 3;

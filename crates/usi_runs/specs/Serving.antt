@@ -1,26 +1,25 @@
--- The status with which the program ends (own choice).
-use Rattle.std.specs.Prelude.{ℕ}
-use Rattle.usi_words.specs.declared.words.WordsFault.{WordsFault}
-use Rattle.usi_words.specs.declared.words.WordsFault.TheVariants as words
-use Rattle.usi_host.specs.declared.serving.ServeFault.{ServeFault}
-use Rattle.usi_host.specs.declared.serving.ServeFault.TheVariants as serving
+-- Why a host on a socket ended early, with its text and status (own choice).
+use Rattle.std.specs.Prelude.{ℕ, List, codes}
+use Rattle.usi_runs.specs.declared.serving.ServeFault.{ServeFault}
+use Rattle.usi_runs.specs.declared.serving.ServeFault.TheVariants as serving
 use Rattle.host_core.specs.declared.event.HostFault.{HostFault}
 use Rattle.wires.specs.declared.wire.WireFault.{WireFault}
 use Rattle.wires.specs.declared.wire.WireFault.TheVariants as wires
-use Rattle.usi_replay.specs.declared.fault.ReplayFault.{ReplayFault}
-use Rattle.usi_replay.specs.declared.fault.ReplayFault.TheVariants.{OutOfMemory, ReadFailed, WriteFailed, BadScript}
 
--- 3 for a bad script, 1 for any other fault
-abbrev pub replay_status : ReplayFault → ℕ
-replay_status (BadScript line) = 3
-replay_status OutOfMemory = 1
-replay_status ReadFailed = 1
-replay_status WriteFailed = 1
-
--- 1 where memory ran out, 2 where the words are not accepted
-abbrev pub words_status : WordsFault → ℕ
-words_status words.OutOfMemory = 1
-words_status (words.NotAccepted text) = 2
+-- the text on standard error
+abbrev pub serve_complaint : ServeFault → List ℕ
+serve_complaint serving.OutOfMemory = codes "usi_host: out of memory\n"
+serve_complaint serving.ReadFailed = codes "usi_host: read failed\n"
+serve_complaint serving.SocketFailed = codes "usi_host: socket failed\n"
+serve_complaint serving.SocketTaken =
+    codes "usi_host: socket failed: a process listens at it; end it, or take another path\n"
+serve_complaint serving.SocketLeft =
+    codes "usi_host: socket failed: nobody listens at it; remove it, and start again\n"
+serve_complaint serving.StatusFailed = codes "usi_host: status socket failed\n"
+serve_complaint serving.StatusTaken =
+    codes "usi_host: status socket failed: a process listens at it; take another path\n"
+serve_complaint serving.StatusLeft =
+    codes "usi_host: status socket failed: nobody listens at it; remove it, and start again\n"
 
 -- a host that can't be made wants memory
 abbrev pub of_host : HostFault → ServeFault

@@ -1,10 +1,9 @@
 //! Why the host on a socket ended early.
 
 ghost use Rattle.std.specs.Prelude.{◌≡◌};
-ghost use Rattle.usi_host.specs.Refusals.{serve_complaint};
-ghost use Rattle.usi_host.specs.Statuses.{of_host, of_wire, serve_status, IsOfSocket, IsOfStatus};
+ghost use Rattle.usi_runs.specs.Serving.{of_host, of_wire, serve_complaint, serve_status, IsOfSocket, IsOfStatus};
 
-use crate::refusal::FAULT;
+use crate::runs::FAULT;
 use host_core::HostFault;
 use mio::net::UnixStream;
 use std::fs;

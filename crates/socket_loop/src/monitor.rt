@@ -1,0 +1,20 @@
+//! Who is shown the turns of a loop.
+
+use crate::turn::{Loop, Turn};
+use host_core::Host;
+use std::alloc::Allocator;
+use std::hash::BuildHasher;
+
+/// Is shown each turn of a host, and what it left, before the wait that follows.
+pub trait Monitor<W, S: BuildHasher, A: Allocator + Copy> {
+    /// A turn was taken, of this host, these connections and this wire.
+    fn see(&mut self, turn: &Turn, host: &Host<S, A>, connections: &Loop<A>, wire: &W);
+}
+
+/// A monitor that looks at nothing.
+#[derive(Clone, Copy, Debug, PartialEq, Eq)]
+pub struct Unseen;
+
+impl<W, S: BuildHasher, A: Allocator + Copy> Monitor<W, S, A> for Unseen {
+    fn see(&mut self, _turn: &Turn, _host: &Host<S, A>, _connections: &Loop<A>, _wire: &W) {}
+}
