@@ -2,7 +2,7 @@
 """Proves and builds the program, where a source is newer than it. Crates that do not stand on each
 other are proved side by side, as many as there are processors and memory. The one with the longest chain
 of crates that wait for it may use all processors, one with a chain that is nearly as long half of them, and
-each other one processor, which costs a third less time of processors, and only where these leave it.
+each other one processor, which costs less time of them, and only where these leave it.
 Standard error tells how far it is: which crates are done, after how many seconds, what is under way, and
 about how long is left, once a crate of the longest chain was proved from nothing or takes longer than is
 usual. What the toolchain says of a crate is kept in the file `build.log` of its `out/`, and shown where
