@@ -18,7 +18,7 @@ use Rattle.shogi_moves.specs.After.{after, after_code, dropped, piece_moved}
 use Rattle.shogi_moves.specs.Legal.{is_legal}
 use Rattle.shogi_moves.specs.LegalMoves.{legal_codes}
 use Rattle.shogi_moves.specs.Rising.{is_in}
-use Rattle.shogi_replies.specs.Threats.{IsAttack, IsThreat, KeepsThreats, LeavesThreat, MayRetake, MayTake, end_of, put_by}
+use Rattle.shogi_replies.specs.Threats.{IsAttack, IsTaken, IsThreat, KeepsThreats, LeavesThreat, MayRetake, MayTake, end_of, put_by}
 use Rattle.shogi_moves.proofs.CheckInfoLaws.{other_side}
 use Rattle.shogi_moves.proofs.Keeps.{is_safe_from_legal}
 use Rattle.shogi_moves.proofs.KeepsDrop.{safe_drop}
@@ -126,14 +126,22 @@ unpromoted : (cell : Option Piece) → promotion_gain false cell ≡ 0
 unpromoted None = refl
 unpromoted (Some piece) = refl
 
--- and so does an attack on the square where it ends, by what it puts there
-pub retake_gain : (p : Shogi) (e : Eval) (m : Move) (to gain : ℕ) → IsValid p → move_of (code_of m) ≡ Some m → is_legal p m ≡ true → end_of m ≡ to → IsAttacked p to → gain ≡ taken_gain e (put_by p m) → TakesAfter p e m gain
-retake_gain p e m to gain v back legal ends attacked is = λ keeps retakes.
+-- a capture of what it puts on its square gains that
+pub taken_left : (p : Shogi) (e : Eval) (m : Move) → IsValid p → move_of (code_of m) ≡ Some m → is_legal p m ≡ true → IsTaken p m → (material_of (after p m) e +ℤ pos (taken_gain e (put_by p m))) ≤ℤ value (after p m) e 1
+taken_left p e m v back legal taken =
     let valid : IsValid (after p m) = valid_after p m v back (legal_to_listed p m back legal) in
+    let least : (material_of (after p m) e +ℤ pos (taken_gain e (put_by p m) + promotion_gain false (piece_at (after p m).cells taken.taker))) ≤ℤ value (after p m) e 1 = value_taking (after p m) e taken.taker (end_of m) false (put_by p m) valid taken.on_board.0 taken.on_board.1 taken.takes in
+    let none : promotion_gain false (piece_at (after p m).cells taken.taker) ≡ 0 = unpromoted (piece_at (after p m).cells taken.taker) in
+    omega (arith, ints, least, none)
+
+-- as by an attack on the square where it ends
+pub retaken : (p : Shogi) (m : Move) (to : ℕ) → end_of m ≡ to → MayRetake p m → IsAttacked p to → IsTaken p m
+retaken p m to ends retakes attacked =
     let attack : IsAttack p attacked.0 (end_of m) false = subst (λ (n : ℕ). IsAttack p attacked.0 n false) (sym ends) attacked.1 in
-    let least : (material_of (after p m) e +ℤ pos (taken_gain e (put_by p m) + promotion_gain false (piece_at (after p m).cells attacked.0))) ≤ℤ value (after p m) e 1 = value_taking (after p m) e attacked.0 (end_of m) false (put_by p m) valid attack.attacker.on_board attack.on_board (retakes attacked.0 false attack) in
-    let none : promotion_gain false (piece_at (after p m).cells attacked.0) ≡ 0 = unpromoted (piece_at (after p m).cells attacked.0) in
-    omega (arith, ints, least, none, is)
+    record { taker = attacked.0; on_board = (attack.attacker.on_board, attack.on_board); takes = retakes attacked.0 false attack }
+
+pub retake_gain : (p : Shogi) (e : Eval) (m : Move) (to gain : ℕ) → IsValid p → move_of (code_of m) ≡ Some m → is_legal p m ≡ true → end_of m ≡ to → IsAttacked p to → gain ≡ taken_gain e (put_by p m) → TakesAfter p e m gain
+retake_gain p e m to gain v back legal ends attacked is = λ keeps retakes. omega (arith, ints, taken_left p e m v back legal (retaken p m to ends retakes attacked), is)
 
 -- ---- what a move is worth at most two plies before the leaves
 

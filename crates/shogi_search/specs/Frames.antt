@@ -13,7 +13,7 @@ use Rattle.shogi_moves.specs.Legal.{is_legal}
 use Rattle.shogi_moves.specs.LegalMoves.{legal_codes}
 use Rattle.shogi_replies.specs.Passes.{IsCertainDrop}
 use Rattle.shogi_replies.specs.Replies.{IsCertain, lets_promote}
-use Rattle.shogi_replies.specs.Threats.{KeepsThreats, MayRetake}
+use Rattle.shogi_replies.specs.Threats.{IsTaken, KeepsThreats, MayRetake}
 use Rattle.shogi_search.specs.declared.frame.Frame.{Frame}
 use Rattle.minimax.specs.declared.entry.Entry.{Entry}
 use Rattle.minimax.specs.Entries.{IsCutoff}
@@ -69,6 +69,10 @@ HasReply f m = legal_codes (after f.node.position m) ≢ []
 abbrev pub IsLostWhere : Frame → Move → Type 0
 IsLostWhere f m = KeepsThreats f.node.position m → MayRetake f.node.position m
     → IsWorthAtMost f m (threshold_of f m)
+
+-- if the other side may take what the move puts on its square, that is not worth more than it has to be
+abbrev pub IsLostIfTaken : Frame → Move → Type 0
+IsLostIfTaken f m = ∥ IsTaken f.node.position m ∥₁ → IsWorthAtMost f m (threshold_of f m)
 
 -- no drop of the other side takes more than this from its material
 abbrev pub RepliesLoseAtMost : Frame → ℤ → Type 0

@@ -41,9 +41,13 @@ pub record IsThreatIn (p : Shogi) (e : Eval) (threat : Threat) : Type 0 where
 abbrev pub IsAttacked : Shogi → ℕ → Type 0
 IsAttacked p n = (a : ℕ) × IsAttack p a n false
 
+-- so is each square of the mask
+abbrev pub AreAttacked : Shogi → ℕ → Type 0
+AreAttacked p mask = (n : ℕ) → n < 81 → has_bit mask n ≡ true → ∥ IsAttacked p n ∥₁
+
 -- each square of the mask is attacked, and the threat is one
 pub record AreThreatsIn (p : Shogi) (e : Eval) (threats : Threats) : Type 0 where
-  pub takes : (n : ℕ) → n < 81 → has_bit threats.takes n ≡ true → ∥ IsAttacked p n ∥₁
+  pub takes : AreAttacked p threats.takes
   pub greatest : ForSome threats.greatest (IsThreatIn p e)
 
 -- threats are in the position, once they were looked for

@@ -6,13 +6,15 @@ ghost use Rattle.shogi_search.specs.Frames.{PromotesWithin};
 
 use crate::frame::{Frame, Waiting};
 use crate::move_picker::MovePicker;
-use crate::threat::{Threat, Threats, slides, threats_of};
+use crate::threat::{Threat, Threats, end_of, slides, threats_of};
 use crate::window::threshold_at;
-use shogi_core::bits::{ALL_SQUARES, without};
+use shogi_core::bits::{ALL_SQUARES, has, without};
 use shogi_core::{Kind, Move};
 use shogi_eval::{PROMOTION_GAIN_MAX, loss_of_drops, taken_gain};
 use shogi_moves::dropped;
-use shogi_replies::{ALL_ROLES, Replies, Row, escape_squares, leaves_escape};
+use shogi_replies::{
+    ALL_ROLES, Replies, Row, escape_squares, king_takes, leaves_escape, put_by,
+};
 
 // Some roles, as masks of their places in the order in which they are declared.
 const ALL_BUT_PAWN: u32 = 16381;
@@ -43,9 +45,10 @@ fn roles_within(most: u32) -> u32
 }
 
 impl Frame {
-    ghost use Rattle.shogi_search.specs.Frames.{DropsAreLost, FallsShort, HasReply, IsLostWhere, IsWorthAtMost, MovesLeave, RepliesLoseAtMost};
+    ghost use Rattle.shogi_search.specs.Frames.{DropsAreLost, FallsShort, HasReply, IsLostIfTaken, IsLostWhere, IsWorthAtMost, MovesLeave, RepliesLoseAtMost, threshold_of};
     ghost use Rattle.shogi_search.specs.Order.{IsAtDrops, IsAtQuiets};
     ghost use Rattle.shogi_search.specs.Stack.{IsSame, KeepsMoves, AsksFor, PrunesRow};
+    ghost use Rattle.shogi_replies.specs.Threats.{IsTaken};
     ghost use Rattle.shogi_search.specs.Threats.{AreThreatsIn, IsThreatIn};
     ghost use Rattle.shogi_search.specs.Visits.{IsCurrent};
 
@@ -172,8 +175,64 @@ impl Frame {
         0 - self.node.score_after(current) - gain as i32 <= self.threshold(current)
     }
 
+    /// Whether the other side surely takes what the current move puts on its square, once its
+    /// attackers were looked for: one that nothing pins does, or its king.
+    fn is_retaken(&self, current: &Move) -> bool
+        requires current { IsCurrent self.now.waiting current.now }
+        ensures { result ≡ true → ∥ IsTaken self.now.node.position current.now ∥₁ }
+    {
+        let Some(threats) = &self.threats else {
+            return false;
+        };
+        current.validity();
+        let p = self.node.as_position();
+        if threats.has_retake(p, &self.replies, current) {
+            return true;
+        }
+        king_takes(p, current)
+    }
+
+    /// Whether it is certain without making the current move that the other side has a legal move
+    /// after it: it answers, or takes what the move puts on its square.
+    fn has_reply(&mut self, current: &Move) -> bool
+        requires current { IsCurrent self.old.waiting current.now }
+        ensures some { result ≡ true → HasReply self.new current.now }
+        ensures kept { KeepsMoves self.old self.new }
+    {
+        if self.is_answered(current) {
+            return true;
+        }
+        self.look_for_threats();
+        self.is_retaken(current)
+    }
+
+    /// Whether the current move of a node of depth 2 is not worth enough, if the other side takes what
+    /// it puts on its square.
+    fn loses_piece(&self, current: &Move) -> bool
+        requires current { IsCurrent self.now.waiting current.now }
+        requires last { self.now.depth ≡ 2 }
+        ensures { result ≡ true → IsLostIfTaken self.now current.now }
+    {
+        current.validity();
+        let put = put_by(self.node.as_position(), current);
+        let gain = taken_gain(self.node.eval(), put);
+        0 - self.node.score_after(current) - gain as i32 <= self.threshold(current)
+    }
+
+    /// Whether it surely is not, since it ends where a king of the other side sees it and is taken.
+    fn is_lost_piece(&self, current: &Move) -> bool
+        requires current { IsCurrent self.now.waiting current.now }
+        requires last { self.now.depth ≡ 2 }
+        ensures { result ≡ true → IsWorthAtMost self.now current.now (threshold_of self.now current.now) }
+    {
+        if self.threats.is_none() || !has(self.replies.sight, end_of(current).index()) {
+            return false;
+        }
+        self.loses_piece(current) && self.is_retaken(current)
+    }
+
     /// Passes the current move of a node of depth 2, where it is certain without making it that it
-    /// is not worth enough since a threat stands after it, and returns whether it did.
+    /// is not worth enough since it is taken or a threat stands after it, and returns whether it did.
     fn prune_under_threat(&mut self, current: &Move) -> bool
         requires asked { self.old.waiting ≡ Waiting.Asked current.now }
         requires last { self.old.depth ≡ 2 }
@@ -183,6 +242,10 @@ impl Frame {
         ensures same { IsSame self.old self.new }
     {
         self.look_for_threats();
+        if self.is_lost_piece(current) {
+            self.fail_low();
+            return true;
+        }
         if !self.loses(current) {
             return false;
         }
@@ -210,7 +273,7 @@ impl Frame {
         if self.most_after(current) > self.threshold(current) {
             return self.prune_under_threat(current);
         }
-        if !self.is_answered(current) {
+        if !self.has_reply(current) {
             return false;
         }
         self.fail_low();

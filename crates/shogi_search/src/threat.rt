@@ -6,15 +6,15 @@ ghost use Rattle.shogi_core.specs.Bits.{has_bit};
 ghost use Rattle.shogi_core.specs.Cell.{is_slider};
 ghost use Rattle.shogi_core.specs.Pieces.{opponent_of};
 ghost use Rattle.shogi_moves.specs.Legal.{is_legal};
-ghost use Rattle.shogi_replies.specs.Replies.{Aligns};
-ghost use Rattle.shogi_replies.specs.Threats.{IsUnpinnable, IsThreat, end_of};
+ghost use Rattle.shogi_replies.specs.Replies.{Aligns, IsReplies};
+ghost use Rattle.shogi_replies.specs.Threats.{IsTaken, IsUnpinnable, IsThreat, end_of};
 ghost use Rattle.shogi_core.specs.Validity.{IsValid};
-ghost use Rattle.shogi_search.specs.Threats.{AreSpared, AreThreatsIn, IsAttackerIn, IsThreatIn, IsSparedAt, IsSparedBy, TakesAfter};
+ghost use Rattle.shogi_search.specs.Threats.{AreAttacked, AreSpared, AreThreatsIn, IsAttackerIn, IsThreatIn, IsSparedAt, IsSparedBy, TakesAfter};
 
 use shogi_core::bits::{has, lowest, without, without_lowest};
 use shogi_core::{Move, Piece, Position, Square, aligned_squares};
 use shogi_eval::{Eval, promotion_gain, taken_gain};
-use shogi_replies::{attacks_of, line_squares, put_by, unpinnable_pieces};
+use shogi_replies::{Replies, attacks_of, line_squares, put_by, unpinnable_pieces};
 
 /// A piece of the side that is not to move that nothing pins, all squares that it reaches, and those
 /// on which a piece that slides might come to pin it: on lines with it and with its king.
@@ -194,7 +194,7 @@ impl Threat {
 
 /// Where the move ends.
 #[inline(always)]
-fn end_of(m: &Move) -> Square
+pub fn end_of(m: &Move) -> Square
     ensures { result ≡ end_of m.now }
 {
     match m {
@@ -204,6 +204,23 @@ fn end_of(m: &Move) -> Square
 }
 
 impl Threats {
+    /// Whether such a piece surely takes what the legal move puts on its square, also where that
+    /// gives check.
+    #[inline(always)]
+    pub fn has_retake(&self, p: &Position, replies: &Replies, m: &Move) -> bool
+        requires takes { AreAttacked p.now self.now.takes }
+        requires kept { IsReplies p.now replies.now.sight replies.now.spare }
+        requires legal { is_legal p.now m.now ≡ true }
+        ensures { result ≡ true → ∥ IsTaken p.now m.now ∥₁ }
+    {
+        let end = end_of(m);
+        end.validity();
+        if !has(self.takes, end.index()) {
+            return false;
+        }
+        replies.uncovers_nothing(p, m)
+    }
+
     /// What the other side gains at least by one of these captures after the legal move, if that
     /// gives no check; 0 where none of them surely stands.
     #[inline(always)]

@@ -23,6 +23,11 @@ is_certain-certain-requires-clause-legal c =
 pub fail_low-requires : goal.fail_low-requires
 fail_low-requires c =
     let f : Frame = c.look_for_threats.new.self in
+    of_current f.waiting (λ (m : Move). worth_of f m ≤ℤ threshold_of f m) c.args.current.now (asked _ _ (c.look_for_threats.ensures.1.1.0 ∙ c.requires.asked)) (c.is_lost_piece.ensures c.if-is_lost_piece.true)
+
+pub fail_low-requires-2 : goal.fail_low-requires-2
+fail_low-requires-2 c =
+    let f : Frame = c.look_for_threats.new.self in
     let s : Frame = c.look_ahead.new.self in
     let same : c.as_position.result.now ≡ f.node.position = c.as_position.ensures ∙ ap (λ (n : Evaluated). n.position) c.look_ahead.ensures.0.0 in
     let keeps : KeepsThreats f.node.position c.args.current.now = subst (λ (q : Shogi). KeepsThreats q c.args.current.now) same (c.is_certain-certain.ensures.threats c.if-not-certain.false) in
