@@ -207,14 +207,16 @@ fn lets_king_take(sfen: &str, text: &str) -> Result<bool, Fail> {
 }
 
 /// A gold goes before the king and attacks all squares next to it, and the king may take it, be it
-/// that it took a pawn there. A knight, or a rook behind it, protects the gold; and the king does
-/// not reach a rook that gives check from afar.
+/// that it took a pawn there, or was dropped. A knight, or a rook behind it, protects the gold; and
+/// the king does not reach a rook that gives check from afar.
 #[test]
 fn pieces_that_a_king_takes(rt: HostRuntime) -> Result<(), Fail> {
     for (sfen, text, taken) in [
         ("4k4/9/4G4/9/9/9/9/9/K8 b -", "5c5b", true),
         ("4k4/4p4/4G4/9/9/9/9/9/K8 b -", "5c5b", true),
         ("4k4/9/4G4/5N3/9/9/9/9/K8 b -", "5c5b", false),
+        ("4k4/9/9/9/9/9/9/9/K8 b G", "G*5b", true),
+        ("4k4/9/9/5N3/9/9/9/9/K8 b G", "G*5b", false),
         ("4k4/9/4G4/9/9/9/9/9/K3R4 b -", "5c5b", false),
         ("4k4/9/9/9/9/9/9/9/K7R b -", "1i1a", false),
     ] {

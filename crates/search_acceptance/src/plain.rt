@@ -316,6 +316,10 @@ pub struct Branch {
     is_certain: bool,
     /// Whether the other side surely has a legal move after it, be it a step of its king out of a check.
     is_answered: bool,
+    /// Whether it surely uncovers no check.
+    uncovers_nothing: bool,
+    /// Whether the other side's king may take what it puts on its square.
+    king_takes: bool,
 }
 
 /// When a move is visited.
@@ -439,6 +443,21 @@ fn leaves_escape(p: &Position, escapes: &Escapes, m: &Move) -> bool {
     false
 }
 
+/// Whether the other side's only king reaches the square where the move ends, and no piece attacks that once
+/// the king and what moves have left theirs.
+fn king_takes(p: &Position, m: &Move) -> bool {
+    let (begin, end) = ends_of(m);
+    let Some(king) = only_king(p, p.side().opponent()) else {
+        return false;
+    };
+    let without_king = p.board().put(king, None);
+    let lifted = match begin {
+        Some(from) => without_king.put(from, None),
+        None => without_king,
+    };
+    p.reaches(king, end) && !lifted.is_attacked(p.side(), end)
+}
+
 /// The legal moves by rising code.
 pub fn branches_of(
     alloc: Global,
@@ -466,6 +485,8 @@ pub fn branches_of(
             turn: turn_of(p, &m, firsts),
             is_certain,
             is_answered: is_certain || is_escaped,
+            uncovers_nothing: replies.uncovers_nothing(p, &m),
+            king_takes: king_takes(p, &m),
         })?;
     }
     Ok(branches)
@@ -683,6 +704,11 @@ fn is_left(p: &Position, threat: &Threat, branch: &Branch) -> bool {
         && !may_pin
 }
 
+/// Whether the other side surely takes what a move puts on its square, also where that gives check.
+fn is_taken(p: &Position, branch: &Branch) -> bool {
+    branch.king_takes || branch.uncovers_nothing && is_retaken(p, branch.to)
+}
+
 /// What the other side gains by taking what a move puts on its square, or else by its greatest threat, where
 /// that gains more and the move leaves it.
 fn gain_after(p: &Position, e: Eval, threat: &Option<Threat>, branch: &Branch) -> i32 {
@@ -715,8 +741,9 @@ impl Outlook {
         }
     }
 
-    /// Whether a move is left out: it surely is answered, and not worth enough by its answer's material; or it
-    /// leaves the other side in no check, and is not worth enough by what that gains then by a capture.
+    /// Whether a move is left out: it surely is answered, and not worth enough by its answer's material; or what
+    /// it puts on its square is taken, or it leaves the other side in no check, and it is not worth enough by
+    /// what that gains then by a capture.
     fn leaves_out(
         &mut self,
         p: &Position,
@@ -726,14 +753,25 @@ impl Outlook {
         threshold: i32,
     ) -> bool {
         if most_worth(branch, e) <= threshold {
-            return branch.is_answered;
+            if branch.is_answered {
+                return true;
+            }
+            self.look(p, e, beta);
+            return self.is_looked_for && is_taken(p, branch);
         }
         self.look(p, e, beta);
-        if !self.is_looked_for || !branch.is_certain {
+        if !self.is_looked_for {
+            return false;
+        }
+        let most = i32::saturating_sub(0, material(&branch.position, e));
+        let piece = taken_gain(e, branch.put) as i32;
+        if most.saturating_sub(piece) <= threshold && is_taken(p, branch) {
+            return true;
+        }
+        if !branch.is_certain {
             return false;
         }
         let gain = gain_after(p, e, &self.threat, branch);
-        let most = i32::saturating_sub(0, material(&branch.position, e));
         gain > 0 && most.saturating_sub(gain) <= threshold
     }
 }

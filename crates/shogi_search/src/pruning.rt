@@ -223,7 +223,8 @@ impl Frame {
     fn is_lost_piece(&self, current: &Move) -> bool
         requires current { IsCurrent self.now.waiting current.now }
         requires last { self.now.depth ≡ 2 }
-        ensures { result ≡ true → IsWorthAtMost self.now current.now (threshold_of self.now current.now) }
+        ensures { result ≡ true
+            → IsWorthAtMost self.now current.now (threshold_of self.now current.now) }
     {
         if self.threats.is_none() || !has(self.replies.sight, end_of(current).index()) {
             return false;
