@@ -526,8 +526,7 @@ fn most_worth(branch: &Branch, e: Eval) -> i32 {
     )
 }
 
-/// A piece of the side that is not to move and one that it may take, promoting or not, with what that
-/// gains.
+/// A piece of the side that is not to move and where it may go, promoting or not, with what that gains.
 #[derive(Clone, Copy, Debug)]
 struct Threat {
     from: Square,
@@ -633,25 +632,35 @@ fn promotion_of(piece: Option<Piece>) -> i32 {
     }
 }
 
-/// What taking on the one square with the piece on the other gains.
+/// What going to the one square with the piece on the other gains.
 fn gain_of(p: &Position, e: Eval, from: Square, target: Square, promote: bool) -> i32 {
     let more = if promote { promotion_of(p.at(from)) } else { 0 };
     more.saturating_add(taken_gain(e, p.at(target)) as i32)
 }
 
-/// The greatest threat by the piece on the square, promoting or not, and of one more.
+/// Whether the piece gains something there: it takes a piece of the side to move, or promotes where none of
+/// its own side stands.
+fn is_gain(p: &Position, target: Square, promote: bool) -> bool {
+    match p.at(target) {
+        Some(piece) => piece.color == p.side(),
+        None => promote,
+    }
+}
+
+/// The greatest threat by the piece on the square, promoting or not, and of one more, but for those to a
+/// square.
 fn greatest_from(
     p: &Position,
     e: Eval,
     from: Square,
     promote: bool,
+    but: Option<Square>,
     first: Option<Threat>,
 ) -> Option<Threat> {
     let mut best = first;
     for number in 0..81u8 {
         let target = square(number);
-        let is_theirs = matches!(p.at(target), Some(piece) if piece.color == p.side());
-        if is_theirs && is_attack(p, from, target, promote) {
+        if but != Some(target) && is_gain(p, target, promote) && is_attack(p, from, target, promote) {
             let gain = gain_of(p, e, from, target, promote);
             best = greater(best, Threat { from, target, gain });
         }
@@ -659,16 +668,26 @@ fn greatest_from(
     best
 }
 
-/// The threat that gains most; among equal ones that of the first square, without promotion before with it,
-/// and to the first square.
-fn greatest_threat(p: &Position, e: Eval) -> Option<Threat> {
+/// The threat that gains most, but for those to a square; among equal ones that of the first square, without
+/// promotion before with it, and to the first square.
+fn greatest_threat(p: &Position, e: Eval, but: Option<Square>) -> Option<Threat> {
     let mut best = None;
     for number in 0..81u8 {
         let from = square(number);
-        best = greatest_from(p, e, from, false, best);
-        best = greatest_from(p, e, from, true, best);
+        best = greatest_from(p, e, from, false, but, best);
+        best = greatest_from(p, e, from, true, but, best);
     }
     best
+}
+
+/// The threat that gains most, and that of those to other squares.
+fn two_threats(p: &Position, e: Eval) -> [Option<Threat>; 2] {
+    let greatest = greatest_threat(p, e, None);
+    let second = match greatest {
+        Some(threat) => greatest_threat(p, e, Some(threat.target)),
+        None => None,
+    };
+    [greatest, second]
 }
 
 /// Whether the other side takes what comes to the square, without promotion.
@@ -689,8 +708,8 @@ fn greater(first: Option<Threat>, other: Threat) -> Option<Threat> {
     }
 }
 
-/// Whether a move lets the piece, its target and the squares that it reaches be, and puts nothing that
-/// slides on a line with the piece and with a king of its side, where the piece is on one too.
+/// Whether a move lets the piece, its target and the squares between be, and puts nothing that slides on a
+/// line with the piece and with a king of its side, where the piece is on one too.
 fn is_left(p: &Position, threat: &Threat, branch: &Branch) -> bool {
     let side = p.side().opponent();
     let is_slider = matches!(branch.put, Some(piece) if piece.role.is_sliding());
@@ -700,7 +719,8 @@ fn is_left(p: &Position, threat: &Threat, branch: &Branch) -> bool {
         && are_on_a_line(branch.to, threat.from);
     branch.from != Some(threat.target)
         && branch.to != threat.from
-        && !p.reaches(threat.from, branch.to)
+        && branch.to != threat.target
+        && !is_between(threat.from, branch.to, threat.target)
         && !may_pin
 }
 
@@ -709,41 +729,45 @@ fn is_taken(p: &Position, branch: &Branch) -> bool {
     branch.king_takes || branch.uncovers_nothing && is_retaken(p, branch.to)
 }
 
-/// What the other side gains by taking what a move puts on its square, or else by its greatest threat, where
-/// that gains more and the move leaves it.
-fn gain_after(p: &Position, e: Eval, threat: &Option<Threat>, branch: &Branch) -> i32 {
+/// What the other side gains by taking what a move puts on its square, or else by the first of two threats
+/// that gains more and that the move leaves.
+fn gain_after(p: &Position, e: Eval, threats: &[Option<Threat>; 2], branch: &Branch) -> i32 {
     let retake = if is_retaken(p, branch.to) {
         taken_gain(e, branch.put) as i32
     } else {
         0
     };
-    match threat {
-        Some(threat) if threat.gain > retake && is_left(p, threat, branch) => threat.gain,
-        _ => retake,
+    for entry in threats.as_slice() {
+        if let Some(threat) = entry {
+            if threat.gain > retake && is_left(p, threat, branch) {
+                return threat.gain;
+            }
+        }
     }
+    retake
 }
 
 /// What shows that moves of a node two plies before the end are not worth enough: whether one of them
-/// was not, and the greatest threat of the other side, once it was looked for.
+/// was not, and the two greatest threats of the other side, once they were looked for.
 #[derive(Clone, Copy, Debug)]
 struct Outlook {
     has_weak: bool,
     is_looked_for: bool,
-    threat: Option<Threat>,
+    threats: [Option<Threat>; 2],
 }
 
 impl Outlook {
-    /// Looks for the greatest threat, once a move was not worth enough, or where the material alone is not.
+    /// Looks for threats, once a move was not worth enough, or where the material alone is not.
     fn look(&mut self, p: &Position, e: Eval, beta: i32) {
         if !self.is_looked_for && (self.has_weak || material(p, e) < beta) {
-            self.threat = greatest_threat(p, e);
+            self.threats = two_threats(p, e);
             self.is_looked_for = true;
         }
     }
 
     /// Whether a move is left out: it surely is answered, and not worth enough by its answer's material; or what
     /// it puts on its square is taken, or it leaves the other side in no check, and it is not worth enough by
-    /// what that gains then by a capture.
+    /// what that gains then.
     fn leaves_out(
         &mut self,
         p: &Position,
@@ -771,7 +795,7 @@ impl Outlook {
         if !branch.is_certain {
             return false;
         }
-        let gain = gain_after(p, e, &self.threat, branch);
+        let gain = gain_after(p, e, &self.threats, branch);
         gain > 0 && most.saturating_sub(gain) <= threshold
     }
 }
@@ -891,7 +915,7 @@ fn visit(
     let mut outlook = Outlook {
         has_weak: false,
         is_looked_for: false,
-        threat: None,
+        threats: [None, None],
     };
     for turn in 0..8u8 {
         for branch in branches.as_slice() {

@@ -1,8 +1,8 @@
 -- A capture by a piece that no move can pin stands after the moves that let it be.
 use Rattle.std.proofs.Common.{◌≡◌, ◌≢◌, ℕ, zero, suc, ◌+◌, ◌-◌, ◌^◌, ◌<◌, ◌≤◌, ◌⊎◌, Bool, true, false, not, Option, Some, None, List, [], ◌∷◌, refl, sym, ap, subst, ◌∙◌, arith, inl, inr, set, length, length-set, get_or-set_same, get_or-set_other, bit_and}
 use Rattle.std.specs.Prelude.{is_none, ◌==◌, ◌&&◌, ◌||◌}
-use Rattle.std.specs.List.{list_any}
-use Rattle.std.proofs.lemmas.Bool.{cases_Bool, cases_eq, false_from_ne_true, both_ways, and_parts, and_from, or_left, or_right, or_cases, or_parts, not-true, eq-eqb}
+use Rattle.std.specs.List.{list_any, list_all}
+use Rattle.std.proofs.lemmas.Bool.{cases_Bool, cases_eq, false_from_ne_true, both_ways, and_parts, and_from, or_left, or_right, or_cases, not-true, eq-eqb}
 use Rattle.shogi_core.specs.declared.moves.Move.{Move}
 use Rattle.shogi_core.specs.declared.moves.Move.TheVariants.{Board, Drop}
 use Rattle.shogi_core.specs.declared.offset.Offset.{Offset}
@@ -14,22 +14,23 @@ use Rattle.shogi_core.specs.Below.{some_below, all_below}
 use Rattle.shogi_core.specs.Bits.{has_bit}
 use Rattle.shogi_core.specs.Cell.{is_piece_of, is_king, is_immobile, is_slider}
 use Rattle.shogi_core.specs.Lines.{are_aligned, are_lined, around}
-use Rattle.shogi_core.specs.Movement.{Cells, piece_at, reaches, cell_reaches, has_step, has_slide, slides, slides_across, slides_of, is_step_empty, is_same_square, is_empty, away, leads, for_side}
+use Rattle.shogi_core.specs.Movement.{Cells, piece_at, reaches, cell_reaches, has_step, has_slide, slides, slides_across, slides_of, is_step_empty, is_same_square, is_empty, away, leads, for_side, is_slide}
 use Rattle.shogi_core.specs.Pieces.{opponent_of}
 use Rattle.shogi_core.specs.Position.{Shogi, HandCounts}
 use Rattle.shogi_core.specs.Rays.{direction_at, is_on_ray}
 use Rattle.shogi_core.specs.Validity.{IsValid}
+use Rattle.shogi_core.proofs.Back.{away_on, is_leads, leads_is}
 use Rattle.shogi_core.proofs.Below.{some_below_at, some_below_not, all_below_at, all_below_yes}
 use Rattle.shogi_core.proofs.BitLaws.{has_bit-and}
 use Rattle.shogi_core.proofs.LineBits.{has_bit-not}
-use Rattle.shogi_core.proofs.Shots.{direction_around}
-use Rattle.shogi_core.proofs.Uncovered.{list_any_kept, one_of, some_below_which}
+use Rattle.shogi_core.proofs.Shots.{direction_around, direction_of}
+use Rattle.shogi_core.proofs.Uncovered.{list_any_kept, one_of, some_below_which, same_way, same_way_is, slides_around}
 use Rattle.shogi_moves.specs.After.{after, cells_after, piece_moved, dropped}
 use Rattle.shogi_moves.specs.Legal.{is_legal, is_pseudo_legal_board_move}
 use Rattle.shogi_core.specs.Zones.{may_promote}
 use Rattle.shogi_replies.specs.Replies.{is_aligned_with_king, is_line_of_king}
 use Rattle.shogi_replies.specs.Threats.{IsOffPins, IsUnpinnable, IsAttack, IsThreat, EndsAside, LeavesThreat, MayTake, end_of, put_by}
-use Rattle.shogi_moves.proofs.DropChecks as drops
+use Rattle.shogi_core.proofs.RayLaws.{slides_bare}
 use Rattle.shogi_moves.proofs.DestinationLaws.{alive, legal_board, still}
 use Rattle.shogi_moves.proofs.CheckInfoLaws.{dropped_of, filled, is_piece_of-piece_moved, look, other_side, quiet_board}
 use Rattle.shogi_moves.proofs.MovedPieces.{is_king-piece_moved}
@@ -37,42 +38,56 @@ use Rattle.shogi_core.proofs.Faults.{faultless_from}
 use Rattle.shogi_replies.proofs.ReplyLaws.{LeavesStanding, left_board, left_drop, left_lifted, see_lifted, legal_own, stays_unlined}
 use Rattle.std.proofs.lemmas.List.{set_comm, set-set}
 use Rattle.shogi_replies.proofs.PinLaws.{left_off_pins}
+use Rattle.shogi_moves.proofs.DropChecks as drops
 
--- ---- what a piece reaches without the end of the move, it reaches after it
+-- ---- what a piece reaches over other squares than the end of the move, it reaches after it
 
--- some of a list has the one fact, and none has the other: some has what follows from these
-any_kept : (f g h : Offset → Bool) (os : List Offset) → ((o : Offset) → f o ≡ true → h o ≡ false → g o ≡ true) → list_any f os ≡ true → list_any h os ≡ false → list_any g os ≡ true
-any_kept f g h [] k e n = absurd (cc)
-any_kept f g h (o ∷ os) k e n =
-    let parts : (h o ≡ false) × (list_any h os ≡ false) = or_parts (h o) (list_any h os) n in
-    elim (or_cases (f o) (list_any f os) e) [
-      | inl here ↦ or_left (g o) (list_any g os) (k o here parts.0)
-      | inr later ↦ or_right (g o) (list_any g os) (any_kept f g h os k later parts.1)
-    ]
+-- the squares of a free slide lie between its ends
+between_ends : (cells : Cells) (o : Offset) (a t x m i : ℕ) → m < 8 → i < m → slides_across cells o a t m ≡ true → away (i + 1) o a ≡ Some x → (is_on_ray o a x ≡ true) × (is_on_ray o x t ≡ true)
+between_ends cells o a t x m i small less e at =
+    let parts : (leads (m + 1) o a t ≡ true) × (all_below m (is_step_empty cells o a) ≡ true) = and_parts _ _ e in
+    let near : slides cells o a x ≡ true = some_below_at 8 (slides_across cells o a x) i (omega arith) (and_from _ _ (is_leads _ x at) (all_below_yes i (is_step_empty cells o a) (λ j l. all_below_at m (is_step_empty cells o a) j parts.1 (omega arith)))) in
+    let sum : i + 1 + (m - i - 1 + 1) ≡ m + 1 = omega arith in
+    let there : away (m - i - 1 + 1) o x ≡ Some t = away_on (i + 1) (m - i - 1 + 1) o a x at ∙ (ap (λ (k : ℕ). away k o a) sum ∙ leads_is _ t parts.0) in
+    let far : slides cells o x t ≡ true = some_below_at 8 (slides_across cells o x t) (m - i - 1) (omega arith) (and_from _ _ (is_leads _ t there) (all_below_yes (m - i - 1) (is_step_empty cells o x) (λ j l. (
+    let further : i + 1 + (j + 1) ≡ i + 1 + j + 1 = omega arith in
+    ap (is_empty cells) (away_on (i + 1) (j + 1) o a x at ∙ ap (λ (k : ℕ). away k o a) further) ∙ all_below_at m (is_step_empty cells o a) (i + 1 + j) parts.1 (omega arith))))) in
+    (slides_bare cells o a x near, slides_bare cells o x t far)
 
--- a free slide is still free where the one square that may be filled is none that it led to
-slide_kept : (old new : Cells) (to : ℕ) → ((x : ℕ) → is_none (piece_at old x) ≡ true → x ≢ to → is_none (piece_at new x) ≡ true) → (o : Offset) (a s : ℕ) → slides old o a s ≡ true → slides old o a to ≡ false → slides new o a s ≡ true
-slide_kept old new to clear o a s e off =
-    let which = some_below_which 8 (slides_across old o a s) e in
-    let parts : (leads (which.0 + 1) o a s ≡ true) × (all_below which.0 (is_step_empty old o a) ≡ true) = and_parts _ _ which.2 in
-    some_below_at 8 (slides_across new o a s) which.0 which.1 (and_from _ _ parts.0 (all_below_yes which.0 (is_step_empty new o a) (λ i l. found which.0 i which.1 l parts.1 (away (i + 1) o a) refl (all_below_at which.0 (is_step_empty old o a) i parts.1 l))))
+-- a free slide is still free where the one square that may be filled is not between its ends
+slide_kept : (old new : Cells) (to : ℕ) → ((x : ℕ) → is_none (piece_at old x) ≡ true → x ≢ to → is_none (piece_at new x) ≡ true) → (o : Offset) (a t : ℕ) → (is_on_ray o a to ≡ true → is_on_ray o to t ≡ false) → slides old o a t ≡ true → slides new o a t ≡ true
+slide_kept old new to clear o a t off e =
+    let which = some_below_which 8 (slides_across old o a t) e in
+    let parts : (leads (which.0 + 1) o a t ≡ true) × (all_below which.0 (is_step_empty old o a) ≡ true) = and_parts _ _ which.2 in
+    some_below_at 8 (slides_across new o a t) which.0 which.1 (and_from _ _ parts.0 (all_below_yes which.0 (is_step_empty new o a)
+    (λ i l. free i (away (i + 1) o a) refl (all_below_at which.0 (is_step_empty old o a) i parts.1 l) (λ at. between_ends old o a t to which.0 i which.1 l which.2 at))))
   where
-    found : (n i : ℕ) → n < 8 → i < n → all_below n (is_step_empty old o a) ≡ true → (x : Option ℕ) → away (i + 1) o a ≡ x → is_empty old x ≡ true → is_step_empty new o a i ≡ true
-    found n i small l all None at e = absurd (cc)
-    found n i small l all (Some x) at e = elim (cases_eq x to) [
-      | inl there ↦ absurd (both_ways (slides old o a to) off (some_below_at 8 (slides_across old o a to) i (omega arith) (and_from _ _ (ap (λ (y : Option ℕ). is_same_square y to) at ∙ eq-eqb x to there) (all_below_yes i (is_step_empty old o a) (λ j m. all_below_at n (is_step_empty old o a) j all (omega arith))))))
-      | inr other ↦ ap (is_empty new) at ∙ clear x e other
+    free : (i : ℕ) (x : Option ℕ) → away (i + 1) o a ≡ x → is_empty old (away (i + 1) o a) ≡ true → (away (i + 1) o a ≡ Some to → (is_on_ray o a to ≡ true) × (is_on_ray o to t ≡ true)) → is_empty new (away (i + 1) o a) ≡ true
+    free i None at e met = absurd (let clash : false ≡ true = ap (is_empty old) (sym at) ∙ e in cc)
+    free i (Some x) at e met = elim (cases_eq x to) [
+      | inl there ↦ (let both = met (at ∙ ap Some there) in absurd (both_ways (is_on_ray o to t) (off both.0) both.1))
+      | inr other ↦ ap (is_empty new) at ∙ clear x (ap (is_empty old) (sym at) ∙ e) other
     ]
 
--- so a piece reaches what it reached where that square is none that it reached
-reach_kept : (old new : Cells) (to : ℕ) → ((x : ℕ) → is_none (piece_at old x) ≡ true → x ≢ to → is_none (piece_at new x) ≡ true) → (cell : Option Piece) (a t : ℕ) → cell_reaches old cell a t ≡ true → cell_reaches old cell a to ≡ false → cell_reaches new cell a t ≡ true
-reach_kept old new to clear None a t e off = absurd (cc)
-reach_kept old new to clear (Some piece) a t e off =
-    let parts : (has_step piece a to ≡ false) × (has_slide old piece a to ≡ false) = or_parts (has_step piece a to) (has_slide old piece a to) off in
-    elim (or_cases (has_step piece a t) (has_slide old piece a t) e) [
-      | inl step ↦ or_left (has_step piece a t) (has_slide new piece a t) step
-      | inr slide ↦ or_right (has_step piece a t) (has_slide new piece a t) (any_kept (λ o. slides old (for_side piece.color o) a t) (λ o. slides new (for_side piece.color o) a t) (λ o. slides old (for_side piece.color o) a to) (slides_of piece.role) (λ o h n. slide_kept old new to clear (for_side piece.color o) a t h n) slide parts.1)
+-- some slide of a piece has one of the eight directions
+slides_kept : (old new : Cells) (color : Color) (a t : ℕ) → ((d : ℕ) → d < 8 → slides old (direction_at d) a t ≡ true → slides new (direction_at d) a t ≡ true) → (os : List Offset) → list_all (λ o. list_any (same_way (for_side color o)) around) os ≡ true → is_slide old color os a t ≡ true → is_slide new color os a t ≡ true
+slides_kept old new color a t kept [] all e = e
+slides_kept old new color a t kept (o ∷ os) all e =
+    let parts : (list_any (same_way (for_side color o)) around ≡ true) × (list_all (λ p. list_any (same_way (for_side color p)) around) os ≡ true) = and_parts _ _ all in
+    let d = direction_of (for_side color o) parts.0 in
+    let same : for_side color o ≡ direction_at d.0 = same_way_is (for_side color o) (direction_at d.0) d.2 in
+    elim (or_cases (slides old (for_side color o) a t) (is_slide old color os a t) e) [
+      | inl here ↦ or_left _ _ (ap (λ (p : Offset). slides new p a t) same ∙ kept d.0 d.1 (ap (λ (p : Offset). slides old p a t) (sym same) ∙ here))
+      | inr later ↦ or_right (slides new (for_side color o) a t) _ (slides_kept old new color a t kept os parts.1 later)
     ]
+
+-- so a piece reaches what it reached where that square is not between the two
+reach_kept : (old new : Cells) (to : ℕ) → ((x : ℕ) → is_none (piece_at old x) ≡ true → x ≢ to → is_none (piece_at new x) ≡ true) → (cell : Option Piece) (a t : ℕ) → cell_reaches old cell a t ≡ true → ((d : ℕ) → d < 8 → is_on_ray (direction_at d) a to ≡ true → is_on_ray (direction_at d) to t ≡ false) → cell_reaches new cell a t ≡ true
+reach_kept old new to clear None a t e off = absurd (cc)
+reach_kept old new to clear (Some piece) a t e off = elim (or_cases (has_step piece a t) (has_slide old piece a t) e) [
+  | inl step ↦ or_left (has_step piece a t) (has_slide new piece a t) step
+  | inr slide ↦ or_right (has_step piece a t) (has_slide new piece a t) (slides_kept old new piece.color a t (λ d range. slide_kept old new to clear (direction_at d) a t (off d range)) (slides_of piece.role) (slides_around piece.color piece.role) slide)
+]
 
 -- the end of the move itself too, which is none of the squares on the way there
 unbroken : (n : ℕ) (f : ℕ → Bool) → (all_below n f ≡ true) ⊎ ((i : ℕ) × (i < n) × (f i ≡ false))
@@ -236,19 +251,15 @@ takes_legally p new hands a t to promote k attack away open_end reach safe =
     pseudo : is_piece_of (opponent_of p.side) (piece_at new a) ≡ true → is_piece_of (opponent_of p.side) (piece_at new t) ≡ false → reaches new a t ≡ true → (not promote || may_promote (piece_at new a) a t) ≡ true → is_immobile t (piece_moved promote (piece_at new a)) ≡ false → is_pseudo_legal_board_move new (opponent_of p.side) a t promote ≡ true
     pseudo own free reach promotes mobile = rw (own, free, reach, promotes, mobile) refl
 
--- the target is not where such a move ends
-elsewhere : (p : Shogi) (a t to : ℕ) (promote : Bool) → IsAttack p a t promote → reaches p.cells a to ≡ false → to ≢ t
-elsewhere p a t to promote attack out same = both_ways (reaches p.cells a to) out (subst (λ (x : ℕ). reaches p.cells a x ≡ true) (sym same) attack.reached)
-
 -- by a threat that the move leaves
-still_takes : (p : Shogi) (m : Move) (a t : ℕ) (promote : Bool) → LeavesStanding p.cells (after p m).cells (opponent_of p.side) (end_of m) → in_check (after p m).cells (opponent_of p.side) ≡ false → AddsOne p.cells (after p m).cells (opponent_of p.side) (end_of m) → piece_at (after p m).cells (end_of m) ≡ put_by p m → IsThreat p a t promote → EndsAside p a m
+still_takes : (p : Shogi) (m : Move) (a t : ℕ) (promote : Bool) → LeavesStanding p.cells (after p m).cells (opponent_of p.side) (end_of m) → in_check (after p m).cells (opponent_of p.side) ≡ false → AddsOne p.cells (after p m).cells (opponent_of p.side) (end_of m) → piece_at (after p m).cells (end_of m) ≡ put_by p m → IsThreat p a t promote → EndsAside p a t m
     → is_legal (record { cells = (after p m).cells; hands = (after p m).hands; side = opponent_of p.side }) (Board a t promote) ≡ true
 unfolding reaches
 still_takes p m a t promote k shut adds put threat aside =
     let away : a ≢ end_of m = λ at. aside.attacker_stays (sym at) in
     takes_legally p (after p m).cells (after p m).hands a t (end_of m) promote k threat.attack away
-    (k.clear t (other_side p.side (piece_at p.cells t) threat.target))
-    (reach_kept p.cells (after p m).cells (end_of m) k.empty (piece_at p.cells a) a t threat.attack.reached aside.unreached)
+    (k.clear t threat.target)
+    (reach_kept p.cells (after p m).cells (end_of m) k.empty (piece_at p.cells a) a t threat.attack.reached aside.way_stays)
     (takes_safely p (after p m).cells a t (end_of m) promote k shut adds threat.attack.attacker threat.attack.on_board threat.attack.apart away
     (inr (λ slides lined met. aside.unpinned (ap is_slider (sym put) ∙ slides) lined met)))
 
@@ -292,7 +303,7 @@ module _ (p : Shogi) (from to : ℕ) (promote : Bool) (v : IsValid p) (hf : from
   threat_board shut a t promoted threat leaves = record {
     legal = still_takes p (Board from to promote) a t promoted standing shut adds_board put_board threat leaves.1;
     stands = elim (look p.cells p.side from to (piece_moved promote (piece_at p.cells from)) v.cells_fit hf ht t) [
-      | inl there ↦ absurd (elsewhere p a t to promoted threat.attack leaves.1.unreached (sym there.0))
+      | inl there ↦ absurd (leaves.1.target_stays (sym there.0))
       | inr rest ↦ elim rest [ inl here ↦ absurd (leaves.0 (sym here.0)) | inr same ↦ same ]
     ];
   }
@@ -336,7 +347,7 @@ module _ (p : Shogi) (kind : Kind) (to : ℕ) (v : IsValid p) (ht : to < 81) whe
   threat_drop shut a t promoted threat leaves = record {
     legal = still_takes p (Drop kind to) a t promoted standing_drop shut adds_drop put_drop threat leaves;
     stands = elim (drops.look p.cells p.side kind to v.cells_fit ht t) [
-      | inl there ↦ absurd (elsewhere p a t to promoted threat.attack leaves.unreached (sym there.0))
+      | inl there ↦ absurd (leaves.target_stays (sym there.0))
       | inr same ↦ same
     ];
   }

@@ -1,4 +1,4 @@
--- Captures by the side that is not to move that stand after most moves (own choice).
+-- Moves of the side that is not to move that it may make after most moves as well (own choice).
 use Rattle.std.specs.Prelude.{ℕ, ◌≡◌, ◌≢◌, ◌<◌, Bool, true, false, Option}
 use Rattle.shogi_core.specs.declared.moves.Move.{Move}
 use Rattle.shogi_core.specs.declared.moves.Move.TheVariants.{Board, Drop}
@@ -49,10 +49,10 @@ pub record IsAttack (p : Shogi) (a t : ℕ) (promote : Bool) : Type 0 where
   pub promotes : promote ≡ true → may_promote (piece_at p.cells a) a t ≡ true
   pub mobile : is_immobile t (piece_moved promote (piece_at p.cells a)) ≡ false
 
--- and takes a piece of the side to move there
+-- and no piece of its own side stands there: it goes there, or takes what does
 pub record IsThreat (p : Shogi) (a t : ℕ) (promote : Bool) : Type 0 where
   pub attack : IsAttack p a t promote
-  pub target : is_piece_of p.side (piece_at p.cells t) ≡ true
+  pub target : is_piece_of (opponent_of p.side) (piece_at p.cells t) ≡ false
 
 -- where a move ends
 abbrev pub end_of : Move → ℕ
@@ -64,10 +64,12 @@ abbrev pub put_by : Shogi → Move → Option Piece
 put_by p (Board from to promote) = piece_moved promote (piece_at p.cells from)
 put_by p (Drop kind to) = dropped p.side kind
 
--- a move that ends neither on the attacker nor where that reaches, so not on its way either, and puts nothing there that slides and is on lines with the attacker and with a king of the other side, as the attacker is
-pub record EndsAside (p : Shogi) (a : ℕ) (m : Move) : Type 0 where
+-- a move that ends neither on the attacker nor on the target nor between them, and puts nothing there that slides and is on lines with the attacker and with a king of the other side, as the attacker is
+pub record EndsAside (p : Shogi) (a t : ℕ) (m : Move) : Type 0 where
   pub attacker_stays : end_of m ≢ a
-  pub unreached : reaches p.cells a (end_of m) ≡ false
+  pub target_stays : end_of m ≢ t
+  pub way_stays : (d : ℕ) → d < 8 → is_on_ray (direction_at d) a (end_of m) ≡ true
+      → is_on_ray (direction_at d) (end_of m) t ≡ false
   pub unpinned : is_slider (put_by p m) ≡ true
       → is_aligned_with_king p.cells (opponent_of p.side) a ≡ true
       → is_aligned_with_king p.cells (opponent_of p.side) (end_of m) ≡ true
@@ -75,10 +77,11 @@ pub record EndsAside (p : Shogi) (a : ℕ) (m : Move) : Type 0 where
 
 -- a move that lets the attacker, the target and the way between them be
 abbrev pub LeavesThreat : Shogi → ℕ → ℕ → Move → Type 0
-LeavesThreat p a t (Board from to promote) = (from ≢ t) × EndsAside p a (Board from to promote)
-LeavesThreat p a t (Drop kind to) = EndsAside p a (Drop kind to)
+LeavesThreat p a t (Board from to promote) =
+    (from ≢ t) × EndsAside p a t (Board from to promote)
+LeavesThreat p a t (Drop kind to) = EndsAside p a t (Drop kind to)
 
--- the side to move may take what stands on t, which is this, with the piece on a, promoting or not
+-- the side to move may go to t, where this stands, if anything, with the piece on a, promoting or not
 pub record MayTake (q : Shogi) (a t : ℕ) (promote : Bool) (cell : Option Piece) : Type 0 where
   pub legal : is_legal q (Board a t promote) ≡ true
   pub stands : piece_at q.cells t ≡ cell
@@ -89,7 +92,7 @@ pub record IsTaken (p : Shogi) (m : Move) : Type 0 where
   pub on_board : (taker < 81) × (end_of m < 81)
   pub takes : MayTake (after p m) taker (end_of m) false (put_by p m)
 
--- after the move the other side may take by each threat that it leaves
+-- after the move the other side may carry out each threat that it leaves
 abbrev pub KeepsThreats : Shogi → Move → Type 0
 KeepsThreats p m = (a t : ℕ) (promote : Bool) → IsThreat p a t promote → LeavesThreat p a t m
     → MayTake (after p m) a t promote (piece_at p.cells t)

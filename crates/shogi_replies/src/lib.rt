@@ -17,4 +17,4 @@ mod threats;
 pub use escapes::{escape_squares, king_takes, leaves_escape, leaves_king_move, some_escapes};
 pub use replies::{Replies, line_squares};
 pub use row::{ALL_ROLES, Row};
-pub use threats::{attacks_of, put_by, unpinnable_pieces};
+pub use threats::{attacks_of, put_by, squares_between, unpinnable_pieces};

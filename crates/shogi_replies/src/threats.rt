@@ -1,4 +1,4 @@
-//! Captures that the side that is not to move may make after most moves.
+//! Moves that the side that is not to move may make after most moves as well.
 
 ghost use Rattle.std.specs.Prelude.{◌≡◌, ◌<◌, ◌^◌, ℕ, true, false};
 ghost use Rattle.shogi_core.specs.Bits.{has_bit};
@@ -12,7 +12,7 @@ use shogi_core::{Color, Move, Piece, Position, Square, aligned_squares, ray};
 use shogi_moves::{Destinations, dropped, piece_moved};
 
 /// The squares between the two on a line, whatever stands there.
-fn squares_between(from: usize, to: usize) -> u128
+pub fn squares_between(from: usize, to: usize) -> u128
     requires from { from < 81 }
     requires to { to < 81 }
     ensures { HasBetween from to result }
@@ -77,6 +77,7 @@ pub fn attacks_of(p: &Position, from: Square, reach: u128) -> Destinations
         → IsAttack p.now from t false }
     ensures promoting { (t : ℕ) → t < 81 → has_bit result.promoting t ≡ true
         → IsAttack p.now from t true }
+    ensures fits { result.promoting < 2 ^ 81 }
 {
     from.validity();
     let cell = p.at(from);

@@ -62,7 +62,7 @@ material_drops f kind squares escapes first loss last least loses short = λ cod
 pub threat_leaves : (f : Frame) (threat : Threat) (loss : ℤ) (pieces aside : ℕ) → IsThreatIn f.node.position f.node.eval threat → loss ≡ pos 0 -ℤ pos threat.gain → ((n : ℕ) → has_bit pieces n ≡ true → n ≢ threat.target) → AreSpared threat true aside → MovesLeave f loss pieces aside 0
 threat_leaves f threat loss pieces aside is gains others spared = λ from to promote hf ht piece set legal certain.
     let shut : in_check (after f.node.position (Board from to promote)).cells (opponent_of f.node.position.side) ≡ false = certain.1 refl legal in
-    let takes : TakesAfter f.node.position f.node.eval (Board from to promote) threat.gain = threat_gain f.node.position f.node.eval (Board from to promote) threat.attacker.from threat.target threat.gain threat.promote f.valid (move_of-board from to promote hf ht) legal is.is_threat is.gain_is
+    let takes : TakesAfter f.node.position f.node.eval (Board from to promote) threat.gain = threat_gain f.node.position f.node.eval (Board from to promote) threat.from threat.target threat.gain threat.promote f.valid (move_of-board from to promote hf ht) legal is.gains.is_threat is.gains.gain_is
     (others from piece, spared to _ ht set (λ _. refl) f.node.position f.node.eval (Board from to promote) is refl refl) in
     let least : _ = threat_left f.node.position f.node.eval (Board from to promote) threat.gain (threat_board f.node.position from to promote f.valid hf ht legal shut) (retake_unchecked f.node.position from to promote f.valid hf ht legal shut) takes in
     subst (λ (x : ℤ). LeavesAtLeast f x (Board from to promote)) (sym gains) least
@@ -72,7 +72,7 @@ pub drop_spared : (f : Frame) (threat : Threat) (loss : ℤ) (kind : Kind) (slid
     → LeavesAtLeast f loss (Drop kind to)
 drop_spared f threat loss kind sliding aside squares c to is gains spared slides set at =
     let shut : in_check (after f.node.position (Drop kind to)).cells (opponent_of f.node.position.side) ≡ false = at.certain.1 refl at.legal in
-    let takes : TakesAfter f.node.position f.node.eval (Drop kind to) threat.gain = threat_gain f.node.position f.node.eval (Drop kind to) threat.attacker.from threat.target threat.gain threat.promote f.valid (move_of-drop kind to at.fits) at.legal is.is_threat is.gain_is
+    let takes : TakesAfter f.node.position f.node.eval (Drop kind to) threat.gain = threat_gain f.node.position f.node.eval (Drop kind to) threat.from threat.target threat.gain threat.promote f.valid (move_of-drop kind to at.fits) at.legal is.gains.is_threat is.gains.gain_is
     (spared to _ at.fits set slides f.node.position f.node.eval (Drop kind to) is refl refl) in
     let least : _ = threat_left f.node.position f.node.eval (Drop kind to) threat.gain (threat_drop f.node.position kind to f.valid at.fits shut) (retake_drop f.node.position kind to f.valid at.fits) takes in
     subst (λ (x : ℤ). LeavesAtLeast f x (Drop kind to)) (sym gains) least

@@ -12,9 +12,7 @@ use shogi_core::bits::{ALL_SQUARES, has, without};
 use shogi_core::{Kind, Move};
 use shogi_eval::{PROMOTION_GAIN_MAX, loss_of_drops, taken_gain};
 use shogi_moves::dropped;
-use shogi_replies::{
-    ALL_ROLES, Replies, Row, escape_squares, king_takes, leaves_escape, put_by,
-};
+use shogi_replies::{ALL_ROLES, Replies, Row, escape_squares, king_takes, leaves_escape, put_by};
 
 // Some roles, as masks of their places in the order in which they are declared.
 const ALL_BUT_PAWN: u32 = 16381;
@@ -151,6 +149,7 @@ impl Frame {
             None => Threats {
                 takes: 0,
                 greatest: None,
+                second: None,
             },
         }
     }

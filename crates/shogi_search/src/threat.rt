@@ -1,129 +1,168 @@
-//! Captures that the other side may make after most moves.
+//! Moves that the other side may make after most moves as well, and that gain something.
 
 ghost use Rattle.std.specs.Prelude.{◌≡◌, ◌≤◌, ◌<◌, ◌^◌, ◌⊎◌, ℕ, Bool, Some, true};
 ghost use Rattle.std.specs.Option.{ForSome};
 ghost use Rattle.shogi_core.specs.Bits.{has_bit};
 ghost use Rattle.shogi_core.specs.Cell.{is_slider};
 ghost use Rattle.shogi_core.specs.Pieces.{opponent_of};
+ghost use Rattle.shogi_core.specs.Position.{Shogi};
 ghost use Rattle.shogi_moves.specs.Legal.{is_legal};
+ghost use Rattle.shogi_eval.specs.declared.eval.Eval.{Eval};
 ghost use Rattle.shogi_replies.specs.Replies.{Aligns, IsReplies};
 ghost use Rattle.shogi_replies.specs.Threats.{IsTaken, IsUnpinnable, IsThreat, end_of};
 ghost use Rattle.shogi_core.specs.Validity.{IsValid};
-ghost use Rattle.shogi_search.specs.Threats.{AreAttacked, AreSpared, AreThreatsIn, IsAttackerIn, IsThreatIn, IsSparedAt, IsSparedBy, TakesAfter};
+ghost use Rattle.shogi_search.specs.Threats.{AddsPrize, AreAttacked, ArePrizesIn, AreSpared, AreThreatsIn, GainsAfter, HoldsPinning, IsPrizeIn, IsThreatIn, IsSparedAt, IsSparedBy, TakesAfter};
 
-use shogi_core::bits::{has, lowest, without, without_lowest};
+use shogi_core::bits::{has, lowest, with, without_lowest};
 use shogi_core::{Move, Piece, Position, Square, aligned_squares};
 use shogi_eval::{Eval, promotion_gain, taken_gain};
-use shogi_replies::{Replies, attacks_of, line_squares, put_by, unpinnable_pieces};
+use shogi_replies::{
+    Replies, attacks_of, line_squares, put_by, squares_between, unpinnable_pieces,
+};
 
-/// A piece of the side that is not to move that nothing pins, all squares that it reaches, and those
-/// on which a piece that slides might come to pin it: on lines with it and with its king.
+/// A move by a piece of the side that is not to move that nothing pins, promoting or not, to a square
+/// without a piece of its side, and what it gains; none where that is 0. Squares are indexes.
 #[derive(Clone, Copy)]
-pub struct Attacker {
-    pub reach: u128,
-    pub line: u128,
-    pub from: Square,
+pub struct Prize {
+    pub gain: u32,
+    pub from: u8,
+    pub target: u8,
+    pub promote: bool,
 }
 
-/// Such a piece and one that it attacks, and what the capture gains, promoting or not.
+/// Such a move that gains something, its two squares with those between, and those on which a piece
+/// that slides might come to pin its piece: on lines with it and with its king.
 #[derive(Clone, Copy)]
 pub struct Threat {
-    pub attacker: Attacker,
+    pub way: u128,
+    pub line: u128,
     pub gain: u32,
+    pub from: Square,
     pub target: Square,
     pub promote: bool,
 }
 
-/// Squares on which some such piece takes what comes there, and a capture by one that gains most.
+/// Such a move that gains most, and one that gains most of those to other squares.
+#[derive(Clone, Copy)]
+pub struct Prizes {
+    pub greatest: Prize,
+    pub second: Prize,
+}
+
+/// Squares on which some such piece takes what comes there, and those two moves, where they gain
+/// something.
 #[derive(Clone, Copy)]
 pub struct Threats {
     pub takes: u128,
     pub greatest: Option<Threat>,
+    pub second: Option<Threat>,
 }
 
-/// The threat that gains more, the first one where both gain the same.
-fn greater(first: Option<Threat>, other: Threat) -> Option<Threat>
-    ensures { (result ≡ first) ⊎ (result ≡ Some other) }
-{
-    let Some(kept) = first else {
-        return Some(other);
-    };
-    if kept.gain >= other.gain {
-        return Some(kept);
+impl Prizes {
+    /// None.
+    #[inline(always)]
+    fn none() -> Prizes
+        ensures { (p : Shogi) (e : Eval) → ArePrizesIn p e result }
+    {
+        let none = Prize {
+            gain: 0,
+            from: 0,
+            target: 0,
+            promote: false,
+        };
+        Prizes {
+            greatest: none,
+            second: none,
+        }
     }
-    Some(other)
+
+    /// These and one more.
+    #[inline(always)]
+    fn with_prize(self, prize: Prize) -> Prizes
+        ensures { AddsPrize self prize result }
+    {
+        let same = prize.target == self.greatest.target;
+        if prize.gain > self.greatest.gain {
+            return Prizes {
+                greatest: prize,
+                second: if same { self.second } else { self.greatest },
+            };
+        }
+        if same || prize.gain <= self.second.gain {
+            return self;
+        }
+        Prizes {
+            greatest: self.greatest,
+            second: prize,
+        }
+    }
+
+    /// These and those of the piece's moves, promoting or not, to these squares.
+    #[inline(always)]
+    fn with_ends(self, p: &Position, e: Eval, from: usize, promote: bool, ends: u128) -> Prizes
+        requires from { from < 81 }
+        requires prizes { ArePrizesIn p.now e self }
+        requires ends { (t : ℕ) → t < 81 → has_bit ends t ≡ true → IsThreat p.now from t promote }
+        requires fits { ends < 2 ^ 81 }
+        ensures { ArePrizesIn p.now e result }
+    {
+        if ends == 0 {
+            return self;
+        }
+        let more = promotion_gain(p.at(Square::of_index(from)), promote);
+        let mut left = ends;
+        let mut prizes = self;
+        'targets: while left != 0 {
+            let target = lowest(left);
+            let prize = Prize {
+                gain: taken_gain(e, p.at(Square::of_index(target))) + more,
+                from: from as u8,
+                target: target as u8,
+                promote,
+            };
+            prizes = prizes.with_prize(prize);
+            left = without_lowest(left, target);
+        }
+        prizes
+    }
 }
 
-/// The piece on the square, where those are the lines of its king.
+/// Those of the lines of its king on which a piece that slides might come to pin what stands on the
+/// square.
 #[inline(always)]
-fn attacker_at(p: &Position, from: Square, lines: u128) -> Attacker
-    requires from { IsUnpinnable p.now from }
+fn pinning_squares(p: &Position, lines: u128, from: usize) -> u128
+    requires from { from < 81 }
     requires lines { Aligns p.now.cells (opponent_of p.now.side) 0 lines }
-    ensures { IsAttackerIn p.now result }
+    ensures { HoldsPinning p.now from result }
 {
-    from.validity();
-    let square = from.index();
-    Attacker {
-        reach: p.as_board().targets(from),
-        line: if has(lines, square) {
-            lines & aligned_squares(square)
-        } else {
-            0
-        },
-        from,
+    let _ = p;
+    if has(lines, from) {
+        lines & aligned_squares(from)
+    } else {
+        0
     }
 }
 
-/// The greatest of the captures by the piece on these squares, and of one more.
+/// The threat, if it gains something, where those are the lines of the king of its side.
 #[inline(always)]
-fn greatest_among(
-    p: &Position,
-    e: Eval,
-    attacker: &Attacker,
-    promote: bool,
-    ends: u128,
-    first: Option<Threat>,
-) -> Option<Threat>
-    requires attacker { IsAttackerIn p.now attacker.now }
-    requires ends { (t : ℕ) → t < 81 → has_bit ends t ≡ true
-        → IsThreat p.now attacker.now.from t promote }
-    requires fits { ends < 2 ^ 81 }
-    requires first { ForSome first (IsThreatIn p.now e) }
+fn threat_by(p: &Position, e: Eval, prize: Prize, lines: u128) -> Option<Threat>
+    requires prize { IsPrizeIn p.now e prize }
+    requires lines { Aligns p.now.cells (opponent_of p.now.side) 0 lines }
     ensures { ForSome result (IsThreatIn p.now e) }
 {
-    let more = promotion_gain(p.at(attacker.from), promote);
-    let mut left = ends;
-    let mut best = first;
-    'targets: while left != 0 {
-        let square = lowest(left);
-        let target = Square::of_index(square);
-        let threat = Threat {
-            attacker: *attacker,
-            gain: taken_gain(e, p.at(target)) + more,
-            target,
-            promote,
-        };
-        best = greater(best, threat);
-        left = without_lowest(left, square);
+    let _ = e;
+    if prize.gain == 0 {
+        return None;
     }
-    best
-}
-
-/// These threats and those by the piece.
-#[inline(always)]
-fn with_attacker(p: &Position, e: Eval, attacker: &Attacker, threats: &Threats) -> Threats
-    requires attacker { IsAttackerIn p.now attacker.now }
-    requires threats { AreThreatsIn p.now e threats.now }
-    ensures { AreThreatsIn p.now e result }
-{
-    let attacks = attacks_of(p, attacker.from, attacker.reach);
-    let own = p.as_board().own(p.side());
-    let (plain, promoting) = (own & attacks.plain, own & attacks.promoting);
-    let best = greatest_among(p, e, attacker, false, plain, threats.greatest);
-    Threats {
-        takes: threats.takes | attacks.plain,
-        greatest: greatest_among(p, e, attacker, true, promoting, best),
-    }
+    let (from, target) = (prize.from as usize, prize.target as usize);
+    Some(Threat {
+        way: with(with(squares_between(from, target), from), target),
+        line: pinning_squares(p, lines, from),
+        gain: prize.gain,
+        from: Square::of_index(from),
+        target: Square::of_index(target),
+        promote: prize.promote,
+    })
 }
 
 /// The threats of the side that is not to move.
@@ -131,18 +170,26 @@ pub fn threats_of(p: &Position, e: Eval) -> Threats
     ensures { AreThreatsIn p.now e result }
 {
     let lines = line_squares(p, p.side().opponent());
+    let board = p.as_board();
+    let own = board.own(p.side());
+    let theirs = board.own(p.side().opponent());
     let mut left = unpinnable_pieces(p);
-    let mut threats = Threats {
-        takes: 0,
-        greatest: None,
-    };
+    let mut takes = 0;
+    let mut prizes = Prizes::none();
     'attackers: while left != 0 {
-        let square = lowest(left);
-        let attacker = attacker_at(p, Square::of_index(square), lines);
-        threats = with_attacker(p, e, &attacker, &threats);
-        left = without_lowest(left, square);
+        let from = lowest(left);
+        let square = Square::of_index(from);
+        let attacks = attacks_of(p, square, board.targets(square));
+        takes |= attacks.plain;
+        prizes = prizes.with_ends(p, e, from, false, own & attacks.plain);
+        prizes = prizes.with_ends(p, e, from, true, attacks.promoting & !theirs);
+        left = without_lowest(left, from);
     }
-    threats
+    Threats {
+        takes,
+        greatest: threat_by(p, e, prizes.greatest, lines),
+        second: threat_by(p, e, prizes.second, lines),
+    }
 }
 
 /// Whether it slides.
@@ -163,10 +210,8 @@ impl Threat {
     pub fn squares_aside(&self, sliding: bool) -> u128
         ensures { AreSpared self.now sliding result }
     {
-        let attacker = &self.attacker;
-        attacker.from.validity();
-        let line = if sliding { attacker.line } else { 0 };
-        without(!(attacker.reach | line), attacker.from.index())
+        let line = if sliding { self.line } else { 0 };
+        !(self.way | line)
     }
 
     /// Whether a move that puts this on the square lets the attacker and its way to the target be.
@@ -203,6 +248,18 @@ pub fn end_of(m: &Move) -> Square
     }
 }
 
+/// What the threat gains after the move, which puts this on its square, where that is more than the
+/// least and the move surely lets it stand; else the least.
+#[inline(always)]
+fn gain_if_left(threat: &Option<Threat>, m: &Move, put: Option<Piece>, least: u32) -> u32
+    ensures { (result ≡ least) ⊎ GainsAfter threat.now put m.now result }
+{
+    match threat {
+        Some(threat) if threat.gain > least && threat.stands_after(m, put) => threat.gain,
+        _ => least,
+    }
+}
+
 impl Threats {
     /// Whether such a piece surely takes what the legal move puts on its square, also where that
     /// gives check.
@@ -221,8 +278,8 @@ impl Threats {
         replies.uncovers_nothing(p, m)
     }
 
-    /// What the other side gains at least by one of these captures after the legal move, if that
-    /// gives no check; 0 where none of them surely stands.
+    /// What the other side gains at least by one of these moves after the legal move, if that gives
+    /// no check; 0 where none of them surely stands.
     #[inline(always)]
     pub fn gain_after(&self, p: &Position, e: Eval, m: &Move) -> u32
         requires threats { AreThreatsIn p.now e self.now }
@@ -240,9 +297,10 @@ impl Threats {
         } else {
             0
         };
-        match &self.greatest {
-            Some(threat) if threat.gain > retake && threat.stands_after(m, put) => threat.gain,
-            _ => retake,
+        let greatest = gain_if_left(&self.greatest, m, put, retake);
+        if greatest > retake {
+            return greatest;
         }
+        gain_if_left(&self.second, m, put, retake)
     }
 }

@@ -1,13 +1,14 @@
 use Rattle.std.proofs.Common.{◌≡◌, ◌<◌, ◌^◌, ℕ, true}
 use Rattle.shogi_core.specs.Bits.{has_bit}
 use Rattle.shogi_replies.specs.Threats.{IsUnpinnable}
-use Rattle.shogi_search.specs.Threats.{AreThreatsIn}
+use Rattle.shogi_search.specs.Threats.{AreAttacked, ArePrizesIn}
 use Rattle.shogi_search.proofs.threat.threats_of.Given as goal
 
 abbrev pub invariant-attackers : goal.invariant-attackers
 invariant-attackers l = record {
   unpinnable : (a : ℕ) → a < 81 → has_bit l.left a ≡ true → IsUnpinnable l.p a;
-  threats : AreThreatsIn l.p l.e l.threats;
+  takes : AreAttacked l.p l.takes;
+  prizes : ArePrizesIn l.p l.e l.prizes;
   left : l.left < 2 ^ 81;
 }
 

@@ -18,6 +18,7 @@ pub returns-in-None-clause-threats : goal.returns-in-None-clause-threats
 returns-in-None-clause-threats c = record {
   takes = λ n h e. absurd (both_ways (has_bit 0 n) (has_bit-none n) e);
   greatest = λ t e. absurd (cc);
+  second = λ t e. absurd (cc);
 }
 
 pub returns-in-None-clause-kept : goal.returns-in-None-clause-kept

@@ -1,14 +1,13 @@
 use Rattle.std.proofs.Common.{◌≡◌, ◌<◌, ◌^◌, ℕ, true}
-use Rattle.std.specs.Option.{ForSome}
 use Rattle.shogi_core.specs.Bits.{has_bit}
 use Rattle.shogi_replies.specs.Threats.{IsThreat}
-use Rattle.shogi_search.specs.Threats.{IsThreatIn}
-use Rattle.shogi_search.proofs.threat.greatest_among.Given as goal
+use Rattle.shogi_search.specs.Threats.{ArePrizesIn}
+use Rattle.shogi_search.proofs.threat.Prizes.with_ends.Given as goal
 
 abbrev pub invariant-targets : goal.invariant-targets
 invariant-targets l = record {
-  threats : (t : ℕ) → t < 81 → has_bit l.left t ≡ true → IsThreat l.p l.attacker.from t l.promote;
-  best : ForSome l.best (IsThreatIn l.p l.e);
+  threats : (t : ℕ) → t < 81 → has_bit l.left t ≡ true → IsThreat l.p l.from t l.promote;
+  prizes : ArePrizesIn l.p l.e l.prizes;
   left : l.left < 2 ^ 81;
 }
 
