@@ -5,14 +5,14 @@ use Rattle.shogi_search.proofs.Rows.{no_drops, spared_drops}
 use Rattle.shogi_search.proofs.frame.Frame.spared_squares.Goals as goal
 
 pub falls_short-requires-clause-least : goal.falls_short-requires-clause-least
-falls_short-requires-clause-least c = omega (arith, ints, c.requires.threat.gain_fits)
+falls_short-requires-clause-least c = omega (arith, ints, c.requires.threat.gains.gain_fits)
 
 pub falls_short-requires-clause-most : goal.falls_short-requires-clause-most
-falls_short-requires-clause-most c = omega (arith, ints, c.requires.threat.gain_fits)
+falls_short-requires-clause-most c = omega (arith, ints, c.requires.threat.gains.gain_fits)
 
 pub returns-then-falls_short : goal.returns-then-falls_short
 returns-then-falls_short c =
-    spared_drops c.args.self.now c.args.threat.now _ c.args.kind c.slides.result c.squares_aside.result c.args.code c.requires.last c.requires.threat (omega (arith, ints, c.requires.threat.gain_fits)) c.squares_aside.ensures
+    spared_drops c.args.self.now c.args.threat.now _ c.args.kind c.slides.result c.squares_aside.result c.args.code c.requires.last c.requires.threat (omega (arith, ints, c.requires.threat.gains.gain_fits)) c.squares_aside.ensures
     (λ e. c.slides.ensures ∙ (ap is_slider c.dropped-put.ensures ∙ e)) (c.falls_short.ensures c.if-falls_short.true)
 
 pub returns : goal.returns
