@@ -660,7 +660,10 @@ fn greatest_from(
     let mut best = first;
     for number in 0..81u8 {
         let target = square(number);
-        if but != Some(target) && is_gain(p, target, promote) && is_attack(p, from, target, promote) {
+        if but != Some(target)
+            && is_gain(p, target, promote)
+            && is_attack(p, from, target, promote)
+        {
             let gain = gain_of(p, e, from, target, promote);
             best = greater(best, Threat { from, target, gain });
         }
