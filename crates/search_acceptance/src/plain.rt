@@ -557,27 +557,21 @@ fn is_on_a_line_with_king(p: &Position, side: Color, at: Square) -> bool {
     false
 }
 
-/// Whether a piece of the other side that slides and is on a line with a king of the side is on a line with
-/// the square, whatever stands between.
-fn is_sniped(p: &Position, side: Color, at: Square) -> bool {
+/// Whether what stands on the square is between the only king of the side and a piece of the other side that
+/// slides, whatever else stands there: such a piece may pin it.
+fn is_pinnable(p: &Position, side: Color, at: Square) -> bool {
+    let Some(king) = only_king(p, side) else {
+        return false;
+    };
     for number in 0..81u8 {
         let other = square(number);
         if let Some(piece) = p.at(other) {
-            if piece.color != side
-                && piece.role.is_sliding()
-                && is_on_a_line_with_king(p, side, other)
-                && are_on_a_line(other, at)
-            {
+            if piece.color != side && piece.role.is_sliding() && is_between(king, at, other) {
                 return true;
             }
         }
     }
     false
-}
-
-/// Whether such a piece may pin what stands on the square, which is on a line with its king too.
-fn is_pinnable(p: &Position, side: Color, at: Square) -> bool {
-    is_on_a_line_with_king(p, side, at) && is_sniped(p, side, at)
 }
 
 /// Whether the role lets the piece go there: with promotion where it may promote, and without it where it
