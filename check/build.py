@@ -325,6 +325,10 @@ class Build:
         found = [it for it in self.waiting if not not_done & below(self.crates, it)]
         return sorted(found, key=lambda it: -self.chain[it])
 
+    def awaited(self, run):
+        """The time of the longest chain that begins with a run, less what of it has passed, as is usual."""
+        return self.chain[run.crate] - min(run.age(), self.usual[run.crate])
+
     def begin(self):
         """Starts what can be started: what was killed for want of memory alone, with one job, after the
         rest."""
@@ -335,7 +339,7 @@ class Build:
         if not calm and not self.running:
             calm = ready[:1]
         for crate in calm[: self.lanes - len(self.running)]:
-            shorter = max((self.chain[it.crate] for it in self.running), default=0.0) - self.chain[crate]
+            shorter = max((self.awaited(it) for it in self.running), default=0.0) - self.chain[crate]
             is_first, is_near = shorter <= 0, shorter <= NEARLY and crate not in self.again
             jobs = (self.lanes if is_first else max(1, self.lanes // 2)) if is_near else 1
             try:
