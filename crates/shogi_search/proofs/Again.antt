@@ -8,9 +8,10 @@ use Rattle.shogi_core.specs.Position.{Shogi}
 use Rattle.shogi_eval.specs.Evaluated.{Evaluated}
 use Rattle.minimax.specs.Minimax.{tree_size}
 use Rattle.minimax.proofs.Equal.{same_int_eq, less_int_eq}
-use Rattle.shogi_search.specs.declared.frame.Frame.{Frame}
-use Rattle.shogi_search.specs.Frames.{position_after}
-use Rattle.shogi_search.specs.Stack.{IsSame, left_of_frame, left_again, left_at, steps_after, steps_for}
+use Rattle.search_nodes.specs.declared.frame.Frame.{Frame}
+use Rattle.search_nodes.specs.Frames.{position_after}
+use Rattle.search_nodes.specs.Changes.{IsSame, left_of_frame, steps_after}
+use Rattle.shogi_search.specs.Stack.{left_again, left_at, steps_for}
 
 -- all of the root is left twice
 pub left_root : (d : ℕ) (bound beta : ℤ) (f : Frame) → f.depth ≡ d → left_at d bound beta f ≡ left_of_frame f + left_of_frame f

@@ -8,14 +8,14 @@ use Rattle.shogi_core.specs.Position.{Shogi}
 use Rattle.shogi_moves.specs.After.{after_code}
 use Rattle.shogi_eval.specs.declared.eval.Eval.{Eval}
 use Rattle.shogi_eval.specs.Evaluated.{Evaluated}
-use Rattle.shogi_search.specs.declared.frame.Frame.{Frame}
-use Rattle.shogi_search.specs.declared.frame.Waiting.{Waiting}
-use Rattle.shogi_search.specs.declared.frame.Waiting.TheVariants.{Next, Asked, Cut}
-use Rattle.shogi_search.specs.declared.move_picker.MovePicker.{MovePicker}
+use Rattle.search_nodes.specs.declared.frame.Frame.{Frame}
+use Rattle.search_nodes.specs.declared.frame.Waiting.{Waiting}
+use Rattle.search_nodes.specs.declared.frame.Waiting.TheVariants.{Next, Asked, Cut}
 use Rattle.minimax.specs.Minimax.{negated, sum_of_tree_sizes, tree_size}
-use Rattle.shogi_search.specs.Order.{todo}
+use Rattle.search_nodes.specs.Order.{todo}
 use Rattle.minimax.specs.Window.{threshold, code_at}
-use Rattle.shogi_search.specs.Stack.{IsAt, IsSame, IsChain, WhereAsked, left_of_frame}
+use Rattle.search_nodes.specs.Changes.{IsAt, IsSame, left_of_frame}
+use Rattle.shogi_search.specs.Stack.{IsChain, WhereAsked}
 use Rattle.minimax.proofs.MinimaxLaws.{sum_of_tree_sizes-next}
 
 -- a node is the child that another one has asked for by this move
@@ -127,16 +127,6 @@ left_next f g q m e h k a n =
     let t : sum_of_tree_sizes g.node.position (g.depth - 1) (todo g.node.position g.picker) ≡ sum_of_tree_sizes f.node.position (f.depth - 1) (todo f.node.position g.picker) = ap (λ (x : Evaluated). sum_of_tree_sizes x.position (g.depth - 1) (todo x.position g.picker)) e ∙ ap (λ (x : ℕ). sum_of_tree_sizes f.node.position (x - 1) (todo f.node.position g.picker)) h in
     let u : tree_size q (g.depth - 1) ≡ tree_size q (f.depth - 1) = ap (λ (x : ℕ). tree_size q (x - 1)) h in
     omega (arith, s, t, u)
-
-moves_same : (f g : Frame) → IsSame f g → g.picker ≡ f.picker → sum_of_tree_sizes g.node.position (g.depth - 1) (todo g.node.position g.picker) ≡ sum_of_tree_sizes f.node.position (f.depth - 1) (todo f.node.position f.picker)
-moves_same f g s k =
-    ap (λ (x : Evaluated). sum_of_tree_sizes x.position (g.depth - 1) (todo x.position g.picker)) s.0
-    ∙ ap (λ (x : ℕ). sum_of_tree_sizes f.node.position (x - 1) (todo f.node.position g.picker)) s.1.0
-    ∙ ap (λ (x : MovePicker). sum_of_tree_sizes f.node.position (f.depth - 1) (todo f.node.position x)) k
-
--- with the same moves to visit, as much is left
-pub left_kept : (f g : Frame) → IsSame f g → g.picker ≡ f.picker → left_of_frame g ≡ left_of_frame f
-left_kept f g s k = omega (arith, moves_same f g s k)
 
 -- what is left of the frames below and of one more
 pub left_above : (left : Frame → ℕ) (all fs : List Frame) (f : Frame) → all ≡ fs ++ f ∷ [] → sum_by left all ≡ sum_by left fs + left f

@@ -10,21 +10,22 @@ use Rattle.shogi_eval.specs.declared.eval.Eval.{Eval}
 use Rattle.shogi_moves.specs.After.{after_code}
 use Rattle.shogi_moves.specs.Rising.{is_in}
 use Rattle.shogi_search.specs.declared.found.Found.{Found}
-use Rattle.shogi_search.specs.declared.frame.Frame.{Frame}
-use Rattle.shogi_search.specs.declared.frame.Waiting.{Waiting}
-use Rattle.shogi_search.specs.declared.frame.Waiting.TheVariants.{Next, Asked, Cut}
+use Rattle.search_nodes.specs.declared.frame.Frame.{Frame}
+use Rattle.search_nodes.specs.declared.frame.Waiting.{Waiting}
+use Rattle.search_nodes.specs.declared.frame.Waiting.TheVariants.{Next, Asked, Cut}
 use Rattle.shogi_search.specs.Entered.{Entered, IsKnownNode, IsNodeAt, IsPath}
 use Rattle.minimax.specs.Minimax.{negated, worth, value}
-use Rattle.shogi_search.specs.Order.{todo}
+use Rattle.search_nodes.specs.Order.{todo}
 use Rattle.shogi_search.specs.SlicedSearch.{IsSearch, progress_of, entered_of, entered_in, current_in, cutoff_in, and_current}
 use Rattle.shogi_search.specs.Progress.{HasPath}
 use Rattle.shogi_search.proofs.SearchCallLaws.{entered_count}
-use Rattle.shogi_search.specs.Stack.{IsAt, IsChain, IsStack, WhereAsked, frames_of, parents_of}
+use Rattle.search_nodes.specs.Changes.{IsAt}
+use Rattle.shogi_search.specs.Stack.{IsChain, IsStack, WhereAsked, frames_of, parents_of}
 use Rattle.shogi_search.specs.declared.stack.Stack.{Stack}
 use Rattle.shogi_search.specs.declared.sliced_search.Search.TheInside.{Inside}
 use Rattle.minimax.specs.declared.bounds.TheConstants.{INFINITY}
 use Rattle.shogi_search.proofs.Places.{HasTop, has_top, frames_are}
-use Rattle.shogi_search.specs.Visits.{IsKnownWhile, moves_at}
+use Rattle.search_nodes.specs.Visits.{IsKnownWhile, moves_at}
 use Rattle.minimax.specs.Window.{IsCovered, threshold, code_at}
 
 -- what a node knows by what it waits for, as a caller sees it

@@ -1,13 +1,6 @@
-pub mod MatchingOthers
-pub mod FirstLaws
-pub mod OrderLaws
 pub mod Entries
 pub mod Searches
-pub mod Nodes
-pub mod Ahead
-pub mod Passed
 pub mod Chains
-pub mod Rows
 pub mod Again
 pub mod CallLaws
 pub mod Places

@@ -11,13 +11,14 @@ use Rattle.shogi_eval.specs.declared.eval.Eval.{Eval}
 use Rattle.shogi_eval.specs.Evaluated.{Evaluated}
 use Rattle.minimax.specs.Minimax.{negated, sum_of_tree_sizes, tree_size}
 use Rattle.minimax.specs.declared.bounds.TheConstants.{INFINITY}
-use Rattle.shogi_search.specs.declared.frame.Frame.{Frame}
-use Rattle.shogi_search.specs.declared.frame.Waiting.TheVariants.{Asked}
-use Rattle.shogi_search.specs.declared.move_picker.MovePicker.{MovePicker}
+use Rattle.search_nodes.specs.declared.frame.Frame.{Frame}
+use Rattle.search_nodes.specs.declared.frame.Waiting.TheVariants.{Asked}
+use Rattle.search_nodes.specs.declared.move_picker.MovePicker.{MovePicker}
 use Rattle.shogi_search.specs.declared.stack.Stack.{Stack}
-use Rattle.shogi_search.specs.Frames.{position_after}
-use Rattle.shogi_search.specs.Order.{todo}
-use Rattle.shogi_search.specs.Stack.{IsAt, IsChain, IsChildAfter, IsNarrow, IsStack, KeepsAsked, OnTop, UsesSteps, left_of_frame, parents_of, steps_after, steps_for, steps_left}
+use Rattle.search_nodes.specs.Frames.{position_after}
+use Rattle.search_nodes.specs.Order.{todo}
+use Rattle.search_nodes.specs.Changes.{IsAt, KeepsAsked, left_of_frame, steps_after}
+use Rattle.shogi_search.specs.Stack.{IsChain, IsChildAfter, IsNarrow, IsStack, OnTop, UsesSteps, parents_of, steps_for, steps_left}
 use Rattle.shogi_search.proofs.Again.{left_narrow, left_root}
 use Rattle.shogi_search.proofs.Chains.{IsChild, left_above, same_asked}
 use Rattle.shogi_search.proofs.Places.{HasTop, IsBelow, IsTop, below, has_top, left_in, left_read, of_top, on_top, on_with, stack_with, top_with, with_frame}

@@ -7,25 +7,27 @@ use Rattle.std.proofs.Math.Seq.{take-suc}
 use Rattle.shogi_core.specs.declared.moves.Move.{Move}
 use Rattle.shogi_core.specs.Codes.{code_of}
 use Rattle.shogi_moves.specs.After.{after_code}
-use Rattle.shogi_search.specs.declared.frame.Frame.{Frame}
-use Rattle.shogi_search.specs.declared.frame.Waiting.{Waiting}
-use Rattle.shogi_search.specs.declared.frame.Waiting.TheVariants.{Asked, Next, Cut}
+use Rattle.search_nodes.specs.declared.frame.Frame.{Frame}
+use Rattle.search_nodes.specs.declared.frame.Waiting.{Waiting}
+use Rattle.search_nodes.specs.declared.frame.Waiting.TheVariants.{Asked, Next, Cut}
 use Rattle.minimax.specs.declared.entry.Entry.{Entry}
 use Rattle.shogi_search.specs.declared.stack.Stack.{Stack}
 use Rattle.minimax.specs.Minimax.{negated, IsTrueEntry, tree_size, sum_of_tree_sizes}
 use Rattle.minimax.specs.Entries.{IsCutoff}
 use Rattle.minimax.specs.Window.{threshold, code_at}
-use Rattle.shogi_search.specs.Frames.{position_after, threshold_of}
-use Rattle.shogi_search.specs.Stack.{IsAt, IsSame, IsChain, IsStack, OnTop, UsesSteps, frames_of, parents_of, left_at, left_of_frame, steps_left, steps_after, steps_for}
+use Rattle.search_nodes.specs.Frames.{position_after, threshold_of}
+use Rattle.search_nodes.specs.Changes.{IsAt, IsSame, left_of_frame, steps_after}
+use Rattle.shogi_search.specs.Stack.{IsChain, IsStack, OnTop, UsesSteps, frames_of, parents_of, left_at, steps_left, steps_for}
 use Rattle.shogi_search.proofs.Again.{left_root, left_pushed, left_stays, left_taken, left_whole}
 use Rattle.shogi_core.specs.Position.{Shogi}
 use Rattle.minimax.proofs.MinimaxLaws.{tree_size-positive}
 use Rattle.shogi_eval.specs.declared.eval.Eval.{Eval}
-use Rattle.shogi_search.specs.Order.{todo, IsWithinTree}
-use Rattle.shogi_search.specs.Visits.{IsOver, IsFree}
-use Rattle.shogi_search.proofs.Nodes.{waits}
+use Rattle.search_nodes.specs.Order.{todo, IsWithinTree}
+use Rattle.search_nodes.specs.Visits.{IsOver, IsFree}
+use Rattle.search_nodes.proofs.Nodes.{waits}
 use Rattle.shogi_search.proofs.Entries.{same_window, same_truth}
-use Rattle.shogi_search.proofs.Chains.{IsChild, IsPopped, popped, chain_same, chain_height, same_asked, left_above, left_kept, pushed}
+use Rattle.search_nodes.proofs.Passing.{left_kept}
+use Rattle.shogi_search.proofs.Chains.{IsChild, IsPopped, popped, chain_same, chain_height, same_asked, left_above, pushed}
 use Rattle.minimax.specs.declared.bounds.TheConstants.{SEARCH_DEPTH_MAX, INFINITY}
 
 -- this frame is on top of the stack

@@ -14,7 +14,7 @@ use Rattle.shogi_moves.specs.Rising.{is_in, IsRising}
 use Rattle.shogi_moves.proofs.LegalLaws.{legal_rising}
 use Rattle.shogi_eval.specs.declared.eval.Eval.{Eval}
 use Rattle.minimax.proofs.MinimaxLaws.{value_within, Within}
-use Rattle.shogi_search.proofs.MatchingOthers.{is_in-append_left, is_in-append_right}
+use Rattle.search_nodes.proofs.MatchingOthers.{is_in-append_left, is_in-append_right}
 use Rattle.shogi_search.proofs.RankedLaws.{in_ranked, first_in, at_place_in, rank_past, not_before, ranked_last, ranked_list, AreDistinct}
 use Rattle.minimax.proofs.Valid.{after_valid}
 use Rattle.shogi_search.specs.declared.found.Found.{Found}

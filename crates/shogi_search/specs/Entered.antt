@@ -5,7 +5,7 @@ use Rattle.shogi_moves.specs.After.{after_code}
 use Rattle.shogi_moves.specs.Rising.{is_in}
 use Rattle.shogi_eval.specs.declared.eval.Eval.{Eval}
 use Rattle.minimax.specs.Minimax.{value, worth, negated}
-use Rattle.shogi_search.specs.Visits.{moves_at}
+use Rattle.search_nodes.specs.Visits.{moves_at}
 use Rattle.minimax.specs.Window.{IsCovered, threshold}
 
 -- a node that was entered and not left: its position, under which evaluation, and the plies left; its window; the greatest worth so far, or alpha, and the code of the best move so far; the codes of the moves that are still to be searched, and which of them is being searched; and what the node is worth at least, where a child has cut it off

@@ -1,13 +1,7 @@
-pub mod Firsts
-pub mod Order
-pub mod Visits
-pub mod Frames
 pub mod Stack
 pub mod Entered
 pub mod Progress
 pub mod Calls
 pub mod SearchCalls
 pub mod SlicedSearch
-pub mod Threats
 pub mod Ranked
-pub mod Counters

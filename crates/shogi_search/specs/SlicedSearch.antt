@@ -2,17 +2,17 @@
 use Rattle.std.specs.Prelude.{◌≡◌, ℕ, ℤ, ◌+◌, ◌*◌, ◌≤◌, ◌<ℤ◌, ◌≤ℤ◌, Bool, true, false, List, [], ◌∷◌, map, Option, None, Some}
 use Rattle.std.specs.Option.{ForSome}
 use Rattle.shogi_core.specs.Codes.{code_of}
-use Rattle.shogi_search.specs.declared.frame.Frame.{Frame}
-use Rattle.shogi_search.specs.declared.frame.Waiting.{Waiting}
-use Rattle.shogi_search.specs.declared.frame.Waiting.TheVariants.{Next, Asked, Cut}
+use Rattle.search_nodes.specs.declared.frame.Frame.{Frame}
+use Rattle.search_nodes.specs.declared.frame.Waiting.{Waiting}
+use Rattle.search_nodes.specs.declared.frame.Waiting.TheVariants.{Next, Asked, Cut}
 use Rattle.shogi_search.specs.declared.found.Found.{Found}
 use Rattle.shogi_search.specs.declared.sliced_search.Search.TheInside.{Inside}
 use Rattle.shogi_search.specs.declared.stack.Stack.{Stack}
 use Rattle.minimax.specs.Minimax.{tree_size, negated}
 use Rattle.shogi_search.specs.Entered.{Entered}
-use Rattle.shogi_search.specs.Order.{todo}
+use Rattle.search_nodes.specs.Order.{todo}
 use Rattle.shogi_search.specs.Progress.{Progress, IsFoundBelow}
-use Rattle.shogi_search.specs.Visits.{IsFree}
+use Rattle.search_nodes.specs.Visits.{IsFree}
 use Rattle.shogi_search.specs.Stack.{IsStack, IsWhole, OnTop, frames_of, steps_left}
 use Rattle.minimax.specs.Window.{code_at}
 use Rattle.minimax.specs.declared.bounds.TheConstants.{SEARCH_DEPTH_MAX, INFINITY}

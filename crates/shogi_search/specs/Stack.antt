@@ -1,5 +1,5 @@
 -- The stack of a search in slices: the nodes that wait for a child, from the root on, and the node on top.
-use Rattle.std.specs.Prelude.{◌≡◌, ◌==◌, ◌≤◌, ◌≤ℤ◌, ◌<ℤ◌, ℕ, ◌+◌, ◌*◌, ◌-◌, ◌<◌, ℤ, List, [], ◌∷◌, cond, ◌&&◌, not, sum_by, take, slice_get, IsSomeAnd, IfNone, Option, Some, None, MatchOption}
+use Rattle.std.specs.Prelude.{◌≡◌, ◌==◌, ◌≤◌, ◌≤ℤ◌, ◌<ℤ◌, ℕ, ◌+◌, ◌*◌, ◌-◌, ◌<◌, ℤ, List, [], ◌∷◌, cond, ◌&&◌, not, sum_by, take, slice_get, IsSomeAnd, Option, Some, None}
 use Rattle.std.specs.Ordering.{int_eq}
 use Rattle.shogi_core.specs.declared.moves.Move.{Move}
 use Rattle.shogi_core.specs.Codes.{code_of}
@@ -7,47 +7,16 @@ use Rattle.shogi_core.specs.Position.{Shogi}
 use Rattle.shogi_core.specs.Validity.{IsValid}
 use Rattle.shogi_moves.specs.After.{after_code}
 use Rattle.shogi_eval.specs.declared.eval.Eval.{Eval}
-use Rattle.shogi_search.specs.declared.frame.Frame.{Frame}
-use Rattle.shogi_search.specs.declared.frame.Waiting.{Waiting}
-use Rattle.shogi_search.specs.declared.frame.Waiting.TheVariants.{Next, Asked, Cut}
+use Rattle.search_nodes.specs.declared.frame.Frame.{Frame}
+use Rattle.search_nodes.specs.declared.frame.Waiting.{Waiting}
+use Rattle.search_nodes.specs.declared.frame.Waiting.TheVariants.{Next, Asked, Cut}
 use Rattle.minimax.specs.declared.entry.Entry.{Entry}
 use Rattle.shogi_search.specs.declared.stack.Stack.{Stack}
-use Rattle.shogi_search.specs.Frames.{position_after, threshold_of}
-use Rattle.minimax.specs.Minimax.{negated, sum_of_tree_sizes, tree_size, IsTrueEntry}
+use Rattle.search_nodes.specs.Frames.{position_after, threshold_of}
+use Rattle.minimax.specs.Minimax.{negated, tree_size, IsTrueEntry}
 use Rattle.shogi_search.specs.Calls.{Call, CallsInSteps, Note}
-use Rattle.shogi_search.specs.Order.{todo}
-use Rattle.shogi_search.specs.Visits.{IsFree}
 use Rattle.minimax.specs.declared.bounds.TheConstants.{SEARCH_DEPTH_MAX, INFINITY}
-
--- a frame stands for a position under an evaluation at a depth, under a window
-pub record IsAt (p : Shogi) (e : Eval) (d : ℕ) (alpha beta : ℤ) (frame : Frame) : Type 0 where
-  pub position : frame.node.position ≡ p
-  pub eval : frame.node.eval ≡ e
-  pub depth : frame.depth ≡ d
-  pub alpha_is : frame.alpha ≡ alpha
-  pub beta_is : frame.beta ≡ beta
-
--- one frame has the place of another
-abbrev pub IsSame : Frame → Frame → Type 0
-IsSame f g = (g.node ≡ f.node) × ((g.depth ≡ f.depth) × ((g.alpha ≡ f.alpha) × (g.beta ≡ f.beta)))
-
--- and it has the same moves to visit, waits for the same, and has the same best so far
-abbrev pub KeepsMoves : Frame → Frame → Type 0
-KeepsMoves old new =
-    IsSame old new
-    × ((new.picker ≡ old.picker)
-    × ((new.waiting ≡ old.waiting)
-    × ((new.best_value ≡ old.best_value) × (new.best_move ≡ old.best_move))))
-
--- and waits for the answer of a move, but its window may end elsewhere
-abbrev pub KeepsAsked : Frame → Frame → Type 0
-KeepsAsked old new =
-    (new.node ≡ old.node)
-    × ((new.depth ≡ old.depth)
-    × ((new.alpha ≡ old.alpha)
-    × ((new.picker ≡ old.picker)
-    × ((new.waiting ≡ old.waiting)
-    × ((new.best_value ≡ old.best_value) × (new.best_move ≡ old.best_move))))))
+use Rattle.search_nodes.specs.Changes.{IsAt, left_of_frame, steps_after}
 
 -- what holds of the move that a node has asked for
 abbrev pub WhereAsked : Waiting → (Move → Type 0) → Type 0
@@ -114,11 +83,6 @@ IsWhole s = s.height ≡ 0 → s.bound ≡ s.beta
 abbrev pub IsNarrow : Stack → Type 0
 IsNarrow s = (s.height ≡ 1) × (s.bound <ℤ s.beta)
 
--- what is left of a frame: itself, and twice the nodes after the moves neither entered nor answered
-abbrev pub left_of_frame : Frame → ℕ
-left_of_frame f =
-    1 + 2 * sum_of_tree_sizes f.node.position (f.depth - 1) (todo f.node.position f.picker)
-
 -- what may be left once more, since moves of the root may be asked twice: all of the root, and the whole tree of its child while that has a narrow window
 abbrev pub left_again : ℕ → ℤ → ℤ → Frame → ℕ
 left_again d bound beta f =
@@ -130,42 +94,9 @@ left_again d bound beta f =
 abbrev pub left_at : ℕ → ℤ → ℤ → Frame → ℕ
 left_at d bound beta f = left_of_frame f + left_again d bound beta f
 
--- the most steps for the tree after a move of the node: two for each of its nodes
-abbrev pub steps_after : Frame → Move → ℕ
-steps_after f m = 2 * tree_size (position_after f m) (f.depth - 1)
-
--- and as many once more after a move of the root
+-- the most steps for the tree after a move, and as many once more after a move of the root
 abbrev pub steps_for : ℕ → Frame → Move → ℕ
 steps_for d f m = steps_after f m + cond (f.depth == d) (steps_after f m) 0
-
--- the steps for the tree after the move that is asked for are taken off what was left of the frame; where there is no move, no more is left than was
-abbrev pub HandsOver : Option Move → Frame → Frame → Type 0
-HandsOver asked old new =
-    MatchOption asked (left_of_frame new ≤ left_of_frame old)
-    (λ m. steps_after new m + left_of_frame new ≤ left_of_frame old)
-
--- it waits for the answer of this move, or to begin with its next one where there is none
-abbrev pub WaitsFor : Option Move → Waiting → Type 0
-WaitsFor asked waiting = MatchOption asked (waiting ≡ Next) (λ m. waiting ≡ Asked m)
-
--- the next move is asked for, where there is one
-abbrev pub AsksFor : Option Move → Frame → Frame → Type 0
-AsksFor asked old new =
-    IsSame old new
-    × (WaitsFor asked new.waiting
-    × (HandsOver asked old new × IfNone asked (todo new.node.position new.picker ≡ [])))
-
--- the current move is gone through, and the others are still to be visited
-abbrev pub EndsVisit : Frame → Frame → Type 0
-EndsVisit old new =
-    IsSame old new
-    × ((new.picker ≡ old.picker) × IsFree new.waiting)
-
--- some moves to visit are passed before the next one is asked for
-abbrev pub PrunesRow : Frame → Frame → Type 0
-PrunesRow old new =
-    IsSame old new
-    × ((new.waiting ≡ Next) × (left_of_frame new ≤ left_of_frame old))
 
 -- what is left of the whole stack
 abbrev pub steps_left : Stack → ℕ

@@ -11,13 +11,11 @@ ghost use Rattle.shogi_search.specs.SearchCalls.{CallsBetween, CallsOfSearch, Sa
 ghost use Rattle.shogi_search.specs.Progress.{untouched, untouched_below, left_of, HasPath, IsAnsweredBy, EndsWhereAnswered, EndsWhereKnown, KeepsQuestion, IsFoundBelow, IsFoundBy, FindsValue, FindsBest, FitsTree};
 ghost use Rattle.minimax.specs.declared.bounds.TheConstants.{SEARCH_DEPTH_MAX, INFINITY};
 
-use crate::counters::Counters;
-use crate::firsts::Firsts;
 use crate::found::Found;
-use crate::frame::Frame;
 use crate::memo::Memo;
 use crate::stack::{Stack, answer_at_once, hash_move_of, probe};
 use minimax::{Entry, INFINITY};
+use search_nodes::{Counters, Firsts, Frame};
 use shogi_core::{Move, Position};
 use shogi_eval::{Eval, Node};
 use std::marker::Model;

@@ -3,18 +3,17 @@
 ghost use Rattle.std.specs.Prelude.{◌≡◌, ◌≤◌, ◌<ℤ◌, ◌<◌, ◌+◌, ◌*◌, ◌-◌, ◌^◌, true, false, None, Some, IfSome, IfNone, OnSome, IsSome, min, IsTrue, ◌↔◌};
 ghost use Rattle.minimax.specs.Minimax.{negated, IsTrueEntry};
 ghost use Rattle.minimax.specs.Entries.{IsCutoff, IsEnough, move_in};
-ghost use Rattle.shogi_search.specs.Visits.{IsAsked, IsFree};
-ghost use Rattle.shogi_search.specs.Frames.{IsTrueOf, IsToBeLeft, position_after};
-ghost use Rattle.shogi_search.specs.Stack.{IsStack, IsWhole, IsNarrow, IsChildAfter, OnTop, IsTrueAnywhere, IsTrueOfRoot, KeepsAsked, KeepsGoal, CallsOnStack, LeavesStepsFor, UsesSteps, UsesStepsOnce, steps_left, note_of_root};
+ghost use Rattle.search_nodes.specs.Visits.{IsAsked, IsFree};
+ghost use Rattle.search_nodes.specs.Frames.{IsTrueOf, IsToBeLeft, position_after};
+ghost use Rattle.search_nodes.specs.Changes.{KeepsAsked};
+ghost use Rattle.shogi_search.specs.Stack.{IsStack, IsWhole, IsNarrow, IsChildAfter, OnTop, IsTrueAnywhere, IsTrueOfRoot, KeepsGoal, CallsOnStack, LeavesStepsFor, UsesSteps, UsesStepsOnce, steps_left, note_of_root};
 ghost use Rattle.shogi_search.specs.Calls.{Probe, Asks, EndsWith, TellsOnce};
 ghost use Rattle.minimax.specs.declared.bounds.TheConstants.{SEARCH_DEPTH_MAX, INFINITY};
 
-use crate::counters::Counters;
-use crate::firsts::Firsts;
-use crate::frame::{Frame, Waiting, leaf};
 use crate::memo::Memo;
 use last_ply::last_ply;
 use minimax::{Entry, MATE};
+use search_nodes::{Counters, Firsts, Frame, Waiting, leaf};
 use shogi_core::{Move, Position};
 use shogi_eval::{Eval, Node};
 use shogi_moves::is_legal;

@@ -3,10 +3,11 @@ use Rattle.std.proofs.lemmas.Int.{ints, to_z-of_z}
 use mir.Val.{to_z, of_z}
 use Rattle.shogi_search.proofs.CallLaws.{as_counted, asks_in_step}
 use Rattle.shogi_search.proofs.SearchCallLaws.{entered_count, none_entered}
-use Rattle.shogi_search.specs.declared.frame.Frame.{Frame}
+use Rattle.search_nodes.specs.declared.frame.Frame.{Frame}
 use Rattle.minimax.specs.Minimax.{negated, tree_size}
-use Rattle.shogi_search.specs.Stack.{IsAt, steps_left}
-use Rattle.shogi_search.specs.Visits.{IsFree}
+use Rattle.search_nodes.specs.Changes.{IsAt}
+use Rattle.shogi_search.specs.Stack.{steps_left}
+use Rattle.search_nodes.specs.Visits.{IsFree}
 use Rattle.shogi_search.proofs.Places.{stack_with, on_with, with_frame, left_begun, free_next}
 use Rattle.shogi_search.proofs.NarrowRoots.{with_bound}
 use Rattle.shogi_search.proofs.sliced_search.Search.enter_root.Goals as goal

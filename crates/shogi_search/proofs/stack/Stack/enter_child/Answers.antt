@@ -3,17 +3,18 @@ use Rattle.shogi_moves.proofs.LegalLaws.{listed_to_legal}
 use Rattle.shogi_moves.specs.After.{after_code}
 use Rattle.shogi_eval.specs.Evaluated.{Evaluated}
 use Rattle.std.proofs.lemmas.Int.{ints}
-use Rattle.shogi_search.specs.Frames.{IsCutoffAfter, position_after, threshold_of}
+use Rattle.search_nodes.specs.Frames.{IsCutoffAfter, position_after, threshold_of}
 use Rattle.shogi_search.proofs.Entries.{same_window}
 use Rattle.minimax.specs.Minimax.{IsTrueEntry, negated}
-use Rattle.shogi_search.specs.Stack.{KeepsAsked, OnTop}
-use Rattle.shogi_search.specs.Visits.{IsAsked, IsFree}
-use Rattle.shogi_search.specs.declared.frame.Frame.{Frame}
-use Rattle.shogi_search.specs.declared.frame.Waiting.TheVariants.{Asked}
+use Rattle.search_nodes.specs.Changes.{KeepsAsked}
+use Rattle.shogi_search.specs.Stack.{OnTop}
+use Rattle.search_nodes.specs.Visits.{IsAsked, IsFree}
+use Rattle.search_nodes.specs.declared.frame.Frame.{Frame}
+use Rattle.search_nodes.specs.declared.frame.Waiting.TheVariants.{Asked}
 use Rattle.minimax.proofs.Valid.{after_valid}
 use Rattle.shogi_core.specs.Codes.{code_of}
 use Rattle.shogi_search.specs.declared.stack.Stack.{Stack}
-use Rattle.shogi_search.proofs.Nodes.{asked, is_asked, waits}
+use Rattle.search_nodes.proofs.Nodes.{asked, is_asked, waits}
 use Rattle.shogi_search.proofs.Places.{IsTop, one_top, read_top, on_map, on_top, on_with, changed, room, left_visited}
 use Rattle.shogi_search.proofs.NarrowRoots.{uses_after}
 use Rattle.shogi_search.proofs.CallLaws.{asks_in_step, asks_and_asks, asks_none}

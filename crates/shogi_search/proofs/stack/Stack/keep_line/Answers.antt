@@ -1,5 +1,5 @@
 use Rattle.std.proofs.Common.{refl, arith, rules, get_or, ◌≤◌}
-use Rattle.shogi_search.specs.declared.frame.Frame.{Frame}
+use Rattle.search_nodes.specs.declared.frame.Frame.{Frame}
 use Rattle.shogi_search.proofs.CallLaws.{asks_none, asks_and_asks, at_most}
 use Rattle.shogi_search.proofs.stack.Stack.keep_line.Goals as goal
 

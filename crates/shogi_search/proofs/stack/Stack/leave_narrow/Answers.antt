@@ -1,14 +1,15 @@
 use Rattle.std.proofs.Common.{arith, get_or, subst, ◌≡◌, ◌+◌, ◌≤◌}
 use Rattle.std.proofs.lemmas.Int.{ints}
 use Rattle.minimax.specs.Minimax.{negated}
-use Rattle.shogi_search.specs.Frames.{IsCutoffAfter, position_after, threshold_of}
-use Rattle.shogi_search.specs.Stack.{IsChildAfter, OnTop, steps_after, steps_left}
-use Rattle.shogi_search.specs.Visits.{IsFree}
-use Rattle.shogi_search.specs.declared.frame.Frame.{Frame}
+use Rattle.search_nodes.specs.Frames.{IsCutoffAfter, position_after, threshold_of}
+use Rattle.search_nodes.specs.Changes.{steps_after}
+use Rattle.shogi_search.specs.Stack.{IsChildAfter, OnTop, steps_left}
+use Rattle.search_nodes.specs.Visits.{IsFree}
+use Rattle.search_nodes.specs.declared.frame.Frame.{Frame}
 use Rattle.shogi_search.specs.declared.stack.Stack.{Stack}
 use Rattle.shogi_search.proofs.Again.{left_stays}
 use Rattle.shogi_search.proofs.CallLaws.{asks_none}
-use Rattle.shogi_search.proofs.Chains.{left_kept}
+use Rattle.search_nodes.proofs.Passing.{left_kept}
 use Rattle.shogi_search.proofs.Entries.{same_window}
 use Rattle.shogi_search.proofs.Places.{IsTop, changed, left_changed, left_in, on_map, on_top, on_with, one_top, read_top}
 use Rattle.shogi_search.proofs.stack.Stack.leave_narrow.Goals as goal

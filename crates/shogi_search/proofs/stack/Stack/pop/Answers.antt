@@ -1,6 +1,6 @@
 use Rattle.std.proofs.Common.{arith, refl, ◌-◌}
-use Rattle.shogi_search.specs.Visits.{IsFree}
-use Rattle.shogi_search.specs.declared.frame.Frame.{Frame}
+use Rattle.search_nodes.specs.Visits.{IsFree}
+use Rattle.search_nodes.specs.declared.frame.Frame.{Frame}
 use Rattle.shogi_search.proofs.Places.{asked_below, truth_below, cutoff_below, stack_popped, left_popped, on_with}
 use Rattle.shogi_search.proofs.CallLaws.{asks_nothing}
 use Rattle.shogi_search.proofs.stack.Stack.pop.Goals as goal

@@ -3,12 +3,12 @@ use Rattle.std.proofs.lemmas.Int.{ints}
 use Rattle.minimax.specs.Minimax.{negated}
 use Rattle.shogi_core.specs.Position.{Shogi}
 use Rattle.shogi_core.specs.declared.moves.Move.{Move}
-use Rattle.shogi_search.specs.Frames.{position_after, threshold_of}
-use Rattle.shogi_search.specs.Order.{IsWithinTree}
-use Rattle.shogi_search.specs.Stack.{IsAt}
-use Rattle.shogi_search.specs.Visits.{IsFree}
-use Rattle.shogi_search.specs.declared.frame.Frame.{Frame}
-use Rattle.shogi_search.specs.declared.frame.Waiting.TheVariants.{Asked}
+use Rattle.search_nodes.specs.Frames.{position_after, threshold_of}
+use Rattle.search_nodes.specs.Order.{IsWithinTree}
+use Rattle.search_nodes.specs.Changes.{IsAt}
+use Rattle.search_nodes.specs.Visits.{IsFree}
+use Rattle.search_nodes.specs.declared.frame.Frame.{Frame}
+use Rattle.search_nodes.specs.declared.frame.Waiting.TheVariants.{Asked}
 use Rattle.shogi_search.specs.declared.stack.Stack.{Stack}
 use Rattle.shogi_search.proofs.Places.{IsTop, read_top, on_top, on_with, stack_entered, left_child, left_once, free_next}
 use Rattle.shogi_search.proofs.stack.Stack.push.Goals as goal

@@ -1,7 +1,7 @@
 use Rattle.std.proofs.Common.{◌≡◌, ◌≤◌, ◌+◌, ◌-◌, ◌^◌}
 use Rattle.std.specs.Prelude.{min}
 use Rattle.shogi_search.specs.Calls.{CallsInSteps}
-use Rattle.shogi_search.specs.Visits.{IsFree}
+use Rattle.search_nodes.specs.Visits.{IsFree}
 use Rattle.shogi_search.specs.Stack.{IsStack, IsWhole, KeepsGoal, OnTop, steps_left}
 use Rattle.shogi_search.proofs.stack.Stack.run.Given as goal
 

@@ -1,9 +1,9 @@
 use Rattle.std.proofs.Common.{arith, get_or, ◌≡◌, ◌<◌, length}
 use Rattle.std.proofs.lemmas.Bool.{both_ways}
-use Rattle.shogi_search.specs.Order.{todo}
-use Rattle.shogi_search.specs.Visits.{IsFree, IsOver}
-use Rattle.shogi_search.specs.declared.frame.Frame.{Frame}
-use Rattle.shogi_search.specs.declared.frame.Waiting.TheVariants.{Asked}
+use Rattle.search_nodes.specs.Order.{todo}
+use Rattle.search_nodes.specs.Visits.{IsFree, IsOver}
+use Rattle.search_nodes.specs.declared.frame.Frame.{Frame}
+use Rattle.search_nodes.specs.declared.frame.Waiting.TheVariants.{Asked}
 use Rattle.shogi_search.proofs.Places.{read_top, on_top, on_with, changed, over_next, over_cut, left_descended}
 use Rattle.shogi_search.proofs.stack.Stack.step.Goals as goal
 

@@ -1,9 +1,9 @@
 use Rattle.std.proofs.Common.{arith, rules, FitsSigned, w32, ◌≡◌, ◌-◌, ◌∙◌, get_or, length, ◌<◌}
 use Rattle.std.proofs.lemmas.Int.{ints, to_z-of_z}
 use mir.Val.{to_z, of_z}
-use Rattle.shogi_search.specs.declared.frame.Frame.{Frame}
-use Rattle.shogi_search.specs.declared.frame.Waiting.TheVariants.{Asked}
-use Rattle.shogi_search.proofs.Nodes.{is_asked}
+use Rattle.search_nodes.specs.declared.frame.Frame.{Frame}
+use Rattle.search_nodes.specs.declared.frame.Waiting.TheVariants.{Asked}
+use Rattle.search_nodes.proofs.Nodes.{is_asked}
 use Rattle.shogi_search.proofs.Places.{asked_below, on_with}
 use Rattle.shogi_search.proofs.NarrowRoots.{with_bound, root_below, widened, left_widened, child_widened}
 use Rattle.shogi_search.proofs.stack.Stack.widen.Goals as goal

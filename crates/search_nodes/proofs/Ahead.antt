@@ -1,0 +1,185 @@
+-- What a side that has a legal move is worth at least one ply before the leaves.
+use Rattle.std.proofs.Common.{◌≡◌, ◌≢◌, ◌<◌, ◌-◌, ◌/◌, ◌%◌, ◌==◌, ◌+◌, ℕ, ℤ, pos, ◌-ℤ◌, ◌+ℤ◌, ◌≤ℤ◌, List, [], ◌∷◌, Bool, true, false, Option, Some, None, inl, inr, refl, sym, ap, ◌∙◌, arith, subst, set, get_or-set_other}
+use Rattle.std.proofs.lemmas.Int.{ints}
+use Rattle.std.proofs.lemmas.Bool.{both_ways, or_left, eq-eqb, cases_lt}
+use Rattle.shogi_core.specs.declared.moves.TheConstants.{FIRST_DROP, MOVE_CODE_COUNT}
+use Rattle.shogi_core.specs.declared.moves.Move.{Move}
+use Rattle.shogi_core.specs.declared.moves.Move.TheVariants.{Board, Drop}
+use Rattle.shogi_core.specs.declared.piece.Kind.{Kind}
+use Rattle.shogi_core.specs.declared.piece.Piece.{Piece}
+use Rattle.shogi_core.specs.Codes.{move_of, code_of, kind_at}
+use Rattle.shogi_core.specs.Cell.{is_piece_of}
+use Rattle.shogi_core.specs.Movement.{piece_at}
+use Rattle.shogi_core.specs.Pieces.{opponent_of}
+use Rattle.shogi_core.specs.Position.{Shogi}
+use Rattle.shogi_core.specs.Validity.{IsValid}
+use Rattle.shogi_core.proofs.CodesBack.{move_of-board}
+use Rattle.shogi_moves.specs.After.{after, after_code, dropped, piece_moved}
+use Rattle.shogi_moves.specs.Legal.{is_legal}
+use Rattle.shogi_moves.specs.LegalMoves.{legal_codes}
+use Rattle.shogi_moves.specs.Rising.{is_in}
+use Rattle.shogi_replies.specs.Threats.{IsAttack, IsTaken, IsThreat, KeepsThreats, LeavesThreat, MayRetake, MayTake, end_of, put_by}
+use Rattle.shogi_moves.proofs.CheckInfoLaws.{other_side}
+use Rattle.shogi_moves.proofs.Keeps.{is_safe_from_legal}
+use Rattle.shogi_moves.proofs.KeepsDrop.{safe_drop}
+use Rattle.shogi_replies.proofs.ReplyLaws.{legal_own, other_counts}
+use Rattle.shogi_moves.proofs.LegalLaws.{legal_in, legal_code_below, is_legal_code_of, after_code_at, after_code_of, legal_to_listed}
+use Rattle.shogi_eval.specs.declared.eval.Eval.{Eval}
+use Rattle.shogi_eval.specs.Material.{material_of, drop_gain, taken_gain, promotion_gain}
+use Rattle.shogi_eval.proofs.Gains.{material_after_board, material_after_drop}
+use Rattle.shogi_eval.proofs.Bounds.{material_bounds}
+use Rattle.shogi_eval.specs.Losses.{LosesAtMost}
+use Rattle.search_nodes.specs.Threats.{IsAttacked, TakesAfter}
+use Rattle.minimax.specs.Minimax.{value, worth, negated, if_no_move_else, lost_value, greatest_or}
+use Rattle.minimax.specs.Window.{threshold}
+use Rattle.minimax.proofs.Greatest.{greatest_or-above}
+use Rattle.minimax.proofs.MinimaxLaws.{value-leaf, value-suc}
+use Rattle.minimax.proofs.Valid.{after_valid, board_of, drop_of}
+
+-- a move changes nothing in the other side's hand, so after it no drop loses more
+loses_after : (p : Shogi) (e : Eval) (loss : ℤ) (m : Move) → LosesAtMost p.hands (opponent_of p.side) e loss → LosesAtMost (after p m).hands (opponent_of p.side) e loss
+loses_after p e loss m h kind held = h kind (subst (λ (n : ℕ). 0 < n) (other_counts p m kind) held)
+
+-- a legal move leaves its side no less than its material without that loss
+board_left : (q : Shogi) (e : Eval) (loss : ℤ) (from to : ℕ) (promote : Bool) → IsValid q → pos 0 ≤ℤ loss → from < 81 → to < 81 → is_legal q (Board from to promote) ≡ true → material_of (after q (Board from to promote)) e ≤ℤ negated (material_of q e -ℤ loss)
+board_left q e loss from to promote v h f t l =
+    let law : material_of (after q (Board from to promote)) e ≡ pos 0 -ℤ (material_of q e +ℤ pos (taken_gain e (piece_at q.cells to) + promotion_gain promote (piece_at q.cells from))) = material_after_board q e from to promote v f t l in
+    omega (arith, ints, law, h)
+
+drop_left : (q : Shogi) (e : Eval) (loss : ℤ) (kind : Kind) (to : ℕ) → IsValid q → LosesAtMost q.hands q.side e loss → to < 81 → is_legal q (Drop kind to) ≡ true → material_of (after q (Drop kind to)) e ≤ℤ negated (material_of q e -ℤ loss)
+drop_left q e loss kind to v h t l =
+    let law : material_of (after q (Drop kind to)) e ≡ pos 0 -ℤ (material_of q e +ℤ drop_gain e kind) = material_after_drop q e kind to v t l in
+    let least : negated loss ≤ℤ drop_gain e kind = h kind (safe_drop q kind to (is_safe_from_legal q (Drop kind to) l)).held_one in
+    omega (arith, ints, law, least)
+
+move_left : (q : Shogi) (e : Eval) (loss : ℤ) (code : ℕ) (m : Move) → is_in code (legal_codes q) ≡ true → move_of code ≡ Some m → (is_legal q m ≡ true → material_of (after q m) e ≤ℤ negated (material_of q e -ℤ loss)) → material_of (after_code q code) e ≤ℤ negated (material_of q e -ℤ loss)
+move_left q e loss code m i is h = subst (λ (r : Shogi). material_of r e ≤ℤ negated (material_of q e -ℤ loss)) (sym (after_code_at q code m is)) (h (sym (is_legal_code_of q code m is) ∙ legal_in q 0 code i))
+
+pub reply_left : (q : Shogi) (e : Eval) (loss : ℤ) (code : ℕ) → IsValid q → pos 0 ≤ℤ loss → LosesAtMost q.hands q.side e loss → is_in code (legal_codes q) ≡ true → material_of (after_code q code) e ≤ℤ negated (material_of q e -ℤ loss)
+reply_left q e loss code v h l i =
+    let below : code < MOVE_CODE_COUNT = legal_code_below q code (legal_in q 0 code i) in
+    elim (cases_lt code FIRST_DROP) [
+      | inl low ↦ move_left q e loss code _ i (board_of code low) (board_left q e loss (code / 2 / 81) (code / 2 % 81) (code % 2 == 1) v h (omega arith) (omega arith))
+      | inr high ↦ move_left q e loss code _ i (drop_of code high below) (drop_left q e loss (kind_at ((code - FIRST_DROP) / 81)) ((code - FIRST_DROP) % 81) v l (omega arith))
+    ]
+
+-- a leaf is worth its material, or less
+leaf_most : (moves : List ℕ) (v : ℤ) → negated (pos 30000) ≤ℤ v → if_no_move_else (lost_value 0) v moves ≤ℤ v
+leaf_most [] v h = omega (arith, ints)
+leaf_most (m ∷ ms) v h = omega (arith, ints)
+
+pub value_leaf_most : (r : Shogi) (e : Eval) → IsValid r → value r e 0 ≤ℤ material_of r e
+value_leaf_most r e v = rw value-leaf (leaf_most (legal_codes r) (material_of r e) (let b : _ = material_bounds r e v in omega (arith, ints, b.0)))
+
+-- a side is worth at depth 1 what a legal move leaves it, or more
+value_reply : (q : Shogi) (e : Eval) (code : ℕ) → IsValid q → is_in code (legal_codes q) ≡ true → negated (material_of (after_code q code) e) ≤ℤ value q e 1
+value_reply q e code v i =
+    let leaf : value (after_code q code) e 0 ≤ℤ material_of (after_code q code) e = value_leaf_most (after_code q code) e (after_valid q code v i) in
+    let above : worth q e 0 code ≤ℤ greatest_or (lost_value 1) (worth q e 0) (legal_codes q) = greatest_or-above (lost_value 1) (worth q e 0) (legal_codes q) code i in
+    let is_value : value q e 1 ≡ greatest_or (lost_value 1) (worth q e 0) (legal_codes q) = value-suc q e 0 in
+    omega (arith, ints, leaf, above, is_value)
+
+-- so where it has a legal move it is worth its material without that loss, or more
+value_least : (q : Shogi) (e : Eval) (loss : ℤ) (codes : List ℕ) → codes ≡ legal_codes q → IsValid q → pos 0 ≤ℤ loss → LosesAtMost q.hands q.side e loss → codes ≢ [] → (material_of q e -ℤ loss) ≤ℤ value q e 1
+value_least q e loss [] is v h l some = absurd (some refl)
+value_least q e loss (c ∷ cs) is v h l some =
+    let i : is_in c (legal_codes q) ≡ true = subst (λ (xs : List ℕ). is_in c xs ≡ true) is (or_left _ _ (eq-eqb c c refl)) in
+    let left : material_of (after_code q c) e ≤ℤ negated (material_of q e -ℤ loss) = reply_left q e loss c v h l i in
+    let worth_so : negated (material_of (after_code q c) e) ≤ℤ value q e 1 = value_reply q e c v i in
+    omega (arith, ints, left, worth_so)
+
+-- and where it may take a piece, its material and what that gains, or more
+value_taking : (q : Shogi) (e : Eval) (a t : ℕ) (promote : Bool) (cell : Option Piece) → IsValid q → a < 81 → t < 81 → MayTake q a t promote cell → (material_of q e +ℤ pos (taken_gain e cell + promotion_gain promote (piece_at q.cells a))) ≤ℤ value q e 1
+value_taking q e a t promote cell v ha ht may =
+    let back : move_of (code_of (Board a t promote)) ≡ Some (Board a t promote) = move_of-board a t promote ha ht in
+    let law : material_of (after q (Board a t promote)) e ≡ pos 0 -ℤ (material_of q e +ℤ pos (taken_gain e (piece_at q.cells t) + promotion_gain promote (piece_at q.cells a))) = material_after_board q e a t promote v ha ht may.legal in
+    let gain : taken_gain e (piece_at q.cells t) ≡ taken_gain e cell = ap (taken_gain e) may.stands in
+    let made : material_of (after_code q (code_of (Board a t promote))) e ≡ material_of (after q (Board a t promote)) e = ap (λ (r : Shogi). material_of r e) (after_code_of q (Board a t promote) back) in
+    let worth_so : negated (material_of (after_code q (code_of (Board a t promote))) e) ≤ℤ value q e 1 = value_reply q e (code_of (Board a t promote)) v (legal_to_listed q (Board a t promote) back may.legal) in
+    omega (arith, ints, law, gain, made, worth_so)
+
+-- a legal move leaves a valid position
+valid_after : (p : Shogi) (m : Move) → IsValid p → move_of (code_of m) ≡ Some m → is_in (code_of m) (legal_codes p) ≡ true → IsValid (after p m)
+valid_after p m v back i = subst IsValid (after_code_of p m back) (after_valid p (code_of m) v i)
+
+-- after the move of the one side what stands on a square of the other is what stood there
+kept_at : (p : Shogi) (m : Move) (a : ℕ) → is_legal p m ≡ true → is_piece_of (opponent_of p.side) (piece_at p.cells a) ≡ true → a ≢ end_of m → piece_at (after p m).cells a ≡ piece_at p.cells a
+kept_at p (Board from to promote) a legal theirs off =
+    let apart : a ≢ from = λ (same : a ≡ from). both_ways (is_piece_of (opponent_of p.side) (piece_at p.cells from)) (other_side p.side (piece_at p.cells from) (legal_own p from to promote legal)) (subst (λ (y : ℕ). is_piece_of (opponent_of p.side) (piece_at p.cells y) ≡ true) same theirs) in
+    get_or-set_other (set p.cells from None) to a (piece_moved promote (piece_at p.cells from)) None off ∙ get_or-set_other p.cells from a None None apart
+kept_at p (Drop kind to) a legal theirs off = get_or-set_other p.cells to a (dropped p.side kind) None off
+
+-- the attacker of a threat that the move leaves is not where it ends
+attacker_off : (p : Shogi) (m : Move) (a t : ℕ) → LeavesThreat p a t m → a ≢ end_of m
+attacker_off p (Board from to promote) a t leaves same = leaves.1.attacker_stays (sym same)
+attacker_off p (Drop kind to) a t leaves same = leaves.attacker_stays (sym same)
+
+-- a threat that stands after the move gains what it did
+pub threat_gain : (p : Shogi) (e : Eval) (m : Move) (a t gain : ℕ) (promote : Bool) → IsValid p → move_of (code_of m) ≡ Some m → is_legal p m ≡ true → IsThreat p a t promote → gain ≡ taken_gain e (piece_at p.cells t) + promotion_gain promote (piece_at p.cells a) → LeavesThreat p a t m → TakesAfter p e m gain
+threat_gain p e m a t gain promote v back legal threat is leaves = λ keeps retakes.
+    let valid : IsValid (after p m) = valid_after p m v back (legal_to_listed p m back legal) in
+    let least : (material_of (after p m) e +ℤ pos (taken_gain e (piece_at p.cells t) + promotion_gain promote (piece_at (after p m).cells a))) ≤ℤ value (after p m) e 1 = value_taking (after p m) e a t promote (piece_at p.cells t) valid threat.attack.attacker.on_board threat.attack.on_board (keeps a t promote threat leaves) in
+    let same : promotion_gain promote (piece_at (after p m).cells a) ≡ promotion_gain promote (piece_at p.cells a) = ap (promotion_gain promote) (kept_at p m a legal threat.attack.attacker.theirs (attacker_off p m a t leaves)) in
+    omega (arith, ints, least, same, is)
+
+unpromoted : (cell : Option Piece) → promotion_gain false cell ≡ 0
+unpromoted None = refl
+unpromoted (Some piece) = refl
+
+-- a capture of what it puts on its square gains that
+pub taken_left : (p : Shogi) (e : Eval) (m : Move) → IsValid p → move_of (code_of m) ≡ Some m → is_legal p m ≡ true → IsTaken p m → (material_of (after p m) e +ℤ pos (taken_gain e (put_by p m))) ≤ℤ value (after p m) e 1
+taken_left p e m v back legal taken =
+    let valid : IsValid (after p m) = valid_after p m v back (legal_to_listed p m back legal) in
+    let least : (material_of (after p m) e +ℤ pos (taken_gain e (put_by p m) + promotion_gain false (piece_at (after p m).cells taken.taker))) ≤ℤ value (after p m) e 1 = value_taking (after p m) e taken.taker (end_of m) false (put_by p m) valid taken.on_board.0 taken.on_board.1 taken.takes in
+    let none : promotion_gain false (piece_at (after p m).cells taken.taker) ≡ 0 = unpromoted (piece_at (after p m).cells taken.taker) in
+    omega (arith, ints, least, none)
+
+-- as by an attack on the square where it ends
+pub retaken : (p : Shogi) (m : Move) (to : ℕ) → end_of m ≡ to → MayRetake p m → IsAttacked p to → IsTaken p m
+retaken p m to ends retakes attacked =
+    let attack : IsAttack p attacked.0 (end_of m) false = subst (λ (n : ℕ). IsAttack p attacked.0 n false) (sym ends) attacked.1 in
+    record { taker = attacked.0; on_board = (attack.attacker.on_board, attack.on_board); takes = retakes attacked.0 false attack }
+
+pub retake_gain : (p : Shogi) (e : Eval) (m : Move) (to gain : ℕ) → IsValid p → move_of (code_of m) ≡ Some m → is_legal p m ≡ true → end_of m ≡ to → IsAttacked p to → gain ≡ taken_gain e (put_by p m) → TakesAfter p e m gain
+retake_gain p e m to gain v back legal ends attacked is = λ keeps retakes. omega (arith, ints, taken_left p e m v back legal (retaken p m to ends retakes attacked), is)
+
+-- ---- what a move is worth at most two plies before the leaves
+
+-- no more than what the other side is worth at least after it, as its mover sees that
+worth_below : (p : Shogi) (e : Eval) (m : Move) (least : ℤ) → move_of (code_of m) ≡ Some m → least ≤ℤ value (after p m) e 1 → worth p e 1 (code_of m) ≤ℤ negated least
+worth_below p e m least back h =
+    let same : value (after_code p (code_of m)) e 1 ≡ value (after p m) e 1 = ap (λ (q : Shogi). value q e 1) (after_code_of p m back) in
+    omega (arith, ints, h, same)
+
+-- by its material, less what a reply may lose
+pub material_left : (p : Shogi) (e : Eval) (loss : ℤ) (m : Move) → IsValid p → move_of (code_of m) ≡ Some m → is_legal p m ≡ true → pos 0 ≤ℤ loss → LosesAtMost p.hands (opponent_of p.side) e loss → legal_codes (after p m) ≢ [] → (material_of (after p m) e -ℤ loss) ≤ℤ value (after p m) e 1
+material_left p e loss m v back legal h l some = value_least (after p m) e loss (legal_codes (after p m)) refl (valid_after p m v back (legal_to_listed p m back legal)) h (loses_after p e loss m l) some
+
+-- by a threat that stands
+pub threat_left : (p : Shogi) (e : Eval) (m : Move) (gain : ℕ) → KeepsThreats p m → MayRetake p m → TakesAfter p e m gain → (material_of (after p m) e -ℤ negated (pos gain)) ≤ℤ value (after p m) e 1
+threat_left p e m gain keeps retakes takes = omega (arith, ints, takes keeps retakes)
+
+-- so the move is worth no more than that leaves
+pub worth_leaving : (p : Shogi) (e : Eval) (d : ℕ) (loss : ℤ) (m : Move) → move_of (code_of m) ≡ Some m → d ≡ 2 → (material_of (after p m) e -ℤ loss) ≤ℤ value (after p m) e 1 → worth p e (d - 1) (code_of m) ≤ℤ negated (material_of (after p m) e -ℤ loss)
+worth_leaving p e d loss m back last least =
+    let one : d - 1 ≡ 1 = omega arith in
+    subst (λ (n : ℕ). worth p e n (code_of m) ≤ℤ negated (material_of (after p m) e -ℤ loss)) (sym one) (worth_below p e m (material_of (after p m) e -ℤ loss) back least)
+
+-- the same at a node of depth 2
+pub worth_ahead : (p : Shogi) (e : Eval) (d : ℕ) (loss : ℤ) (m : Move) → IsValid p → move_of (code_of m) ≡ Some m → is_legal p m ≡ true → d ≡ 2 → pos 0 ≤ℤ loss → LosesAtMost p.hands (opponent_of p.side) e loss → legal_codes (after p m) ≢ [] → worth p e (d - 1) (code_of m) ≤ℤ negated (material_of (after p m) e -ℤ loss)
+worth_ahead p e d loss m v back legal last h l some = worth_leaving p e d loss m back last (material_left p e loss m v back legal h l some)
+
+-- the same where it takes so much then
+pub worth_under_threat : (p : Shogi) (e : Eval) (d gain : ℕ) (m : Move) → move_of (code_of m) ≡ Some m → d ≡ 2 → (material_of (after p m) e +ℤ pos gain) ≤ℤ value (after p m) e 1 → worth p e (d - 1) (code_of m) ≤ℤ negated (material_of (after p m) e +ℤ pos gain)
+worth_under_threat p e d gain m back last least =
+    let one : d - 1 ≡ 1 = omega arith in
+    subst (λ (n : ℕ). worth p e n (code_of m) ≤ℤ negated (material_of (after p m) e +ℤ pos gain)) (sym one) (worth_below p e m (material_of (after p m) e +ℤ pos gain) back least)
+
+-- what is below in a frame is below in another that differs in nothing that it speaks of
+pub still_below : (p p' : Shogi) (e e' : Eval) (d d' : ℕ) (v v' : ℤ) (b b' : Option ℕ) (m : ℕ) → p' ≡ p → e' ≡ e → d' ≡ d → v' ≡ v → b' ≡ b → worth p e (d - 1) m ≤ℤ threshold v b m → worth p' e' (d' - 1) m ≤ℤ threshold v' b' m
+still_below p p' e e' d d' v v' b b' m ps es ds vs bs h =
+    subst (λ (x : Shogi). worth x e' (d' - 1) m ≤ℤ threshold v' b' m) (sym ps)
+    (subst (λ (x : Eval). worth p x (d' - 1) m ≤ℤ threshold v' b' m) (sym es)
+    (subst (λ (x : ℕ). worth p e (x - 1) m ≤ℤ threshold v' b' m) (sym ds)
+    (subst (λ (x : ℤ). worth p e (d - 1) m ≤ℤ threshold x b' m) (sym vs)
+    (subst (λ (x : Option ℕ). worth p e (d - 1) m ≤ℤ threshold v x m) (sym bs) h))))

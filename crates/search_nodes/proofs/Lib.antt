@@ -1,0 +1,9 @@
+pub mod MatchingOthers
+pub mod FirstLaws
+pub mod OrderLaws
+pub mod Answered
+pub mod Nodes
+pub mod Ahead
+pub mod Passed
+pub mod Passing
+pub mod Rows

@@ -1,0 +1,25 @@
+use Rattle.std.proofs.Common.{◌∙◌, subst}
+use Rattle.std.proofs.lemmas.Bool.{both_ways}
+use Rattle.shogi_core.specs.Bits.{has_bit}
+use Rattle.shogi_core.proofs.BitLaws.{has_bit-none}
+use Rattle.shogi_eval.specs.Evaluated.{Evaluated}
+use Rattle.search_nodes.specs.Threats.{AreThreatsIn}
+use Rattle.search_nodes.proofs.Rows.{kept_again}
+use Rattle.search_nodes.proofs.frame.Frame.known_threats.Goals as goal
+
+pub returns-in-Some-clause-threats : goal.returns-in-Some-clause-threats
+returns-in-Some-clause-threats c =
+    subst (λ (n : Evaluated). AreThreatsIn n.position n.eval c.in-Some.threats) (c.look_ahead.ensures.0.0 ∙ c.look_for_threats.ensures.0.0) (c.look_ahead.new.self.threatened c.in-Some.threats c.in-Some.is)
+
+pub returns-in-Some-clause-kept : goal.returns-in-Some-clause-kept
+returns-in-Some-clause-kept c = kept_again c.args.self.now c.look_for_threats.new.self c.look_ahead.new.self c.look_for_threats.ensures c.look_ahead.ensures
+
+pub returns-in-None-clause-threats : goal.returns-in-None-clause-threats
+returns-in-None-clause-threats c = record {
+  takes = λ n h e. absurd (both_ways (has_bit 0 n) (has_bit-none n) e);
+  greatest = λ t e. absurd (cc);
+  second = λ t e. absurd (cc);
+}
+
+pub returns-in-None-clause-kept : goal.returns-in-None-clause-kept
+returns-in-None-clause-kept c = kept_again c.args.self.now c.look_for_threats.new.self c.look_ahead.new.self c.look_for_threats.ensures c.look_ahead.ensures

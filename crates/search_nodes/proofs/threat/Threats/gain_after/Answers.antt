@@ -1,0 +1,64 @@
+use Rattle.std.proofs.Common.{◌≡◌, ◌<◌, ◌≤◌, ◌⊎◌, ℕ, true, Option, Some, None, inl, inr, sym, subst, ap, ◌∙◌, arith, refl}
+use Rattle.std.specs.Option.{ForSome}
+use Rattle.std.proofs.Props.{props}
+use Rattle.std.proofs.Math.Logic.{∥∥₁_elim}
+use Rattle.shogi_core.specs.declared.moves.Move.{Move}
+use Rattle.shogi_core.specs.declared.piece.Piece.{Piece}
+use Rattle.shogi_core.specs.Bits.{has_bit}
+use Rattle.shogi_core.specs.Codes.{move_of, code_of}
+use Rattle.shogi_core.specs.Position.{Shogi}
+use Rattle.shogi_core.specs.Validity.{IsValid}
+use Rattle.shogi_moves.specs.Legal.{is_legal}
+use Rattle.shogi_replies.specs.Threats.{end_of, put_by}
+use Rattle.shogi_eval.specs.declared.eval.Eval.{Eval}
+use Rattle.shogi_eval.specs.Material.{taken_gain}
+use Rattle.search_nodes.specs.declared.threat.Threat.{Threat}
+use Rattle.search_nodes.specs.declared.threat.Threats.{Threats}
+use Rattle.search_nodes.specs.Threats.{AreThreatsIn, GainsAfter, IsThreatIn, TakesAfter}
+use Rattle.search_nodes.proofs.Ahead.{retake_gain, threat_gain}
+use Rattle.search_nodes.proofs.threat.Threats.gain_after.Goals as goal
+use Rattle.search_nodes.proofs.threat.Threats.gain_after.Goals.{then-has, else-has}
+
+retaken : (threats : Threats) (p : Shogi) (e : Eval) (m : Move) (to : ℕ) {gain : ℕ} → AreThreatsIn p e threats → IsValid p → move_of (code_of m) ≡ Some m → is_legal p m ≡ true → end_of m ≡ to → to < 81 → (0 < gain → (has_bit threats.takes to ≡ true) × (gain ≡ taken_gain e (put_by p m))) → 0 < gain → TakesAfter p e m gain
+retaken threats p e m to {gain} are v back legal ends h parts some = λ keeps retakes.
+    ∥∥₁_elim (are.takes to h ((parts some).0)) (Prim.hlevel props) (λ attacked. retake_gain p e m to gain v back legal ends attacked ((parts some).1) keeps retakes)
+
+-- a threat that is left takes what it gains
+left : (threat : Option Threat) (p : Shogi) (e : Eval) (m : Move) (put : Option Piece) (gain : ℕ) → ForSome threat (IsThreatIn p e) → IsValid p → move_of (code_of m) ≡ Some m → is_legal p m ≡ true → put_by p m ≡ put → GainsAfter threat put m gain → TakesAfter p e m gain × (gain ≤ 4000)
+left None p e m put gain are v back legal puts after = absurd after
+left (Some threat) p e m put gain are v back legal puts after =
+    let is : IsThreatIn p e threat = are threat refl in (
+      subst (TakesAfter p e m) after.0 (threat_gain p e m threat.from threat.target threat.gain threat.promote v back legal is.gains.is_threat is.gains.gain_is (after.1 p e is puts)),
+      subst (λ (n : ℕ). n ≤ 4000) after.0 is.gains.gain_fits,
+    )
+
+pub returns-then-greatest-retake-clause-gain : goal.returns-then-greatest-retake-clause-gain
+returns-then-greatest-retake-clause-gain c = λ some. elim c.gain_if_left-greatest.ensures [
+  | inl least ↦ absurd (omega (arith, least, c.if-greatest-retake.true))
+  | inr after ↦ (left c.args.self.now.greatest c.args.p.now c.args.e c.args.m.now c.put_by-put.result c.gain_if_left-greatest.result c.requires.threats.greatest c.requires.valid c.validity.ensures.back c.requires.legal (sym c.put_by-put.ensures) after).0
+]
+
+pub returns-then-greatest-retake-clause-fits : goal.returns-then-greatest-retake-clause-fits
+returns-then-greatest-retake-clause-fits c = elim c.gain_if_left-greatest.ensures [
+  | inl least ↦ absurd (omega (arith, least, c.if-greatest-retake.true))
+  | inr after ↦ (left c.args.self.now.greatest c.args.p.now c.args.e c.args.m.now c.put_by-put.result c.gain_if_left-greatest.result c.requires.threats.greatest c.requires.valid c.validity.ensures.back c.requires.legal (sym c.put_by-put.ensures) after).1
+]
+
+pub returns-clause-gain : goal.returns-clause-gain
+returns-clause-gain c = λ some. elim c.gain_if_left.ensures [
+  | inl least ↦ retaken _ _ _ _ _ c.requires.threats c.requires.valid c.validity.ensures.back c.requires.legal (sym c.end_of-end.ensures) (omega arith)
+      (λ more. elim c.if-has.branch [
+        | then-has w ↦ (subst (λ (x : ℕ). has_bit c.args.self.now.takes x ≡ true) c.index.ensures.index (sym c.has.ensures ∙ w.if-has.true), least ∙ (w.retake-is ∙ (w.taken_gain-retake.ensures.value ∙ ap (taken_gain c.args.e) c.put_by-put.ensures)))
+        | else-has w ↦ absurd (omega (arith, more, least, w.retake-is))
+      ]) some
+  | inr after ↦ (left c.args.self.now.second c.args.p.now c.args.e c.args.m.now c.put_by-put.result c.gain_if_left.result c.requires.threats.second c.requires.valid c.validity.ensures.back c.requires.legal (sym c.put_by-put.ensures) after).0
+]
+
+pub returns-clause-fits : goal.returns-clause-fits
+returns-clause-fits c = elim c.gain_if_left.ensures [
+  | inl least ↦ elim c.if-has.branch [
+    | then-has w ↦ omega (arith, least, w.retake-is, w.taken_gain-retake.ensures.range)
+    | else-has w ↦ omega (arith, least, w.retake-is)
+  ]
+  | inr after ↦ (left c.args.self.now.second c.args.p.now c.args.e c.args.m.now c.put_by-put.result c.gain_if_left.result c.requires.threats.second c.requires.valid c.validity.ensures.back c.requires.legal (sym c.put_by-put.ensures) after).1
+]

@@ -1,0 +1,17 @@
+use Rattle.std.proofs.Common.{bit_and, ◌∙◌, sym}
+use Rattle.std.proofs.lemmas.Bool.{and_from, both_ways, false_from_ne_true, true_from_ne_false}
+use Rattle.shogi_core.specs.Bits.{has_bit}
+use Rattle.shogi_core.specs.Lines.{are_aligned}
+use Rattle.shogi_core.specs.Pieces.{opponent_of}
+use Rattle.shogi_core.proofs.BitLaws.{has_bit-and}
+use Rattle.shogi_replies.specs.Replies.{is_aligned_with_king}
+use Rattle.shogi_replies.proofs.ReplyLaws.{unaligned}
+use Rattle.search_nodes.proofs.threat.pinning_squares.Goals as goal
+
+pub returns-then-has : goal.returns-then-has
+returns-then-has c = λ lined n h out met. false_from_ne_true (are_aligned c.args.from n) (λ near. both_ways (has_bit (bit_and c.args.lines c.aligned_squares.result) n) out
+    (has_bit-and c.args.lines c.aligned_squares.result n ∙ and_from _ _ (true_from_ne_false (has_bit c.args.lines n) (λ off. both_ways (is_aligned_with_king c.args.p.now.cells (opponent_of c.args.p.now.side) n) (unaligned c.args.p.now.cells (opponent_of c.args.p.now.side) c.args.lines n c.requires.lines h off) met))
+    (c.aligned_squares.ensures.squares.0 n h ∙ near)))
+
+pub returns-else-has : goal.returns-else-has
+returns-else-has c = λ lined n h out met. absurd (both_ways (is_aligned_with_king c.args.p.now.cells (opponent_of c.args.p.now.side) c.args.from) (unaligned c.args.p.now.cells (opponent_of c.args.p.now.side) c.args.lines c.args.from c.requires.lines c.requires.from (sym c.has.ensures ∙ c.if-has.false)) lined)

@@ -1,0 +1,60 @@
+use Rattle.std.proofs.Common.{◌≡◌, ◌<◌, ◌-◌, ◌^◌, ℕ, true, false, ◌∙◌, sym, subst, ap, arith, inl, inr, bit_and, bit_or, rules}
+use Rattle.std.proofs.lemmas.Bool.{and_parts, both_ways, not-true, or_cases}
+use Rattle.std.proofs.lemmas.Grind.{merely}
+use Rattle.shogi_core.specs.declared.piece.Color.{Color}
+use Rattle.shogi_core.specs.Bits.{has_bit}
+use Rattle.shogi_core.specs.Cell.{is_piece_of}
+use Rattle.shogi_core.specs.Movement.{piece_at}
+use Rattle.shogi_core.specs.Pieces.{opponent_of}
+use Rattle.shogi_core.specs.Position.{Shogi}
+use Rattle.shogi_core.proofs.BitLaws.{has_bit-and, has_bit-none, has_bit-or}
+use Rattle.shogi_core.proofs.LineBits.{has_bit-not}
+use Rattle.shogi_moves.proofs.CheckInfoLaws.{other_side}
+use Rattle.shogi_replies.specs.Threats.{IsAttack, IsThreat}
+use Rattle.search_nodes.specs.Threats.{AreAttacked}
+use Rattle.search_nodes.proofs.threat.threats_of.Goals as goal
+
+pub attackers-init : goal.attackers-init
+attackers-init c = record {
+  unpinnable = c.unpinnable_pieces-left.ensures.unpinnable;
+  takes = λ n h e. absurd (both_ways (has_bit 0 n) (has_bit-none n) e);
+  prizes = c.none-prizes.ensures c.args.p.now c.args.e;
+  left = c.unpinnable_pieces-left.ensures.fits;
+}
+
+-- an attack on one of the squares of the mover is a threat
+capture_at : (p : Shogi) (a t own attacks : ℕ) → ((n : ℕ) → n < 81 → has_bit own n ≡ is_piece_of p.side (piece_at p.cells n)) → ((n : ℕ) → n < 81 → has_bit attacks n ≡ true → IsAttack p a n false) → t < 81 → has_bit (bit_and own attacks) t ≡ true → IsThreat p a t false
+capture_at p a t own attacks mine are h e =
+    let parts : (has_bit own t ≡ true) × (has_bit attacks t ≡ true) = and_parts _ _ (sym (has_bit-and own attacks t) ∙ e) in
+    record { attack = are t h parts.1; target = other_side p.side (piece_at p.cells t) (sym (mine t h) ∙ parts.0) }
+
+-- and so is one with promotion on a square that is not of its own side
+promotion_at : (p : Shogi) (a t theirs attacks : ℕ) → theirs < 2 ^ 128 → ((n : ℕ) → n < 81 → has_bit theirs n ≡ is_piece_of (opponent_of p.side) (piece_at p.cells n)) → ((n : ℕ) → n < 81 → has_bit attacks n ≡ true → IsAttack p a n true) → t < 81 → has_bit (bit_and attacks (2 ^ 128 - 1 - theirs)) t ≡ true → IsThreat p a t true
+promotion_at p a t theirs attacks fits are_theirs are h e =
+    let parts : (has_bit attacks t ≡ true) × (has_bit (2 ^ 128 - 1 - theirs) t ≡ true) = and_parts _ _ (sym (has_bit-and attacks (2 ^ 128 - 1 - theirs) t) ∙ e) in
+    record { attack = are t h parts.0; target = sym (are_theirs t h) ∙ not-true _ (sym (has_bit-not theirs t fits (omega arith)) ∙ parts.1) }
+
+attacked_more : (p : Shogi) (a takes plain : ℕ) → AreAttacked p takes → ((n : ℕ) → n < 81 → has_bit plain n ≡ true → IsAttack p a n false) → AreAttacked p (bit_or takes plain)
+attacked_more p a takes plain before more = λ n h e. elim (or_cases (has_bit takes n) (has_bit plain n) (sym (has_bit-or takes plain n) ∙ e)) [
+  | inl was ↦ before n h was
+  | inr here ↦ merely (a, more n h here)
+]
+
+pub with_ends-prizes-requires-clause-ends : goal.with_ends-prizes-requires-clause-ends
+with_ends-prizes-requires-clause-ends c = λ t h e. capture_at c.args.p.now c.lowest-from.result t c.own-own.result c.attacks_of-attacks.result.plain
+    (subst (λ (s : Color). (n : ℕ) → n < 81 → has_bit c.own-own.result n ≡ is_piece_of s (piece_at c.args.p.now.cells n)) c.side-2.ensures (rw c.as_board-board.ensures at c.own-own.ensures.squares.0))
+    (rw c.of_index-square.ensures at c.attacks_of-attacks.ensures.plain) h e
+
+pub with_ends-prizes-requires-in-attackers-clause-ends :
+    goal.with_ends-prizes-requires-in-attackers-clause-ends
+with_ends-prizes-requires-in-attackers-clause-ends c = λ t h e. promotion_at c.args.p.now c.lowest-from.result t c.own-theirs.result c.attacks_of-attacks.result.promoting (omega arith)
+    (subst (λ (s : Color). (n : ℕ) → n < 81 → has_bit c.own-theirs.result n ≡ is_piece_of s (piece_at c.args.p.now.cells n)) (c.opponent-2.ensures ∙ ap opponent_of c.side-3.ensures) (rw c.as_board-board.ensures at c.own-theirs.ensures.squares.0))
+    (rw c.of_index-square.ensures at c.attacks_of-attacks.ensures.promoting) h e
+
+pub attackers-preserved : goal.attackers-preserved
+attackers-preserved c = record {
+  unpinnable = search rules;
+  takes = attacked_more c.args.p.now c.lowest-from.result c.attackers.takes c.attacks_of-attacks.result.plain c.attackers.invariant.takes (rw c.of_index-square.ensures at c.attacks_of-attacks.ensures.plain);
+  prizes = c.with_ends-prizes-in-attackers.ensures;
+  left = search rules;
+}

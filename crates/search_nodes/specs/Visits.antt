@@ -1,0 +1,60 @@
+-- The moves of a node on the stack, and what is known of it by what it waits for (own choice).
+use Rattle.std.specs.Prelude.{◌≡◌, ℕ, zero, suc, ◌-◌, ℤ, ◌≤ℤ◌, List, [], ◌∷◌, Option}
+use Rattle.std.proofs.Props.{props}
+use Rattle.shogi_core.specs.declared.moves.Move.{Move}
+use Rattle.shogi_core.specs.Codes.{code_of}
+use Rattle.shogi_core.specs.Position.{Shogi}
+use Rattle.shogi_moves.specs.LegalMoves.{legal_codes}
+use Rattle.shogi_eval.specs.declared.eval.Eval.{Eval}
+use Rattle.search_nodes.specs.declared.frame.Waiting.{Waiting}
+use Rattle.search_nodes.specs.declared.frame.Waiting.TheVariants.{Next, Asked, Cut}
+use Rattle.minimax.specs.Minimax.{value, worth}
+use Rattle.minimax.specs.Window.{IsCovered}
+
+-- the moves that a search at a depth goes through: none at depth 0
+abbrev pub moves_at : Shogi → ℕ → List ℕ
+moves_at p zero = []
+moves_at p (suc d) = legal_codes p
+
+-- what holds of the move that the node has asked for and not taken in
+abbrev pub WhereCurrent : Waiting → (Move → Type 0) → Type 0
+WhereCurrent Next fact = ⊥
+WhereCurrent (Asked m) fact = fact m
+WhereCurrent (Cut v) fact = ⊥
+
+-- this move is that one
+abbrev pub IsCurrent : Waiting → Move → Type 0
+IsCurrent waiting m = WhereCurrent waiting (λ k. k ≡ m)
+
+-- the node has asked for a move and not taken it in
+abbrev pub IsAsked : Waiting → Type 0
+IsAsked waiting = WhereCurrent waiting (λ _. Unit {0})
+
+-- between two steps no move is asked for
+abbrev pub IsFree : Waiting → Type 0
+IsFree Next = Unit {0}
+IsFree (Asked m) = ⊥
+IsFree (Cut v) = Unit {0}
+
+-- the node is cut off, or no move is to be visited
+abbrev pub IsOver : Waiting → List ℕ → Type 0
+IsOver Next codes = codes ≡ []
+IsOver (Asked m) codes = ⊥
+IsOver (Cut v) codes = Unit {0}
+
+-- what is known of a node with these moves to visit: the worth of all others but the current one, or that the node is worth enough
+abbrev pub IsKnownWhile : Shogi → Eval → ℕ → ℤ → ℤ → ℤ → Option ℕ → List ℕ → Waiting → Type 0
+IsKnownWhile p e d alpha beta best_value best_move codes Next =
+    IsCovered (worth p e (d - 1)) (moves_at p d) codes alpha best_value best_move
+IsKnownWhile p e d alpha beta best_value best_move codes (Asked m) =
+    IsCovered (worth p e (d - 1)) (moves_at p d) (code_of m ∷ codes) alpha best_value best_move
+IsKnownWhile p e d alpha beta best_value best_move codes (Cut v) = (v ≤ℤ value p e d) × (beta ≤ℤ v)
+
+-- it has one proof at most, so it may be a ghost field
+pub IsKnownWhile-prop :
+    (p : Shogi) (e : Eval) (d : ℕ) (alpha beta best_value : ℤ) (best_move : Option ℕ)
+    (codes : List ℕ) (waiting : Waiting)
+    → IsProp (IsKnownWhile p e d alpha beta best_value best_move codes waiting)
+IsKnownWhile-prop p e d alpha beta best_value best_move codes Next = Prim.hlevel props
+IsKnownWhile-prop p e d alpha beta best_value best_move codes (Asked m) = Prim.hlevel props
+IsKnownWhile-prop p e d alpha beta best_value best_move codes (Cut v) = Prim.hlevel props

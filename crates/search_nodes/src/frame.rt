@@ -1,0 +1,332 @@
+//! A node of the tree while the search goes through its moves.
+
+ghost use Rattle.std.specs.Prelude.{◌≡◌, ◌≤◌, ◌<◌, ◌≤ℤ◌, ◌<ℤ◌, pos, [], true, false, IsTrue, ◌↔◌, ◌≢◌};
+ghost use Rattle.std.specs.Option.{ForSome};
+ghost use Rattle.std.proofs.Props.{props};
+ghost use Rattle.shogi_core.specs.Validity.{IsValid};
+ghost use Rattle.shogi_moves.specs.Escapes.{AreEscapes};
+ghost use Rattle.shogi_moves.specs.LegalMoves.{legal_codes};
+ghost use Rattle.shogi_replies.specs.Replies.{IsReplies};
+ghost use Rattle.shogi_eval.specs.declared.points.TheConstants.{POINTS_MAX};
+ghost use Rattle.minimax.specs.Minimax.{value, negated};
+ghost use Rattle.minimax.specs.Entries.{IsCutoff};
+ghost use Rattle.search_nodes.specs.Threats.{AreSomeThreats};
+ghost use Rattle.search_nodes.specs.Order.{codes_of, todo, IsWithinTree, IsKept, IsKept-prop};
+ghost use Rattle.search_nodes.specs.Visits.{IsKnownWhile, IsKnownWhile-prop, IsCurrent};
+ghost use Rattle.minimax.specs.Window.{code_at};
+ghost use Rattle.minimax.specs.declared.bounds.TheConstants.{SEARCH_DEPTH_MAX, INFINITY, MATE};
+
+use crate::firsts::{Firsts, KILLERS, with_killer};
+use crate::move_picker::MovePicker;
+use crate::threat::Threats;
+use crate::window::threshold;
+use minimax::{Entry, MATE};
+use shogi_core::Move;
+use shogi_eval::{Eval, Node};
+use shogi_moves::has_legal;
+use shogi_replies::Replies;
+
+/// What a node waits for.
+#[derive(Clone, Copy)]
+pub enum Waiting {
+    /// To begin with its next move.
+    Next,
+    /// The answer of the current move.
+    Asked(Move),
+    /// To be left: it is worth this much or more, which is enough.
+    Cut(i32),
+}
+
+/// A node of any depth, and what is known of the moves gone through. The fields lie in memory in
+/// this order: the wide ones first, so that little is lost between them.
+#[derive(Clone, Copy)]
+pub struct Frame {
+    pub node: Node,
+    pub picker: MovePicker,
+    pub replies: Replies,
+    /// Squares to which the other side's king may go, once they were looked for.
+    pub escapes: Option<u128>,
+    /// Captures that the other side may make after most moves, once they were looked for.
+    pub threats: Option<Threats>,
+    pub alpha: i32,
+    pub beta: i32,
+    pub best_value: i32,
+    pub waiting: Waiting,
+    pub best_move: Option<Move>,
+    pub depth: u8,
+    /// Set once a move was gone through and not good enough, so that some move is legal.
+    pub has_move: bool,
+    /// Set once the replies are those of the position.
+    pub has_replies: bool,
+    /// Codes of moves that cut off the last nodes of this place, the last one first.
+    pub killers: [u16; KILLERS],
+    ghost valid: { IsValid node.position },
+    ghost shallow: { depth ≤ SEARCH_DEPTH_MAX },
+    ghost least: { negated INFINITY ≤ℤ alpha },
+    ghost open: { best_value <ℤ beta },
+    ghost most: { beta ≤ℤ INFINITY },
+    ghost known: { IsKnownWhile node.position node.eval depth alpha beta best_value
+        (code_at best_move) (todo node.position picker) waiting } by { IsKnownWhile-prop
+            node.position node.eval depth alpha beta best_value (code_at best_move)
+            (todo node.position picker) waiting },
+    ghost moves: { has_move ≡ true → legal_codes node.position ≢ [] } by { Prim.hlevel props },
+    ghost kept: { IsKept node.position picker } by { IsKept-prop node.position picker },
+    ghost replied: { IsReplies node.position replies.sight replies.spare } by { Prim.hlevel props },
+    ghost escaping: { ForSome escapes (AreEscapes node.position) } by { Prim.hlevel props },
+    ghost threatened: { AreSomeThreats node.position node.eval threats } by { Prim.hlevel props },
+}
+
+/// Whether some move is legal.
+fn can_move(node: &Node) -> bool
+    ensures { IsTrue result ↔ (legal_codes node.now.position ≢ []) }
+{
+    has_legal(node.as_position())
+}
+
+/// The value at depth 0.
+#[tactic(auto, using(minimax::proofs::MinimaxLaws::leaves))]
+pub fn leaf(node: &Node) -> i32
+    ensures value { result ≡ value node.now.position node.now.eval 0 }
+    ensures least { negated MATE ≤ℤ result }
+    ensures most { result ≤ℤ pos POINTS_MAX }
+{
+    if can_move(node) { node.score() } else { -MATE }
+}
+
+impl Frame {
+    ghost use Rattle.search_nodes.specs.Frames.{firsts_at, worth_of, threshold_of, FailsLow, IsTrueOf, IsTrueAfter, IsCutoffAfter, IsToBeLeft};
+    ghost use Rattle.search_nodes.specs.Changes.{IsAt, EndsVisit, AsksFor, KeepsAsked};
+    ghost use Rattle.search_nodes.specs.Visits.{IsAsked};
+
+    /// The moves that a node of the depth visits first that is to be entered in this place: those that
+    /// are given, the hash move, the best move of the node that stands here now or the move that cut
+    /// it off, and from depth 3 on the killers: what refutes one move of a position often refutes the
+    /// next one.
+    pub fn firsts(&self, given: Firsts, hash_move: Option<Move>, depth: u8) -> Firsts
+        ensures { codes_of result ≡ firsts_at (codes_of given) hash_move self.now depth }
+    {
+        let mut firsts = given;
+        firsts.add_some(hash_move);
+        firsts.add_some(self.best_move);
+        if depth > 2 {
+            firsts.add_each(&self.killers);
+        }
+        firsts
+    }
+
+    /// The frame becomes that of a node that is entered, with the moves to visit first. The killers
+    /// of its place stay.
+    pub fn enter(&mut self, node: &Node, depth: u8, alpha: i32, beta: i32, firsts: Firsts)
+        requires shallow { depth ≤ SEARCH_DEPTH_MAX }
+        requires least { negated INFINITY ≤ℤ alpha }
+        requires open { alpha <ℤ beta }
+        requires most { beta ≤ℤ INFINITY }
+        ensures place { IsAt node.now.position node.now.eval depth alpha beta self.new }
+        ensures counted { IsWithinTree node.now.position depth self.new.picker }
+        ensures waiting { self.new.waiting ≡ Waiting.Next }
+        ensures firsts { 0 < depth → self.new.picker ≡ MovePicker.First firsts 0 }
+    {
+        node.as_position().validity();
+        self.node = *node;
+        self.depth = depth;
+        self.alpha = alpha;
+        self.beta = beta;
+        self.best_value = alpha;
+        self.best_move = None;
+        self.has_move = false;
+        self.picker = MovePicker::new(depth, firsts);
+        self.waiting = Waiting::Next;
+        self.replies = Replies::unknown(node.as_position());
+        self.has_replies = false;
+        self.escapes = None;
+        self.threats = None;
+    }
+
+    /// Whether some move is legal, which the position is asked only where it is not known yet.
+    fn can_move(&self) -> bool
+        ensures { IsTrue result ↔ (legal_codes self.now.node.position ≢ []) }
+    {
+        self.has_move || can_move(&self.node)
+    }
+
+    /// What is known of the node once it is cut off or all its moves are gone through.
+    pub fn to_entry(&self) -> Entry
+        requires over { IsToBeLeft self.now }
+        ensures truth { IsTrueOf self.now result }
+        ensures cutoff { IsCutoff self.now.alpha self.now.beta result }
+    {
+        if let Waiting::Cut(v) = self.waiting {
+            return Entry::AtLeast(v);
+        }
+        if self.depth == 0 {
+            return Entry::Exact(leaf(&self.node), None);
+        }
+        match self.best_move {
+            Some(m) => {
+                m.validity();
+                Entry::Exact(self.best_value, self.best_move)
+            }
+            None => {
+                if self.can_move() {
+                    Entry::AtMost(self.best_value)
+                } else {
+                    Entry::Exact(-MATE - self.depth as i32, None)
+                }
+            }
+        }
+    }
+
+    /// Asks for the answer of the next move, where there is one.
+    #[inline(always)]
+    pub(crate) fn pick_move(&mut self) -> Option<Move>
+        requires next { self.old.waiting ≡ Waiting.Next }
+        ensures { AsksFor result self.old self.new }
+    {
+        match self.picker.next(self.node.as_position()) {
+            Some(m) => {
+                let current = m;
+                self.waiting = Waiting::Asked(m);
+                Some(current)
+            }
+            None => None,
+        }
+    }
+
+    /// What the current move has to be worth more than.
+    pub(crate) fn threshold(&self, current: &Move) -> i32
+        requires current { IsCurrent self.now.waiting current.now }
+        ensures threshold { result ≡ threshold_of self.now current.now }
+        ensures least { negated INFINITY ≤ℤ result }
+        ensures open { result <ℤ self.now.beta }
+    {
+        threshold(self.best_value, &self.best_move, current)
+    }
+
+    /// The window of the child after the current move.
+    pub fn window(&self, current: &Move) -> (i32, i32)
+        requires current { IsCurrent self.now.waiting current.now }
+        ensures alpha { result.0 ≡ negated self.now.beta }
+        ensures beta { result.1 ≡ negated (threshold_of self.now current.now) }
+        ensures least { negated INFINITY ≤ℤ result.0 }
+        ensures open { result.0 <ℤ result.1 }
+        ensures most { result.1 ≤ℤ INFINITY }
+    {
+        let threshold = self.threshold(current);
+        (-self.beta, -threshold)
+    }
+
+    /// Has its window end there while it waits for the answer of a move.
+    pub fn end_at(&mut self, beta: i32)
+        requires asked { IsAsked self.old.waiting }
+        requires open { self.old.best_value <ℤ beta }
+        requires most { beta ≤ℤ INFINITY }
+        ensures kept { KeepsAsked self.old self.new }
+        ensures beta { self.new.beta ≡ beta }
+    {
+        self.beta = beta;
+    }
+
+    /// Whether this worth makes the current move the best one.
+    fn is_better(&self, current: &Move, worth: i32) -> bool
+        requires current { IsCurrent self.now.waiting current.now }
+        ensures above { result ≡ true → threshold_of self.now current.now <ℤ worth }
+        ensures below { result ≡ false → worth ≤ℤ threshold_of self.now current.now }
+    {
+        worth > self.threshold(current)
+    }
+
+    /// Takes in what is known of the current move.
+    #[inline(always)]
+    pub fn back_up(&mut self, current: &Move, entry: &Entry)
+        requires current { IsCurrent self.old.waiting current.now }
+        requires truth { IsTrueAfter self.old current.now entry.now }
+        requires cutoff { IsCutoffAfter self.old current.now entry.now }
+        ensures { EndsVisit self.old self.new }
+    {
+        match entry {
+            Entry::Exact(v, _) => {
+                let worth = -*v;
+                if worth >= self.beta {
+                    self.cut_off(current, worth);
+                } else if self.is_better(current, worth) {
+                    self.raise_alpha(current, worth);
+                } else {
+                    self.fail_low();
+                }
+            }
+            Entry::AtLeast(_) => self.fail_low(),
+            Entry::AtMost(v) => self.cut_off(current, -*v),
+        }
+    }
+
+    /// The current move is worth this much or more, which is enough. It is kept, and no longer the
+    /// best one before it.
+    fn cut_off(&mut self, current: &Move, value: i32)
+        requires current { IsCurrent self.old.waiting current.now }
+        requires worth { value ≤ℤ worth_of self.old current.now }
+        requires beta { self.old.beta ≤ℤ value }
+        ensures { EndsVisit self.old self.new }
+    {
+        if self.depth > 2 {
+            self.killers = with_killer(&self.killers, current.code());
+        }
+        self.best_move = Some(*current);
+        self.waiting = Waiting::Cut(value);
+    }
+
+    /// The current move is not worth enough to become the best one.
+    pub(crate) fn fail_low(&mut self)
+        requires { FailsLow self.old }
+        ensures ended { EndsVisit self.old self.new }
+        ensures next { self.new.waiting ≡ Waiting.Next }
+    {
+        self.has_move = true;
+        self.waiting = Waiting::Next;
+    }
+
+    /// Passes the current move, which is the best so far.
+    fn raise_alpha(&mut self, current: &Move, value: i32)
+        requires current { IsCurrent self.old.waiting current.now }
+        requires is { worth_of self.old current.now ≡ value }
+        requires above { threshold_of self.old current.now <ℤ value }
+        requires open { value <ℤ self.old.beta }
+        ensures { EndsVisit self.old self.new }
+    {
+        self.best_value = value;
+        self.best_move = Some(*current);
+        self.waiting = Waiting::Next;
+    }
+
+    /// Whether the next move is to be begun with.
+    pub fn is_next(&self) -> bool
+        ensures { IsTrue result ↔ (self.now.waiting ≡ Waiting.Next) }
+    {
+        matches!(self.waiting, Waiting::Next)
+    }
+}
+
+impl Default for Frame {
+    /// A node at the opening position, which stands where no node is entered yet. It is made once
+    /// and copied, which is less than to write out its fields for each frame.
+    #[inline(never)]
+    fn default() -> Self {
+        let node = Node::start(Eval::Plain);
+        node.as_position().validity();
+        Frame {
+            node,
+            depth: 0,
+            alpha: -1,
+            beta: 1,
+            best_value: -1,
+            best_move: None,
+            has_move: false,
+            picker: MovePicker::Done,
+            waiting: Waiting::Next,
+            replies: Replies::unknown(node.as_position()),
+            has_replies: false,
+            escapes: None,
+            threats: None,
+            killers: [0; KILLERS],
+        }
+    }
+}

@@ -1,0 +1,309 @@
+//! The move picker: in which order a node's moves are visited.
+
+ghost use Rattle.std.specs.Prelude.{◌≡◌, ◌<◌, Some, None, IfSome, true, false};
+ghost use Rattle.shogi_core.specs.Attack.{in_check};
+ghost use Rattle.shogi_core.specs.Codes.{code_of};
+ghost use Rattle.shogi_moves.specs.Escapes.{AreEscapes};
+ghost use Rattle.shogi_replies.specs.Replies.{IsReplies};
+ghost use Rattle.shogi_moves.specs.Sweeps.{IsBoardSweep, IsDropSweep};
+ghost use Rattle.search_nodes.specs.Order.{codes_of, drops_to_come, others_to_come, quiets_to_come, todo, todo_after, todo_from, IsAtDrops, IsAtQuiets, IsKept, PassesDrops, PassesQuiets, TakesBoardPick, TakesDropPick, TakesFirst, TakesFromSweep};
+
+use crate::firsts::Firsts;
+use shogi_core::{Kind, Move, Position};
+use shogi_moves::{BoardSweep, DropSweep, KnownPosition, check_info_of};
+use shogi_replies::{Replies, Row};
+
+/// How far the visits of a node's moves have come: the first moves from a place on, and what is
+/// still to come of the captures, of the quiet board moves and of the drops.
+#[derive(Clone, Copy, Debug)]
+pub enum MovePicker {
+    First(Firsts, usize),
+    Captures(Firsts, BoardSweep),
+    Quiets(Firsts, BoardSweep),
+    Drops(Firsts, DropSweep),
+    Done,
+}
+
+/// The next pick of a sweep over the board.
+#[inline(always)]
+#[tactic(auto, using(crate::proofs::MatchingOthers::matching_others))]
+fn next_board(p: &Position, firsts: &Firsts, capture: bool, sweep: &mut BoardSweep) -> Option<Move>
+    requires kept { IsBoardSweep p.now capture sweep.old }
+    ensures kept { IsBoardSweep p.now capture sweep.new }
+    ensures next { TakesBoardPick p.now (codes_of firsts.now) capture result sweep.old sweep.new }
+{
+    'moves: while let Some(m) = sweep.next(p, capture) {
+        if !firsts.has_move(&m) {
+            return Some(m);
+        }
+    }
+    None
+}
+
+/// The next pick of a sweep over the drops.
+#[inline(always)]
+#[tactic(auto, using(crate::proofs::MatchingOthers::matching_others))]
+fn next_drop(p: &Position, firsts: &Firsts, sweep: &mut DropSweep) -> Option<Move>
+    requires kept { IsDropSweep p.now sweep.old }
+    ensures kept { IsDropSweep p.now sweep.new }
+    ensures next { TakesDropPick p.now (codes_of firsts.now) result sweep.old sweep.new }
+{
+    'moves: while let Some(m) = sweep.next(p) {
+        if !firsts.has_move(&m) {
+            return Some(m);
+        }
+    }
+    None
+}
+
+impl MovePicker {
+    /// The moves that a search at a depth goes through, these first.
+    pub(crate) fn new(depth: u8, firsts: Firsts) -> MovePicker
+        ensures leaf { depth ≡ 0 → result ≡ MovePicker.Done }
+        ensures inner { 0 < depth → result ≡ MovePicker.First firsts 0 }
+    {
+        if depth == 0 {
+            return MovePicker::Done;
+        }
+        MovePicker::First(firsts, 0)
+    }
+
+    /// Begins with the drops.
+    fn enter_drops(&mut self, known: &KnownPosition<'_>, firsts: Firsts) -> Option<Move>
+        ensures next { TakesFirst known.now.position.now result
+            (drops_to_come known.now.position.now (codes_of firsts)) self.new }
+        ensures kept { IsKept known.now.position.now self.new }
+    {
+        let p = known.position;
+        let mut sweep = DropSweep::new(known);
+        match next_drop(p, &firsts, &mut sweep) {
+            Some(m) => {
+                *self = MovePicker::Drops(firsts, sweep);
+                Some(m)
+            }
+            None => {
+                *self = MovePicker::Done;
+                None
+            }
+        }
+    }
+
+    /// Begins with the quiet moves.
+    fn enter_quiets(&mut self, known: &KnownPosition<'_>, firsts: Firsts) -> Option<Move>
+        ensures next { TakesFirst known.now.position.now result
+            (quiets_to_come known.now.position.now (codes_of firsts)) self.new }
+        ensures kept { IsKept known.now.position.now self.new }
+    {
+        let p = known.position;
+        let mut sweep = BoardSweep::new(known, false);
+        match next_board(p, &firsts, false, &mut sweep) {
+            Some(m) => {
+                *self = MovePicker::Quiets(firsts, sweep);
+                Some(m)
+            }
+            None => self.enter_drops(known, firsts),
+        }
+    }
+
+    /// Begins with the captures.
+    #[tactic(auto, using(crate::proofs::MatchingOthers::no_capture_left))]
+    fn enter_captures(&mut self, p: &Position, firsts: Firsts) -> Option<Move>
+        ensures next { TakesFirst p.now result (others_to_come p.now (codes_of firsts)) self.new }
+        ensures kept { IsKept p.now self.new }
+    {
+        let known = check_info_of(p).at(p);
+        let mut sweep = BoardSweep::new(&known, true);
+        match next_board(p, &firsts, true, &mut sweep) {
+            Some(m) => {
+                *self = MovePicker::Captures(firsts, sweep);
+                Some(m)
+            }
+            None => self.enter_quiets(&known, firsts),
+        }
+    }
+
+    /// The next of the first moves, from a place on, or else the first of the others.
+    fn next_first(&mut self, p: &Position, firsts: Firsts, passed: usize) -> Option<Move>
+        ensures next { TakesFirst p.now result (todo_from p.now firsts passed) self.new }
+        ensures kept { IsKept p.now self.new }
+    {
+        let Some((m, n)) = firsts.next_legal(p, passed) else {
+            return self.enter_captures(p, firsts);
+        };
+        *self = MovePicker::First(firsts, n);
+        Some(m)
+    }
+
+    /// The next move of the sweep that is under way, which moves on where it stands.
+    #[inline(always)]
+    #[tactic(auto, using(crate::proofs::MatchingOthers::no_capture_left))]
+    fn next_in_sweep(&mut self, p: &Position) -> Option<Move>
+        requires kept { IsKept p.now self.old }
+        ensures next { TakesFromSweep p.now result self.old self.new }
+        ensures kept { IsKept p.now self.new }
+    {
+        if let MovePicker::Drops(firsts, sweep) = self {
+            return next_drop(p, firsts, sweep);
+        }
+        if let MovePicker::Captures(firsts, sweep) = self {
+            return next_board(p, firsts, true, sweep);
+        }
+        if let MovePicker::Quiets(firsts, sweep) = self {
+            return next_board(p, firsts, false, sweep);
+        }
+        None
+    }
+
+    /// Whether the moves of a sweep over the board are under way, and it is known with it that the
+    /// side to move is in check.
+    pub(crate) fn is_checked(&self, p: &Position) -> bool
+        requires kept { IsKept p.now self.now }
+        ensures { result ≡ true → in_check p.now.cells p.now.side ≡ true }
+    {
+        let _ = p;
+        match self {
+            MovePicker::Captures(_, sweep) | MovePicker::Quiets(_, sweep) => sweep.info.checked,
+            _ => false,
+        }
+    }
+
+    /// Turns to the quiet moves where the captures are under way and none is left, before the first
+    /// of them is looked for.
+    #[tactic(auto, using(crate::proofs::MatchingOthers::matching_others, crate::proofs::MatchingOthers::no_capture_left))]
+    pub(crate) fn turn_to_quiets(&mut self, p: &Position)
+        requires kept { IsKept p.now self.old }
+        ensures kept { IsKept p.now self.new }
+        ensures same { todo p.now self.new ≡ todo p.now self.old }
+    {
+        let MovePicker::Captures(firsts, sweep) = self else {
+            return;
+        };
+        if sweep.fill(p, true) {
+            return;
+        }
+        let (firsts, known) = (*firsts, sweep.info.at(p));
+        *self = MovePicker::Quiets(firsts, BoardSweep::new(&known, false));
+    }
+
+    /// Turns to the drops in the same way, where the quiet moves on the board are under way.
+    #[tactic(auto, using(crate::proofs::MatchingOthers::matching_others))]
+    pub(crate) fn turn_to_drops(&mut self, p: &Position)
+        requires kept { IsKept p.now self.old }
+        ensures kept { IsKept p.now self.new }
+        ensures same { todo p.now self.new ≡ todo p.now self.old }
+    {
+        let MovePicker::Quiets(firsts, sweep) = self else {
+            return;
+        };
+        if sweep.fill(p, false) {
+            return;
+        }
+        let (firsts, known) = (*firsts, sweep.info.at(p));
+        *self = MovePicker::Drops(firsts, DropSweep::new(&known));
+    }
+
+    /// Turns to the next kind of drops where those of a kind are under way and none is left;
+    /// whether there is one.
+    #[tactic(auto, using(crate::proofs::MatchingOthers::matching_others))]
+    pub(crate) fn turn_to_kind(&mut self, p: &Position) -> bool
+        requires kept { IsKept p.now self.old }
+        ensures kept { IsKept p.now self.new }
+        ensures same { todo p.now self.new ≡ todo p.now self.old }
+    {
+        let MovePicker::Drops(_, sweep) = self else {
+            return false;
+        };
+        if sweep.destinations != 0 {
+            return false;
+        }
+        sweep.fill(p)
+    }
+
+    /// The code to continue from where the moves on the board that take nothing are under way.
+    pub(crate) fn quiets(&self) -> Option<u16>
+        ensures { IfSome result (IsAtQuiets self.now) }
+    {
+        match self {
+            MovePicker::Quiets(_, sweep) => Some(sweep.code),
+            _ => None,
+        }
+    }
+
+    /// Passes the next moves to visit, as long as they are on the board, take nothing, are of the row,
+    /// and the other side surely has a legal move after them.
+    #[tactic(auto, using(crate::proofs::MatchingOthers::passing_others))]
+    pub(crate) fn pass_quiets(&mut self, p: &Position, row: &Row, replies: &Replies)
+        requires kept { IsKept p.now self.old }
+        requires replies { IsReplies p.now replies.now.sight replies.now.spare }
+        requires escapes { AreEscapes p.now row.now.escapes }
+        ensures kept { IsKept p.now self.new }
+        ensures passed { PassesQuiets p.now row.now self.old self.new }
+    {
+        if let MovePicker::Quiets(_, sweep) = self {
+            replies.pass_moves(p, false, row, sweep);
+        }
+    }
+
+    /// The kind whose drops are under way, and the code to continue from.
+    pub(crate) fn drops(&self) -> Option<(Kind, u16)>
+        ensures { IfSome result (λ drops. IsAtDrops self.now drops.0 drops.1) }
+    {
+        match self {
+            MovePicker::Drops(_, sweep) => Some((sweep.kind, sweep.code)),
+            _ => None,
+        }
+    }
+
+    /// Passes the next moves to visit, as long as they are drops of the kind that is under way on these
+    /// squares and the other side surely has a legal move after them.
+    #[tactic(auto, using(crate::proofs::MatchingOthers::passing_others))]
+    pub(crate) fn pass_drops(
+        &mut self,
+        p: &Position,
+        squares: u128,
+        escapes: u128,
+        replies: &Replies,
+    )
+        requires kept { IsKept p.now self.old }
+        requires replies { IsReplies p.now replies.now.sight replies.now.spare }
+        requires escapes { AreEscapes p.now escapes }
+        ensures kept { IsKept p.now self.new }
+        ensures passed { PassesDrops p.now squares escapes self.old self.new }
+    {
+        if let MovePicker::Drops(_, sweep) = self {
+            replies.pass_drops(p, squares, escapes, sweep);
+        }
+    }
+
+    /// The first move after the sweep that is under way.
+    #[inline(never)]
+    fn next_after_sweep(&mut self, p: &Position) -> Option<Move>
+        requires kept { IsKept p.now self.old }
+        ensures next { TakesFirst p.now result (todo_after p.now self.old) self.new }
+        ensures kept { IsKept p.now self.new }
+    {
+        match *self {
+            MovePicker::First(firsts, passed) => self.next_first(p, firsts, passed),
+            MovePicker::Captures(firsts, sweep) => self.enter_quiets(&sweep.info.at(p), firsts),
+            MovePicker::Quiets(firsts, sweep) => self.enter_drops(&sweep.info.at(p), firsts),
+            MovePicker::Drops(_, _) | MovePicker::Done => {
+                *self = MovePicker::Done;
+                None
+            }
+        }
+    }
+
+    /// The next move to visit.
+    #[inline(always)]
+    pub(crate) fn next(&mut self, p: &Position) -> Option<Move>
+        requires kept { IsKept p.now self.old }
+        ensures next { TakesFirst p.now result (todo p.now self.old) self.new }
+        ensures kept { IsKept p.now self.new }
+    {
+        let found = self.next_in_sweep(p);
+        if found.is_some() {
+            return found;
+        }
+        self.next_after_sweep(p)
+    }
+}

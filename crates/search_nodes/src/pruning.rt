@@ -1,0 +1,534 @@
+//! What is pruned at a node of depth 2: moves that surely are not worth enough.
+
+ghost use Rattle.std.specs.Prelude.{◌≡◌, ◌≤ℤ◌, ◌-ℤ◌, pos, true, false};
+ghost use Rattle.shogi_moves.specs.Escapes.{AreEscapes};
+ghost use Rattle.search_nodes.specs.Frames.{PromotesWithin};
+
+use crate::frame::{Frame, Waiting};
+use crate::move_picker::MovePicker;
+use crate::threat::{Threat, Threats, slides, threats_of};
+use crate::window::threshold_at;
+use shogi_core::bits::{ALL_SQUARES, without};
+use shogi_core::{Kind, Move};
+use shogi_eval::{PROMOTION_GAIN_MAX, loss_of_drops, taken_gain};
+use shogi_moves::dropped;
+use shogi_replies::{ALL_ROLES, Replies, Row, escape_squares, king_takes, leaves_escape, put_by};
+
+// Some roles, as masks of their places in the order in which they are declared.
+const ALL_BUT_PAWN: u32 = 16381;
+
+const SILVER_AND_KNIGHT: u32 = 24;
+
+const SILVER: u32 = 16;
+
+/// Roles whose promotion gains no more than this, as such a mask; all roles where none gains more.
+#[inline(always)]
+#[tactic(auto, using(crate::proofs::Passed::promoting))]
+fn roles_within(most: u32) -> u32
+    ensures { PromotesWithin most result }
+{
+    if most >= PROMOTION_GAIN_MAX {
+        return ALL_ROLES;
+    }
+    if most >= 300 {
+        return ALL_BUT_PAWN;
+    }
+    if most >= 200 {
+        return SILVER_AND_KNIGHT;
+    }
+    if most >= 100 {
+        return SILVER;
+    }
+    0
+}
+
+impl Frame {
+    ghost use Rattle.search_nodes.specs.Frames.{DropsAreLost, FallsShort, HasReply, IsLostIfTaken, IsLostWhere, IsWorthAtMost, MovesLeave, RepliesLoseAtMost, threshold_of};
+    ghost use Rattle.search_nodes.specs.Order.{IsAtDrops, IsAtQuiets};
+    ghost use Rattle.search_nodes.specs.Changes.{IsSame, KeepsMoves, AsksFor, PrunesRow};
+    ghost use Rattle.shogi_replies.specs.Threats.{IsTaken};
+    ghost use Rattle.search_nodes.specs.Threats.{AreThreatsIn, IsThreatIn};
+    ghost use Rattle.search_nodes.specs.Visits.{IsCurrent};
+
+    /// Notes what shows which moves surely have a reply, where it is not noted yet.
+    fn look_ahead(&mut self)
+        ensures { KeepsMoves self.old self.new }
+    {
+        if !self.has_replies {
+            self.replies = Replies::of(self.node.as_position());
+            self.has_replies = true;
+        }
+    }
+
+    /// The squares to which the other side's king may go, which are noted.
+    fn look_for_escapes(&mut self) -> u128
+        ensures escapes { AreEscapes self.old.node.position result }
+        ensures kept { KeepsMoves self.old self.new }
+    {
+        if let Some(squares) = self.escapes {
+            return squares;
+        }
+        let squares = escape_squares(self.node.as_position());
+        self.escapes = Some(squares);
+        squares
+    }
+
+    /// The squares to which the other side's king may go, where they were looked for, and else
+    /// none.
+    #[inline(always)]
+    fn known_escapes(&self) -> u128
+        ensures { AreEscapes self.now.node.position result }
+    {
+        match self.escapes {
+            Some(squares) => squares,
+            None => 0,
+        }
+    }
+
+    /// Whether it is certain without making the current move that the other side has a legal move
+    /// after it: one that it has where no check is given, or a step of its king out of that check.
+    fn is_answered(&mut self, current: &Move) -> bool
+        requires current { IsCurrent self.old.waiting current.now }
+        ensures some { result ≡ true → HasReply self.new current.now }
+        ensures kept { KeepsMoves self.old self.new }
+    {
+        self.look_ahead();
+        current.validity();
+        if self.replies.is_certain(self.node.as_position(), current) {
+            return true;
+        }
+        let escapes = self.look_for_escapes();
+        leaves_escape(self.node.as_position(), escapes, current)
+    }
+
+    /// The most that a reply takes from the material of its side: what a drop of the other side may
+    /// lose.
+    #[inline(always)]
+    fn loss_after(&self) -> i32
+        ensures loss { RepliesLoseAtMost self.now result }
+        ensures least { pos 0 ≤ℤ result }
+        ensures most { result ≤ℤ pos 100 }
+    {
+        let p = self.node.as_position();
+        loss_of_drops(p, p.side().opponent(), self.node.eval())
+    }
+
+    /// What the current move of a node of depth 2 is worth at most, where the other side has a legal
+    /// move after it: that move, whichever it is, leaves it its material, or what a drop of it loses
+    /// less.
+    #[inline(always)]
+    fn most_after(&self, current: &Move) -> i32
+        requires current { IsCurrent self.now.waiting current.now }
+        requires last { self.now.depth ≡ 2 }
+        ensures most { HasReply self.now current.now → IsWorthAtMost self.now current.now result }
+    {
+        current.validity();
+        self.loss_after() - self.node.score_after(current)
+    }
+
+    /// Looks for threats of the other side, once a move was gone through and not good enough or where
+    /// the material alone is not enough; before that none may be needed.
+    fn look_for_threats(&mut self)
+        ensures { KeepsMoves self.old self.new }
+    {
+        if self.threats.is_none() && (self.has_move || self.node.score() < self.beta) {
+            self.threats = Some(threats_of(self.node.as_position(), self.node.eval()));
+        }
+    }
+
+    /// The threats, and with them what shows which moves surely have a reply; none of them where they
+    /// are not looked for.
+    fn known_threats(&mut self) -> Threats
+        ensures threats { AreThreatsIn self.old.node.position self.old.node.eval result }
+        ensures kept { KeepsMoves self.old self.new }
+    {
+        self.look_for_threats();
+        self.look_ahead();
+        match self.threats {
+            Some(threats) => threats,
+            None => Threats {
+                takes: 0,
+                greatest: None,
+                second: None,
+            },
+        }
+    }
+
+    /// Whether a threat makes the current move of a node of depth 2 not worth enough, if it gives no
+    /// check.
+    #[inline(always)]
+    fn loses(&self, current: &Move) -> bool
+        requires current { IsCurrent self.now.waiting current.now }
+        requires last { self.now.depth ≡ 2 }
+        ensures { result ≡ true → IsLostWhere self.now current.now }
+    {
+        let Some(threats) = &self.threats else {
+            return false;
+        };
+        current.validity();
+        let p = self.node.as_position();
+        let gain = threats.gain_after(p, self.node.eval(), current);
+        if gain == 0 {
+            return false;
+        }
+        0 - self.node.score_after(current) - gain as i32 <= self.threshold(current)
+    }
+
+    /// Whether the other side surely takes what the current move puts on its square, once its
+    /// attackers were looked for: one that nothing pins does, or its king.
+    fn is_retaken(&self, current: &Move) -> bool
+        requires current { IsCurrent self.now.waiting current.now }
+        ensures { result ≡ true → ∥ IsTaken self.now.node.position current.now ∥₁ }
+    {
+        let Some(threats) = &self.threats else {
+            return false;
+        };
+        current.validity();
+        let p = self.node.as_position();
+        if threats.has_retake(p, &self.replies, current) {
+            return true;
+        }
+        king_takes(p, current)
+    }
+
+    /// Whether it is certain without making the current move that the other side has a legal move
+    /// after it: it answers, or takes what the move puts on its square.
+    fn has_reply(&mut self, current: &Move) -> bool
+        requires current { IsCurrent self.old.waiting current.now }
+        ensures some { result ≡ true → HasReply self.new current.now }
+        ensures kept { KeepsMoves self.old self.new }
+    {
+        if self.is_answered(current) {
+            return true;
+        }
+        self.look_for_threats();
+        self.is_retaken(current)
+    }
+
+    /// Whether the current move of a node of depth 2 is not worth enough, if the other side takes what
+    /// it puts on its square.
+    fn loses_piece(&self, current: &Move) -> bool
+        requires current { IsCurrent self.now.waiting current.now }
+        requires last { self.now.depth ≡ 2 }
+        ensures { result ≡ true → IsLostIfTaken self.now current.now }
+    {
+        current.validity();
+        let put = put_by(self.node.as_position(), current);
+        let gain = taken_gain(self.node.eval(), put);
+        0 - self.node.score_after(current) - gain as i32 <= self.threshold(current)
+    }
+
+    /// Whether it surely is not, since what it puts on its square is taken.
+    fn is_lost_piece(&self, current: &Move) -> bool
+        requires current { IsCurrent self.now.waiting current.now }
+        requires last { self.now.depth ≡ 2 }
+        ensures { result ≡ true
+            → IsWorthAtMost self.now current.now (threshold_of self.now current.now) }
+    {
+        self.loses_piece(current) && self.is_retaken(current)
+    }
+
+    /// Passes the current move of a node of depth 2, where it is certain without making it that it
+    /// is not worth enough since it is taken or a threat stands after it, and returns whether it did.
+    fn prune_under_threat(&mut self, current: &Move) -> bool
+        requires asked { self.old.waiting ≡ Waiting.Asked current.now }
+        requires last { self.old.depth ≡ 2 }
+        ensures next { result ≡ true → self.new.waiting ≡ Waiting.Next }
+        ensures asked { result ≡ false → self.new.waiting ≡ self.old.waiting }
+        ensures picker { self.new.picker ≡ self.old.picker }
+        ensures same { IsSame self.old self.new }
+    {
+        self.look_for_threats();
+        if self.threats.is_none() {
+            return false;
+        }
+        self.look_ahead();
+        if self.is_lost_piece(current) {
+            self.fail_low();
+            return true;
+        }
+        if !self.loses(current) {
+            return false;
+        }
+        current.validity();
+        let certain = self.replies.is_certain(self.node.as_position(), current);
+        if !certain {
+            return false;
+        }
+        self.fail_low();
+        true
+    }
+
+    /// Passes the current move of a node of depth 2, where it is certain without making it that it
+    /// is not worth enough, and returns whether it did.
+    #[inline(always)]
+    fn prune(&mut self, current: &Move) -> bool
+        requires asked { self.old.waiting ≡ Waiting.Asked current.now }
+        requires last { self.old.depth ≡ 2 }
+        ensures next { result ≡ true → self.new.waiting ≡ Waiting.Next }
+        ensures asked { result ≡ false → self.new.waiting ≡ self.old.waiting }
+        ensures picker { self.new.picker ≡ self.old.picker }
+        ensures same { IsSame self.old self.new }
+    {
+        if self.most_after(current) > self.threshold(current) {
+            return self.prune_under_threat(current);
+        }
+        if !self.has_reply(current) {
+            return false;
+        }
+        self.fail_low();
+        true
+    }
+
+    /// Passes the next moves of a node of depth 2 on the board that take nothing, of the pieces to the
+    /// squares, while it is certain without making them that they leave the other side its material
+    /// less this, where no such move is worth enough; those that promote only where no promotion is.
+    /// Whether others are not.
+    fn prune_row(
+        &mut self,
+        code: u16,
+        loss: i32,
+        pieces: u128,
+        squares: u128,
+        escapes: u128,
+    ) -> bool
+        requires next { self.old.waiting ≡ Waiting.Next }
+        requires last { self.old.depth ≡ 2 }
+        requires at { IsAtQuiets self.old.picker code }
+        requires escapes { AreEscapes self.old.node.position escapes }
+        requires leave { MovesLeave self.old loss pieces squares escapes }
+        requires least { (pos 0 -ℤ pos 4000) ≤ℤ loss }
+        requires most { loss ≤ℤ pos 100 }
+        ensures pruned { PrunesRow self.old self.new }
+        ensures same { result ≡ false → KeepsMoves self.old self.new }
+    {
+        let threshold = threshold_at(self.best_value, &self.best_move, code);
+        let room = threshold - loss - self.node.score();
+        if room < 0 {
+            return false;
+        }
+        let promoting = roles_within(room as u32);
+        let row = Row {
+            pieces,
+            squares,
+            promoting,
+            escapes,
+        };
+        self.picker
+            .pass_quiets(self.node.as_position(), &row, &self.replies);
+        true
+    }
+
+    /// Passes the next moves on the board that take nothing, while it is certain without making them
+    /// that the threat stands, where that makes no such move worth enough.
+    fn prune_spared(&mut self, code: u16, threat: &Threat)
+        requires next { self.old.waiting ≡ Waiting.Next }
+        requires last { self.old.depth ≡ 2 }
+        requires at { IsAtQuiets self.old.picker code }
+        requires threat { IsThreatIn self.old.node.position self.old.node.eval threat.now }
+        ensures { PrunesRow self.old self.new }
+    {
+        threat.target.validity();
+        let pieces = without(ALL_SQUARES, threat.target.index());
+        let aside = threat.squares_aside(true);
+        self.prune_row(code, 0 - threat.gain as i32, pieces, aside, 0);
+    }
+
+    /// Passes the next moves on the board that take nothing, while it is certain without making them
+    /// that the other side has a legal move, where no such move is worth enough, or else that the
+    /// greatest threat stands.
+    fn prune_quiets(&mut self)
+        requires next { self.old.waiting ≡ Waiting.Next }
+        requires last { self.old.depth ≡ 2 }
+        ensures { PrunesRow self.old self.new }
+    {
+        let Some(code) = self.picker.quiets() else {
+            return;
+        };
+        let (loss, escapes) = (self.loss_after(), self.known_escapes());
+        if self.prune_row(code, loss, ALL_SQUARES, ALL_SQUARES, escapes) {
+            return;
+        }
+        let threats = self.known_threats();
+        if let Some(threat) = &threats.greatest {
+            self.prune_spared(code, threat);
+        }
+    }
+
+    /// Whether a drop of the kind is not worth enough that leaves the other side its material less
+    /// this.
+    #[inline(always)]
+    fn falls_short(&self, kind: Kind, code: u16, loss: i32) -> bool
+        requires next { self.now.waiting ≡ Waiting.Next }
+        requires last { self.now.depth ≡ 2 }
+        requires least { (pos 0 -ℤ pos 4000) ≤ℤ loss }
+        requires most { loss ≤ℤ pos 100 }
+        ensures { result ≡ true → FallsShort self.now kind code loss }
+    {
+        let threshold = threshold_at(self.best_value, &self.best_move, code);
+        self.node.score_after_drop(kind) >= loss - threshold
+    }
+
+    /// Squares on which a drop of the kind that gives no check is not worth enough, since it is taken
+    /// there.
+    #[inline(always)]
+    fn taken_squares(&self, threats: &Threats, kind: Kind, code: u16) -> u128
+        requires next { self.now.waiting ≡ Waiting.Next }
+        requires last { self.now.depth ≡ 2 }
+        requires threats { AreThreatsIn self.now.node.position self.now.node.eval threats.now }
+        ensures { DropsAreLost self.now kind result 0 code }
+    {
+        let put = dropped(self.node.as_position().side(), kind);
+        let gain = taken_gain(self.node.eval(), put);
+        if self.falls_short(kind, code, 0 - gain as i32) {
+            return threats.takes;
+        }
+        0
+    }
+
+    /// Squares on which it is not, since the threat stands.
+    #[inline(always)]
+    fn spared_squares(&self, threat: &Threat, kind: Kind, code: u16) -> u128
+        requires next { self.now.waiting ≡ Waiting.Next }
+        requires last { self.now.depth ≡ 2 }
+        requires threat { IsThreatIn self.now.node.position self.now.node.eval threat.now }
+        ensures { DropsAreLost self.now kind result 0 code }
+    {
+        if self.falls_short(kind, code, 0 - threat.gain as i32) {
+            let put = dropped(self.node.as_position().side(), kind);
+            return threat.squares_aside(slides(put));
+        }
+        0
+    }
+
+    /// Squares on which it is not, for either.
+    fn lost_squares(&self, threats: &Threats, kind: Kind, code: u16) -> u128
+        requires next { self.now.waiting ≡ Waiting.Next }
+        requires last { self.now.depth ≡ 2 }
+        requires threats { AreThreatsIn self.now.node.position self.now.node.eval threats.now }
+        ensures { DropsAreLost self.now kind result 0 code }
+    {
+        let taken = self.taken_squares(threats, kind, code);
+        match &threats.greatest {
+            Some(threat) => taken | self.spared_squares(threat, kind, code),
+            None => taken,
+        }
+    }
+
+    /// Passes the next drops of a node of depth 2 of the kind that is under way, on these squares;
+    /// whether none of that kind is left, and those of another one are under way.
+    fn pass_kind(&mut self, kind: Kind, code: u16, squares: u128, escapes: u128) -> bool
+        requires next { self.old.waiting ≡ Waiting.Next }
+        requires at { IsAtDrops self.old.picker kind code }
+        requires escapes { AreEscapes self.old.node.position escapes }
+        requires lost { DropsAreLost self.old kind squares escapes code }
+        ensures { PrunesRow self.old self.new }
+    {
+        let _ = (kind, code);
+        self.picker
+            .pass_drops(self.node.as_position(), squares, escapes, &self.replies);
+        self.picker.turn_to_kind(self.node.as_position())
+    }
+
+    /// Passes the next drops of the kind that is under way, where the other side surely has a legal
+    /// move after them and they are not worth enough, or they are surely lost; whether none of that
+    /// kind is left, and those of another one are under way.
+    fn prune_kind(&mut self) -> bool
+        requires next { self.old.waiting ≡ Waiting.Next }
+        requires last { self.old.depth ≡ 2 }
+        ensures { PrunesRow self.old self.new }
+    {
+        let Some((kind, code)) = self.picker.drops() else {
+            return false;
+        };
+        if self.falls_short(kind, code, self.loss_after()) {
+            let escapes = self.known_escapes();
+            return self.pass_kind(kind, code, ALL_SQUARES, escapes);
+        }
+        let threats = self.known_threats();
+        let squares = self.lost_squares(&threats, kind, code);
+        if squares == 0 {
+            return false;
+        }
+        self.pass_kind(kind, code, squares, 0)
+    }
+
+    /// The same of the drops, kind after kind.
+    fn prune_drops(&mut self)
+        requires next { self.old.waiting ≡ Waiting.Next }
+        requires last { self.old.depth ≡ 2 }
+        ensures { PrunesRow self.old self.new }
+    {
+        'kinds: for _ in 0..7u8 {
+            if !self.prune_kind() {
+                return;
+            }
+        }
+    }
+
+    /// Turns to the quiet moves where no capture is left.
+    fn turn_to_quiets(&mut self)
+        requires next { self.old.waiting ≡ Waiting.Next }
+        ensures { PrunesRow self.old self.new }
+    {
+        self.picker.turn_to_quiets(self.node.as_position());
+    }
+
+    /// Turns to the drops where no quiet move on the board is left.
+    fn turn_to_drops(&mut self)
+        requires next { self.old.waiting ≡ Waiting.Next }
+        ensures { PrunesRow self.old self.new }
+    {
+        self.picker.turn_to_drops(self.node.as_position());
+    }
+
+    /// Passes the next moves of a node of depth 2 as these do, once a move was gone through and not
+    /// good enough; each row before the first of its moves is looked for. In check few of the moves
+    /// of a row are legal, and each of these is looked at by itself.
+    #[inline(always)]
+    fn prune_rows(&mut self)
+        requires next { self.old.waiting ≡ Waiting.Next }
+        requires last { self.old.depth ≡ 2 }
+        ensures { PrunesRow self.old self.new }
+    {
+        if !self.has_move || self.picker.is_checked(self.node.as_position()) {
+            return;
+        }
+        self.turn_to_quiets();
+        if let MovePicker::Captures(_, _) = self.picker {
+            return;
+        }
+        self.prune_quiets();
+        self.turn_to_drops();
+        self.prune_drops();
+    }
+
+    /// The same at depth 2, where the moves that surely are not worth enough are passed.
+    fn worthy_move(&mut self) -> Option<Move>
+        requires next { self.old.waiting ≡ Waiting.Next }
+        requires last { self.old.depth ≡ 2 }
+        ensures { AsksFor result self.old self.new }
+    {
+        self.prune_rows();
+        'moves: while let Some(current) = self.pick_move() {
+            if !self.prune(&current) {
+                return Some(current);
+            }
+            self.prune_rows();
+        }
+        None
+    }
+
+    /// Asks for the answer of the next move, where there is one. At depth 2 the moves that surely are
+    /// not worth enough are passed.
+    #[inline(always)]
+    pub fn next_move(&mut self) -> Option<Move>
+        requires next { self.old.waiting ≡ Waiting.Next }
+        ensures { AsksFor result self.old self.new }
+    {
+        if self.depth == 2 {
+            return self.worthy_move();
+        }
+        self.pick_move()
+    }
+}

@@ -1,0 +1,306 @@
+//! Moves that the other side may make after most moves as well, and that gain something.
+
+ghost use Rattle.std.specs.Prelude.{◌≡◌, ◌≤◌, ◌<◌, ◌^◌, ◌⊎◌, ℕ, Bool, Some, true};
+ghost use Rattle.std.specs.Option.{ForSome};
+ghost use Rattle.shogi_core.specs.Bits.{has_bit};
+ghost use Rattle.shogi_core.specs.Cell.{is_slider};
+ghost use Rattle.shogi_core.specs.Pieces.{opponent_of};
+ghost use Rattle.shogi_core.specs.Position.{Shogi};
+ghost use Rattle.shogi_moves.specs.Legal.{is_legal};
+ghost use Rattle.shogi_eval.specs.declared.eval.Eval.{Eval};
+ghost use Rattle.shogi_replies.specs.Replies.{Aligns, IsReplies};
+ghost use Rattle.shogi_replies.specs.Threats.{IsTaken, IsUnpinnable, IsThreat, end_of};
+ghost use Rattle.shogi_core.specs.Validity.{IsValid};
+ghost use Rattle.search_nodes.specs.Threats.{AddsPrize, AreAttacked, ArePrizesIn, AreSpared, AreThreatsIn, GainsAfter, HoldsPinning, IsPrizeIn, IsThreatIn, IsSparedAt, IsSparedBy, TakesAfter};
+
+use shogi_core::bits::{has, lowest, with, without_lowest};
+use shogi_core::{Move, Piece, Position, Square, aligned_squares};
+use shogi_eval::{Eval, promotion_gain, taken_gain};
+use shogi_replies::{
+    Replies, attacks_of, line_squares, put_by, squares_between, unpinnable_pieces,
+};
+
+/// A move by a piece of the side that is not to move that nothing pins, promoting or not, to a square
+/// without a piece of its side, and what it gains; none where that is 0. Squares are indexes.
+#[derive(Clone, Copy)]
+pub struct Prize {
+    pub gain: u32,
+    pub from: u8,
+    pub target: u8,
+    pub promote: bool,
+}
+
+/// Such a move that gains something, its two squares with those between, and those on which a piece
+/// that slides might come to pin its piece: on lines with it and with its king.
+#[derive(Clone, Copy)]
+pub struct Threat {
+    pub way: u128,
+    pub line: u128,
+    pub gain: u32,
+    pub from: Square,
+    pub target: Square,
+    pub promote: bool,
+}
+
+/// Such a move that gains most, and one that gains most of those to other squares.
+#[derive(Clone, Copy)]
+pub struct Prizes {
+    pub greatest: Prize,
+    pub second: Prize,
+}
+
+/// Squares on which some such piece takes what comes there, and those two moves, where they gain
+/// something.
+#[derive(Clone, Copy)]
+pub struct Threats {
+    pub takes: u128,
+    pub greatest: Option<Threat>,
+    pub second: Option<Threat>,
+}
+
+impl Prizes {
+    /// None.
+    #[inline(always)]
+    fn none() -> Prizes
+        ensures { (p : Shogi) (e : Eval) → ArePrizesIn p e result }
+    {
+        let none = Prize {
+            gain: 0,
+            from: 0,
+            target: 0,
+            promote: false,
+        };
+        Prizes {
+            greatest: none,
+            second: none,
+        }
+    }
+
+    /// These and one more.
+    #[inline(always)]
+    fn with_prize(self, prize: Prize) -> Prizes
+        ensures { AddsPrize self prize result }
+    {
+        let same = prize.target == self.greatest.target;
+        if prize.gain > self.greatest.gain {
+            return Prizes {
+                greatest: prize,
+                second: if same { self.second } else { self.greatest },
+            };
+        }
+        if same || prize.gain <= self.second.gain {
+            return self;
+        }
+        Prizes {
+            greatest: self.greatest,
+            second: prize,
+        }
+    }
+
+    /// These and those of the piece's moves, promoting or not, to these squares.
+    #[inline(always)]
+    fn with_ends(self, p: &Position, e: Eval, from: usize, promote: bool, ends: u128) -> Prizes
+        requires from { from < 81 }
+        requires prizes { ArePrizesIn p.now e self }
+        requires ends { (t : ℕ) → t < 81 → has_bit ends t ≡ true → IsThreat p.now from t promote }
+        requires fits { ends < 2 ^ 81 }
+        ensures { ArePrizesIn p.now e result }
+    {
+        if ends == 0 {
+            return self;
+        }
+        let more = promotion_gain(p.at(Square::of_index(from)), promote);
+        let mut left = ends;
+        let mut prizes = self;
+        'targets: while left != 0 {
+            let target = lowest(left);
+            let prize = Prize {
+                gain: taken_gain(e, p.at(Square::of_index(target))) + more,
+                from: from as u8,
+                target: target as u8,
+                promote,
+            };
+            prizes = prizes.with_prize(prize);
+            left = without_lowest(left, target);
+        }
+        prizes
+    }
+}
+
+/// Those of the lines of its king on which a piece that slides might come to pin what stands on the
+/// square.
+#[inline(always)]
+fn pinning_squares(p: &Position, lines: u128, from: usize) -> u128
+    requires from { from < 81 }
+    requires lines { Aligns p.now.cells (opponent_of p.now.side) 0 lines }
+    ensures { HoldsPinning p.now from result }
+{
+    let _ = p;
+    if has(lines, from) {
+        lines & aligned_squares(from)
+    } else {
+        0
+    }
+}
+
+/// The threat, if it gains something, where those are the lines of the king of its side.
+#[inline(always)]
+fn threat_by(p: &Position, e: Eval, prize: Prize, lines: u128) -> Option<Threat>
+    requires prize { IsPrizeIn p.now e prize }
+    requires lines { Aligns p.now.cells (opponent_of p.now.side) 0 lines }
+    ensures { ForSome result (IsThreatIn p.now e) }
+{
+    let _ = e;
+    if prize.gain == 0 {
+        return None;
+    }
+    let (from, target) = (prize.from as usize, prize.target as usize);
+    Some(Threat {
+        way: with(with(squares_between(from, target), from), target),
+        line: pinning_squares(p, lines, from),
+        gain: prize.gain,
+        from: Square::of_index(from),
+        target: Square::of_index(target),
+        promote: prize.promote,
+    })
+}
+
+/// The threats of the side that is not to move.
+pub(crate) fn threats_of(p: &Position, e: Eval) -> Threats
+    ensures { AreThreatsIn p.now e result }
+{
+    let lines = line_squares(p, p.side().opponent());
+    let board = p.as_board();
+    let own = board.own(p.side());
+    let theirs = board.own(p.side().opponent());
+    let mut left = unpinnable_pieces(p);
+    let mut takes = 0;
+    let mut prizes = Prizes::none();
+    'attackers: while left != 0 {
+        let from = lowest(left);
+        let square = Square::of_index(from);
+        let attacks = attacks_of(p, square, board.targets(square));
+        takes |= attacks.plain;
+        prizes = prizes.with_ends(p, e, from, false, own & attacks.plain);
+        prizes = prizes.with_ends(p, e, from, true, attacks.promoting & !theirs);
+        left = without_lowest(left, from);
+    }
+    Threats {
+        takes,
+        greatest: threat_by(p, e, prizes.greatest, lines),
+        second: threat_by(p, e, prizes.second, lines),
+    }
+}
+
+/// Whether it slides.
+#[inline(always)]
+pub(crate) fn slides(piece: Option<Piece>) -> bool
+    ensures { result ≡ is_slider piece }
+{
+    match piece {
+        Some(piece) => piece.role.is_sliding(),
+        None => false,
+    }
+}
+
+impl Threat {
+    /// The squares on which a move lets the attacker and its way to the target be that puts something
+    /// there that slides, or does not.
+    #[inline(always)]
+    pub(crate) fn squares_aside(&self, sliding: bool) -> u128
+        ensures { AreSpared self.now sliding result }
+    {
+        let line = if sliding { self.line } else { 0 };
+        !(self.way | line)
+    }
+
+    /// Whether a move that puts this on the square lets the attacker and its way to the target be.
+    #[inline(always)]
+    fn is_aside(&self, to: Square, put: Option<Piece>) -> bool
+        ensures { result ≡ true → IsSparedAt self.now put to }
+    {
+        to.validity();
+        has(self.squares_aside(slides(put)), to.index())
+    }
+
+    /// Whether the move, which puts this on its square, lets the attacker, the target and the way
+    /// between them be.
+    #[inline(always)]
+    fn stands_after(&self, m: &Move, put: Option<Piece>) -> bool
+        ensures { result ≡ true → IsSparedBy self.now put m.now }
+    {
+        match m {
+            Move::Board { from, to, .. } => from.index() != self.target.index()
+                && self.is_aside(*to, put),
+            Move::Drop { to, .. } => self.is_aside(*to, put),
+        }
+    }
+}
+
+/// Where the move ends.
+#[inline(always)]
+fn end_of(m: &Move) -> Square
+    ensures { result ≡ end_of m.now }
+{
+    match m {
+        Move::Board { to, .. } => *to,
+        Move::Drop { to, .. } => *to,
+    }
+}
+
+/// What the threat gains after the move, which puts this on its square, where that is more than the
+/// least and the move surely lets it stand; else the least.
+#[inline(always)]
+fn gain_if_left(threat: &Option<Threat>, m: &Move, put: Option<Piece>, least: u32) -> u32
+    ensures { (result ≡ least) ⊎ GainsAfter threat.now put m.now result }
+{
+    match threat {
+        Some(threat) if threat.gain > least && threat.stands_after(m, put) => threat.gain,
+        _ => least,
+    }
+}
+
+impl Threats {
+    /// Whether such a piece surely takes what the legal move puts on its square, also where that
+    /// gives check.
+    #[inline(always)]
+    pub(crate) fn has_retake(&self, p: &Position, replies: &Replies, m: &Move) -> bool
+        requires takes { AreAttacked p.now self.now.takes }
+        requires kept { IsReplies p.now replies.now.sight replies.now.spare }
+        requires legal { is_legal p.now m.now ≡ true }
+        ensures { result ≡ true → ∥ IsTaken p.now m.now ∥₁ }
+    {
+        let end = end_of(m);
+        end.validity();
+        if !has(self.takes, end.index()) {
+            return false;
+        }
+        replies.uncovers_nothing(p, m)
+    }
+
+    /// What the other side gains at least by one of these moves after the legal move, if that gives
+    /// no check; 0 where none of them surely stands.
+    #[inline(always)]
+    pub(crate) fn gain_after(&self, p: &Position, e: Eval, m: &Move) -> u32
+        requires threats { AreThreatsIn p.now e self.now }
+        requires valid { IsValid p.now }
+        requires legal { is_legal p.now m.now ≡ true }
+        ensures gain { 0 < result → TakesAfter p.now e m.now result }
+        ensures fits { result ≤ 4000 }
+    {
+        m.validity();
+        let put = put_by(p, m);
+        let end = end_of(m);
+        end.validity();
+        let retake = if has(self.takes, end.index()) {
+            taken_gain(e, put)
+        } else {
+            0
+        };
+        let greatest = gain_if_left(&self.greatest, m, put, retake);
+        if greatest > retake {
+            return greatest;
+        }
+        gain_if_left(&self.second, m, put, retake)
+    }
+}

@@ -1,5 +1,0 @@
-use Rattle.shogi_search.proofs.Nodes.{known_under}
-use Rattle.shogi_search.proofs.frame.Frame.end_at.Goals as goal
-
-pub invariant_of-self-clause-known : goal.invariant_of-self-clause-known
-invariant_of-self-clause-known c = known_under _ _ _ _ _ _ _ _ _ c.args.self.now.waiting c.requires.asked c.args.self.now.known
