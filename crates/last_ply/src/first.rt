@@ -38,7 +38,8 @@ impl Scene<'_> {
         requires own { is_own self.now.node.now.position from ≡ true }
         requires reached { reaches self.now.node.now.position.cells from to ≡ true }
         requires free { is_own self.now.node.now.position to ≡ false }
-        ensures legal { result ≡ true → is_legal_board_move self.now.node.now.position from to promote ≡ true }
+        ensures legal { result ≡ true
+            → is_legal_board_move self.now.node.now.position from to promote ≡ true }
         ensures scores { result ≡ true
             → Scores self.now.node.now score (code_of (moves.Board from to promote)) }
         ensures other { result ≡ false → ScoresElse self.now.node.now score from to promote }

@@ -97,7 +97,8 @@ impl Scene<'_> {
         requires reached { reaches self.now.node.now.position.cells from to ≡ true }
         requires free { is_own self.now.node.now.position to ≡ false }
         ensures least { floor ≤ℤ result }
-        ensures at { ScoresToAtMost self.now.node.now.position self.now.node.now.eval result from to promote }
+        ensures at { ScoresToAtMost self.now.node.now.position self.now.node.now.eval result from to
+            promote }
         ensures some { floor <ℤ result → NodeHasScore self.now.node.now result }
     {
         let score = self.score_to(from, to, promote);
@@ -180,7 +181,8 @@ impl Scene<'_> {
         requires { victims < 2 ^ 81 }
         ensures within { IsWithin result self.now.own }
         ensures fits { result < 2 ^ 81 }
-        ensures others { OnEach victims (λ t. OnRest self.now.own result (TakesLittle self.now.node.now floor t)) }
+        ensures others { OnEach victims
+            (λ t. OnRest self.now.own result (TakesLittle self.now.node.now floor t)) }
     {
         let mut squares = 0;
         let mut left = victims;

@@ -242,7 +242,8 @@ impl Outlook<'_> {
         requires fits { ends < 2 ^ 81 }
         requires legal { AreLegalDropEnds self.now.scene.node.now.position kind ends }
         ensures some { result ≡ true → HasMate self.now.scene.node.now.position }
-        ensures none { result ≡ false → DropsLeaveSomeAmong self.now.scene.node.now.position kind ends }
+        ensures none { result ≡ false
+            → DropsLeaveSomeAmong self.now.scene.node.now.position kind ends }
     {
         let mut left = ends;
         while left != 0 {
@@ -285,7 +286,8 @@ impl Outlook<'_> {
         requires fits { ends < 2 ^ 81 }
         ensures within { IsWithin result ends }
         ensures fits { result < 2 ^ 81 }
-        ensures answered { AreAnsweredOff self.now.scene.node.now.position from promote ends result }
+        ensures answered { AreAnsweredOff self.now.scene.node.now.position from promote ends
+            result }
     {
         let _ = promote;
         from.validity();
@@ -312,7 +314,8 @@ impl Outlook<'_> {
         requires fits { ends < 2 ^ 81 }
         ensures within { IsWithin result ends }
         ensures fits { result < 2 ^ 81 }
-        ensures answered { AreAnsweredOff self.now.scene.node.now.position from promote ends result }
+        ensures answered { AreAnsweredOff self.now.scene.node.now.position from promote ends
+            result }
     {
         let p = self.scene.node.as_position();
         let closing = self.closing_ends(from, promote, piece, ends);
@@ -406,7 +409,8 @@ impl Outlook<'_> {
     /// stand on one: elsewhere the king has one left, or takes it.
     fn closing_drops(&self, kind: Kind, squares: u128) -> u128
         ensures among { IsWithin result squares }
-        ensures answered { AreDropsAnsweredOff self.now.scene.node.now.position kind squares result }
+        ensures answered { AreDropsAnsweredOff self.now.scene.node.now.position kind squares
+            result }
     {
         let p = self.scene.node.as_position();
         let side = p.side();

@@ -470,7 +470,8 @@ impl Stack {
         ensures truth { IfSome result (IsTrueOfRoot self.old) }
         ensures cutoff { IfSome result (IsCutoff (negated INFINITY) self.old.beta) }
         ensures same { KeepsGoal self.old self.new }
-        ensures calls { CallsOnStack M.called memo.old memo.new steps.old steps.new self.old result self.new }
+        ensures calls { CallsOnStack M.called memo.old memo.new steps.old steps.new self.old result
+            self.new }
         ensures told { IfSome result (λ entry.
             EndsWith M.called memo.old memo.new (note_of_root self.old entry)) }
         ensures capacity { M.capacity memo.new ≡ M.capacity memo.old }
