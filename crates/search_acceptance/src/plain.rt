@@ -641,23 +641,23 @@ fn is_gain(p: &Position, target: Square, promote: bool) -> bool {
     }
 }
 
-/// The greatest threat by the piece on the square, promoting or not, and of one more, but for those to a
-/// square.
+/// The number of no square.
+const NOWHERE: u8 = 81;
+
+/// The greatest threat by the piece on the square, promoting or not, and of one more, but for those to the
+/// square of this number.
 fn greatest_from(
     p: &Position,
     e: Eval,
     from: Square,
     promote: bool,
-    but: Option<Square>,
+    but: u8,
     first: Option<Threat>,
 ) -> Option<Threat> {
     let mut best = first;
     for number in 0..81u8 {
         let target = square(number);
-        if but != Some(target)
-            && is_gain(p, target, promote)
-            && is_attack(p, from, target, promote)
-        {
+        if number != but && is_gain(p, target, promote) && is_attack(p, from, target, promote) {
             let gain = gain_of(p, e, from, target, promote);
             best = greater(best, Threat { from, target, gain });
         }
@@ -665,9 +665,9 @@ fn greatest_from(
     best
 }
 
-/// The threat that gains most, but for those to a square; among equal ones that of the first square, without
-/// promotion before with it, and to the first square.
-fn greatest_threat(p: &Position, e: Eval, but: Option<Square>) -> Option<Threat> {
+/// The threat that gains most, but for those to the square of this number; among equal ones that of the first
+/// square, without promotion before with it, and to the first square.
+fn greatest_threat(p: &Position, e: Eval, but: u8) -> Option<Threat> {
     let mut best = None;
     for number in 0..81u8 {
         let from = square(number);
@@ -677,13 +677,18 @@ fn greatest_threat(p: &Position, e: Eval, but: Option<Square>) -> Option<Threat>
     best
 }
 
+/// The threat that gains most of those to other squares than this one's, if there is one.
+fn second_threat(p: &Position, e: Eval, greatest: &Option<Threat>) -> Option<Threat> {
+    match greatest {
+        Some(threat) => greatest_threat(p, e, threat.target.index() as u8),
+        None => None,
+    }
+}
+
 /// The threat that gains most, and that of those to other squares.
 fn two_threats(p: &Position, e: Eval) -> [Option<Threat>; 2] {
-    let greatest = greatest_threat(p, e, None);
-    let second = match greatest {
-        Some(threat) => greatest_threat(p, e, Some(threat.target)),
-        None => None,
-    };
+    let greatest = greatest_threat(p, e, NOWHERE);
+    let second = second_threat(p, e, &greatest);
     [greatest, second]
 }
 
