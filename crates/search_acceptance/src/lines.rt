@@ -4,7 +4,7 @@
 use crate::plain::{Branch, Notes, branches_of, minimax, search_plainly_below};
 use crate::positions::{each_twentieth, position};
 use crate::ranks::TestRanks;
-use crate::searches::{has_few, search, search_below};
+use crate::searches::{has_few, search_below};
 use crate::tables::table_of;
 use shogi_core::{Move, Position};
 use shogi_eval::Eval;
@@ -107,8 +107,7 @@ fn lines_of_the_second_game(rt: HostRuntime) -> Result<(), Fail> {
     walk(&rt, rt.alloc(), games::second())
 }
 
-// The children of a position take the steps of the plain search below the same bounds, and fewer than
-// whole searches.
+// The children of a position take the steps of the plain search below the same bounds.
 fn assert_steps(
     rt: &impl Abort,
     alloc: Global,
@@ -118,17 +117,14 @@ fn assert_steps(
 ) -> Result<(), Fail> {
     let mut ranks = TestRanks::new(lines);
     let mut notes = Notes::new(alloc, 0, false);
-    let (mut steps, mut whole): (u64, u64) = (0, 0);
+    let mut steps: u64 = 0;
     for branch in branches_of(alloc, p, [None; 6])?.as_slice() {
         let (beta, made) = take_in(rt, &mut ranks, branch, Eval::Plain, depth, &mut NoMemo);
         steps = steps.saturating_add(made);
         let p = &branch.position;
         search_plainly_below(alloc, p, Eval::Plain, depth, beta, &mut notes)?;
-        let found = search(p, Eval::Plain, depth, &mut NoMemo);
-        whole = whole.saturating_add(found.steps);
     }
     same!(*rt; steps, notes.steps, lines);
-    holds!(*rt; steps < whole, steps);
     Ok(())
 }
 
