@@ -66,14 +66,6 @@ todo_after p (Quiets firsts s) = matching_others_from p (codes_of firsts) false 
 todo_after p (Drops firsts s) = []
 todo_after p Done = []
 
--- the moves that take nothing, without the first ones
-abbrev pub quiets_to_come : Shogi → List ℕ → List ℕ
-quiets_to_come p firsts = matching_others_from p firsts false 0
-
--- the drops among them
-abbrev pub drops_to_come : Shogi → List ℕ → List ℕ
-drops_to_come p firsts = matching_others_from p firsts false FIRST_DROP
-
 -- the next pick of a sweep over the board, where there is one
 abbrev pub TakesBoardPick :
     Shogi → List ℕ → Bool → Option Move → BoardSweep → BoardSweep → Type 0
@@ -95,6 +87,16 @@ TakesFromSweep p picked old new = IsNextOf picked (todo p old) (todo p new) (tod
 -- the first of the codes, where there is one, and those after it are still to be visited
 abbrev pub TakesFirst : Shogi → Option Move → List ℕ → MovePicker → Type 0
 TakesFirst p picked codes new = TakesNext picked codes (todo p new)
+
+-- the same of the moves that take nothing, without the first ones
+abbrev pub TakesFirstQuiet : Shogi → List ℕ → Option Move → MovePicker → Type 0
+TakesFirstQuiet p firsts picked new =
+    TakesFirst p picked (matching_others_from p firsts false 0) new
+
+-- and of the drops among them
+abbrev pub TakesFirstDrop : Shogi → List ℕ → Option Move → MovePicker → Type 0
+TakesFirstDrop p firsts picked new =
+    TakesFirst p picked (matching_others_from p firsts false FIRST_DROP) new
 
 -- the moves on the board that take nothing are under way, from a code on
 abbrev pub IsAtQuiets : MovePicker → ℕ → Type 0

@@ -6,7 +6,7 @@ ghost use Rattle.shogi_core.specs.Codes.{code_of};
 ghost use Rattle.shogi_moves.specs.Escapes.{AreEscapes};
 ghost use Rattle.shogi_replies.specs.Replies.{IsReplies};
 ghost use Rattle.shogi_moves.specs.Sweeps.{IsBoardSweep, IsDropSweep};
-ghost use Rattle.search_nodes.specs.Order.{codes_of, drops_to_come, others_to_come, quiets_to_come, todo, todo_after, todo_from, IsAtDrops, IsAtQuiets, IsKept, PassesDrops, PassesQuiets, TakesBoardPick, TakesDropPick, TakesFirst, TakesFromSweep};
+ghost use Rattle.search_nodes.specs.Order.{codes_of, others_to_come, todo, todo_after, todo_from, IsAtDrops, IsAtQuiets, IsKept, PassesDrops, PassesQuiets, TakesBoardPick, TakesDropPick, TakesFirst, TakesFirstDrop, TakesFirstQuiet, TakesFromSweep};
 
 use crate::firsts::Firsts;
 use shogi_core::{Kind, Move, Position};
@@ -70,8 +70,7 @@ impl MovePicker {
 
     /// Begins with the drops.
     fn enter_drops(&mut self, known: &KnownPosition<'_>, firsts: Firsts) -> Option<Move>
-        ensures next { TakesFirst known.now.position.now result
-            (drops_to_come known.now.position.now (codes_of firsts)) self.new }
+        ensures next { TakesFirstDrop known.now.position.now (codes_of firsts) result self.new }
         ensures kept { IsKept known.now.position.now self.new }
     {
         let p = known.position;
@@ -90,8 +89,7 @@ impl MovePicker {
 
     /// Begins with the quiet moves.
     fn enter_quiets(&mut self, known: &KnownPosition<'_>, firsts: Firsts) -> Option<Move>
-        ensures next { TakesFirst known.now.position.now result
-            (quiets_to_come known.now.position.now (codes_of firsts)) self.new }
+        ensures next { TakesFirstQuiet known.now.position.now (codes_of firsts) result self.new }
         ensures kept { IsKept known.now.position.now self.new }
     {
         let p = known.position;
