@@ -53,7 +53,7 @@ USUAL = {
     "usi_serve": 45,
     "host_status": 27,
     "usi_replay": 71,
-    "usi_words": 100,
+    "usi_arguments": 100,
     "usi_runs": 45,
     "usi_host": 143,
 }

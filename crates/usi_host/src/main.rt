@@ -12,10 +12,10 @@ use std::alloc::Global;
 use std::hash::RandomState;
 use std::io;
 use std::process::ExitCode;
+use usi_arguments::{Job, asked, complaint, status, version_text};
 use usi_runs::{DONE, ServeFault, print_out, script, session, socket_fault, status_fault};
 use usi_serve::{MioWire, Unseen, serve};
 use usi_stdio::Duplex;
-use usi_words::{Job, asked, complaint, status, version_text};
 use wires::WireFault;
 
 /// Writes the text to standard error, and gives the status.
@@ -90,8 +90,8 @@ fn run_socket(
     Ok(())
 }
 
-/// Does what the words of the command line ask for. The status is 0 where it was done, 1 where it
-/// ended early, 2 where the words are not accepted, and 3 where a script has a bad line.
+/// Does what the arguments of the command line ask for. The status is 0 where it was done, 1 where
+/// it ended early, 2 where the arguments are not accepted, and 3 where a script has a bad line.
 fn main(rt: HostRuntime) -> ExitCode {
     let mut ends = Duplex {
         input: rt.reader(),

@@ -1,2 +1,2 @@
 pub mod Runs
-pub mod Serving
+pub mod ServeFaults

@@ -2,7 +2,7 @@
 #![tactic(auto)]
 
 mod runs;
-mod serving;
+mod serve_fault;
 
 pub use runs::{DONE, print_out, script, session};
-pub use serving::{ServeFault, socket_fault, status_fault};
+pub use serve_fault::{ServeFault, socket_fault, status_fault};

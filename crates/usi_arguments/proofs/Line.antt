@@ -1,0 +1,297 @@
+-- The command line, and its answers at arguments that are written out.
+use Rattle.std.proofs.Common.{◌≡◌, ◌∷◌, ◌∙◌, true, ℕ, List, [], Result, Ok, Err, Option, Some, None, IfOk, IfErr, codes, refl, sym, ap, arith, subst, slice_index_or, inl, inr, lit≤, lit<}
+use Rattle.std.specs.Prelude.{string_bytes}
+use Rattle.clap.specs.Words.{App, FailsBy, HasMatchesOf, IsAmong, Kinds, Row, Text, fault_of, is_simple, is_simple_and_free, kind_of, subcommand_of, subcommand_rows_of}
+use Rattle.clap.specs.Kinds.{HasKind}
+use Rattle.clap.proofs.OnLiterals.{clap_on_literals}
+use Rattle.clap.specs.declared.builder.value_parser.Reading.TheVariants.{AsWritten}
+use Rattle.clap.specs.declared.error.Error.{Error}
+use Rattle.clap.specs.declared.error.kind.ErrorKind.{ErrorKind}
+use Rattle.clap.specs.declared.error.kind.ErrorKind.TheVariants as kinds
+use Rattle.clap.specs.declared.parser.matches.ArgMatches.{ArgMatches}
+use Rattle.clap.specs.declared.parser.matches.ValueSource.TheVariants.{DefaultValue}
+use Rattle.usi_arguments.specs.Answers.{AreHelpArguments, AreVersionArguments, Gives, GivesHelp, HasRanges, IsAnswerToParsed, IsAskedBy, IsRefusedFor, IsReplayOf, IsStdioOf, HasMistake, IsMistake, IsNoJob, NamesJob}
+use Rattle.usi_arguments.specs.CommandLine.{IsNumber, NamesNumber, command_line, command_of, faults_of}
+use Rattle.usi_arguments.specs.declared.arguments.Job.{Job}
+use Rattle.usi_arguments.specs.declared.arguments.Job.TheVariants.{Stdio, Replay, Serve, Help, Version}
+use Rattle.usi_arguments.specs.declared.arguments.ArgumentsFault.{ArgumentsFault}
+use Rattle.usi_arguments.specs.declared.arguments.ArgumentsFault.TheVariants.{OutOfMemory, NotAccepted}
+use Rattle.usi_arguments.proofs.Numbers.{names_once}
+
+pub line_is_simple : is_simple command_line ≡ true
+unfolding clap_on_literals
+line_is_simple = refl
+
+pub line_is_free : is_simple_and_free command_line ≡ true
+unfolding clap_on_literals
+line_is_free = refl
+
+pub bare_faults : faults_of [] ≡ []
+unfolding clap_on_literals
+bare_faults = refl
+
+pub bare_command : command_of [] ≡ None
+unfolding clap_on_literals
+bare_command = refl
+
+-- the arguments that ask for help or for the version alone
+pub help_faults : faults_of (codes "--help" ∷ []) ≡ kinds.DisplayHelp ∷ []
+unfolding clap_on_literals
+help_faults = refl
+
+pub short_help_faults : faults_of (codes "-h" ∷ []) ≡ kinds.DisplayHelp ∷ []
+unfolding clap_on_literals
+short_help_faults = refl
+
+pub version_faults : faults_of (codes "--version" ∷ []) ≡ kinds.DisplayVersion ∷ []
+unfolding clap_on_literals
+version_faults = refl
+
+pub short_version_faults : faults_of (codes "-V" ∷ []) ≡ kinds.DisplayVersion ∷ []
+unfolding clap_on_literals
+short_version_faults = refl
+
+-- an option that is left out, with its default
+abbrev row : Text → Text → Row
+row name usual = record {
+  id = name;
+  values = usual ∷ [];
+  count = None;
+  source = Some DefaultValue;
+  reading = AsWritten;
+}
+
+-- the options of `stdio` and of `replay` where none is given
+abbrev stdio_rows : List Row
+stdio_rows = row (codes "entries") (codes "4096") ∷ []
+
+abbrev replay_rows : List Row
+replay_rows = row (codes "slots") (codes "64") ∷ row (codes "entries") (codes "4096") ∷ row (codes "slice") (codes "500") ∷ []
+
+pub stdio_faults : faults_of (codes "stdio" ∷ []) ≡ []
+unfolding clap_on_literals
+stdio_faults = refl
+
+pub stdio_command_is : command_of (codes "stdio" ∷ []) ≡ Some (codes "stdio", stdio_rows)
+unfolding clap_on_literals
+stdio_command_is = refl
+
+pub replay_faults : faults_of (codes "replay" ∷ []) ≡ []
+unfolding clap_on_literals
+replay_faults = refl
+
+pub replay_command_is : command_of (codes "replay" ∷ []) ≡ Some (codes "replay", replay_rows)
+unfolding clap_on_literals
+replay_command_is = refl
+
+-- what the parse of the arguments gives
+pub record IsParsedLine (arguments : List Text) (parsed : Result ArgMatches Error) : Type 0 where
+  pub matches : IfOk parsed (λ m. subcommand_rows_of m ≡ command_of arguments)
+  pub kinds : FailsBy (faults_of arguments) parsed
+
+pub parsed_line : (app : App) (arguments : List Text) (parsed : Result ArgMatches Error) → app ≡ command_line
+    → IfOk parsed (HasMatchesOf app arguments) → (is_simple_and_free app ≡ true → FailsBy (fault_of app arguments) parsed)
+    → IsParsedLine arguments parsed
+parsed_line app arguments (Ok m) is ok fails = record {
+  matches =
+      (ok (ap is_simple is ∙ line_is_simple)).1 ∙ ap (λ (a : App). subcommand_of a arguments) is;
+  kinds = sym (ap (λ (a : App). fault_of a arguments) is) ∙ fails (ap is_simple_and_free is ∙ line_is_free);
+}
+parsed_line app arguments (Err e) is ok fails = record {
+  matches = tt;
+  kinds = subst (λ (a : App). HasKind (fault_of a arguments) e) is (fails (ap is_simple_and_free is ∙ line_is_free));
+}
+
+-- no command names a help
+no_help : (command : Option (Text × List Row)) (job : Job) (text : _) → job ≡ Help text → NamesJob command job → ⊥
+no_help None job text e is = let bad : Help text ≡ Stdio 4096 = sym e ∙ is in cc
+no_help (Some command) job text e (inl is) = rw e at is.1
+no_help (Some command) job text e (inr (inl is)) = rw e at is.1
+no_help (Some command) job text e (inr (inr is)) = rw e at is.1
+
+-- no command names the version
+no_version : (command : Option (Text × List Row)) (job : Job) → job ≡ Version → NamesJob command job → ⊥
+no_version None job e is = let bad : Version ≡ Stdio 4096 = sym e ∙ is in cc
+no_version (Some command) job e (inl is) = rw e at is.1
+no_version (Some command) job e (inr (inl is)) = rw e at is.1
+no_version (Some command) job e (inr (inr is)) = rw e at is.1
+
+-- a job is one that the arguments ask for
+pub line_asked : (arguments : List Text) (parsed : Result ArgMatches Error) (r : Result Job ArgumentsFault) → IsParsedLine arguments parsed
+    → IsAnswerToParsed parsed r
+    → IfOk r (IsAskedBy arguments)
+line_asked arguments (Ok m) (Ok (Stdio entries)) line is = (line.kinds, subst (λ (c : Option (Text × List Row)). NamesJob c (Stdio entries)) line.matches is)
+line_asked arguments (Ok m) (Ok (Replay slots entries slice)) line is = (line.kinds, subst (λ (c : Option (Text × List Row)). NamesJob c (Replay slots entries slice)) line.matches is)
+line_asked arguments (Ok m) (Ok (Serve socket status slots entries slice turns)) line is = (line.kinds, subst (λ (c : Option (Text × List Row)). NamesJob c (Serve socket status slots entries slice turns)) line.matches is)
+line_asked arguments (Ok m) (Ok (Help text)) line is = absurd (no_help (subcommand_rows_of m) (Help text) text refl is)
+line_asked arguments (Ok m) (Ok Version) line is = absurd (no_version (subcommand_rows_of m) Version refl is)
+line_asked arguments (Err e) (Ok (Stdio entries)) line is = absurd is
+line_asked arguments (Err e) (Ok (Replay slots entries slice)) line is = absurd is
+line_asked arguments (Err e) (Ok (Serve socket status slots entries slice turns)) line is = absurd is
+line_asked arguments (Err e) (Ok (Help text)) line is = elim line.kinds [
+  | inl memory ↦ let bad : kinds.DisplayHelp ≡ kinds.OutOfMemory = sym is ∙ memory in cc
+  | inr among ↦ subst (λ (k : ErrorKind). IsAmong k (faults_of arguments)) is among
+]
+line_asked arguments (Err e) (Ok Version) line is = elim line.kinds [
+  | inl memory ↦ let bad : kinds.DisplayVersion ≡ kinds.OutOfMemory = sym is ∙ memory in cc
+  | inr among ↦ subst (λ (k : ErrorKind). IsAmong k (faults_of arguments)) is among
+]
+line_asked arguments parsed (Err fault) line is = tt
+
+-- arguments that are not accepted have a mistake
+pub line_refused : (arguments : List Text) (parsed : Result ArgMatches Error) (r : Result Job ArgumentsFault) → IsParsedLine arguments parsed
+    → IsAnswerToParsed parsed r
+    → IfErr r (IsRefusedFor arguments)
+line_refused arguments parsed (Ok job) line is = tt
+line_refused arguments parsed (Err OutOfMemory) line is = tt
+line_refused arguments (Ok m) (Err (NotAccepted text)) line is =
+    inr (line.kinds, subst (λ (c : Option (Text × List Row)). IsNoJob c (string_bytes text)) line.matches is)
+line_refused arguments (Err e) (Err (NotAccepted text)) line is = elim line.kinds [
+  | inl memory ↦ absurd (is.1 memory)
+  | inr among ↦ inl (kind_of e, among, is.0)
+]
+
+-- arguments without a mistake that name one job only give it
+gives : (arguments : List Text) (job : Job) (r : Result Job ArgumentsFault)
+    → faults_of arguments ≡ []
+    → NamesJob (command_of arguments) job → HasRanges job → ((other : Job) → NamesJob (command_of arguments) other → other ≡ job)
+    → IfOk r (IsAskedBy arguments) → IfErr r (IsRefusedFor arguments) → Gives job r
+gives arguments job (Ok (Stdio entries)) none names range only asked refused = inl (ap Ok (only (Stdio entries) asked.1))
+gives arguments job (Ok (Replay slots entries slice)) none names range only asked refused = inl (ap Ok (only (Replay slots entries slice) asked.1))
+gives arguments job (Ok (Serve socket status slots entries slice turns)) none names range only asked refused = inl (ap Ok (only (Serve socket status slots entries slice turns) asked.1))
+gives arguments job (Ok (Help text)) none names range only asked refused = absurd (rw none at asked)
+gives arguments job (Ok Version) none names range only asked refused = absurd (rw none at asked)
+gives arguments job (Err OutOfMemory) none names range only asked refused = inr refl
+gives arguments job (Err (NotAccepted text)) none names range only asked refused = elim refused [
+  | inl mistake ↦ absurd (subst (λ (k : Kinds). IsAmong mistake.0 k) none mistake.1)
+  | inr no_job ↦ absurd (no_job.1.0 job range names)
+]
+
+-- arguments whose command is known
+gives_of : (arguments : List Text) (job : Job) (command : Option (Text × List Row)) (r : Result Job ArgumentsFault) → faults_of arguments ≡ []
+    → command_of arguments ≡ command → NamesJob command job → HasRanges job → ((other : Job) → NamesJob command other → other ≡ job)
+    → IfOk r (IsAskedBy arguments) → IfErr r (IsRefusedFor arguments) → Gives job r
+gives_of arguments job command r none is names range only asked refused =
+    gives arguments job r none (subst (λ (c : Option (Text × List Row)). NamesJob c job) (sym is) names) range
+    (λ other has. only other (subst (λ (c : Option (Text × List Row)). NamesJob c other) is has)) asked refused
+
+pub gives_bare : (arguments : List Text) (r : Result Job ArgumentsFault) → arguments ≡ []
+    → IfOk r (IsAskedBy arguments) → IfErr r (IsRefusedFor arguments) → Gives (Stdio 4096) r
+gives_bare arguments r is asked refused =
+    gives_of [] (Stdio 4096) None r bare_faults bare_command refl (lit≤ tt, lit≤ tt) (λ other has. has)
+    (subst (λ (a : List Text). IfOk r (IsAskedBy a)) is asked) (subst (λ (a : List Text). IfErr r (IsRefusedFor a)) is refused)
+
+is_64 : IsNumber (codes "64") 64
+is_64 = ((lit< tt, (lit< tt, (lit< tt, tt))), refl)
+
+is_4096 : IsNumber (codes "4096") 4096
+is_4096 = ((lit< tt, (lit< tt, (lit< tt, (lit< tt, (lit< tt, tt))))), refl)
+
+is_500 : IsNumber (codes "500") 500
+is_500 = ((lit< tt, (lit< tt, (lit< tt, (lit< tt, tt)))), refl)
+
+stdio_entries : NamesNumber (codes "entries") stdio_rows 4096
+stdio_entries = (codes "4096", refl, is_4096)
+
+stdio_only : (job : Job) → IsStdioOf stdio_rows job → job ≡ Stdio 4096
+stdio_only (Stdio entries) is = ap Stdio (names_once (codes "entries") stdio_rows entries 4096 is stdio_entries)
+stdio_only (Replay slots entries slice) is = absurd is
+stdio_only (Serve socket status slots entries slice turns) is = absurd is
+stdio_only (Help text) is = absurd is
+stdio_only Version is = absurd is
+
+stdio_names : (job : Job) → NamesJob (Some (codes "stdio", stdio_rows)) job → job ≡ Stdio 4096
+stdio_names job (inl is) = stdio_only job is.1
+stdio_names job (inr (inl is)) = let bad : codes "stdio" ≡ codes "replay" = is.0 in cc
+stdio_names job (inr (inr is)) = absurd (let second : 116 ≡ 101 = ap (λ (text : Text). slice_index_or text 1 0) is.0 in omega arith)
+
+pub gives_stdio : (arguments : List Text) (r : Result Job ArgumentsFault)
+    → arguments ≡ codes "stdio" ∷ []
+    → IfOk r (IsAskedBy arguments) → IfErr r (IsRefusedFor arguments) → Gives (Stdio 4096) r
+gives_stdio arguments r is asked refused =
+    gives_of (codes "stdio" ∷ []) (Stdio 4096) (Some (codes "stdio", stdio_rows)) r stdio_faults stdio_command_is (inl (refl, stdio_entries)) (lit≤ tt, lit≤ tt) stdio_names
+    (subst (λ (a : List Text). IfOk r (IsAskedBy a)) is asked) (subst (λ (a : List Text). IfErr r (IsRefusedFor a)) is refused)
+
+replay_slots : NamesNumber (codes "slots") replay_rows 64
+replay_slots = (codes "64", refl, is_64)
+
+replay_entries : NamesNumber (codes "entries") replay_rows 4096
+replay_entries = (codes "4096", refl, is_4096)
+
+replay_slice : NamesNumber (codes "slice") replay_rows 500
+replay_slice = (codes "500", refl, is_500)
+
+replay_only : (job : Job) → IsReplayOf replay_rows job → job ≡ Replay 64 4096 500
+replay_only (Stdio entries) is = absurd is
+replay_only (Replay slots entries slice) is =
+    let a : slots ≡ 64 = names_once (codes "slots") replay_rows slots 64 is.0 replay_slots in
+    let b : entries ≡ 4096 = names_once (codes "entries") replay_rows entries 4096 is.1 replay_entries in
+    let c : slice ≡ 500 = names_once (codes "slice") replay_rows slice 500 is.2 replay_slice in
+    λ k. Replay (a k) (b k) (c k)
+replay_only (Serve socket status slots entries slice turns) is = absurd is
+replay_only (Help text) is = absurd is
+replay_only Version is = absurd is
+
+replay_names : (job : Job) → NamesJob (Some (codes "replay", replay_rows)) job → job ≡ Replay 64 4096 500
+replay_names job (inl is) = let bad : codes "replay" ≡ codes "stdio" = is.0 in cc
+replay_names job (inr (inl is)) = replay_only job is.1
+replay_names job (inr (inr is)) = let bad : codes "replay" ≡ codes "serve" = is.0 in cc
+
+pub gives_replay : (arguments : List Text) (r : Result Job ArgumentsFault)
+    → arguments ≡ codes "replay" ∷ []
+    → IfOk r (IsAskedBy arguments) → IfErr r (IsRefusedFor arguments) → Gives (Replay 64 4096 500) r
+gives_replay arguments r is asked refused =
+    gives_of (codes "replay" ∷ []) (Replay 64 4096 500) (Some (codes "replay", replay_rows)) r replay_faults replay_command_is (inr (inl (refl, (replay_slots, replay_entries, replay_slice)))) ((lit≤ tt, lit≤ tt), (lit≤ tt, lit≤ tt), (lit≤ tt, lit≤ tt)) replay_names
+    (subst (λ (a : List Text). IfOk r (IsAskedBy a)) is asked) (subst (λ (a : List Text). IfErr r (IsRefusedFor a)) is refused)
+
+among_one : (x k : ErrorKind) → IsAmong k (x ∷ []) → k ≡ x
+among_one x k (inl is) = is
+among_one x k (inr none) = absurd none
+
+-- arguments that are refused have a mistake: not one request alone
+not_refused : (arguments : List Text) (said : List ℕ) (kind : ErrorKind) → faults_of arguments ≡ kind ∷ [] → (IsMistake kind → ⊥) → HasMistake arguments said → ⊥
+not_refused arguments said kind is request (inl mistake) = request (subst IsMistake (among_one kind mistake.0 (subst (λ (k : Kinds). IsAmong mistake.0 k) is mistake.1)) mistake.2)
+not_refused arguments said kind is request (inr none) =
+    let bad : kind ∷ [] ≡ [] = sym is ∙ none.0 in cc
+
+no_mistake_in_help : IsMistake kinds.DisplayHelp → ⊥
+no_mistake_in_help is = is.0 refl
+
+no_mistake_in_version : IsMistake kinds.DisplayVersion → ⊥
+no_mistake_in_version is = is.1 refl
+
+-- arguments that ask for help alone give it
+gives_help_of : (arguments : List Text) (r : Result Job ArgumentsFault) → faults_of arguments ≡ kinds.DisplayHelp ∷ []
+    → IfOk r (IsAskedBy arguments) → IfErr r (IsRefusedFor arguments) → GivesHelp r
+gives_help_of arguments (Ok (Help text)) is asked refused = tt
+gives_help_of arguments (Ok (Stdio entries)) is asked refused = let bad : kinds.DisplayHelp ∷ [] ≡ [] = sym is ∙ asked.0 in cc
+gives_help_of arguments (Ok (Replay slots entries slice)) is asked refused = let bad : kinds.DisplayHelp ∷ [] ≡ [] = sym is ∙ asked.0 in cc
+gives_help_of arguments (Ok (Serve socket status slots entries slice turns)) is asked refused = let bad : kinds.DisplayHelp ∷ [] ≡ [] = sym is ∙ asked.0 in cc
+gives_help_of arguments (Ok Version) is asked refused =
+    let bad : kinds.DisplayVersion ≡ kinds.DisplayHelp = among_one kinds.DisplayHelp kinds.DisplayVersion (subst (λ (k : Kinds). IsAmong kinds.DisplayVersion k) is asked) in cc
+gives_help_of arguments (Err OutOfMemory) is asked refused = tt
+gives_help_of arguments (Err (NotAccepted text)) is asked refused = not_refused arguments (string_bytes text) kinds.DisplayHelp is no_mistake_in_help refused
+
+-- arguments that ask for the version alone give it
+gives_version_of : (arguments : List Text) (r : Result Job ArgumentsFault) → faults_of arguments ≡ kinds.DisplayVersion ∷ []
+    → IfOk r (IsAskedBy arguments) → IfErr r (IsRefusedFor arguments) → Gives Version r
+gives_version_of arguments (Ok Version) is asked refused = inl refl
+gives_version_of arguments (Ok (Stdio entries)) is asked refused = let bad : kinds.DisplayVersion ∷ [] ≡ [] = sym is ∙ asked.0 in cc
+gives_version_of arguments (Ok (Replay slots entries slice)) is asked refused = let bad : kinds.DisplayVersion ∷ [] ≡ [] = sym is ∙ asked.0 in cc
+gives_version_of arguments (Ok (Serve socket status slots entries slice turns)) is asked refused = let bad : kinds.DisplayVersion ∷ [] ≡ [] = sym is ∙ asked.0 in cc
+gives_version_of arguments (Ok (Help text)) is asked refused =
+    let bad : kinds.DisplayHelp ≡ kinds.DisplayVersion = among_one kinds.DisplayVersion kinds.DisplayHelp (subst (λ (k : Kinds). IsAmong kinds.DisplayHelp k) is asked) in cc
+gives_version_of arguments (Err OutOfMemory) is asked refused = inr refl
+gives_version_of arguments (Err (NotAccepted text)) is asked refused = absurd (not_refused arguments (string_bytes text) kinds.DisplayVersion is no_mistake_in_version refused)
+
+pub gives_help : (arguments : List Text) (r : Result Job ArgumentsFault)
+    → AreHelpArguments arguments
+    → IfOk r (IsAskedBy arguments) → IfErr r (IsRefusedFor arguments) → GivesHelp r
+gives_help arguments r (inl is) asked refused = gives_help_of arguments r (ap faults_of is ∙ help_faults) asked refused
+gives_help arguments r (inr is) asked refused = gives_help_of arguments r (ap faults_of is ∙ short_help_faults) asked refused
+
+pub gives_version : (arguments : List Text) (r : Result Job ArgumentsFault)
+    → AreVersionArguments arguments
+    → IfOk r (IsAskedBy arguments) → IfErr r (IsRefusedFor arguments) → Gives Version r
+gives_version arguments r (inl is) asked refused = gives_version_of arguments r (ap faults_of is ∙ version_faults) asked refused
+gives_version arguments r (inr is) asked refused = gives_version_of arguments r (ap faults_of is ∙ short_version_faults) asked refused

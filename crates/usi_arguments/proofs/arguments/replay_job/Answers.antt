@@ -1,0 +1,13 @@
+use Rattle.usi_arguments.specs.CommandLine.{options_in}
+use Rattle.usi_arguments.proofs.Jobs.{no_slots, no_entries, no_slice}
+use Rattle.usi_arguments.proofs.Numbers.{if_none}
+use Rattle.usi_arguments.proofs.arguments.replay_job.Goals as goal
+
+pub returns-in_err-slots-clause-none : goal.returns-in_err-slots-clause-none
+returns-in_err-slots-clause-none c = if_none c.from_residual.result _ (no_slots (options_in c.args.options.now) c.in_err-slots.ensures.none)
+
+pub returns-in_err-entries-clause-none : goal.returns-in_err-entries-clause-none
+returns-in_err-entries-clause-none c = if_none c.from_residual-in_err-entries.result _ (no_entries (options_in c.args.options.now) c.in_err-entries.ensures.none)
+
+pub returns-in_err-slice-clause-none : goal.returns-in_err-slice-clause-none
+returns-in_err-slice-clause-none c = if_none c.from_residual-in_err-slice.result _ (no_slice (options_in c.args.options.now) c.in_err-slice.ensures.none)

@@ -1,0 +1,17 @@
+use Rattle.std.proofs.Common.{◌∙◌, Some, sym, codes, ap, option_map}
+use Rattle.clap.specs.Words.{found_of}
+use Rattle.clap.proofs.WalkLemmas.{first_value-rows}
+use Rattle.usi_arguments.specs.CommandLine.{options_in}
+use Rattle.usi_arguments.proofs.Jobs.{no_numbers, no_socket}
+use Rattle.usi_arguments.proofs.arguments.serve_job.Goals as goal
+
+pub returns-in_default-clause-none : goal.returns-in_default-clause-none
+returns-in_default-clause-none c = no_socket (options_in c.args.options.now)
+    (sym (first_value-rows (found_of c.args.options.now) (codes "socket")) ∙ sym c.get_str.ensures ∙ ap (option_map (λ s. s.now)) c.in_default.is)
+
+pub returns-in_default-serve_numbers-clause-none : goal.returns-in_default-serve_numbers-clause-none
+returns-in_default-serve_numbers-clause-none c = no_numbers (options_in c.args.options.now) c.in_default-serve_numbers.ensures.none
+
+pub returns-clause-some : goal.returns-clause-some
+returns-clause-some c = let numbers = c.in-Some-serve_numbers.ensures.some in
+    (numbers.0, (sym (first_value-rows (found_of c.args.options.now) (codes "socket")) ∙ sym c.get_str.ensures ∙ ap (option_map (λ s. s.now)) c.in-Some.is ∙ ap Some (sym c.in_ok-socket.ensures.ok), c.in_ok-status.ensures, numbers.1))

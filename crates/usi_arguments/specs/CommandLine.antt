@@ -1,0 +1,125 @@
+-- What the arguments after the program's name ask for, as `clap` reads them (own choice).
+use Rattle.std.specs.Prelude.{◌≡◌, ◌∷◌, ◌≤◌, ◌-◌, ◌^◌, ℕ, true, List, [], Option, Some, String, codes, option_map, string_bytes}
+use Rattle.std.specs.Str.Parse.{IsNumeral, digits_value}
+use Rattle.clap.specs.Words.{App, Kinds, Row, Rule, Text, fault_of, first_of, found_of, new_app, new_rule, rows_of, subcommand_of, with_rule, with_subcommand}
+use Rattle.clap.specs.declared.builder.value_parser.ValueParser.TheVariants as parser
+use Rattle.clap.specs.declared.parser.matches.ArgMatches.{ArgMatches}
+
+-- the option `--NAME N`, a number from 1 to `most`, and `usual` where it is left out
+abbrev pub number_option : Text → ℕ → Text → Rule
+number_option name most usual = record (new_rule name) {
+  long = Some name;
+  value_names = 1;
+  defaults = usual ∷ [];
+  parser = Some (parser.Unsigned 1 most);
+}
+
+-- how many sessions may be open: `--slots N`, from 1 to 1024, and 64 where it is left out
+abbrev pub slots_option : Rule
+slots_option = number_option (codes "slots") 1024 (codes "64")
+
+-- how many entries the table has: `--entries N`, from 1 to 1000000, and 4096 where it is left out
+abbrev pub entries_option : Rule
+entries_option = number_option (codes "entries") 1000000 (codes "4096")
+
+-- how many steps a session may make in a round: `--slice N`, from 1 to 1000000000, and 500 where it is left out
+abbrev pub slice_option : Rule
+slice_option = number_option (codes "slice") 1000000000 (codes "500")
+
+-- after how many turns the program ends: `--turns N`, from 1 to the greatest number of 64 bits, which it is where it is left out
+abbrev pub turns_option : Rule
+turns_option = number_option (codes "turns") (2 ^ 64 - 1) (codes "18446744073709551615")
+
+-- where the socket is made: `--socket PATH`, which has to be there
+abbrev pub socket_option : Rule
+socket_option = record (new_rule (codes "socket")) {
+  long = Some (codes "socket");
+  value_names = 1;
+  required = true;
+}
+
+-- the command `stdio`
+abbrev pub stdio_command : App
+stdio_command = with_rule (new_app (codes "stdio")) entries_option
+
+-- a command with the options of a host: how many sessions, how many entries and how many steps
+abbrev pub with_host_options : App → App
+with_host_options command =
+    with_rule (with_rule (with_rule command slots_option) entries_option) slice_option
+
+-- the command `replay`
+abbrev pub replay_command : App
+replay_command = with_host_options (new_app (codes "replay"))
+
+-- where a second socket is made, for the status: `--status PATH`, which may be left out
+abbrev pub status_option : Rule
+status_option = record (new_rule (codes "status")) {
+  long = Some (codes "status");
+  value_names = 1;
+}
+
+-- the command `serve` with the options that name its sockets
+abbrev pub socket_command : App
+socket_command = with_rule (with_rule (new_app (codes "serve")) socket_option) status_option
+
+-- the command `serve`
+abbrev pub serve_command : App
+serve_command = with_rule (with_host_options socket_command) turns_option
+
+-- the program without a command; it has a version, so `--version` and `-V` ask for it
+abbrev pub bare_line : App
+bare_line = let app = new_app (codes "usi_host") in
+    record app { top = record app.top { no_binary_name = true; has_version = true } }
+
+-- the program with the command `stdio` alone
+abbrev pub stdio_line : App
+stdio_line = with_subcommand bare_line stdio_command.top
+
+-- the program with the commands `stdio` and `replay`
+abbrev pub replay_line : App
+replay_line = with_subcommand stdio_line replay_command.top
+
+-- the command line: the program with its three commands
+abbrev pub command_line : App
+command_line = with_subcommand replay_line serve_command.top
+
+-- the kinds of mistake for which the arguments are refused, or a request for help or for the
+-- version; none where they are a command line
+abbrev pub faults_of : List Text → Kinds
+faults_of = fault_of command_line
+
+-- the command that the arguments name, with its options
+abbrev pub command_of : List Text → Option (Text × List Row)
+command_of = subcommand_of command_line
+
+-- the text is the number n in decimal digits alone: without a sign, which `clap` would take
+abbrev pub IsNumber : Text → ℕ → Type 0
+IsNumber text n = IsNumeral 10 text × (n ≡ digits_value 10 text)
+
+-- the option of this name has this text
+abbrev pub NamesText : Text → List Row → Text → Type 0
+NamesText name options text = first_of name options ≡ Some text
+
+-- the option of this name has this text, or it is left out and there is none
+abbrev pub NamesTextIfAny : {A : Type 0} → Text → List Row → Option (String A) → Type 0
+NamesTextIfAny name options text = first_of name options ≡ option_map string_bytes text
+
+-- the option of this name has the number n
+abbrev pub NamesNumber : Text → List Row → ℕ → Type 0
+NamesNumber name options n = (text : Text) × NamesText name options text × IsNumber text n
+
+-- a number from 1 to `most`
+abbrev pub IsFromOne : ℕ → ℕ → Type 0
+IsFromOne most n = (1 ≤ n) × (n ≤ most)
+
+-- the option of this name has the number n, from 1 to `most`
+abbrev pub HasNumber : Text → ℕ → List Row → ℕ → Type 0
+HasNumber name most options n = IsFromOne most n × NamesNumber name options n
+
+-- the option of this name has no number from 1 to `most`
+abbrev pub HasNone : Text → ℕ → List Row → Type 0
+HasNone name most options = (n : ℕ) → IsFromOne most n → NamesNumber name options n → ⊥
+
+-- the options of a command that were read
+abbrev pub options_in : ArgMatches → List Row
+options_in matches = rows_of (found_of matches)

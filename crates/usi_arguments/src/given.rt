@@ -1,0 +1,26 @@
+//! The arguments that the program was started with.
+ghost use Rattle.std.specs.Prelude.{IfOk};
+ghost use Rattle.usi_arguments.specs.Answers.{HasRanges};
+
+use crate::arguments::{ArgumentsFault, Job, read_arguments};
+use crate::unread::unread_arguments;
+use std::env;
+use std::env::Env;
+
+/// The arguments after the program's name, read as a job by `read_arguments`.
+pub fn asked<R: Env + AllocGlobal>(rt: &R) -> Result<Job, ArgumentsFault>
+    ensures { IfOk result HasRanges }
+{
+    let mut given = match env::args(rt) {
+        Ok(given) => given,
+        Err(error) => return Err(unread_arguments(rt.alloc(), error.kind())),
+    };
+    let _program = given.next();
+    let mut arguments = Vec::new(rt.alloc());
+    for argument in given {
+        arguments
+            .push(argument)
+            .map_err(|_| ArgumentsFault::OutOfMemory)?;
+    }
+    read_arguments(rt.alloc(), arguments.as_slice())
+}

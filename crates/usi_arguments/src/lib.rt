@@ -1,0 +1,14 @@
+//! The arguments of the command line, read as a job.
+#![tactic(auto)]
+
+mod arguments;
+mod given;
+mod refusal;
+mod unread;
+mod version;
+
+pub use arguments::{ArgumentsFault, Job, read_arguments};
+pub use given::asked;
+pub use refusal::{complaint, status};
+pub use unread::unread_arguments;
+pub use version::version_text;

@@ -1,0 +1,16 @@
+//! What `--version` prints.
+ghost use Rattle.std.specs.Prelude.{◌≡◌};
+ghost use Rattle.usi_arguments.specs.Texts.{the_version};
+
+/// The name and the version of the program on one line, and then in a few words what is proved of
+/// it.
+pub fn version_text() -> &'static str
+    ensures { result.now ≡ the_version }
+{
+    VERSION_TEXT
+}
+
+const VERSION_TEXT: &str = "usi_host 0.1.0
+Proved: each session is given the replies of plain minimax at the exact depth, whatever the table
+holds and whatever other sessions do. The README of its sources says all that is proved.
+";

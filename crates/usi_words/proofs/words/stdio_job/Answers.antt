@@ -1,7 +1,0 @@
-use Rattle.usi_words.specs.CommandLine.{options_in}
-use Rattle.usi_words.proofs.Jobs.{no_stdio}
-use Rattle.usi_words.proofs.Numbers.{if_none}
-use Rattle.usi_words.proofs.words.stdio_job.Goals as goal
-
-pub returns-in_err-entries-clause-none : goal.returns-in_err-entries-clause-none
-returns-in_err-entries-clause-none c = if_none c.from_residual.result _ (no_stdio (options_in c.args.options.now) c.in_err-entries.ensures.none)
