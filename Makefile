@@ -23,9 +23,9 @@ run: build
 build:
 	@check/build.py
 
-# Proves the library for C, and makes crates/usi_library/out/libusi.a and libusi.so; share/library has
-# its header.
-library: build
+# Proves the program and the library for C, and makes crates/usi_library/out/libusi.a and libusi.so;
+# share/library has its header.
+library:
 	@check/build_library.sh
 
 # Puts the built program, its man page and its completions below PREFIX. It builds nothing, so that
@@ -43,7 +43,7 @@ uninstall:
 	rm -f "$(BIN)/usi_host" "$(MAN)/usi_host.1" "$(FOR_BASH)/usi_host" "$(FOR_ZSH)/_usi_host"
 
 # Runs the scripts that try the built program, and the library for C, as their users do.
-check: build library
+check: library
 	check/program.py
 	check/serve.py
 	check/examples.py
@@ -67,7 +67,7 @@ bench:
 	bench/multipv.py
 	bench/serve.py
 
-# Takes away what was built and the proofs that were kept.
+# Takes away what was built and what `rt check` kept.
 clean:
 	rm -rf crates/*/out dist
 
@@ -82,4 +82,4 @@ help:
 	@echo 'make dist       a tarball of the program for machines without the toolchain'
 	@echo 'make test       the gate: every proof, each edit, test and program'
 	@echo 'make bench      how fast it is'
-	@echo 'make clean      takes away what was built and the proofs that were kept'
+	@echo 'make clean      takes away what was built and what rt check kept'

@@ -3,10 +3,7 @@
 # request, with the nodes of a count or the steps of a search, and how many of them in a second.
 set -eu
 cd "$(dirname "$0")/../crates/measure"
-log=$(rt run </dev/null 2>&1) || {
-    printf '%s\n' "$log" >&2
-    exit 1
-}
+../../check/build.py measure
 
 many_drops='R8/2K1S1SSk/4B4/9/9/9/9/9/1L1L1L3 b RBGSNLP3g3n17p 1'
 middle_game='l6nl/5+P1gk/2np1S3/p1p4Pp/3P2Sp1/1PPb2P1P/P5GS1/R8/LN4bKL w RGgsn5p 1'

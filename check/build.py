@@ -1,17 +1,14 @@
 #!/usr/bin/env python3
-"""Proves and builds the program, where a source is newer than it. Crates that do not stand on each
-other are proved side by side, as many as there are processors and memory. The one with the longest chain
-of crates that wait for it may use all processors, one with a chain that is nearly as long half of them, and
-each other one processor, which costs less time of them, and only where these leave it.
-Standard error tells how far it is: which crates are done, after how many seconds, what is under way, and
-about how long is left, once a crate of the longest chain was proved from nothing or takes longer than is
-usual. What the toolchain says of a crate is kept in the file `build.log` of its `out/`, and shown where
-it fails. A build that was cut off goes on with the crates that are not done."""
+"""check/build.py [NAME..]: proves and builds these programs, or the library for C, where a source is newer than
+them; without a NAME, usi_host. By the command of the gate, `rt ci`, over the crates that they stand on, in a
+tree of their own without edits. So each proof is from nothing, and what passed is kept on the machine, for the
+gate as well, and where a build was cut off.
+Standard error tells which crates are proved, after how many seconds, and about how long is left, as fast as it
+went so far. What the toolchain says is kept in `crates/usi_host/out/build.log`, and shown where it fails."""
 
 import fcntl
 import os
 import re
-import resource
 import shutil
 import signal
 import subprocess
@@ -20,17 +17,16 @@ import time
 
 TOP = os.path.dirname(os.path.dirname(os.path.abspath(__file__)))
 CRATES = os.path.join(TOP, "crates")
-LIST = os.path.join(TOP, "crates.txt")
-NAME = "usi_host"
-PROGRAM = os.path.join(CRATES, NAME, "out", NAME)
-# Each crate is proved in a tree of its own, since the toolchain lets one command at a time into a tree.
-ROOMS = os.path.join(CRATES, NAME, "out", "rooms")
-# What the check of a crate may take, in bytes.
-MEMORY = 2_500_000_000
+NAME, LIBRARY = "usi_host", "usi_library"
+OUT = os.path.join(CRATES, NAME, "out")
+LOG = os.path.join(OUT, "build.log")
+# The tree in which the crates are proved.
+ROOM = os.path.join(OUT, "room")
 # How long nothing is told at most, in seconds.
 QUIET = 20
-# What each crate takes in a build from nothing on four usual cores, in seconds. What is left is told by
-# these, and by how much longer than that the crates that are done took here; `make build` prints them.
+# How long a build from nothing takes on four usual cores, in minutes.
+USUAL_MINUTES = 10
+# What each crate takes in it, in seconds. What is left is told by these and by how fast it went so far.
 USUAL = {
     "shogi_core": 68,
     "shogi_moves": 42,
@@ -53,48 +49,32 @@ USUAL = {
     "usi_serve": 45,
     "host_status": 27,
     "usi_replay": 71,
+    "usi_library": 60,
     "usi_arguments": 100,
     "usi_runs": 45,
     "usi_host": 143,
 }
-# What a line of another crate takes, in seconds.
-A_LINE = 0.03
-# How much shorter a chain is than the longest at most, where it is nearly as long, in seconds.
-NEARLY = 20
-# What a crate is put back behind those with such chains, as nice(1) has it.
-BEHIND = 19
-# What a crate is proved from, and what is kept of that.
-TEXTS = ("src", "specs", "proofs")
-PARTS = ("incremental", "rlib")
 
 
-def libraries_of(name):
-    """The crate and those of this repository that it stands on, each with those that it uses, in the
-    order of crates.txt."""
-    used = {}
-    with open(LIST, encoding="utf-8") as lines:
-        for line in lines:
+def uses():
+    """Each line of crates.txt by its crate, and what of this repository that crate uses, in their order."""
+    lines = {}
+    with open(os.path.join(TOP, "crates.txt"), encoding="utf-8") as list_of_crates:
+        for line in list_of_crates:
             if ":" in line and not line.startswith("#"):
-                crate, _, libraries = line.partition(":")
-                used[crate.strip()] = libraries.split()
-    found, wanted = set(), [name]
-    while wanted:
-        crate = wanted.pop()
-        if crate in used and crate not in found:
-            found.add(crate)
-            wanted.extend(used[crate])
-    return {crate: [it for it in used[crate] if it in used] for crate in used if crate in found}
+                lines[line.split(":")[0].split()[0]] = line
+    return lines, {it: [name for name in line.split(":")[1].split() if name in lines] for it, line in lines.items()}
 
 
-def below(crates, name):
-    """All crates that this one stands on."""
-    found, wanted = set(), list(crates[name])
+def below(used, names):
+    """These crates and all that they stand on, in the order of crates.txt."""
+    found, wanted = set(), list(names)
     while wanted:
         crate = wanted.pop()
         if crate not in found:
             found.add(crate)
-            wanted.extend(crates[crate])
-    return found
+            wanted.extend(used[crate])
+    return [it for it in used if it in found]
 
 
 def newest(folder):
@@ -106,37 +86,13 @@ def newest(folder):
     return max(times)
 
 
+def product(crate):
+    """The program, or the library for C, in the crate's folder."""
+    return os.path.join(CRATES, crate, "out", f"lib{crate}.a" if crate == LIBRARY else crate)
+
+
 def changed(path):
     return os.path.getmtime(path) if os.path.exists(path) else 0.0
-
-
-def lines_of(crate):
-    """How much there is to prove in a crate, in lines."""
-    count = 0
-    for part in TEXTS:
-        for path, _, names in os.walk(os.path.join(CRATES, crate, part)):
-            for name in names:
-                with open(os.path.join(path, name), "rb") as text:
-                    count += sum(1 for _ in text)
-    return count
-
-
-def usual(crate):
-    """What a crate takes from nothing on four usual cores, in seconds."""
-    return USUAL[crate] if crate in USUAL else A_LINE * lines_of(crate)
-
-
-def chains(crates, own):
-    """For each crate the time of the longest chain of crates that begins with it, each waiting for the
-    one before it, from the time of its own that each takes."""
-    above = {it: [] for it in crates}
-    for crate, used in crates.items():
-        for library in used:
-            above[library].append(crate)
-    chain = {}
-    for crate in reversed(list(crates)):
-        chain[crate] = own[crate] + max((chain[it] for it in above[crate]), default=0)
-    return chain
 
 
 def minutes(seconds):
@@ -147,62 +103,43 @@ def tell(text):
     print(text, file=sys.stderr, flush=True)
 
 
-def lanes():
-    """How many crates may be proved at a time: one a processor, as memory allows."""
-    memory = MEMORY
-    with open("/proc/meminfo", encoding="utf-8") as lines:
-        for line in lines:
-            if line.startswith("MemAvailable:"):
-                memory = 1024 * int(line.split()[1])
-    return max(1, min(len(os.sched_getaffinity(0)), memory // MEMORY))
+def longest(used, crates, left):
+    """How long the crates that are left take: the longest chain of them, each waiting for the one before it,
+    or all of them on the processors, in usual seconds."""
+    chain = {}
+    for crate in crates:
+        own = USUAL.get(crate, 0) if crate in left else 0
+        chain[crate] = own + max((chain[it] for it in used[crate] if it in chain), default=0)
+    whole = sum(USUAL.get(it, 0) for it in left)
+    return max(*chain.values(), whole / len(os.sched_getaffinity(0)))
 
 
-def processor_time():
-    """What the processes that have ended took of the processors, in seconds."""
-    used = resource.getrusage(resource.RUSAGE_CHILDREN)
-    return used.ru_utime + used.ru_stime
+def furnish(lines, crates):
+    """Makes the tree: of each crate its line, and its folder but for edits and products."""
+    shutil.rmtree(ROOM, ignore_errors=True)
+    # Without a folder of this name it would be taken for a part of the repository around it.
+    os.makedirs(os.path.join(ROOM, ".git"))
+    shutil.copy2(os.path.join(TOP, "HANDLES"), ROOM)
+    with open(os.path.join(ROOM, "crates.txt"), "w", encoding="utf-8") as list_of_crates:
+        list_of_crates.writelines(lines[it] for it in crates)
+    for crate in crates:
+        to = os.path.join(ROOM, "crates", crate)
+        shutil.copytree(os.path.join(CRATES, crate), to, ignore=shutil.ignore_patterns("out", "must-fail"))
 
 
-def link(one, other):
-    """A product is replaced and never changed, so that two trees may share it."""
-    try:
-        os.link(one, other)
-    except OSError:
-        shutil.copy2(one, other)
-    return other
+class Build:
+    """A run of `rt ci` over the tree, and what it has told."""
 
-
-def move(one, other):
-    if os.path.isdir(one):
-        shutil.rmtree(other, ignore_errors=True)
-        os.makedirs(os.path.dirname(other), exist_ok=True)
-        os.rename(one, other)
-
-
-class Run:
-    """A crate that is being proved: as a library in a room of its own, or as the program in its place."""
-
-    def __init__(self, crates, crate, jobs, behind, is_first, lock):
-        self.crate, self.start, self.processor = crate, time.time(), 0.0
-        self.home, self.room, self.is_first = os.path.join(CRATES, crate), None, is_first
-        self.has_kept = os.path.isdir(os.path.join(self.home, "out", "incremental"))
-        os.makedirs(os.path.join(self.home, "out"), exist_ok=True)
-        self.path = os.path.join(self.home, "out", "build.log")
-        if crate != NAME:
-            # As the toolchain does it, so that none of its commands works there meanwhile.
-            self.turn = os.open(self.home, os.O_RDONLY)
-            try:
-                fcntl.flock(self.turn, fcntl.LOCK_EX | fcntl.LOCK_NB)
-            except BlockingIOError:
-                os.close(self.turn)
-                raise
-            self.room = os.path.join(ROOMS, crate)
-            self.furnish(below(crates, crate))
-        words = ["nice", "-n", str(behind), "rt", "run" if crate == NAME else "lib", "--jobs", str(jobs)]
-        with open(self.path, "wb") as log:
+    def __init__(self, lines, used, crates, lock):
+        self.used, self.crates = used, crates
+        self.left, self.new = set(crates), set(crates)
+        self.start = self.told = self.last = time.time()
+        self.stopped = 0
+        furnish(lines, crates)
+        with open(LOG, "wb") as log:
             self.running = subprocess.Popen(
-                words,
-                cwd=self.place(crate) if self.room else self.home,
+                ["rt", "ci"],
+                cwd=ROOM,
                 stdin=subprocess.DEVNULL,
                 stdout=log,
                 stderr=subprocess.STDOUT,
@@ -210,237 +147,113 @@ class Run:
                 pass_fds=[lock],
             )
 
-    def place(self, crate):
-        return os.path.join(self.room, "crates", crate)
-
-    def furnish(self, libraries):
-        """Puts into the room what the crate is proved from, and what was kept of it."""
-        shutil.rmtree(self.room, ignore_errors=True)
-        os.makedirs(self.room)
-        shutil.copy2(os.path.join(TOP, "HANDLES"), self.room)
-        with open(LIST, encoding="utf-8") as lines, open(f"{self.room}/crates.txt", "w", encoding="utf-8") as here:
-            here.writelines(it for it in lines if it.partition(":")[0].split(" ")[0] in (*libraries, self.crate))
-        for crate in (*libraries, self.crate):
-            for part in TEXTS:
-                texts = os.path.join(CRATES, crate, part)
-                if os.path.isdir(texts):
-                    shutil.copytree(texts, os.path.join(self.place(crate), part))
-        for crate in libraries:
-            built = os.path.join(CRATES, crate, "out", "rlib")
-            shutil.copytree(built, os.path.join(self.place(crate), "out", "rlib"), copy_function=link)
-        for part in PARTS:
-            move(os.path.join(self.home, "out", part), os.path.join(self.place(self.crate), "out", part))
-
-    def has_ended(self):
-        """Whether it has ended; what its processes took is then added to that of all that have."""
-        before = processor_time()
-        if self.running.poll() is None:
-            return False
-        self.processor = processor_time() - before
-        return True
-
-    def clear(self):
-        """Keeps what was proved, and takes the room away."""
-        if self.running.poll() is None:
-            self.running.send_signal(signal.SIGTERM)
-            self.running.wait()
-        if self.room:
-            for part in PARTS:
-                move(os.path.join(self.place(self.crate), "out", part), os.path.join(self.home, "out", part))
-            shutil.rmtree(self.room, ignore_errors=True)
-            os.close(self.turn)
-
-    def said(self):
-        with open(self.path, encoding="utf-8", errors="replace") as log:
-            return log.read()
-
-    def age(self):
-        return time.time() - self.start
-
-    def is_from_nothing(self):
-        """Whether it has nothing that an earlier check kept, here or elsewhere on the machine."""
-        return not self.has_kept and "begins with what a check kept" not in self.said()
-
-    def complain(self):
-        """Shows what was said, less what is proved; the status of the build."""
-        kept = (it for it in self.said().splitlines() if not re.match(r"so far: |checked |fn .*: proved$", it))
-        path = os.path.relpath(self.path, TOP)
-        tell("\n".join(kept))
-        tell(f"The build failed in {self.crate}, status {self.running.returncode}; {path} has what was said.")
-        return 1
-
-    def was_killed(self):
-        """Whether memory ran out, most likely."""
-        return self.running.returncode in (-signal.SIGKILL, 256 - signal.SIGKILL, 128 + signal.SIGKILL)
-
-    def progress(self):
-        """The crate, and how many of its functions are proved."""
-        found = re.findall(r"(\d+ of \d+)", self.said())
-        return f"{self.crate} ({found[-1]})" if found else self.crate
-
-
-class Build:
-    """A build of these crates, of which some wait to be proved. A run holds the lock of the build, so that
-    no other build begins before all runs have ended."""
-
-    def __init__(self, crates, waiting, lock):
-        self.crates, self.waiting, self.lock = crates, list(waiting), lock
-        self.count, self.done, self.lanes = len(waiting), 0, lanes()
-        self.usual = {it: usual(it) for it in crates}
-        self.chain, self.running, self.again = chains(crates, self.usual), [], set()
-        self.start = self.told = time.time()
-        # Of the crates of the longest chain that were proved from nothing: what they took, and what is usual;
-        # each counts half as much as the one after it.
-        self.took = self.expected = 0.0
-        self.stopped = 0
-
     def stop(self, number, _):
         """Notes the signal that ends the build."""
         self.stopped = number
 
-    def seconds(self):
-        return f"{time.time() - self.start:.0f} s"
+    def said(self):
+        with open(LOG, encoding="utf-8", errors="replace") as log:
+            return log.read()
 
-    def rest(self, pace):
-        """How long what is left takes, in seconds, where a usual second takes `pace`."""
-        own = {it: pace * self.usual[it] if it in self.waiting else 0.0 for it in self.crates}
-        for run in self.running:
-            own[run.crate] = max(0.0, pace * self.usual[run.crate] - run.age())
-        return max(*chains(self.crates, own).values(), sum(own.values()) / self.lanes)
+    def after(self):
+        """How long it took so far, and about how long is left once a crate was proved."""
+        now = time.time()
+        rest, all_new = (longest(self.used, self.crates, it) for it in (self.left, self.new))
+        text = f"after {now - self.start:.0f} s"
+        if all_new > rest > 0:
+            pace = (self.last - self.start) / (all_new - rest)
+            text += f", {minutes(max(0.0, pace * rest - (now - self.last)))} left"
+        return text
 
-    def left(self):
-        """How long is left, by the crates that are done, and by one under way that takes longer than they, or
-        than is usual where none is done."""
-        if not (self.waiting or self.running):
-            return ""
-        paces = [self.took / self.expected] if self.expected else []
-        for run in self.running:
-            usual = self.usual[run.crate]
-            if run.is_first and (self.expected or run.age() > usual and run.is_from_nothing()):
-                paces.append((self.took + run.age()) / (self.expected + usual))
-        return f", {minutes(self.rest(max(paces)))} left" if paces else ""
-
-    def ready(self):
-        """The crates that wait for no other, the one with the longest chain behind it first."""
-        not_done = {*self.waiting, *(run.crate for run in self.running)}
-        found = [it for it in self.waiting if not not_done & below(self.crates, it)]
-        return sorted(found, key=lambda it: -self.chain[it])
-
-    def awaited(self, run):
-        """The time of the longest chain that begins with a run, less what of it has passed, as is usual."""
-        return self.chain[run.crate] - min(run.age(), self.usual[run.crate])
-
-    def begin(self):
-        """Starts what can be started: what was killed for want of memory alone, with one job, after the
-        rest."""
-        if any(it.crate in self.again for it in self.running):
-            return
-        ready = self.ready()
-        calm = [it for it in ready if it not in self.again]
-        if not calm and not self.running:
-            calm = ready[:1]
-        for crate in calm[: self.lanes - len(self.running)]:
-            shorter = max((self.awaited(it) for it in self.running), default=0.0) - self.chain[crate]
-            is_first, is_near = shorter <= 0, shorter <= NEARLY and crate not in self.again
-            jobs = (self.lanes if is_first else max(1, self.lanes // 2)) if is_near else 1
-            try:
-                run = Run(self.crates, crate, jobs, 0 if is_near else BEHIND, is_first, self.lock)
-            except BlockingIOError:
-                # Another command of the toolchain works in that crate.
-                continue
-            self.waiting.remove(crate)
-            self.running.append(run)
-
-    def end(self):
-        """Takes the crates that are done, and returns the first that failed."""
-        for run in [it for it in self.running if it.has_ended()]:
-            self.running.remove(run)
-            run.clear()
-            if run.running.returncode == 0:
-                self.done += 1
-                self.again.discard(run.crate)
-                if run.is_first and run.is_from_nothing():
-                    self.took = self.took / 2 + run.age()
-                    self.expected = self.expected / 2 + self.usual[run.crate]
-                took = f"{run.age():.0f} s, {run.processor:.0f} s of processors"
-                tell(f"{self.done} of {self.count}: {run.crate}, in {took}, after {self.seconds()}{self.left()}")
+    def look(self):
+        """Tells of the crates that are proved since the last look."""
+        found = re.findall(r"^rt: (\w+) (proved|is kept)", self.said(), re.M)
+        for crate, how in found:
+            if crate in self.left:
+                self.left.remove(crate)
+                if how == "proved":
+                    self.last = time.time()
+                else:
+                    self.new.discard(crate)
                 self.told = time.time()
-            elif run.was_killed() and run.crate not in self.again:
-                self.again.add(run.crate)
-                self.waiting.append(run.crate)
-            else:
-                return run
-        return None
+                tell(f"{len(self.crates) - len(self.left)} of {len(self.crates)}: {crate} {how}, {self.after()}")
+        if time.time() - self.told >= QUIET:
+            self.told = time.time()
+            tell(f"{len(self.crates) - len(self.left)} of {len(self.crates)} {self.after()}")
 
     def whole(self):
-        """Proves and builds all that waits; the status."""
-        while self.waiting or self.running:
+        """Waits for its end; the status."""
+        while self.running.poll() is None:
             if self.stopped:
+                self.running.send_signal(signal.SIGTERM)
+                self.running.wait()
                 return 128 + self.stopped
-            self.begin()
             time.sleep(0.2)
-            failed = self.end()
-            if failed:
-                return failed.complain()
-            if time.time() - self.told >= QUIET:
-                self.told = time.time()
-                under_way = ", ".join(it.progress() for it in self.running) or "waiting for another rt"
-                tell(f"{self.done} of {self.count} after {self.seconds()}{self.left()}; under way: {under_way}")
-        return 0
-
-    def clear(self):
-        for run in self.running:
-            run.clear()
-        salvage()
+            self.look()
+        if self.running.returncode:
+            parts = re.split(r"^== ", self.said(), flags=re.M)
+            failed = [it for it in parts if re.search(r"^rt: .*(NOT PROVED|FAILED|wrote)", it, re.M)] or parts[-1:]
+            shown = (it for it in "".join(failed).splitlines() if not re.match(r"checked |fn .*: proved$", it))
+            tell("\n".join(shown).replace(ROOM, TOP))
+            tell(f"The build failed; {os.path.relpath(LOG, TOP)} has what was said.")
+        return self.running.returncode
 
 
-def salvage():
-    """Keeps what a build that was killed had proved, and takes its rooms away."""
-    for crate in os.listdir(ROOMS) if os.path.isdir(ROOMS) else []:
-        for part in PARTS:
-            move(os.path.join(ROOMS, crate, "crates", crate, "out", part), os.path.join(CRATES, crate, "out", part))
-    shutil.rmtree(ROOMS, ignore_errors=True)
+def take(name):
+    """Puts the program of the tree in its place; the status."""
+    os.replace(os.path.join(ROOM, "crates", name, "out", name), product(name))
+    return 0
 
 
-def not_built(crates):
-    """The crates of which a source, or a crate below, is newer than what was built of them."""
-    found = []
-    for crate, libraries in crates.items():
-        built = PROGRAM if crate == NAME else os.path.join(CRATES, crate, "out", "rlib", "stamp")
-        is_old = changed(built) <= newest(os.path.join(CRATES, crate))
-        if is_old or any(it in found for it in libraries) or crate == NAME:
-            found.append(crate)
-    return found
+def archive(used):
+    """Makes the library for C over the libraries of the tree; the status."""
+    kit = os.path.dirname(os.path.dirname(os.path.realpath(shutil.which("rt"))))
+    libraries = [it for it in below(used, [LIBRARY]) if it != LIBRARY]
+    rlib = {it: os.path.join(ROOM, "crates", it, "out", "rlib", f"{it}.rlib") for it in libraries}
+    words = [os.path.join(kit, "bin", "rattle"), "build", "--crate-name", LIBRARY, "src/lib.rt"]
+    words += ["--crate-type", "staticlib", "--backend", "llvm", "--toolchain", os.path.join(kit, "toolchain")]
+    words += ["--extern", f"std={kit}/rlibs/std.rlib", "-L", f"dependency={kit}/rlibs"]
+    for it in libraries:
+        words += ["--extern", f"{it}={rlib[it]}"] if it in used[LIBRARY] else []
+        words += ["-L", f"dependency={os.path.dirname(rlib[it])}"]
+    words += ["--antt-project", f"{kit}/rattle/logic/antt-project.json", "--logic-built", f"{kit}/logic_built"]
+    words += ["--jobs", str(len(os.sched_getaffinity(0))), "-o", product(LIBRARY)]
+    made = subprocess.run(words, cwd=os.path.join(CRATES, LIBRARY), capture_output=True, errors="replace")
+    if made.returncode:
+        tell(f"{made.stdout}{made.stderr}The library for C was not built.")
+    return made.returncode
 
 
 def main():
-    crates = libraries_of(NAME)
+    lines, used = uses()
+    names = sys.argv[1:] or [NAME]
+    crates = below(used, names)
     sources = max(newest(os.path.join(CRATES, crate)) for crate in crates)
-    if changed(PROGRAM) > sources:
+    if all(changed(product(it)) > sources for it in names):
         return 0
     if shutil.which("rt") is None:
         tell("The command rt of the Rattle toolchain is not on the path. README.md says what is needed.")
         return 1
-    os.makedirs(os.path.dirname(PROGRAM), exist_ok=True)
-    with open(os.path.join(os.path.dirname(PROGRAM), "build.lock"), "w", encoding="utf-8") as lock:
+    os.makedirs(OUT, exist_ok=True)
+    with open(os.path.join(OUT, "build.lock"), "w", encoding="utf-8") as lock:
         try:
             fcntl.flock(lock, fcntl.LOCK_EX | fcntl.LOCK_NB)
         except BlockingIOError:
             tell("Another build is under way here; waiting for its end.")
             fcntl.flock(lock, fcntl.LOCK_EX)
-        salvage()
-        build = Build(crates, not_built(crates), lock.fileno())
+        if not os.path.exists(product(names[0])):
+            tell(f"Proving and building; from nothing about {USUAL_MINUTES} minutes on four usual cores.")
+        build = Build(lines, used, crates, lock.fileno())
         for number in (signal.SIGINT, signal.SIGTERM):
             signal.signal(number, build.stop)
-        if not os.path.exists(PROGRAM):
-            tell(f"Proving and building the program; from nothing {minutes(build.rest(1.0))} on four usual cores.")
-        try:
-            status = build.whole()
-        finally:
-            build.clear()
-    if status == 0:
-        # Where the toolchain finds all proved and built, it leaves the program as it is.
-        os.utime(PROGRAM)
+        status = build.whole()
+        for it in names:
+            os.makedirs(os.path.dirname(product(it)), exist_ok=True)
+            status = status or (archive(used) if it == LIBRARY else take(it))
+            if status == 0:
+                # As old as the copies of its sources, so that it is older than what changed since.
+                os.utime(product(it), (build.start, build.start))
+        shutil.rmtree(ROOM, ignore_errors=True)
     return status
 
 

@@ -1,12 +1,12 @@
 #!/usr/bin/env bash
-# Proves the library for C and makes two files of it in crates/usi_library/out: libusi.a, which a program
-# is linked with, and libusi.so, which is loaded. Both have the toolchain's calls of malloc and free in them.
+# Proves the program and the library for C, and makes two files of the library in crates/usi_library/out:
+# libusi.a, which a program is linked with, and libusi.so, which is loaded. Both have the toolchain's calls of
+# malloc and free in them.
 set -euo pipefail
-cd "$(dirname "$0")/../crates/usi_library"
+cd "$(dirname "$0")"
+./build.py usi_host usi_library
 heap=$(dirname "$(dirname "$(readlink -f "$(command -v rt)")")")/c/liblibc_c.a
-mkdir -p out
-rt lib >out/build.log 2>&1 || { cat out/build.log; exit 1; }
-cd out
+cd ../crates/usi_library/out
 folder=$(mktemp -d)
 trap 'rm -rf "$folder"' EXIT
 cp libusi_library.a "$folder/libusi.a"
