@@ -122,6 +122,10 @@ IsRefusedFor arguments (NotAccepted text) = HasMistake arguments (string_bytes t
 abbrev pub Gives : Job → Result Job ArgumentsFault → Type 0
 Gives job result = (result ≡ Ok job) ⊎ (result ≡ Err OutOfMemory)
 
+-- the job of `replay` with the numbers that it has where none is given, or memory ran out
+abbrev pub GivesReplay : Result Job ArgumentsFault → Type 0
+GivesReplay result = Gives (Replay 64 4096 500) result
+
 -- a help, or memory ran out
 abbrev pub GivesHelp : Result Job ArgumentsFault → Type 0
 GivesHelp (Ok (Help text)) = ⊤

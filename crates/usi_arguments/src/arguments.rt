@@ -2,7 +2,7 @@
 ghost use Rattle.std.specs.Prelude.{◌≡◌, ◌<◌, ◌^◌, ℕ, false, [], IfErr, IfNone, IfOk, IfSome, codes, map};
 ghost use Rattle.clap.specs.Words.{app_of, kind_of, rule_of, subcommand_rows_of};
 ghost use Rattle.clap.specs.declared.builder.command.Command.TheViews.{out-Command as fields_of};
-ghost use Rattle.usi_arguments.specs.Answers.{AreHelpArguments, AreReplayArguments, AreServeNumbers, AreStdioArguments, AreVersionArguments, Gives, GivesHelp, HasNoNumbers, HasRanges, IsAnswerTo, IsAnswerToParsed, IsAskedBy, IsJobIn, IsJobOf, IsRefusedFor, IsReplayOf, IsServeIn, IsStdioOf, NamesNoJob, NamesNoReplay, NamesNoServe, NamesNoStdio};
+ghost use Rattle.usi_arguments.specs.Answers.{AreHelpArguments, AreReplayArguments, AreServeNumbers, AreStdioArguments, AreVersionArguments, Gives, GivesHelp, GivesReplay, HasNoNumbers, HasRanges, IsAnswerTo, IsAnswerToParsed, IsAskedBy, IsJobIn, IsJobOf, IsRefusedFor, IsReplayOf, IsServeIn, IsStdioOf, NamesNoJob, NamesNoReplay, NamesNoServe, NamesNoStdio};
 ghost use Rattle.usi_arguments.specs.CommandLine.{HasNone, HasNumber, IsNumber, NamesTextIfAny, command_line, entries_option, options_in, replay_command, replay_line, serve_command, slice_option, slots_option, socket_command, socket_option, status_option, stdio_command, stdio_line, turns_option};
 ghost use Rattle.usi_arguments.specs.declared.arguments.Job.TheVariants.{Stdio, Replay, Version};
 ghost use Rattle.usi_arguments.specs.declared.arguments.ArgumentsFault.TheVariants.{OutOfMemory};
@@ -95,8 +95,7 @@ pub fn read_arguments<'a, S: AsStr>(
     ensures refused { IfErr result (IsRefusedFor (map S.text arguments.entry.now)) }
     ensures bare { arguments.entry.now ≡ [] → Gives (Stdio 4096) result }
     ensures stdio { AreStdioArguments (map S.text arguments.entry.now) → Gives (Stdio 4096) result }
-    ensures replay { AreReplayArguments (map S.text arguments.entry.now)
-        → Gives (Replay 64 4096 500) result }
+    ensures replay { AreReplayArguments (map S.text arguments.entry.now) → GivesReplay result }
     ensures help { AreHelpArguments (map S.text arguments.entry.now) → GivesHelp result }
     ensures version { AreVersionArguments (map S.text arguments.entry.now) → Gives Version result }
 {
