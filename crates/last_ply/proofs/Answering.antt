@@ -2,7 +2,7 @@
 use Rattle.std.proofs.Common.{◌≡◌, ◌<◌, ◌-◌, ◌^◌, ℕ, Bool, true, false, not, bit_and, bit_or, sym, ap, ◌∙◌, arith}
 use Rattle.std.proofs.lemmas.Bool.{and_parts, and_from, both_ways, or_parts, true_from_ne_false}
 use Rattle.shogi_core.specs.declared.moves.Move.TheVariants.{Board}
-use Rattle.shogi_core.specs.Bits.{has_bit, IsMaskOf}
+use Rattle.shogi_core.specs.Bits.{has_bit, HasBits}
 use Rattle.shogi_core.specs.Cell.{is_king}
 use Rattle.shogi_core.specs.Codes.{code_of}
 use Rattle.shogi_core.specs.Movement.{piece_at, reaches}
@@ -28,11 +28,11 @@ answers_on p checked pinned_or_king from n promote v g check hf hn own plain l =
     let safe : is_unchecked p (Board from n promote) ≡ true = (and_parts (is_pseudo_legal_board_move p.cells p.side from n promote) (is_unchecked p (Board from n promote)) legal).1 in
     true_from_ne_false (has_bit pinned_or_king n) (λ out. both_ways (is_unchecked p (Board from n false)) (no_answer p checked pinned_or_king from n g check v.cells_fit hf hn own plain out) (sym (unchecked_either p from n promote v.cells_fit hn own) ∙ safe))
 
-pub none_without_answer : (p : Shogi) (checked : Bool) (pinned_or_king own kings reaching : ℕ) → IsValid p → IsCheckInfo p checked pinned_or_king → checked ≡ true → IsMaskOf own (is_own p) → ((n : ℕ) → n < 81 → has_bit kings n ≡ is_king p.side (piece_at p.cells n))
+pub none_without_answer : (p : Shogi) (checked : Bool) (pinned_or_king own kings reaching : ℕ) → IsValid p → IsCheckInfo p checked pinned_or_king → checked ≡ true → own < 2 ^ 81 → HasBits own (is_own p) → ((n : ℕ) → n < 81 → has_bit kings n ≡ is_king p.side (piece_at p.cells n))
     → OnEach (bit_and pinned_or_king (2 ^ 128 - 1 - own)) (HasReachers p.cells reaching) → OnRest own (bit_and own (bit_or kings reaching)) (HasNoneFrom p)
-none_without_answer p checked pinned_or_king own kings reaching v g check owns crowns far n h mine out to promote ht l =
+none_without_answer p checked pinned_or_king own kings reaching v g check fits owns crowns far n h mine out to promote ht l =
     let two = or_parts (has_bit kings n) (has_bit reaching n) (sym (has_bit-or kings reaching n) ∙ out_within own (bit_or kings reaching) n mine out) in
     let parts = legal_parts p n to promote h ht l in
-    let there : has_bit pinned_or_king to ≡ true = answers_on p checked pinned_or_king n to promote v g check h ht (sym (owns.0 n h) ∙ mine) (sym (crowns n h) ∙ two.0) l in
-    let free : has_bit own to ≡ false = owns.0 to ht ∙ parts.1 in
-    both_ways (reaches p.cells n to) (far to ht (has_bit-and pinned_or_king (2 ^ 128 - 1 - own) to ∙ and_from _ _ there (has_bit-not own to (omega (arith, owns.1)) (omega arith) ∙ ap not free)) n h two.1) parts.0
+    let there : has_bit pinned_or_king to ≡ true = answers_on p checked pinned_or_king n to promote v g check h ht (sym (owns n h) ∙ mine) (sym (crowns n h) ∙ two.0) l in
+    let free : has_bit own to ≡ false = owns to ht ∙ parts.1 in
+    both_ways (reaches p.cells n to) (far to ht (has_bit-and pinned_or_king (2 ^ 128 - 1 - own) to ∙ and_from _ _ there (has_bit-not own to (omega (arith, fits)) (omega arith) ∙ ap not free)) n h two.1) parts.0

@@ -59,7 +59,7 @@ answered_drop p kind escapes kings n e piece v a bits fits some hn he among off 
       end = e;
       on_board = (low.0, he);
       king = crown;
-      escape = a.escapes (trailing_zeros w128 kings) e low.0 crown he among;
+      escape = a (trailing_zeros w128 kings) e low.0 crown he among;
       open_end = has_bit-mask 81 (λ m. not (m == e)) e he ∙ ap not (eq-eqb e e refl);
       elsewhere = (
         λ same. both_ways (is_king (opponent_of p.side) (piece_at p.cells n)) (ap (is_king (opponent_of p.side)) safe.free) (subst (λ (x : ℕ). is_king (opponent_of p.side) (piece_at p.cells x) ≡ true) same crown),
@@ -83,7 +83,7 @@ answered_board p from promote escapes kings n e piece v a bits fits some hf hn h
       end = e;
       on_board = (low.0, he);
       king = crown;
-      escape = a.escapes (trailing_zeros w128 kings) e low.0 crown he among;
+      escape = a (trailing_zeros w128 kings) e low.0 crown he among;
       open_end = has_bit-or (mask_below 81 (λ m. not (m == e))) (mask_below 81 (λ m. are_aligned from m)) e
           ∙ (ap (λ (b : Bool). b || has_bit (mask_below 81 (λ m. are_aligned from m)) e) (has_bit-mask 81 (λ m. not (m == e)) e he ∙ ap not (eq-eqb e e refl))
           ∙ (has_bit-mask 81 (λ m. are_aligned from m) e he ∙ apart));
@@ -99,7 +99,7 @@ answered_board p from promote escapes kings n e piece v a bits fits some hf hn h
     ])
     (λ m hm. has_bit-mask 81 (λ i. are_aligned from i) m hm)
 
--- a square off such a mask, the kings and the escape
+-- a square off these, the kings and the escape
 pub apart_from : (closing marked kings e n : ℕ) → ((i : ℕ) → has_bit marked i ≡ (has_bit kings i || (i == e))) → has_bit (bit_or closing marked) n ≡ false → (has_bit closing n ≡ false) × (has_bit kings n ≡ false) × (e ≢ n)
 apart_from closing marked kings e n bits out =
     let two : (has_bit closing n ≡ false) × (has_bit marked n ≡ false) = or_parts (has_bit closing n) (has_bit marked n) (sym (has_bit-or closing marked n) ∙ out) in
@@ -107,13 +107,13 @@ apart_from closing marked kings e n bits out =
     (two.0, off.0, λ same. both_ways (n == e) off.1 (eq-eqb n e (sym same)))
 
 -- what is dropped on an escape is taken
-pub taken_there : (p : Shogi) (kind : Kind) (squares escapes kings n : ℕ) → IsValid p → AreEscapes p escapes → ((k : ℕ) → k < 81 → has_bit kings k ≡ is_king (opponent_of p.side) (piece_at p.cells k)) → kings < 2 ^ 81 → kings ≢ 0 → n < 81 → has_bit squares n ≡ true → has_bit (bit_and squares (2 ^ 128 - 1 - escapes)) n ≡ false → IsAnswered p (Drop kind n)
-taken_there p kind squares escapes kings n v a bits fits some hn e out = λ legal. taken_drop p kind escapes kings n v hn a fits bits some
-    (true_from_ne_false (has_bit escapes n) (λ off. both_ways (has_bit (bit_and squares (2 ^ 128 - 1 - escapes)) n) out (has_bit-and squares (2 ^ 128 - 1 - escapes) n ∙ and_from _ _ e (has_bit-not escapes n (omega (arith, a.fits)) (omega arith) ∙ ap not off))))
+pub taken_there : (p : Shogi) (kind : Kind) (squares escapes kings n : ℕ) → IsValid p → escapes < 2 ^ 81 → AreEscapes p escapes → ((k : ℕ) → k < 81 → has_bit kings k ≡ is_king (opponent_of p.side) (piece_at p.cells k)) → kings < 2 ^ 81 → kings ≢ 0 → n < 81 → has_bit squares n ≡ true → has_bit (bit_and squares (2 ^ 128 - 1 - escapes)) n ≡ false → IsAnswered p (Drop kind n)
+taken_there p kind squares escapes kings n v among a bits fits some hn e out = λ legal. taken_drop p kind escapes kings n v hn a fits bits some
+    (true_from_ne_false (has_bit escapes n) (λ off. both_ways (has_bit (bit_and squares (2 ^ 128 - 1 - escapes)) n) out (has_bit-and squares (2 ^ 128 - 1 - escapes) n ∙ and_from _ _ e (has_bit-not escapes n (omega (arith, among)) (omega arith) ∙ ap not off))))
 
 -- no escape is known
 pub no_escapes : (p : Shogi) → AreEscapes p 0
-no_escapes p = record { escapes = λ k e hk king he among. absurd (both_ways (has_bit 0 e) (has_bit-none e) among); fits = omega arith }
+no_escapes p k e hk king he among = absurd (both_ways (has_bit 0 e) (has_bit-none e) among)
 
 -- a square that is kept no more was not among the closing ones
 pub not_closing : (kept closing n : ℕ) → has_bit (bit_and kept closing) n ≡ false → has_bit kept n ≡ true → has_bit closing n ≡ false

@@ -1,18 +1,18 @@
 -- The legal move of least code that scores more than the node has.
-use Rattle.std.proofs.Common.{◌≡◌, ◌<◌, ◌+◌, ◌*◌, ◌/◌, ◌%◌, ℕ, ℤ, ◌≤ℤ◌, ◌<ℤ◌, Bool, true, false, not, bit_and, bit_or, sym, ap, ◌∙◌, subst, arith, inl, inr}
+use Rattle.std.proofs.Common.{◌≡◌, ◌<◌, ◌+◌, ◌*◌, ◌/◌, ◌%◌, ℕ, ℤ, ◌≤ℤ◌, ◌<ℤ◌, Bool, true, false, bit_and, bit_or, sym, ap, ◌∙◌, subst, arith, inl, inr}
 use Rattle.std.specs.Prelude.{◌==◌}
 use Rattle.std.proofs.lemmas.Int.{ints}
-use Rattle.std.proofs.lemmas.Bool.{and_from, both_ways, cases_lt, or_parts, true_from_ne_false}
+use Rattle.std.proofs.lemmas.Bool.{both_ways, cases_lt, or_parts, true_from_ne_false}
 use Rattle.shogi_core.specs.declared.moves.TheConstants.{SQUARE_CODES}
 use Rattle.shogi_core.specs.declared.moves.Move.TheVariants.{Board, Drop}
 use Rattle.shogi_core.specs.Bits.{has_bit}
 use Rattle.shogi_core.specs.Cell.{is_piece_of}
 use Rattle.shogi_core.specs.Codes.{code_of}
-use Rattle.shogi_core.specs.Movement.{piece_at, reaches}
+use Rattle.shogi_core.specs.Movement.{piece_at}
 use Rattle.shogi_core.specs.Pieces.{opponent_of}
 use Rattle.shogi_core.specs.Position.{Shogi}
 use Rattle.shogi_core.specs.Validity.{IsValid}
-use Rattle.shogi_core.proofs.BitLaws.{has_bit-and, has_bit-or}
+use Rattle.shogi_core.proofs.BitLaws.{has_bit-or}
 use Rattle.shogi_core.proofs.CodesBack.{code_of-board, move_of-drop}
 use Rattle.shogi_moves.specs.Legal.{is_legal_code}
 use Rattle.shogi_core.specs.Zones.{may_promote}
@@ -21,21 +21,18 @@ use Rattle.shogi_eval.specs.declared.eval.Eval.{Eval}
 use Rattle.shogi_eval.specs.Evaluated.{Evaluated}
 use Rattle.shogi_eval.specs.Material.{material_of}
 use Rattle.shogi_moves.specs.Destinations.{is_own}
-use Rattle.last_ply.specs.LastPly.{is_legal_board_move, score_at, IsFirstFrom, NoneScoresFrom, Scores, ScoresFromAtMost, OnOwn, NoneScores, IsFirstToScore}
-use Rattle.last_ply.proofs.Scores.{by_moves, legal_parts, score_drop, score_quiet}
+use Rattle.last_ply.specs.LastPly.{is_legal_board_move, score_at, IsFirstFrom, IsReach, NoneScoresFrom, Scores, ScoresFromAtMost, OnOwn, NoneScores, IsFirstToScore}
+use Rattle.last_ply.proofs.Scores.{by_moves, legal_end, legal_parts, score_drop, score_quiet}
 use Rattle.last_ply.proofs.Squares.{out_within}
 
 -- a legal move that ends on no square of a capture or a promotion scores what the node has
-pub quiet_end : (p : Shogi) (e : Eval) (from targets enters foe zone n : ℕ) (promote : Bool) → IsValid p → from < 81 → n < 81
-    → ((n : ℕ) → n < 81 → has_bit targets n ≡ reaches p.cells from n) → ((n : ℕ) → n < 81 → has_bit enters n ≡ not (is_own p n))
+pub quiet_end : (p : Shogi) (e : Eval) (from reach foe zone n : ℕ) (promote : Bool) → IsValid p → from < 81 → n < 81 → IsReach p from reach
     → ((n : ℕ) → n < 81 → has_bit foe n ≡ is_piece_of (opponent_of p.side) (piece_at p.cells n)) → ((n : ℕ) → n < 81 → has_bit zone n ≡ may_promote (piece_at p.cells from) from n)
-    → has_bit (bit_and (bit_and targets enters) (bit_or foe zone)) n ≡ false → is_legal_board_move p from n promote ≡ true → score_at p e (code_of (Board from n promote)) ≡ material_of p e
-quiet_end p e from targets enters foe zone n promote v hf h tb eb fb zb out l = go promote l
+    → has_bit (bit_and reach (bit_or foe zone)) n ≡ false → is_legal_board_move p from n promote ≡ true → score_at p e (code_of (Board from n promote)) ≡ material_of p e
+quiet_end p e from reach foe zone n promote v hf h rb fb zb out l = go promote l
   where
     off : (promote : Bool) → is_legal_board_move p from n promote ≡ true → (has_bit foe n ≡ false) × (has_bit zone n ≡ false)
-    off promote l = (
-        let parts = legal_parts p from n promote hf h l in
-        or_parts _ _ (sym (has_bit-or foe zone n) ∙ out_within (bit_and targets enters) (bit_or foe zone) n (has_bit-and targets enters n ∙ and_from _ _ (tb n h ∙ parts.0) (eb n h ∙ ap not parts.1)) out))
+    off promote l = or_parts _ _ (sym (has_bit-or foe zone n) ∙ out_within reach (bit_or foe zone) n (legal_end p from reach n promote hf h rb l) out)
 
     go : (promote : Bool) → is_legal_board_move p from n promote ≡ true → score_at p e (code_of (Board from n promote)) ≡ material_of p e
     go true l = absurd (both_ways (has_bit zone n) (off true l).1 (zb n h ∙ (legal_parts p from n true hf h l).2))

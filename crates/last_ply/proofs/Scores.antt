@@ -29,7 +29,7 @@ use Rattle.shogi_core.specs.Zones.{may_promote, is_near_zone}
 use Rattle.shogi_moves.specs.Destinations.{is_own, AreEnterable, HasMovers, is_destination, is_unchecked}
 use Rattle.shogi_moves.specs.LegalMoves.{legal_codes}
 use Rattle.shogi_moves.specs.Rising.{is_in}
-use Rattle.shogi_moves.proofs.DestinationLaws.{all_ways, legal_board}
+use Rattle.shogi_moves.proofs.DestinationLaws.{legal_board}
 use Rattle.shogi_replies.proofs.FarLaws.{far_plain}
 use Rattle.shogi_moves.proofs.Keeps.{is_safe_from_legal}
 use Rattle.shogi_moves.proofs.KeepsBoard.{IsSafeBoardMove, safe_board_move}
@@ -40,7 +40,7 @@ use Rattle.shogi_eval.specs.declared.gain.TheConstants.{PROMOTION_GAIN_MAX}
 use Rattle.shogi_eval.specs.Material.{material_of, taken_gain, promotion_gain, drop_gain, value_of}
 use Rattle.shogi_eval.proofs.Gains.{material_after_board, material_after_drop}
 use Rattle.last_ply.proofs.Squares.{left_clear}
-use Rattle.last_ply.specs.LastPly.{is_legal_board_move, score_at, HasScore, ScoresAtMost, ScoresFromAtMost, ScoresAmongAtMost, OnOwn}
+use Rattle.last_ply.specs.LastPly.{is_legal_board_move, score_at, HasScore, IsReach, ScoresAtMost, ScoresFromAtMost, ScoresAmongAtMost, OnOwn}
 
 -- what the move on the board of a code scores
 pub score_board : (p : Shogi) (e : Eval) (from to : ℕ) (promote : Bool) → IsValid p → from < 81 → to < 81 → is_legal_board_move p from to promote ≡ true
@@ -88,21 +88,33 @@ legal_parts p from n promote hf h l =
     let two = and_parts _ _ three.0 in
     (two.1, not-true _ (and_parts _ _ two.0).1, three.1)
 
--- what a piece's captures and promotions score at most, all its moves do, where the node has no more
-pub from_ends : (p : Shogi) (e : Eval) (from targets enters foe zone : ℕ) (floor first last : ℤ) → IsValid p → from < 81
-    → ((n : ℕ) → n < 81 → has_bit targets n ≡ reaches p.cells from n) → ((n : ℕ) → n < 81 → has_bit enters n ≡ not (is_own p n))
-    → ((n : ℕ) → n < 81 → has_bit foe n ≡ is_piece_of (opponent_of p.side) (piece_at p.cells n)) → ((n : ℕ) → n < 81 → has_bit zone n ≡ may_promote (piece_at p.cells from) from n)
-    → ScoresAmongAtMost p e from false (bit_and (bit_and targets enters) foe) first → ScoresAmongAtMost p e from true (bit_and (bit_and targets enters) zone) last
-    → material_of p e ≤ℤ floor → floor ≤ℤ first → first ≤ℤ last → ScoresFromAtMost p e from last
-from_ends p e from targets enters foe zone floor first last v hf tb eb fb zb takes promotes base up more n promote h l = go promote l
-  where
-    end : (promote : Bool) → is_legal_board_move p from n promote ≡ true → has_bit (bit_and targets enters) n ≡ true
-    end promote l = (let parts = legal_parts p from n promote hf h l in has_bit-and targets enters n ∙ and_from _ _ (tb n h ∙ parts.0) (eb n h ∙ ap not parts.1))
+-- a legal move ends on a square of the reach, and with promotion where the piece may promote
+pub legal_end : (p : Shogi) (from reach n : ℕ) (promote : Bool) → from < 81 → n < 81 → IsReach p from reach → is_legal_board_move p from n promote ≡ true → has_bit reach n ≡ true
+legal_end p from reach n promote hf h rb l =
+    let parts = legal_parts p from n promote hf h l in
+    rb n h ∙ and_from _ _ parts.0 (ap not parts.1)
 
+pub legal_promotion : (p : Shogi) (from reach zone n : ℕ) → from < 81 → n < 81 → IsReach p from reach → has_bit zone n ≡ may_promote (piece_at p.cells from) from n → is_legal_board_move p from n true ≡ true → has_bit (bit_and reach zone) n ≡ true
+legal_promotion p from reach zone n hf h rb zb l = has_bit-and reach zone n ∙ and_from _ _ (legal_end p from reach n true hf h rb l) (zb ∙ (legal_parts p from n true hf h l).2)
+
+-- the legal ones among the squares of the reach are all legal ones
+pub all_legal : (p : Shogi) (from reach ends n : ℕ) (promote : Bool) → from < 81 → n < 81 → IsReach p from reach → has_bit ends n ≡ (has_bit reach n && is_legal_board_move p from n promote) → has_bit ends n ≡ is_legal_board_move p from n promote
+all_legal p from reach ends n promote hf h rb bits = elim (cases_Bool (is_legal_board_move p from n promote)) [
+  | inl legal ↦ bits ∙ (and_from _ _ (legal_end p from reach n promote hf h rb legal) legal ∙ sym legal)
+  | inr illegal ↦ false_from_ne_true (has_bit ends n) (λ set. both_ways (is_legal_board_move p from n promote) illegal (and_parts (has_bit reach n) _ (sym bits ∙ set)).1) ∙ sym illegal
+]
+
+-- what a piece's captures and promotions score at most, all its moves do, where the node has no more
+pub from_ends : (p : Shogi) (e : Eval) (from reach foe zone : ℕ) (floor first last : ℤ) → IsValid p → from < 81 → IsReach p from reach
+    → ((n : ℕ) → n < 81 → has_bit foe n ≡ is_piece_of (opponent_of p.side) (piece_at p.cells n)) → ((n : ℕ) → n < 81 → has_bit zone n ≡ may_promote (piece_at p.cells from) from n)
+    → ScoresAmongAtMost p e from false (bit_and reach foe) first → ScoresAmongAtMost p e from true (bit_and reach zone) last
+    → material_of p e ≤ℤ floor → floor ≤ℤ first → first ≤ℤ last → ScoresFromAtMost p e from last
+from_ends p e from reach foe zone floor first last v hf rb fb zb takes promotes base up more n promote h l = go promote l
+  where
     go : (promote : Bool) → is_legal_board_move p from n promote ≡ true → score_at p e (code_of (Board from n promote)) ≤ℤ last
-    go true l = promotes n h (has_bit-and (bit_and targets enters) zone n ∙ and_from _ _ (end true l) (zb n h ∙ (legal_parts p from n true hf h l).2)) l
+    go true l = promotes n h (has_bit-and reach zone n ∙ and_from _ _ (legal_end p from reach n true hf h rb l) (zb n h ∙ (legal_parts p from n true hf h l).2)) l
     go false l = elim (cases_Bool (has_bit foe n)) [
-      | inl set ↦ (let s : score_at p e (code_of (Board from n false)) ≤ℤ first = takes n h (has_bit-and (bit_and targets enters) foe n ∙ and_from _ _ (end false l) set) l in omega (arith, ints))
+      | inl set ↦ (let s : score_at p e (code_of (Board from n false)) ≤ℤ first = takes n h (has_bit-and reach foe n ∙ and_from _ _ (legal_end p from reach n false hf h rb l) set) l in omega (arith, ints))
       | inr out ↦ (let s : score_at p e (code_of (Board from n false)) ≡ material_of p e = score_quiet p e from n v hf h l (sym (fb n h) ∙ out) in omega (arith, ints))
     ]
 
@@ -113,10 +125,14 @@ none_among p e from a b v none = (λ n h set l. absurd (both_ways (has_bit a n) 
     out : (n : ℕ) → (has_bit a n ≡ false) × (has_bit b n ≡ false)
     out n = or_parts _ _ (sym (has_bit-or a b n) ∙ (ap (λ (m : ℕ). has_bit m n) none ∙ has_bit-none n))
 
--- ends among the squares that the piece reaches and may enter
-pub enters_some : (p : Shogi) (from targets enters squares : ℕ) → ((n : ℕ) → n < 81 → has_bit targets n ≡ reaches p.cells from n) → ((n : ℕ) → n < 81 → has_bit enters n ≡ not (is_own p n))
-    → AreEnterable p from (bit_and (bit_and targets enters) squares)
-enters_some p from targets enters squares tb eb n h set = all_ways targets enters n _ _ (tb n h) (eb n h) (and_parts _ _ (sym (has_bit-and (bit_and targets enters) squares n) ∙ set)).0
+-- the piece reaches and may enter the squares of its reach, and those of them that are among others
+pub enters : (p : Shogi) (from reach : ℕ) → IsReach p from reach → AreEnterable p from reach
+enters p from reach rb n h set =
+    let both = and_parts (reaches p.cells from n) (not (is_own p n)) (sym (rb n h) ∙ set) in
+    (both.0, not-true (is_own p n) both.1)
+
+pub enters_some : (p : Shogi) (from reach squares : ℕ) → IsReach p from reach → AreEnterable p from (bit_and reach squares)
+enters_some p from reach squares rb n h set = enters p from reach rb n h (and_parts (has_bit reach n) _ (sym (has_bit-and reach squares n) ∙ set)).0
 
 -- no drop gains
 drop_gain_most : (e : Eval) (kind : Kind) → drop_gain e kind ≤ℤ pos 0
@@ -189,7 +205,7 @@ quiet_piece p e from v hf takes promotes n false h l =
     let s : score_at p e (code_of (Board from n false)) ≡ material_of p e = score_quiet p e from n v hf h l free in
     omega (arith, ints)
 
--- so does one that is among neither kind of mask
+-- so does one that is among neither of these
 pub quiet_others : (p : Shogi) (e : Eval) (own takes zone sliders n : ℕ) → IsValid p → n < 81 → ((i : ℕ) → i < 81 → has_bit own i ≡ is_own p i) → HasMovers p true own takes → ((i : ℕ) → i < 81 → has_bit zone i ≡ is_near_zone p.side i) → ((i : ℕ) → i < 81 → has_bit sliders i ≡ is_slider (piece_at p.cells i))
     → has_bit own n ≡ true → has_bit (bit_or takes (bit_and own (bit_or zone sliders))) n ≡ false → ScoresFromAtMost p e n (material_of p e)
 quiet_others p e own takes zone sliders n v h ob m zb sb set out =

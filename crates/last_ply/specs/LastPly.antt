@@ -1,11 +1,11 @@
 -- What is asked of a node with one ply left (own choice).
-use Rattle.std.specs.Prelude.{◌&&◌, ◌==◌, ◌+◌, ◌*◌, ◌^◌, ◌≤◌, ◌+ℤ◌, pos, not, ◌≡◌, ◌≢◌, ◌<◌, ◌≤ℤ◌, ◌⊎◌, ℕ, ℤ, [], true, false, Bool, Some}
+use Rattle.std.specs.Prelude.{◌&&◌, ◌==◌, ◌+◌, ◌*◌, ◌≤◌, ◌+ℤ◌, pos, not, ◌≡◌, ◌≢◌, ◌<◌, ◌≤ℤ◌, ◌⊎◌, ℕ, ℤ, [], true, false, Bool, Some}
 use Rattle.shogi_core.specs.declared.moves.Move.TheVariants.{Board, Drop}
 use Rattle.shogi_core.specs.declared.moves.TheConstants.{SQUARE_CODES}
 use Rattle.shogi_core.specs.declared.piece.Kind.{Kind}
 use Rattle.shogi_core.specs.declared.piece.Piece.{Piece}
 use Rattle.shogi_core.specs.Below.{some_below}
-use Rattle.shogi_core.specs.Bits.{has_bit}
+use Rattle.shogi_core.specs.Bits.{HasBits, has_bit}
 use Rattle.shogi_core.specs.Codes.{code_of}
 use Rattle.shogi_core.specs.Movement.{Cells, cell_reaches, piece_at, reaches}
 use Rattle.shogi_core.specs.Position.{Shogi}
@@ -26,18 +26,22 @@ use Rattle.minimax.specs.declared.entry.Entry.{Entry}
 abbrev pub is_legal_board_move : Shogi → ℕ → ℕ → Bool → Bool
 is_legal_board_move p from to promote = is_legal_code p (code_of (Board from to promote))
 
--- of each square of a mask this holds
+-- they are the squares that what stands on the square reaches, but those of the side's own pieces
+abbrev pub IsReach : Shogi → ℕ → ℕ → Type 0
+IsReach p from squares = HasBits squares (λ n. reaches p.cells from n && not (is_own p n))
+
+-- of each of the squares this holds
 abbrev pub OnEach : ℕ → (ℕ → Type 0) → Type 0
-OnEach mask fact = (n : ℕ) → n < 81 → has_bit mask n ≡ true → fact n
+OnEach squares fact = (n : ℕ) → n < 81 → has_bit squares n ≡ true → fact n
 
--- of each square outside a mask
+-- of each other square of the board
 abbrev pub Outside : ℕ → (ℕ → Type 0) → Type 0
-Outside mask fact = (n : ℕ) → n < 81 → has_bit mask n ≡ false → fact n
+Outside squares fact = (n : ℕ) → n < 81 → has_bit squares n ≡ false → fact n
 
--- of each one of the squares that a mask lacks
+-- of each of the first squares that is not one of the second
 abbrev pub OnRest : ℕ → ℕ → (ℕ → Type 0) → Type 0
-OnRest squares mask fact =
-    (n : ℕ) → n < 81 → has_bit squares n ≡ true → has_bit mask n ≡ false → fact n
+OnRest squares others fact =
+    (n : ℕ) → n < 81 → has_bit squares n ≡ true → has_bit others n ≡ false → fact n
 
 -- of each piece of the side to move, by its square
 abbrev pub OnOwn : Shogi → (ℕ → Type 0) → Type 0
@@ -129,9 +133,10 @@ ScoresToAtMost p e v from to promote = is_legal_board_move p from to promote ≡
 abbrev pub NoneScoresFrom : Evaluated → ℤ → ℕ → Type 0
 NoneScoresFrom node v from = (n : ℕ) (promote : Bool) → n < 81 → ScoresElse node v from n promote
 
--- and none of those to a square that the mask lacks
+-- and none of those to a square that is not one of these
 abbrev pub NoneScoresAmong : Evaluated → ℤ → ℕ → ℕ → Type 0
-NoneScoresAmong node v from mask = (n : ℕ) (promote : Bool) → n < 81 → has_bit mask n ≡ false
+NoneScoresAmong node v from squares = (n : ℕ) (promote : Bool) → n < 81
+    → has_bit squares n ≡ false
     → ScoresElse node v from n promote
 
 -- of the legal moves of what stands on the square that score this, the code is the least
@@ -157,9 +162,10 @@ abbrev pub ScoresFromAtMost : Shogi → Eval → ℕ → ℤ → Type 0
 ScoresFromAtMost p e from v =
     (n : ℕ) (promote : Bool) → n < 81 → ScoresToAtMost p e v from n promote
 
--- and those among them to the squares of the mask, promoting or not
+-- and those among them to these squares, promoting or not
 abbrev pub ScoresAmongAtMost : Shogi → Eval → ℕ → Bool → ℕ → ℤ → Type 0
-ScoresAmongAtMost p e from promote mask v = OnEach mask (λ n. ScoresToAtMost p e v from n promote)
+ScoresAmongAtMost p e from promote squares v =
+    OnEach squares (λ n. ScoresToAtMost p e v from n promote)
 
 -- a capture of what stands on the square scores no more than this, whatever takes and promotes
 abbrev pub TakesTooLittle : Evaluated → ℕ → ℤ → Type 0
@@ -171,17 +177,17 @@ TakesTooLittle node t v =
 abbrev pub TakesLittle : Evaluated → ℤ → ℕ → ℕ → Type 0
 TakesLittle node v t n = reaches node.position.cells n t ≡ true → TakesTooLittle node t v
 
--- what stands outside the mask does not reach the square
+-- what stands on another square than these does not reach the square
 abbrev pub HasReachers : Cells → ℕ → ℕ → Type 0
-HasReachers cells mask t = Outside mask (λ n. reaches cells n t ≡ false)
+HasReachers cells squares t = Outside squares (λ n. reaches cells n t ≡ false)
 
--- the moves of what stands on the square to those of the mask are legal, promoting or not
+-- the moves of what stands on the square to the ends are legal, promoting or not
 abbrev pub AreLegalEnds : Shogi → ℕ → Bool → ℕ → Type 0
-AreLegalEnds p from promote mask = OnEach mask (λ n. is_legal_board_move p from n promote ≡ true)
+AreLegalEnds p from promote ends = OnEach ends (λ n. is_legal_board_move p from n promote ≡ true)
 
--- the drops of the kind on the squares of the mask are legal
+-- the drops of the kind on the ends are legal
 abbrev pub AreLegalDropEnds : Shogi → Kind → ℕ → Type 0
-AreLegalDropEnds p kind mask = OnEach mask (λ n. is_legal_code p (code_of (Drop kind n)) ≡ true)
+AreLegalDropEnds p kind ends = OnEach ends (λ n. is_legal_code p (code_of (Drop kind n)) ≡ true)
 
 -- if the move of what stands on the square is legal, it leaves the other side one
 abbrev pub LeavesSomeTo : Shogi → ℕ → ℕ → Bool → Type 0
@@ -196,41 +202,40 @@ LeaveSomeFrom p from = (n : ℕ) (promote : Bool) → n < 81 → LeavesSomeTo p 
 abbrev pub BoardLeavesSome : Shogi → Type 0
 BoardLeavesSome p = OnOwn p (LeaveSomeFrom p)
 
--- what stands on the square may go to each square of the mask, promoting or not, and each of its legal moves elsewhere leaves the other side one
-pub record AreDoubtfulEnds (p : Shogi) (from : ℕ) (promote : Bool) (mask : ℕ) : Type 0 where
-  pub enterable : AreEnterable p from mask
-  pub fits : mask < 2 ^ 81
-  pub others : Outside mask (λ n. LeavesSomeTo p from n promote)
+-- what stands on the square may go to each of the ends, promoting or not, and each of its legal moves elsewhere leaves the other side one
+pub record AreDoubtfulEnds (p : Shogi) (from : ℕ) (promote : Bool) (ends : ℕ) : Type 0 where
+  pub enterable : AreEnterable p from ends
+  pub others : Outside ends (λ n. LeavesSomeTo p from n promote)
 
--- and each move to a square of the mask, promoting or not
+-- and each move to one of the ends, promoting or not
 abbrev pub LeaveSomeAmong : Shogi → ℕ → Bool → ℕ → Type 0
-LeaveSomeAmong p from promote mask = OnEach mask (λ n. LeavesSome p (code_of (Board from n promote)))
+LeaveSomeAmong p from promote ends = OnEach ends (λ n. LeavesSome p (code_of (Board from n promote)))
 
--- and each drop of the kind on such a square
+-- and each drop of the kind on one of the ends
 abbrev pub DropsLeaveSomeAmong : Shogi → Kind → ℕ → Type 0
-DropsLeaveSomeAmong p kind mask = OnEach mask (λ n. LeavesSome p (code_of (Drop kind n)))
+DropsLeaveSomeAmong p kind ends = OnEach ends (λ n. LeavesSome p (code_of (Drop kind n)))
 
 -- each legal drop of the kind leaves the other side a legal move
 abbrev pub DropsLeaveSome : Shogi → Kind → Type 0
 DropsLeaveSome p kind = (n : ℕ) → n < 81 → is_legal_code p (code_of (Drop kind n)) ≡ true
     → LeavesSome p (code_of (Drop kind n))
 
--- beside each square the mask has another one
+-- beside each square there is another one of these
 abbrev pub HasOthers : ℕ → Type 0
-HasOthers mask = (n : ℕ) → some_below 81 (λ a. has_bit mask a && not (a == n)) ≡ true
+HasOthers squares = (n : ℕ) → some_below 81 (λ a. has_bit squares a && not (a == n)) ≡ true
 
 -- the piece does not reach one square from another one, whatever stands between
 abbrev pub IsOutOfReach : Piece → ℕ → ℕ → Type 0
 IsOutOfReach piece from to = (cells : Cells) → cell_reaches cells (Some piece) from to ≡ false
 
--- the moves of what stands on the square to the ends that the mask lacks are answered, promoting or not
+-- the moves of what stands on the square to the ends that are not kept are answered, promoting or not
 abbrev pub AreAnsweredOff : Shogi → ℕ → Bool → ℕ → ℕ → Type 0
-AreAnsweredOff p from promote ends mask =
-    OnRest ends mask (λ n. IsAnswered p (Board from n promote))
+AreAnsweredOff p from promote ends kept =
+    OnRest ends kept (λ n. IsAnswered p (Board from n promote))
 
--- and so are the drops of the kind on the squares that it lacks
+-- and so are the drops of the kind on the squares that are not kept
 abbrev pub AreDropsAnsweredOff : Shogi → Kind → ℕ → ℕ → Type 0
-AreDropsAnsweredOff p kind squares mask = OnRest squares mask (λ n. IsAnswered p (Drop kind n))
+AreDropsAnsweredOff p kind squares kept = OnRest squares kept (λ n. IsAnswered p (Drop kind n))
 
 -- the same of a node
 abbrev pub NodeHasScore : Evaluated → ℤ → Type 0

@@ -8,25 +8,24 @@ ghost use Rattle.last_ply.specs.LastPly.{AreLegalEnds, base_of, HasNoMate, IsNoL
 
 use crate::scene::Scene;
 use minimax::{Entry, MATE};
-use shogi_core::Square;
 use shogi_core::bits::{lowest, without_lowest};
+use shogi_core::{Square, Squares};
 use shogi_eval::Node;
 use shogi_moves::has_legal;
 
 impl Scene<'_> {
-    /// Whether the mask of legal ends has one, to which a move scores no less than the node has.
-    fn has_end(&self, from: Square, promote: bool, ends: u128) -> bool
-        requires fits { ends < 2 ^ 81 }
-        requires legal { AreLegalEnds self.now.node.now.position from promote ends }
+    /// Whether there is one of the legal ends, to which a move scores no less than the node has.
+    fn has_end(&self, from: Square, promote: bool, ends: Squares) -> bool
+        requires { AreLegalEnds self.now.node.now.position from promote ends.bits }
         ensures { result ≡ true → NodeHasScore self.now.node.now
             (base_of self.now.node.now) }
     {
         let _ = promote;
         from.validity();
-        if ends == 0 {
+        if ends.is_empty() {
             return false;
         }
-        let _to = lowest(ends);
+        let _to = lowest(ends.bits);
         true
     }
 
@@ -35,7 +34,7 @@ impl Scene<'_> {
         ensures { result ≡ true → NodeHasScore self.now.node.now
             (base_of self.now.node.now) }
     {
-        let mut left = self.movable();
+        let mut left = self.movable().bits;
         while left != 0 {
             let square = lowest(left);
             let from = Square::of_index(square);

@@ -13,7 +13,7 @@ use crate::scene::Scene;
 use minimax::{Entry, INFINITY, MATE};
 use shogi_core::bits::{lowest, without_lowest};
 use shogi_core::zones::promoting_squares;
-use shogi_core::{Move, Square};
+use shogi_core::{Move, Square, Squares};
 use shogi_moves::Walk;
 
 impl Scene<'_> {
@@ -49,15 +49,14 @@ impl Scene<'_> {
 
     /// The squares at which a legal move of one of the side's pieces may score this, no less than the
     /// node has: where it is more, those of captures and promotions.
-    fn ends_scoring(&self, from: Square, score: i32) -> u128
-        ensures reached { AreEnterable self.now.node.now.position from result }
+    fn ends_scoring(&self, from: Square, score: i32) -> Squares
+        ensures reached { AreEnterable self.now.node.now.position from result.bits }
         ensures others { base_of self.now.node.now ≤ℤ score
-            → NoneScoresAmong self.now.node.now score from result }
-        ensures fits { result < 2 ^ 81 }
+            → NoneScoresAmong self.now.node.now score from result.bits }
     {
         from.validity();
         let p = self.node.as_position();
-        let reach = p.as_board().targets(from) & self.enterable();
+        let reach = self.reach(from);
         if score <= self.node.score() {
             return reach;
         }
@@ -72,7 +71,7 @@ impl Scene<'_> {
         ensures some { IfSome result (λ m. IsFirstFrom self.now.node.now score from (code_of m)) }
         ensures none { IsNone result → NoneScoresFrom self.now.node.now score from }
     {
-        let mut left = self.ends_scoring(from, score);
+        let mut left = self.ends_scoring(from, score).bits;
         while left != 0 {
             let square = lowest(left);
             let to = Square::of_index(square);
@@ -97,11 +96,11 @@ impl Scene<'_> {
 
     /// Those of the side's pieces of which a legal move may score this, no less than the node has:
     /// where it is more, those that may take or promote.
-    fn pieces_scoring(&self, score: i32) -> u128
+    fn pieces_scoring(&self, score: i32) -> Squares
         requires { base_of self.now.node.now ≤ℤ score }
-        ensures within { IsWithin result self.now.own }
-        ensures fits { result < 2 ^ 81 }
-        ensures others { OnRest self.now.own result (NoneScoresFrom self.now.node.now score) }
+        ensures within { IsWithin result.bits self.now.own.bits }
+        ensures others { OnRest self.now.own.bits result.bits
+            (NoneScoresFrom self.now.node.now score) }
     {
         if score <= self.node.score() {
             return self.movable();
@@ -117,7 +116,7 @@ impl Scene<'_> {
             → base_of self.now.node.now <ℤ score
             → NoneScores self.now.node.now score }
     {
-        let mut left = self.pieces_scoring(score);
+        let mut left = self.pieces_scoring(score).bits;
         while left != 0 {
             let from = lowest(left);
             if let Some(m) = self.first_from(Square::of_index(from), score) {

@@ -15,9 +15,9 @@ ghost use Rattle.shogi_eval.specs.Material.{taken_gain};
 ghost use Rattle.last_ply.specs.LastPly.{base_of, is_legal_board_move, score_at, HasNoneFrom, HasReachers, NodeHasScore, NodeScoresAtMost, NodeScoresFromAtMost, OnEach, OnRest, Outside, ScoresAmongAtMost, ScoresTo, ScoresToAtMost, TakesLittle};
 
 use crate::scene::Scene;
-use shogi_core::bits::{has, lowest, with, without_lowest};
+use shogi_core::bits::{lowest, without_lowest};
 use shogi_core::zones::{promoting_squares, squares_near_zone};
-use shogi_core::{Color, Move, Piece, Role, Square, aligned_squares, near_squares};
+use shogi_core::{Color, Move, Piece, Role, Square, Squares, aligned_squares, near_squares};
 use shogi_eval::{Eval, PROMOTION_GAIN_MAX, promotion_gain, taken_gain};
 use shogi_moves::{legal_destinations, takers};
 
@@ -81,12 +81,12 @@ impl Scene<'_> {
         ensures { result ≡ is_legal_board_move self.now.node.now.position from to promote }
     {
         to.validity();
-        let square = with(0, to.index());
+        let square = Squares::none().with(to);
         let ends = legal_destinations(&self.known, from, square);
         if promote {
-            has(ends.promoting, to.index())
+            ends.promoting.has(to)
         } else {
-            has(ends.plain, to.index())
+            ends.plain.has(to)
         }
     }
 
@@ -111,17 +111,16 @@ impl Scene<'_> {
     /// The most that a legal move of one of the side's pieces to these squares, which it reaches,
     /// scores, promoting or not, or the floor where that is no less.
     #[inline(always)]
-    fn most_among(&self, from: Square, promote: bool, ends: u128, floor: i32) -> i32
+    fn most_among(&self, from: Square, promote: bool, ends: Squares, floor: i32) -> i32
         requires own { is_own self.now.node.now.position from ≡ true }
-        requires reached { AreEnterable self.now.node.now.position from ends }
-        requires fits { ends < 2 ^ 81 }
+        requires reached { AreEnterable self.now.node.now.position from ends.bits }
         ensures least { floor ≤ℤ result }
         ensures all { ScoresAmongAtMost self.now.node.now.position self.now.node.now.eval from
-            promote ends result }
+            promote ends.bits result }
         ensures some { floor <ℤ result → NodeHasScore self.now.node.now result }
     {
         let mut best = floor;
-        let mut left = ends;
+        let mut left = ends.bits;
         while left != 0 {
             let to = lowest(left);
             best = self.most_to(from, Square::of_index(to), promote, best);
@@ -141,10 +140,10 @@ impl Scene<'_> {
     {
         from.validity();
         let p = self.node.as_position();
-        let reach = p.as_board().targets(from) & self.enterable();
+        let reach = self.reach(from);
         let takes = reach & self.foe;
         let promoting = reach & promoting_squares(p.at(from), from);
-        if takes | promoting == 0 {
+        if (takes | promoting).is_empty() {
             return floor;
         }
         let best = self.most_among(from, false, takes, floor);
@@ -152,10 +151,9 @@ impl Scene<'_> {
     }
 
     /// Squares outside which nothing reaches the square.
-    fn squares_reaching(&self, square: usize) -> u128
+    fn squares_reaching(&self, square: usize) -> Squares
         requires { square < 81 }
-        ensures fits { result < 2 ^ 81 }
-        ensures others { HasReachers self.now.node.now.position.cells result square }
+        ensures { HasReachers self.now.node.now.position.cells result.bits square }
     {
         let board = self.node.as_position().as_board();
         near_squares(square) | board.sliders() & aligned_squares(square)
@@ -163,73 +161,70 @@ impl Scene<'_> {
 
     /// Squares outside which nothing takes on the square; none where that scores no more than the
     /// floor, whatever takes and promotes.
-    fn squares_taking(&self, square: usize, floor: i32) -> u128
+    fn squares_taking(&self, square: usize, floor: i32) -> Squares
         requires { square < 81 }
-        ensures fits { result < 2 ^ 81 }
-        ensures others { Outside result (TakesLittle self.now.node.now floor square) }
+        ensures { Outside result.bits (TakesLittle self.now.node.now floor square) }
     {
         let p = self.node.as_position();
         let taken = taken_gain(self.node.eval(), p.at(Square::of_index(square)));
         if self.node.score() + (taken + PROMOTION_GAIN_MAX) as i32 <= floor {
-            return 0;
+            return Squares::none();
         }
         self.squares_reaching(square)
     }
 
     /// Those of the side's pieces that may take one of the victims and score more than the floor.
-    fn takers_above(&self, victims: u128, floor: i32) -> u128
-        requires { victims < 2 ^ 81 }
-        ensures within { IsWithin result self.now.own }
-        ensures fits { result < 2 ^ 81 }
-        ensures others { OnEach victims
-            (λ t. OnRest self.now.own result (TakesLittle self.now.node.now floor t)) }
+    fn takers_above(&self, victims: Squares, floor: i32) -> Squares
+        ensures within { IsWithin result.bits self.now.own.bits }
+        ensures others { OnEach victims.bits
+            (λ t. OnRest self.now.own.bits result.bits (TakesLittle self.now.node.now floor t)) }
     {
         let mut squares = 0;
-        let mut left = victims;
+        let mut left = victims.bits;
         while left != 0 {
             let square = lowest(left);
-            squares |= self.squares_taking(square, floor);
+            squares |= self.squares_taking(square, floor).bits;
             left = without_lowest(left, square);
         }
-        self.own & squares
+        Squares {
+            bits: self.own.bits & squares,
+        }
     }
 
     /// Squares outside which nothing reaches one of these.
-    fn squares_reaching_some(&self, squares: u128) -> u128
-        requires { squares < 2 ^ 81 }
-        ensures fits { result < 2 ^ 81 }
-        ensures others { OnEach squares (HasReachers self.now.node.now.position.cells result) }
+    fn squares_reaching_some(&self, squares: Squares) -> Squares
+        ensures { OnEach squares.bits (HasReachers self.now.node.now.position.cells result.bits) }
     {
         let mut found = 0;
-        let mut left = squares;
+        let mut left = squares.bits;
         while left != 0 {
             let square = lowest(left);
-            found |= self.squares_reaching(square);
+            found |= self.squares_reaching(square).bits;
             left = without_lowest(left, square);
         }
-        found
+        Squares { bits: found }
     }
 
     /// In check, the side's kings and those of its pieces that may reach a square where it is answered:
     /// no other one has a legal move.
-    fn answerers(&self) -> u128
+    fn answerers(&self) -> Squares
         requires { self.now.known.info.checked ≡ true }
-        ensures within { IsWithin result self.now.own }
-        ensures fits { result < 2 ^ 81 }
-        ensures others { OnRest self.now.own result (HasNoneFrom self.now.node.now.position) }
+        ensures within { IsWithin result.bits self.now.own.bits }
+        ensures others { OnRest self.now.own.bits result.bits
+            (HasNoneFrom self.now.node.now.position) }
     {
         let p = self.node.as_position();
         p.validity();
-        let answers = self.known.info.pinned_or_king & !self.own;
+        let answers = self.known.info.pinned_or_king.without(self.own);
         let reaching = self.squares_reaching_some(answers);
         self.own & (p.as_board().kings(p.side()) | reaching)
     }
 
     /// The side's pieces, in check without those that surely have no legal move.
-    pub fn movable(&self) -> u128
-        ensures within { IsWithin result self.now.own }
-        ensures fits { result < 2 ^ 81 }
-        ensures others { OnRest self.now.own result (HasNoneFrom self.now.node.now.position) }
+    pub fn movable(&self) -> Squares
+        ensures within { IsWithin result.bits self.now.own.bits }
+        ensures others { OnRest self.now.own.bits result.bits
+            (HasNoneFrom self.now.node.now.position) }
     {
         if self.known.info.checked {
             return self.answerers();
@@ -240,11 +235,11 @@ impl Scene<'_> {
     /// Those of the side's pieces that may score more than the floor: with room for any promotion,
     /// they take something; with room for the capture of any piece that does not slide, something
     /// dear enough, and with room for both, one that slides. In check they may answer it.
-    pub fn gainers(&self, floor: i32) -> u128
+    pub fn gainers(&self, floor: i32) -> Squares
         requires { base_of self.now.node.now ≤ℤ floor }
-        ensures within { IsWithin result self.now.own }
-        ensures fits { result < 2 ^ 81 }
-        ensures others { OnRest self.now.own result (NodeScoresFromAtMost self.now.node.now floor) }
+        ensures within { IsWithin result.bits self.now.own.bits }
+        ensures others { OnRest self.now.own.bits result.bits
+            (NodeScoresFromAtMost self.now.node.now floor) }
     {
         if self.known.info.checked {
             return self.answerers();
@@ -276,7 +271,7 @@ impl Scene<'_> {
         ensures some { floor <ℤ result → NodeHasScore self.now.node.now result }
     {
         let mut best = floor;
-        let mut left = self.gainers(floor);
+        let mut left = self.gainers(floor).bits;
         while left != 0 {
             let from = lowest(left);
             best = self.most_from(Square::of_index(from), best);

@@ -14,9 +14,11 @@ ghost use Rattle.shogi_replies.specs.Replies.{IsAnswered, IsReplies};
 ghost use Rattle.last_ply.specs.LastPly.{AreAnsweredOff, AreDropsAnsweredOff, AreLegalDropEnds, BoardLeavesSome, DropsLeaveSomeAmong, OnEach, Outside, HasMate, HasNoMate, LeavesNone, LeavesSome, AreDoubtfulEnds, AreLegalEnds, LeaveSomeAmong, LeaveSomeFrom, DropsLeaveSome, IsOutOfReach, HasOthers};
 
 use crate::scene::Scene;
-use shogi_core::bits::{has, lowest, with, without_lowest};
+use shogi_core::bits::{lowest, with, without_lowest};
 use shogi_core::zones::promoting_squares;
-use shogi_core::{Kind, Move, Piece, Position, Role, Square, aligned_squares, step_squares};
+use shogi_core::{
+    Kind, Move, Piece, Position, Role, Square, Squares, aligned_squares, step_squares,
+};
 use shogi_moves::{
     Destinations, drop_destinations, drop_squares, has_legal, is_legal, legal_destinations,
 };
@@ -28,26 +30,25 @@ pub struct Outlook<'a> {
     pub scene: Scene<'a>,
     pub replies: Replies,
     /// Three of the squares to which the other side's king may go, or fewer where there are no more.
-    pub escapes: u128,
+    pub escapes: Squares,
     /// The empty squares on which a held piece may be dropped.
-    pub squares: u128,
+    pub squares: Squares,
     /// Whether the other side surely has a legal move after each one that gives it no check.
     pub spared: bool,
-    ghost replied: { IsReplies scene.node.now.position replies.sight replies.spare } by { Prim.hlevel props },
-    ghost escaping: { AreEscapes scene.node.now.position escapes } by { Prim.hlevel props },
-    ghost dropping: { AreDropSquares scene.node.now.position squares } by { Prim.hlevel props },
-    ghost others: { spared ≡ true → HasOthers replies.spare },
+    ghost replied: { IsReplies scene.node.now.position replies.sight.bits replies.spare.bits } by { Prim.hlevel props },
+    ghost escaping: { AreEscapes scene.node.now.position escapes.bits } by { Prim.hlevel props },
+    ghost dropping: { AreDropSquares scene.node.now.position squares.bits } by { Prim.hlevel props },
+    ghost others: { spared ≡ true → HasOthers replies.spare.bits },
 }
 
-/// Whether the mask has two squares.
-fn has_two(mask: u128) -> bool
-    requires { mask < 2 ^ 81 }
-    ensures { result ≡ true → HasOthers mask }
+/// Whether there are two squares.
+fn has_two(squares: Squares) -> bool
+    ensures { result ≡ true → HasOthers squares.bits }
 {
-    if mask == 0 {
+    if squares.is_empty() {
         return false;
     }
-    without_lowest(mask, lowest(mask)) != 0
+    without_lowest(squares.bits, lowest(squares.bits)) != 0
 }
 
 /// The square where the move ends.
@@ -59,9 +60,8 @@ fn end_of(m: &Move) -> Square {
 }
 
 /// The pieces of the side to move, but its king, next to the square or a knight's jump away.
-fn pieces_near(p: &Position, to: usize) -> u128
+fn pieces_near(p: &Position, to: usize) -> Squares
     requires { to < 81 }
-    ensures { result < 2 ^ 81 }
 {
     let side = p.side();
     let king = Piece {
@@ -74,7 +74,7 @@ fn pieces_near(p: &Position, to: usize) -> u128
     };
     let near = step_squares(king, to) | step_squares(knight, to);
     let board = p.as_board();
-    board.own(side) & near & !board.kings(side)
+    (board.own(side) & near).without(board.kings(side))
 }
 
 /// Whether the piece on the square may legally take there, by a step and without promotion.
@@ -91,7 +91,7 @@ fn takes_legally(p: &Position, from: Square, to: Square) -> bool
         to,
         promote: false,
     };
-    has(step_squares(piece, from.index()), to.index()) && is_legal(p, m)
+    step_squares(piece, from.index()).has(to) && is_legal(p, m)
 }
 
 /// Whether such a piece surely may legally take what the move put on its end.
@@ -100,7 +100,7 @@ fn retakes(p: &Position, m: &Move) -> bool
 {
     let to = end_of(m);
     to.validity();
-    let mut left = pieces_near(p, to.index());
+    let mut left = pieces_near(p, to.index()).bits;
     while left != 0 {
         let square = lowest(left);
         if takes_legally(p, Square::of_index(square), to) {
@@ -112,9 +112,9 @@ fn retakes(p: &Position, m: &Move) -> bool
 }
 
 /// The squares from which the piece may reach that one, whatever stands between.
-fn closing_squares(piece: Piece, square: usize) -> u128
+fn closing_squares(piece: Piece, square: usize) -> Squares
     requires { square < 81 }
-    ensures { Outside result (λ n. IsOutOfReach piece n square) }
+    ensures { Outside result.bits (λ n. IsOutOfReach piece n square) }
 {
     let back = Piece {
         color: piece.color.opponent(),
@@ -213,15 +213,14 @@ impl Outlook<'_> {
     }
 
     /// Whether one of the legal moves of what stands on the square to these does.
-    fn mates_among(&self, from: Square, promote: bool, ends: u128) -> bool
-        requires fits { ends < 2 ^ 81 }
-        requires legal { AreLegalEnds self.now.scene.node.now.position from promote ends }
+    fn mates_among(&self, from: Square, promote: bool, ends: Squares) -> bool
+        requires { AreLegalEnds self.now.scene.node.now.position from promote ends.bits }
         ensures some { result ≡ true → HasMate self.now.scene.node.now.position }
         ensures none { result ≡ false
-            → LeaveSomeAmong self.now.scene.node.now.position from promote ends }
+            → LeaveSomeAmong self.now.scene.node.now.position from promote ends.bits }
     {
         from.validity();
-        let mut left = ends;
+        let mut left = ends.bits;
         while left != 0 {
             let to = lowest(left);
             let m = Move::Board {
@@ -238,14 +237,13 @@ impl Outlook<'_> {
     }
 
     /// Whether one of the legal drops of the kind on these squares does.
-    fn mates_by_drops(&self, kind: Kind, ends: u128) -> bool
-        requires fits { ends < 2 ^ 81 }
-        requires legal { AreLegalDropEnds self.now.scene.node.now.position kind ends }
+    fn mates_by_drops(&self, kind: Kind, ends: Squares) -> bool
+        requires { AreLegalDropEnds self.now.scene.node.now.position kind ends.bits }
         ensures some { result ≡ true → HasMate self.now.scene.node.now.position }
         ensures none { result ≡ false
-            → DropsLeaveSomeAmong self.now.scene.node.now.position kind ends }
+            → DropsLeaveSomeAmong self.now.scene.node.now.position kind ends.bits }
     {
-        let mut left = ends;
+        let mut left = ends.bits;
         while left != 0 {
             let to = lowest(left);
             let m = Move::Drop {
@@ -262,83 +260,79 @@ impl Outlook<'_> {
 
     /// Whether the other side's king sees neither the square nor one of the ends, and that side
     /// surely has a legal move after each one that gives it no check.
-    fn is_unseen(&self, from: Square, ends: u128) -> bool
-        ensures others { result ≡ true → HasOthers self.now.replies.spare }
-        ensures start { result ≡ true → has_bit self.now.replies.sight from ≡ false }
-        ensures ends { result ≡ true → bit_and ends self.now.replies.sight ≡ 0 }
+    fn is_unseen(&self, from: Square, ends: Squares) -> bool
+        ensures others { result ≡ true → HasOthers self.now.replies.spare.bits }
+        ensures start { result ≡ true → has_bit self.now.replies.sight.bits from ≡ false }
+        ensures ends { result ≡ true → bit_and ends.bits self.now.replies.sight.bits ≡ 0 }
     {
         if !self.spared {
             return false;
         }
-        from.validity();
-        if has(self.replies.sight, from.index()) {
+        if self.replies.sight.has(from) {
             return false;
         }
-        ends & self.replies.sight == 0
+        (ends & self.replies.sight).is_empty()
     }
 
     /// Those of the ends from which what moves there from the square, this piece, may reach each
     /// escape on no line with that square, and those on one: elsewhere the king has one left.
     #[inline(always)]
-    fn closing_ends(&self, from: Square, promote: bool, piece: Piece, ends: u128) -> u128
-        requires moved { piece_moved promote
-            (piece_at self.now.scene.node.now.position.cells from) ≡ Some piece }
-        requires fits { ends < 2 ^ 81 }
-        ensures within { IsWithin result ends }
-        ensures fits { result < 2 ^ 81 }
-        ensures answered { AreAnsweredOff self.now.scene.node.now.position from promote ends
-            result }
+    fn closing_ends(&self, from: Square, promote: bool, piece: Piece, ends: Squares) -> Squares
+        requires { piece_moved promote (piece_at self.now.scene.node.now.position.cells from)
+            ≡ Some piece }
+        ensures within { IsWithin result.bits ends.bits }
+        ensures answered { AreAnsweredOff self.now.scene.node.now.position from promote ends.bits
+            result.bits }
     {
         let _ = promote;
         from.validity();
         let p = self.scene.node.as_position();
         let kings = p.as_board().kings(p.side().opponent());
-        if kings == 0 {
+        if kings.is_empty() {
             return ends;
         }
-        let mut kept = ends;
-        let mut left = self.escapes & !aligned_squares(from.index());
+        let mut kept = ends.bits;
+        let mut left = self.escapes.without(aligned_squares(from.index())).bits;
         while left != 0 && kept != 0 {
             let escape = lowest(left);
-            kept &= closing_squares(piece, escape) | with(kings, escape);
+            kept &= closing_squares(piece, escape).bits | with(kings.bits, escape);
             left = without_lowest(left, escape);
         }
-        kept
+        Squares { bits: kept }
     }
 
     /// Those of the ends after which, once this piece has moved there from the square, it is not
     /// certain that the other side has a legal move.
-    fn doubtful_among(&self, from: Square, promote: bool, piece: Piece, ends: u128) -> u128
-        requires moved { piece_moved promote
-            (piece_at self.now.scene.node.now.position.cells from) ≡ Some piece }
-        requires fits { ends < 2 ^ 81 }
-        ensures within { IsWithin result ends }
-        ensures fits { result < 2 ^ 81 }
-        ensures answered { AreAnsweredOff self.now.scene.node.now.position from promote ends
-            result }
+    fn doubtful_among(&self, from: Square, promote: bool, piece: Piece, ends: Squares) -> Squares
+        requires { piece_moved promote (piece_at self.now.scene.node.now.position.cells from)
+            ≡ Some piece }
+        ensures within { IsWithin result.bits ends.bits }
+        ensures answered { AreAnsweredOff self.now.scene.node.now.position from promote ends.bits
+            result.bits }
     {
         let p = self.scene.node.as_position();
         let closing = self.closing_ends(from, promote, piece, ends);
-        closing
-            & !self
-                .replies
-                .certain_destinations(p, 0, from, promote, closing)
+        let certain = self
+            .replies
+            .certain_destinations(p, Squares::none(), from, promote, closing);
+        closing.without(certain)
     }
 
     /// Where what stands on the square may go, without promotion and with it, legally or not, so that
     /// it is not certain that the other side has a legal move after it.
     fn doubtful_ends(&self, from: Square) -> Destinations
-        ensures plain { AreDoubtfulEnds self.now.scene.node.now.position from false result.plain }
+        ensures plain { AreDoubtfulEnds self.now.scene.node.now.position from false
+            result.plain.bits }
         ensures promoting { AreDoubtfulEnds self.now.scene.node.now.position from true
-            result.promoting }
+            result.promoting.bits }
     {
         from.validity();
         let p = self.scene.node.as_position();
-        let ends = p.as_board().targets(from) & self.scene.enterable();
+        let ends = self.scene.reach(from);
         if self.is_unseen(from, ends) {
             return Destinations {
-                plain: 0,
-                promoting: 0,
+                plain: Squares::none(),
+                promoting: Squares::none(),
             };
         }
         let cell = p.at(from);
@@ -350,10 +344,10 @@ impl Outlook<'_> {
             }
         };
         let plain = self.doubtful_among(from, false, piece, ends);
-        if promotions == 0 {
+        if promotions.is_empty() {
             return Destinations {
                 plain,
-                promoting: 0,
+                promoting: Squares::none(),
             };
         }
         let promoted = Piece {
@@ -373,7 +367,7 @@ impl Outlook<'_> {
         from.validity();
         let doubtful = self.doubtful_ends(from);
         let among = doubtful.plain | doubtful.promoting;
-        if among == 0 {
+        if among.is_empty() {
             return false;
         }
         let ends = legal_destinations(&self.scene.known, from, among);
@@ -383,8 +377,8 @@ impl Outlook<'_> {
 
     /// Pieces of the side that are far from the other side's king, after each of whose moves that
     /// side surely has one.
-    fn far_pieces(&self) -> u128
-        ensures { OnEach result (LeaveSomeFrom self.now.scene.node.now.position) }
+    fn far_pieces(&self) -> Squares
+        ensures { OnEach result.bits (LeaveSomeFrom self.now.scene.node.now.position) }
     {
         self.replies.remote_pieces(self.scene.node.as_position())
     }
@@ -394,7 +388,7 @@ impl Outlook<'_> {
         ensures some { result ≡ true → HasMate self.now.scene.node.now.position }
         ensures none { result ≡ false → BoardLeavesSome self.now.scene.node.now.position }
     {
-        let mut left = self.scene.movable() & !self.far_pieces();
+        let mut left = self.scene.movable().without(self.far_pieces()).bits;
         while left != 0 {
             let from = lowest(left);
             if self.mates_from(Square::of_index(from)) {
@@ -407,28 +401,28 @@ impl Outlook<'_> {
 
     /// Those of the squares on which a dropped piece of the kind may reach each escape, and does not
     /// stand on one: elsewhere the king has one left, or takes it.
-    fn closing_drops(&self, kind: Kind, squares: u128) -> u128
-        ensures among { IsWithin result squares }
-        ensures answered { AreDropsAnsweredOff self.now.scene.node.now.position kind squares
-            result }
+    fn closing_drops(&self, kind: Kind, squares: Squares) -> Squares
+        ensures among { IsWithin result.bits squares.bits }
+        ensures answered { AreDropsAnsweredOff self.now.scene.node.now.position kind squares.bits
+            result.bits }
     {
         let p = self.scene.node.as_position();
         let side = p.side();
-        if p.as_board().kings(side.opponent()) == 0 {
+        if p.as_board().kings(side.opponent()).is_empty() {
             return squares;
         }
         let piece = Piece {
             color: side,
             role: Role::from(kind),
         };
-        let mut kept = squares & !self.escapes;
-        let mut left = self.escapes;
+        let mut kept = squares.without(self.escapes).bits;
+        let mut left = self.escapes.bits;
         while left != 0 && kept != 0 {
             let escape = lowest(left);
-            kept &= closing_squares(piece, escape);
+            kept &= closing_squares(piece, escape).bits;
             left = without_lowest(left, escape);
         }
-        kept
+        Squares { bits: kept }
     }
 
     /// Whether a legal drop of the kind, if that is held, leaves the other side without a legal move.
@@ -439,12 +433,14 @@ impl Outlook<'_> {
     {
         let p = self.scene.node.as_position();
         let closing = self.closing_drops(kind, self.squares);
-        if closing == 0 {
+        if closing.is_empty() {
             return false;
         }
-        let certain = self.replies.certain_drops(p, 0, kind, closing);
-        let doubtful = closing & !certain;
-        if doubtful == 0 {
+        let certain = self
+            .replies
+            .certain_drops(p, Squares::none(), kind, closing);
+        let doubtful = closing.without(certain);
+        if doubtful.is_empty() {
             return false;
         }
         let ends = drop_destinations(p, self.squares, kind);

@@ -1,16 +1,16 @@
 //! A node with one ply left as it is looked at.
 
-ghost use Rattle.std.specs.Prelude.{◌≡◌, not};
-ghost use Rattle.shogi_core.specs.Bits.{IsMaskOf, HasBits};
+ghost use Rattle.std.specs.Prelude.{◌≡◌};
+ghost use Rattle.shogi_core.specs.Bits.{HasBits};
 ghost use Rattle.shogi_core.specs.Cell.{is_piece_of};
 ghost use Rattle.shogi_core.specs.Movement.{piece_at};
 ghost use Rattle.shogi_core.specs.Pieces.{opponent_of};
 ghost use Rattle.shogi_core.specs.Validity.{IsValid};
 ghost use Rattle.shogi_moves.specs.Destinations.{is_own};
 
-use shogi_core::Square;
+use shogi_core::{Square, Squares};
 use shogi_eval::Node;
-use shogi_moves::{Destinations, KnownPosition, all_destinations, check_info_of};
+use shogi_moves::{Destinations, KnownPosition, check_info_of, legal_destinations};
 
 /// A node, and what is known of it: of checks, which squares the pieces of the side to move stand
 /// on, and those of the other side.
@@ -18,18 +18,19 @@ use shogi_moves::{Destinations, KnownPosition, all_destinations, check_info_of};
 pub struct Scene<'a> {
     pub node: &'a Node,
     pub known: KnownPosition<'a>,
-    pub own: u128,
-    pub foe: u128,
+    pub own: Squares,
+    pub foe: Squares,
     ghost valid: { IsValid node.now.position },
     ghost same: { known.position.now ≡ node.now.position },
-    ghost owns: { IsMaskOf own (is_own node.now.position) },
-    ghost foes: { IsMaskOf foe (λ n. is_piece_of (opponent_of node.now.position.side)
+    ghost owns: { HasBits own.bits (is_own node.now.position) },
+    ghost foes: { HasBits foe.bits (λ n. is_piece_of (opponent_of node.now.position.side)
         (piece_at node.now.position.cells n)) },
 }
 
 impl Scene<'_> {
     ghost use Rattle.std.specs.Prelude.{true};
     ghost use Rattle.shogi_moves.specs.Destinations.{AreAllDestinations};
+    ghost use Rattle.last_ply.specs.LastPly.{IsReach};
 
     /// The scene of the node.
     pub fn of(node: &Node) -> Scene<'_>
@@ -46,13 +47,14 @@ impl Scene<'_> {
         }
     }
 
-    /// The squares on which none of the side's pieces stands.
+    /// The squares that what stands on the square reaches, but those on which one of the side's
+    /// pieces stands.
     #[inline(always)]
-    #[tactic(auto, using(shogi_moves::proofs::DestinationLaws::entering_bits))]
-    pub fn enterable(&self) -> u128
-        ensures { HasBits result (λ n. not (is_own self.now.node.now.position n)) }
+    pub fn reach(&self, from: Square) -> Squares
+        ensures { IsReach self.now.node.now.position from result.bits }
     {
-        !self.own
+        let board = self.node.as_position().as_board();
+        board.targets(from).without(self.own)
     }
 
     /// The legal destinations of one of the side's pieces.
@@ -60,6 +62,7 @@ impl Scene<'_> {
         requires { is_own self.now.node.now.position from ≡ true }
         ensures { AreAllDestinations self.now.node.now.position from result }
     {
-        all_destinations(&self.known, from, self.enterable())
+        from.validity();
+        legal_destinations(&self.known, from, self.reach(from))
     }
 }

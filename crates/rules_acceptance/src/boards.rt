@@ -1,7 +1,6 @@
-//! Squares, masks, boards, positions and moves by their texts.
+//! Squares, sets of them, boards, positions and moves by their texts.
 
-use shogi_core::bits::with;
-use shogi_core::{Board, Color, Move, Piece, Position, Role, Square};
+use shogi_core::{Board, Color, Move, Piece, Position, Role, Square, Squares};
 use shogi_sfen::{read_move, read_position};
 use std::test::Fail;
 
@@ -14,13 +13,13 @@ pub fn square(name: &str) -> Result<Square, Fail> {
     Ok(square.ok_or("a square")?)
 }
 
-/// The mask of squares, by their names.
-pub fn mask_of(names: &str) -> Result<u128, Fail> {
-    let mut mask = 0;
+/// The squares of these names.
+pub fn squares_of(names: &str) -> Result<Squares, Fail> {
+    let mut squares = Squares::none();
     for name in names.split_whitespace() {
-        mask = with(mask, square(name)?.index());
+        squares = squares.with(square(name)?);
     }
-    Ok(mask)
+    Ok(squares)
 }
 
 /// A piece of a side on the square of this name.

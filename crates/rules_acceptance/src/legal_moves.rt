@@ -3,9 +3,9 @@
 ghost use Rattle.std.specs.Prelude.{◌≡◌, IfOk, true};
 ghost use Rattle.shogi_moves.specs.Legal.{is_legal};
 
-use crate::boards::{mask_of, position, read, square};
+use crate::boards::{position, read, square, squares_of};
 use shogi_core::Color::{Black, White};
-use shogi_core::{Kind, Move, Position};
+use shogi_core::{Kind, Move, Position, Squares};
 use shogi_moves::{
     BoardSweep, DropSweep, check_info_of, has_legal, in_check, is_attacked, is_legal, next_legal,
     perft, play, play_in_place, takers,
@@ -230,7 +230,7 @@ fn pieces_that_a_king_takes(rt: HostRuntime) -> Result<(), Fail> {
 #[test]
 fn pieces_that_may_take(rt: HostRuntime) -> Result<(), Fail> {
     let p = position("4k4/4p4/4G4/9/9/4G4/9/8L/K8 b -")?;
-    same!(rt; takers(&p, p.as_board().own(Black)), mask_of("5c 1h")?);
-    same!(rt; takers(&p, 0), 0);
+    same!(rt; takers(&p, p.as_board().own(Black)), squares_of("5c 1h")?);
+    holds!(rt; takers(&p, Squares::none()).is_empty());
     Ok(())
 }

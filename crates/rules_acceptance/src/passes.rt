@@ -1,8 +1,7 @@
 //! Moves of one sort that are passed in a row.
 
-use crate::boards::{mask_of, position, read};
-use shogi_core::bits::ALL_SQUARES;
-use shogi_core::{Move, Position};
+use crate::boards::{position, read, square, squares_of};
+use shogi_core::{Move, Position, Squares};
 use shogi_moves::{BoardSweep, DropSweep, check_info_of};
 use shogi_replies::{ALL_ROLES, Replies, Row, escape_squares};
 use std::test::Fail;
@@ -13,8 +12,8 @@ use test_support::holds;
 fn first_of(
     p: &Position,
     capture: bool,
-    pieces: u128,
-    squares: u128,
+    pieces: Squares,
+    squares: Squares,
     promoting: u32,
 ) -> Option<Move> {
     let mut sweep = BoardSweep::new(&check_info_of(p).at(p), capture);
@@ -29,14 +28,14 @@ fn first_of(
 }
 
 /// The same of all pieces.
-fn first_left(p: &Position, capture: bool, squares: u128, promoting: u32) -> Option<Move> {
-    first_of(p, capture, ALL_SQUARES, squares, promoting)
+fn first_left(p: &Position, capture: bool, squares: Squares, promoting: u32) -> Option<Move> {
+    first_of(p, capture, Squares::all(), squares, promoting)
 }
 
 /// Each of the 30 moves of the opening position takes nothing, promotes nothing and is answered.
 #[test]
 fn quiet_moves_of_the_opening_position(rt: HostRuntime) {
-    holds!(rt; first_left(&Position::start(), false, ALL_SQUARES, 0).is_none());
+    holds!(rt; first_left(&Position::start(), false, Squares::all(), 0).is_none());
 }
 
 /// The pawn on 6e has one move, and no line of the king goes there. The next to move is the pawn on
@@ -44,11 +43,11 @@ fn quiet_moves_of_the_opening_position(rt: HostRuntime) {
 #[test]
 fn quiet_moves_and_a_promotion(rt: HostRuntime) -> Result<(), Fail> {
     let p = position("8k/9/9/2P6/3P3p1/9/9/K8/9 b -")?;
-    holds!(rt; first_left(&p, false, ALL_SQUARES, 0) == Some(read("7d7c")?));
-    holds!(rt; first_left(&p, false, ALL_SQUARES, ALL_ROLES).is_none());
-    holds!(rt; first_left(&p, false, ALL_SQUARES, 2).is_none());
-    holds!(rt; first_left(&p, false, ALL_SQUARES, ALL_ROLES - 2) == Some(read("7d7c")?));
-    holds!(rt; first_left(&p, false, 0, ALL_ROLES) == Some(read("6e6d")?));
+    holds!(rt; first_left(&p, false, Squares::all(), 0) == Some(read("7d7c")?));
+    holds!(rt; first_left(&p, false, Squares::all(), ALL_ROLES).is_none());
+    holds!(rt; first_left(&p, false, Squares::all(), 2).is_none());
+    holds!(rt; first_left(&p, false, Squares::all(), ALL_ROLES - 2) == Some(read("7d7c")?));
+    holds!(rt; first_left(&p, false, Squares::none(), ALL_ROLES) == Some(read("6e6d")?));
     Ok(())
 }
 
@@ -56,10 +55,10 @@ fn quiet_moves_and_a_promotion(rt: HostRuntime) -> Result<(), Fail> {
 #[test]
 fn a_capture(rt: HostRuntime) -> Result<(), Fail> {
     let p = position("2k6/9/9/4p4/4P4/8p/9/9/K8 b -")?;
-    let taken = mask_of("5d")?;
-    holds!(rt; first_left(&p, true, ALL_SQUARES, 0).is_none());
+    let taken = squares_of("5d")?;
+    holds!(rt; first_left(&p, true, Squares::all(), 0).is_none());
     holds!(rt; first_left(&p, true, taken, 0).is_none());
-    holds!(rt; first_left(&p, true, ALL_SQUARES & !taken, 0) == Some(read("5e5d")?));
+    holds!(rt; first_left(&p, true, Squares::all().without(taken), 0) == Some(read("5e5d")?));
     Ok(())
 }
 
@@ -67,14 +66,14 @@ fn a_capture(rt: HostRuntime) -> Result<(), Fail> {
 #[test]
 fn a_capture_with_promotion(rt: HostRuntime) -> Result<(), Fail> {
     let p = position("2k6/9/4p4/4P4/9/8p/9/9/K8 b -")?;
-    holds!(rt; first_left(&p, true, ALL_SQUARES, 0) == Some(read("5d5c")?));
-    holds!(rt; first_left(&p, true, ALL_SQUARES, ALL_ROLES).is_none());
+    holds!(rt; first_left(&p, true, Squares::all(), 0) == Some(read("5d5c")?));
+    holds!(rt; first_left(&p, true, Squares::all(), ALL_ROLES).is_none());
     Ok(())
 }
 
 /// The first move that takes nothing, does not promote and is not passed.
 fn first_quiet(sfen: &str) -> Result<Option<Move>, Fail> {
-    Ok(first_left(&position(sfen)?, false, ALL_SQUARES, 0))
+    Ok(first_left(&position(sfen)?, false, Squares::all(), 0))
 }
 
 /// The horse goes to 1a first, on a rank with the king. Where the king is hemmed in by its own
@@ -95,9 +94,9 @@ fn quiet_moves_of_a_slider(rt: HostRuntime) -> Result<(), Fail> {
 #[test]
 fn quiet_moves_of_some_pieces(rt: HostRuntime) -> Result<(), Fail> {
     let p = position("4k4/9/6G2/9/7p1/9/9/9/K8 b -")?;
-    let others = ALL_SQUARES & !mask_of("3c")?;
-    holds!(rt; first_left(&p, false, ALL_SQUARES, 0).is_none());
-    holds!(rt; first_of(&p, false, others, ALL_SQUARES, 0) == Some(read("3c2b")?));
+    let others = Squares::all().except(square("3c")?);
+    holds!(rt; first_left(&p, false, Squares::all(), 0).is_none());
+    holds!(rt; first_of(&p, false, others, Squares::all(), 0) == Some(read("3c2b")?));
     Ok(())
 }
 
@@ -105,7 +104,7 @@ fn quiet_moves_of_some_pieces(rt: HostRuntime) -> Result<(), Fail> {
 fn first_drop(sfen: &str) -> Result<Option<Move>, Fail> {
     let p = position(sfen)?;
     let mut sweep = DropSweep::new(&check_info_of(&p).at(&p));
-    Replies::of(&p).pass_drops(&p, ALL_SQUARES, escape_squares(&p), &mut sweep);
+    Replies::of(&p).pass_drops(&p, Squares::all(), escape_squares(&p), &mut sweep);
     Ok(sweep.next(&p))
 }
 

@@ -1,11 +1,11 @@
 //! Outside values: codes and indices by hand, the opening position, faults and moves of pieces of
 //! the rule book.
 
-use crate::boards::{Placed, board, mask_of, square};
+use crate::boards::{Placed, board, square, squares_of};
 use shogi_core::Color::{Black, White};
-use shogi_core::bits::{has, with};
 use shogi_core::{
-    Board, Color, Hands, Kind, Move, Piece, Position, PositionFault, Role, Square, aligned_squares,
+    Board, Color, Hands, Kind, Move, Piece, Position, PositionFault, Role, Square, Squares,
+    aligned_squares,
 };
 use std::test::Fail;
 use test_support::{holds, same};
@@ -33,7 +33,7 @@ fn squares_on_lines(rt: HostRuntime) {
             let files = a.file().abs_diff(b.file());
             let ranks = a.rank().abs_diff(b.rank());
             let aligned = from != to && (files == 0 || ranks == 0 || files == ranks);
-            same!(rt; has(lines, to), aligned, (from, to));
+            same!(rt; lines.has(b), aligned, (from, to));
         }
     }
 }
@@ -165,9 +165,9 @@ fn faults_of_positions(rt: HostRuntime) -> Result<(), Fail> {
 
 /// The squares that the piece of the side, alone on 5e, reaches, seen from its side: ranks are turned for
 /// White.
-fn reached(color: Color, role: Role) -> Result<u128, Fail> {
+fn reached(color: Color, role: Role) -> Result<Squares, Fail> {
     let board = board(&[(color, role, "5e")])?;
-    let mut mask = 0;
+    let mut found = Squares::none();
     for index in 0..81 {
         let to = Square::of_index(index);
         if board.reaches(square("5e")?, to) {
@@ -175,13 +175,10 @@ fn reached(color: Color, role: Role) -> Result<u128, Fail> {
                 Black => to.rank(),
                 White => 10 - to.rank(),
             };
-            mask = with(
-                mask,
-                Square::new(to.file(), rank).ok_or("a square")?.index(),
-            );
+            found = found.with(Square::new(to.file(), rank).ok_or("a square")?);
         }
     }
-    Ok(mask)
+    Ok(found)
 }
 
 #[test]
@@ -204,7 +201,7 @@ fn moves_of_pieces_in_the_open(rt: HostRuntime) -> Result<(), Fail> {
         (Role::Bishop, bishop),
     ] {
         for color in [Black, White] {
-            same!(rt; reached(color, role)?, mask_of(names)?, (color, role));
+            same!(rt; reached(color, role)?, squares_of(names)?, (color, role));
         }
     }
     for (role, plain, more) in [
@@ -212,7 +209,7 @@ fn moves_of_pieces_in_the_open(rt: HostRuntime) -> Result<(), Fail> {
         (Role::Horse, bishop, "5d 5f 4e 6e"),
     ] {
         for color in [Black, White] {
-            same!(rt; reached(color, role)?, mask_of(plain)? | mask_of(more)?, (color, role));
+            same!(rt; reached(color, role)?, squares_of(plain)? | squares_of(more)?, (color, role));
         }
     }
     Ok(())
@@ -249,7 +246,7 @@ fn moves_at_the_edge_and_blocked(rt: HostRuntime) -> Result<(), Fail> {
 }
 
 /// The squares that a piece would reach, whatever stands on its square.
-fn would_reach(board: &Board, (color, role, name): Placed<'_>) -> Result<u128, Fail> {
+fn would_reach(board: &Board, (color, role, name): Placed<'_>) -> Result<Squares, Fail> {
     Ok(board.targets_of(Piece { color, role }, square(name)?))
 }
 
@@ -284,7 +281,7 @@ fn moves_from_where_another_stands(rt: HostRuntime) -> Result<(), Fail> {
             "6f 5e 8f 9e 8h 9i 6h 5i 7f 7h 6g 8g",
         ),
     ] {
-        same!(rt; would_reach(&board, placed)?, mask_of(targets)?, placed);
+        same!(rt; would_reach(&board, placed)?, squares_of(targets)?, placed);
     }
     Ok(())
 }
@@ -298,7 +295,7 @@ fn moves_from_an_empty_square(rt: HostRuntime) -> Result<(), Fail> {
         // A pawn on its last rank.
         ((White, Role::Pawn, "1i"), ""),
     ] {
-        same!(rt; would_reach(&board, placed)?, mask_of(targets)?, placed);
+        same!(rt; would_reach(&board, placed)?, squares_of(targets)?, placed);
     }
     Ok(())
 }
@@ -347,7 +344,7 @@ fn a_piece_before_a_slider_is_pinned(rt: HostRuntime) -> Result<(), Fail> {
     ] {
         let slider = (White, role, name);
         let pinned = board(&[king, slider, (Black, Role::Gold, between)])?.pinned(Black);
-        same!(rt; pinned, Some(mask_of(between)?), slider);
+        same!(rt; pinned, Some(squares_of(between)?), slider);
         same!(rt; board(&[king, slider])?.pinned(Black), None, slider);
     }
     let white = board(&[
@@ -355,7 +352,7 @@ fn a_piece_before_a_slider_is_pinned(rt: HostRuntime) -> Result<(), Fail> {
         (White, Role::Pawn, "5d"),
         (Black, Role::Lance, "5i"),
     ])?;
-    same!(rt; white.pinned(White), Some(mask_of("5d")?));
+    same!(rt; white.pinned(White), Some(squares_of("5d")?));
     Ok(())
 }
 
@@ -370,10 +367,10 @@ fn a_check_is_answered_on_its_way(rt: HostRuntime) -> Result<(), Fail> {
         (Role::Gold, "5d", "5d"),
     ] {
         let board = board(&[king, (White, role, name)])?;
-        same!(rt; board.answers(Black), mask_of(answers)?, role);
+        same!(rt; board.answers(Black), squares_of(answers)?, role);
     }
     let shut = [king, (White, Role::Rook, "5a"), (Black, Role::Pawn, "5c")];
-    same!(rt; board(&shut)?.answers(Black), 0, "no check");
+    holds!(rt; board(&shut)?.answers(Black).is_empty());
     Ok(())
 }
 
@@ -407,7 +404,7 @@ fn nothing_else_is_pinned(rt: HostRuntime) -> Result<(), Fail> {
         ),
     ];
     for (at, (pieces, pinned)) in rows.iter().enumerate() {
-        same!(rt; board(pieces)?.pinned(Black), Some(mask_of(pinned)?), at);
+        same!(rt; board(pieces)?.pinned(Black), Some(squares_of(pinned)?), at);
     }
     Ok(())
 }

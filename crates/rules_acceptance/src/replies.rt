@@ -1,8 +1,7 @@
 //! Squares and pieces that show which replies there are, found by hand.
 
-use crate::boards::{mask_of, position, read, square};
+use crate::boards::{position, read, square, squares_of};
 use shogi_core::Color::{Black, White};
-use shogi_core::bits::has;
 use shogi_core::{Piece, Position, Role, Square};
 use shogi_moves::Destinations;
 use shogi_replies::{Replies, attacks_of, line_squares, put_by, some_escapes, unpinnable_pieces};
@@ -14,9 +13,9 @@ use test_support::{holds, same};
 #[test]
 fn some_escapes_of_a_king(rt: HostRuntime) -> Result<(), Fail> {
     let p = position("8k/9/9/9/9/9/9/9/K6R1 b -")?;
-    same!(rt; some_escapes(&p), mask_of("1b")?);
+    same!(rt; some_escapes(&p), squares_of("1b")?);
     let p = position("8k/9/9/9/9/9/9/9/RK7 b -")?;
-    same!(rt; some_escapes(&p), mask_of("1b 2a 2b")?);
+    same!(rt; some_escapes(&p), squares_of("1b 2a 2b")?);
     Ok(())
 }
 
@@ -24,17 +23,17 @@ fn some_escapes_of_a_king(rt: HostRuntime) -> Result<(), Fail> {
 /// stands it may not go.
 #[test]
 fn three_escapes_of_more(rt: HostRuntime) -> Result<(), Fail> {
-    let next = mask_of("6a 4a 6b 5b 4b")?;
+    let next = squares_of("6a 4a 6b 5b 4b")?;
     let escapes = some_escapes(&position("4k4/9/9/9/9/9/9/9/4K4 b -")?);
     let mut found = 0u8;
     for square in 0..81usize {
-        if has(escapes, square) {
+        if escapes.has(Square::of_index(square)) {
             found = found.saturating_add(1);
         }
     }
     holds!(rt; found == 3 && escapes & next == escapes);
     let p = position("3gkg3/4p4/9/9/9/9/9/9/4K4 b -")?;
-    same!(rt; some_escapes(&p), mask_of("6b 4b")?);
+    same!(rt; some_escapes(&p), squares_of("6b 4b")?);
     Ok(())
 }
 
@@ -46,11 +45,11 @@ fn lines_of_a_king(rt: HostRuntime) -> Result<(), Fail> {
     let lines = line_squares(&p, White);
     for file in 1..10u8 {
         for rank in 1..10u8 {
-            let square = Square::new(file, rank).ok_or("a square")?.index();
-            holds!(rt; has(lines, square) == (file == 1 || rank == 1 || file == rank));
+            let square = Square::new(file, rank).ok_or("a square")?;
+            holds!(rt; lines.has(square) == (file == 1 || rank == 1 || file == rank));
         }
     }
-    holds!(rt; line_squares(&p, Black) == 0);
+    holds!(rt; line_squares(&p, Black).is_empty());
     Ok(())
 }
 
@@ -59,9 +58,9 @@ fn lines_of_a_king(rt: HostRuntime) -> Result<(), Fail> {
 fn remote_pieces(rt: HostRuntime) -> Result<(), Fail> {
     let p = position("4k4/9/3GP4/p7p/9/9/P7P/9/K8 b -")?;
     let remote = Replies::of(&p).remote_pieces(&p);
-    let pawns = mask_of("9g 1g")?;
+    let pawns = squares_of("9g 1g")?;
     holds!(rt; remote & pawns == pawns);
-    holds!(rt; remote & mask_of("6c")? == 0);
+    holds!(rt; !remote.has(square("6c")?));
     Ok(())
 }
 
@@ -69,7 +68,7 @@ fn remote_pieces(rt: HostRuntime) -> Result<(), Fail> {
 fn attacks(p: &Position, name: &str) -> Result<Destinations, Fail> {
     let from = square(name)?;
     let free = unpinnable_pieces(p);
-    if !has(free, from.index()) {
+    if !free.has(from) {
         return Err("a piece that nothing pins".into());
     }
     Ok(attacks_of(p, from, p.as_board().targets(from)))
@@ -81,13 +80,13 @@ fn attacks(p: &Position, name: &str) -> Result<Destinations, Fail> {
 fn attacks_of_a_piece(rt: HostRuntime) -> Result<(), Fail> {
     let p = position("k8/9/9/7g1/4n4/9/9/6p2/9 b -")?;
     let knight = attacks(&p, "5e")?;
-    let jumps = mask_of("6g 4g")?;
+    let jumps = squares_of("6g 4g")?;
     holds!(rt; knight.plain == jumps && knight.promoting == jumps);
     let pawn = attacks(&p, "3h")?;
-    holds!(rt; pawn.plain == 0 && pawn.promoting == mask_of("3i")?);
+    holds!(rt; pawn.plain.is_empty() && pawn.promoting == squares_of("3i")?);
     let gold = attacks(&p, "2d")?;
-    let steps = mask_of("2c 3d 1d 3e 2e 1e")?;
-    holds!(rt; gold.plain == steps && gold.promoting == 0);
+    let steps = squares_of("2c 3d 1d 3e 2e 1e")?;
+    holds!(rt; gold.plain == steps && gold.promoting.is_empty());
     Ok(())
 }
 

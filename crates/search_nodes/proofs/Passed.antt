@@ -185,16 +185,16 @@ nothing_taken e None h = refl
 nothing_taken e (Some piece) h = cc
 
 -- a move that takes nothing is worth no more than it leaves, with what promotion adds
-quiet_at : (f : Frame) (row : Row) (first c most from to : ℕ) (promote : Bool) (loss : ℤ) → f.depth ≡ 2 → MovesLeave f loss row.pieces row.squares row.escapes → IsCertainMove f.node.position false row first c → from < 81 → to < 81 → c ≡ code_of (Board from to promote) → has_bit row.pieces from ≡ true → has_bit row.squares to ≡ true → promotion_gain promote (piece_at f.node.position.cells from) ≤ most
+quiet_at : (f : Frame) (row : Row) (first c most from to : ℕ) (promote : Bool) (loss : ℤ) → f.depth ≡ 2 → MovesLeave f loss row.pieces.bits row.squares.bits row.escapes.bits → IsCertainMove f.node.position false row first c → from < 81 → to < 81 → c ≡ code_of (Board from to promote) → has_bit row.pieces.bits from ≡ true → has_bit row.squares.bits to ≡ true → promotion_gain promote (piece_at f.node.position.cells from) ≤ most
     → worth f.node.position f.node.eval (f.depth - 1) c ≤ℤ (material_of f.node.position f.node.eval +ℤ pos most +ℤ loss)
 quiet_at f row first c most from to promote loss last leave k from_fits to_fits is piece set more =
     let back : move_of (code_of (Board from to promote)) ≡ Some (Board from to promote) = move_of-board from to promote from_fits to_fits in
     let parts : (is_legal f.node.position (Board from to promote) ≡ true) × (not (is_some (piece_at f.node.position.cells to)) ≡ true) = and_parts _ _ (sym (matching_move f.node.position false (Board from to promote) back) ∙ (ap (is_matching f.node.position false) (sym is) ∙ k.matching)) in
-    let certain : IsCertain f.node.position row.escapes (Board from to promote) = certain_move f.node.position row.escapes c (Board from to promote) (ap (after_code f.node.position) is ∙ after_code_of f.node.position (Board from to promote) back) k.leaves in
+    let certain : IsCertain f.node.position row.escapes.bits (Board from to promote) = certain_move f.node.position row.escapes.bits c (Board from to promote) (ap (after_code f.node.position) is ∙ after_code_of f.node.position (Board from to promote) back) k.leaves in
     let worth_most : _ = gain_worth f.node.position f.node.eval f.depth c from to promote loss f.valid last from_fits to_fits is parts.0 (leave from to promote from_fits to_fits piece set parts.0 certain) in
     omega (arith, ints, worth_most, nothing_taken f.node.eval (piece_at f.node.position.cells to) parts.1, more)
 
-quiet_worth : (f : Frame) (row : Row) (first c most : ℕ) (loss : ℤ) → f.depth ≡ 2 → MovesLeave f loss row.pieces row.squares row.escapes → PromotesWithin most row.promoting → IsCertainMove f.node.position false row first c
+quiet_worth : (f : Frame) (row : Row) (first c most : ℕ) (loss : ℤ) → f.depth ≡ 2 → MovesLeave f loss row.pieces.bits row.squares.bits row.escapes.bits → PromotesWithin most row.promoting → IsCertainMove f.node.position false row first c
     → worth f.node.position f.node.eval (f.depth - 1) c ≤ℤ (material_of f.node.position f.node.eval +ℤ pos most +ℤ loss)
 quiet_worth f row first c most loss last leave within k =
     let from : ℕ = c / SQUARE_CODES in
@@ -221,7 +221,7 @@ pub drops_covered : (f : Frame) (kind : Kind) (squares escapes first : ℕ) (cod
 drops_covered f kind squares escapes first codes left lost passed k = covered_passed (worth f.node.position f.node.eval (f.depth - 1)) (IsCertainDrop f.node.position kind squares escapes first) (moves_at f.node.position f.depth) codes left f.alpha f.best_value (code_at f.best_move) passed lost k
 
 -- and moves on the board that take nothing
-pub quiets_covered : (f : Frame) (row : Row) (first most : ℕ) (loss : ℤ) (codes left : List ℕ) → f.depth ≡ 2 → MovesLeave f loss row.pieces row.squares row.escapes → PromotesWithin most row.promoting → (material_of f.node.position f.node.eval +ℤ pos most +ℤ loss) ≤ℤ threshold f.best_value (code_at f.best_move) first → IsPassed (IsCertainMove f.node.position false row first) codes left
+pub quiets_covered : (f : Frame) (row : Row) (first most : ℕ) (loss : ℤ) (codes left : List ℕ) → f.depth ≡ 2 → MovesLeave f loss row.pieces.bits row.squares.bits row.escapes.bits → PromotesWithin most row.promoting → (material_of f.node.position f.node.eval +ℤ pos most +ℤ loss) ≤ℤ threshold f.best_value (code_at f.best_move) first → IsPassed (IsCertainMove f.node.position false row first) codes left
     → IsCovered (worth f.node.position f.node.eval (f.depth - 1)) (moves_at f.node.position f.depth) codes f.alpha f.best_value (code_at f.best_move) → IsCovered (worth f.node.position f.node.eval (f.depth - 1)) (moves_at f.node.position f.depth) left f.alpha f.best_value (code_at f.best_move)
 quiets_covered f row first most loss codes left last leave within low passed k =
     covered_passed (worth f.node.position f.node.eval (f.depth - 1)) (IsCertainMove f.node.position false row first) (moves_at f.node.position f.depth) codes left f.alpha f.best_value (code_at f.best_move) passed

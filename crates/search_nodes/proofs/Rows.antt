@@ -39,7 +39,7 @@ pub within_of : (f : Frame) (first : ℕ) → f.waiting ≡ Next → f.depth ≡
 within_of f first next last = threshold_within _ _ _ _ _ _ _ _ first f.valid f.shallow (omega (arith, last)) f.least f.open f.most (known_next _ _ _ _ _ _ _ _ _ next f.known)
 
 -- a row of moves that take nothing leaves what is known
-pub row_known : (f : Frame) (row : Row) (first most : ℕ) (loss : ℤ) (picker : MovePicker) → f.waiting ≡ Next → f.depth ≡ 2 → MovesLeave f loss row.pieces row.squares row.escapes → PromotesWithin most row.promoting → (material_of f.node.position f.node.eval +ℤ pos most +ℤ loss) ≤ℤ threshold f.best_value (code_at f.best_move) first
+pub row_known : (f : Frame) (row : Row) (first most : ℕ) (loss : ℤ) (picker : MovePicker) → f.waiting ≡ Next → f.depth ≡ 2 → MovesLeave f loss row.pieces.bits row.squares.bits row.escapes.bits → PromotesWithin most row.promoting → (material_of f.node.position f.node.eval +ℤ pos most +ℤ loss) ≤ℤ threshold f.best_value (code_at f.best_move) first
     → IsPassed (IsCertainMove f.node.position false row first) (todo f.node.position f.picker) (todo f.node.position picker) → IsKnownWhile f.node.position f.node.eval f.depth f.alpha f.beta f.best_value (code_at f.best_move) (todo f.node.position picker) f.waiting
 row_known f row first most loss picker next last leave within low passed = next_known _ _ _ _ _ _ _ _ _ next (quiets_covered f row first most loss _ _ last leave within low passed (known_next _ _ _ _ _ _ _ _ _ next f.known))
 
@@ -91,10 +91,10 @@ spared_drops f threat loss kind sliding aside first last is gains spared slides 
     let at : _ = drop_at f.node.position kind aside 0 first code certain in
     drop_worth f kind aside 0 first code _ loss last short certain.above at (drop_spared f threat loss kind sliding aside aside code _ is gains spared slides at.set at)
 
-pub taken_drops : (f : Frame) (threats : Threats) (loss : ℤ) (kind : Kind) (gain first : ℕ) → f.depth ≡ 2 → AreThreatsIn f.node.position f.node.eval threats → gain ≡ taken_gain f.node.eval (dropped f.node.position.side kind) → loss ≡ pos 0 -ℤ pos gain → FallsShort f kind first loss → DropsAreLost f kind threats.takes 0 first
+pub taken_drops : (f : Frame) (threats : Threats) (loss : ℤ) (kind : Kind) (gain first : ℕ) → f.depth ≡ 2 → AreThreatsIn f.node.position f.node.eval threats → gain ≡ taken_gain f.node.eval (dropped f.node.position.side kind) → loss ≡ pos 0 -ℤ pos gain → FallsShort f kind first loss → DropsAreLost f kind threats.takes.bits 0 first
 taken_drops f threats loss kind gain first last are value gains short = λ code certain.
-    let at : _ = drop_at f.node.position kind threats.takes 0 first code certain in
-    drop_worth f kind threats.takes 0 first code _ loss last short certain.above at (drop_retaken f loss kind gain threats.takes code _ value gains (are.takes _ at.fits at.set) at)
+    let at : _ = drop_at f.node.position kind threats.takes.bits 0 first code certain in
+    drop_worth f kind threats.takes.bits 0 first code _ loss last short certain.above at (drop_retaken f loss kind gain threats.takes.bits code _ value gains (are.takes _ at.fits at.set) at)
 
 pub no_drops : (f : Frame) (kind : Kind) (escapes first : ℕ) → DropsAreLost f kind 0 escapes first
 no_drops f kind escapes first = λ code certain. absurd (both_ways (has_bit 0 (code - FIRST_DROP - kind_number kind * 81)) (has_bit-none (code - FIRST_DROP - kind_number kind * 81)) certain.among)
@@ -107,7 +107,7 @@ drops_of_either f kind a b escapes first lost more = λ code k. elim (or_cases (
 ]
 
 pub no_escapes : (p : Shogi) → AreEscapes p 0
-no_escapes p = record { escapes = λ k e hk king he among. absurd (both_ways (has_bit 0 e) (has_bit-none e) among); fits = omega arith }
+no_escapes p = λ k e hk king he among. absurd (both_ways (has_bit 0 e) (has_bit-none e) among)
 
 -- ---- frames that differ in what was looked for
 

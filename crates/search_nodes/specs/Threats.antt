@@ -44,9 +44,9 @@ pub record IsApart (a t n : ℕ) : Type 0 where
 -- its move is a threat in the position and gains as much as is kept, and so are its squares with those between and the ones on which its piece might come to be pinned
 pub record IsThreatIn (p : Shogi) (e : Eval) (threat : Threat) : Type 0 where
   pub gains : Gains p e threat.from threat.target threat.promote threat.gain
-  pub way_is : (n : ℕ) → n < 81 → has_bit threat.way n ≡ false
+  pub way_is : (n : ℕ) → n < 81 → has_bit threat.way.bits n ≡ false
       → IsApart threat.from threat.target n
-  pub line_is : HoldsPinning p threat.from threat.line
+  pub line_is : HoldsPinning p threat.from threat.line.bits
 
 -- its move is a threat that gains so much, if it gains anything
 abbrev pub IsPrizeIn : Shogi → Eval → Prize → Type 0
@@ -72,7 +72,7 @@ AreAttacked p mask = (n : ℕ) → n < 81 → has_bit mask n ≡ true → ∥ Is
 
 -- each square of the mask is attacked, and the threats are some
 pub record AreThreatsIn (p : Shogi) (e : Eval) (threats : Threats) : Type 0 where
-  pub takes : AreAttacked p threats.takes
+  pub takes : AreAttacked p threats.takes.bits
   pub greatest : ForSome threats.greatest (IsThreatIn p e)
   pub second : ForSome threats.second (IsThreatIn p e)
 

@@ -21,7 +21,7 @@ use crate::move_picker::MovePicker;
 use crate::threat::Threats;
 use crate::window::threshold;
 use minimax::{Entry, MATE};
-use shogi_core::Move;
+use shogi_core::{Move, Squares};
 use shogi_eval::{Eval, Node};
 use shogi_moves::has_legal;
 use shogi_replies::Replies;
@@ -45,7 +45,7 @@ pub struct Frame {
     pub picker: MovePicker,
     pub replies: Replies,
     /// Squares to which the other side's king may go, once they were looked for.
-    pub escapes: Option<u128>,
+    pub escapes: Option<Squares>,
     /// Captures that the other side may make after most moves, once they were looked for.
     pub threats: Option<Threats>,
     pub alpha: i32,
@@ -71,8 +71,8 @@ pub struct Frame {
             (todo node.position picker) waiting },
     ghost moves: { has_move ≡ true → legal_codes node.position ≢ [] } by { Prim.hlevel props },
     ghost kept: { IsKept node.position picker } by { IsKept-prop node.position picker },
-    ghost replied: { IsReplies node.position replies.sight replies.spare } by { Prim.hlevel props },
-    ghost escaping: { ForSome escapes (AreEscapes node.position) } by { Prim.hlevel props },
+    ghost replied: { IsReplies node.position replies.sight.bits replies.spare.bits } by { Prim.hlevel props },
+    ghost escaping: { ForSome escapes (λ squares. AreEscapes node.position squares.bits) } by { Prim.hlevel props },
     ghost threatened: { AreSomeThreats node.position node.eval threats } by { Prim.hlevel props },
 }
 

@@ -9,7 +9,7 @@ ghost use Rattle.shogi_moves.specs.Sweeps.{IsBoardSweep, IsDropSweep};
 ghost use Rattle.search_nodes.specs.Order.{codes_of, others_to_come, todo, todo_after, todo_from, IsAtDrops, IsAtQuiets, IsKept, PassesDrops, PassesQuiets, TakesBoardPick, TakesDropPick, TakesFirst, TakesFirstDrop, TakesFirstQuiet, TakesFromSweep};
 
 use crate::firsts::Firsts;
-use shogi_core::{Kind, Move, Position};
+use shogi_core::{Kind, Move, Position, Squares};
 use shogi_moves::{BoardSweep, DropSweep, KnownPosition, check_info_of};
 use shogi_replies::{Replies, Row};
 
@@ -211,7 +211,7 @@ impl MovePicker {
         let MovePicker::Drops(_, sweep) = self else {
             return false;
         };
-        if sweep.destinations != 0 {
+        if !sweep.destinations.is_empty() {
             return false;
         }
         sweep.fill(p)
@@ -232,8 +232,8 @@ impl MovePicker {
     #[tactic(auto, using(crate::proofs::MatchingOthers::passing_others))]
     pub(crate) fn pass_quiets(&mut self, p: &Position, row: &Row, replies: &Replies)
         requires kept { IsKept p.now self.old }
-        requires replies { IsReplies p.now replies.now.sight replies.now.spare }
-        requires escapes { AreEscapes p.now row.now.escapes }
+        requires replies { IsReplies p.now replies.now.sight.bits replies.now.spare.bits }
+        requires escapes { AreEscapes p.now row.now.escapes.bits }
         ensures kept { IsKept p.now self.new }
         ensures passed { PassesQuiets p.now row.now self.old self.new }
     {
@@ -258,15 +258,15 @@ impl MovePicker {
     pub(crate) fn pass_drops(
         &mut self,
         p: &Position,
-        squares: u128,
-        escapes: u128,
+        squares: Squares,
+        escapes: Squares,
         replies: &Replies,
     )
         requires kept { IsKept p.now self.old }
-        requires replies { IsReplies p.now replies.now.sight replies.now.spare }
-        requires escapes { AreEscapes p.now escapes }
+        requires replies { IsReplies p.now replies.now.sight.bits replies.now.spare.bits }
+        requires escapes { AreEscapes p.now escapes.bits }
         ensures kept { IsKept p.now self.new }
-        ensures passed { PassesDrops p.now squares escapes self.old self.new }
+        ensures passed { PassesDrops p.now squares.bits escapes.bits self.old self.new }
     {
         if let MovePicker::Drops(_, sweep) = self {
             replies.pass_drops(p, squares, escapes, sweep);

@@ -8,8 +8,7 @@ use crate::frame::{Frame, Waiting};
 use crate::move_picker::MovePicker;
 use crate::threat::{Threat, Threats, slides, threats_of};
 use crate::window::threshold_at;
-use shogi_core::bits::{ALL_SQUARES, without};
-use shogi_core::{Kind, Move};
+use shogi_core::{Kind, Move, Squares};
 use shogi_eval::{PROMOTION_GAIN_MAX, loss_of_drops, taken_gain};
 use shogi_moves::dropped;
 use shogi_replies::{ALL_ROLES, Replies, Row, escape_squares, king_takes, leaves_escape, put_by};
@@ -61,8 +60,8 @@ impl Frame {
     }
 
     /// The squares to which the other side's king may go, which are noted.
-    fn look_for_escapes(&mut self) -> u128
-        ensures escapes { AreEscapes self.old.node.position result }
+    fn look_for_escapes(&mut self) -> Squares
+        ensures escapes { AreEscapes self.old.node.position result.bits }
         ensures kept { KeepsMoves self.old self.new }
     {
         if let Some(squares) = self.escapes {
@@ -76,12 +75,12 @@ impl Frame {
     /// The squares to which the other side's king may go, where they were looked for, and else
     /// none.
     #[inline(always)]
-    fn known_escapes(&self) -> u128
-        ensures { AreEscapes self.now.node.position result }
+    fn known_escapes(&self) -> Squares
+        ensures { AreEscapes self.now.node.position result.bits }
     {
         match self.escapes {
             Some(squares) => squares,
-            None => 0,
+            None => Squares::none(),
         }
     }
 
@@ -147,7 +146,7 @@ impl Frame {
         match self.threats {
             Some(threats) => threats,
             None => Threats {
-                takes: 0,
+                takes: Squares::none(),
                 greatest: None,
                 second: None,
             },
@@ -288,15 +287,15 @@ impl Frame {
         &mut self,
         code: u16,
         loss: i32,
-        pieces: u128,
-        squares: u128,
-        escapes: u128,
+        pieces: Squares,
+        squares: Squares,
+        escapes: Squares,
     ) -> bool
         requires next { self.old.waiting ≡ Waiting.Next }
         requires last { self.old.depth ≡ 2 }
         requires at { IsAtQuiets self.old.picker code }
-        requires escapes { AreEscapes self.old.node.position escapes }
-        requires leave { MovesLeave self.old loss pieces squares escapes }
+        requires escapes { AreEscapes self.old.node.position escapes.bits }
+        requires leave { MovesLeave self.old loss pieces.bits squares.bits escapes.bits }
         requires least { (pos 0 -ℤ pos 4000) ≤ℤ loss }
         requires most { loss ≤ℤ pos 100 }
         ensures pruned { PrunesRow self.old self.new }
@@ -328,10 +327,9 @@ impl Frame {
         requires threat { IsThreatIn self.old.node.position self.old.node.eval threat.now }
         ensures { PrunesRow self.old self.new }
     {
-        threat.target.validity();
-        let pieces = without(ALL_SQUARES, threat.target.index());
+        let pieces = Squares::all().except(threat.target);
         let aside = threat.squares_aside(true);
-        self.prune_row(code, 0 - threat.gain as i32, pieces, aside, 0);
+        self.prune_row(code, 0 - threat.gain as i32, pieces, aside, Squares::none());
     }
 
     /// Passes the next moves on the board that take nothing, while it is certain without making them
@@ -346,7 +344,7 @@ impl Frame {
             return;
         };
         let (loss, escapes) = (self.loss_after(), self.known_escapes());
-        if self.prune_row(code, loss, ALL_SQUARES, ALL_SQUARES, escapes) {
+        if self.prune_row(code, loss, Squares::all(), Squares::all(), escapes) {
             return;
         }
         let threats = self.known_threats();
@@ -372,41 +370,41 @@ impl Frame {
     /// Squares on which a drop of the kind that gives no check is not worth enough, since it is taken
     /// there.
     #[inline(always)]
-    fn taken_squares(&self, threats: &Threats, kind: Kind, code: u16) -> u128
+    fn taken_squares(&self, threats: &Threats, kind: Kind, code: u16) -> Squares
         requires next { self.now.waiting ≡ Waiting.Next }
         requires last { self.now.depth ≡ 2 }
         requires threats { AreThreatsIn self.now.node.position self.now.node.eval threats.now }
-        ensures { DropsAreLost self.now kind result 0 code }
+        ensures { DropsAreLost self.now kind result.bits 0 code }
     {
         let put = dropped(self.node.as_position().side(), kind);
         let gain = taken_gain(self.node.eval(), put);
         if self.falls_short(kind, code, 0 - gain as i32) {
             return threats.takes;
         }
-        0
+        Squares::none()
     }
 
     /// Squares on which it is not, since the threat stands.
     #[inline(always)]
-    fn spared_squares(&self, threat: &Threat, kind: Kind, code: u16) -> u128
+    fn spared_squares(&self, threat: &Threat, kind: Kind, code: u16) -> Squares
         requires next { self.now.waiting ≡ Waiting.Next }
         requires last { self.now.depth ≡ 2 }
         requires threat { IsThreatIn self.now.node.position self.now.node.eval threat.now }
-        ensures { DropsAreLost self.now kind result 0 code }
+        ensures { DropsAreLost self.now kind result.bits 0 code }
     {
         if self.falls_short(kind, code, 0 - threat.gain as i32) {
             let put = dropped(self.node.as_position().side(), kind);
             return threat.squares_aside(slides(put));
         }
-        0
+        Squares::none()
     }
 
     /// Squares on which it is not, for either.
-    fn lost_squares(&self, threats: &Threats, kind: Kind, code: u16) -> u128
+    fn lost_squares(&self, threats: &Threats, kind: Kind, code: u16) -> Squares
         requires next { self.now.waiting ≡ Waiting.Next }
         requires last { self.now.depth ≡ 2 }
         requires threats { AreThreatsIn self.now.node.position self.now.node.eval threats.now }
-        ensures { DropsAreLost self.now kind result 0 code }
+        ensures { DropsAreLost self.now kind result.bits 0 code }
     {
         let taken = self.taken_squares(threats, kind, code);
         match &threats.greatest {
@@ -417,11 +415,11 @@ impl Frame {
 
     /// Passes the next drops of a node of depth 2 of the kind that is under way, on these squares;
     /// whether none of that kind is left, and those of another one are under way.
-    fn pass_kind(&mut self, kind: Kind, code: u16, squares: u128, escapes: u128) -> bool
+    fn pass_kind(&mut self, kind: Kind, code: u16, squares: Squares, escapes: Squares) -> bool
         requires next { self.old.waiting ≡ Waiting.Next }
         requires at { IsAtDrops self.old.picker kind code }
-        requires escapes { AreEscapes self.old.node.position escapes }
-        requires lost { DropsAreLost self.old kind squares escapes code }
+        requires escapes { AreEscapes self.old.node.position escapes.bits }
+        requires lost { DropsAreLost self.old kind squares.bits escapes.bits code }
         ensures { PrunesRow self.old self.new }
     {
         let _ = (kind, code);
@@ -443,14 +441,14 @@ impl Frame {
         };
         if self.falls_short(kind, code, self.loss_after()) {
             let escapes = self.known_escapes();
-            return self.pass_kind(kind, code, ALL_SQUARES, escapes);
+            return self.pass_kind(kind, code, Squares::all(), escapes);
         }
         let threats = self.known_threats();
         let squares = self.lost_squares(&threats, kind, code);
-        if squares == 0 {
+        if squares.is_empty() {
             return false;
         }
-        self.pass_kind(kind, code, squares, 0)
+        self.pass_kind(kind, code, squares, Squares::none())
     }
 
     /// The same of the drops, kind after kind.

@@ -13,8 +13,8 @@ ghost use Rattle.shogi_replies.specs.Threats.{IsTaken, IsUnpinnable, IsThreat, e
 ghost use Rattle.shogi_core.specs.Validity.{IsValid};
 ghost use Rattle.search_nodes.specs.Threats.{AddsPrize, AreAttacked, ArePrizesIn, AreSpared, AreThreatsIn, GainsAfter, HoldsPinning, IsPrizeIn, IsThreatIn, IsSparedAt, IsSparedBy, TakesAfter};
 
-use shogi_core::bits::{has, lowest, with, without_lowest};
-use shogi_core::{Move, Piece, Position, Square, aligned_squares};
+use shogi_core::bits::{lowest, without_lowest};
+use shogi_core::{Move, Piece, Position, Square, Squares, aligned_squares};
 use shogi_eval::{Eval, promotion_gain, taken_gain};
 use shogi_replies::{
     Replies, attacks_of, line_squares, put_by, squares_between, unpinnable_pieces,
@@ -34,8 +34,8 @@ pub struct Prize {
 /// that slides might come to pin its piece: on lines with it and with its king.
 #[derive(Clone, Copy)]
 pub struct Threat {
-    pub way: u128,
-    pub line: u128,
+    pub way: Squares,
+    pub line: Squares,
     pub gain: u32,
     pub from: Square,
     pub target: Square,
@@ -53,7 +53,7 @@ pub struct Prizes {
 /// something.
 #[derive(Clone, Copy)]
 pub struct Threats {
-    pub takes: u128,
+    pub takes: Squares,
     pub greatest: Option<Threat>,
     pub second: Option<Threat>,
 }
@@ -99,18 +99,18 @@ impl Prizes {
 
     /// These and those of the piece's moves, promoting or not, to these squares.
     #[inline(always)]
-    fn with_ends(self, p: &Position, e: Eval, from: usize, promote: bool, ends: u128) -> Prizes
+    fn with_ends(self, p: &Position, e: Eval, from: usize, promote: bool, ends: Squares) -> Prizes
         requires from { from < 81 }
         requires prizes { ArePrizesIn p.now e self }
-        requires ends { (t : ℕ) → t < 81 → has_bit ends t ≡ true → IsThreat p.now from t promote }
-        requires fits { ends < 2 ^ 81 }
+        requires ends { (t : ℕ) → t < 81 → has_bit ends.bits t ≡ true
+            → IsThreat p.now from t promote }
         ensures { ArePrizesIn p.now e result }
     {
-        if ends == 0 {
+        if ends.is_empty() {
             return self;
         }
         let more = promotion_gain(p.at(Square::of_index(from)), promote);
-        let mut left = ends;
+        let mut left = ends.bits;
         let mut prizes = self;
         'targets: while left != 0 {
             let target = lowest(left);
@@ -130,37 +130,39 @@ impl Prizes {
 /// Those of the lines of its king on which a piece that slides might come to pin what stands on the
 /// square.
 #[inline(always)]
-fn pinning_squares(p: &Position, lines: u128, from: usize) -> u128
-    requires from { from < 81 }
-    requires lines { Aligns p.now.cells (opponent_of p.now.side) 0 lines }
-    ensures { HoldsPinning p.now from result }
+fn pinning_squares(p: &Position, lines: Squares, from: Square) -> Squares
+    requires lines { Aligns p.now.cells (opponent_of p.now.side) 0 lines.bits }
+    ensures { HoldsPinning p.now from result.bits }
 {
     let _ = p;
-    if has(lines, from) {
-        lines & aligned_squares(from)
+    from.validity();
+    if lines.has(from) {
+        lines & aligned_squares(from.index())
     } else {
-        0
+        Squares::none()
     }
 }
 
 /// The threat, if it gains something, where those are the lines of the king of its side.
 #[inline(always)]
-fn threat_by(p: &Position, e: Eval, prize: Prize, lines: u128) -> Option<Threat>
+fn threat_by(p: &Position, e: Eval, prize: Prize, lines: Squares) -> Option<Threat>
     requires prize { IsPrizeIn p.now e prize }
-    requires lines { Aligns p.now.cells (opponent_of p.now.side) 0 lines }
+    requires lines { Aligns p.now.cells (opponent_of p.now.side) 0 lines.bits }
     ensures { ForSome result (IsThreatIn p.now e) }
 {
     let _ = e;
     if prize.gain == 0 {
         return None;
     }
-    let (from, target) = (prize.from as usize, prize.target as usize);
+    let from = Square::of_index(prize.from as usize);
+    let target = Square::of_index(prize.target as usize);
+    let between = squares_between(prize.from as usize, prize.target as usize);
     Some(Threat {
-        way: with(with(squares_between(from, target), from), target),
+        way: between.with(from).with(target),
         line: pinning_squares(p, lines, from),
         gain: prize.gain,
-        from: Square::of_index(from),
-        target: Square::of_index(target),
+        from,
+        target,
         promote: prize.promote,
     })
 }
@@ -173,20 +175,20 @@ pub(crate) fn threats_of(p: &Position, e: Eval) -> Threats
     let board = p.as_board();
     let own = board.own(p.side());
     let theirs = board.own(p.side().opponent());
-    let mut left = unpinnable_pieces(p);
+    let mut left = unpinnable_pieces(p).bits;
     let mut takes = 0;
     let mut prizes = Prizes::none();
     'attackers: while left != 0 {
         let from = lowest(left);
         let square = Square::of_index(from);
         let attacks = attacks_of(p, square, board.targets(square));
-        takes |= attacks.plain;
+        takes |= attacks.plain.bits;
         prizes = prizes.with_ends(p, e, from, false, own & attacks.plain);
-        prizes = prizes.with_ends(p, e, from, true, attacks.promoting & !theirs);
+        prizes = prizes.with_ends(p, e, from, true, attacks.promoting.without(theirs));
         left = without_lowest(left, from);
     }
     Threats {
-        takes,
+        takes: Squares { bits: takes },
         greatest: threat_by(p, e, prizes.greatest, lines),
         second: threat_by(p, e, prizes.second, lines),
     }
@@ -207,11 +209,11 @@ impl Threat {
     /// The squares on which a move lets the attacker and its way to the target be that puts something
     /// there that slides, or does not.
     #[inline(always)]
-    pub(crate) fn squares_aside(&self, sliding: bool) -> u128
-        ensures { AreSpared self.now sliding result }
+    pub(crate) fn squares_aside(&self, sliding: bool) -> Squares
+        ensures { AreSpared self.now sliding result.bits }
     {
-        let line = if sliding { self.line } else { 0 };
-        !(self.way | line)
+        let line = if sliding { self.line } else { Squares::none() };
+        Squares::all().without(self.way | line)
     }
 
     /// Whether a move that puts this on the square lets the attacker and its way to the target be.
@@ -219,8 +221,7 @@ impl Threat {
     fn is_aside(&self, to: Square, put: Option<Piece>) -> bool
         ensures { result ≡ true → IsSparedAt self.now put to }
     {
-        to.validity();
-        has(self.squares_aside(slides(put)), to.index())
+        self.squares_aside(slides(put)).has(to)
     }
 
     /// Whether the move, which puts this on its square, lets the attacker, the target and the way
@@ -265,14 +266,12 @@ impl Threats {
     /// gives check.
     #[inline(always)]
     pub(crate) fn has_retake(&self, p: &Position, replies: &Replies, m: &Move) -> bool
-        requires takes { AreAttacked p.now self.now.takes }
-        requires kept { IsReplies p.now replies.now.sight replies.now.spare }
+        requires takes { AreAttacked p.now self.now.takes.bits }
+        requires kept { IsReplies p.now replies.now.sight.bits replies.now.spare.bits }
         requires legal { is_legal p.now m.now ≡ true }
         ensures { result ≡ true → ∥ IsTaken p.now m.now ∥₁ }
     {
-        let end = end_of(m);
-        end.validity();
-        if !has(self.takes, end.index()) {
+        if !self.takes.has(end_of(m)) {
             return false;
         }
         replies.uncovers_nothing(p, m)
@@ -290,9 +289,7 @@ impl Threats {
     {
         m.validity();
         let put = put_by(p, m);
-        let end = end_of(m);
-        end.validity();
-        let retake = if has(self.takes, end.index()) {
+        let retake = if self.takes.has(end_of(m)) {
             taken_gain(e, put)
         } else {
             0

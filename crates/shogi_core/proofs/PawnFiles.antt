@@ -1,10 +1,11 @@
 -- The files on which a side has an unpromoted pawn.
 use Rattle.std.proofs.Common.{◌≡◌, ℕ, ◌<◌, ◌+◌, ◌-◌, ◌*◌, ◌/◌, ◌%◌, ◌≤◌, min, Bool, true, false, not, List, Option, None, Some, refl, sym, ap, ◌∙◌, arith, get_or, subst, length, take, drop, bit_and, bit_or, ◌^◌, inl, inr}
-use Rattle.std.specs.Prelude.{cond, ◌&&◌, nat_lt}
+use Rattle.std.specs.Prelude.{◌&&◌, ◌==◌, nat_lt}
 use Rattle.std.proofs.lemmas.Bool.{both_ways, cases_Bool, eq-eqb, false_from_ne_true, lt-ltb, le-ltb, eqb-true, and_from, and_parts}
 use Rattle.std.proofs.lemmas.List.{get_or-drop, get_or-take, length-drop, length-take, length-take-le}
 use Rattle.shogi_core.specs.declared.piece.Color.{Color}
-use Rattle.shogi_core.specs.Bits.{has_bit}
+use Rattle.shogi_core.specs.declared.squares.Squares.{Squares}
+use Rattle.shogi_core.specs.Bits.{HasBits, has_bit}
 use Rattle.shogi_core.specs.declared.piece.Piece.{Piece}
 use Rattle.shogi_core.specs.declared.piece.Role.{Role}
 use Rattle.shogi_core.specs.declared.piece.Role.TheVariants as roles
@@ -70,33 +71,30 @@ stepper cells side own sliders kings n fits h owns slides crowns e =
     ∙ and_from _ _ (owns ∙ pawn_own side (piece_at cells n) e) (has_bit-not (bit_or sliders kings) n fits (omega arith) ∙ ap not off)
 
 -- the squares of the file of a pawn, and none of another piece
-abbrev pub file_at : Cells → Color → ℕ → ℕ
-file_at cells side n = cond (is_pawn side (piece_at cells n)) (get_or FILES (n / 9) 0) 0
+pub its_file : (pawn : Bool) (k n : ℕ) → pawn ≡ true → k < 81 → n < 81 → has_bit (get_or FILES (k / 9) 0) n ≡ (pawn && n / 9 == k / 9)
+its_file pawn k n e hk hn = rw e (files_right (k / 9) n (omega arith) hn)
 
-pub file_fits : (cells : Cells) (side : Color) (n m : ℕ) → n < 81 → m ≡ file_at cells side n → m < 2 ^ 81
-file_fits cells side n m h e = rw e (elim (cases_Bool (is_pawn side (piece_at cells n))) [
-  | inl pawn ↦ rw pawn (files_fit (n / 9) (omega arith))
-  | inr other ↦ rw other (omega arith)
-])
+pub its_file_fits : (k : ℕ) → k < 81 → get_or FILES (k / 9) 0 < 2 ^ 81
+its_file_fits k h = files_fit (k / 9) (omega arith)
 
-pub pawn_files_right : (cells : Cells) (side : Color) (post : ℕ → ℕ → Type 0) (own sliders kings mask : ℕ) → length cells ≡ 81 → bit_or sliders kings < 2 ^ 128 → ((n : ℕ) → n < 81 → has_bit own n ≡ is_piece_of side (piece_at cells n)) → ((n : ℕ) → n < 81 → has_bit sliders n ≡ is_slider (piece_at cells n))
-    → ((n : ℕ) → n < 81 → has_bit kings n ≡ is_king side (piece_at cells n)) → ((n m : ℕ) → n < 81 → post n m → m ≡ file_at cells side n) → IsUnion post (bit_and own (2 ^ 128 - 1 - bit_or sliders kings)) mask
-    → (n : ℕ) → n < 81 → has_bit mask n ≡ nat_lt 0 (pawns_on_file side (n / 9) cells)
+pub no_file : (pawn : Bool) (n : ℕ) (b : Bool) → pawn ≡ false → has_bit 0 n ≡ (pawn && b)
+no_file pawn n b e = rw e (has_bit-none n)
+
+pub ruleset pawn_file_bits = (its_file, its_file_fits, no_file)
+
+pub pawn_files_right : (cells : Cells) (side : Color) (post : ℕ → Squares → Type 0) (own sliders kings mask : ℕ) → length cells ≡ 81 → bit_or sliders kings < 2 ^ 128 → ((n : ℕ) → n < 81 → has_bit own n ≡ is_piece_of side (piece_at cells n)) → ((n : ℕ) → n < 81 → has_bit sliders n ≡ is_slider (piece_at cells n))
+    → ((n : ℕ) → n < 81 → has_bit kings n ≡ is_king side (piece_at cells n)) → ((k : ℕ) (led : Squares) → k < 81 → post k led → HasBits led.bits (λ n. is_pawn side (piece_at cells k) && n / 9 == k / 9)) → IsUnion post (bit_and own (2 ^ 128 - 1 - bit_or sliders kings)) mask
+    → HasBits mask (λ n. nat_lt 0 (pawns_on_file side (n / 9) cells))
 pawn_files_right cells side post own sliders kings mask len fits owns slides crowns each union n low = elim (cases_Bool (has_bit mask n)) [
   | inl found ↦ (
       let from = union.only n found in
-      found ∙ sym (lt-ltb 0 (pawns_on_file side (n / 9) cells) (pawn_at from.0 from.1 (rw (each from.0 from.3 from.1 from.4) at from.5))))
+      found ∙ sym (lt-ltb 0 (pawns_on_file side (n / 9) cells) (pawn_at from.0 from.1 (and_parts _ _ (sym (each from.0 from.3 from.1 from.4 n low) ∙ from.5)))))
   | inr none ↦ (
       let nowhere : pawns_on_file side (n / 9) cells ≡ 0 = pawn_nowhere cells side (n / 9) (omega arith) (λ s below file. false_from_ne_true (is_pawn side (piece_at cells s)) (λ e. (
       let to = union.all s below (stepper cells side own sliders kings s fits below (owns s below) (slides s below) (crowns s below) e) in
-      both_ways (has_bit mask n) none (to.2 n (rw (each s to.0 below to.1, e) (files_right (s / 9) n (omega arith) low ∙ eq-eqb (n / 9) (s / 9) (sym file))))))) in
+      both_ways (has_bit mask n) none (to.2 n (each s to.0 below to.1 n low ∙ and_from _ _ e (eq-eqb (n / 9) (s / 9) (sym file))))))) in
       none ∙ sym (le-ltb 0 (pawns_on_file side (n / 9) cells) (omega (arith, nowhere))))
 ]
   where
-    pawn_at : (k : ℕ) → k < 81 → has_bit (file_at cells side k) n ≡ true → 0 < pawns_on_file side (n / 9) cells
-    pawn_at k h e = elim (cases_Bool (is_pawn side (piece_at cells k))) [
-      | inl pawn ↦ (
-          let file : n / 9 ≡ k / 9 = eqb-true (n / 9) (k / 9) (sym (files_right (k / 9) n (omega arith) low) ∙ (rw pawn at e)) in
-          subst (λ (f : ℕ). 0 < pawns_on_file side f cells) (sym file) (pawn_there cells side k len h pawn))
-      | inr other ↦ absurd (both_ways (has_bit 0 n) (has_bit-none n) (rw other at e))
-    ]
+    pawn_at : (k : ℕ) → k < 81 → (is_pawn side (piece_at cells k) ≡ true) × ((n / 9 == k / 9) ≡ true) → 0 < pawns_on_file side (n / 9) cells
+    pawn_at k h e = subst (λ (f : ℕ). 0 < pawns_on_file side f cells) (sym (eqb-true (n / 9) (k / 9) e.1)) (pawn_there cells side k len h e.0)

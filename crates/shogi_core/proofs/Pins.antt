@@ -21,7 +21,7 @@ use Rattle.shogi_core.proofs.Back.{back_twice}
 use Rattle.shogi_core.proofs.Below.{some_below_at, some_below_no}
 use Rattle.shogi_core.proofs.BitLaws.{same_mask, has_bit-and, has_bit-or, has_bit-one, has_bit-none}
 use Rattle.shogi_core.proofs.Uncovered.{one_of, some_below_which, slides_was}
-use Rattle.shogi_core.proofs.LineBits.{has_bit-ray}
+use Rattle.shogi_core.proofs.LineBits.{has_bit-ray, and_fits}
 use Rattle.shogi_core.proofs.Nearest.{one_piece}
 use Rattle.shogi_core.proofs.RayLaws.{slides_bare}
 use Rattle.shogi_core.proofs.SeenLaws.{slides_back, slides_back_around, slides_role}
@@ -106,6 +106,16 @@ marked_fits old new f fits inside wide bits =
     let whole : bit_or old (2 ^ f) < 2 ^ 81 = or_lt 81 old (2 ^ f) fits power in
     let same : new ≡ bit_or old (2 ^ f) = same_mask 128 new (bit_or old (2 ^ f)) wide (omega arith) (λ i l. bits i ∙ sym (has_bit-or old (2 ^ f) i ∙ ap (λ x. has_bit old i || x) (has_bit-one f i))) in
     omega arith
+
+pub unmarked_fits : (old new f : ℕ) → old < 2 ^ 81 → new < 2 ^ 128 → ((i : ℕ) → has_bit new i ≡ (has_bit old i && not (i == f))) → new < 2 ^ 81
+unmarked_fits old new f fits wide bits =
+    let low : bit_and old new < 2 ^ 81 = and_fits old new fits in
+    let same : new ≡ bit_and old new = same_mask 128 new (bit_and old new) wide (omega arith) (λ i l. sym (has_bit-and old new i ∙ (rw (bits i) (twice (has_bit old i) (not (i == f)))))) in
+    omega arith
+  where
+    twice : (a b : Bool) → (a && (a && b)) ≡ (a && b)
+    twice true b = refl
+    twice false b = refl
 
 -- ---- all directions
 

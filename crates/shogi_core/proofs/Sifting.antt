@@ -2,6 +2,7 @@
 use Rattle.std.proofs.Common.{◌≡◌, ℕ, ◌<◌, Bool, true, false, not, sym, ap, subst, ◌∙◌, inl, inr, bit_or}
 use Rattle.std.specs.Prelude.{◌&&◌, ◌==◌}
 use Rattle.std.proofs.lemmas.Bool.{cases_Bool, cases_eq, ne_eqb, and_from, or_left, or_right, or_cases, and_parts, both_ways, false_from_ne_true}
+use Rattle.shogi_core.specs.declared.squares.Squares.{Squares}
 use Rattle.shogi_core.specs.Bits.{has_bit}
 use Rattle.shogi_core.specs.Sets.{IsSifted, IsUnion}
 use Rattle.shogi_core.proofs.BitLaws.{has_bit-none, has_bit-or}
@@ -24,33 +25,33 @@ sifted_mask post m kept test answers s n h = elim (cases_Bool (has_bit m n)) [
 ]
 
 -- what the squares lead to that are not left
-pub record Unites (post : ℕ → ℕ → Type 0) (squares left found : ℕ) : Type 0 where
+pub record Unites (post : ℕ → Squares → Type 0) (squares left found : ℕ) : Type 0 where
   pub within : (n : ℕ) → has_bit left n ≡ true → has_bit squares n ≡ true
-  pub all : (k : ℕ) → k < 81 → has_bit squares k ≡ true → has_bit left k ≡ false → (mask : ℕ) × post k mask × ((n : ℕ) → has_bit mask n ≡ true → has_bit found n ≡ true)
-  pub only : (n : ℕ) → has_bit found n ≡ true → (k : ℕ) × (k < 81) × (has_bit squares k ≡ true) × (mask : ℕ) × post k mask × (has_bit mask n ≡ true)
+  pub all : (k : ℕ) → k < 81 → has_bit squares k ≡ true → has_bit left k ≡ false → (led : Squares) × post k led × ((n : ℕ) → has_bit led.bits n ≡ true → has_bit found n ≡ true)
+  pub only : (n : ℕ) → has_bit found n ≡ true → (k : ℕ) × (k < 81) × (has_bit squares k ≡ true) × (led : Squares) × post k led × (has_bit led.bits n ≡ true)
 
-pub union_first : (post : ℕ → ℕ → Type 0) (m : ℕ) → Unites post m m 0
+pub union_first : (post : ℕ → Squares → Type 0) (m : ℕ) → Unites post m m 0
 union_first post m = record {
   within = λ n e. e;
   all = λ k h set out. absurd (both_ways (has_bit m k) out set);
   only = λ n e. absurd (both_ways (has_bit 0 n) (has_bit-none n) e);
 }
 
-pub union_more : (post : ℕ → ℕ → Type 0) (m left next found k mask : ℕ) → Unites post m left found → k < 81 → has_bit left k ≡ true → post k mask → ((i : ℕ) → has_bit next i ≡ (has_bit left i && not (i == k))) → Unites post m next (bit_or found mask)
-union_more post m left next found k mask u low on p bits = record {
+pub union_more : (post : ℕ → Squares → Type 0) (m left next found k : ℕ) (led : Squares) → Unites post m left found → k < 81 → has_bit left k ≡ true → post k led → ((i : ℕ) → has_bit next i ≡ (has_bit left i && not (i == k))) → Unites post m next (bit_or found led.bits)
+union_more post m left next found k led u low on p bits = record {
   within = λ n e. u.within n (and_parts (has_bit left n) (not (n == k)) (sym (bits n) ∙ e)).0;
   all = λ j h set out. elim (cases_eq j k) [
-    | inl same ↦ (mask, subst (λ (x : ℕ). post x mask) (sym same) p, λ n e. has_bit-or found mask n ∙ or_right (has_bit found n) (has_bit mask n) e)
+    | inl same ↦ (led, subst (λ (x : ℕ). post x led) (sym same) p, λ n e. has_bit-or found led.bits n ∙ or_right (has_bit found n) (has_bit led.bits n) e)
     | inr other ↦ (let old = u.all j h set (false_from_ne_true (has_bit left j) (λ still. both_ways (has_bit next j) out (bits j ∙ and_from _ _ still (ap not (ne_eqb j k other))))) in
-        (old.0, old.1, λ n e. has_bit-or found mask n ∙ or_left (has_bit found n) (has_bit mask n) (old.2 n e)))
+        (old.0, old.1, λ n e. has_bit-or found led.bits n ∙ or_left (has_bit found n) (has_bit led.bits n) (old.2 n e)))
   ];
-  only = λ n e. elim (or_cases (has_bit found n) (has_bit mask n) (sym (has_bit-or found mask n) ∙ e)) [
+  only = λ n e. elim (or_cases (has_bit found n) (has_bit led.bits n) (sym (has_bit-or found led.bits n) ∙ e)) [
     | inl before ↦ u.only n before
-    | inr now ↦ (k, low, u.within k on, mask, p, now)
+    | inr now ↦ (k, low, u.within k on, led, p, now)
   ];
 }
 
-pub united : (post : ℕ → ℕ → Type 0) (m found : ℕ) → Unites post m 0 found → IsUnion post m found
+pub united : (post : ℕ → Squares → Type 0) (m found : ℕ) → Unites post m 0 found → IsUnion post m found
 united post m found u = record { all = λ k h set. u.all k h set (has_bit-none k); only = u.only }
 
 pub ruleset uniting = (union_first, union_more, or_fits)

@@ -1,5 +1,6 @@
--- Squares of a mask, gone through one by one by calls that answer for each (own choice).
+-- Sets of squares, gone through one by one by calls that answer for each (own choice).
 use Rattle.std.specs.Prelude.{ℕ, ◌≡◌, ◌<◌, Bool, true, false}
+use Rattle.shogi_core.specs.declared.squares.Squares.{Squares}
 use Rattle.shogi_core.specs.Bits.{has_bit}
 
 -- of the squares, those are kept that a call passes
@@ -13,8 +14,8 @@ abbrev pub NonePasses : (ℕ → Bool → Type 0) → ℕ → ℕ → Type 0
 NonePasses post squares end = (n : ℕ) → n < 81 → n < end → has_bit squares n ≡ true → post n false
 
 -- all that a call leads to from one of the squares is found, and nothing else
-pub record IsUnion (post : ℕ → ℕ → Type 0) (squares found : ℕ) : Type 0 where
+pub record IsUnion (post : ℕ → Squares → Type 0) (squares found : ℕ) : Type 0 where
   pub all : (k : ℕ) → k < 81 → has_bit squares k ≡ true
-      → (mask : ℕ) × post k mask × ((n : ℕ) → has_bit mask n ≡ true → has_bit found n ≡ true)
+      → (led : Squares) × post k led × ((n : ℕ) → has_bit led.bits n ≡ true → has_bit found n ≡ true)
   pub only : (n : ℕ) → has_bit found n ≡ true → (k : ℕ) × (k < 81) × (has_bit squares k ≡ true)
-      × (mask : ℕ) × post k mask × (has_bit mask n ≡ true)
+      × (led : Squares) × post k led × (has_bit led.bits n ≡ true)

@@ -3,7 +3,7 @@
 ghost use Rattle.std.specs.Prelude.{◌≡◌, ◌≢◌, ◌<◌, ◌≤◌, ◌^◌, ℕ, true, false, not, None, IfSome, IsNone, is_none};
 ghost use Rattle.shogi_core.specs.Attack.{is_attacked, is_open_king, in_check, is_sniper, is_sniping, cell_steps, cell_slides_back, is_step_from, is_step_among, is_shot_along, is_shot, FindsOccupied, FindsPiece, TellsAttack, TellsShot, TellsShotAlong, HasPinned, HasPinnedAlong, OthersAreUnpinned, StaysAttacked, StaysInCheck};
 ghost use Rattle.shogi_core.specs.Below.{some_below};
-ghost use Rattle.shogi_core.specs.Bits.{HasBits, IsMaskOf, has_bit};
+ghost use Rattle.shogi_core.specs.Bits.{HasBits, has_bit};
 ghost use Rattle.shogi_core.specs.Cell.{is_king};
 ghost use Rattle.shogi_core.specs.Lines.{are_lined, is_seen};
 ghost use Rattle.shogi_core.specs.Pieces.{opponent_of};
@@ -17,6 +17,7 @@ use crate::lines::{DOWN, UP, aligned_squares, slide_squares};
 use crate::piece::{Color, Piece, Role};
 use crate::rays::ray;
 use crate::square::Square;
+use crate::squares::Squares;
 use crate::steps::{jump_squares, near_squares, step_squares};
 use crate::targets::{diagonal_squares, straight_squares};
 
@@ -29,27 +30,27 @@ fn is_open_king(board: &Board, color: Color, square: Square) -> bool
 
 /// The squares on open lines with the square, the first piece on each line included.
 #[tactic(auto, using(crate::proofs::SeenLaws::seen))]
-fn lined_squares(board: &Board, from: usize) -> u128
+fn lined_squares(board: &Board, from: usize) -> Squares
     requires { from < 81 }
-    ensures squares { IsMaskOf result (are_lined board.now from) }
+    ensures squares { HasBits result.bits (are_lined board.now from) }
 {
     straight_squares(board, Color::Black, from) | diagonal_squares(board, Color::Black, from)
 }
 
 /// The squares from which a piece could reach the square: those on open lines, and knights' jumps.
 #[tactic(auto, using(crate::proofs::SeenLaws::seen))]
-fn seen_squares(board: &Board, from: usize) -> u128
+fn seen_squares(board: &Board, from: usize) -> Squares
     requires { from < 81 }
-    ensures squares { IsMaskOf result (is_seen board.now from) }
+    ensures squares { HasBits result.bits (is_seen board.now from) }
 {
     lined_squares(board, from) | jump_squares(from)
 }
 
 /// The squares of pieces of the side that slide and are on a line with the square.
 #[tactic(auto, using(crate::proofs::SeenLaws::snipers))]
-fn sniper_squares(board: &Board, by: Color, from: usize) -> u128
+fn sniper_squares(board: &Board, by: Color, from: usize) -> Squares
     requires { from < 81 }
-    ensures squares { IsMaskOf result (is_sniper board.now by from) }
+    ensures squares { HasBits result.bits (is_sniper board.now by from) }
 {
     board.own(by) & board.sliders() & aligned_squares(from)
 }
@@ -62,19 +63,19 @@ fn steps_to(cell: Option<Piece>, from: usize, to: usize) -> bool
 {
     match cell {
         None => false,
-        Some(piece) => has(step_squares(piece, from), to),
+        Some(piece) => has(step_squares(piece, from).bits, to),
     }
 }
 
-/// A piece on the mask of which a step or a jump leads to the square, if there is one.
+/// A piece on one of the squares of which a step or a jump leads to the square, if there is one.
 #[tactic(auto, using(crate::proofs::Shots::stepping))]
-fn first_stepper(board: &Board, among: u128, square: usize) -> Option<usize>
+fn first_stepper(board: &Board, among: Squares, square: usize) -> Option<usize>
     requires { square < 81 }
-    ensures none { IsNone result → some_below 81 (is_step_among board.now among square) ≡ false }
+    ensures none { IsNone result → some_below 81 (is_step_among board.now among.bits square) ≡ false }
     ensures range { IfSome result (λ a. a < 81) }
-    ensures steps { IfSome result (λ a. is_step_among board.now among square a ≡ true) }
+    ensures steps { IfSome result (λ a. is_step_among board.now among.bits square a ≡ true) }
 {
-    let mut left = near_squares(square) & among;
+    let mut left = near_squares(square).bits & among.bits;
     while left != 0 {
         let from = lowest(left);
         if steps_to(board.at(Square::of_index(from)), from, square) {
@@ -85,10 +86,10 @@ fn first_stepper(board: &Board, among: u128, square: usize) -> Option<usize>
     None
 }
 
-/// Whether a step or a jump of a piece on the mask leads to the square.
-fn is_stepped_on_among(board: &Board, among: u128, square: usize) -> bool
+/// Whether a step or a jump of a piece on one of the squares leads to the square.
+fn is_stepped_on_among(board: &Board, among: Squares, square: usize) -> bool
     requires { square < 81 }
-    ensures { result ≡ some_below 81 (is_step_among board.now among square) }
+    ensures { result ≡ some_below 81 (is_step_among board.now among.bits square) }
 {
     match first_stepper(board, among, square) {
         Some(_) => true,
@@ -124,13 +125,13 @@ fn slides_back(cell: Option<Piece>, direction: usize) -> bool
 
 /// Whether one of the snipers of the square slides to it against the direction.
 #[tactic(auto, using(crate::proofs::Shots::shooting))]
-fn is_shot_on(board: &Board, by: Color, square: usize, direction: usize, snipers: u128) -> bool
+fn is_shot_on(board: &Board, by: Color, square: usize, direction: usize, snipers: Squares) -> bool
     requires direction { direction < 8 }
     requires square { square < 81 }
-    requires snipers { HasBits snipers (is_sniper board.now by square) }
+    requires snipers { HasBits snipers.bits (is_sniper board.now by square) }
     ensures { result ≡ is_shot_along board.now by square direction }
 {
-    let mut left = slide_squares(board, direction, square) & snipers;
+    let mut left = slide_squares(board, direction, square).bits & snipers.bits;
     while left != 0 {
         let from = lowest(left);
         if slides_back(board.at(Square::of_index(from)), direction) {
@@ -143,10 +144,16 @@ fn is_shot_on(board: &Board, by: Color, square: usize, direction: usize, snipers
 
 /// The same, as a call of its own: in most directions there is no sniper.
 #[inline(never)]
-fn is_shot_apart(board: &Board, by: Color, square: usize, direction: usize, snipers: u128) -> bool
+fn is_shot_apart(
+    board: &Board,
+    by: Color,
+    square: usize,
+    direction: usize,
+    snipers: Squares,
+) -> bool
     requires direction { direction < 8 }
     requires square { square < 81 }
-    requires snipers { HasBits snipers (is_sniper board.now by square) }
+    requires snipers { HasBits snipers.bits (is_sniper board.now by square) }
     ensures { result ≡ is_shot_along board.now by square direction }
 {
     is_shot_on(board, by, square, direction, snipers)
@@ -154,22 +161,28 @@ fn is_shot_apart(board: &Board, by: Color, square: usize, direction: usize, snip
 
 /// The same, answered at once where there is no sniper in the direction.
 #[tactic(auto, using(crate::proofs::Shots::shooting))]
-fn is_shot_along(board: &Board, by: Color, square: usize, direction: usize, snipers: u128) -> bool
+fn is_shot_along(
+    board: &Board,
+    by: Color,
+    square: usize,
+    direction: usize,
+    snipers: Squares,
+) -> bool
     requires direction { direction < 8 }
     requires square { square < 81 }
-    requires snipers { HasBits snipers (is_sniper board.now by square) }
+    requires snipers { HasBits snipers.bits (is_sniper board.now by square) }
     ensures { result ≡ is_shot_along board.now by square direction }
 {
-    if ray(direction, square) & snipers == 0 {
+    if ray(direction, square).bits & snipers.bits == 0 {
         return false;
     }
     is_shot_apart(board, by, square, direction, snipers)
 }
 
 /// Whether one of the snipers of the square slides to it.
-fn is_shot(board: &Board, by: Color, square: usize, snipers: u128) -> bool
+fn is_shot(board: &Board, by: Color, square: usize, snipers: Squares) -> bool
     requires square { square < 81 }
-    requires snipers { HasBits snipers (is_sniper board.now by square) }
+    requires snipers { HasBits snipers.bits (is_sniper board.now by square) }
     ensures { result ≡ is_shot board.now by square }
 {
     for direction in 0..8 {
@@ -199,13 +212,13 @@ fn nearest(places: u128, direction: usize) -> usize
 /// The first of the squares in the direction, if there is one: the first piece on each board whose
 /// pieces stand on these squares.
 #[tactic(auto, using(crate::proofs::Nearest::first_pieces))]
-fn first_occupied(occupied: u128, direction: usize, from: usize) -> Option<usize>
+fn first_occupied(occupied: Squares, direction: usize, from: usize) -> Option<usize>
     requires direction { direction < 8 }
     requires from { from < 81 }
     ensures range { IfSome result (λ n. n < 81) }
-    ensures first { FindsOccupied occupied direction from result }
+    ensures first { FindsOccupied occupied.bits direction from result }
 {
-    let pieces = ray(direction, from) & occupied;
+    let pieces = ray(direction, from).bits & occupied.bits;
     if pieces == 0 {
         return None;
     }
@@ -229,17 +242,17 @@ fn is_shot_past(
     board: &Board,
     square: usize,
     direction: usize,
-    snipers: u128,
-    occupied: u128,
+    snipers: Squares,
+    occupied: Squares,
 ) -> bool
     requires square { square < 81 }
     requires direction { direction < 8 }
-    ensures { TellsShotAlong board.now square direction snipers occupied result }
+    ensures { TellsShotAlong board.now square direction snipers.bits occupied.bits result }
 {
     let Some(first) = first_occupied(occupied, direction, square) else {
         return false
     };
-    if !has(snipers, first) {
+    if !has(snipers.bits, first) {
         return false;
     }
     slides_back(board.at(Square::of_index(first)), direction)
@@ -250,14 +263,14 @@ fn is_shot_past_along(
     board: &Board,
     square: usize,
     direction: usize,
-    snipers: u128,
-    occupied: u128,
+    snipers: Squares,
+    occupied: Squares,
 ) -> bool
     requires square { square < 81 }
     requires direction { direction < 8 }
-    ensures { TellsShotAlong board.now square direction snipers occupied result }
+    ensures { TellsShotAlong board.now square direction snipers.bits occupied.bits result }
 {
-    if ray(direction, square) & snipers == 0 {
+    if ray(direction, square).bits & snipers.bits == 0 {
         return false;
     }
     is_shot_past(board, square, direction, snipers, occupied)
@@ -265,9 +278,9 @@ fn is_shot_past_along(
 
 /// Whether one of the snipers of the square slides to it, where pieces stand on the occupied
 /// squares.
-fn is_shot_among(board: &Board, square: usize, snipers: u128, occupied: u128) -> bool
+fn is_shot_among(board: &Board, square: usize, snipers: Squares, occupied: Squares) -> bool
     requires { square < 81 }
-    ensures { TellsShot board.now square snipers occupied result }
+    ensures { TellsShot board.now square snipers.bits occupied.bits result }
 {
     for direction in 0..8 {
         if is_shot_past_along(board, square, direction, snipers, occupied) {
@@ -285,12 +298,12 @@ fn shot_or_pin(
     side: Color,
     square: usize,
     direction: usize,
-    snipers: u128,
+    snipers: Squares,
     pinned: &mut u128,
 ) -> bool
     requires direction { direction < 8 }
     requires square { square < 81 }
-    requires snipers { HasBits snipers (is_sniper board.now (opponent_of side) square) }
+    requires snipers { HasBits snipers.bits (is_sniper board.now (opponent_of side) square) }
     requires fits { pinned.old < 2 ^ 81 }
     ensures shot { result ≡ is_shot_along board.now (opponent_of side) square direction }
     ensures fits { pinned.new < 2 ^ 81 }
@@ -300,16 +313,16 @@ fn shot_or_pin(
     let Some(first) = first_piece(board, direction, square) else {
         return false
     };
-    if has(snipers, first) {
+    if has(snipers.bits, first) {
         return slides_back(board.at(Square::of_index(first)), direction);
     }
-    if !has(board.own(side), first) {
+    if !has(board.own(side).bits, first) {
         return false;
     }
     let Some(second) = first_piece(board, direction, first) else {
         return false
     };
-    if has(snipers, second) {
+    if has(snipers.bits, second) {
         *pinned = with(*pinned, first);
     }
     false
@@ -322,19 +335,19 @@ fn shot_or_pin_along(
     side: Color,
     square: usize,
     direction: usize,
-    snipers: u128,
+    snipers: Squares,
     pinned: &mut u128,
 ) -> bool
     requires direction { direction < 8 }
     requires square { square < 81 }
-    requires snipers { HasBits snipers (is_sniper board.now (opponent_of side) square) }
+    requires snipers { HasBits snipers.bits (is_sniper board.now (opponent_of side) square) }
     requires fits { pinned.old < 2 ^ 81 }
     ensures shot { result ≡ is_shot_along board.now (opponent_of side) square direction }
     ensures fits { pinned.new < 2 ^ 81 }
     ensures kept { (n : ℕ) → has_bit pinned.old n ≡ true → has_bit pinned.new n ≡ true }
     ensures all { result ≡ false → HasPinnedAlong pinned.new board.now side square direction }
 {
-    if ray(direction, square) & snipers == 0 {
+    if ray(direction, square).bits & snipers.bits == 0 {
         return false;
     }
     shot_or_pin(board, side, square, direction, snipers, pinned)
@@ -342,13 +355,12 @@ fn shot_or_pin_along(
 
 /// The squares of pieces of the side that stand alone between the square and one of its snipers, or
 /// `None` where one of those slides to the square.
-fn pinned_to(board: &Board, side: Color, square: usize, snipers: u128) -> Option<u128>
+fn pinned_to(board: &Board, side: Color, square: usize, snipers: Squares) -> Option<Squares>
     requires square { square < 81 }
-    requires snipers { HasBits snipers (is_sniper board.now (opponent_of side) square) }
+    requires snipers { HasBits snipers.bits (is_sniper board.now (opponent_of side) square) }
     ensures shot { IsNone result → is_shot board.now (opponent_of side) square ≡ true }
-    ensures open { IfSome result (λ m. is_shot board.now (opponent_of side) square ≡ false) }
-    ensures fits { IfSome result (λ m. m < 2 ^ 81) }
-    ensures all { IfSome result (λ m. HasPinned m board.now side square) }
+    ensures open { IfSome result (λ s. is_shot board.now (opponent_of side) square ≡ false) }
+    ensures all { IfSome result (λ s. HasPinned s.bits board.now side square) }
 {
     let mut pinned = 0;
     for direction in 0..8 {
@@ -356,39 +368,39 @@ fn pinned_to(board: &Board, side: Color, square: usize, snipers: u128) -> Option
             return None;
         }
     }
-    Some(pinned)
+    Some(Squares { bits: pinned })
 }
 
 /// The same of the snipers of the square, or `None` where the square is attacked.
 #[tactic(auto, using(crate::proofs::Shots::attacking, crate::proofs::Pins::unpinned))]
-fn pinned_pieces(board: &Board, side: Color, square: usize) -> Option<u128>
+fn pinned_pieces(board: &Board, side: Color, square: usize) -> Option<Squares>
     requires square { square < 81 }
     ensures attacked { IsNone result → is_attacked board.now (opponent_of side) square ≡ true }
-    ensures safe { IfSome result (λ m. is_attacked board.now (opponent_of side) square ≡ false) }
-    ensures fits { IfSome result (λ m. m < 2 ^ 81) }
-    ensures all { IfSome result (λ m. HasPinned m board.now side square) }
+    ensures safe { IfSome result (λ s. is_attacked board.now (opponent_of side) square ≡ false) }
+    ensures all { IfSome result (λ s. HasPinned s.bits board.now side square) }
 {
     let by = side.opponent();
     if is_stepped_on(board, by, square) {
         return None;
     }
     let snipers = sniper_squares(board, by, square);
-    if snipers == 0 {
-        return Some(0);
+    if snipers.bits == 0 {
+        return Some(Squares { bits: 0 });
     }
     pinned_to(board, side, square, snipers)
 }
 
 /// The squares of which something has to come to stand on one where that ends an attack by the side:
 /// that of one attacker, and those on its way.
-fn answering_squares(board: &Board, by: Color, square: usize) -> u128
+fn answering_squares(board: &Board, by: Color, square: usize) -> Squares
     requires { square < 81 }
     ensures stays { is_attacked board.now by square ≡ true
-        → StaysAttacked result board.now by square }
-    ensures fits { result < 2 ^ 81 }
+        → StaysAttacked result.bits board.now by square }
 {
     if let Some(from) = first_stepper(board, board.own(by), square) {
-        return with(0, from);
+        return Squares {
+            bits: with(0, from),
+        };
     }
     let snipers = sniper_squares(board, by, square);
     for direction in 0..8 {
@@ -396,14 +408,14 @@ fn answering_squares(board: &Board, by: Color, square: usize) -> u128
             return slide_squares(board, direction, square);
         }
     }
-    0
+    Squares { bits: 0 }
 }
 
 impl Board {
     /// The squares on open lines with the square: on its file, its rank or a diagonal, with no
     /// piece between.
-    pub fn lined(&self, square: Square) -> u128
-        ensures squares { IsMaskOf result (are_lined self.now square) }
+    pub fn lined(&self, square: Square) -> Squares
+        ensures squares { HasBits result.bits (are_lined self.now square) }
     {
         square.validity();
         lined_squares(self, square.index())
@@ -411,8 +423,8 @@ impl Board {
 
     /// The squares from which a piece could reach the square: those on open lines with it, and a
     /// knight's jump away.
-    pub fn seen(&self, square: Square) -> u128
-        ensures squares { IsMaskOf result (is_seen self.now square) }
+    pub fn seen(&self, square: Square) -> Squares
+        ensures squares { HasBits result.bits (is_seen self.now square) }
     {
         square.validity();
         seen_squares(self, square.index())
@@ -428,17 +440,17 @@ impl Board {
             return true;
         }
         let snipers = sniper_squares(self, by, index);
-        if snipers == 0 {
+        if snipers.bits == 0 {
             return false;
         }
         is_shot(self, by, index, snipers)
     }
 
-    /// Whether one of the pieces on the mask reaches the square where the occupied squares are those
+    /// Whether a piece on one of these squares reaches the square where the occupied squares are those
     /// that are not empty: whether it is attacked on another board, whose attackers stand here too.
     #[inline(always)]
-    pub fn is_attacked_among(&self, square: Square, among: u128, occupied: u128) -> bool
-        ensures { TellsAttack self.now among occupied square result }
+    pub fn is_attacked_among(&self, square: Square, among: Squares, occupied: Squares) -> bool
+        ensures { TellsAttack self.now among.bits occupied.bits square result }
     {
         square.validity();
         let index = square.index();
@@ -446,7 +458,7 @@ impl Board {
             return true;
         }
         let snipers = among & self.sliders() & aligned_squares(index);
-        if snipers == 0 {
+        if snipers.bits == 0 {
             return false;
         }
         is_shot_among(self, index, snipers, occupied)
@@ -457,7 +469,7 @@ impl Board {
     pub fn in_check(&self, side: Color) -> bool
         ensures { result ≡ in_check self.now side }
     {
-        let mut left = self.kings(side);
+        let mut left = self.kings(side).bits;
         while left != 0 {
             let square = lowest(left);
             if is_open_king(self, side, Square::of_index(square)) {
@@ -471,11 +483,10 @@ impl Board {
     /// Where the side is in check: squares of which a move that moves no king has to end on one to
     /// answer it. They are that of one piece that gives check, and those on its way.
     #[tactic(auto, using(crate::proofs::SeenLaws::open_kings), unfolding(crate::specs::Attack::in_check))]
-    pub fn answers(&self, side: Color) -> u128
-        ensures stays { in_check self.now side ≡ true → StaysInCheck result self.now side }
-        ensures fits { result < 2 ^ 81 }
+    pub fn answers(&self, side: Color) -> Squares
+        ensures stays { in_check self.now side ≡ true → StaysInCheck result.bits self.now side }
     {
-        let mut left = self.kings(side);
+        let mut left = self.kings(side).bits;
         while left != 0 {
             let king = lowest(left);
             if is_open_king(self, side, Square::of_index(king)) {
@@ -483,44 +494,43 @@ impl Board {
             }
             left = without_lowest(left, king);
         }
-        0
+        Squares { bits: 0 }
     }
 
     /// The squares of pieces of the other side that slide and are on a line with a king of the
     /// side, whatever stands between.
     #[tactic(auto, using(crate::proofs::Snipers::sniping))]
-    pub fn snipers(&self, side: Color) -> u128
-        ensures squares { IsMaskOf result (is_sniping self.now side) }
+    pub fn snipers(&self, side: Color) -> Squares
+        ensures squares { HasBits result.bits (is_sniping self.now side) }
     {
-        let mut left = self.kings(side);
+        let mut left = self.kings(side).bits;
         let mut found = 0;
         while left != 0 {
             let king = lowest(left);
-            found |= sniper_squares(self, side.opponent(), king);
+            found |= sniper_squares(self, side.opponent(), king).bits;
             left = without_lowest(left, king);
         }
-        found
+        Squares { bits: found }
     }
 
     /// The squares of pieces of the side that may be pinned: once a piece of the side on any other
     /// square is lifted off, there is still no check. `None` where there is one already.
     #[tactic(auto, using(crate::proofs::SeenLaws::open_kings, crate::proofs::Pins::pins))]
-    pub fn pinned(&self, side: Color) -> Option<u128>
+    pub fn pinned(&self, side: Color) -> Option<Squares>
         ensures checked { IsNone result → in_check self.now side ≡ true }
-        ensures unchecked { IfSome result (λ m. in_check self.now side ≡ false) }
-        ensures fits { IfSome result (λ m. m < 2 ^ 81) }
-        ensures free { IfSome result (λ m. OthersAreUnpinned m self.now side) }
+        ensures unchecked { IfSome result (λ s. in_check self.now side ≡ false) }
+        ensures free { IfSome result (λ s. OthersAreUnpinned s.bits self.now side) }
     {
-        let mut left = self.kings(side);
+        let mut left = self.kings(side).bits;
         let mut found = 0;
         while left != 0 {
             let king = lowest(left);
             match pinned_pieces(self, side, king) {
                 None => return None,
-                Some(more) => found |= more,
+                Some(more) => found |= more.bits,
             }
             left = without_lowest(left, king);
         }
-        Some(found)
+        Some(Squares { bits: found })
     }
 }

@@ -1,7 +1,7 @@
 //! The board: what stands on each square.
 
 ghost use Rattle.std.specs.Prelude.{◌≡◌, ◌<◌, ◌^◌, ℕ, length, slice_set, cond, ◌==◌, not, is_none};
-ghost use Rattle.shogi_core.specs.Bits.{HasBits, IsMaskOf, has_bit};
+ghost use Rattle.shogi_core.specs.Bits.{HasBits, has_bit};
 ghost use Rattle.shogi_core.specs.Cell.{is_piece_of, is_king, is_slider};
 ghost use Rattle.shogi_core.specs.Masks.{own_of, kings_of, sliders_of, is_any_king};
 ghost use Rattle.shogi_core.specs.Movement.{piece_at};
@@ -12,6 +12,7 @@ use crate::bits::{ALL_SQUARES, with, without};
 use crate::cell::{is_piece_of, is_slider};
 use crate::piece::{Color, Piece};
 use crate::square::Square;
+use crate::squares::Squares;
 use crate::start::{START, START_BLACK, START_KINGS, START_SLIDERS, START_WHITE, START_WORDS};
 use crate::words::{board_words, cell_number, with_digit};
 use std::marker::Model;
@@ -153,48 +154,52 @@ impl Board {
         &self.cells
     }
 
-    /// The squares on which pieces of the side stand: bit n is that of the square of index n.
+    /// The squares on which pieces of the side stand.
     #[tactic(auto, using(crate::proofs::MaskLaws::own_bits))]
-    pub fn own(&self, color: Color) -> u128
-        ensures mask { result ≡ own_of self.now color }
-        ensures squares { IsMaskOf result (λ n. is_piece_of color (piece_at self.now n)) }
+    pub fn own(&self, color: Color) -> Squares
+        ensures mask { result.bits ≡ own_of self.now color }
+        ensures squares { HasBits result.bits (λ n. is_piece_of color (piece_at self.now n)) }
     {
         match color {
-            Color::Black => self.black,
-            Color::White => self.white,
+            Color::Black => Squares { bits: self.black },
+            Color::White => Squares { bits: self.white },
         }
     }
 
     /// The squares on which a piece stands.
     #[tactic(auto, using(crate::proofs::LineBits::occupied_bits))]
-    pub fn occupied(&self) -> u128
-        ensures { HasBits result (λ n. not (is_none (piece_at self.now n))) }
+    pub fn occupied(&self) -> Squares
+        ensures { HasBits result.bits (λ n. not (is_none (piece_at self.now n))) }
     {
         self.own(Color::Black) | self.own(Color::White)
     }
 
     /// The empty squares.
     #[tactic(auto, using(crate::proofs::LineBits::free_bits))]
-    pub fn free(&self) -> u128
-        ensures squares { IsMaskOf result (λ n. is_none (piece_at self.now n)) }
+    pub fn free(&self) -> Squares
+        ensures squares { HasBits result.bits (λ n. is_none (piece_at self.now n)) }
     {
-        !self.occupied() & ALL_SQUARES
+        Squares {
+            bits: !self.occupied().bits & ALL_SQUARES,
+        }
     }
 
     /// The squares on which kings of the side stand.
     #[tactic(auto, using(crate::proofs::MaskLaws::king_bits))]
-    pub fn kings(&self, color: Color) -> u128
-        ensures squares { IsMaskOf result (λ n. is_king color (piece_at self.now n)) }
+    pub fn kings(&self, color: Color) -> Squares
+        ensures squares { HasBits result.bits (λ n. is_king color (piece_at self.now n)) }
     {
-        self.kings & self.own(color)
+        Squares {
+            bits: self.kings & self.own(color).bits,
+        }
     }
 
     /// The squares on which pieces stand that slide, of either side.
     #[tactic(auto, using(crate::proofs::MaskLaws::own_bits))]
-    pub fn sliders(&self) -> u128
-        ensures squares { IsMaskOf result (λ n. is_slider (piece_at self.now n)) }
+    pub fn sliders(&self) -> Squares
+        ensures squares { HasBits result.bits (λ n. is_slider (piece_at self.now n)) }
     {
-        self.sliders
+        Squares { bits: self.sliders }
     }
 
     /// What stands on all squares, packed: each word is the number in base 32 whose digits are

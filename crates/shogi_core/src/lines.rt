@@ -1,7 +1,7 @@
-//! Slides by masks.
+//! Slides, and the lines that they are on.
 
 ghost use Rattle.std.specs.Prelude.{◌<◌, ◌≤◌};
-ghost use Rattle.shogi_core.specs.Bits.{IsMaskOf};
+ghost use Rattle.shogi_core.specs.Bits.{HasBits};
 ghost use Rattle.shogi_core.specs.Lines.{are_aligned};
 ghost use Rattle.shogi_core.specs.Movement.{slides};
 ghost use Rattle.shogi_core.specs.Rays.{direction_at};
@@ -10,6 +10,7 @@ use crate::bits::{highest, up_to_lowest};
 use crate::board::Board;
 use crate::line_table::ALIGNED;
 use crate::rays::ray;
+use crate::squares::Squares;
 
 // The directions of lines by number, as Black sees them: indexes rise in the first four.
 pub const DOWN: usize = 0;
@@ -29,42 +30,48 @@ pub const RIGHT: usize = 6;
 pub const UP_RIGHT: usize = 7;
 
 /// The squares on lines with the square, whatever stands between.
-pub fn aligned_squares(from: usize) -> u128
+pub fn aligned_squares(from: usize) -> Squares
     requires { from < 81 }
-    ensures squares { IsMaskOf result (are_aligned from) }
+    ensures squares { HasBits result.bits (are_aligned from) }
 {
-    ALIGNED[from]
+    Squares {
+        bits: ALIGNED[from],
+    }
 }
 
 /// The squares that a slide reaches in a direction in which indexes rise.
 #[tactic(auto, using(crate::proofs::LineBits::line_squares))]
-pub fn rising_squares(board: &Board, direction: usize, from: usize) -> u128
+pub fn rising_squares(board: &Board, direction: usize, from: usize) -> Squares
     requires direction { direction < 4 }
     requires from { from < 81 }
-    ensures squares { IsMaskOf result (slides board.now (direction_at direction) from) }
+    ensures squares { HasBits result.bits (slides board.now (direction_at direction) from) }
 {
-    let line = ray(direction, from);
-    line & up_to_lowest(line & board.occupied())
+    let line = ray(direction, from).bits;
+    Squares {
+        bits: line & up_to_lowest(line & board.occupied().bits),
+    }
 }
 
 /// The squares that a slide reaches in a direction in which indexes fall.
 #[tactic(auto, using(crate::proofs::LineBits::line_squares))]
-pub fn falling_squares(board: &Board, direction: usize, from: usize) -> u128
+pub fn falling_squares(board: &Board, direction: usize, from: usize) -> Squares
     requires direction { (4 ≤ direction) × (direction < 8) }
     requires from { from < 81 }
-    ensures squares { IsMaskOf result (slides board.now (direction_at direction) from) }
+    ensures squares { HasBits result.bits (slides board.now (direction_at direction) from) }
 {
-    let line = ray(direction, from);
+    let line = ray(direction, from).bits;
     // No such line leads on from the square of index 0.
-    let first = highest(line & board.occupied() | 1);
-    line & !ray(direction, first)
+    let first = highest(line & board.occupied().bits | 1);
+    Squares {
+        bits: line & !ray(direction, first).bits,
+    }
 }
 
 /// The squares that a slide in the direction reaches.
-pub fn slide_squares(board: &Board, direction: usize, from: usize) -> u128
+pub fn slide_squares(board: &Board, direction: usize, from: usize) -> Squares
     requires direction { direction < 8 }
     requires from { from < 81 }
-    ensures squares { IsMaskOf result (slides board.now (direction_at direction) from) }
+    ensures squares { HasBits result.bits (slides board.now (direction_at direction) from) }
 {
     if direction < 4 {
         rising_squares(board, direction, from)

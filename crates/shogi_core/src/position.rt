@@ -148,7 +148,7 @@ impl Position {
         ensures none { IsNone result → HasNoKing self.now.cells side }
     {
         self.validity();
-        let kings = self.board.kings(side);
+        let kings = self.board.kings(side).bits;
         if kings == 0 {
             return None;
         }

@@ -1,12 +1,13 @@
 //! Where steps and jumps from each square lead.
 
 ghost use Rattle.std.specs.Prelude.{◌≡◌, ◌<◌};
-ghost use Rattle.shogi_core.specs.Bits.{IsMaskOf};
+ghost use Rattle.shogi_core.specs.Bits.{HasBits};
 ghost use Rattle.shogi_core.specs.Movement.{steps_of, has_step};
 ghost use Rattle.shogi_core.specs.Steps.{steps_at, color_number};
 ghost use Rattle.shogi_core.specs.Lines.{is_jump, is_near};
 
 use crate::piece::{Color, Piece, Role};
+use crate::squares::Squares;
 use crate::step_table::STEPS;
 
 // Which of the kinds of steps each role has, in the order in which roles are declared.
@@ -32,18 +33,20 @@ fn color_number(color: Color) -> usize
 }
 
 /// The squares to which a step or a jump of the piece leads.
-pub fn step_squares(piece: Piece, from: usize) -> u128
+pub fn step_squares(piece: Piece, from: usize) -> Squares
     requires { from < 81 }
-    ensures squares { IsMaskOf result (has_step piece from) }
+    ensures squares { HasBits result.bits (has_step piece from) }
 {
-    STEPS[(steps_kind(piece.role) * 2 + color_number(piece.color)) * 81 + from]
+    Squares {
+        bits: STEPS[(steps_kind(piece.role) * 2 + color_number(piece.color)) * 81 + from],
+    }
 }
 
 /// The squares to which a knight of either side would jump.
 #[tactic(auto, using(crate::proofs::TargetLaws::no_bits))]
-pub fn jump_squares(from: usize) -> u128
+pub fn jump_squares(from: usize) -> Squares
     requires { from < 81 }
-    ensures squares { IsMaskOf result (is_jump from) }
+    ensures squares { HasBits result.bits (is_jump from) }
 {
     let black = Piece {
         color: Color::Black,
@@ -58,9 +61,9 @@ pub fn jump_squares(from: usize) -> u128
 
 /// The squares next to the square, and a knight's jump away.
 #[tactic(auto, using(crate::proofs::TargetLaws::no_bits))]
-pub fn near_squares(from: usize) -> u128
+pub fn near_squares(from: usize) -> Squares
     requires { from < 81 }
-    ensures squares { IsMaskOf result (is_near from) }
+    ensures squares { HasBits result.bits (is_near from) }
 {
     let king = Piece {
         color: Color::Black,

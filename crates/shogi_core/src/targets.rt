@@ -1,48 +1,50 @@
-//! The squares that a piece reaches, as a mask.
+//! The squares that a piece reaches.
 
 ghost use Rattle.std.specs.Prelude.{◌≡◌, ◌≢◌, ◌<◌, Some, true};
 ghost use Rattle.shogi_core.specs.declared.piece.Color.{Color};
-ghost use Rattle.shogi_core.specs.Bits.{IsMaskOf};
+ghost use Rattle.shogi_core.specs.Bits.{HasBits};
 ghost use Rattle.shogi_core.specs.Cell.{is_sliding_role};
 ghost use Rattle.shogi_core.specs.Movement.{reaches, cell_reaches, has_slide, slides_of, straight, diagonal, forward, is_slide};
 
-use crate::bits::has;
 use crate::board::Board;
 use crate::lines::{DOWN, UP, falling_squares, rising_squares, slide_squares};
 use crate::piece::{Color, Piece, Role};
 use crate::square::Square;
+use crate::squares::Squares;
 use crate::steps::step_squares;
 
 /// The squares that slides reach along ranks and files, where `first` is 0, or along diagonals, where
 /// it is 1: in every second direction from that one on.
 #[inline(always)]
-fn four_slides(board: &Board, first: usize, from: usize) -> u128
+fn four_slides(board: &Board, first: usize, from: usize) -> Squares
     requires first { first < 2 }
     requires from { from < 81 }
     ensures straight { (color : Color) → first ≡ 0
-        → IsMaskOf result (is_slide board.now color straight from) }
+        → HasBits result.bits (is_slide board.now color straight from) }
     ensures diagonal { (color : Color) → first ≡ 1
-        → IsMaskOf result (is_slide board.now color diagonal from) }
+        → HasBits result.bits (is_slide board.now color diagonal from) }
 {
-    falling_squares(board, first + 4, from)
-        | rising_squares(board, first, from)
-        | rising_squares(board, first + 2, from)
-        | falling_squares(board, first + 6, from)
+    Squares {
+        bits: falling_squares(board, first + 4, from).bits
+            | rising_squares(board, first, from).bits
+            | rising_squares(board, first + 2, from).bits
+            | falling_squares(board, first + 6, from).bits,
+    }
 }
 
 /// The squares that slides along ranks and files reach.
-pub fn straight_squares(board: &Board, color: Color, from: usize) -> u128
+pub fn straight_squares(board: &Board, color: Color, from: usize) -> Squares
     requires { from < 81 }
-    ensures squares { IsMaskOf result (is_slide board.now color straight from) }
+    ensures squares { HasBits result.bits (is_slide board.now color straight from) }
 {
     let _ = color;
     four_slides(board, 0, from)
 }
 
 /// The squares that slides along diagonals reach.
-pub fn diagonal_squares(board: &Board, color: Color, from: usize) -> u128
+pub fn diagonal_squares(board: &Board, color: Color, from: usize) -> Squares
     requires { from < 81 }
-    ensures squares { IsMaskOf result (is_slide board.now color diagonal from) }
+    ensures squares { HasBits result.bits (is_slide board.now color diagonal from) }
 {
     let _ = color;
     four_slides(board, 1, from)
@@ -50,9 +52,9 @@ pub fn diagonal_squares(board: &Board, color: Color, from: usize) -> u128
 
 /// The squares that a slide forward reaches.
 #[tactic(auto, using(crate::proofs::TargetLaws::one_way))]
-fn forward_squares(board: &Board, color: Color, from: usize) -> u128
+fn forward_squares(board: &Board, color: Color, from: usize) -> Squares
     requires { from < 81 }
-    ensures squares { IsMaskOf result (is_slide board.now color forward from) }
+    ensures squares { HasBits result.bits (is_slide board.now color forward from) }
 {
     match color {
         Color::Black => slide_squares(board, UP, from),
@@ -78,10 +80,10 @@ fn first_direction(role: Role) -> usize
 
 /// The squares that slides of the piece, which slides, reach.
 #[inline(never)]
-fn slider_slides(board: &Board, piece: Piece, from: usize) -> u128
+fn slider_slides(board: &Board, piece: Piece, from: usize) -> Squares
     requires from { from < 81 }
     requires sliding { is_sliding_role piece.role ≡ true }
-    ensures squares { IsMaskOf result (has_slide board.now piece from) }
+    ensures squares { HasBits result.bits (has_slide board.now piece from) }
 {
     match piece.role {
         Role::Lance => forward_squares(board, piece.color, from),
@@ -91,14 +93,14 @@ fn slider_slides(board: &Board, piece: Piece, from: usize) -> u128
 
 /// The squares that slides of the piece reach. Most pieces do not slide, and reach none.
 #[tactic(auto, using(crate::proofs::TargetLaws::no_slides))]
-fn piece_slides(board: &Board, piece: Piece, from: usize) -> u128
+fn piece_slides(board: &Board, piece: Piece, from: usize) -> Squares
     requires { from < 81 }
-    ensures squares { IsMaskOf result (has_slide board.now piece from) }
+    ensures squares { HasBits result.bits (has_slide board.now piece from) }
 {
     if piece.role.is_sliding() {
         slider_slides(board, piece, from)
     } else {
-        0
+        Squares { bits: 0 }
     }
 }
 
@@ -106,22 +108,21 @@ impl Board {
     /// The squares that the piece would reach if it stood on the square, where now stands whatever
     /// does.
     #[tactic(auto, using(crate::proofs::TargetLaws::no_bits))]
-    pub fn targets_of(&self, piece: Piece, from: Square) -> u128
-        ensures squares { IsMaskOf result (cell_reaches self.now (Some piece) from) }
+    pub fn targets_of(&self, piece: Piece, from: Square) -> Squares
+        ensures squares { HasBits result.bits (cell_reaches self.now (Some piece) from) }
     {
         let index = from.index();
         step_squares(piece, index) | piece_slides(self, piece, index)
     }
 
-    /// The squares that the piece on the square reaches, bit n that of index n; none where it is
-    /// empty.
+    /// The squares that the piece on the square reaches; none where it is empty.
     #[tactic(auto, using(crate::proofs::TargetLaws::no_bits), unfolding(crate::specs::Movement::reaches))]
-    pub fn targets(&self, from: Square) -> u128
-        ensures squares { IsMaskOf result (reaches self.now from) }
+    pub fn targets(&self, from: Square) -> Squares
+        ensures squares { HasBits result.bits (reaches self.now from) }
     {
         from.validity();
         match self.at(from) {
-            None => 0,
+            None => Squares { bits: 0 },
             Some(piece) => self.targets_of(piece, from),
         }
     }
@@ -130,7 +131,6 @@ impl Board {
     pub fn reaches(&self, from: Square, to: Square) -> bool
         ensures { result ≡ reaches self.now from to }
     {
-        to.validity();
-        has(self.targets(from), to.index())
+        self.targets(from).has(to)
     }
 }

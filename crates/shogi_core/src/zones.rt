@@ -1,17 +1,18 @@
-//! Where pieces promote, and squares by rank and by file as masks.
+//! Where pieces promote, and squares by rank and by file.
 
-ghost use Rattle.std.specs.Prelude.{◌≡◌, ◌<◌, ◌/◌, ◌&&◌, nat_lt};
-ghost use Rattle.shogi_core.specs.Bits.{IsMaskOf};
-ghost use Rattle.shogi_core.specs.Cell.{is_immobile};
+ghost use Rattle.std.specs.Prelude.{◌≡◌, ◌<◌, ◌/◌, ◌==◌, ◌&&◌, nat_lt};
+ghost use Rattle.shogi_core.specs.Bits.{HasBits};
+ghost use Rattle.shogi_core.specs.Cell.{is_immobile, is_pawn};
+ghost use Rattle.shogi_core.specs.Movement.{piece_at};
 ghost use Rattle.shogi_core.specs.Validity.{pawns_on_file};
 ghost use Rattle.shogi_core.specs.Zones.{is_promotable, in_promotion_zone, may_promote, is_near_zone, is_around};
 
-use crate::bits::{ALL_SQUARES, has};
+use crate::bits::ALL_SQUARES;
 use crate::cell::is_pawn;
 use crate::piece::{Color, Piece, Role};
 use crate::position::Position;
 use crate::square::Square;
-use crate::squares::union;
+use crate::squares::Squares;
 
 // Ranks from rank 1 and up to rank 9.
 const FIRST_RANK: u128 = 4731607904558235517441;
@@ -99,51 +100,57 @@ const WHITE_DEAD: [u128; 14] = [
 
 /// The squares on which the piece could never move again.
 #[tactic(auto, using(crate::proofs::ZoneLaws::dead_bits))]
-pub fn dead_squares(cell: Option<Piece>) -> u128
-    ensures squares { IsMaskOf result (λ n. is_immobile n cell) }
+pub fn dead_squares(cell: Option<Piece>) -> Squares
+    ensures squares { HasBits result.bits (λ n. is_immobile n cell) }
 {
-    let Some(piece) = cell else { return 0 };
-    match piece.color {
+    let Some(piece) = cell else {
+        return Squares { bits: 0 }
+    };
+    let bits = match piece.color {
         Color::Black => BLACK_DEAD[piece.role as usize],
         Color::White => WHITE_DEAD[piece.role as usize],
-    }
+    };
+    Squares { bits }
 }
 
 /// The squares of the zone in which the side promotes.
 #[tactic(auto, using(crate::proofs::ZoneLaws::zone_bits))]
-pub fn zone_squares(color: Color) -> u128
-    ensures squares { IsMaskOf result (in_promotion_zone color) }
+pub fn zone_squares(color: Color) -> Squares
+    ensures squares { HasBits result.bits (in_promotion_zone color) }
 {
-    match color {
+    let bits = match color {
         Color::Black => FIRST_THREE_RANKS,
         Color::White => LAST_THREE_RANKS,
-    }
+    };
+    Squares { bits }
 }
 
 /// The squares of the zone, and those from which a step or a jump may lead into it.
 #[tactic(auto, using(crate::proofs::ZoneLaws::zone_bits))]
-pub fn squares_near_zone(color: Color) -> u128
-    ensures squares { IsMaskOf result (is_near_zone color) }
+pub fn squares_near_zone(color: Color) -> Squares
+    ensures squares { HasBits result.bits (is_near_zone color) }
 {
-    match color {
+    let bits = match color {
         Color::Black => FIRST_FIVE_RANKS,
         Color::White => LAST_FIVE_RANKS,
-    }
+    };
+    Squares { bits }
 }
 
 /// The squares on which the piece may promote.
 #[tactic(auto, using(crate::proofs::ZoneLaws::promoting_bits))]
-pub fn promoting_squares(cell: Option<Piece>, from: Square) -> u128
-    ensures squares { IsMaskOf result (may_promote cell from) }
+pub fn promoting_squares(cell: Option<Piece>, from: Square) -> Squares
+    ensures squares { HasBits result.bits (may_promote cell from) }
 {
-    let Some(piece) = cell else { return 0 };
+    let Some(piece) = cell else {
+        return Squares { bits: 0 }
+    };
     if !is_promotable(piece.role) {
-        return 0;
+        return Squares { bits: 0 };
     }
-    from.validity();
     let zone = zone_squares(piece.color);
-    if has(zone, from.index()) {
-        return ALL_SQUARES;
+    if zone.has(from) {
+        return Squares { bits: ALL_SQUARES };
     }
     zone
 }
@@ -161,23 +168,34 @@ const FILES: [u128; 9] = [
     2413129272746388704198656,
 ];
 
+/// The squares of the file where an unpromoted pawn of the side stands on the square, and else none.
+/// Without a branch, since pawns stand among the others without order.
+#[inline(always)]
+#[tactic(auto, using(crate::proofs::PawnFiles::pawn_file_bits))]
+fn pawn_file(p: &Position, side: Color, square: Square) -> Squares
+    ensures { HasBits result.bits
+        (λ n. is_pawn side (piece_at p.now.cells square) && n / 9 == square / 9) }
+{
+    if is_pawn(p.at(square), side) {
+        Squares {
+            bits: FILES[square.index() / 9],
+        }
+    } else {
+        Squares { bits: 0 }
+    }
+}
+
 /// The squares of the files on which an unpromoted pawn of the side stands. Pieces that slide, and
 /// kings, need no look.
 #[inline(never)]
-pub fn pawn_files(p: &Position, side: Color) -> u128
-    ensures squares { IsMaskOf result (λ n. nat_lt 0 (pawns_on_file side (n / 9) p.now.cells)) }
+pub fn pawn_files(p: &Position, side: Color) -> Squares
+    ensures squares { HasBits result.bits
+        (λ n. nat_lt 0 (pawns_on_file side (n / 9) p.now.cells)) }
 {
     p.validity();
     let board = p.as_board();
-    let steppers = board.own(side) & !(board.sliders() | board.kings(side));
-    union(steppers, |square| {
-        // Without a branch, since pawns stand among the others without order.
-        if is_pawn(p.at(square), side) {
-            FILES[square.index() / 9]
-        } else {
-            0
-        }
-    })
+    let steppers = board.own(side).without(board.sliders() | board.kings(side));
+    steppers.union(|square| pawn_file(p, side, square))
 }
 
 // The squares of the files that are at most two from each file, and of the ranks that are at most
@@ -208,9 +226,11 @@ const TALL_RANKS: [u128; 9] = [
 
 /// The squares that are at most two files and four ranks from the square.
 #[tactic(auto, using(crate::proofs::ZoneLaws::around_bits))]
-pub fn squares_around(square: usize) -> u128
+pub fn squares_around(square: usize) -> Squares
     requires { square < 81 }
-    ensures squares { IsMaskOf result (is_around square) }
+    ensures squares { HasBits result.bits (is_around square) }
 {
-    WIDE_FILES[square / 9] & TALL_RANKS[square % 9]
+    Squares {
+        bits: WIDE_FILES[square / 9] & TALL_RANKS[square % 9],
+    }
 }

@@ -14,7 +14,7 @@ use Rattle.shogi_moves.specs.Legal.{is_legal_code}
 use Rattle.shogi_moves.specs.LegalMoves.{legal_from}
 use Rattle.shogi_moves.proofs.LegalLaws.{drop_code, legal_from_found, legal_from_skips, legal_from_end, no_piece}
 
--- the moves of the kind from a code on are of pieces on squares of the mask, or drops
+-- the moves of the kind from a code on are of pieces on squares of the set, or drops
 pub record HasMatchingOn (p : Shogi) (capture : Bool) (code mask : ℕ) : Type 0 where
   pub on : (c : ℕ) → code ≤ c → c < FIRST_DROP → is_matching p capture c ≡ true
       → has_bit mask (c / SQUARE_CODES) ≡ true

@@ -1,7 +1,6 @@
 -- Moves that cannot leave the mover's king attacked.
-use Rattle.std.proofs.Common.{◌≡◌, ◌≢◌, ℕ, ◌<◌, ◌^◌, ◌⊎◌, Bool, true, false, refl, sym, ap, subst, ◌∙◌, arith, inl, inr, Option, Some, None, set, length, get_or-set_same, get_or-set_other, length-set, bit_or}
+use Rattle.std.proofs.Common.{◌≡◌, ◌≢◌, ℕ, ◌<◌, ◌⊎◌, Bool, true, false, refl, sym, ap, subst, ◌∙◌, arith, inl, inr, Option, Some, None, set, length, get_or-set_same, get_or-set_other, length-set, bit_or}
 use Rattle.std.specs.Prelude.{◌&&◌, not, is_none}
-use Rattle.std.proofs.lemmas.Nat.{or_lt}
 use Rattle.std.proofs.lemmas.Bool.{cases_eq, false_from_ne_true, both_ways, and_parts, or_parts, not-true}
 use Rattle.shogi_core.specs.declared.piece.Color.{Color}
 use Rattle.shogi_core.specs.declared.piece.Color.TheVariants.{Black, White}
@@ -74,37 +73,35 @@ filled cells side to v len ht own plain safe =
 -- ---- where there is a check
 
 -- the kings, and the squares of answers
-pub check_info_answers : (p : Shogi) (kings answers : ℕ) → true ≡ in_check p.cells p.side → kings < 2 ^ 81 → answers < 2 ^ 81 → ((n : ℕ) → n < 81 → has_bit kings n ≡ is_king p.side (piece_at p.cells n)) → StaysInCheck answers p.cells p.side
-    → IsCheckInfo p true (bit_or kings answers)
-check_info_answers p kings answers e low fits k stays = record {
-  check = e;
+pub check_info_answers : (p : Shogi) (kings answers both : ℕ) → in_check p.cells p.side ≡ true → both ≡ bit_or kings answers → ((n : ℕ) → n < 81 → has_bit kings n ≡ is_king p.side (piece_at p.cells n)) → StaysInCheck answers p.cells p.side
+    → IsCheckInfo p true both
+check_info_answers p kings answers both e is k stays = record {
+  check = sym e;
   kings = λ n h out. sym (k n h) ∙ (apart n out).0;
   stays = λ _ new to h out. stays new to h (apart to out).1;
   free = λ c. absurd (cc);
-  fits = or_lt 81 kings answers low fits;
 }
   where
-    apart : (n : ℕ) → has_bit (bit_or kings answers) n ≡ false → (has_bit kings n ≡ false) × (has_bit answers n ≡ false)
-    apart n out = or_parts (has_bit kings n) (has_bit answers n) (sym (has_bit-or kings answers n) ∙ out)
+    apart : (n : ℕ) → has_bit both n ≡ false → (has_bit kings n ≡ false) × (has_bit answers n ≡ false)
+    apart n out = or_parts (has_bit kings n) (has_bit answers n) (sym (ap (λ m. has_bit m n) is ∙ has_bit-or kings answers n) ∙ out)
 
 pub ruleset with_check = (check_info_answers)
 
 -- ---- where there is no check
 
 -- the kings, and pieces without which there might be one
-pub check_info_unpinned : (p : Shogi) (kings pinned : ℕ) → in_check p.cells p.side ≡ false → kings < 2 ^ 81 → pinned < 2 ^ 81 → ((n : ℕ) → n < 81 → has_bit kings n ≡ is_king p.side (piece_at p.cells n))
+pub check_info_unpinned : (p : Shogi) (kings pinned both : ℕ) → in_check p.cells p.side ≡ false → both ≡ bit_or kings pinned → ((n : ℕ) → n < 81 → has_bit kings n ≡ is_king p.side (piece_at p.cells n))
     → ((n : ℕ) → n < 81 → has_bit pinned n ≡ false → is_piece_of p.side (piece_at p.cells n) ≡ true → in_check (set p.cells n None) p.side ≡ false)
-    → IsCheckInfo p false (bit_or kings pinned)
-check_info_unpinned p kings pinned safe low fits k free = record {
+    → IsCheckInfo p false both
+check_info_unpinned p kings pinned both safe is k free = record {
   check = sym safe;
   kings = λ n h out. sym (k n h) ∙ (apart n out).0;
   stays = λ c. absurd (cc);
   free = λ c n h out own. free n h (apart n out).1 own;
-  fits = or_lt 81 kings pinned low fits;
 }
   where
-    apart : (n : ℕ) → has_bit (bit_or kings pinned) n ≡ false → (has_bit kings n ≡ false) × (has_bit pinned n ≡ false)
-    apart n out = or_parts (has_bit kings n) (has_bit pinned n) (sym (has_bit-or kings pinned n) ∙ out)
+    apart : (n : ℕ) → has_bit both n ≡ false → (has_bit kings n ≡ false) × (has_bit pinned n ≡ false)
+    apart n out = or_parts (has_bit kings n) (has_bit pinned n) (sym (ap (λ m. has_bit m n) is ∙ has_bit-or kings pinned n) ∙ out)
 
 pub ruleset without_check = (check_info_unpinned)
 
@@ -137,7 +134,7 @@ module _ (cells : Cells) (side : Color) (from to : ℕ) (v : Option Piece) (len 
       (λ x left. subst (λ (y : ℕ). is_lined_with_king cells side y ≡ false) (sym left) free)
       safe
 
-  -- a move of no king that ends on no square of the mask leaves the check
+  -- a move of no king that ends on none of the squares leaves the check
   pub stays_set : (m : ℕ) → StaysInCheck m cells side → has_bit m to ≡ false → is_piece_of side (piece_at cells from) ≡ true → is_king side (piece_at cells from) ≡ false → is_king side (piece_at cells to) ≡ false → in_check (set (set cells from None) to v) side ≡ true
   stays_set m stays out own plain bare =
       stays (set (set cells from None) to v) to ht out

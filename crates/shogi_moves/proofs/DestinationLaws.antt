@@ -1,7 +1,8 @@
 -- Where a piece may legally end.
-use Rattle.std.proofs.Common.{◌≡◌, ℕ, ◌-◌, ◌^◌, ◌<◌, Bool, true, false, not, Option, Some, None, refl, sym, ap, ◌∙◌, arith, inl, inr, bit_and, bit_or, length, cond, set, get_or-set_same, get_or-set_other, length-set, ◌⊎◌}
+use Rattle.std.proofs.Common.{◌≡◌, ◌≢◌, ℕ, ◌-◌, ◌^◌, ◌<◌, Bool, true, false, not, Option, Some, None, refl, sym, ap, ◌∙◌, arith, inl, inr, bit_and, bit_or, length, cond, set, get_or-set_same, get_or-set_other, length-set, ◌⊎◌}
 use Rattle.std.specs.Prelude.{◌&&◌, ◌||◌, ◌==◌, is_none, is_some, ◌%◌, ◌/◌, nat_lt}
-use Rattle.std.proofs.lemmas.Bool.{cases_Bool, cases_eq, ne_eqb, eq-eqb, and_parts, and_from, both_ways, le-ltb, lt-ltb, ltb-false, not-true}
+use Rattle.std.proofs.lemmas.Nat.{and_le_r}
+use Rattle.std.proofs.lemmas.Bool.{cases_Bool, cases_eq, ne_eqb, eq-eqb, eqb-true, and_parts, and_from, both_ways, le-ltb, lt-ltb, ltb-false, not-true}
 use Rattle.shogi_core.specs.declared.bits.TheConstants.{ALL_SQUARES}
 use Rattle.shogi_core.specs.declared.moves.Move.{Move}
 use Rattle.shogi_core.specs.declared.moves.Move.TheVariants.{Board, Drop}
@@ -23,7 +24,7 @@ use Rattle.shogi_core.specs.Position.{Shogi, count_in_hand}
 use Rattle.shogi_core.proofs.BitLaws.{has_bit-and, has_bit-none, has_bit-or}
 use Rattle.shogi_core.proofs.Uncovered.{check_was}
 use Rattle.shogi_core.proofs.CodesBack.{move_of-board, move_of-drop}
-use Rattle.shogi_core.proofs.LineBits.{has_bit-not, and_fits}
+use Rattle.shogi_core.proofs.LineBits.{has_bit-not}
 use Rattle.shogi_moves.specs.After.{piece_moved, cells_after, dropped}
 use Rattle.shogi_moves.specs.Captures.{captures, matches, is_matching}
 use Rattle.shogi_moves.specs.Destinations.{is_destination, is_unchecked, AreDropSquares}
@@ -123,7 +124,18 @@ sift_some m faces test far = record {
         all false = refl
     go true false t h = sym (ap (λ x. x || false) (h refl))
 
-pub ruleset sifting = (sift_first, and_fits, sift_done, sift_there, sift_kept, sift_dropped)
+pub ruleset sifting = (sift_first, sift_done, sift_there, sift_kept, sift_dropped)
+
+-- ---- whether there is one of some squares
+
+pub none_there : (squares : ℕ) (empty : Bool) → empty ≡ (squares == 0) → empty ≡ true → squares ≡ 0
+none_there squares empty is e = eqb-true squares 0 (sym is ∙ e)
+
+pub none_within : (destinations zone : ℕ) → zone ≡ 0 → bit_and destinations zone ≡ 0
+none_within destinations zone none = omega (arith, and_le_r destinations zone)
+
+pub some_there : (squares : ℕ) (empty : Bool) → empty ≡ (squares == 0) → empty ≡ false → squares ≢ 0
+some_there squares empty is e none = both_ways empty e (is ∙ eq-eqb squares 0 none)
 
 -- ---- an unpinned piece leaves its king unattacked anywhere
 
@@ -178,7 +190,7 @@ pub no_answer : (p : Shogi) (checked : Bool) (pinned_or_king from n : ℕ) → I
 no_answer p checked pinned_or_king from n g c len hf hn own plain out =
     ap not (stays_set p.cells p.side from n (piece_moved false (piece_at p.cells from)) len hf hn pinned_or_king (g.stays c) out own plain (g.kings n hn out))
 
-pub ruleset unpinned_destinations = (unpinned_kept, free_kept, and_fits)
+pub ruleset unpinned_destinations = (unpinned_kept, free_kept)
 
 -- ---- which moves of a piece match
 
@@ -355,15 +367,6 @@ mobile from n (Some piece) e = go piece.color piece.role e
 pub promoting_none : (destinations zone n : ℕ) (b : Bool) → has_bit zone n ≡ b → bit_and destinations zone ≡ 0 → has_bit 0 n ≡ (has_bit destinations n && b)
 promoting_none destinations zone n b z none = ap (λ (m : ℕ). has_bit m n) (sym none) ∙ (has_bit-and destinations zone n ∙ (rw z refl))
 
-pub promoting_nowhere : (destinations zone n : ℕ) (b : Bool) → has_bit zone n ≡ b → zone ≡ 0 → has_bit 0 n ≡ (has_bit destinations n && b)
-promoting_nowhere destinations zone n b z none =
-    let off : b ≡ false = sym z ∙ (ap (λ (m : ℕ). has_bit m n) none ∙ has_bit-none n) in
-    has_bit-none n ∙ (rw off (go (has_bit destinations n)))
-  where
-    go : (a : Bool) → false ≡ (a && false)
-    go true = refl
-    go false = refl
-
 pub plain_all : (destinations zone from n : ℕ) (cell : Option Piece) → has_bit zone n ≡ may_promote cell from n → bit_and destinations zone ≡ 0 → has_bit destinations n ≡ (has_bit destinations n && not (is_immobile n cell))
 plain_all destinations zone from n cell z none = go (has_bit destinations n) (sym (promoting_none destinations zone n (may_promote cell from n) z none) ∙ has_bit-none n)
   where
@@ -404,7 +407,7 @@ promoting_outside side destinations zone from n cell own f t b none = elim (case
   | inr clear ↦ has_bit-none n ∙ (rw clear refl)
 ]
 
-pub ruleset promoting = (and_fits, plain_apart, promoting_apart, plain_all, promoting_none, promoting_nowhere)
+pub ruleset promoting = (plain_apart, promoting_apart)
 
 -- the marked squares, in check and else
 pub marked_all : (n : ℕ) (checked rest : Bool) → n < 81 → checked ≡ true → has_bit ALL_SQUARES n ≡ (checked || rest)
@@ -475,7 +478,10 @@ pub ruleset legal_sets = (plain_destinations, promoting_destinations, nowhere)
 pub entering : (own n : ℕ) (b : Bool) → own < 2 ^ 81 → n < 81 → has_bit own n ≡ b → has_bit (2 ^ 128 - 1 - own) n ≡ not b
 entering own n b fits h e = has_bit-not own n (omega arith) (omega arith) ∙ ap not e
 
-pub ruleset entering_bits = (entering)
+pub entering_all : (all own n : ℕ) (b : Bool) → all ≡ 2 ^ 81 - 1 → own < 2 ^ 81 → n < 81 → has_bit own n ≡ b → has_bit (bit_and all (2 ^ 128 - 1 - own)) n ≡ not b
+entering_all all own n b whole fits h e = has_bit-and all (2 ^ 128 - 1 - own) n ∙ (rw (whole, all_squares n h, entering own n b fits h e) refl)
+
+pub ruleset entering_bits = (entering_all)
 
 -- a legal move is one to a square that the piece reaches, and where none of its side stands
 legal_way : (p : Shogi) (promote : Bool) (from to : ℕ) → from < 81 → to < 81 → is_legal_code p (code_of (Board from to promote)) ≡ true → (reaches p.cells from to ≡ true) × (is_piece_of p.side (piece_at p.cells to) ≡ false)
@@ -538,24 +544,18 @@ matching_board p capture promote from to len hf ht own =
 
 -- ---- the squares of drops
 
-pub squares_free : (p : Shogi) (checked : Bool) (pinned_or_king free : ℕ) → IsCheckInfo p checked pinned_or_king → length p.cells ≡ 81 → checked ≡ false → ((n : ℕ) → n < 81 → has_bit free n ≡ is_none (piece_at p.cells n)) → free < 2 ^ 81 → AreDropSquares p free
-squares_free p checked pinned_or_king free g len quiet f fits = record {
-  bits = λ kind some n h.
-      f n h
-      ∙ (sym (alone (is_none (piece_at p.cells n))) ∙ ap (λ (u : Bool). is_none (piece_at p.cells n) && u) (sym (ap not (quiet_drop p.cells p.side kind n len h (sym g.check ∙ quiet)))));
-  fits = fits;
-}
+pub squares_free : (p : Shogi) (checked : Bool) (pinned_or_king free : ℕ) → IsCheckInfo p checked pinned_or_king → length p.cells ≡ 81 → checked ≡ false → ((n : ℕ) → n < 81 → has_bit free n ≡ is_none (piece_at p.cells n)) → AreDropSquares p free
+squares_free p checked pinned_or_king free g len quiet f = λ kind some n h.
+    f n h
+    ∙ (sym (alone (is_none (piece_at p.cells n))) ∙ ap (λ (u : Bool). is_none (piece_at p.cells n) && u) (sym (ap not (quiet_drop p.cells p.side kind n len h (sym g.check ∙ quiet)))))
 
 pub squares_tried : (p : Shogi) (checked : Bool) (pinned_or_king free kept : ℕ) → IsCheckInfo p checked pinned_or_king → length p.cells ≡ 81 → checked ≡ true → ((n : ℕ) → n < 81 → has_bit free n ≡ is_none (piece_at p.cells n))
-    → ((n : ℕ) → n < 81 → has_bit kept n ≡ (has_bit (bit_and free pinned_or_king) n && is_unchecked p (Drop kinds.Pawn n))) → kept < 2 ^ 81 → AreDropSquares p kept
-squares_tried p checked pinned_or_king free kept g len check f k fits = record {
-  bits = λ kind some n h.
-      k n h
-      ∙ narrowed free pinned_or_king n (is_unchecked p (Drop kinds.Pawn n)) (λ e out. ap not (stays_drop pinned_or_king p.cells p.side kinds.Pawn n (g.stays check) out h (sym (f n h) ∙ e)))
-      ∙ ap (λ (b : Bool). b && is_unchecked p (Drop kinds.Pawn n)) (f n h)
-      ∙ ap (λ (c : Bool). is_none (piece_at p.cells n) && not c) (same_drop p.cells p.side kinds.Pawn kind n len h);
-  fits = fits;
-}
+    → ((n : ℕ) → n < 81 → has_bit kept n ≡ (has_bit (bit_and free pinned_or_king) n && is_unchecked p (Drop kinds.Pawn n))) → AreDropSquares p kept
+squares_tried p checked pinned_or_king free kept g len check f k = λ kind some n h.
+    k n h
+    ∙ narrowed free pinned_or_king n (is_unchecked p (Drop kinds.Pawn n)) (λ e out. ap not (stays_drop pinned_or_king p.cells p.side kinds.Pawn n (g.stays check) out h (sym (f n h) ∙ e)))
+    ∙ ap (λ (b : Bool). b && is_unchecked p (Drop kinds.Pawn n)) (f n h)
+    ∙ ap (λ (c : Bool). is_none (piece_at p.cells n) && not c) (same_drop p.cells p.side kinds.Pawn kind n len h)
 
 five : (a b u c d : Bool) → a ≡ true → (((b && u) && c) && d) ≡ ((((a && b) && c) && d) && u)
 five a b u c d e = rw e (go b u c d)
@@ -579,7 +579,7 @@ pub drops_pawn : (p : Shogi) (kind : Kind) (squares dead files n : ℕ) → n < 
 unfolding is_safe
 drops_pawn p kind squares dead files n h some pawn s df d ff b =
     has_bit-and (bit_and squares (2 ^ 128 - 1 - dead)) (2 ^ 128 - 1 - files) n
-    ∙ (rw (has_bit-and squares (2 ^ 128 - 1 - dead) n, has_bit-not dead n (omega arith) (omega arith), has_bit-not files n (omega arith) (omega arith), s.bits kind some n h, d, b, pawn)
+    ∙ (rw (has_bit-and squares (2 ^ 128 - 1 - dead) n, has_bit-not dead n (omega arith) (omega arith), has_bit-not files n (omega arith) (omega arith), s kind some n h, d, b, pawn)
     (five (nat_lt 0 (count_in_hand p.hands p.side kind)) (is_none (piece_at p.cells n)) (is_unchecked p (Drop kind n)) (not (is_immobile n (dropped p.side kind))) (not (nat_lt 0 (pawns_on_file p.side (n / 9) p.cells))) (lt-ltb 0 (count_in_hand p.hands p.side kind) some)))
 
 pub drops_other : (p : Shogi) (kind : Kind) (squares dead n : ℕ) → n < 81 → 0 < count_in_hand p.hands p.side kind → is_pawn_kind kind ≡ false → AreDropSquares p squares → dead < 2 ^ 81 → has_bit dead n ≡ is_immobile n (dropped p.side kind)
@@ -587,11 +587,11 @@ pub drops_other : (p : Shogi) (kind : Kind) (squares dead n : ℕ) → n < 81 �
 unfolding is_safe
 drops_other p kind squares dead n h some other s df d =
     has_bit-and squares (2 ^ 128 - 1 - dead) n
-    ∙ (rw (has_bit-not dead n (omega arith) (omega arith), s.bits kind some n h, d, other)
+    ∙ (rw (has_bit-not dead n (omega arith) (omega arith), s kind some n h, d, other)
     (sym (alone ((is_none (piece_at p.cells n) && is_unchecked p (Drop kind n)) && not (is_immobile n (dropped p.side kind))))
     ∙ five (nat_lt 0 (count_in_hand p.hands p.side kind)) (is_none (piece_at p.cells n)) (is_unchecked p (Drop kind n)) (not (is_immobile n (dropped p.side kind))) true (lt-ltb 0 (count_in_hand p.hands p.side kind) some)))
 
-pub ruleset safe_dropping = (drops_none, drops_pawn, drops_other, and_fits)
+pub ruleset safe_dropping = (drops_none, drops_pawn, drops_other)
 
 pub legal_drop : (p : Shogi) (kind : Kind) (n : ℕ) → n < 81 → is_matching p false (code_of (Drop kind n)) ≡ (is_safe p (Drop kind n) && not (is_pawn_drop_mate p (Drop kind n)))
 unfolding is_legal

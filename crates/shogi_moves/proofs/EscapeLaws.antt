@@ -1,5 +1,5 @@
 -- A king that is given check may go to a square that stays out of reach.
-use Rattle.std.proofs.Common.{◌≡◌, ◌≢◌, ◌⊎◌, ℕ, ◌-◌, ◌*◌, ◌%◌, ◌^◌, ◌<◌, Bool, true, false, not, Option, Some, None, [], refl, sym, ap, subst, ◌∙◌, arith, inl, inr, set, length, length-set, get_or-set_same, get_or-set_other, bit_and}
+use Rattle.std.proofs.Common.{◌≡◌, ◌≢◌, ◌⊎◌, ℕ, ◌-◌, ◌^◌, ◌<◌, Bool, true, false, not, Option, Some, None, [], refl, sym, ap, subst, ◌∙◌, arith, inl, inr, set, length, length-set, get_or-set_same, get_or-set_other, bit_and}
 use Rattle.std.specs.Prelude.{◌&&◌, ◌||◌, ◌==◌, is_none}
 use Rattle.std.specs.List.{list_any}
 use Rattle.std.specs.Int.{trailing_zeros, w128}
@@ -19,10 +19,10 @@ use Rattle.shogi_core.specs.Movement.{Cells, piece_at, reaches, cell_reaches, ha
 use Rattle.shogi_core.specs.Pieces.{opponent_of}
 use Rattle.shogi_core.specs.Position.{Shogi, HandCounts}
 use Rattle.shogi_core.specs.Validity.{IsValid}
-use Rattle.shogi_core.proofs.BitLaws.{has_bit-and, has_bit-none, has_bit-without}
+use Rattle.shogi_core.proofs.BitLaws.{has_bit-and, has_bit-none}
 use Rattle.shogi_core.proofs.Faults.{faultless_from}
 use Rattle.shogi_core.proofs.Uncovered.{attacked_was_but, reach_was}
-use Rattle.shogi_core.proofs.LineBits.{lowest_set, and_fits, has_bit-not}
+use Rattle.shogi_core.proofs.LineBits.{lowest_set, has_bit-not}
 use Rattle.shogi_moves.specs.After.{after, cells_after, piece_moved, dropped}
 use Rattle.shogi_moves.specs.Destinations.{is_mating_square}
 use Rattle.shogi_moves.specs.Escapes.{IsEscape, IsKingStep, AreKingSteps, AreEscapes, HasOpenEscape}
@@ -32,14 +32,6 @@ use Rattle.shogi_moves.proofs.ExistenceLaws.{king_move, safe_from_legal}
 use Rattle.shogi_moves.proofs.CheckInfoLaws.{other_side, own_some, is_piece_of-piece_moved, dropped_of, king_set}
 use Rattle.shogi_moves.proofs.KingLaws.{king_own, in_no_way}
 use Rattle.shogi_moves.proofs.MovedPieces.{opponent_twice}
-
--- a spare piece on another square than the end
-pub another : (spare to : ℕ) → spare < 2 ^ 81 → to < 81 → bit_and spare (2 ^ 128 - 1 - 1 * 2 ^ to % 2 ^ 128) ≢ 0 → (a : ℕ) × (a < 81) × (has_bit spare a ≡ true) × (a ≢ to)
-another spare to fits h some =
-    let low = lowest_set (bit_and spare (2 ^ 128 - 1 - 1 * 2 ^ to % 2 ^ 128)) some (and_fits spare (2 ^ 128 - 1 - 1 * 2 ^ to % 2 ^ 128) fits) in
-    let a : ℕ = trailing_zeros w128 (bit_and spare (2 ^ 128 - 1 - 1 * 2 ^ to % 2 ^ 128)) in
-    let parts = and_parts (has_bit spare (trailing_zeros w128 (bit_and spare (2 ^ 128 - 1 - 1 * 2 ^ to % 2 ^ 128)))) (not (trailing_zeros w128 (bit_and spare (2 ^ 128 - 1 - 1 * 2 ^ to % 2 ^ 128)) == to)) (sym (has_bit-without spare to (trailing_zeros w128 (bit_and spare (2 ^ 128 - 1 - 1 * 2 ^ to % 2 ^ 128))) (omega arith) (omega arith)) ∙ low.1) in
-    (trailing_zeros w128 (bit_and spare (2 ^ 128 - 1 - 1 * 2 ^ to % 2 ^ 128)), low.0, parts.0, λ same. both_ways _ (ap not (eq-eqb _ to same)) parts.1)
 
 pub crowned : (color : Color) (cell : Option Piece) → is_piece_of color cell ≡ false → is_king color cell ≡ false
 crowned color None e = refl
@@ -149,54 +141,46 @@ escaped_drop p kind to closed v ht h short =
 
 -- ---- such squares as bits
 
-pub found_open : (p : Shogi) (escapes closed kings to end : ℕ) → AreEscapes p escapes → closed < 2 ^ 128 → kings < 2 ^ 81 → end < 81 → end ≡ to → ((n : ℕ) → n < 81 → has_bit kings n ≡ is_king (opponent_of p.side) (piece_at p.cells n)) → kings ≢ 0 → has_bit kings end ≡ false
-    → bit_and (bit_and escapes (2 ^ 128 - 1 - closed)) (2 ^ 128 - 1 - 1 * 2 ^ end % 2 ^ 128) ≢ 0 → HasOpenEscape p closed to
-found_open p escapes closed kings to end h fits kings_fit he same bits some off left =
-    let a = another (bit_and escapes (2 ^ 128 - 1 - closed)) end (and_fits escapes (2 ^ 128 - 1 - closed) h.fits) he left in
-    let parts : (has_bit escapes a.0 ≡ true) × (has_bit (2 ^ 128 - 1 - closed) a.0 ≡ true) = and_parts _ _ (sym (has_bit-and escapes (2 ^ 128 - 1 - closed) a.0) ∙ a.2) in
+pub found_open : (p : Shogi) (escapes closed kings free to : ℕ) → AreEscapes p escapes → closed < 2 ^ 81 → kings < 2 ^ 81 → free < 2 ^ 81 → ((n : ℕ) → n < 81 → has_bit kings n ≡ is_king (opponent_of p.side) (piece_at p.cells n)) → kings ≢ 0 → has_bit kings to ≡ false
+    → ((n : ℕ) → has_bit free n ≡ (has_bit (bit_and escapes (2 ^ 128 - 1 - closed)) n && not (n == to))) → free ≢ 0 → HasOpenEscape p closed to
+found_open p escapes closed kings free to h fits kings_fit free_fits bits some off left some_free =
     let low = lowest_set kings some kings_fit in
     let crown : is_king (opponent_of p.side) (piece_at p.cells (trailing_zeros w128 kings)) ≡ true = sym (bits (trailing_zeros w128 kings) low.0) ∙ low.1 in
+    let end = lowest_set free some_free free_fits in
+    let apart : (has_bit (bit_and escapes (2 ^ 128 - 1 - closed)) (trailing_zeros w128 free) ≡ true) × (not (trailing_zeros w128 free == to) ≡ true) = and_parts _ _ (sym (left (trailing_zeros w128 free)) ∙ end.1) in
+    let parts : (has_bit escapes (trailing_zeros w128 free) ≡ true) × (has_bit (2 ^ 128 - 1 - closed) (trailing_zeros w128 free) ≡ true) = and_parts _ _ (sym (has_bit-and escapes (2 ^ 128 - 1 - closed) (trailing_zeros w128 free)) ∙ apart.0) in
     record {
       king_on = trailing_zeros w128 kings;
-      end = a.0;
-      on_board = (low.0, a.1);
+      end = trailing_zeros w128 free;
+      on_board = (low.0, end.0);
       king = crown;
-      escape = h.escapes (trailing_zeros w128 kings) a.0 low.0 crown a.1 parts.0;
-      open_end = not-true _ (sym (has_bit-not closed a.0 fits (omega (arith, a.1))) ∙ parts.1);
-      elsewhere = (λ at. both_ways (has_bit kings end) off (subst (λ (x : ℕ). has_bit kings x ≡ true) (at ∙ sym same) low.1), λ at. a.3 (at ∙ sym same));
+      escape = h (trailing_zeros w128 kings) (trailing_zeros w128 free) low.0 crown end.0 parts.0;
+      open_end = not-true _ (sym (has_bit-not closed (trailing_zeros w128 free) (omega arith) (omega (arith, end.0))) ∙ parts.1);
+      elsewhere = (λ at. both_ways (has_bit kings to) off (subst (λ (x : ℕ). has_bit kings x ≡ true) at low.1), λ at. both_ways _ (ap not (eq-eqb _ to at)) apart.1);
     }
 
 -- the squares to which the only king steps, and where none of its side stands
-pub found_steps : (p : Shogi) (king mask : ℕ) → ((x : ℕ) → x < 81 → x ≢ king → is_king (opponent_of p.side) (piece_at p.cells x) ≡ false)
-    → ((n : ℕ) → n < 81 → has_bit mask n ≡ true → (reaches p.cells king n ≡ true) × (is_piece_of (opponent_of p.side) (piece_at p.cells n) ≡ false)) → mask < 2 ^ 81 → AreKingSteps p mask
-found_steps p king mask lone ways fits = record {
-  steps = λ k e hk crown he in_mask. elim (cases_eq k king) [
-    | inl same ↦ subst (λ (x : ℕ). IsKingStep p.cells (opponent_of p.side) x e) (sym same) (
-        let way = ways e he in_mask in
-        record { lone = lone; reached = way.0; open_end = way.1 })
-    | inr other ↦ absurd (both_ways (is_king (opponent_of p.side) (piece_at p.cells k)) (lone k hk other) crown)
-  ];
-  fits = fits;
-}
+pub found_steps : (p : Shogi) (king squares : ℕ) → ((x : ℕ) → x < 81 → x ≢ king → is_king (opponent_of p.side) (piece_at p.cells x) ≡ false)
+    → ((n : ℕ) → n < 81 → has_bit squares n ≡ true → (reaches p.cells king n ≡ true) × (is_piece_of (opponent_of p.side) (piece_at p.cells n) ≡ false)) → AreKingSteps p squares
+found_steps p king squares lone ways = λ k e hk crown he set. elim (cases_eq k king) [
+  | inl same ↦ subst (λ (x : ℕ). IsKingStep p.cells (opponent_of p.side) x e) (sym same) (
+      let way = ways e he set in
+      record { lone = lone; reached = way.0; open_end = way.1 })
+  | inr other ↦ absurd (both_ways (is_king (opponent_of p.side) (piece_at p.cells k)) (lone k hk other) crown)
+]
 
 -- no squares
 pub no_steps : (p : Shogi) → AreKingSteps p 0
-no_steps p = record {
-  steps = λ k e hk crown he in_mask. absurd (both_ways (has_bit 0 e) (has_bit-none e) in_mask);
-  fits = omega arith;
-}
+no_steps p = λ k e hk crown he set. absurd (both_ways (has_bit 0 e) (has_bit-none e) set)
 
 -- those of them that are not attacked: the king is in no check, and so stands in no piece's way
-pub found_escapes : (p : Shogi) (steps mask : ℕ) → IsValid p → AreKingSteps p steps → ((n : ℕ) → n < 81 → has_bit mask n ≡ true → (has_bit steps n ≡ true) × (is_attacked p.cells p.side n ≡ false)) → mask < 2 ^ 81 → AreEscapes p mask
-found_escapes p steps mask v s found fits = record {
-  escapes = λ k e hk crown he in_mask. (
-      let here = found e he in_mask in
-      record {
-        step = s.steps k e hk crown he here.0;
-        safe = sym (in_no_way p.cells (opponent_of p.side) k v.cells_fit hk crown (faultless_from p v.no_fault).shut e he) ∙ (ap (λ (color : Color). is_attacked p.cells color e) (opponent_twice p.side) ∙ here.1);
-      });
-  fits = fits;
-}
+pub found_escapes : (p : Shogi) (steps squares : ℕ) → IsValid p → AreKingSteps p steps → ((n : ℕ) → n < 81 → has_bit squares n ≡ true → (has_bit steps n ≡ true) × (is_attacked p.cells p.side n ≡ false)) → AreEscapes p squares
+found_escapes p steps squares v s found = λ k e hk crown he set.
+    let here = found e he set in
+    record {
+      step = s k e hk crown he here.0;
+      safe = sym (in_no_way p.cells (opponent_of p.side) k v.cells_fit hk crown (faultless_from p v.no_fault).shut e he) ∙ (ap (λ (color : Color). is_attacked p.cells color e) (opponent_twice p.side) ∙ here.1);
+    }
 
 -- one of some squares
 pub one_square : (squares bit square n : ℕ) → ((i : ℕ) → has_bit bit i ≡ (has_bit 0 i || (i == square))) → has_bit (bit_and squares bit) n ≡ true → (has_bit squares n ≡ true) × (n ≡ square)

@@ -46,16 +46,15 @@ check_info_rough p checked e = record {
   kings = λ n h out. absurd (both_ways (has_bit ALL_SQUARES n) out (all_squares n h));
   stays = λ _ new to h out. absurd (both_ways (has_bit ALL_SQUARES to) out (all_squares to h));
   free = λ _ n h out own. absurd (both_ways (has_bit ALL_SQUARES n) out (all_squares n h));
-  fits = omega arith;
 }
 
 -- a piece without an end has no move
-pub piece_without : (p : Shogi) (from : ℕ) (d : Destinations) → from < 81 → AreAllDestinations p from d → bit_or d.plain d.promoting ≡ 0 → legal_from p (from * SQUARE_CODES) ≡ legal_from p ((from + 1) * SQUARE_CODES)
+pub piece_without : (p : Shogi) (from : ℕ) (d : Destinations) → from < 81 → AreAllDestinations p from d → bit_or d.plain.bits d.promoting.bits ≡ 0 → legal_from p (from * SQUARE_CODES) ≡ legal_from p ((from + 1) * SQUARE_CODES)
 piece_without p from d hf all none = run_without p (from * SQUARE_CODES) ((from + 1) * SQUARE_CODES) (omega arith) (omega arith) (λ c low high. (
-    let out = either d.plain d.promoting (c / 2 % 81) none in
+    let out = either d.plain.bits d.promoting.bits (c / 2 % 81) none in
     elim (at_code from c low (omega arith)) [
-      | inl at ↦ ap (is_legal_code p) at ∙ (sym (all.plain.0 (c / 2 % 81) (omega arith)) ∙ out.0)
-      | inr at ↦ ap (is_legal_code p) at ∙ (sym (all.promoting.0 (c / 2 % 81) (omega arith)) ∙ out.1)
+      | inl at ↦ ap (is_legal_code p) at ∙ (sym (all.plain (c / 2 % 81) (omega arith)) ∙ out.0)
+      | inr at ↦ ap (is_legal_code p) at ∙ (sym (all.promoting (c / 2 % 81) (omega arith)) ∙ out.1)
     ]))
 
 -- a kind without an end has no drop
@@ -75,13 +74,13 @@ pub some_legal : (p : Shogi) (code : ℕ) → is_legal_code p code ≡ true → 
 some_legal p code e none = let clash : false ≡ true = ap (λ codes. is_in code codes) (sym none) ∙ in_legal p 0 code (omega arith) e in cc
 
 -- a piece with an end has a move
-pub piece_with : (p : Shogi) (from : ℕ) (d : Destinations) → AreAllDestinations p from d → bit_or d.plain d.promoting ≢ 0 → legal_codes p ≢ []
+pub piece_with : (p : Shogi) (from : ℕ) (d : Destinations) → AreAllDestinations p from d → bit_or d.plain.bits d.promoting.bits ≢ 0 → legal_codes p ≢ []
 piece_with p from d all some =
-    let to : ℕ = trailing_zeros w128 (bit_or d.plain d.promoting) in
-    let low = lowest_set (bit_or d.plain d.promoting) some (or_fits d.plain d.promoting all.plain.1 all.promoting.1) in
-    elim (or_cases (has_bit d.plain to) (has_bit d.promoting to) (sym (has_bit-or d.plain d.promoting to) ∙ low.1)) [
-      | inl here ↦ some_legal p (code_of (Board from to false)) (sym (all.plain.0 to low.0) ∙ here)
-      | inr here ↦ some_legal p (code_of (Board from to true)) (sym (all.promoting.0 to low.0) ∙ here)
+    let to : ℕ = trailing_zeros w128 (bit_or d.plain.bits d.promoting.bits) in
+    let low = lowest_set (bit_or d.plain.bits d.promoting.bits) some (or_fits d.plain.bits d.promoting.bits d.plain.fits d.promoting.fits) in
+    elim (or_cases (has_bit d.plain.bits to) (has_bit d.promoting.bits to) (sym (has_bit-or d.plain.bits d.promoting.bits to) ∙ low.1)) [
+      | inl here ↦ some_legal p (code_of (Board from to false)) (sym (all.plain to low.0) ∙ here)
+      | inr here ↦ some_legal p (code_of (Board from to true)) (sym (all.promoting to low.0) ∙ here)
     ]
 
 -- a kind with an end has a drop

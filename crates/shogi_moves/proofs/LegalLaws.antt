@@ -103,7 +103,7 @@ no_piece p from code hf e low high =
 pub run_squares : (p : Shogi) (from next : ℕ) → from ≤ next → next ≤ 81 → ((n : ℕ) → from ≤ n → n < next → is_piece_of p.side (piece_at p.cells n) ≡ false) → legal_from p (from * SQUARE_CODES) ≡ legal_from p (next * SQUARE_CODES)
 run_squares p from next up h none = run_without p (from * SQUARE_CODES) (next * SQUARE_CODES) (omega arith) (omega arith) (λ c low high. no_piece p (c / SQUARE_CODES) c (omega arith) (none (c / SQUARE_CODES) (omega arith) (omega arith)) (omega arith) (omega arith))
 
--- the squares of a mask are those of the side's pieces from a square on
+-- the squares of a set are those of the side's pieces from a square on
 pub record HasPiecesFrom (p : Shogi) (left first : ℕ) : Type 0 where
   pub within : first ≤ 81
   pub below : (n : ℕ) → n < first → has_bit left n ≡ false

@@ -58,7 +58,7 @@ moved_up mask places a b low few at set =
 pub moved_either : (down up a : ℕ) → (has_bit down a ≡ true) ⊎ (has_bit up a ≡ true) → has_bit (bit_or down up) a ≡ true
 moved_either down up a e = has_bit-or down up a ∙ elim e [ inl x ↦ or_left _ _ x | inr x ↦ or_right (has_bit down a) _ x ]
 
--- ---- the squares near those of a mask
+-- ---- the squares near some
 
 pub near_bits : (a b next behind before : ℕ) → a < 81 → b < 81 → is_near b a ≡ true → ((b ≡ a + 1) ⊎ (a ≡ b + 1) → has_bit next a ≡ true)
     → ((k : ℕ) → k ≤ 4 → a ≡ b + k + 7 → has_bit behind a ≡ true) → ((k : ℕ) → k ≤ 4 → b + k ≡ a + 11 → has_bit before a ≡ true)

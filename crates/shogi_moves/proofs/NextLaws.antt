@@ -1,5 +1,5 @@
 -- The least legal move from a code on, by the destinations of a piece or of a held kind.
-use Rattle.std.proofs.Common.{◌≡◌, ℕ, ◌+◌, ◌*◌, ◌^◌, ◌<◌, ◌≤◌, Bool, true, false, not, List, [], ◌∷◌, Option, None, Some, refl, sym, ◌∙◌, arith, inl, inr, bit_or, ap}
+use Rattle.std.proofs.Common.{◌≡◌, ℕ, ◌+◌, ◌*◌, ◌<◌, ◌≤◌, Bool, true, false, not, List, [], ◌∷◌, Option, None, Some, refl, sym, ◌∙◌, arith, inl, inr, bit_or, ap}
 use Rattle.std.specs.Prelude.{IsNone, IfSome}
 use Rattle.std.proofs.lemmas.Bool.{cases_Bool, cases_lt, or_cases, both_ways}
 use Rattle.shogi_core.specs.declared.moves.TheConstants.{MOVE_CODE_COUNT, FIRST_DROP, SQUARE_CODES}
@@ -42,12 +42,12 @@ nowhere p true from n hf h e = has_bit-none n ∙ sym (no_piece p from (code_of 
 nowhere p false from n hf h e = has_bit-none n ∙ sym (no_piece p from (code_of (Board from n false)) hf e (omega arith) (omega arith))
 
 -- the destinations from a code on, of all destinations
-pub destinations_from : (p : Shogi) (promote : Bool) (from code destinations less to : ℕ) → less < 2 ^ 81 → destinations < 2 ^ 81 → ((n : ℕ) → n < 81 → has_bit destinations n ≡ is_legal_code p (code_of (Board from n promote))) → from * SQUARE_CODES ≤ code
+pub destinations_from : (p : Shogi) (promote : Bool) (from code destinations less to : ℕ) → ((n : ℕ) → n < 81 → has_bit destinations n ≡ is_legal_code p (code_of (Board from n promote))) → from * SQUARE_CODES ≤ code
     → ((n : ℕ) → n < to → code_of (Board from n promote) < code) → ((n : ℕ) → to ≤ n → code ≤ code_of (Board from n promote)) → ((i : ℕ) → i < 81 → to ≤ i → has_bit less i ≡ has_bit destinations i) → ((i : ℕ) → i < to → has_bit less i ≡ false)
     → Keeps (is_legal_code p) (λ n. code_of (Board from n promote)) code less
-destinations_from p promote from code destinations less to fits all bits low falls rises same none =
+destinations_from p promote from code destinations less to bits low falls rises same none =
     keeps_from (is_legal_code p) (λ n. code_of (Board from n promote)) (from * SQUARE_CODES) code destinations less to
-    (keeps_first (is_legal_code p) (λ n. code_of (Board from n promote)) (from * SQUARE_CODES) destinations all bits (λ n. first n promote)) fits low falls rises same none
+    (keeps_first (is_legal_code p) (λ n. code_of (Board from n promote)) (from * SQUARE_CODES) destinations bits (λ n. first n promote)) low falls rises same none
   where
     first : (n : ℕ) (b : Bool) → from * SQUARE_CODES ≤ code_of (Board from n b)
     first n true = omega arith
@@ -73,13 +73,12 @@ on_board from to true hf ht = omega arith
 on_board from to false hf ht = omega arith
 
 -- what is left of a kind above a drop
-pub drops_above : (p : Shogi) (kind : Kind) (destinations less to : ℕ) → to < 81 → destinations < 2 ^ 81 → ((n : ℕ) → n < 81 → has_bit destinations n ≡ is_matching p false (code_of (Drop kind n))) → less < 2 ^ 81 → ((i : ℕ) → i < 81 → to < i → has_bit less i ≡ has_bit destinations i) → ((i : ℕ) → i < 81 → i ≤ to → has_bit less i ≡ false)
+pub drops_above : (p : Shogi) (kind : Kind) (destinations less to : ℕ) → to < 81 → ((n : ℕ) → n < 81 → has_bit destinations n ≡ is_matching p false (code_of (Drop kind n))) → ((i : ℕ) → i < 81 → to < i → has_bit less i ≡ has_bit destinations i) → ((i : ℕ) → i < 81 → i ≤ to → has_bit less i ≡ false)
     → KeepsDrop p kind (code_of (Drop kind to) + 1) less
-drops_above p kind destinations less to ht all bits fits same none = record {
+drops_above p kind destinations less to ht bits same none = record {
   low = omega arith;
   high = omega arith;
   drops = record {
-    fits = fits;
     set = λ n h e. elim (cases_lt to n) [
       | inl up ↦ (omega arith, sym (bits n h) ∙ (sym (same n h up) ∙ e))
       | inr down ↦ absurd (both_ways (has_bit less n) (none n h down) e)

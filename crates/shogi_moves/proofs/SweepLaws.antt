@@ -1,5 +1,5 @@
 -- Ways through the legal moves of a kind.
-use Rattle.std.proofs.Common.{◌≡◌, ◌≢◌, ℕ, ◌+◌, ◌-◌, ◌*◌, ◌/◌, ◌%◌, ◌^◌, ◌<◌, ◌≤◌, ◌⊎◌, Bool, true, false, not, Some, List, [], filter, bit_and, ◌∷◌, refl, sym, ap, ◌∙◌, arith, inl, inr, subst, bit_or}
+use Rattle.std.proofs.Common.{◌≡◌, ◌≢◌, ℕ, ◌+◌, ◌-◌, ◌*◌, ◌/◌, ◌%◌, ◌<◌, ◌≤◌, ◌⊎◌, Bool, true, false, not, Some, List, [], filter, bit_and, ◌∷◌, refl, sym, ap, ◌∙◌, arith, inl, inr, subst, bit_or}
 use Rattle.std.specs.Prelude.{◌&&◌, ◌==◌}
 use Rattle.std.proofs.lemmas.Bool.{cases_eq, ne_eqb, eq-eqb, and_parts, both_ways, and_from, cases_lt, or_left, or_right, or_parts, or_cases, false_from_ne_true, true_from_ne_false, cond-true}
 use Rattle.shogi_core.specs.declared.moves.TheConstants.{MOVE_CODE_COUNT, FIRST_DROP, SQUARE_CODES}
@@ -13,7 +13,6 @@ use Rattle.shogi_core.specs.Movement.{piece_at, reaches}
 use Rattle.shogi_core.specs.Pieces.{kind_number}
 use Rattle.shogi_core.specs.Position.{Shogi}
 use Rattle.shogi_core.proofs.BitLaws.{has_bit-or, has_bit-none}
-use Rattle.shogi_core.proofs.LineBits.{has_bit-not, and_fits, or_fits}
 use Rattle.shogi_core.proofs.CodesBack.{move_of-board, move_of-drop}
 use Rattle.shogi_core.proofs.Faults.{number_below}
 use Rattle.shogi_moves.specs.Captures.{captures, matches, matches_kind, is_matching}
@@ -42,7 +41,7 @@ no_destinations p capture promote from n hf hn e =
 
 pub ruleset no_piece = (no_destinations)
 
--- ---- the lowest end of both masks
+-- ---- the lowest end, without or with promotion
 
 pub least_plain : (plain promoting to : ℕ) → ((n : ℕ) → has_bit (bit_or plain promoting) n ≡ true → to ≤ n) → (n : ℕ) → has_bit plain n ≡ true → to ≤ n
 least_plain plain promoting to least n e = least n (has_bit-or plain promoting n ∙ or_left (has_bit plain n) (has_bit promoting n) e)
@@ -50,11 +49,10 @@ least_plain plain promoting to least n e = least n (has_bit-or plain promoting n
 pub least_promoting : (plain promoting to : ℕ) → ((n : ℕ) → has_bit (bit_or plain promoting) n ≡ true → to ≤ n) → (n : ℕ) → has_bit promoting n ≡ true → to ≤ n
 least_promoting plain promoting to least n e = least n (has_bit-or plain promoting n ∙ or_right (has_bit plain n) (has_bit promoting n) e)
 
--- ---- what is kept of a mask
+-- ---- what is kept of some squares
 
-pub keeps_first : (test : ℕ → Bool) (place : ℕ → ℕ) (code mask : ℕ) → mask < 2 ^ 81 → ((n : ℕ) → n < 81 → has_bit mask n ≡ test (place n)) → ((n : ℕ) → code ≤ place n) → Keeps test place code mask
-keeps_first test place code mask fits bits low = record {
-  fits = fits;
+pub keeps_first : (test : ℕ → Bool) (place : ℕ → ℕ) (code mask : ℕ) → ((n : ℕ) → n < 81 → has_bit mask n ≡ test (place n)) → ((n : ℕ) → code ≤ place n) → Keeps test place code mask
+keeps_first test place code mask bits low = record {
   set = λ n h e. (low n, sym (bits n h) ∙ e);
   clear = λ n h e _. sym (bits n h) ∙ e;
 }
@@ -62,15 +60,13 @@ keeps_first test place code mask fits bits low = record {
 -- the codes below those of the first square that is left
 keeps_later : (test : ℕ → Bool) (place : ℕ → ℕ) (code next mask : ℕ) → Keeps test place code mask → code ≤ next → ((n : ℕ) → n < 81 → has_bit mask n ≡ true → next ≤ place n) → Keeps test place next mask
 keeps_later test place code next mask k up above = record {
-  fits = k.fits;
   set = λ n h e. (above n h e, (k.set n h e).1);
   clear = λ n h e l. k.clear n h e (omega arith);
 }
 
-keeps_less : (test : ℕ → Bool) (place : ℕ → ℕ) (code next mask less to : ℕ) → Keeps test place code mask → code ≤ next → less < mask → ((i : ℕ) → has_bit less i ≡ (has_bit mask i && not (i == to)))
+keeps_less : (test : ℕ → Bool) (place : ℕ → ℕ) (code next mask less to : ℕ) → Keeps test place code mask → code ≤ next → ((i : ℕ) → has_bit less i ≡ (has_bit mask i && not (i == to)))
     → ((n : ℕ) → n < 81 → has_bit mask n ≡ true → n ≢ to → next ≤ place n) → place to < next → Keeps test place next less
-keeps_less test place code next mask less to k up small bits above gone = record {
-  fits = omega (arith, k.fits);
+keeps_less test place code next mask less to k up bits above gone = record {
   set = λ n h e. (
       let parts : (has_bit mask n ≡ true) × (not (n == to) ≡ true) = and_parts (has_bit mask n) (not (n == to)) (sym (bits n) ∙ e) in
       (above n h parts.0 (λ same. both_ways (not (n == to)) (ap not (eq-eqb n to same)) parts.1), (k.set n h parts.0).1));
@@ -85,9 +81,8 @@ keeps_less test place code next mask less to k up small bits above gone = record
     more false b e = refl
 
 -- what is left from a square on
-pub keeps_from : (test : ℕ → Bool) (place : ℕ → ℕ) (code next mask less to : ℕ) → Keeps test place code mask → less < 2 ^ 81 → code ≤ next → ((n : ℕ) → n < to → place n < next) → ((n : ℕ) → to ≤ n → next ≤ place n) → ((i : ℕ) → i < 81 → to ≤ i → has_bit less i ≡ has_bit mask i) → ((i : ℕ) → i < to → has_bit less i ≡ false) → Keeps test place next less
-keeps_from test place code next mask less to k fits up falls rises same none = record {
-  fits = fits;
+pub keeps_from : (test : ℕ → Bool) (place : ℕ → ℕ) (code next mask less to : ℕ) → Keeps test place code mask → code ≤ next → ((n : ℕ) → n < to → place n < next) → ((n : ℕ) → to ≤ n → next ≤ place n) → ((i : ℕ) → i < 81 → to ≤ i → has_bit less i ≡ has_bit mask i) → ((i : ℕ) → i < to → has_bit less i ≡ false) → Keeps test place next less
+keeps_from test place code next mask less to k up falls rises same none = record {
   set = λ n h e. elim (cases_lt n to) [
     | inl down ↦ absurd (both_ways (has_bit less n) (none n down) e)
     | inr on ↦ (rises n on, (k.set n h (sym (same n h on) ∙ e)).1)
@@ -143,20 +138,19 @@ module _ (test : ℕ → Bool) (from code plain promoting : ℕ) (low : from * S
 pub none_left : (p : Shogi) (capture : Bool) (from code plain promoting : ℕ) → KeepsBoard p capture from code plain promoting → bit_or plain promoting ≡ 0 → HasNoneMatching p capture code (from * SQUARE_CODES + SQUARE_CODES)
 none_left p capture from code plain promoting k none = record { none = fails_all (is_matching p capture) from code plain promoting k.low k.plains k.promotings none }
 
-pub keeps_square : (p : Shogi) (capture : Bool) (from plain promoting : ℕ) → plain < 2 ^ 81 → promoting < 2 ^ 81
-    → ((n : ℕ) → n < 81 → has_bit plain n ≡ is_matching p capture (code_of (Board from n false))) → ((n : ℕ) → n < 81 → has_bit promoting n ≡ is_matching p capture (code_of (Board from n true)))
+pub keeps_square : (p : Shogi) (capture : Bool) (from plain promoting : ℕ) → ((n : ℕ) → n < 81 → has_bit plain n ≡ is_matching p capture (code_of (Board from n false))) → ((n : ℕ) → n < 81 → has_bit promoting n ≡ is_matching p capture (code_of (Board from n true)))
     → KeepsBoard p capture from (from * SQUARE_CODES) plain promoting
-keeps_square p capture from plain promoting pf qf pb qb = record {
+keeps_square p capture from plain promoting pb qb = record {
   low = omega arith;
   high = omega arith;
-  plains = keeps_first (is_matching p capture) (λ n. code_of (Board from n false)) (from * SQUARE_CODES) plain pf pb (λ n. omega arith);
-  promotings = keeps_first (is_matching p capture) (λ n. code_of (Board from n true)) (from * SQUARE_CODES) promoting qf qb (λ n. omega arith);
+  plains = keeps_first (is_matching p capture) (λ n. code_of (Board from n false)) (from * SQUARE_CODES) plain pb (λ n. omega arith);
+  promotings = keeps_first (is_matching p capture) (λ n. code_of (Board from n true)) (from * SQUARE_CODES) promoting qb (λ n. omega arith);
 }
 
-pub keeps_matching : (p : Shogi) (capture : Bool) (from targets matching plain promoting : ℕ) → from < 81 → ((n : ℕ) → n < 81 → has_bit targets n ≡ reaches p.cells from n) → ((n : ℕ) → n < 81 → has_bit matching n ≡ is_destination capture p.side (piece_at p.cells n)) → plain < 2 ^ 81 → promoting < 2 ^ 81
+pub keeps_matching : (p : Shogi) (capture : Bool) (from targets matching plain promoting : ℕ) → from < 81 → ((n : ℕ) → n < 81 → has_bit targets n ≡ reaches p.cells from n) → ((n : ℕ) → n < 81 → has_bit matching n ≡ is_destination capture p.side (piece_at p.cells n))
     → ((n : ℕ) → n < 81 → has_bit plain n ≡ (has_bit (bit_and targets matching) n && is_legal_code p (code_of (Board from n false)))) → ((n : ℕ) → n < 81 → has_bit promoting n ≡ (has_bit (bit_and targets matching) n && is_legal_code p (code_of (Board from n true))))
     → KeepsBoard p capture from (from * SQUARE_CODES) plain promoting
-keeps_matching p capture from targets matching plain promoting hf t s pf qf pb qb = keeps_square p capture from plain promoting pf qf (matching_among p capture false from targets matching plain hf t s pb) (matching_among p capture true from targets matching promoting hf t s qb)
+keeps_matching p capture from targets matching plain promoting hf t s pb qb = keeps_square p capture from plain promoting (matching_among p capture false from targets matching plain hf t s pb) (matching_among p capture true from targets matching promoting hf t s qb)
 
 pub record IsTaken (p : Shogi) (capture : Bool) (code : ℕ) (m : Move) : Type 0 where
   pub next : matching_from p capture code ≡ code_of m ∷ matching_from p capture (code_of m + 1)
@@ -181,14 +175,14 @@ module _ (p : Shogi) (capture : Bool) (from code plain promoting to : ℕ) (k : 
       let here : (code ≤ code_of (Board from to false)) × (is_matching p capture (code_of (Board from to false)) ≡ true) = k.plains.set to ht e in
       taken_from p capture code (Board from to false) (move_of-board from to false hf ht) (omega arith) here.0 here.1 (record { none = fails_to_plain (is_matching p capture) from code plain promoting low k.plains k.promotings to ht least })
 
-  pub plain_kept : (next : ℕ) → has_bit plain to ≡ true → next < plain → ((i : ℕ) → has_bit next i ≡ (has_bit plain i && not (i == to))) → KeepsBoard p capture from (code_of (Board from to false) + 1) next promoting
-  plain_kept next e less bits =
+  pub plain_kept : (next : ℕ) → has_bit plain to ≡ true → ((i : ℕ) → has_bit next i ≡ (has_bit plain i && not (i == to))) → KeepsBoard p capture from (code_of (Board from to false) + 1) next promoting
+  plain_kept next e bits =
       let low : from * SQUARE_CODES ≤ code = k.low in
       let here : code ≤ code_of (Board from to false) = (k.plains.set to ht e).0 in
       record {
         low = omega arith;
         high = omega arith;
-        plains = keeps_less (is_matching p capture) (λ n. code_of (Board from n false)) code (code_of (Board from to false) + 1) plain next to k.plains (omega arith) less bits (λ n h set other. (let le : to ≤ n = plain_above n set in omega arith)) (omega arith);
+        plains = keeps_less (is_matching p capture) (λ n. code_of (Board from n false)) code (code_of (Board from to false) + 1) plain next to k.plains (omega arith) bits (λ n h set other. (let le : to ≤ n = plain_above n set in omega arith)) (omega arith);
         promotings = keeps_later (is_matching p capture) (λ n. code_of (Board from n true)) code (code_of (Board from to false) + 1) promoting k.promotings (omega arith) (λ n h set. (let le : to ≤ n = promoting_above n set in omega arith));
       }
 
@@ -201,8 +195,8 @@ module _ (p : Shogi) (capture : Bool) (from code plain promoting to : ℕ) (k : 
       let here : (code ≤ code_of (Board from to true)) × (is_matching p capture (code_of (Board from to true)) ≡ true) = k.promotings.set to ht e in
       taken_from p capture code (Board from to true) (move_of-board from to true hf ht) (omega arith) here.0 here.1 (record { none = fails_to_promoting (is_matching p capture) from code plain promoting low k.plains k.promotings to ht least out })
 
-  pub promoting_kept : (next : ℕ) → has_bit plain to ≡ false → has_bit promoting to ≡ true → next < promoting → ((i : ℕ) → has_bit next i ≡ (has_bit promoting i && not (i == to))) → KeepsBoard p capture from (code_of (Board from to true) + 1) plain next
-  promoting_kept next out e less bits =
+  pub promoting_kept : (next : ℕ) → has_bit plain to ≡ false → has_bit promoting to ≡ true → ((i : ℕ) → has_bit next i ≡ (has_bit promoting i && not (i == to))) → KeepsBoard p capture from (code_of (Board from to true) + 1) plain next
+  promoting_kept next out e bits =
       let low : from * SQUARE_CODES ≤ code = k.low in
       let here : code ≤ code_of (Board from to true) = (k.promotings.set to ht e).0 in
       record {
@@ -212,7 +206,7 @@ module _ (p : Shogi) (capture : Bool) (from code plain promoting to : ℕ) (k : 
             let le : to ≤ n = plain_above n set in
             let ne : n ≢ to = λ same. both_ways (has_bit plain to) out (ap (has_bit plain) (sym same) ∙ set) in
             omega arith));
-        promotings = keeps_less (is_matching p capture) (λ n. code_of (Board from n true)) code (code_of (Board from to true) + 1) promoting next to k.promotings (omega arith) less bits (λ n h set other. (let le : to ≤ n = promoting_above n set in omega arith)) (omega arith);
+        promotings = keeps_less (is_matching p capture) (λ n. code_of (Board from n true)) code (code_of (Board from to true) + 1) promoting next to k.promotings (omega arith) bits (λ n h set other. (let le : to ≤ n = promoting_above n set in omega arith)) (omega arith);
       }
 
 -- ---- from one piece to the next
@@ -259,11 +253,11 @@ on_end p capture left code w none = record {
 
 -- ---- drops
 
-pub keeps_kind : (p : Shogi) (kind : Kind) (destinations : ℕ) → destinations < 2 ^ 81 → ((n : ℕ) → n < 81 → has_bit destinations n ≡ is_matching p false (code_of (Drop kind n))) → KeepsDrop p kind (FIRST_DROP + kind_number kind * 81) destinations
-keeps_kind p kind destinations fits bits = record {
+pub keeps_kind : (p : Shogi) (kind : Kind) (destinations : ℕ) → ((n : ℕ) → n < 81 → has_bit destinations n ≡ is_matching p false (code_of (Drop kind n))) → KeepsDrop p kind (FIRST_DROP + kind_number kind * 81) destinations
+keeps_kind p kind destinations bits = record {
   low = omega arith;
   high = omega arith;
-  drops = keeps_first (is_matching p false) (λ n. code_of (Drop kind n)) (FIRST_DROP + kind_number kind * 81) destinations fits bits (λ n. omega arith);
+  drops = keeps_first (is_matching p false) (λ n. code_of (Drop kind n)) (FIRST_DROP + kind_number kind * 81) destinations bits (λ n. omega arith);
 }
 
 -- the destinations of a kind from a code on, whose codes pass a test
@@ -311,14 +305,14 @@ module _ (p : Shogi) (kind : Kind) (code destinations to : ℕ) (k : KeepsDrop p
       let here : (code ≤ code_of (Drop kind to)) × (is_matching p false (code_of (Drop kind to)) ≡ true) = k.drops.set to ht set in
       taken_from p false code (Drop kind to) (move_of-drop kind to ht) (omega arith) here.0 here.1 (record { none = fails_to_drop (is_matching p false) kind code destinations low k.drops to ht least })
 
-  pub drop_kept : (next : ℕ) → next < destinations → ((i : ℕ) → has_bit next i ≡ (has_bit destinations i && not (i == to))) → KeepsDrop p kind (code_of (Drop kind to) + 1) next
-  drop_kept next less bits =
+  pub drop_kept : (next : ℕ) → ((i : ℕ) → has_bit next i ≡ (has_bit destinations i && not (i == to))) → KeepsDrop p kind (code_of (Drop kind to) + 1) next
+  drop_kept next bits =
       let low : FIRST_DROP + kind_number kind * 81 ≤ code = k.low in
       let here : code ≤ code_of (Drop kind to) = (k.drops.set to ht set).0 in
       record {
         low = omega arith;
         high = omega arith;
-        drops = keeps_less (is_matching p false) (λ n. code_of (Drop kind n)) code (code_of (Drop kind to) + 1) destinations next to k.drops (omega arith) less bits (λ n h e other. (let le : to ≤ n = least n e in omega arith)) (omega arith);
+        drops = keeps_less (is_matching p false) (λ n. code_of (Drop kind n)) code (code_of (Drop kind to) + 1) destinations next to k.drops (omega arith) bits (λ n h e other. (let le : to ≤ n = least n e in omega arith)) (omega arith);
       }
 
 -- drops take nothing
@@ -335,40 +329,39 @@ all_drops p code low = filter_all (matches_kind p false) (legal_from p code) (λ
     let under : n < MOVE_CODE_COUNT = legal_code_below p n (legal_in p code n h) in
     ap not (matches_kind_of p n _ (drop_code n (omega arith) under)))
 
--- ---- what is kept of a mask whose first bits are passed
+-- ---- what is kept of some squares whose first are passed
 
-keeps_nothing : (test : ℕ → Bool) (place : ℕ → ℕ) (code : ℕ) → ((n : ℕ) → n < 81 → place n < code) → Keeps test place code 0
-keeps_nothing test place code over = record {
-  fits = omega arith;
-  set = λ n h e. absurd (both_ways (has_bit 0 n) (has_bit-none n) e);
+keeps_nothing : (test : ℕ → Bool) (place : ℕ → ℕ) (code squares : ℕ) → squares ≡ 0 → ((n : ℕ) → n < 81 → place n < code) → Keeps test place code squares
+keeps_nothing test place code squares none over = record {
+  set = λ n h e. absurd (both_ways (has_bit squares n) (ap (λ m. has_bit m n) none ∙ has_bit-none n) e);
   clear = λ n h e l. absurd (let less : place n < code = over n h in omega arith);
 }
 
 pub ends_passed : (p : Shogi) (capture : Bool) (from code plain promoting less least to : ℕ) → KeepsBoard p capture from code plain promoting → to ≤ 81 → code ≤ from * SQUARE_CODES + 2 * to
-    → less < 2 ^ 81 → ((i : ℕ) → i < 81 → to ≤ i → has_bit less i ≡ has_bit plain i) → ((i : ℕ) → i < to → has_bit less i ≡ false)
-    → least < 2 ^ 81 → ((i : ℕ) → i < 81 → to ≤ i → has_bit least i ≡ has_bit promoting i) → ((i : ℕ) → i < to → has_bit least i ≡ false)
+    → ((i : ℕ) → i < 81 → to ≤ i → has_bit less i ≡ has_bit plain i) → ((i : ℕ) → i < to → has_bit less i ≡ false)
+    → ((i : ℕ) → i < 81 → to ≤ i → has_bit least i ≡ has_bit promoting i) → ((i : ℕ) → i < to → has_bit least i ≡ false)
     → KeepsBoard p capture from (from * SQUARE_CODES + 2 * to) less least
-ends_passed p capture from code plain promoting less least to k ht up fits same none fits_promoting same_promoting none_promoting = record {
+ends_passed p capture from code plain promoting less least to k ht up same none same_promoting none_promoting = record {
   low = omega arith;
   high = omega arith;
-  plains = keeps_from (is_matching p capture) (λ n. code_of (Board from n false)) code (from * SQUARE_CODES + 2 * to) plain less to k.plains fits up (λ n h. omega arith) (λ n h. omega arith) same none;
-  promotings = keeps_from (is_matching p capture) (λ n. code_of (Board from n true)) code (from * SQUARE_CODES + 2 * to) promoting least to k.promotings fits_promoting up (λ n h. omega arith) (λ n h. omega arith) same_promoting none_promoting;
+  plains = keeps_from (is_matching p capture) (λ n. code_of (Board from n false)) code (from * SQUARE_CODES + 2 * to) plain less to k.plains up (λ n h. omega arith) (λ n h. omega arith) same none;
+  promotings = keeps_from (is_matching p capture) (λ n. code_of (Board from n true)) code (from * SQUARE_CODES + 2 * to) promoting least to k.promotings up (λ n h. omega arith) (λ n h. omega arith) same_promoting none_promoting;
 }
 
-pub no_destinations_kept : (p : Shogi) (capture : Bool) (from : ℕ) → KeepsBoard p capture from (from * SQUARE_CODES + SQUARE_CODES) 0 0
-no_destinations_kept p capture from = record {
+pub no_destinations_kept : (p : Shogi) (capture : Bool) (from plain promoting : ℕ) → plain ≡ 0 → promoting ≡ 0 → KeepsBoard p capture from (from * SQUARE_CODES + SQUARE_CODES) plain promoting
+no_destinations_kept p capture from plain promoting none none_promoting = record {
   low = omega arith;
   high = omega arith;
-  plains = keeps_nothing (is_matching p capture) (λ n. code_of (Board from n false)) (from * SQUARE_CODES + SQUARE_CODES) (λ n h. omega arith);
-  promotings = keeps_nothing (is_matching p capture) (λ n. code_of (Board from n true)) (from * SQUARE_CODES + SQUARE_CODES) (λ n h. omega arith);
+  plains = keeps_nothing (is_matching p capture) (λ n. code_of (Board from n false)) (from * SQUARE_CODES + SQUARE_CODES) plain none (λ n h. omega arith);
+  promotings = keeps_nothing (is_matching p capture) (λ n. code_of (Board from n true)) (from * SQUARE_CODES + SQUARE_CODES) promoting none_promoting (λ n h. omega arith);
 }
 
-pub drop_ends_passed : (p : Shogi) (kind : Kind) (code destinations less to : ℕ) → KeepsDrop p kind code destinations → to ≤ 81 → code ≤ FIRST_DROP + kind_number kind * 81 + to → less < 2 ^ 81 → ((i : ℕ) → i < 81 → to ≤ i → has_bit less i ≡ has_bit destinations i) → ((i : ℕ) → i < to → has_bit less i ≡ false)
+pub drop_ends_passed : (p : Shogi) (kind : Kind) (code destinations less to : ℕ) → KeepsDrop p kind code destinations → to ≤ 81 → code ≤ FIRST_DROP + kind_number kind * 81 + to → ((i : ℕ) → i < 81 → to ≤ i → has_bit less i ≡ has_bit destinations i) → ((i : ℕ) → i < to → has_bit less i ≡ false)
     → KeepsDrop p kind (FIRST_DROP + kind_number kind * 81 + to) less
-drop_ends_passed p kind code destinations less to k ht up fits same none = record {
+drop_ends_passed p kind code destinations less to k ht up same none = record {
   low = omega arith;
   high = omega arith;
-  drops = keeps_from (is_matching p false) (λ n. code_of (Drop kind n)) code (FIRST_DROP + kind_number kind * 81 + to) destinations less to k.drops fits up (λ n h. omega arith) (λ n h. omega arith) same none;
+  drops = keeps_from (is_matching p false) (λ n. code_of (Drop kind n)) code (FIRST_DROP + kind_number kind * 81 + to) destinations less to k.drops up (λ n h. omega arith) (λ n h. omega arith) same none;
 }
 
-pub ruleset sweeping = (keeps_square, or_fits, matching_jumps, and_fits)
+pub ruleset sweeping = (keeps_square, matching_jumps)

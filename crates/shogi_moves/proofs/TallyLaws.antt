@@ -146,11 +146,11 @@ counted_drop p kind destinations fits bits =
     let b = tally_same 81 (has_bit destinations) (λ i. is_legal_code p (code_of (Drop kind (i + 0)))) (λ i l. bits i l ∙ ap (λ (n : ℕ). is_legal_code p (code_of (Drop kind n))) (omega arith)) in
     omega (arith, all, startw, endw, a, b)
 
--- a mask of squares has 81 bits at most
+-- a set of squares has 81 bits at most
 pub ones_most : (m : ℕ) → m < 2 ^ 81 → count_ones m ≤ 81
 ones_most m h = omega (arith, ones_tally 81 m h, tally_most 81 (has_bit m))
 
--- the legal moves from some square on are still to be counted, those of the pieces on squares of the mask
+-- the legal moves from some square on are still to be counted, those of the pieces on squares of the set
 pub record IsCounted (p : Shogi) (left total : ℕ) : Type 0 where
   pub first : ℕ
   pub pieces : HasPiecesFrom p left first

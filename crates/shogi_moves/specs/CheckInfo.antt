@@ -1,5 +1,5 @@
 -- What is known of checks in a position, so that most of its moves need no look at them.
-use Rattle.std.specs.Prelude.{ℕ, ◌≡◌, ◌<◌, ◌^◌, Bool, true, false}
+use Rattle.std.specs.Prelude.{ℕ, ◌≡◌, ◌<◌, Bool, true, false}
 use Rattle.shogi_core.specs.Attack.{in_check, OthersAreUnpinned, StaysInCheck}
 use Rattle.shogi_core.specs.Bits.{has_bit}
 use Rattle.shogi_core.specs.Cell.{is_king}
@@ -7,15 +7,14 @@ use Rattle.shogi_core.specs.Movement.{piece_at}
 use Rattle.shogi_core.specs.Position.{Shogi}
 use Rattle.shogi_moves.specs.declared.check_info.CheckInfo.{CheckInfo}
 
--- whether the side to move is in check, and a mask with its king: in check it has the squares of which a move of another piece has to end on one to answer it, and else the side's own pieces without which there might be one
+-- whether the side to move is in check, and squares with its king: in check they have those of which a move of another piece has to end on one to answer it, and else the side's own pieces without which there might be one
 pub record IsCheckInfo (p : Shogi) (checked : Bool) (pinned_or_king : ℕ) : Type 0 where
   pub check : checked ≡ in_check p.cells p.side
   pub kings : (n : ℕ) → n < 81 → has_bit pinned_or_king n ≡ false
       → is_king p.side (piece_at p.cells n) ≡ false
   pub stays : checked ≡ true → StaysInCheck pinned_or_king p.cells p.side
   pub free : checked ≡ false → OthersAreUnpinned pinned_or_king p.cells p.side
-  pub fits : pinned_or_king < 2 ^ 81
 
--- such a test and such a mask of the position
+-- such a test and such squares of the position
 abbrev pub IsCheckInfoOf : CheckInfo → Shogi → Type 0
-IsCheckInfoOf info p = IsCheckInfo p info.checked info.pinned_or_king
+IsCheckInfoOf info p = IsCheckInfo p info.checked info.pinned_or_king.bits

@@ -1,5 +1,5 @@
 -- Where a piece may end.
-use Rattle.std.specs.Prelude.{ℕ, ◌≡◌, ◌<◌, ◌^◌, ◌&&◌, ◌||◌, Bool, true, false, not, Option, None, is_none, slice_set}
+use Rattle.std.specs.Prelude.{ℕ, ◌≡◌, ◌<◌, ◌&&◌, ◌||◌, Bool, true, false, not, Option, None, is_none, slice_set}
 use Rattle.shogi_core.specs.declared.piece.Color.{Color}
 use Rattle.shogi_core.specs.declared.piece.Kind.{Kind}
 use Rattle.shogi_core.specs.declared.piece.Kind.TheVariants.{Pawn}
@@ -7,7 +7,7 @@ use Rattle.shogi_core.specs.declared.piece.Piece.{Piece}
 use Rattle.shogi_core.specs.declared.moves.Move.{Move}
 use Rattle.shogi_core.specs.declared.moves.Move.TheVariants.{Board, Drop}
 use Rattle.shogi_core.specs.Attack.{in_check, is_attacked}
-use Rattle.shogi_core.specs.Bits.{HasBits, IsMaskOf, has_bit}
+use Rattle.shogi_core.specs.Bits.{HasBits, has_bit}
 use Rattle.shogi_core.specs.Cell.{is_king, is_piece_of}
 use Rattle.shogi_core.specs.Codes.{code_of}
 use Rattle.shogi_core.specs.Movement.{Cells, piece_at, reaches}
@@ -36,17 +36,17 @@ is_own_king p n = is_king p.side (piece_at p.cells n)
 abbrev pub is_unchecked : Shogi → Move → Bool
 is_unchecked p m = not (in_check (cells_after p.cells p.side m) p.side)
 
--- the mask has those of the destinations at which the piece leaves its king unattacked
+-- the squares are those of the destinations at which the piece leaves its king unattacked
 abbrev pub AreUncheckedDestinations : Shogi → ℕ → ℕ → ℕ → Type 0
-AreUncheckedDestinations p from destinations mask =
-    IsMaskOf mask (λ n. has_bit destinations n && is_unchecked p (Board from n false))
+AreUncheckedDestinations p from destinations squares =
+    HasBits squares (λ n. has_bit destinations n && is_unchecked p (Board from n false))
 
--- the masks have the squares that pass, without promotion and with it
+-- they are the squares that pass, without promotion and with it
 pub record AreDestinations (test : ℕ → Bool → Bool) (destinations : Destinations) : Type 0 where
-  pub plain : IsMaskOf destinations.plain (λ n. test n false)
-  pub promoting : IsMaskOf destinations.promoting (λ n. test n true)
+  pub plain : HasBits destinations.plain.bits (λ n. test n false)
+  pub promoting : HasBits destinations.promoting.bits (λ n. test n true)
 
--- they have those of the destinations at which the move of the piece is legal, and all such destinations
+-- they are those of the destinations at which the move of the piece is legal, and all such destinations
 abbrev pub AreLegalDestinations : Shogi → ℕ → ℕ → Destinations → Type 0
 AreLegalDestinations p from among =
     AreDestinations (λ n b. has_bit among n && is_legal_code p (code_of (Board from n b)))
@@ -54,34 +54,33 @@ AreLegalDestinations p from among =
 abbrev pub AreAllDestinations : Shogi → ℕ → Destinations → Type 0
 AreAllDestinations p from = AreDestinations (λ n b. is_legal_code p (code_of (Board from n b)))
 
--- the mask has those of the squares on which a dropped pawn leaves its king unattacked
+-- they are those of the squares on which a dropped pawn leaves its king unattacked
 abbrev pub AreUncheckedDrops : Shogi → ℕ → ℕ → Type 0
-AreUncheckedDrops p squares mask =
-    IsMaskOf mask (λ n. has_bit squares n && is_unchecked p (Drop Pawn n))
+AreUncheckedDrops p squares unchecked =
+    HasBits unchecked (λ n. has_bit squares n && is_unchecked p (Drop Pawn n))
 
--- the mask has the squares on which a held piece of the kind may legally be dropped
+-- they are the squares on which a held piece of the kind may legally be dropped
 abbrev pub AreLegalDrops : Shogi → Kind → ℕ → Type 0
-AreLegalDrops p kind mask = IsMaskOf mask (λ n. is_matching p false (code_of (Drop kind n)))
+AreLegalDrops p kind squares = HasBits squares (λ n. is_matching p false (code_of (Drop kind n)))
 
 -- a pawn dropped there mates
 abbrev pub is_mating_square : Shogi → ℕ → Bool
 is_mating_square p n = is_pawn_drop_mate p (Drop Pawn n)
 
--- for each kind that the side to move holds, the mask has the empty squares on which it leaves the king unattacked
-pub record AreDropSquares (p : Shogi) (mask : ℕ) : Type 0 where
-  pub bits : (kind : Kind) → 0 < count_in_hand p.hands p.side kind
-      → HasBits mask (λ n. is_none (piece_at p.cells n) && is_unchecked p (Drop kind n))
-  pub fits : mask < 2 ^ 81
+-- for each kind that the side to move holds, they are the empty squares on which it leaves the king unattacked
+abbrev pub AreDropSquares : Shogi → ℕ → Type 0
+AreDropSquares p squares = (kind : Kind) → 0 < count_in_hand p.hands p.side kind
+    → HasBits squares (λ n. is_none (piece_at p.cells n) && is_unchecked p (Drop kind n))
 
--- the piece reaches each square of the mask, and none of the side to move stands there
+-- the piece reaches each of the squares, and none of the side to move stands there
 abbrev pub AreEnterable : Shogi → ℕ → ℕ → Type 0
-AreEnterable p from mask = (n : ℕ) → n < 81 → has_bit mask n ≡ true
+AreEnterable p from squares = (n : ℕ) → n < 81 → has_bit squares n ≡ true
     → (reaches p.cells from n ≡ true) × (is_own p n ≡ false)
 
--- the mask has the squares of the zone, those from which a piece may leave its king attacked, and in check all
+-- they are the squares of the zone, those from which a piece may leave its king attacked, and in check all
 abbrev pub AreMarked : CheckInfo → ℕ → ℕ → Type 0
-AreMarked info zone mask =
-    HasBits mask (λ n. info.checked || (has_bit info.pinned_or_king n || has_bit zone n))
+AreMarked info zone marked =
+    HasBits marked (λ n. info.checked || (has_bit info.pinned_or_king.bits n || has_bit zone n))
 
 -- on that board the other side attacks the square just as it does once the king has left its own
 abbrev pub ShowsAttack : Shogi → Cells → ℕ → ℕ → Type 0
@@ -89,17 +88,17 @@ ShowsAttack p seen king to =
     is_attacked seen (opponent_of p.side) to
     ≡ is_attacked (slice_set p.cells king None) (opponent_of p.side) to
 
--- none of the pieces that a mask leaves out reaches a destination of the kind
+-- none of the pieces that are not among the movers reaches a destination of the kind
 abbrev pub HasMovers : Shogi → Bool → ℕ → ℕ → Type 0
-HasMovers p capture pieces mask = (n t : ℕ) → n < 81 → t < 81
-    → has_bit pieces n ≡ true → has_bit mask n ≡ false
+HasMovers p capture pieces movers = (n t : ℕ) → n < 81 → t < 81
+    → has_bit pieces n ≡ true → has_bit movers n ≡ false
     → (reaches p.cells n t && is_destination capture p.side (piece_at p.cells t)) ≡ false
 
--- what is near a square of the first mask is in the second
+-- what is near one of the squares is in the spread
 abbrev pub Spreads : (ℕ → ℕ → Type 0) → ℕ → ℕ → Type 0
-Spreads near mask spread = (a b : ℕ) → a < 81 → b < 81 → has_bit mask b ≡ true
+Spreads near squares spread = (a b : ℕ) → a < 81 → b < 81 → has_bit squares b ≡ true
     → near b a → has_bit spread a ≡ true
 
--- each square of the mask is one of the squares
+-- each of the first squares is one of the second
 abbrev pub IsWithin : ℕ → ℕ → Type 0
-IsWithin mask squares = (n : ℕ) → has_bit mask n ≡ true → has_bit squares n ≡ true
+IsWithin some squares = (n : ℕ) → has_bit some n ≡ true → has_bit squares n ≡ true

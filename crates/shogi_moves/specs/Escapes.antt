@@ -1,5 +1,5 @@
 -- Squares to which the king of the side that is not to move may go, should a move give it check (own choice).
-use Rattle.std.specs.Prelude.{ℕ, ◌≡◌, ◌≢◌, ◌<◌, ◌^◌, true, false, None, slice_set}
+use Rattle.std.specs.Prelude.{ℕ, ◌≡◌, ◌≢◌, ◌<◌, true, false, None, slice_set}
 use Rattle.shogi_core.specs.declared.piece.Color.{Color}
 use Rattle.shogi_core.specs.Attack.{is_attacked}
 use Rattle.shogi_core.specs.Bits.{has_bit}
@@ -19,17 +19,17 @@ pub record IsEscape (cells : Cells) (side : Color) (k e : ℕ) : Type 0 where
   pub step : IsKingStep cells side k e
   pub safe : is_attacked (slice_set cells k None) (opponent_of side) e ≡ false
 
--- a mask of squares to which the king of the side that is not to move so steps
-pub record AreKingSteps (p : Shogi) (mask : ℕ) : Type 0 where
-  pub steps : (k e : ℕ) → k < 81 → is_king (opponent_of p.side) (piece_at p.cells k) ≡ true
-      → e < 81 → has_bit mask e ≡ true → IsKingStep p.cells (opponent_of p.side) k e
-  pub fits : mask < 2 ^ 81
+-- squares to which the king of the side that is not to move so steps
+abbrev pub AreKingSteps : Shogi → ℕ → Type 0
+AreKingSteps p squares = (k e : ℕ) → k < 81
+    → is_king (opponent_of p.side) (piece_at p.cells k) ≡ true
+    → e < 81 → has_bit squares e ≡ true → IsKingStep p.cells (opponent_of p.side) k e
 
--- a mask of escapes of that side
-pub record AreEscapes (p : Shogi) (mask : ℕ) : Type 0 where
-  pub escapes : (k e : ℕ) → k < 81 → is_king (opponent_of p.side) (piece_at p.cells k) ≡ true
-      → e < 81 → has_bit mask e ≡ true → IsEscape p.cells (opponent_of p.side) k e
-  pub fits : mask < 2 ^ 81
+-- squares that are escapes of that side
+abbrev pub AreEscapes : Shogi → ℕ → Type 0
+AreEscapes p squares = (k e : ℕ) → k < 81
+    → is_king (opponent_of p.side) (piece_at p.cells k) ≡ true
+    → e < 81 → has_bit squares e ≡ true → IsEscape p.cells (opponent_of p.side) k e
 
 -- the king of the side that is not to move has such a square that is not among the closed ones and not where a move ends, and the move does not end on the king
 pub record HasOpenEscape (p : Shogi) (closed to : ℕ) : Type 0 where

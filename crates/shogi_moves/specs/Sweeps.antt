@@ -1,5 +1,5 @@
 -- What is kept on the way through the moves of a kind: the destinations still to come of the present piece.
-use Rattle.std.specs.Prelude.{ℕ, ◌≡◌, ◌≢◌, ◌≤◌, ◌<◌, ◌+◌, ◌*◌, ◌^◌, Bool, true, false, List, [], filter, bit_or, Option}
+use Rattle.std.specs.Prelude.{ℕ, ◌≡◌, ◌≢◌, ◌≤◌, ◌<◌, ◌+◌, ◌*◌, Bool, true, false, List, [], filter, bit_or, Option}
 use Rattle.shogi_core.specs.declared.moves.TheConstants.{FIRST_DROP, SQUARE_CODES}
 use Rattle.shogi_core.specs.declared.moves.Move.{Move}
 use Rattle.shogi_core.specs.declared.moves.Move.TheVariants.{Board, Drop}
@@ -29,23 +29,22 @@ matching_from p capture first = filter (matches_kind p capture) (legal_from p fi
 abbrev pub matching_drops : Shogi → Bool → List ℕ
 matching_drops p capture = matching_from p capture FIRST_DROP
 
--- the masks have the destinations at which the move of the piece is legal and of the kind
+-- they are the destinations at which the move of the piece is legal and of the kind
 abbrev pub AreMatchingDestinations : Shogi → Bool → ℕ → Destinations → Type 0
 AreMatchingDestinations p capture from =
     AreDestinations (λ n b. is_matching p capture (code_of (Board from n b)))
 
--- the mask has the squares whose codes pass, from a code on
-pub record Keeps (test : ℕ → Bool) (place : ℕ → ℕ) (code mask : ℕ) : Type 0 where
-  pub fits : mask < 2 ^ 81
-  pub set : (n : ℕ) → n < 81 → has_bit mask n ≡ true → (code ≤ place n) × (test (place n) ≡ true)
-  pub clear : (n : ℕ) → n < 81 → has_bit mask n ≡ false → code ≤ place n → test (place n) ≡ false
+-- they are the squares whose codes pass, from a code on
+pub record Keeps (test : ℕ → Bool) (place : ℕ → ℕ) (code squares : ℕ) : Type 0 where
+  pub set : (n : ℕ) → n < 81 → has_bit squares n ≡ true → (code ≤ place n) × (test (place n) ≡ true)
+  pub clear : (n : ℕ) → n < 81 → has_bit squares n ≡ false → code ≤ place n → test (place n) ≡ false
 
--- the mask has the destinations of a legal move of the piece, promoting or not, from a code on
+-- they are the destinations of a legal move of the piece, promoting or not, from a code on
 abbrev pub KeepsLegal : Shogi → ℕ → Bool → ℕ → ℕ → Type 0
-KeepsLegal p from promote code mask =
-    Keeps (is_legal_code p) (λ n. code_of (Board from n promote)) code mask
+KeepsLegal p from promote code squares =
+    Keeps (is_legal_code p) (λ n. code_of (Board from n promote)) code squares
 
--- the masks kept for a square have the destinations of the legal moves of what stands there
+-- what is kept for a square are the destinations of the legal moves of what stands there
 abbrev pub AreKept : Shogi → KeptDestinations → Type 0
 AreKept p kept = AreAllDestinations p kept.from kept.destinations
 
@@ -66,11 +65,11 @@ pub record KeepsDrop (p : Shogi) (kind : Kind) (code destinations : ℕ) : Type 
 pub record IsBoardSweep (p : Shogi) (capture : Bool) (s : BoardSweep) : Type 0 where
   pub info : IsCheckInfoOf s.info p
   pub destinations : KeepsBoard p capture s.from s.code
-      s.destinations.plain s.destinations.promoting
+      s.destinations.plain.bits s.destinations.promoting.bits
 
 pub record IsDropSweep (p : Shogi) (s : DropSweep) : Type 0 where
-  pub squares : AreDropSquares p s.squares
-  pub destinations : KeepsDrop p s.kind s.code s.destinations
+  pub squares : AreDropSquares p s.squares.bits
+  pub destinations : KeepsDrop p s.kind s.code s.destinations.bits
 
 -- the moves that a sweep has still to give
 abbrev pub board_left : Shogi → Bool → BoardSweep → List ℕ
@@ -81,7 +80,7 @@ drops_left p s = matching_from p false s.code
 
 -- a destination of the present piece is left
 abbrev pub HasDestination : BoardSweep → Type 0
-HasDestination s = bit_or s.destinations.plain s.destinations.promoting ≢ 0
+HasDestination s = bit_or s.destinations.plain.bits s.destinations.promoting.bits ≢ 0
 
 -- the sweep continues at a piece, or a kind, that has a move, and no move is left out
 abbrev pub ContinuesBoard : Shogi → Bool → BoardSweep → BoardSweep → Type 0
@@ -89,7 +88,7 @@ ContinuesBoard p capture old new =
     HasDestination new × (board_left p capture old ≡ board_left p capture new)
 
 abbrev pub ContinuesDrops : Shogi → DropSweep → DropSweep → Type 0
-ContinuesDrops p old new = (new.destinations ≢ 0) × (drops_left p old ≡ drops_left p new)
+ContinuesDrops p old new = (new.destinations.bits ≢ 0) × (drops_left p old ≡ drops_left p new)
 
 -- where a walk over all legal moves may stand, and the moves that it has still to give
 abbrev pub IsPlace : Shogi → Place → Type 0

@@ -1,20 +1,19 @@
 //! What is known of checks in a position, so that most of its moves need no look at them.
 
-ghost use Rattle.std.specs.Prelude.{true, ◌≡◌, ◌<◌, ◌^◌, ◌&&◌, not, false};
+ghost use Rattle.std.specs.Prelude.{true, ◌≡◌, ◌&&◌, not, false};
 ghost use Rattle.shogi_core.specs.Attack.{in_check, OthersAreUnpinned};
 ghost use Rattle.shogi_core.specs.Bits.{has_bit};
 ghost use Rattle.shogi_moves.specs.CheckInfo.{IsCheckInfoOf};
 
 use crate::attack::in_check;
-use shogi_core::bits::{ALL_SQUARES, has};
-use shogi_core::{Position, Square};
+use shogi_core::{Position, Square, Squares};
 
-/// Whether the side to move is in check, and a mask with its king: in check also squares of which a
+/// Whether the side to move is in check, and squares with its king: in check also those of which a
 /// move of another piece has to end on one to answer it, and else the pieces that may be pinned.
 #[derive(Clone, Copy, Debug)]
 pub struct CheckInfo {
     pub checked: bool,
-    pub pinned_or_king: u128,
+    pub pinned_or_king: Squares,
 }
 
 /// A position with what is known of it.
@@ -41,10 +40,9 @@ fn checked_info(p: &Position) -> CheckInfo
 /// What is kept where there is no check: of the pieces of the side to move, the king and those that
 /// may be pinned.
 #[tactic(auto, using(crate::proofs::CheckInfoLaws::without_check))]
-fn unchecked_info(p: &Position, pinned: u128) -> CheckInfo
+fn unchecked_info(p: &Position, pinned: Squares) -> CheckInfo
     requires safe { in_check p.now.cells p.now.side ≡ false }
-    requires fits { pinned < 2 ^ 81 }
-    requires free { OthersAreUnpinned pinned p.now.cells p.now.side }
+    requires free { OthersAreUnpinned pinned.bits p.now.cells p.now.side }
     ensures { IsCheckInfoOf result p.now }
 {
     CheckInfo {
@@ -81,7 +79,7 @@ pub fn rough_check_info(p: &Position) -> CheckInfo
 {
     CheckInfo {
         checked: in_check(p),
-        pinned_or_king: ALL_SQUARES,
+        pinned_or_king: Squares::all(),
     }
 }
 
@@ -101,8 +99,7 @@ impl CheckInfo {
 
 /// Whether no move of the piece on the square can leave its king attacked.
 pub fn is_unpinned(info: &CheckInfo, from: Square) -> bool
-    ensures { result ≡ (not info.now.checked && not (has_bit info.now.pinned_or_king from)) }
+    ensures { result ≡ (not info.now.checked && not (has_bit info.now.pinned_or_king.bits from)) }
 {
-    from.validity();
-    !info.checked && !has(info.pinned_or_king, from.index())
+    !info.checked && !info.pinned_or_king.has(from)
 }

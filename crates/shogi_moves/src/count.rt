@@ -8,13 +8,13 @@ ghost use Rattle.shogi_moves.specs.Places.{first_of_kind};
 
 use crate::after::advance;
 use crate::check_info::{KnownPosition, check_info_of};
-use crate::destinations::{enterable, legal_by_marks, marked_squares};
+use crate::destinations::{legal_by_marks, marked_squares};
 use crate::drops::drop_squares;
 use crate::pawn_drop::drop_destinations;
 use crate::walk::Walk;
 use shogi_core::bits::{lowest, without_lowest};
 use shogi_core::zones::zone_squares;
-use shogi_core::{Kind, Position, Square};
+use shogi_core::{Kind, Position, Square, Squares};
 
 /// How many board moves are legal.
 fn count_board(known: &KnownPosition<'_>) -> u64
@@ -22,19 +22,20 @@ fn count_board(known: &KnownPosition<'_>) -> u64
     ensures range { result ≤ FIRST_DROP }
 {
     let p = known.position;
-    let squares = enterable(p);
     let side = p.side();
     let zone = zone_squares(side);
     let marked = marked_squares(&known.info, zone);
     let board = p.as_board();
-    let mut left = board.own(side);
+    let own = board.own(side);
+    let mut left = own.bits;
     let mut total: u64 = 0;
     'pieces: while left != 0 {
         let square = lowest(left);
         let from = Square::of_index(square);
-        let among = board.targets(from) & squares;
+        let among = board.targets(from).without(own);
         let destinations = legal_by_marks(known, zone, marked, from, among);
-        total += (destinations.plain.count_ones() + destinations.promoting.count_ones()) as u64;
+        total += (destinations.plain.bits.count_ones()
+            + destinations.promoting.bits.count_ones()) as u64;
         left = without_lowest(left, square);
     }
     total
@@ -42,12 +43,12 @@ fn count_board(known: &KnownPosition<'_>) -> u64
 
 /// How many drops of the kind are legal.
 #[inline(always)]
-fn count_kind(p: &Position, squares: u128, kind: Kind) -> u64
-    requires { AreDropSquares p.now squares }
+fn count_kind(p: &Position, squares: Squares, kind: Kind) -> u64
+    requires { AreDropSquares p.now squares.bits }
     ensures count { CountsLegal p.now (first_of_kind kind) (first_of_kind kind + 81) result }
     ensures range { result ≤ 81 }
 {
-    drop_destinations(p, squares, kind).count_ones() as u64
+    drop_destinations(p, squares, kind).bits.count_ones() as u64
 }
 
 /// How many drops are legal. Each kind is named, so that one that is not held costs no more than a

@@ -1,9 +1,9 @@
 //! The legal destinations of the pieces of the side to move.
 
-ghost use Rattle.std.specs.Prelude.{◌≡◌, ◌<◌, ◌^◌, ◌&&◌, ℕ, not, true, false, None, slice_set};
+ghost use Rattle.std.specs.Prelude.{◌≡◌, ◌<◌, ◌&&◌, ℕ, not, true, false, None, slice_set};
 ghost use Rattle.shogi_core.specs.declared.moves.Move.TheVariants as moves;
 ghost use Rattle.shogi_core.specs.Attack.{in_check};
-ghost use Rattle.shogi_core.specs.Bits.{HasBits, IsMaskOf, has_bit};
+ghost use Rattle.shogi_core.specs.Bits.{HasBits, has_bit};
 ghost use Rattle.shogi_core.specs.Cell.{is_immobile};
 ghost use Rattle.shogi_core.specs.Movement.{piece_at};
 ghost use Rattle.shogi_core.specs.Zones.{in_promotion_zone, may_promote};
@@ -11,21 +11,19 @@ ghost use Rattle.shogi_moves.specs.Destinations.{is_destination, is_own, is_own_
 
 use crate::check_info::{CheckInfo, KnownPosition, is_unpinned};
 use crate::unchecked::is_unchecked;
-use shogi_core::bits::{ALL_SQUARES, has};
-use shogi_core::squares::sift;
 use shogi_core::zones::{dead_squares, promoting_squares};
-use shogi_core::{Board, Move, Piece, Position, Square};
+use shogi_core::{Board, Move, Piece, Position, Square, Squares};
 
 /// The legal destinations of a piece, without and with promotion.
 #[derive(Clone, Copy, Debug)]
 pub struct Destinations {
-    pub plain: u128,
-    pub promoting: u128,
+    pub plain: Squares,
+    pub promoting: Squares,
 }
 
 /// The destinations of captures, or of the other moves.
-pub fn matching_destinations(p: &Position, capture: bool) -> u128
-    ensures squares { IsMaskOf result (λ n. is_destination capture p.now.side
+pub fn matching_destinations(p: &Position, capture: bool) -> Squares
+    ensures squares { HasBits result.bits (λ n. is_destination capture p.now.side
         (piece_at p.now.cells n)) }
 {
     if capture {
@@ -36,11 +34,10 @@ pub fn matching_destinations(p: &Position, capture: bool) -> u128
 }
 
 /// Those of the destinations that leave the king unattacked, each of them tried.
-fn tried_destinations(p: &Position, from: Square, destinations: u128) -> u128
-    requires { destinations < 2 ^ 81 }
-    ensures squares { AreUncheckedDestinations p.now from destinations result }
+fn tried_destinations(p: &Position, from: Square, destinations: Squares) -> Squares
+    ensures squares { AreUncheckedDestinations p.now from destinations.bits result.bits }
 {
-    sift(destinations, |to| {
+    destinations.sift(|to| {
         let m = Move::Board {
             from,
             to,
@@ -75,21 +72,25 @@ pub fn is_king_safe(p: &Position, seen: &Board, from: Square, to: Square) -> boo
 
 /// Those of the destinations on which the king of the side to move is unattacked, as seen on that
 /// board.
-fn seen_king_destinations(p: &Position, seen: &Board, from: Square, destinations: u128) -> u128
+fn seen_king_destinations(
+    p: &Position,
+    seen: &Board,
+    from: Square,
+    destinations: Squares,
+) -> Squares
     requires king { is_own_king p.now from ≡ true }
     requires seen { (n : ℕ) → n < 81 → ShowsAttack p.now seen.now from n }
-    requires fits { destinations < 2 ^ 81 }
-    ensures squares { AreUncheckedDestinations p.now from destinations result }
+    ensures squares { AreUncheckedDestinations p.now from destinations.bits result.bits }
 {
-    sift(destinations, |to| is_king_safe(p, seen, from, to))
+    destinations.sift(|to| is_king_safe(p, seen, from, to))
 }
 
 /// Those of the destinations on which the king of the side to move is unattacked. Out of check, it
 /// stands in no piece's way; in check, the board is seen with the king lifted off its square.
-fn king_destinations(known: &KnownPosition<'_>, from: Square, destinations: u128) -> u128
+fn king_destinations(known: &KnownPosition<'_>, from: Square, destinations: Squares) -> Squares
     requires king { is_own_king known.now.position.now from ≡ true }
-    requires fits { destinations < 2 ^ 81 }
-    ensures squares { AreUncheckedDestinations known.now.position.now from destinations result }
+    ensures squares { AreUncheckedDestinations known.now.position.now from
+        destinations.bits result.bits }
 {
     let p = known.position;
     p.validity();
@@ -106,15 +107,19 @@ fn king_destinations(known: &KnownPosition<'_>, from: Square, destinations: u128
 /// attacked.
 #[inline(never)]
 #[tactic(auto, using(crate::proofs::DestinationLaws::unpinned_destinations))]
-fn may_be_pinned_destinations(known: &KnownPosition<'_>, from: Square, destinations: u128) -> u128
+fn may_be_pinned_destinations(
+    known: &KnownPosition<'_>,
+    from: Square,
+    destinations: Squares,
+) -> Squares
     requires own { is_own known.now.position.now from ≡ true }
-    requires fits { destinations < 2 ^ 81 }
-    ensures squares { AreUncheckedDestinations known.now.position.now from destinations result }
+    ensures squares { AreUncheckedDestinations known.now.position.now from
+        destinations.bits result.bits }
 {
     let p = known.position;
     p.validity();
     from.validity();
-    if has(p.as_board().kings(p.side()), from.index()) {
+    if p.as_board().kings(p.side()).has(from) {
         return king_destinations(known, from, destinations);
     }
     if known.info.checked {
@@ -129,10 +134,10 @@ fn may_be_pinned_destinations(known: &KnownPosition<'_>, from: Square, destinati
 /// Those of the destinations that leave the king unattacked. Most pieces may end anywhere, and keep
 /// them all.
 #[tactic(auto, using(crate::proofs::DestinationLaws::unpinned_destinations))]
-fn safe_destinations(known: &KnownPosition<'_>, from: Square, destinations: u128) -> u128
+fn safe_destinations(known: &KnownPosition<'_>, from: Square, destinations: Squares) -> Squares
     requires own { is_own known.now.position.now from ≡ true }
-    requires fits { destinations < 2 ^ 81 }
-    ensures squares { AreUncheckedDestinations known.now.position.now from destinations result }
+    ensures squares { AreUncheckedDestinations known.now.position.now from
+        destinations.bits result.bits }
 {
     known.position.validity();
     from.validity();
@@ -146,52 +151,49 @@ fn safe_destinations(known: &KnownPosition<'_>, from: Square, destinations: u128
 /// neither begin nor end in the zone in which they promote, and have none with promotion.
 #[inline(always)]
 #[tactic(auto, using(crate::proofs::DestinationLaws::promoting))]
-fn with_promotions(cell: Option<Piece>, from: Square, among: u128) -> Destinations
-    requires { among < 2 ^ 81 }
-    ensures plain { HasBits result.plain (λ n. has_bit among n && not (is_immobile n cell)) }
-    ensures promoting { HasBits result.promoting
-        (λ n. has_bit among n && may_promote cell from n) }
-    ensures plain_fits { result.plain < 2 ^ 81 }
-    ensures promoting_fits { result.promoting < 2 ^ 81 }
+fn with_promotions(cell: Option<Piece>, from: Square, among: Squares) -> Destinations
+    ensures plain { HasBits result.plain.bits
+        (λ n. has_bit among.bits n && not (is_immobile n cell)) }
+    ensures promoting { HasBits result.promoting.bits
+        (λ n. has_bit among.bits n && may_promote cell from n) }
 {
     let zone = promoting_squares(cell, from);
-    if zone == 0 || among & zone == 0 {
+    if zone.is_empty() || (among & zone).is_empty() {
         return Destinations {
             plain: among,
-            promoting: 0,
+            promoting: Squares::none(),
         };
     }
     Destinations {
-        plain: among & !dead_squares(cell),
+        plain: among.without(dead_squares(cell)),
         promoting: among & zone,
     }
 }
 
 /// The squares on which no piece of the side to move stands.
 #[tactic(auto, using(crate::proofs::DestinationLaws::entering_bits))]
-pub fn enterable(p: &Position) -> u128
-    ensures { HasBits result (λ n. not (is_own p.now n)) }
+pub fn enterable(p: &Position) -> Squares
+    ensures { HasBits result.bits (λ n. not (is_own p.now n)) }
 {
-    !p.as_board().own(p.side())
+    Squares::all().without(p.as_board().own(p.side()))
 }
 
 /// The legal destinations of one of the pieces of the side to move among squares that it reaches
 /// and on which no other one stands.
 #[inline(always)]
 #[tactic(auto, using(crate::proofs::DestinationLaws::legal_sets))]
-pub fn legal_destinations(known: &KnownPosition<'_>, from: Square, among: u128) -> Destinations
+pub fn legal_destinations(known: &KnownPosition<'_>, from: Square, among: Squares) -> Destinations
     requires own { is_own known.now.position.now from ≡ true }
-    requires among { AreEnterable known.now.position.now from among }
-    requires fits { among < 2 ^ 81 }
-    ensures { AreLegalDestinations known.now.position.now from among result }
+    requires among { AreEnterable known.now.position.now from among.bits }
+    ensures { AreLegalDestinations known.now.position.now from among.bits result }
 {
     let p = known.position;
     p.validity();
     from.validity();
-    if among == 0 {
+    if among.is_empty() {
         return Destinations {
-            plain: 0,
-            promoting: 0,
+            plain: Squares::none(),
+            promoting: Squares::none(),
         };
     }
     let destinations = safe_destinations(known, from, among);
@@ -201,9 +203,9 @@ pub fn legal_destinations(known: &KnownPosition<'_>, from: Square, among: u128) 
 /// All legal destinations of one of the pieces of the side to move; the squares are those on which
 /// no other one stands.
 #[inline(always)]
-pub fn all_destinations(known: &KnownPosition<'_>, from: Square, squares: u128) -> Destinations
+pub fn all_destinations(known: &KnownPosition<'_>, from: Square, squares: Squares) -> Destinations
     requires own { is_own known.now.position.now from ≡ true }
-    requires squares { HasBits squares (λ n. not (is_own known.now.position.now n)) }
+    requires squares { HasBits squares.bits (λ n. not (is_own known.now.position.now n)) }
     ensures { AreAllDestinations known.now.position.now from result }
 {
     from.validity();
@@ -214,11 +216,11 @@ pub fn all_destinations(known: &KnownPosition<'_>, from: Square, squares: u128) 
 /// The squares from which a piece of the side to move may promote, or may leave its king attacked;
 /// `zone` is that in which the side promotes.
 #[tactic(auto, using(crate::proofs::DestinationLaws::marking))]
-pub fn marked_squares(info: &CheckInfo, zone: u128) -> u128
-    ensures { AreMarked info.now zone result }
+pub fn marked_squares(info: &CheckInfo, zone: Squares) -> Squares
+    ensures { AreMarked info.now zone.bits result.bits }
 {
     if info.checked {
-        return ALL_SQUARES;
+        return Squares::all();
     }
     info.pinned_or_king | zone
 }
@@ -229,24 +231,23 @@ pub fn marked_squares(info: &CheckInfo, zone: u128) -> u128
 #[inline(always)]
 pub fn legal_by_marks(
     known: &KnownPosition<'_>,
-    zone: u128,
-    marked: u128,
+    zone: Squares,
+    marked: Squares,
     from: Square,
-    among: u128,
+    among: Squares,
 ) -> Destinations
-    requires zone { HasBits zone (in_promotion_zone known.now.position.now.side) }
-    requires marked { AreMarked known.now.info zone marked }
+    requires zone { HasBits zone.bits (in_promotion_zone known.now.position.now.side) }
+    requires marked { AreMarked known.now.info zone.bits marked.bits }
     requires own { is_own known.now.position.now from ≡ true }
-    requires among { AreEnterable known.now.position.now from among }
-    requires fits { among < 2 ^ 81 }
-    ensures { AreLegalDestinations known.now.position.now from among result }
+    requires among { AreEnterable known.now.position.now from among.bits }
+    ensures { AreLegalDestinations known.now.position.now from among.bits result }
 {
     known.position.validity();
     from.validity();
-    if among & zone == 0 && !has(marked, from.index()) {
+    if (among & zone).is_empty() && !marked.has(from) {
         return Destinations {
             plain: among,
-            promoting: 0,
+            promoting: Squares::none(),
         };
     }
     legal_destinations(known, from, among)

@@ -1,9 +1,9 @@
 //! Where held pieces may be dropped, apart from mate by a pawn.
 
-ghost use Rattle.std.specs.Prelude.{◌≡◌, ◌<◌, ◌^◌, true};
+ghost use Rattle.std.specs.Prelude.{◌≡◌, true};
 ghost use Rattle.shogi_core.specs.declared.moves.Move.TheVariants as moves;
 ghost use Rattle.shogi_core.specs.declared.piece.Kind.{Kind};
-ghost use Rattle.shogi_core.specs.Bits.{IsMaskOf};
+ghost use Rattle.shogi_core.specs.Bits.{HasBits};
 ghost use Rattle.shogi_core.specs.Position.{count_in_hand};
 ghost use Rattle.shogi_moves.specs.Destinations.{AreUncheckedDrops, AreDropSquares};
 ghost use Rattle.shogi_moves.specs.Legal.{is_pawn_kind, is_safe};
@@ -11,9 +11,8 @@ ghost use Rattle.shogi_moves.specs.Legal.{is_pawn_kind, is_safe};
 use crate::after::dropped;
 use crate::check_info::KnownPosition;
 use crate::unchecked::is_unchecked;
-use shogi_core::squares::sift;
 use shogi_core::zones::{dead_squares, pawn_files};
-use shogi_core::{Kind, Move, Position, Square};
+use shogi_core::{Kind, Move, Position, Square, Squares};
 
 /// Whether it is the pawn.
 pub fn is_pawn_kind(kind: Kind) -> bool
@@ -24,11 +23,10 @@ pub fn is_pawn_kind(kind: Kind) -> bool
 
 /// Those of the squares on which a dropped pawn leaves the king unattacked, each of them tried.
 #[inline(never)]
-fn tried_drops(p: &Position, squares: u128) -> u128
-    requires { squares < 2 ^ 81 }
-    ensures squares { AreUncheckedDrops p.now squares result }
+fn tried_drops(p: &Position, squares: Squares) -> Squares
+    ensures squares { AreUncheckedDrops p.now squares.bits result.bits }
 {
-    sift(squares, |to| {
+    squares.sift(|to| {
         let m = Move::Drop {
             kind: Kind::Pawn,
             to,
@@ -52,8 +50,8 @@ fn holds_none(p: &Position) -> bool
 }
 
 /// The empty squares on which a held piece leaves the king unattacked, whatever its kind.
-pub fn drop_squares(known: &KnownPosition<'_>) -> u128
-    ensures { AreDropSquares known.now.position.now result }
+pub fn drop_squares(known: &KnownPosition<'_>) -> Squares
+    ensures { AreDropSquares known.now.position.now result.bits }
 {
     let p = known.position;
     p.validity();
@@ -62,7 +60,7 @@ pub fn drop_squares(known: &KnownPosition<'_>) -> u128
         return free;
     }
     if holds_none(p) {
-        return 0;
+        return Squares::none();
     }
     tried_drops(p, free & known.info.pinned_or_king)
 }
@@ -70,17 +68,17 @@ pub fn drop_squares(known: &KnownPosition<'_>) -> u128
 /// Where one of the held pieces may be dropped, apart from mate by a pawn.
 #[inline(always)]
 #[tactic(auto, using(crate::proofs::DestinationLaws::safe_dropping))]
-pub fn safe_drops(p: &Position, squares: u128, kind: Kind) -> u128
-    requires squares { AreDropSquares p.now squares }
-    ensures squares { IsMaskOf result (λ n. is_safe p.now (moves.Drop kind n)) }
+pub fn safe_drops(p: &Position, squares: Squares, kind: Kind) -> Squares
+    requires squares { AreDropSquares p.now squares.bits }
+    ensures squares { HasBits result.bits (λ n. is_safe p.now (moves.Drop kind n)) }
 {
     let side = p.side();
     if p.hand(side, kind) == 0 {
-        return 0;
+        return Squares::none();
     }
-    let destinations = squares & !dead_squares(dropped(side, kind));
+    let destinations = squares.without(dead_squares(dropped(side, kind)));
     if is_pawn_kind(kind) {
-        destinations & !pawn_files(p, side)
+        destinations.without(pawn_files(p, side))
     } else {
         destinations
     }

@@ -14,7 +14,7 @@ fn has_pawn_drop(known: &KnownPosition<'_>) -> bool
     ensures some { result ≡ true → legal_codes known.now.position.now ≢ [] }
     ensures none { result ≡ false → HasNoPawnDrop known.now.position.now }
 {
-    drop_destinations(known.position, drop_squares(known), Kind::Pawn) != 0
+    !drop_destinations(known.position, drop_squares(known), Kind::Pawn).is_empty()
 }
 
 /// Whether some move is legal. Drops are looked for first where no check is to be answered: their

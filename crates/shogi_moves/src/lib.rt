@@ -1,6 +1,6 @@
 //! Attacks, legal moves, the position after a move, and counting sequences of legal moves.
 //!
-//! A move is found as a mask: `destinations` has the legal ends of a piece, `drops` and `pawn_drop`
+//! Moves are found as sets of squares: `destinations` has the legal ends of a piece, `drops` and `pawn_drop`
 //! the squares for a held kind. `sweep` goes through them for the search, `walk` over `next` for
 //! everyone else, `count` without looking at each, and `existence` up to the first one. `movers`
 //! leaves out, before their destinations are looked for, pieces that surely take nothing. A move is

@@ -5,69 +5,66 @@ ghost use Rattle.shogi_core.specs.Bits.{has_bit};
 ghost use Rattle.shogi_core.specs.Lines.{is_near};
 ghost use Rattle.shogi_moves.specs.Destinations.{HasMovers, Spreads, IsWithin};
 
-use shogi_core::Position;
+use shogi_core::{Position, Squares};
 
-/// The squares so many places before or behind one of the mask.
-fn places_away(mask: u128, places: usize) -> u128
-    requires fits { mask < 2 ^ 81 }
-    requires places { places < 12 }
-    ensures { Spreads (λ b a. (b ≡ a + places) ⊎ (a ≡ b + places)) mask result }
+/// The places that are so many before or behind one of the squares.
+fn places_away(squares: Squares, places: usize) -> u128
+    requires { places < 12 }
+    ensures { Spreads (λ b a. (b ≡ a + places) ⊎ (a ≡ b + places)) squares.bits result }
 {
-    mask >> places | mask << places
+    squares.bits >> places | squares.bits << places
 }
 
-/// The mask with its bits so many places higher.
-fn raised(mask: u128, places: usize) -> u128
-    requires fits { mask < 2 ^ 100 }
+/// The number with its bits so many places higher.
+fn raised(bits: u128, places: usize) -> u128
+    requires fits { bits < 2 ^ 100 }
     requires places { places < 12 }
-    ensures value { result ≡ mask * 2 ^ places }
-    ensures bits { (n : ℕ) → has_bit mask n ≡ true → has_bit result (n + places) ≡ true }
+    ensures value { result ≡ bits * 2 ^ places }
+    ensures raised { (n : ℕ) → has_bit bits n ≡ true → has_bit result (n + places) ≡ true }
 {
-    mask << places
+    bits << places
 }
 
-/// The bits of the mask, and those up to four places above each.
-fn five_places(mask: u128) -> u128
-    requires { mask < 2 ^ 81 }
-    ensures bits { (n k : ℕ) → k ≤ 4 → has_bit mask n ≡ true → has_bit result (n + k) ≡ true }
+/// The squares, and the places up to four above each.
+fn five_places(squares: Squares) -> u128
+    ensures bits { (n k : ℕ) → k ≤ 4 → has_bit squares.bits n ≡ true
+        → has_bit result (n + k) ≡ true }
     ensures fits { result < 2 ^ 85 }
 {
-    let two = mask | raised(mask, 1);
+    let two = squares.bits | raised(squares.bits, 1);
     let four = two | raised(two, 2);
-    four | raised(mask, 4)
+    four | raised(squares.bits, 4)
 }
 
-/// The squares next to one of the mask or a knight's jump away, and some more at the edges of the
-/// board: those 1 place away, and those 7 to 11 places away, which are found five at once.
-fn squares_near(mask: u128) -> u128
-    requires { mask < 2 ^ 81 }
-    ensures { Spreads (λ b a. is_near b a ≡ true) mask result }
+/// The squares next to one of these or a knight's jump away, and some more at the edges of the board
+/// and past them: those 1 place away, and those 7 to 11 places away, which are found five at once.
+fn squares_near(squares: Squares) -> u128
+    ensures { Spreads (λ b a. is_near b a ≡ true) squares.bits result }
 {
-    let five = five_places(mask);
-    places_away(mask, 1) | raised(five, 7) | five >> 11
+    let five = five_places(squares);
+    places_away(squares, 1) | raised(five, 7) | five >> 11
 }
 
 /// Those of the pieces that may reach a square where such a move ends; to capture, a piece slides
 /// or stands near one of the other side's.
-pub fn matching_movers(p: &Position, capture: bool, pieces: u128) -> u128
-    requires { pieces < 2 ^ 81 }
-    ensures within { IsWithin result pieces }
-    ensures none { HasMovers p.now capture pieces result }
-    ensures fits { result < 2 ^ 81 }
+pub fn matching_movers(p: &Position, capture: bool, pieces: Squares) -> Squares
+    ensures within { IsWithin result.bits pieces.bits }
+    ensures none { HasMovers p.now capture pieces.bits result.bits }
 {
     if !capture {
         return pieces;
     }
     let board = p.as_board();
-    pieces & (board.sliders() | squares_near(board.own(p.side().opponent())))
+    let near = squares_near(board.own(p.side().opponent()));
+    Squares {
+        bits: pieces.bits & (board.sliders().bits | near),
+    }
 }
 
 /// Those of the pieces that may take something.
-pub fn takers(p: &Position, pieces: u128) -> u128
-    requires { pieces < 2 ^ 81 }
-    ensures within { IsWithin result pieces }
-    ensures none { HasMovers p.now true pieces result }
-    ensures fits { result < 2 ^ 81 }
+pub fn takers(p: &Position, pieces: Squares) -> Squares
+    ensures within { IsWithin result.bits pieces.bits }
+    ensures none { HasMovers p.now true pieces.bits result.bits }
 {
     matching_movers(p, true, pieces)
 }

@@ -11,8 +11,8 @@ ghost use Rattle.shogi_moves.specs.Sweeps.{AreKept, KeepsLegal};
 
 use crate::check_info::KnownPosition;
 use crate::destinations::{Destinations, all_destinations, enterable};
-use shogi_core::bits::{bits_from, has, lowest};
-use shogi_core::{FIRST_DROP, Move, Position, SQUARE_CODES, Square, is_piece_of};
+use shogi_core::bits::{bits_from, lowest};
+use shogi_core::{FIRST_DROP, Move, Position, SQUARE_CODES, Square, Squares, is_piece_of};
 
 /// The legal destinations of what stands on a square, kept from one move of it to the next.
 #[derive(Clone, Copy, Debug)]
@@ -32,8 +32,8 @@ pub fn kept_at(known: &KnownPosition<'_>, from: Square) -> KeptDestinations
         return KeptDestinations {
             from,
             destinations: Destinations {
-                plain: 0,
-                promoting: 0,
+                plain: Squares::none(),
+                promoting: Squares::none(),
             },
         };
     }
@@ -58,15 +58,19 @@ fn keep(known: &KnownPosition<'_>, from: Square, kept: &mut KeptDestinations)
 fn destinations_left(p: &Position, kept: &KeptDestinations, code: u16) -> Destinations
     requires kept { AreKept p.now kept.now }
     requires code { IsAtSquare kept.now.from code }
-    ensures plain { KeepsLegal p.now kept.now.from false code result.plain }
-    ensures promoting { KeepsLegal p.now kept.now.from true code result.promoting }
+    ensures plain { KeepsLegal p.now kept.now.from false code result.plain.bits }
+    ensures promoting { KeepsLegal p.now kept.now.from true code result.promoting.bits }
 {
     let _ = p;
     kept.from.validity();
     let passed = (code - kept.from.index() as u16 * SQUARE_CODES) as usize;
     Destinations {
-        plain: bits_from(kept.destinations.plain, (passed + 1) / 2),
-        promoting: bits_from(kept.destinations.promoting, passed / 2),
+        plain: Squares {
+            bits: bits_from(kept.destinations.plain.bits, (passed + 1) / 2),
+        },
+        promoting: Squares {
+            bits: bits_from(kept.destinations.promoting.bits, passed / 2),
+        },
     }
 }
 
@@ -94,14 +98,14 @@ fn least_destination(
     keep(known, from, kept);
     let destinations = destinations_left(p, kept, code);
     let both = destinations.plain | destinations.promoting;
-    if both == 0 {
+    if both.is_empty() {
         return None;
     }
-    let to = lowest(both);
+    let to = Square::of_index(lowest(both.bits));
     Some(Move::Board {
         from,
-        to: Square::of_index(to),
-        promote: !has(destinations.plain, to),
+        to,
+        promote: !destinations.plain.has(to),
     })
 }
 

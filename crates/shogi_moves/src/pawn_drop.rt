@@ -1,9 +1,9 @@
 //! Mate by the drop of a pawn, and where held pieces may legally be dropped.
 
-ghost use Rattle.std.specs.Prelude.{◌≡◌, ◌<◌, ◌^◌, ◌&&◌, ℕ, not, true, false};
+ghost use Rattle.std.specs.Prelude.{◌≡◌, ◌<◌, ◌&&◌, ℕ, not, true, false};
 ghost use Rattle.shogi_core.specs.declared.moves.Move.TheVariants as moves;
 ghost use Rattle.shogi_core.specs.declared.piece.Kind.TheVariants as kinds;
-ghost use Rattle.shogi_core.specs.Bits.{HasBits, IsMaskOf, has_bit};
+ghost use Rattle.shogi_core.specs.Bits.{HasBits, has_bit};
 ghost use Rattle.shogi_moves.specs.Destinations.{is_mating_square, AreDropSquares, AreLegalDrops};
 ghost use Rattle.shogi_moves.specs.Legal.{is_mated_by_drop, is_pawn_drop, is_pawn_drop_mate, is_safe};
 
@@ -13,7 +13,7 @@ use crate::drops::{is_pawn_kind, safe_drops};
 use crate::pawn_escape::leaves_pawn_escape;
 use crate::safe::has_safe;
 use shogi_core::bits::{cleared, lowest, without_lowest};
-use shogi_core::{Kind, Move, Piece, Position, Role, Square, step_squares};
+use shogi_core::{Kind, Move, Piece, Position, Role, Square, Squares, step_squares};
 
 /// Whether the side to move is in check and has no safe move.
 fn is_mated_by_drop(p: &Position) -> bool
@@ -42,15 +42,14 @@ pub fn is_pawn_drop_mate(p: &Position, m: &Move) -> bool
 
 /// The square from which a pawn of the side to move would attack the king of the other side.
 #[tactic(auto, using(crate::proofs::DropChecks::facing))]
-fn facing_squares(p: &Position) -> u128
-    ensures fits { result < 2 ^ 81 }
-    ensures far { (n : ℕ) → n < 81 → has_bit result n ≡ false
+fn facing_squares(p: &Position) -> Squares
+    ensures { (n : ℕ) → n < 81 → has_bit result.bits n ≡ false
         → is_mating_square p.now n ≡ false }
 {
     p.validity();
     let opponent = p.side().opponent();
     let Some(king) = p.king(opponent) else {
-        return 0
+        return Squares::none()
     };
     let pawn = Piece {
         color: opponent,
@@ -77,14 +76,13 @@ fn is_mating_drop(p: &Position, to: Square) -> bool
 
 /// Those of the safe drops of a pawn that do not mate; those that face the king are tried.
 #[tactic(auto, using(crate::proofs::DestinationLaws::sifting))]
-fn non_mating_drops(p: &Position, destinations: u128) -> u128
-    requires fits { destinations < 2 ^ 81 }
-    requires safe { HasBits destinations (λ n. is_safe p.now (moves.Drop kinds.Pawn n)) }
-    ensures squares { IsMaskOf result
-        (λ n. has_bit destinations n && not (is_mating_square p.now n)) }
+fn non_mating_drops(p: &Position, destinations: Squares) -> Squares
+    requires { HasBits destinations.bits (λ n. is_safe p.now (moves.Drop kinds.Pawn n)) }
+    ensures squares { HasBits result.bits
+        (λ n. has_bit destinations.bits n && not (is_mating_square p.now n)) }
 {
-    let mut left = destinations & facing_squares(p);
-    let mut kept = destinations;
+    let mut left = (destinations & facing_squares(p)).bits;
+    let mut kept = destinations.bits;
     while left != 0 {
         let to = lowest(left);
         if is_mating_drop(p, Square::of_index(to)) {
@@ -92,19 +90,19 @@ fn non_mating_drops(p: &Position, destinations: u128) -> u128
         }
         left = without_lowest(left, to);
     }
-    kept
+    Squares { bits: kept }
 }
 
 /// Where one of the held pieces may legally be dropped.
 #[inline(always)]
 #[tactic(auto, using(crate::proofs::DestinationLaws::legal_dropping))]
-pub fn drop_destinations(p: &Position, squares: u128, kind: Kind) -> u128
-    requires squares { AreDropSquares p.now squares }
-    ensures squares { AreLegalDrops p.now kind result }
+pub fn drop_destinations(p: &Position, squares: Squares, kind: Kind) -> Squares
+    requires squares { AreDropSquares p.now squares.bits }
+    ensures squares { AreLegalDrops p.now kind result.bits }
 {
     let destinations = safe_drops(p, squares, kind);
-    if destinations == 0 {
-        return 0;
+    if destinations.is_empty() {
+        return Squares::none();
     }
     match kind {
         Kind::Pawn => non_mating_drops(p, destinations),

@@ -1,65 +1,66 @@
 //! Whether a king that is given check by the drop of a pawn surely has a square to go to.
 
-ghost use Rattle.std.specs.Prelude.{◌≡◌, ◌<◌, ◌^◌, ℕ, true, false};
+ghost use Rattle.std.specs.Prelude.{◌≡◌, ◌<◌, ℕ, true, false};
 ghost use Rattle.shogi_core.specs.Attack.{is_attacked};
 ghost use Rattle.shogi_core.specs.Bits.{has_bit};
 ghost use Rattle.shogi_moves.specs.Destinations.{IsWithin, is_mating_square};
 ghost use Rattle.shogi_moves.specs.Escapes.{AreKingSteps, AreEscapes, HasOpenEscape};
 
-use shogi_core::bits::{has, lowest, with, without_lowest};
-use shogi_core::{Board, Color, Piece, Position, Role, Square, step_squares};
+use shogi_core::bits::{lowest, with, without_lowest};
+use shogi_core::{Board, Color, Piece, Position, Role, Square, Squares, step_squares};
 
 /// One of the squares that the side does not attack, if there is one.
-fn first_unattacked(board: &Board, by: Color, squares: u128) -> u128
-    requires { squares < 2 ^ 81 }
-    ensures squares { IsWithin result squares }
-    ensures safe { (n : ℕ) → n < 81 → has_bit result n ≡ true
+fn first_unattacked(board: &Board, by: Color, squares: Squares) -> Squares
+    ensures squares { IsWithin result.bits squares.bits }
+    ensures safe { (n : ℕ) → n < 81 → has_bit result.bits n ≡ true
         → is_attacked board.now by n ≡ false }
-    ensures fits { result < 2 ^ 81 }
 {
-    let mut left = squares;
+    let mut left = squares.bits;
     while left != 0 {
         let square = lowest(left);
         if !board.is_attacked(by, Square::of_index(square)) {
-            return squares & with(0, square);
+            return Squares {
+                bits: squares.bits & with(0, square),
+            };
         }
         left = without_lowest(left, square);
     }
-    0
+    Squares::none()
 }
 
 /// Squares next to the king of the side that is not to move, where it has just one and none of its
 /// own pieces stands.
-pub fn king_steps(p: &Position) -> u128
-    ensures { AreKingSteps p.now result }
+pub fn king_steps(p: &Position) -> Squares
+    ensures { AreKingSteps p.now result.bits }
 {
     let board = p.as_board();
     let side = p.side().opponent();
-    let Some(king) = p.king(side) else { return 0 };
-    board.targets(king) & !board.own(side)
+    let Some(king) = p.king(side) else {
+        return Squares::none()
+    };
+    board.targets(king).without(board.own(side))
 }
 
-/// One of those squares among the ones of the mask, if there is one.
-fn first_escape(p: &Position, among: u128) -> u128
-    ensures { AreEscapes p.now result }
+/// One of those squares that is not closed, if there is one.
+fn first_escape(p: &Position, closed: Squares) -> Squares
+    ensures { AreEscapes p.now result.bits }
 {
     p.validity();
-    first_unattacked(p.as_board(), p.side(), king_steps(p) & among)
+    first_unattacked(p.as_board(), p.side(), king_steps(p).without(closed))
 }
 
 /// Whether the king of the side that is not to move has one of the squares left that is not closed
 /// and not where a move ends.
-pub fn has_open(p: &Position, escapes: u128, closed: u128, to: Square) -> bool
-    requires { AreEscapes p.now escapes }
-    ensures { result ≡ true → HasOpenEscape p.now closed to }
+pub fn has_open(p: &Position, escapes: Squares, closed: Squares, to: Square) -> bool
+    requires { AreEscapes p.now escapes.bits }
+    ensures { result ≡ true → HasOpenEscape p.now closed.bits to }
 {
     to.validity();
-    let end = to.index();
     let kings = p.as_board().kings(p.side().opponent());
-    if kings == 0 || has(kings, end) {
+    if kings.is_empty() || kings.has(to) {
         return false;
     }
-    escapes & !closed & !(1 << end) != 0
+    !escapes.without(closed).except(to).is_empty()
 }
 
 /// Whether one of the squares is surely left to the king after the drop of a pawn, which then does
@@ -74,5 +75,5 @@ pub fn leaves_pawn_escape(p: &Position, to: Square) -> bool
         role: Role::Pawn,
     };
     let reach = step_squares(pawn, to.index());
-    has_open(p, first_escape(p, !(reach | 1 << to.index())), reach, to)
+    has_open(p, first_escape(p, reach.with(to)), reach, to)
 }

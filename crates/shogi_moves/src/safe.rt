@@ -1,6 +1,6 @@
 //! Whether some move is safe: legal but for mate by the drop of a pawn.
 
-ghost use Rattle.std.specs.Prelude.{◌≡◌, ◌<◌, ◌^◌, ◌≢◌, true, false, []};
+ghost use Rattle.std.specs.Prelude.{◌≡◌, ◌≢◌, true, false, []};
 ghost use Rattle.shogi_core.specs.declared.moves.TheConstants.{MOVE_CODE_COUNT};
 ghost use Rattle.shogi_core.specs.Attack.{in_check};
 ghost use Rattle.shogi_core.specs.Below.{some_below};
@@ -12,21 +12,19 @@ use crate::check_info::{KnownPosition, full_check_info};
 use crate::destinations::{all_destinations, enterable, is_king_safe};
 use crate::drops::{drop_squares, safe_drops};
 use shogi_core::bits::{lowest, without_lowest};
-use shogi_core::squares::find;
-use shogi_core::{Kind, Position, Square};
+use shogi_core::{Kind, Position, Square, Squares};
 
 /// Whether the king of the side to move may go to one of the squares, which it reaches and where no
 /// piece of its own stands.
-fn king_escapes(p: &Position, from: Square, destinations: u128) -> bool
+fn king_escapes(p: &Position, from: Square, destinations: Squares) -> bool
     requires king { is_own_king p.now from ≡ true }
-    requires destinations { AreEnterable p.now from destinations }
-    requires fits { destinations < 2 ^ 81 }
+    requires destinations { AreEnterable p.now from destinations.bits }
     ensures { result ≡ true → legal_codes p.now ≢ [] }
 {
     from.validity();
     let mut lifted = *p.as_board();
     lifted.set(from, None);
-    let Some(to) = find(destinations, |to| is_king_safe(p, &lifted, from, to)) else {
+    let Some(to) = destinations.find(|to| is_king_safe(p, &lifted, from, to)) else {
         return false
     };
     to.validity();
@@ -43,7 +41,7 @@ pub fn has_king_move(p: &Position) -> bool
         return false
     };
     let own = board.own(p.side());
-    king_escapes(p, from, board.targets(from) & !own)
+    king_escapes(p, from, board.targets(from).without(own))
 }
 
 /// Whether a piece on the board has a legal move.
@@ -53,12 +51,12 @@ fn has_board_move(known: &KnownPosition<'_>) -> bool
 {
     let p = known.position;
     let squares = enterable(p);
-    let mut left = p.as_board().own(p.side());
+    let mut left = p.as_board().own(p.side()).bits;
     'pieces: while left != 0 {
         let square = lowest(left);
         let from = Square::of_index(square);
         let destinations = all_destinations(known, from, squares);
-        if destinations.plain | destinations.promoting != 0 {
+        if !(destinations.plain | destinations.promoting).is_empty() {
             return true;
         }
         left = without_lowest(left, square);
@@ -67,14 +65,14 @@ fn has_board_move(known: &KnownPosition<'_>) -> bool
 }
 
 /// Whether a held piece other than a pawn has a legal drop.
-pub fn has_piece_drop(p: &Position, squares: u128) -> bool
-    requires { AreDropSquares p.now squares }
+pub fn has_piece_drop(p: &Position, squares: Squares) -> bool
+    requires { AreDropSquares p.now squares.bits }
     ensures some { result ≡ true → legal_codes p.now ≢ [] }
     ensures none { result ≡ false → HasNoPieceDrop p.now }
 {
     let mut kind = Kind::Pawn;
     'kinds: while let Some(next) = kind.next() {
-        if safe_drops(p, squares, next) != 0 {
+        if !safe_drops(p, squares, next).is_empty() {
             return true;
         }
         kind = next;
@@ -104,5 +102,5 @@ pub fn has_safe(p: &Position) -> bool
     if has_other_move(&known) {
         return true;
     }
-    safe_drops(p, drop_squares(&known), Kind::Pawn) != 0
+    !safe_drops(p, drop_squares(&known), Kind::Pawn).is_empty()
 }

@@ -1,6 +1,6 @@
 //! Ways through the legal moves of a kind, which keep the destinations of the present piece.
 
-ghost use Rattle.std.specs.Prelude.{◌≡◌, ◌≢◌, ◌<◌, ◌≤◌, ◌+◌, ◌*◌, ◌^◌, ◌∷◌, [], ℕ, true, false, IfSome, IsNone, MatchOption, bit_or};
+ghost use Rattle.std.specs.Prelude.{◌≡◌, ◌≢◌, ◌<◌, ◌≤◌, ◌+◌, ◌*◌, ◌∷◌, [], ℕ, true, false, IfSome, IsNone, MatchOption, bit_or};
 ghost use Rattle.shogi_core.specs.declared.moves.TheConstants.{FIRST_DROP};
 ghost use Rattle.shogi_core.specs.declared.moves.Move.TheVariants as moves;
 ghost use Rattle.shogi_core.specs.Cell.{is_piece_of};
@@ -14,8 +14,8 @@ use crate::destinations::{Destinations, legal_destinations, matching_destination
 use crate::drops::drop_squares;
 use crate::movers::matching_movers;
 use crate::pawn_drop::drop_destinations;
-use shogi_core::bits::{bits_above, bits_from, has, lowest, without_lowest};
-use shogi_core::{FIRST_DROP, Kind, Move, Position, SQUARE_CODES, Square, is_piece_of};
+use shogi_core::bits::{bits_above, bits_from, lowest, without_lowest};
+use shogi_core::{FIRST_DROP, Kind, Move, Position, SQUARE_CODES, Square, Squares, is_piece_of};
 
 /// What is still to come of the board moves of a kind, in the order of codes: the legal
 /// destinations of the piece on one square, and all of those above it.
@@ -30,9 +30,9 @@ pub struct BoardSweep {
 /// What is still to come of the drops, in the order of codes.
 #[derive(Clone, Copy, Debug)]
 pub struct DropSweep {
-    pub squares: u128,
+    pub squares: Squares,
     pub kind: Kind,
-    pub destinations: u128,
+    pub destinations: Squares,
     pub code: u16,
 }
 
@@ -49,8 +49,8 @@ fn destinations_on(known: &KnownPosition<'_>, capture: bool, from: Square) -> De
         legal_destinations(known, from, among)
     } else {
         Destinations {
-            plain: 0,
-            promoting: 0,
+            plain: Squares::none(),
+            promoting: Squares::none(),
         }
     }
 }
@@ -88,16 +88,18 @@ impl BoardSweep {
             self.destinations.promoting,
         );
         from.validity();
-        let to = lowest(plain | promoting);
+        let to = lowest((plain | promoting).bits);
         let end = Square::of_index(to);
-        if has(plain, to) {
+        if plain.has(end) {
             let m = Move::Board {
                 from,
                 to: end,
                 promote: false,
             };
             let code = m.code_above();
-            self.destinations.plain = without_lowest(plain, to);
+            self.destinations.plain = Squares {
+                bits: without_lowest(plain.bits, to),
+            };
             self.code = code;
             return m;
         }
@@ -107,7 +109,9 @@ impl BoardSweep {
             promote: true,
         };
         let code = m.code_above();
-        self.destinations.promoting = without_lowest(promoting, to);
+        self.destinations.promoting = Squares {
+            bits: without_lowest(promoting.bits, to),
+        };
         self.code = code;
         m
     }
@@ -117,7 +121,8 @@ impl BoardSweep {
     #[tactic(auto, using(crate::proofs::SweepLaws::sweeping))]
     fn refill(&mut self, p: &Position, capture: bool) -> bool
         requires kept { IsBoardSweep p.now capture self.old }
-        requires none { bit_or self.old.destinations.plain self.old.destinations.promoting ≡ 0 }
+        requires none { bit_or self.old.destinations.plain.bits
+            self.old.destinations.promoting.bits ≡ 0 }
         ensures kept { IsBoardSweep p.now capture self.new }
         ensures some { result ≡ true → ContinuesBoard p.now capture self.old self.new }
         ensures end { result ≡ false
@@ -128,15 +133,17 @@ impl BoardSweep {
         let known = self.info.at(p);
         let matching = matching_destinations(p, capture);
         let board = p.as_board();
-        let pieces = bits_above(board.own(p.side()), self.from.index());
-        let mut left = matching_movers(p, capture, pieces);
+        let pieces = Squares {
+            bits: bits_above(board.own(p.side()).bits, self.from.index()),
+        };
+        let mut left = matching_movers(p, capture, pieces).bits;
         'squares: while left != 0 {
             let square = lowest(left);
             let from = Square::of_index(square);
             let among = board.targets(from) & matching;
-            if among != 0 {
+            if !among.is_empty() {
                 let destinations = legal_destinations(&known, from, among);
-                if destinations.plain | destinations.promoting != 0 {
+                if !(destinations.plain | destinations.promoting).is_empty() {
                     self.from = from;
                     self.destinations = destinations;
                     self.code = square as u16 * SQUARE_CODES;
@@ -159,7 +166,7 @@ impl BoardSweep {
             → board_left p.now capture self.old ≡ matching_drops p.now capture }
         ensures same { result ≡ false → self.new.code ≡ self.old.code }
     {
-        if self.destinations.plain | self.destinations.promoting != 0 {
+        if !(self.destinations.plain | self.destinations.promoting).is_empty() {
             return true;
         }
         self.refill(p, capture)
@@ -192,8 +199,12 @@ impl BoardSweep {
         let _ = p;
         let _ = capture;
         self.from.validity();
-        self.destinations.plain = bits_from(self.destinations.plain, to);
-        self.destinations.promoting = bits_from(self.destinations.promoting, to);
+        self.destinations.plain = Squares {
+            bits: bits_from(self.destinations.plain.bits, to),
+        };
+        self.destinations.promoting = Squares {
+            bits: bits_from(self.destinations.promoting.bits, to),
+        };
         self.code = self.from.index() as u16 * SQUARE_CODES + 2 * to as u16;
     }
 
@@ -210,8 +221,8 @@ impl BoardSweep {
         let _ = capture;
         self.from = Square::of_index(square - 1);
         self.destinations = Destinations {
-            plain: 0,
-            promoting: 0,
+            plain: Squares::none(),
+            promoting: Squares::none(),
         };
         self.code = square as u16 * SQUARE_CODES;
     }
@@ -243,7 +254,12 @@ impl DropSweep {
         DropSweep {
             squares,
             kind,
-            destinations: bits_above(drop_destinations(known.position, squares, kind), to.index()),
+            destinations: Squares {
+                bits: bits_above(
+                    drop_destinations(known.position, squares, kind).bits,
+                    to.index(),
+                ),
+            },
             code: Move::Drop { kind, to }.code_above(),
         }
     }
@@ -252,18 +268,20 @@ impl DropSweep {
     #[inline(always)]
     fn take(&mut self, p: &Position) -> Move
         requires kept { IsDropSweep p.now self.old }
-        requires some { self.old.destinations ≢ 0 }
+        requires some { self.old.destinations.bits ≢ 0 }
         ensures kept { IsDropSweep p.now self.new }
         ensures next { drops_left p.now self.old ≡ code_of result ∷ drops_left p.now self.new }
         ensures code { self.new.code ≡ code_of result + 1 }
         ensures legal { is_legal p.now result ≡ true }
     {
-        let (kind, destinations) = (self.kind, self.destinations);
+        let (kind, destinations) = (self.kind, self.destinations.bits);
         let to = lowest(destinations);
         let end = Square::of_index(to);
         let m = Move::Drop { kind, to: end };
         let code = m.code_above();
-        self.destinations = without_lowest(destinations, to);
+        self.destinations = Squares {
+            bits: without_lowest(destinations, to),
+        };
         self.code = code;
         m
     }
@@ -272,7 +290,7 @@ impl DropSweep {
     #[inline(never)]
     fn refill(&mut self, p: &Position) -> bool
         requires kept { IsDropSweep p.now self.old }
-        requires none { self.old.destinations ≡ 0 }
+        requires none { self.old.destinations.bits ≡ 0 }
         ensures kept { IsDropSweep p.now self.new }
         ensures some { result ≡ true → ContinuesDrops p.now self.old self.new }
         ensures end { result ≡ false → drops_left p.now self.old ≡ [] }
@@ -282,7 +300,7 @@ impl DropSweep {
         let mut kind = self.kind;
         'kinds: while let Some(next) = kind.next() {
             let destinations = drop_destinations(p, squares, next);
-            if destinations != 0 {
+            if !destinations.is_empty() {
                 self.kind = next;
                 self.destinations = destinations;
                 self.code = FIRST_DROP + next.number() as u16 * 81;
@@ -303,7 +321,7 @@ impl DropSweep {
         ensures end { result ≡ false → drops_left p.now self.old ≡ [] }
         ensures same { result ≡ false → self.new.code ≡ self.old.code }
     {
-        if self.destinations != 0 {
+        if !self.destinations.is_empty() {
             return true;
         }
         self.refill(p)
@@ -335,7 +353,9 @@ impl DropSweep {
         ensures code { self.new.code ≡ FIRST_DROP + kind_number self.old.kind * 81 + to }
     {
         let _ = p;
-        self.destinations = bits_from(self.destinations, to);
+        self.destinations = Squares {
+            bits: bits_from(self.destinations.bits, to),
+        };
         self.code = FIRST_DROP + self.kind.number() as u16 * 81 + to as u16;
     }
 }

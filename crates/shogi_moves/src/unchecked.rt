@@ -6,7 +6,6 @@ ghost use Rattle.shogi_moves.specs.Destinations.{is_own_king, is_unchecked};
 ghost use Rattle.shogi_moves.specs.Legal.{is_pseudo_legal};
 
 use crate::after::is_checked_after;
-use shogi_core::bits::{with, without};
 use shogi_core::{Move, Position, Square};
 
 /// Whether the move, which is made on a board of its own, leaves the mover's king unattacked.
@@ -33,8 +32,8 @@ fn is_king_unattacked(p: &Position, king: Square, m: &Move) -> bool
         Move::Board { from, to, .. } => {
             from.validity();
             to.validity();
-            let among = without(theirs, to.index());
-            let occupied = with(without(board.occupied(), from.index()), to.index());
+            let among = theirs.except(*to);
+            let occupied = board.occupied().except(*from).with(*to);
             if from.index() == king.index() {
                 return !board.is_attacked_among(*to, among, occupied);
             }
@@ -42,7 +41,7 @@ fn is_king_unattacked(p: &Position, king: Square, m: &Move) -> bool
         }
         Move::Drop { to, .. } => {
             to.validity();
-            let occupied = with(board.occupied(), to.index());
+            let occupied = board.occupied().with(*to);
             !board.is_attacked_among(king, theirs, occupied)
         }
     }

@@ -20,7 +20,7 @@ use Rattle.shogi_core.proofs.SeenLaws.{leads_back, slides_back}
 use Rattle.shogi_replies.specs.Replies.{IsHarmless, Sees}
 use Rattle.shogi_replies.proofs.ReplyLaws.{harmless_far}
 
--- from a square that is not of the mask the piece attacks none of the kings of the side that are not left
+-- from a square that is not in the set the piece attacks none of the kings of the side that are not left
 pub record ChecksWithin (cells : Cells) (side : Color) (cell : Option Piece)
     (left checks : ℕ) : Type 0 where
   pub harmless : (k n : ℕ) → k < 81 → n < 81 → is_king side (piece_at cells k) ≡ true
@@ -88,7 +88,7 @@ checks_done cells side cell checks c n h out = λ k l king. c.harmless k n l h k
 
 -- ---- squares on which a piece may give check
 
--- those of a mask that are not seen
+-- those of some squares that are not seen
 pub unseen_squares : (destinations sight n : ℕ) → has_bit destinations n ≡ true → has_bit (bit_and destinations sight) n ≡ false → has_bit sight n ≡ false
 unseen_squares destinations sight n set out = false_from_ne_true (has_bit sight n) (λ seen. both_ways (has_bit (bit_and destinations sight) n) out (has_bit-and destinations sight n ∙ and_from _ _ set seen))
 

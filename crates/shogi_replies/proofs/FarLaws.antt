@@ -131,7 +131,7 @@ far_plain p a n ha hn own still far r =
     let close : IsClose a n = near_close a n ha hn step in
     stays_plain p.side (piece_at p.cells a) a n own (off_zone_near p.side a a far (omega arith) (omega arith)) (off_zone_near p.side a n far close.above close.below)
 
--- one of the squares that is out of all three masks
+-- one of the squares that is in none of three sets
 pub out_of_all : (own x y z a : ℕ) → a < 81 → bit_or (bit_or x y) z < 2 ^ 128 → has_bit (bit_and own (2 ^ 128 - 1 - bit_or (bit_or x y) z)) a ≡ true
     → (has_bit own a ≡ true) × (has_bit x a ≡ false) × (has_bit y a ≡ false) × (has_bit z a ≡ false)
 out_of_all own x y z a h fits set =

@@ -174,7 +174,7 @@ pub taken_drop : (p : Shogi) (kind : Kind) (escapes kings to : ℕ) → IsValid 
 taken_drop p kind escapes kings to v ht h fits bits some among =
     let low = lowest_set kings some fits in
     let crown : is_king (opponent_of p.side) (piece_at p.cells (trailing_zeros w128 kings)) ≡ true = sym (bits (trailing_zeros w128 kings) low.0) ∙ low.1 in
-    let way : IsEscape p.cells (opponent_of p.side) (trailing_zeros w128 kings) to = h.escapes (trailing_zeros w128 kings) to low.0 crown ht among in
+    let way : IsEscape p.cells (opponent_of p.side) (trailing_zeros w128 kings) to = h (trailing_zeros w128 kings) to low.0 crown ht among in
     reply_by (after p (Drop kind to)) (trailing_zeros w128 kings) to low.0 ht
     (takes p.cells (opponent_of p.side) (trailing_zeros w128 kings) to (dropped p.side kind) v.cells_fit low.0 ht crown way.step.lone way.step.reached
     (ap (λ (color : Color). is_piece_of color (dropped p.side kind)) (opponent_twice p.side) ∙ dropped_of p.side kind) way.safe (after p (Drop kind to)).hands)

@@ -93,32 +93,32 @@ leaves_reply p escapes c m at back listed certain =
     }
 
 -- a matching move on the board that is certain, without promotion and with it
-certain_move : (p : Shogi) (capture : Bool) (row : Row) (first c from n : ℕ) → from < 81 → n < 81 → first ≤ c → c ≡ code_of (Board from n false) → is_matching p capture c ≡ true → has_bit row.pieces from ≡ true → has_bit row.squares n ≡ true → IsCertain p row.escapes (Board from n false) → IsCertainMove p capture row first c
+certain_move : (p : Shogi) (capture : Bool) (row : Row) (first c from n : ℕ) → from < 81 → n < 81 → first ≤ c → c ≡ code_of (Board from n false) → is_matching p capture c ≡ true → has_bit row.pieces.bits from ≡ true → has_bit row.squares.bits n ≡ true → IsCertain p row.escapes.bits (Board from n false) → IsCertainMove p capture row first c
 certain_move p capture row first c from n hf hn above at matching piece set certain = record {
   above = above;
   on_board = omega (arith, at);
-  piece = subst (λ (k : ℕ). has_bit row.pieces k ≡ true) (omega (arith, at)) piece;
-  end = subst (λ (k : ℕ). has_bit row.squares k ≡ true) (omega (arith, at)) set;
+  piece = subst (λ (k : ℕ). has_bit row.pieces.bits k ≡ true) (omega (arith, at)) piece;
+  end = subst (λ (k : ℕ). has_bit row.squares.bits k ≡ true) (omega (arith, at)) set;
   promoting = λ odd. absurd (omega (arith, at, odd));
   matching = matching;
-  leaves = leaves_reply p row.escapes c (Board from n false) at (move_of-board from n false hf hn) (and_parts _ _ matching).0 certain;
+  leaves = leaves_reply p row.escapes.bits c (Board from n false) at (move_of-board from n false hf hn) (and_parts _ _ matching).0 certain;
 }
 
-certain_promotion : (p : Shogi) (capture : Bool) (row : Row) (first c from n : ℕ) → from < 81 → n < 81 → first ≤ c → c ≡ code_of (Board from n true) → is_matching p capture c ≡ true → has_bit row.pieces from ≡ true → has_bit row.squares n ≡ true → lets_promote row.promoting (piece_at p.cells from) ≡ true → IsCertain p row.escapes (Board from n true) → IsCertainMove p capture row first c
+certain_promotion : (p : Shogi) (capture : Bool) (row : Row) (first c from n : ℕ) → from < 81 → n < 81 → first ≤ c → c ≡ code_of (Board from n true) → is_matching p capture c ≡ true → has_bit row.pieces.bits from ≡ true → has_bit row.squares.bits n ≡ true → lets_promote row.promoting (piece_at p.cells from) ≡ true → IsCertain p row.escapes.bits (Board from n true) → IsCertainMove p capture row first c
 certain_promotion p capture row first c from n hf hn above at matching piece set lets certain = record {
   above = above;
   on_board = omega (arith, at);
-  piece = subst (λ (k : ℕ). has_bit row.pieces k ≡ true) (omega (arith, at)) piece;
-  end = subst (λ (k : ℕ). has_bit row.squares k ≡ true) (omega (arith, at)) set;
+  piece = subst (λ (k : ℕ). has_bit row.pieces.bits k ≡ true) (omega (arith, at)) piece;
+  end = subst (λ (k : ℕ). has_bit row.squares.bits k ≡ true) (omega (arith, at)) set;
   promoting = λ odd. subst (λ (k : ℕ). lets_promote row.promoting (piece_at p.cells k) ≡ true) (omega (arith, at)) lets;
   matching = matching;
-  leaves = leaves_reply p row.escapes c (Board from n true) at (move_of-board from n true hf hn) (and_parts _ _ matching).0 certain;
+  leaves = leaves_reply p row.escapes.bits c (Board from n true) at (move_of-board from n true hf hn) (and_parts _ _ matching).0 certain;
 }
 
 -- those below another code are passed, where each of them is certain
-pub destinations_passed : (p : Shogi) (capture : Bool) (row : Row) (from code next plain promoting first : ℕ) → from < 81 → has_bit row.pieces from ≡ true → KeepsBoard p capture from code plain promoting → first ≤ code → code ≤ next → next ≤ from * SQUARE_CODES + SQUARE_CODES
-    → ((n : ℕ) → n < 81 → has_bit plain n ≡ true → code_of (Board from n false) < next → (has_bit row.squares n ≡ true) × IsCertain p row.escapes (Board from n false))
-    → ((n : ℕ) → n < 81 → has_bit promoting n ≡ true → code_of (Board from n true) < next → (has_bit row.squares n ≡ true) × (lets_promote row.promoting (piece_at p.cells from) ≡ true) × IsCertain p row.escapes (Board from n true))
+pub destinations_passed : (p : Shogi) (capture : Bool) (row : Row) (from code next plain promoting first : ℕ) → from < 81 → has_bit row.pieces.bits from ≡ true → KeepsBoard p capture from code plain promoting → first ≤ code → code ≤ next → next ≤ from * SQUARE_CODES + SQUARE_CODES
+    → ((n : ℕ) → n < 81 → has_bit plain n ≡ true → code_of (Board from n false) < next → (has_bit row.squares.bits n ≡ true) × IsCertain p row.escapes.bits (Board from n false))
+    → ((n : ℕ) → n < 81 → has_bit promoting n ≡ true → code_of (Board from n true) < next → (has_bit row.squares.bits n ≡ true) × (lets_promote row.promoting (piece_at p.cells from) ≡ true) × IsCertain p row.escapes.bits (Board from n true))
     → IsPassed (IsCertainMove p capture row first) (matching_from p capture code) (matching_from p capture next)
 destinations_passed p capture row from code next plain promoting first hf piece k low up high plainly by_promotion =
     passed_to p capture (IsCertainMove p capture row first) code next up (omega arith) (λ c above below matching.
@@ -168,10 +168,10 @@ promoting_among p capture from n len hf hn own matching =
 
 -- no move of a piece but certain ones
 pub certain_moves : (p : Shogi) (capture : Bool) (row : Row) (from ends zone certain promotions promoted : ℕ) → ((n : ℕ) → n < 81 → has_bit ends n ≡ is_reached p capture from n) → ((n : ℕ) → n < 81 → has_bit zone n ≡ may_promote (piece_at p.cells from) from n)
-    → has_bit row.pieces from ≡ true → row.squares < 2 ^ 128 → promotions < 2 ^ 128 → ((n : ℕ) → has_bit promotions n ≡ true → lets_promote row.promoting (piece_at p.cells from) ≡ true) → ((n : ℕ) → n < 81 → has_bit certain n ≡ true → IsCertain p row.escapes (Board from n false)) → ((n : ℕ) → n < 81 → has_bit promoted n ≡ true → IsCertain p row.escapes (Board from n true))
-    → bit_or (bit_and ends (2 ^ 128 - 1 - bit_and row.squares certain)) (bit_and (bit_and ends zone) (2 ^ 128 - 1 - bit_and promotions promoted)) ≡ 0 → HasCertainMoves p capture row from
+    → has_bit row.pieces.bits from ≡ true → row.squares.bits < 2 ^ 128 → promotions < 2 ^ 128 → ((n : ℕ) → has_bit promotions n ≡ true → lets_promote row.promoting (piece_at p.cells from) ≡ true) → ((n : ℕ) → n < 81 → has_bit certain n ≡ true → IsCertain p row.escapes.bits (Board from n false)) → ((n : ℕ) → n < 81 → has_bit promoted n ≡ true → IsCertain p row.escapes.bits (Board from n true))
+    → bit_or (bit_and ends (2 ^ 128 - 1 - bit_and row.squares.bits certain)) (bit_and (bit_and ends zone) (2 ^ 128 - 1 - bit_and promotions promoted)) ≡ 0 → HasCertainMoves p capture row from
 certain_moves p capture row from ends zone certain promotions promoted ends_bits zone_bits piece f g lets answered by_promotion none =
-    let at : (n : ℕ) → n < 81 → _ = λ n h. of_both ends row.squares certain (bit_and ends zone) promotions promoted n f g h (ap (λ m. has_bit m n) none ∙ has_bit-none n) in
+    let at : (n : ℕ) → n < 81 → _ = λ n h. of_both ends row.squares.bits certain (bit_and ends zone) promotions promoted n f g h (ap (λ m. has_bit m n) none ∙ has_bit-none n) in
     record {
       piece = piece;
       plain = λ n h e. (let it : _ = (at n h).0 (ends_bits n h ∙ e) in (it.0, answered n h it.1));

@@ -35,7 +35,7 @@ opposite (suc (suc (suc (suc (suc (suc zero)))))) h = refl
 opposite (suc (suc (suc (suc (suc (suc (suc zero))))))) h = refl
 opposite (suc (suc (suc (suc (suc (suc (suc (suc d)))))))) h = absurd (omega arith)
 
--- the mask has those of the first directions
+-- the set has those of the first directions
 abbrev pub HasBetweenBelow : ℕ → ℕ → ℕ → ℕ → Type 0
 HasBetweenBelow from to count mask = (d n : ℕ) → d < count → n < 81 → is_on_ray (direction_at d) from n ≡ true
     → is_on_ray (direction_at d) n to ≡ true → has_bit mask n ≡ true

@@ -1,5 +1,5 @@
 -- After most moves the other side has a legal move.
-use Rattle.std.proofs.Common.{◌≡◌, ◌≢◌, ℕ, ◌+◌, ◌-◌, ◌*◌, ◌%◌, ◌^◌, ◌<◌, ◌⊎◌, Bool, true, false, not, Option, Some, None, [], refl, sym, ap, subst, ◌∙◌, arith, inl, inr, set, length, length-set, get_or-set_same, get_or-set_other, bit_and, bit_or, cond}
+use Rattle.std.proofs.Common.{◌≡◌, ◌≢◌, ℕ, ◌+◌, ◌-◌, ◌^◌, ◌<◌, ◌⊎◌, Bool, true, false, not, Option, Some, None, [], refl, sym, ap, subst, ◌∙◌, arith, inl, inr, set, length, length-set, get_or-set_same, get_or-set_other, bit_and, bit_or, cond}
 use Rattle.std.specs.Prelude.{◌==◌, ◌&&◌, ◌||◌, nat_lt, is_none}
 use Rattle.std.specs.Int.{trailing_zeros, w128}
 use Rattle.std.proofs.lemmas.Bool.{cases_eq, false_from_ne_true, both_ways, and_parts, and_from, or_left, or_right, or_cases, or_parts, not-true, not_from_false, ne_eqb, eq-eqb}
@@ -38,7 +38,7 @@ use Rattle.shogi_replies.specs.Replies.{holds_free, is_line_of_king, is_aligned_
 use Rattle.shogi_moves.proofs.DropChecks as drops
 use Rattle.shogi_moves.proofs.DestinationLaws.{legal_board, legal_drop, drop_matching, still}
 use Rattle.shogi_moves.proofs.ExistenceLaws.{some_legal}
-use Rattle.shogi_moves.proofs.EscapeLaws.{another, crowned}
+use Rattle.shogi_moves.proofs.EscapeLaws.{crowned}
 use Rattle.shogi_moves.proofs.CheckInfoLaws.{look, other_side, own_some, is_piece_of-piece_moved, dropped_of, quiet_board, quiet_drop}
 use Rattle.shogi_moves.proofs.LegalLaws.{is_legal_code_of}
 
@@ -550,17 +550,24 @@ legal_own p from to promote e =
     let two = and_parts _ _ three.0 in
     (and_parts _ _ two.0).0
 
-pub certain_board : (p : Shogi) (from to end : ℕ) (promote : Bool) (sight spare : ℕ) → IsValid p → IsReplies p sight spare → from < 81 → to < 81 → end ≡ to → is_legal p (Board from to promote) ≡ true → in_check (after p (Board from to promote)).cells (opponent_of p.side) ≡ false
-    → bit_and spare (2 ^ 128 - 1 - 1 * 2 ^ end % 2 ^ 128) ≢ 0 → legal_codes (after p (Board from to promote)) ≢ []
-certain_board p from to end promote sight spare v r hf ht e legal shut some =
-    let a = another spare end r.fits (omega arith) some in
-    replied_shut p from to promote sight spare a.0 v r hf ht (legal_own p from to promote legal) shut a.1 a.2 (λ same. a.3 (same ∙ sym e))
+-- one of the squares that give a move is another than that where the move ends
+another_than : (spare free to : ℕ) → free < 2 ^ 81 → ((i : ℕ) → has_bit free i ≡ (has_bit spare i && not (i == to))) → free ≢ 0 → (a : ℕ) × (a < 81) × (has_bit spare a ≡ true) × (a ≢ to)
+another_than spare free to fits bits some =
+    let low = lowest_set free some fits in
+    let parts : (has_bit spare (trailing_zeros w128 free) ≡ true) × (not (trailing_zeros w128 free == to) ≡ true) = and_parts _ _ (sym (bits (trailing_zeros w128 free)) ∙ low.1) in
+    (trailing_zeros w128 free, low.0, parts.0, λ e. both_ways _ (ap not (eq-eqb _ to e)) parts.1)
 
-pub certain_drop : (p : Shogi) (kind : Kind) (to end sight spare : ℕ) → IsValid p → IsReplies p sight spare → to < 81 → end ≡ to → IsHarmless p.cells (opponent_of p.side) (dropped p.side kind) to
-    → bit_and spare (2 ^ 128 - 1 - 1 * 2 ^ end % 2 ^ 128) ≢ 0 → legal_codes (after p (Drop kind to)) ≢ []
-certain_drop p kind to end sight spare v r ht e off some =
-    let a = another spare end r.fits (omega arith) some in
-    replied_drop p kind to sight spare a.0 v r ht off a.1 a.2 (λ same. a.3 (same ∙ sym e))
+pub certain_board : (p : Shogi) (from to : ℕ) (promote : Bool) (sight spare free : ℕ) → IsValid p → IsReplies p sight spare → free < 2 ^ 81 → from < 81 → to < 81 → is_legal p (Board from to promote) ≡ true → in_check (after p (Board from to promote)).cells (opponent_of p.side) ≡ false
+    → ((i : ℕ) → has_bit free i ≡ (has_bit spare i && not (i == to))) → free ≢ 0 → legal_codes (after p (Board from to promote)) ≢ []
+certain_board p from to promote sight spare free v r fits hf ht legal shut bits some =
+    let a = another_than spare free to fits bits some in
+    replied_shut p from to promote sight spare a.0 v r hf ht (legal_own p from to promote legal) shut a.1 a.2 a.3
+
+pub certain_drop : (p : Shogi) (kind : Kind) (to sight spare free : ℕ) → IsValid p → IsReplies p sight spare → free < 2 ^ 81 → to < 81 → IsHarmless p.cells (opponent_of p.side) (dropped p.side kind) to
+    → ((i : ℕ) → has_bit free i ≡ (has_bit spare i && not (i == to))) → free ≢ 0 → legal_codes (after p (Drop kind to)) ≢ []
+certain_drop p kind to sight spare free v r fits ht off bits some =
+    let a = another_than spare free to fits bits some in
+    replied_drop p kind to sight spare a.0 v r ht off a.1 a.2 a.3
 
 -- ---- squares in a row
 
@@ -580,12 +587,15 @@ other_than spare one n h set other = (one, h, set, λ e. both_ways _ (ap not (eq
 pub unseen_bit : (sight n : ℕ) → sight < 2 ^ 128 → n < 81 → has_bit (2 ^ 128 - 1 - sight) n ≡ true → has_bit sight n ≡ false
 unseen_bit sight n fits h e = false_from_ne_true (has_bit sight n) (λ seen. both_ways (has_bit (2 ^ 128 - 1 - sight) n) (has_bit-not sight n fits (omega arith) ∙ ap not seen) e)
 
+pub not_closed : (all closed n : ℕ) → closed < 2 ^ 128 → n < 81 → has_bit (bit_and all (2 ^ 128 - 1 - closed)) n ≡ true → has_bit closed n ≡ false
+not_closed all closed n fits h e = unseen_bit closed n fits h (and_parts _ _ (sym (has_bit-and all (2 ^ 128 - 1 - closed) n) ∙ e)).1
+
 -- a piece that does not promote stays what it is
 pub unmoved : (cell : Option Piece) → piece_moved false cell ≡ cell
 unmoved None = refl
 unmoved (Some piece) = refl
 
--- some squares of a mask, and others
+-- some of the squares, and others
 pub among_either : (destinations free more n : ℕ) → has_bit (bit_or (bit_and destinations free) more) n ≡ true → ((has_bit destinations n ≡ true) × (has_bit free n ≡ true)) ⊎ (has_bit more n ≡ true)
 among_either destinations free more n e = elim (or_cases (has_bit (bit_and destinations free) n) (has_bit more n) (sym (has_bit-or (bit_and destinations free) more n) ∙ e)) [
   | inl both ↦ inl (and_parts _ _ (sym (has_bit-and destinations free n) ∙ both))

@@ -361,7 +361,7 @@ module _ (p : Shogi) (kind : Kind) (to : ℕ) (v : IsValid p) (ht : to < 81) whe
     stands = put_drop;
   }
 
--- ---- such captures are found by masks
+-- ---- such captures are found as sets of squares
 
 pub found_unpinnable : (p : Shogi) (own kings pinnable a : ℕ) → kings < 2 ^ 128 → pinnable < 2 ^ 128 → ((n : ℕ) → n < 81 → has_bit own n ≡ is_piece_of (opponent_of p.side) (piece_at p.cells n)) → ((n : ℕ) → n < 81 → has_bit kings n ≡ is_king (opponent_of p.side) (piece_at p.cells n))
     → ((n : ℕ) → n < 81 → has_bit pinnable n ≡ false → IsOffPins p.cells (opponent_of p.side) n) → a < 81 → has_bit (bit_and (bit_and own (2 ^ 128 - 1 - kings)) (2 ^ 128 - 1 - pinnable)) a ≡ true → IsUnpinnable p a

@@ -10,31 +10,31 @@ use Rattle.shogi_core.specs.Pieces.{opponent_of}
 use Rattle.shogi_core.specs.Position.{Shogi}
 use Rattle.shogi_core.specs.Rays.{direction_at, is_on_ray}
 
--- the mask has what the direction leads to from both squares
+-- the set has all squares to which the direction leads from both
 abbrev pub HasRaysBehind : ℕ → ℕ → ℕ → ℕ → Type 0
-HasRaysBehind d from over mask = (n : ℕ) → n < 81 → is_on_ray (direction_at d) from n ≡ true
-    → is_on_ray (direction_at d) over n ≡ true → has_bit mask n ≡ true
+HasRaysBehind d from over set = (n : ℕ) → n < 81 → is_on_ray (direction_at d) from n ≡ true
+    → is_on_ray (direction_at d) over n ≡ true → has_bit set n ≡ true
 
--- the mask has the squares behind the only king of the side that is not to move, as seen from the square
+-- the set has the squares behind the only king of the side that is not to move, as seen from the square
 abbrev pub HasKingsRays : Shogi → ℕ → ℕ → Type 0
-HasKingsRays p from mask = (k d : ℕ) → k < 81 → d < 8
+HasKingsRays p from set = (k d : ℕ) → k < 81 → d < 8
     → is_king (opponent_of p.side) (piece_at p.cells k) ≡ true
-    → HasNoOtherKing p.cells (opponent_of p.side) k → HasRaysBehind d from k mask
+    → HasNoOtherKing p.cells (opponent_of p.side) k → HasRaysBehind d from k set
 
--- off the mask, what stands on the square reaches nothing once the only king of the side that is not to move has left its own
+-- what stands on the square reaches nothing that is not in the set once the only king of the side that is not to move has left its own
 abbrev pub ReachesWithin : Shogi → Option Piece → ℕ → ℕ → Type 0
-ReachesWithin p cell to mask = (k n : ℕ) → k < 81 → n < 81
+ReachesWithin p cell to set = (k n : ℕ) → k < 81 → n < 81
     → is_king (opponent_of p.side) (piece_at p.cells k) ≡ true
-    → HasNoOtherKing p.cells (opponent_of p.side) k → has_bit mask n ≡ false
+    → HasNoOtherKing p.cells (opponent_of p.side) k → has_bit set n ≡ false
     → cell_reaches (slice_set p.cells k None) cell to n ≡ false
 
 -- no piece of the side that slides is on a line with the square, whatever stands between
 abbrev pub HasNoSniper : Cells → Color → ℕ → Type 0
 HasNoSniper cells side square = (a : ℕ) → a < 81 → is_sniper cells side square a ≡ false
 
--- the mask has some of the squares, and the side attacks none of these
+-- the set has some of the squares, and the side attacks none of these
 abbrev pub AreUnattacked : Cells → Color → ℕ → ℕ → Type 0
-AreUnattacked cells side squares mask = (n : ℕ) → n < 81 → has_bit mask n ≡ true
+AreUnattacked cells side squares set = (n : ℕ) → n < 81 → has_bit set n ≡ true
     → (has_bit squares n ≡ true) × (is_attacked cells side n ≡ false)
 
 -- the board once nothing stands on either square

@@ -26,12 +26,12 @@ pub record LeavesReply (p : Shogi) (escapes code : ℕ) : Type 0 where
 pub record IsCertainMove (p : Shogi) (capture : Bool) (row : Row) (first code : ℕ) : Type 0 where
   pub above : first ≤ code
   pub on_board : code < FIRST_DROP
-  pub piece : has_bit row.pieces (code / SQUARE_CODES) ≡ true
-  pub end : has_bit row.squares (code / 2 % 81) ≡ true
+  pub piece : has_bit row.pieces.bits (code / SQUARE_CODES) ≡ true
+  pub end : has_bit row.squares.bits (code / 2 % 81) ≡ true
   pub promoting : code % 2 ≡ 1
       → lets_promote row.promoting (piece_at p.cells (code / SQUARE_CODES)) ≡ true
   pub matching : is_matching p capture code ≡ true
-  pub leaves : LeavesReply p row.escapes code
+  pub leaves : LeavesReply p row.escapes.bits code
 
 -- the code is that of a legal drop of the kind, from a code on, on one of the squares, after which the other side has such a move
 pub record IsCertainDrop (p : Shogi) (kind : Kind) (squares escapes first code : ℕ) : Type 0 where

@@ -1,5 +1,5 @@
 -- What is kept of a position to decide that after most of its moves the other side is in no check and has a legal move.
-use Rattle.std.specs.Prelude.{ℕ, ◌≡◌, ◌≢◌, ◌<◌, ◌^◌, ◌⊎◌, ◌&&◌, ◌||◌, Bool, true, false, not, nat_lt, Option, Some, None, is_none, [], slice_set}
+use Rattle.std.specs.Prelude.{ℕ, ◌≡◌, ◌≢◌, ◌<◌, ◌⊎◌, ◌&&◌, ◌||◌, Bool, true, false, not, nat_lt, Option, Some, None, is_none, [], slice_set}
 use Rattle.shogi_core.specs.declared.moves.Move.{Move}
 use Rattle.shogi_core.specs.declared.moves.Move.TheVariants.{Board, Drop}
 use Rattle.shogi_core.specs.declared.piece.Color.{Color}
@@ -57,13 +57,13 @@ holds_free hands side =
 abbrev pub is_way : Shogi → Color → ℕ → Bool
 is_way p side a = is_spare p.cells side a || is_none (piece_at p.cells a) && holds_free p.hands side
 
--- a mask with the kings of a side and all squares that those see which are not left
+-- squares with the kings of a side and all that those see which are not left
 pub record Sees (cells : Cells) (side : Color) (left sight : ℕ) : Type 0 where
   pub kings : (n : ℕ) → n < 81 → is_king side (piece_at cells n) ≡ true → has_bit sight n ≡ true
   pub squares : (k n : ℕ) → k < 81 → n < 81 → is_king side (piece_at cells k) ≡ true
       → has_bit left k ≡ false → is_seen cells k n ≡ true → has_bit sight n ≡ true
 
--- a mask with the kings of a side and all squares on lines with those which are not left
+-- squares with the kings of a side and all on lines with those which are not left
 pub record Aligns (cells : Cells) (side : Color) (left lines : ℕ) : Type 0 where
   pub kings : (n : ℕ) → n < 81 → is_king side (piece_at cells n) ≡ true → has_bit lines n ≡ true
   pub squares : (k n : ℕ) → k < 81 → n < 81 → is_king side (piece_at cells k) ≡ true
@@ -90,18 +90,17 @@ UncoversNothing cells side sight from cell to =
     (has_bit sight from ≡ false)
     ⊎ (IsHarmlessFrom cells side from cell to × StaysCovered cells side from)
 
--- what stands on the square uncovers nothing where it moves to squares that are not of the mask and from which it attacks no king
+-- what stands on the square uncovers nothing where it moves to squares that are not in the set and from which it attacks no king
 abbrev pub UncoversWithin : Cells → Color → ℕ → ℕ → ℕ → Type 0
-UncoversWithin cells side sight from mask = (promote : Bool) (n : ℕ) → n < 81
-    → has_bit mask n ≡ false
+UncoversWithin cells side sight from set = (promote : Bool) (n : ℕ) → n < 81
+    → has_bit set n ≡ false
     → IsHarmless cells side (piece_moved promote (piece_at cells from)) n
     → UncoversNothing cells side sight from (piece_moved promote (piece_at cells from)) n
 
--- such a mask for the side that is not to move, and some of the squares that give it a move
+-- such squares for the side that is not to move, and some of those that give it a move
 pub record IsReplies (p : Shogi) (sight spare : ℕ) : Type 0 where
   pub sees : Sees p.cells (opponent_of p.side) 0 sight
   pub spares : (a : ℕ) → a < 81 → has_bit spare a ≡ true → is_way p (opponent_of p.side) a ≡ true
-  pub fits : spare < 2 ^ 81
 
 -- the square is not closed, and another one gives the side a move
 pub record IsOpen (closed spare n : ℕ) : Type 0 where
@@ -112,25 +111,25 @@ pub record IsOpen (closed spare n : ℕ) : Type 0 where
 abbrev pub IsAnswered : Shogi → Move → Type 0
 IsAnswered p m = is_legal p m ≡ true → legal_codes (after p m) ≢ []
 
--- a move from the square to each one of the mask is answered, promoting or not
+-- a move from the square to each one in the set is answered, promoting or not
 abbrev pub AreAnswered : Shogi → ℕ → Bool → ℕ → Type 0
-AreAnswered p from promote mask =
-    (n : ℕ) → n < 81 → has_bit mask n ≡ true → IsAnswered p (Board from n promote)
+AreAnswered p from promote set =
+    (n : ℕ) → n < 81 → has_bit set n ≡ true → IsAnswered p (Board from n promote)
 
--- each move on the board of what stands on the squares of the mask is answered, promoting or not
+-- each move on the board of what stands on the squares is answered, promoting or not
 abbrev pub AreRemote : Shogi → ℕ → Type 0
-AreRemote p mask = (a n : ℕ) (promote : Bool) → a < 81 → n < 81 → has_bit mask a ≡ true
+AreRemote p squares = (a n : ℕ) (promote : Bool) → a < 81 → n < 81 → has_bit squares a ≡ true
     → reaches p.cells a n ≡ true → IsAnswered p (Board a n promote)
 
--- those of the squares at which the piece may promote that came from there are on the mask
+-- those of the squares at which the piece may promote that came from there are in the set
 abbrev pub PromotesWithin : Option Piece → ℕ → ℕ → ℕ → Type 0
-PromotesWithin cell from squares mask = (n : ℕ) → n < 81 → has_bit squares n ≡ true
-    → may_promote cell from n ≡ true → has_bit mask n ≡ true
+PromotesWithin cell from squares set = (n : ℕ) → n < 81 → has_bit squares n ≡ true
+    → may_promote cell from n ≡ true → has_bit set n ≡ true
 
--- a drop of the kind on each square of the mask is answered
+-- a drop of the kind on each of the squares is answered
 abbrev pub AreDropsAnswered : Shogi → Kind → ℕ → Type 0
-AreDropsAnswered p kind mask =
-    (n : ℕ) → n < 81 → has_bit mask n ≡ true → IsAnswered p (Drop kind n)
+AreDropsAnswered p kind squares =
+    (n : ℕ) → n < 81 → has_bit squares n ≡ true → IsAnswered p (Drop kind n)
 
 -- if the move is legal, it gives no check
 abbrev pub GivesNoCheck : Shogi → Move → Type 0
@@ -140,22 +139,22 @@ GivesNoCheck p m = is_legal p m ≡ true → in_check (after p m).cells (opponen
 abbrev pub IsCertain : Shogi → ℕ → Move → Type 0
 IsCertain p escapes m = IsAnswered p m × (escapes ≡ 0 → GivesNoCheck p m)
 
--- so is a move from the square to each one of the mask, promoting or not
+-- so is a move from the square to each one in the set, promoting or not
 abbrev pub AreCertain : Shogi → ℕ → ℕ → Bool → ℕ → Type 0
-AreCertain p escapes from promote mask =
-    (n : ℕ) → n < 81 → has_bit mask n ≡ true → IsCertain p escapes (Board from n promote)
+AreCertain p escapes from promote set =
+    (n : ℕ) → n < 81 → has_bit set n ≡ true → IsCertain p escapes (Board from n promote)
 
--- and a drop of the kind on each square of the mask
+-- and a drop of the kind on each of the squares
 abbrev pub AreDropsCertain : Shogi → ℕ → Kind → ℕ → Type 0
-AreDropsCertain p escapes kind mask =
-    (n : ℕ) → n < 81 → has_bit mask n ≡ true → IsCertain p escapes (Drop kind n)
+AreDropsCertain p escapes kind squares =
+    (n : ℕ) → n < 81 → has_bit squares n ≡ true → IsCertain p escapes (Drop kind n)
 
--- the mask has all squares around a king of the side
+-- the squares have all around a king of the side among them
 abbrev pub HasAroundKings : Cells → Color → ℕ → Type 0
-HasAroundKings cells side mask = (k n : ℕ) → k < 81 → n < 81
-    → is_king side (piece_at cells k) ≡ true → is_around k n ≡ true → has_bit mask n ≡ true
+HasAroundKings cells side squares = (k n : ℕ) → k < 81 → n < 81
+    → is_king side (piece_at cells k) ≡ true → is_around k n ≡ true → has_bit squares n ≡ true
 
--- a move of what stands on the square to that one begins off the mask and gives no check, and it cannot promote where promotions are not allowed
+-- a move of what stands on the square to that one begins out of sight and gives no check, and it cannot promote where promotions are not allowed
 pub record IsFarMove (p : Shogi) (sight : ℕ) (promotes : Bool) (from n : ℕ) : Type 0 where
   pub unseen : has_bit sight from ≡ false
   pub harmless : (promote : Bool)
@@ -167,29 +166,29 @@ abbrev pub is_reached : Shogi → Bool → ℕ → ℕ → Bool
 is_reached p capture from n =
     reaches p.cells from n && is_destination capture p.side (piece_at p.cells n)
 
--- the role of what stands there is one of the mask, in which each role has the bit of its number
+-- the role of what stands there is one of the roles, in which each has the bit of its number
 abbrev pub lets_promote : ℕ → Option Piece → Bool
 lets_promote roles None = false
 lets_promote roles (Some piece) = has_bit roles (role_number piece.role)
 
 -- the row has each move of the kind of what stands on the square, and it is certain
 pub record HasCertainMoves (p : Shogi) (capture : Bool) (row : Row) (from : ℕ) : Type 0 where
-  pub piece : has_bit row.pieces from ≡ true
+  pub piece : has_bit row.pieces.bits from ≡ true
   pub plain : (n : ℕ) → n < 81 → is_reached p capture from n ≡ true
-      → (has_bit row.squares n ≡ true) × IsCertain p row.escapes (Board from n false)
+      → (has_bit row.squares.bits n ≡ true) × IsCertain p row.escapes.bits (Board from n false)
   pub promoting : (n : ℕ) → n < 81 → is_reached p capture from n ≡ true
       → may_promote (piece_at p.cells from) from n ≡ true
       → (lets_promote row.promoting (piece_at p.cells from) ≡ true)
-      × IsCertain p row.escapes (Board from n true)
+      × IsCertain p row.escapes.bits (Board from n true)
 
--- what stands on the squares of the mask makes such moves alone
+-- what stands on the squares makes such moves alone
 abbrev pub AreFarPieces : Shogi → ℕ → Bool → ℕ → Type 0
-AreFarPieces p sight promotes mask = (a n : ℕ) → a < 81 → n < 81 → has_bit mask a ≡ true
+AreFarPieces p sight promotes squares = (a n : ℕ) → a < 81 → n < 81 → has_bit squares a ≡ true
     → reaches p.cells a n ≡ true → IsFarMove p sight promotes a n
 
--- on those of the squares that are off the mask, the piece attacks no king of the side that is not to move
+-- on those of the squares that are not in the set, the piece attacks no king of the side that is not to move
 abbrev pub ChecksAmong : Shogi → Option Piece → ℕ → ℕ → Type 0
-ChecksAmong p cell among mask = (n : ℕ) → n < 81 → has_bit among n ≡ true → has_bit mask n ≡ false
+ChecksAmong p cell among set = (n : ℕ) → n < 81 → has_bit among n ≡ true → has_bit set n ≡ false
     → IsHarmless p.cells (opponent_of p.side) cell n
 
 -- a legal move from the one square to the other gives no check where it attacks no king from where it ends

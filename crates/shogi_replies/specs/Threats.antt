@@ -17,15 +17,15 @@ use Rattle.shogi_moves.specs.Legal.{is_legal}
 use Rattle.shogi_core.specs.Zones.{may_promote}
 use Rattle.shogi_replies.specs.Replies.{is_aligned_with_king}
 
--- the mask has the squares to which one direction leads from the one square and from which it leads on to the other, whatever stands between
+-- the set has the squares to which one direction leads from the one square and from which it leads on to the other, whatever stands between
 abbrev pub HasBetween : ℕ → ℕ → ℕ → Type 0
-HasBetween from to mask = (d n : ℕ) → d < 8 → n < 81 → is_on_ray (direction_at d) from n ≡ true
-    → is_on_ray (direction_at d) n to ≡ true → has_bit mask n ≡ true
+HasBetween from to set = (d n : ℕ) → d < 8 → n < 81 → is_on_ray (direction_at d) from n ≡ true
+    → is_on_ray (direction_at d) n to ≡ true → has_bit set n ≡ true
 
 -- and so all between the king and those pieces of the other side which slide, are on a line with it and are not left
 abbrev pub HasBeforeSnipers : Cells → Color → ℕ → ℕ → ℕ → Type 0
-HasBeforeSnipers cells side king left mask = (x : ℕ) → x < 81
-    → is_sniper cells (opponent_of side) king x ≡ true → has_bit left x ≡ false → HasBetween king x mask
+HasBeforeSnipers cells side king left set = (x : ℕ) → x < 81
+    → is_sniper cells (opponent_of side) king x ≡ true → has_bit left x ≡ false → HasBetween king x set
 
 -- no direction leads from a king of the side to the square and on to such a piece, whatever stands between
 abbrev pub IsOffPins : Cells → Color → ℕ → Type 0

@@ -1,9 +1,9 @@
 //! Squares to which the king of the side that is not to move may go, should a move give it check.
 
-ghost use Rattle.std.specs.Prelude.{◌≡◌, ◌<◌, ◌^◌, ◌&&◌, ℕ, not, true, false, Option, Some, None, slice_set};
+ghost use Rattle.std.specs.Prelude.{◌≡◌, ◌<◌, ◌&&◌, ℕ, not, true, false, Option, Some, None, slice_set};
 ghost use Rattle.shogi_core.specs.declared.piece.Piece.{Piece};
 ghost use Rattle.shogi_core.specs.Attack.{is_attacked};
-ghost use Rattle.shogi_core.specs.Bits.{IsMaskOf, has_bit};
+ghost use Rattle.shogi_core.specs.Bits.{HasBits, has_bit};
 ghost use Rattle.shogi_core.specs.Movement.{reaches};
 ghost use Rattle.shogi_moves.specs.Destinations.{IsWithin};
 ghost use Rattle.shogi_moves.specs.Escapes.{AreEscapes};
@@ -12,20 +12,20 @@ ghost use Rattle.shogi_replies.specs.Escapes.{without_both, AreUnattacked, HasRa
 ghost use Rattle.shogi_replies.specs.Replies.{IsAnswered, AreAnswered, AreDropsAnswered};
 ghost use Rattle.shogi_replies.specs.Threats.{IsTaken};
 
-use shogi_core::bits::{ALL_SQUARES, cleared, has, lowest, without_lowest};
+use shogi_core::bits::{cleared, lowest, without_lowest};
 use shogi_core::{
-    Board, Color, Kind, Move, Piece, Position, Square, aligned_squares, ray, step_squares,
+    Board, Color, Kind, Move, Piece, Position, Square, Squares, aligned_squares, ray, step_squares,
 };
 use shogi_moves::{dropped, has_open, king_steps, piece_moved};
 
 /// Those of the squares that the side does not attack.
 #[tactic(auto, using(shogi_moves::proofs::DestinationLaws::sifting))]
-fn unattacked(board: &Board, by: Color, squares: u128) -> u128
-    requires { squares < 2 ^ 81 }
-    ensures squares { IsMaskOf result (λ n. has_bit squares n && not (is_attacked board.now by n)) }
+fn unattacked(board: &Board, by: Color, squares: Squares) -> Squares
+    ensures squares { HasBits result.bits
+        (λ n. has_bit squares.bits n && not (is_attacked board.now by n)) }
 {
-    let mut left = squares;
-    let mut kept = squares;
+    let mut left = squares.bits;
+    let mut kept = squares.bits;
     while left != 0 {
         let square = lowest(left);
         if board.is_attacked(by, Square::of_index(square)) {
@@ -33,18 +33,16 @@ fn unattacked(board: &Board, by: Color, squares: u128) -> u128
         }
         left = without_lowest(left, square);
     }
-    kept
+    Squares { bits: kept }
 }
 
 /// Three of the squares that the side does not attack, or fewer where there are no more.
 #[tactic(auto, using(shogi_moves::proofs::DestinationLaws::sifting))]
-fn some_unattacked(board: &Board, by: Color, squares: u128) -> u128
-    requires { squares < 2 ^ 81 }
-    ensures safe { AreUnattacked board.now by squares result }
-    ensures fits { result < 2 ^ 81 }
+fn some_unattacked(board: &Board, by: Color, squares: Squares) -> Squares
+    ensures { AreUnattacked board.now by squares.bits result.bits }
 {
-    let mut left = squares;
-    let mut kept = squares;
+    let mut left = squares.bits;
+    let mut kept = squares.bits;
     let mut found = 0u8;
     while left != 0 && found < 3 {
         let square = lowest(left);
@@ -56,68 +54,65 @@ fn some_unattacked(board: &Board, by: Color, squares: u128) -> u128
         }
         left = without_lowest(left, square);
     }
-    kept & !left
+    Squares { bits: kept & !left }
 }
 
 /// Squares next to the king of the side that is not to move, where it has just one, to which it may
 /// go as far as the pieces of the other side stand that are there now. That king is in no check, so
 /// it stands in no piece's way.
-pub fn escape_squares(p: &Position) -> u128
-    ensures { AreEscapes p.now result }
+pub fn escape_squares(p: &Position) -> Squares
+    ensures { AreEscapes p.now result.bits }
 {
     p.validity();
     unattacked(p.as_board(), p.side(), king_steps(p))
 }
 
 /// Three of those squares, or fewer where there are no more.
-pub fn some_escapes(p: &Position) -> u128
-    ensures { AreEscapes p.now result }
+pub fn some_escapes(p: &Position) -> Squares
+    ensures { AreEscapes p.now result.bits }
 {
     p.validity();
     some_unattacked(p.as_board(), p.side(), king_steps(p))
 }
 
 /// The squares that one direction leads to from both squares, whatever stands between.
-fn squares_behind(over: usize, from: usize) -> u128
+fn squares_behind(over: usize, from: usize) -> Squares
     requires over { over < 81 }
     requires from { from < 81 }
-    ensures far { (d : ℕ) → d < 8 → HasRaysBehind d from over result }
-    ensures fits { result < 2 ^ 81 }
+    ensures { (d : ℕ) → d < 8 → HasRaysBehind d from over result.bits }
 {
     let mut behind = 0;
     for direction in 0..8 {
-        behind |= ray(direction, from) & ray(direction, over);
+        behind |= (ray(direction, from) & ray(direction, over)).bits;
     }
-    behind
+    Squares { bits: behind }
 }
 
 /// The squares behind the king of the side that is not to move, where it has just one, as seen from
 /// the square.
-fn behind_king(p: &Position, from: usize) -> u128
+fn behind_king(p: &Position, from: usize) -> Squares
     requires { from < 81 }
-    ensures far { HasKingsRays p.now from result }
-    ensures fits { result < 2 ^ 81 }
+    ensures { HasKingsRays p.now from result.bits }
 {
     let kings = p.as_board().kings(p.side().opponent());
-    if kings == 0 {
-        return 0;
+    if kings.is_empty() {
+        return Squares::none();
     }
-    squares_behind(lowest(kings), from)
+    squares_behind(lowest(kings.bits), from)
 }
 
 /// The squares that the piece, which slides, reaches from the square, should the only king of the
 /// side that is not to move leave its own; or all on lines with it, where these tell as much of
 /// whether it leaves some of the given squares.
-fn slider_reach(p: &Position, piece: Piece, to: Square, among: u128) -> u128
-    ensures far { ReachesWithin p.now (Some piece) to result }
-    ensures fits { result < 2 ^ 81 }
+fn slider_reach(p: &Position, piece: Piece, to: Square, among: Squares) -> Squares
+    ensures { ReachesWithin p.now (Some piece) to result.bits }
 {
     to.validity();
     let index = to.index();
-    let left = among & !(1 << index);
+    let left = among.except(to);
     let steps = step_squares(piece, index);
     let wide = steps | aligned_squares(index);
-    if left & !steps == 0 || left & !wide != 0 {
+    if left.without(steps).is_empty() || !left.without(wide).is_empty() {
         return wide;
     }
     p.as_board().targets_of(piece, to) | behind_king(p, index)
@@ -126,11 +121,12 @@ fn slider_reach(p: &Position, piece: Piece, to: Square, among: u128) -> u128
 /// The squares that the piece reaches from the square, should the only king of the side that is not
 /// to move leave its own; or more, where these tell as much of whether it leaves some of the given
 /// squares.
-fn within_reach(p: &Position, cell: Option<Piece>, to: Square, among: u128) -> u128
-    ensures far { ReachesWithin p.now cell to result }
-    ensures fits { result < 2 ^ 81 }
+fn within_reach(p: &Position, cell: Option<Piece>, to: Square, among: Squares) -> Squares
+    ensures { ReachesWithin p.now cell to result.bits }
 {
-    let Some(piece) = cell else { return 0 };
+    let Some(piece) = cell else {
+        return Squares::none()
+    };
     to.validity();
     if piece.role.is_sliding() {
         slider_reach(p, piece, to, among)
@@ -142,8 +138,8 @@ fn within_reach(p: &Position, cell: Option<Piece>, to: Square, among: u128) -> u
 /// Whether one of the squares is surely left to the king after the legal move, should that give it
 /// check: the move does not end there, what moves does not reach it, and it is on no line with the
 /// square that it leaves.
-pub fn leaves_escape(p: &Position, escapes: u128, m: &Move) -> bool
-    requires { AreEscapes p.now escapes }
+pub fn leaves_escape(p: &Position, escapes: Squares, m: &Move) -> bool
+    requires { AreEscapes p.now escapes.bits }
     ensures { result ≡ true → IsAnswered p.now m.now }
 {
     p.validity();
@@ -152,8 +148,8 @@ pub fn leaves_escape(p: &Position, escapes: u128, m: &Move) -> bool
             from.validity();
             to.validity();
             let lines = aligned_squares(from.index());
-            let left = escapes & !lines;
-            if left == 0 {
+            let left = escapes.without(lines);
+            if left.is_empty() {
                 return false;
             }
             let reach = within_reach(p, piece_moved(p.at(*from), *promote), *to, left);
@@ -174,18 +170,19 @@ fn has_no_sniper(p: &Position, square: Square) -> bool
 {
     square.validity();
     let board = p.as_board();
-    board.own(p.side()) & board.sliders() & aligned_squares(square.index()) == 0
+    let snipers = board.own(p.side()) & board.sliders() & aligned_squares(square.index());
+    snipers.is_empty()
 }
 
 /// Whether one of the squares is surely left to the king after the legal move, should that give it
 /// check, as `leaves_escape` does not see it: on the board what moves does not slide on, and leaves
 /// a square on no line with a piece of its side that slides, so that it uncovers nothing; what is
 /// dropped on such a square, the king takes.
-pub fn leaves_king_move(p: &Position, escapes: u128, m: &Move) -> bool
-    requires { AreEscapes p.now escapes }
+pub fn leaves_king_move(p: &Position, escapes: Squares, m: &Move) -> bool
+    requires { AreEscapes p.now escapes.bits }
     ensures { result ≡ true → IsAnswered p.now m.now }
 {
-    if escapes == 0 {
+    if escapes.is_empty() {
         return false;
     }
     p.validity();
@@ -203,7 +200,7 @@ pub fn leaves_king_move(p: &Position, escapes: u128, m: &Move) -> bool
         }
         Move::Drop { to, .. } => {
             to.validity();
-            has(escapes, to.index()) && p.as_board().kings(p.side().opponent()) != 0
+            escapes.has(*to) && !p.as_board().kings(p.side().opponent()).is_empty()
         }
     }
 }
@@ -217,7 +214,7 @@ fn is_unprotected(p: &Position, king: Square, from: Square, to: Square) -> bool
 {
     to.validity();
     let board = p.as_board();
-    if !has(board.targets(king), to.index()) {
+    if !board.targets(king).has(to) {
         return false;
     }
     let mut next = *board;
@@ -254,17 +251,16 @@ pub fn king_takes(p: &Position, m: &Move) -> bool
 /// the escapes is surely left to the king: up to the first after which none is.
 pub fn escaped_destinations(
     p: &Position,
-    escapes: u128,
+    escapes: Squares,
     from: Square,
     promote: bool,
-    destinations: u128,
-) -> u128
-    requires { AreEscapes p.now escapes }
-    ensures among { IsWithin result destinations }
-    ensures answered { AreAnswered p.now from promote result }
+    destinations: Squares,
+) -> Squares
+    requires { AreEscapes p.now escapes.bits }
+    ensures among { IsWithin result.bits destinations.bits }
+    ensures answered { AreAnswered p.now from promote result.bits }
 {
-    let all = ALL_SQUARES & destinations;
-    let mut left = all;
+    let mut left = destinations.bits;
     while left != 0 {
         let to = lowest(left);
         let m = Move::Board {
@@ -273,22 +269,23 @@ pub fn escaped_destinations(
             promote,
         };
         if !leaves_escape(p, escapes, &m) {
-            return all & !left;
+            return Squares {
+                bits: destinations.bits & !left,
+            };
         }
         left = without_lowest(left, to);
     }
-    all
+    destinations
 }
 
 /// Those of the squares on which a piece of the kind may be dropped so that one of the escapes is
 /// surely left to the king: up to the first after which none is.
-pub fn escaped_drops(p: &Position, escapes: u128, kind: Kind, destinations: u128) -> u128
-    requires { AreEscapes p.now escapes }
-    ensures among { IsWithin result destinations }
-    ensures answered { AreDropsAnswered p.now kind result }
+pub fn escaped_drops(p: &Position, escapes: Squares, kind: Kind, destinations: Squares) -> Squares
+    requires { AreEscapes p.now escapes.bits }
+    ensures among { IsWithin result.bits destinations.bits }
+    ensures answered { AreDropsAnswered p.now kind result.bits }
 {
-    let all = ALL_SQUARES & destinations;
-    let mut left = all;
+    let mut left = destinations.bits;
     while left != 0 {
         let to = lowest(left);
         let m = Move::Drop {
@@ -296,9 +293,11 @@ pub fn escaped_drops(p: &Position, escapes: u128, kind: Kind, destinations: u128
             to: Square::of_index(to),
         };
         if !leaves_escape(p, escapes, &m) {
-            return all & !left;
+            return Squares {
+                bits: destinations.bits & !left,
+            };
         }
         left = without_lowest(left, to);
     }
-    all
+    destinations
 }

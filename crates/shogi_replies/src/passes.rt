@@ -8,8 +8,8 @@ ghost use Rattle.shogi_replies.specs.Replies.{IsReplies};
 
 use crate::replies::Replies;
 use crate::row::Row;
-use shogi_core::bits::{bits_above, has, lowest, without_lowest};
-use shogi_core::{Position, SQUARE_CODES, Square};
+use shogi_core::bits::{bits_above, lowest, without_lowest};
+use shogi_core::{Position, SQUARE_CODES, Square, Squares};
 use shogi_moves::{BoardSweep, DropSweep, matching_movers};
 
 impl Replies {
@@ -17,8 +17,8 @@ impl Replies {
     /// that is not certain.
     fn pass_destinations(&self, p: &Position, capture: bool, row: &Row, sweep: &mut BoardSweep)
         requires kept { IsBoardSweep p.now capture sweep.old }
-        requires replies { IsReplies p.now self.now.sight self.now.spare }
-        requires escapes { AreEscapes p.now row.now.escapes }
+        requires replies { IsReplies p.now self.now.sight.bits self.now.spare.bits }
+        requires escapes { AreEscapes p.now row.now.escapes.bits }
         ensures kept { IsBoardSweep p.now capture sweep.new }
         ensures passed { IsPassedTo p.now capture row.now sweep.old.code sweep.new.code }
     {
@@ -28,18 +28,19 @@ impl Replies {
             sweep.destinations.promoting,
         );
         from.validity();
-        if !has(row.pieces, from.index()) {
+        if !row.pieces.has(from) {
             return;
         }
         let certain = self.certain_destinations(p, row.escapes, from, false, plain);
         let promoted = self.certain_destinations(p, row.escapes, from, true, promoting);
         let promotions = row.promotions(p.at(from));
-        let uncertain = plain & !(row.squares & certain) | promoting & !(promotions & promoted);
-        if uncertain == 0 {
+        let uncertain = plain.without(row.squares & certain)
+            | promoting.without(promotions & promoted);
+        if uncertain.is_empty() {
             sweep.pass_ends(p, capture, 81);
             return;
         }
-        let to = lowest(uncertain);
+        let to = lowest(uncertain.bits);
         if from.index() as u16 * SQUARE_CODES + 2 * to as u16 > sweep.code {
             sweep.pass_ends(p, capture, to);
         }
@@ -49,18 +50,20 @@ impl Replies {
     /// that are far are not looked at one by one.
     fn pass_pieces(&self, p: &Position, capture: bool, row: &Row, sweep: &mut BoardSweep)
         requires kept { IsBoardSweep p.now capture sweep.old }
-        requires none { (sweep.old.destinations.plain ≡ 0)
-            × (sweep.old.destinations.promoting ≡ 0) }
-        requires replies { IsReplies p.now self.now.sight self.now.spare }
-        requires escapes { AreEscapes p.now row.now.escapes }
+        requires none { (sweep.old.destinations.plain.bits ≡ 0)
+            × (sweep.old.destinations.promoting.bits ≡ 0) }
+        requires replies { IsReplies p.now self.now.sight.bits self.now.spare.bits }
+        requires escapes { AreEscapes p.now row.now.escapes.bits }
         ensures kept { IsBoardSweep p.now capture sweep.new }
         ensures passed { IsPassedTo p.now capture row.now sweep.old.code sweep.new.code }
     {
         p.validity();
         let far = self.far_pieces(p, capture, row);
-        let pieces = bits_above(p.as_board().own(p.side()), sweep.from.index());
-        let moving = matching_movers(p, capture, pieces);
-        let mut left = moving & !far;
+        let pieces = Squares {
+            bits: bits_above(p.as_board().own(p.side()).bits, sweep.from.index()),
+        };
+        let moving = matching_movers(p, capture, pieces).bits;
+        let mut left = moving & !far.bits;
         'squares: while left != 0 {
             let square = lowest(left);
             let from = Square::of_index(square);
@@ -78,14 +81,14 @@ impl Replies {
     /// escapes, that they give no check.
     pub fn pass_moves(&self, p: &Position, capture: bool, row: &Row, sweep: &mut BoardSweep)
         requires kept { IsBoardSweep p.now capture sweep.old }
-        requires replies { IsReplies p.now self.now.sight self.now.spare }
-        requires escapes { AreEscapes p.now row.now.escapes }
+        requires replies { IsReplies p.now self.now.sight.bits self.now.spare.bits }
+        requires escapes { AreEscapes p.now row.now.escapes.bits }
         ensures kept { IsBoardSweep p.now capture sweep.new }
         ensures passed { PassesBoard p.now capture row.now sweep.old sweep.new }
     {
         self.pass_destinations(p, capture, row, sweep);
-        if sweep.destinations.plain == 0 {
-            if sweep.destinations.promoting == 0 {
+        if sweep.destinations.plain.is_empty() {
+            if sweep.destinations.promoting.is_empty() {
                 self.pass_pieces(p, capture, row, sweep);
             }
         }
@@ -94,20 +97,26 @@ impl Replies {
     /// Passes the drops of the kind that the sweep is at, up to the first that is on none of the
     /// squares, or after which it is not certain by a look at squares alone that the other side has a
     /// legal move and, where there are no escapes, is in no check.
-    pub fn pass_drops(&self, p: &Position, squares: u128, escapes: u128, sweep: &mut DropSweep)
+    pub fn pass_drops(
+        &self,
+        p: &Position,
+        squares: Squares,
+        escapes: Squares,
+        sweep: &mut DropSweep,
+    )
         requires kept { IsDropSweep p.now sweep.old }
-        requires replies { IsReplies p.now self.now.sight self.now.spare }
-        requires escapes { AreEscapes p.now escapes }
+        requires replies { IsReplies p.now self.now.sight.bits self.now.spare.bits }
+        requires escapes { AreEscapes p.now escapes.bits }
         ensures kept { IsDropSweep p.now sweep.new }
-        ensures passed { PassesDrops p.now squares escapes sweep.old sweep.new }
+        ensures passed { PassesDrops p.now squares.bits escapes.bits sweep.old sweep.new }
     {
         let destinations = sweep.destinations;
         let certain = self.certain_drops(p, escapes, sweep.kind, destinations);
-        let uncertain = destinations & !(squares & certain);
-        if uncertain == 0 {
+        let uncertain = destinations.without(squares & certain);
+        if uncertain.is_empty() {
             sweep.pass_ends(p, 81);
             return;
         }
-        sweep.pass_ends(p, lowest(uncertain));
+        sweep.pass_ends(p, lowest(uncertain.bits));
     }
 }

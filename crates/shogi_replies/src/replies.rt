@@ -1,6 +1,6 @@
 //! Whether the other side surely has a legal move after a move, without making it.
 
-ghost use Rattle.std.specs.Prelude.{◌≡◌, ◌≢◌, ◌<◌, ◌^◌, ℕ, Bool, [], true, false, bit_and};
+ghost use Rattle.std.specs.Prelude.{◌≡◌, ◌≢◌, ◌<◌, ℕ, Bool, [], true, false, bit_and};
 ghost use Rattle.shogi_core.specs.Below.{some_below};
 ghost use Rattle.shogi_core.specs.Bits.{has_bit};
 ghost use Rattle.shogi_core.specs.Movement.{piece_at};
@@ -16,9 +16,11 @@ ghost use Rattle.shogi_replies.specs.Threats.{KeepsThreats, MayRetake};
 use crate::escapes::{escaped_destinations, escaped_drops};
 use crate::far::far_pieces;
 use crate::row::{ALL_ROLES, Row};
-use shogi_core::bits::{ALL_SQUARES, cleared, has, lowest, with, without, without_lowest};
+use shogi_core::bits::{cleared, lowest, without_lowest};
 use shogi_core::zones::{dead_squares, promoting_squares};
-use shogi_core::{Color, Kind, Move, Piece, Position, Square, aligned_squares, step_squares};
+use shogi_core::{
+    Color, Kind, Move, Piece, Position, Square, Squares, aligned_squares, step_squares,
+};
 use shogi_moves::{dropped, matching_destinations, piece_moved};
 
 /// What is kept of a position to decide that after most of its moves the other side is in no check
@@ -26,39 +28,39 @@ use shogi_moves::{dropped, matching_destinations, piece_moved};
 /// squares where it holds a piece that may be dropped on each of them.
 #[derive(Clone, Copy, Debug)]
 pub struct Replies {
-    pub sight: u128,
-    pub spare: u128,
+    pub sight: Squares,
+    pub spare: Squares,
 }
 
 /// The squares of kings of the side, of open lines with them, and a knight's jump away.
 #[tactic(auto, using(crate::proofs::ReplyLaws::seeing))]
-fn sight_squares(p: &Position, side: Color) -> u128
-    ensures { Sees p.now.cells side 0 result }
+fn sight_squares(p: &Position, side: Color) -> Squares
+    ensures { Sees p.now.cells side 0 result.bits }
 {
     let board = p.as_board();
-    let mut left = board.kings(side);
+    let mut left = board.kings(side).bits;
     let mut sight = left;
     while left != 0 {
         let king = lowest(left);
-        sight |= board.seen(Square::of_index(king));
+        sight |= board.seen(Square::of_index(king)).bits;
         left = without_lowest(left, king);
     }
-    sight
+    Squares { bits: sight }
 }
 
 /// The squares of kings of the side, and of lines with them, whatever stands between.
 #[tactic(auto, using(crate::proofs::ReplyLaws::aligning))]
-pub fn line_squares(p: &Position, side: Color) -> u128
-    ensures { Aligns p.now.cells side 0 result }
+pub fn line_squares(p: &Position, side: Color) -> Squares
+    ensures { Aligns p.now.cells side 0 result.bits }
 {
-    let mut left = p.as_board().kings(side);
+    let mut left = p.as_board().kings(side).bits;
     let mut lines = left;
     while left != 0 {
         let king = lowest(left);
-        lines |= aligned_squares(king);
+        lines |= aligned_squares(king).bits;
         left = without_lowest(left, king);
     }
-    lines
+    Squares { bits: lines }
 }
 
 /// Whether what stands on the square may stand in the way of a piece that slides to a king of the
@@ -68,7 +70,7 @@ fn may_uncover(p: &Position, side: Color, from: Square) -> bool
 {
     from.validity();
     let snipers = p.as_board().snipers(side) & aligned_squares(from.index());
-    snipers != 0 && p.as_board().lined(from) & snipers != 0
+    !snipers.is_empty() && !(p.as_board().lined(from) & snipers).is_empty()
 }
 
 /// Whether another piece of the side to move reaches the other side's king once what stands on the
@@ -85,8 +87,8 @@ fn is_uncovered(p: &Position, from: Square, to: Square) -> bool
         Some(king) => {
             king.validity();
             let board = p.as_board();
-            let others = without(board.own(p.side()), from.index());
-            let occupied = with(without(board.occupied(), from.index()), to.index());
+            let others = board.own(p.side()).except(from);
+            let occupied = board.occupied().except(from).with(to);
             board.is_attacked_among(king, others, occupied)
         }
     }
@@ -102,20 +104,20 @@ fn has_open_step(p: &Position, side: Color, from: Square) -> bool
         None => false,
         Some(piece) => {
             from.validity();
-            step_squares(piece, from.index()) & !p.as_board().own(side) & !dead_squares(cell) != 0
+            let steps = step_squares(piece, from.index()).without(p.as_board().own(side));
+            !steps.without(dead_squares(cell)).is_empty()
         }
     }
 }
 
 /// Two pieces of the side that are on no line with a king of their own and have an open step, or
 /// fewer where there are no more.
-fn spare_pieces(p: &Position, side: Color, lines: u128) -> u128
-    requires { Aligns p.now.cells side 0 lines }
-    ensures spares { (a : ℕ) → a < 81 → has_bit result a ≡ true
+fn spare_pieces(p: &Position, side: Color, lines: Squares) -> Squares
+    requires { Aligns p.now.cells side 0 lines.bits }
+    ensures { (a : ℕ) → a < 81 → has_bit result.bits a ≡ true
         → is_spare p.now.cells side a ≡ true }
-    ensures fits { result < 2 ^ 81 }
 {
-    let mut left = p.as_board().own(side) & !lines;
+    let mut left = p.as_board().own(side).without(lines).bits;
     let mut kept = left;
     let mut found = 0u8;
     while left != 0 && found < 2 {
@@ -127,7 +129,7 @@ fn spare_pieces(p: &Position, side: Color, lines: u128) -> u128
         }
         left = without_lowest(left, from);
     }
-    kept & !left
+    Squares { bits: kept & !left }
 }
 
 /// Whether what would stand on the square attacks a king of the side.
@@ -139,31 +141,33 @@ fn attacks_king(p: &Position, side: Color, cell: Option<Piece>, to: Square) -> b
         None => false,
         Some(piece) => {
             let board = p.as_board();
-            board.targets_of(piece, to) & board.kings(side) != 0
+            !(board.targets_of(piece, to) & board.kings(side)).is_empty()
         }
     }
 }
 
 /// The squares from which the piece would attack a king of the side: those that it would reach from
 /// there if it were of the other colour.
-fn check_squares(p: &Position, side: Color, cell: Option<Piece>) -> u128
-    ensures { (n : ℕ) → n < 81 → has_bit result n ≡ false
+fn check_squares(p: &Position, side: Color, cell: Option<Piece>) -> Squares
+    ensures { (n : ℕ) → n < 81 → has_bit result.bits n ≡ false
         → IsHarmless p.now.cells side cell n }
 {
-    let Some(piece) = cell else { return 0 };
+    let Some(piece) = cell else {
+        return Squares::none()
+    };
     let back = Piece {
         color: piece.color.opponent(),
         role: piece.role,
     };
     let board = p.as_board();
-    let mut left = board.kings(side);
+    let mut left = board.kings(side).bits;
     let mut checks = 0;
     while left != 0 {
         let king = lowest(left);
-        checks |= board.targets_of(back, Square::of_index(king));
+        checks |= board.targets_of(back, Square::of_index(king)).bits;
         left = without_lowest(left, king);
     }
-    checks
+    Squares { bits: checks }
 }
 
 /// Whether the side holds a piece that it may drop on each empty square where it is in no check:
@@ -180,30 +184,31 @@ fn holds_free(p: &Position, side: Color) -> bool
 /// Whether each of the ends of moves from the square is among the squares for moves without
 /// promotion, and each at which such a move may promote among those for moves with it.
 #[inline(always)]
-fn are_among(p: &Position, from: Square, ends: u128, plain: u128, promoting: u128) -> bool
-    ensures plain { result ≡ true → (n : ℕ) → n < 81 → has_bit ends n ≡ true
-        → has_bit plain n ≡ true }
+fn are_among(p: &Position, from: Square, ends: Squares, plain: Squares, promoting: Squares) -> bool
+    ensures plain { result ≡ true → (n : ℕ) → n < 81 → has_bit ends.bits n ≡ true
+        → has_bit plain.bits n ≡ true }
     ensures promoting { result ≡ true
-        → PromotesWithin (piece_at p.now.cells from) from ends promoting }
+        → PromotesWithin (piece_at p.now.cells from) from ends.bits promoting.bits }
 {
-    if ends & !plain != 0 {
+    if !ends.without(plain).is_empty() {
         return false;
     }
-    if ends & !promoting == 0 {
+    if ends.without(promoting).is_empty() {
         return true;
     }
-    ends & promoting_squares(p.at(from), from) & !promoting == 0
+    let promoted = ends & promoting_squares(p.at(from), from);
+    promoted.without(promoting).is_empty()
 }
 
 impl Replies {
     /// Whether what comes to stand on the square surely gives no check to the other side.
     #[inline(always)]
     fn is_harmless(&self, p: &Position, cell: Option<Piece>, to: Square) -> bool
-        requires kept { IsReplies p.now self.now.sight self.now.spare }
+        requires kept { IsReplies p.now self.now.sight.bits self.now.spare.bits }
         ensures { result ≡ true → IsHarmless p.now.cells (opponent_of p.now.side) cell to }
     {
         to.validity();
-        if has(self.sight, to.index()) {
+        if self.sight.has(to) {
             return !attacks_king(p, p.side().opponent(), cell, to);
         }
         true
@@ -213,34 +218,35 @@ impl Replies {
     /// king sees it, all where it may cover one, and else the lines of the king for a piece that
     /// slides.
     #[inline(always)]
-    fn uncovering_squares(&self, p: &Position, from: Square) -> u128
-        ensures { UncoversWithin p.now.cells (opponent_of p.now.side) self.now.sight from result }
+    fn uncovering_squares(&self, p: &Position, from: Square) -> Squares
+        ensures { UncoversWithin p.now.cells (opponent_of p.now.side) self.now.sight.bits from
+            result.bits }
     {
         from.validity();
-        if !has(self.sight, from.index()) {
-            return 0;
+        if !self.sight.has(from) {
+            return Squares::none();
         }
         let side = p.side().opponent();
         if may_uncover(p, side, from) {
-            return ALL_SQUARES;
+            return Squares::all();
         }
-        if has(p.as_board().sliders(), from.index()) {
+        if p.as_board().sliders().has(from) {
             line_squares(p, side)
         } else {
-            0
+            Squares::none()
         }
     }
 
     /// Whether what stands on the one square may uncover a check on its way to the other.
     #[inline(always)]
     fn uncovers(&self, p: &Position, from: Square, to: Square) -> bool
-        requires kept { IsReplies p.now self.now.sight self.now.spare }
+        requires kept { IsReplies p.now self.now.sight.bits self.now.spare.bits }
         ensures { result ≡ false → UncoversNoCheck p.now from to }
     {
         p.validity();
         from.validity();
         to.validity();
-        if has(self.uncovering_squares(p, from), to.index()) {
+        if self.uncovering_squares(p, from).has(to) {
             return is_uncovered(p, from, to);
         }
         false
@@ -248,7 +254,7 @@ impl Replies {
 
     /// What is kept of the position.
     pub fn of(p: &Position) -> Replies
-        ensures { IsReplies p.now result.sight result.spare }
+        ensures { IsReplies p.now result.sight.bits result.spare.bits }
     {
         let opponent = p.side().opponent();
         let sight = sight_squares(p, opponent);
@@ -262,12 +268,12 @@ impl Replies {
 
     /// Nothing is known: each square is held to be seen.
     pub fn unknown(p: &Position) -> Replies
-        ensures { IsReplies p.now result.sight result.spare }
+        ensures { IsReplies p.now result.sight.bits result.spare.bits }
     {
         let _ = p;
         Replies {
-            sight: ALL_SQUARES,
-            spare: 0,
+            sight: Squares::all(),
+            spare: Squares::none(),
         }
     }
 
@@ -276,7 +282,7 @@ impl Replies {
     /// move puts on its square.
     #[inline(always)]
     pub fn is_certain(&self, p: &Position, m: &Move) -> bool
-        requires kept { IsReplies p.now self.now.sight self.now.spare }
+        requires kept { IsReplies p.now self.now.sight.bits self.now.spare.bits }
         requires legal { is_legal p.now m.now ≡ true }
         ensures replied { result ≡ true → legal_codes (after p.now m.now) ≢ [] }
         ensures threats { result ≡ true → KeepsThreats p.now m.now }
@@ -286,21 +292,21 @@ impl Replies {
         match m {
             Move::Board { from, to, promote } => {
                 from.validity();
-                let end = to.index();
+                to.validity();
                 if !self.is_harmless(p, piece_moved(p.at(*from), *promote), *to) {
                     return false;
                 }
                 if self.uncovers(p, *from, *to) {
                     return false;
                 }
-                self.spare & !(1 << end) != 0
+                !self.spare.except(*to).is_empty()
             }
             Move::Drop { kind, to } => {
-                let end = to.index();
+                to.validity();
                 if !self.is_harmless(p, dropped(p.side(), *kind), *to) {
                     return false;
                 }
-                self.spare & !(1 << end) != 0
+                !self.spare.except(*to).is_empty()
             }
         }
     }
@@ -308,7 +314,7 @@ impl Replies {
     /// Whether the legal move surely uncovers no check: what it puts on its square may then be taken
     /// by each such attack, also where that gives check.
     pub fn uncovers_nothing(&self, p: &Position, m: &Move) -> bool
-        requires kept { IsReplies p.now self.now.sight self.now.spare }
+        requires kept { IsReplies p.now self.now.sight.bits self.now.spare.bits }
         requires legal { is_legal p.now m.now ≡ true }
         ensures { result ≡ true → MayRetake p.now m.now }
     {
@@ -317,7 +323,7 @@ impl Replies {
             Move::Board { from, to, .. } => {
                 from.validity();
                 to.validity();
-                !has(self.sight, from.index()) || !may_uncover(p, p.side().opponent(), *from)
+                !self.sight.has(*from) || !may_uncover(p, p.side().opponent(), *from)
             }
             Move::Drop { to, .. } => {
                 to.validity();
@@ -327,48 +333,49 @@ impl Replies {
     }
 
     /// Those of the squares on which what comes to stand may give check.
-    fn checking_squares(&self, p: &Position, cell: Option<Piece>, destinations: u128) -> u128
-        requires kept { IsReplies p.now self.now.sight self.now.spare }
-        ensures { ChecksAmong p.now cell destinations result }
+    fn checking_squares(&self, p: &Position, cell: Option<Piece>, destinations: Squares) -> Squares
+        requires kept { IsReplies p.now self.now.sight.bits self.now.spare.bits }
+        ensures { ChecksAmong p.now cell destinations.bits result.bits }
     {
         let seen = destinations & self.sight;
-        if seen == 0 {
-            return 0;
+        if seen.is_empty() {
+            return Squares::none();
         }
         seen & check_squares(p, p.side().opponent(), cell)
     }
 
     /// The squares that are not closed and leave the other side one that gives it a move.
-    fn open_squares(&self, closed: u128) -> u128
-        requires { self.now.spare < 2 ^ 81 }
-        ensures { (n : ℕ) → n < 81 → has_bit result n ≡ true
-            → IsOpen closed self.now.spare n }
+    fn open_squares(&self, closed: Squares) -> Squares
+        ensures { (n : ℕ) → n < 81 → has_bit result.bits n ≡ true
+            → IsOpen closed.bits self.now.spare.bits n }
     {
-        if self.spare == 0 {
-            return 0;
+        if self.spare.is_empty() {
+            return Squares::none();
         }
-        let one = lowest(self.spare);
-        if without_lowest(self.spare, one) != 0 {
-            return !closed;
+        let open = Squares::all().without(closed);
+        let one = lowest(self.spare.bits);
+        if without_lowest(self.spare.bits, one) != 0 {
+            return open;
         }
-        without(!closed, one)
+        open.except(Square::of_index(one))
     }
 
     /// Pieces of the side to move of which the row has each move of the kind, and each leaves the
     /// other side a legal move and gives no check, since they are far from its kings; none where the
     /// row has not all squares for moves without promotion.
-    pub fn far_pieces(&self, p: &Position, capture: bool, row: &Row) -> u128
-        requires kept { IsReplies p.now self.now.sight self.now.spare }
-        ensures { (n : ℕ) → n < 81 → has_bit result n ≡ true
+    pub fn far_pieces(&self, p: &Position, capture: bool, row: &Row) -> Squares
+        requires kept { IsReplies p.now self.now.sight.bits self.now.spare.bits }
+        ensures { (n : ℕ) → n < 81 → has_bit result.bits n ≡ true
             → HasCertainMoves p.now capture row.now n }
     {
         p.validity();
-        if ALL_SQUARES & !self.open_squares(0) != 0 {
-            return 0;
+        let open = self.open_squares(Squares::none());
+        if !Squares::all().without(open).is_empty() {
+            return Squares::none();
         }
         let ends = matching_destinations(p, capture);
-        if ends & !row.squares != 0 {
-            return 0;
+        if !ends.without(row.squares).is_empty() {
+            return Squares::none();
         }
         let promotes = row.promoting == ALL_ROLES;
         far_pieces(p, self.sight, promotes) & row.pieces
@@ -376,13 +383,14 @@ impl Replies {
 
     /// Pieces of the side to move of which each move, promoting or not, leaves the other side a legal
     /// move, since they are far from its kings.
-    pub fn remote_pieces(&self, p: &Position) -> u128
-        requires kept { IsReplies p.now self.now.sight self.now.spare }
-        ensures { AreRemote p.now result }
+    pub fn remote_pieces(&self, p: &Position) -> Squares
+        requires kept { IsReplies p.now self.now.sight.bits self.now.spare.bits }
+        ensures { AreRemote p.now result.bits }
     {
         p.validity();
-        if ALL_SQUARES & !self.open_squares(0) != 0 {
-            return 0;
+        let open = self.open_squares(Squares::none());
+        if !Squares::all().without(open).is_empty() {
+            return Squares::none();
         }
         far_pieces(p, self.sight, true)
     }
@@ -392,47 +400,49 @@ impl Replies {
     /// moves are legal need not be known.
     #[inline(always)]
     pub fn has_certain_moves(&self, p: &Position, capture: bool, row: &Row, from: Square) -> bool
-        requires kept { IsReplies p.now self.now.sight self.now.spare }
-        requires escapes { AreEscapes p.now row.now.escapes }
+        requires kept { IsReplies p.now self.now.sight.bits self.now.spare.bits }
+        requires escapes { AreEscapes p.now row.now.escapes.bits }
         ensures { result ≡ true → HasCertainMoves p.now capture row.now from }
     {
         p.validity();
         from.validity();
-        if !has(row.pieces, from.index()) {
+        if !row.pieces.has(from) {
             return false;
         }
         let promotions = row.promotions(p.at(from));
         let ends = p.as_board().targets(from) & matching_destinations(p, capture);
-        if ends & self.sight == 0 && !has(self.sight, from.index()) {
+        if (ends & self.sight).is_empty() && !self.sight.has(from) {
             let certain = self.unseen_destinations(p, from, ends);
             return are_among(p, from, ends, row.squares & certain, promotions & certain);
         }
         let promoting = ends & promoting_squares(p.at(from), from);
-        if ends & !row.squares | promoting & !promotions != 0 {
+        if !(ends.without(row.squares) | promoting.without(promotions)).is_empty() {
             return false;
         }
         let certain = self.certain_destinations(p, row.escapes, from, false, ends);
-        if ends & !certain != 0 {
+        if !ends.without(certain).is_empty() {
             return false;
         }
         let promoted = self.certain_destinations(p, row.escapes, from, true, promoting);
-        ends & !(row.squares & certain) | promoting & !(promotions & promoted) == 0
+        let uncertain = ends.without(row.squares & certain)
+            | promoting.without(promotions & promoted);
+        uncertain.is_empty()
     }
 
     /// Those of the squares to which what stands on a square may move so that the other side surely
     /// has a legal move after it and is in no check, where no king sees that square or one of these.
     #[inline(always)]
-    fn unseen_destinations(&self, p: &Position, from: Square, destinations: u128) -> u128
-        requires kept { IsReplies p.now self.now.sight self.now.spare }
-        requires unseen { has_bit self.now.sight from ≡ false }
-        requires off { bit_and destinations self.now.sight ≡ 0 }
-        ensures among { IsWithin result destinations }
+    fn unseen_destinations(&self, p: &Position, from: Square, destinations: Squares) -> Squares
+        requires kept { IsReplies p.now self.now.sight.bits self.now.spare.bits }
+        requires unseen { has_bit self.now.sight.bits from ≡ false }
+        requires off { bit_and destinations.bits self.now.sight.bits ≡ 0 }
+        ensures among { IsWithin result.bits destinations.bits }
         ensures certain { (escapes : ℕ) (promote : Bool)
-            → AreCertain p.now escapes from promote result }
+            → AreCertain p.now escapes from promote result.bits }
     {
         p.validity();
         from.validity();
-        destinations & self.open_squares(0)
+        destinations & self.open_squares(Squares::none())
     }
 
     /// Those of the squares to which what stands on a square may move, promoting or not, so that
@@ -442,22 +452,22 @@ impl Replies {
     pub fn certain_destinations(
         &self,
         p: &Position,
-        escapes: u128,
+        escapes: Squares,
         from: Square,
         promote: bool,
-        destinations: u128,
-    ) -> u128
-        requires escapes { AreEscapes p.now escapes }
-        requires kept { IsReplies p.now self.now.sight self.now.spare }
-        ensures among { IsWithin result destinations }
-        ensures certain { AreCertain p.now escapes from promote result }
+        destinations: Squares,
+    ) -> Squares
+        requires escapes { AreEscapes p.now escapes.bits }
+        requires kept { IsReplies p.now self.now.sight.bits self.now.spare.bits }
+        ensures among { IsWithin result.bits destinations.bits }
+        ensures certain { AreCertain p.now escapes.bits from promote result.bits }
     {
         p.validity();
         from.validity();
-        if destinations == 0 {
-            return 0;
+        if destinations.is_empty() {
+            return Squares::none();
         }
-        if destinations & self.sight == 0 && !has(self.sight, from.index()) {
+        if (destinations & self.sight).is_empty() && !self.sight.has(from) {
             return self.unseen_destinations(p, from, destinations);
         }
         self.certain_among(p, escapes, from, promote, destinations)
@@ -468,42 +478,48 @@ impl Replies {
     fn certain_among(
         &self,
         p: &Position,
-        escapes: u128,
+        escapes: Squares,
         from: Square,
         promote: bool,
-        destinations: u128,
-    ) -> u128
-        requires escapes { AreEscapes p.now escapes }
-        requires kept { IsReplies p.now self.now.sight self.now.spare }
-        ensures among { IsWithin result destinations }
-        ensures certain { AreCertain p.now escapes from promote result }
+        destinations: Squares,
+    ) -> Squares
+        requires escapes { AreEscapes p.now escapes.bits }
+        requires kept { IsReplies p.now self.now.sight.bits self.now.spare.bits }
+        ensures among { IsWithin result.bits destinations.bits }
+        ensures certain { AreCertain p.now escapes.bits from promote result.bits }
     {
         p.validity();
         from.validity();
         let closed = self.checking_squares(p, piece_moved(p.at(from), promote), destinations)
             | self.uncovering_squares(p, from);
         let open = destinations & self.open_squares(closed);
-        if open == destinations || escapes == 0 {
+        if open.bits == destinations.bits || escapes.is_empty() {
             return open;
         }
-        open | escaped_destinations(p, escapes, from, promote, destinations & !open)
+        open | escaped_destinations(p, escapes, from, promote, destinations.without(open))
     }
 
     /// Those of the squares on which a piece of the kind may be dropped so that the other side
     /// surely has a legal move after it: it is in no check, or its king has one of the escapes
     /// left, where there are some.
-    pub fn certain_drops(&self, p: &Position, escapes: u128, kind: Kind, destinations: u128) -> u128
-        requires escapes { AreEscapes p.now escapes }
-        requires kept { IsReplies p.now self.now.sight self.now.spare }
-        ensures among { IsWithin result destinations }
-        ensures certain { AreDropsCertain p.now escapes kind result }
+    pub fn certain_drops(
+        &self,
+        p: &Position,
+        escapes: Squares,
+        kind: Kind,
+        destinations: Squares,
+    ) -> Squares
+        requires escapes { AreEscapes p.now escapes.bits }
+        requires kept { IsReplies p.now self.now.sight.bits self.now.spare.bits }
+        ensures among { IsWithin result.bits destinations.bits }
+        ensures certain { AreDropsCertain p.now escapes.bits kind result.bits }
     {
         p.validity();
         let checking = self.checking_squares(p, dropped(p.side(), kind), destinations);
         let open = destinations & self.open_squares(checking);
-        if open == destinations || escapes == 0 {
+        if open.bits == destinations.bits || escapes.is_empty() {
             return open;
         }
-        open | escaped_drops(p, escapes, kind, destinations & !open)
+        open | escaped_drops(p, escapes, kind, destinations.without(open))
     }
 }

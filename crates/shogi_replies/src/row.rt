@@ -5,9 +5,9 @@ ghost use Rattle.shogi_core.specs.Bits.{has_bit};
 ghost use Rattle.shogi_core.specs.Same.{role_number};
 ghost use Rattle.shogi_replies.specs.Replies.{lets_promote};
 
-use shogi_core::{Piece, Role};
+use shogi_core::{Piece, Role, Squares};
 
-/// All roles, as a mask of their places in the order in which they are declared.
+/// All roles, as the bits of their places in the order in which they are declared.
 pub const ALL_ROLES: u32 = 16383;
 
 /// Moves of the pieces on some squares to some squares, with promotion those of some roles alone; and
@@ -15,10 +15,10 @@ pub const ALL_ROLES: u32 = 16383;
 /// these, a move that gives check is not passed.
 #[derive(Clone, Copy, Debug)]
 pub struct Row {
-    pub pieces: u128,
-    pub squares: u128,
+    pub pieces: Squares,
+    pub squares: Squares,
     pub promoting: u32,
-    pub escapes: u128,
+    pub escapes: Squares,
 }
 
 /// The place of the role in the order in which roles are declared.
@@ -33,16 +33,19 @@ impl Row {
     /// The squares for moves with promotion of what stands there: none where its role is none of
     /// those.
     #[inline(always)]
-    pub fn promotions(&self, cell: Option<Piece>) -> u128
-        ensures squares { (n : ℕ) → has_bit result n ≡ true → has_bit self.now.squares n ≡ true }
-        ensures promoting { (n : ℕ) → has_bit result n ≡ true
+    pub fn promotions(&self, cell: Option<Piece>) -> Squares
+        ensures squares { (n : ℕ) → has_bit result.bits n ≡ true
+            → has_bit self.now.squares.bits n ≡ true }
+        ensures promoting { (n : ℕ) → has_bit result.bits n ≡ true
             → lets_promote self.now.promoting cell ≡ true }
     {
-        let Some(piece) = cell else { return 0 };
+        let Some(piece) = cell else {
+            return Squares::none()
+        };
         if (self.promoting >> number_of(piece.role)) & 1 == 1 {
             self.squares
         } else {
-            0
+            Squares::none()
         }
     }
 }

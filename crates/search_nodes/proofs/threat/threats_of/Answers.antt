@@ -8,7 +8,7 @@ use Rattle.shogi_core.specs.Movement.{piece_at}
 use Rattle.shogi_core.specs.Pieces.{opponent_of}
 use Rattle.shogi_core.specs.Position.{Shogi}
 use Rattle.shogi_core.proofs.BitLaws.{has_bit-and, has_bit-none, has_bit-or}
-use Rattle.shogi_core.proofs.LineBits.{has_bit-not}
+use Rattle.shogi_core.proofs.LineBits.{has_bit-not, or_fits}
 use Rattle.shogi_moves.proofs.CheckInfoLaws.{other_side}
 use Rattle.shogi_replies.specs.Threats.{IsAttack, IsThreat}
 use Rattle.search_nodes.specs.Threats.{AreAttacked}
@@ -19,7 +19,8 @@ attackers-init c = record {
   unpinnable = c.unpinnable_pieces-left.ensures.unpinnable;
   takes = λ n h e. absurd (both_ways (has_bit 0 n) (has_bit-none n) e);
   prizes = c.none-prizes.ensures c.args.p.now c.args.e;
-  left = c.unpinnable_pieces-left.ensures.fits;
+  left = c.unpinnable_pieces-left.result.fits;
+  fits = omega arith;
 }
 
 -- an attack on one of the squares of the mover is a threat
@@ -41,20 +42,21 @@ attacked_more p a takes plain before more = λ n h e. elim (or_cases (has_bit ta
 ]
 
 pub with_ends-prizes-requires-clause-ends : goal.with_ends-prizes-requires-clause-ends
-with_ends-prizes-requires-clause-ends c = λ t h e. capture_at c.args.p.now c.lowest-from.result t c.own-own.result c.attacks_of-attacks.result.plain
-    (subst (λ (s : Color). (n : ℕ) → n < 81 → has_bit c.own-own.result n ≡ is_piece_of s (piece_at c.args.p.now.cells n)) c.side-2.ensures (rw c.as_board-board.ensures at c.own-own.ensures.squares.0))
-    (rw c.of_index-square.ensures at c.attacks_of-attacks.ensures.plain) h e
+with_ends-prizes-requires-clause-ends c = λ t h e. capture_at c.args.p.now c.lowest-from.result t c.own-own.result.bits c.attacks_of-attacks.result.plain.bits
+    (subst (λ (s : Color). (n : ℕ) → n < 81 → has_bit c.own-own.result.bits n ≡ is_piece_of s (piece_at c.args.p.now.cells n)) c.side-2.ensures (rw c.as_board-board.ensures at c.own-own.ensures.squares))
+    (rw c.of_index-square.ensures at c.attacks_of-attacks.ensures.plain) h (rw c.bitand.ensures at e)
 
 pub with_ends-prizes-requires-in-attackers-clause-ends :
     goal.with_ends-prizes-requires-in-attackers-clause-ends
-with_ends-prizes-requires-in-attackers-clause-ends c = λ t h e. promotion_at c.args.p.now c.lowest-from.result t c.own-theirs.result c.attacks_of-attacks.result.promoting (omega arith)
-    (subst (λ (s : Color). (n : ℕ) → n < 81 → has_bit c.own-theirs.result n ≡ is_piece_of s (piece_at c.args.p.now.cells n)) (c.opponent-2.ensures ∙ ap opponent_of c.side-3.ensures) (rw c.as_board-board.ensures at c.own-theirs.ensures.squares.0))
-    (rw c.of_index-square.ensures at c.attacks_of-attacks.ensures.promoting) h e
+with_ends-prizes-requires-in-attackers-clause-ends c = λ t h e. promotion_at c.args.p.now c.lowest-from.result t c.own-theirs.result.bits c.attacks_of-attacks.result.promoting.bits (omega arith)
+    (subst (λ (s : Color). (n : ℕ) → n < 81 → has_bit c.own-theirs.result.bits n ≡ is_piece_of s (piece_at c.args.p.now.cells n)) (c.opponent-2.ensures ∙ ap opponent_of c.side-3.ensures) (rw c.as_board-board.ensures at c.own-theirs.ensures.squares))
+    (rw c.of_index-square.ensures at c.attacks_of-attacks.ensures.promoting) h (rw c.without.ensures at e)
 
 pub attackers-preserved : goal.attackers-preserved
 attackers-preserved c = record {
   unpinnable = search rules;
-  takes = attacked_more c.args.p.now c.lowest-from.result c.attackers.takes c.attacks_of-attacks.result.plain c.attackers.invariant.takes (rw c.of_index-square.ensures at c.attacks_of-attacks.ensures.plain);
+  takes = attacked_more c.args.p.now c.lowest-from.result c.attackers.takes c.attacks_of-attacks.result.plain.bits c.attackers.invariant.takes (rw c.of_index-square.ensures at c.attacks_of-attacks.ensures.plain);
   prizes = c.with_ends-prizes-in-attackers.ensures;
   left = search rules;
+  fits = or_fits c.attackers.takes c.attacks_of-attacks.result.plain.bits c.attackers.invariant.fits c.attacks_of-attacks.result.plain.fits;
 }

@@ -10,6 +10,7 @@ invariant-attackers l = record {
   takes : AreAttacked l.p l.takes;
   prizes : ArePrizesIn l.p l.e l.prizes;
   left : l.left < 2 ^ 81;
+  fits : l.takes < 2 ^ 81;
 }
 
 abbrev pub decreases-attackers : goal.decreases-attackers

@@ -7,24 +7,28 @@ use Rattle.shogi_core.proofs.Pins.{marked_fits}
 use Rattle.shogi_core.proofs.Shots.{attacked_by_slide, step_alike, steps_alike}
 use Rattle.shogi_core.proofs.attack.answering_squares.Goals as goal
 
-pub returns-in-Some-clause-stays : goal.returns-in-Some-clause-stays
-returns-in-Some-clause-stays c = λ _. step_stays c.with.result c.args.board.now c.args.by c.args.square c.in-Some.from c.requires c.in-Some.ensures.range
-    (sym (step_alike c.args.board.now c.args.board.now c.args.by c.own.result c.own.ensures.squares.0 (λ n l e. refl) c.args.square c.in-Some.from c.in-Some.ensures.range) ∙ c.in-Some.ensures.steps)
-    (one_bit c.with.result c.in-Some.from c.with.ensures)
+pub returns-in-Some : goal.returns-in-Some
+returns-in-Some c = record {
+  stays = λ _. step_stays c.with.result c.args.board.now c.args.by c.args.square c.in-Some.from c.requires c.in-Some.ensures.range
+      (sym (step_alike c.args.board.now c.args.board.now c.args.by c.own.result.bits c.own.ensures.squares (λ n l e. refl) c.args.square c.in-Some.from c.in-Some.ensures.range) ∙ c.in-Some.ensures.steps)
+      (one_bit c.with.result c.in-Some.from c.with.ensures);
+}
 
-pub returns-in-Some-clause-fits : goal.returns-in-Some-clause-fits
-returns-in-Some-clause-fits c = marked_fits 0 c.with.result c.in-Some.from (omega arith) c.in-Some.ensures.range c.with.type_inv c.with.ensures
+pub invariant_of-result : goal.invariant_of-result
+invariant_of-result c = record { fits = marked_fits 0 c.with.result c.in-Some.from (omega arith) c.in-Some.ensures.range c.with.type_inv c.with.ensures }
 
 pub loop-direction-init : goal.loop-direction-init
 loop-direction-init c = some_below_none (is_shot_along c.args.board.now c.args.by c.args.square)
 
-pub returns-then-is_shot_along-clause-stays : goal.returns-then-is_shot_along-clause-stays
-returns-then-is_shot_along-clause-stays c = λ _. shot_stays c.slide_squares.result c.args.board.now c.args.by c.args.square c.loop-direction.direction c.requires (omega arith) (search rules) c.slide_squares.ensures.squares.0
+pub returns-then-is_shot_along : goal.returns-then-is_shot_along
+returns-then-is_shot_along c = record { stays = λ _. shot_stays c.slide_squares.result.bits c.args.board.now c.args.by c.args.square c.loop-direction.direction c.requires (omega arith) (search rules) c.slide_squares.ensures.squares }
 
 pub loop-direction-preserved : goal.loop-direction-preserved
 loop-direction-preserved c =
     some_below_more c.loop-direction.direction (is_shot_along c.args.board.now c.args.by c.args.square) ∙ or_from _ _ c.loop-direction.invariant (search rules)
 
-pub returns-clause-stays : goal.returns-clause-stays
-returns-clause-stays c = λ attacked. absurd (both_ways (is_attacked c.args.board.now c.args.by c.args.square)
-    (sym (attacked_by_slide c.args.board.now c.args.by c.args.square c.requires false (sym (steps_alike c.args.board.now c.args.board.now c.args.by c.own.result c.own.ensures.squares.0 (λ n l e. refl) c.args.square) ∙ c.in_default.ensures.none (search rules)) (search rules))) attacked)
+pub returns : goal.returns
+returns c = record {
+  stays = λ attacked. absurd (both_ways (is_attacked c.args.board.now c.args.by c.args.square)
+      (sym (attacked_by_slide c.args.board.now c.args.by c.args.square c.requires false (sym (steps_alike c.args.board.now c.args.board.now c.args.by c.own.result.bits c.own.ensures.squares (λ n l e. refl) c.args.square) ∙ c.in_default.ensures.none (search rules)) (search rules))) attacked);
+}

@@ -6,8 +6,8 @@ use Rattle.shogi_core.proofs.attack.first_stepper.Given as goal
 
 abbrev pub invariant-loop-left : goal.invariant-loop-left
 invariant-loop-left l = record {
-  covers : Covers l.left (is_step_among l.board l.among l.square);
-  among : (n : ℕ) → n < 81 → has_bit l.left n ≡ true → has_bit l.among n ≡ true;
+  covers : Covers l.left (is_step_among l.board l.fn.among.bits l.square);
+  among : (n : ℕ) → n < 81 → has_bit l.left n ≡ true → has_bit l.fn.among.bits n ≡ true;
   fits : l.left < 2 ^ 81;
 }
 

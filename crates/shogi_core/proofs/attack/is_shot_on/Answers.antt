@@ -10,9 +10,9 @@ use Rattle.shogi_core.proofs.attack.is_shot_on.Goals as goal
 
 pub loop-left-init : goal.loop-left-init
 loop-left-init c = record {
-  covers = shots_first c.args.board.now c.args.by c.args.square c.requires.square c.args.snipers c.requires.snipers c.args.direction c.slide_squares.result c.requires.direction c.slide_squares.ensures.squares.0;
-  clear = λ n h e. shots_open c.args.board.now c.args.by c.args.square c.requires.square c.args.snipers c.requires.snipers c.args.direction c.slide_squares.result n c.slide_squares.ensures.squares.0 h e;
-  fits = and_fits c.slide_squares.result c.args.snipers c.slide_squares.ensures.squares.1;
+  covers = shots_first c.args.board.now c.args.by c.args.square c.requires.square c.args.snipers.bits c.requires.snipers c.args.direction c.slide_squares.result.bits c.requires.direction c.slide_squares.ensures.squares;
+  clear = λ n h e. shots_open c.args.board.now c.args.by c.args.square c.requires.square c.args.snipers.bits c.requires.snipers c.args.direction c.slide_squares.result.bits n c.slide_squares.ensures.squares h e;
+  fits = and_fits c.slide_squares.result.bits c.args.snipers.bits c.slide_squares.result.fits;
 }
 
 pub returns-then-slides_back : goal.returns-then-slides_back

@@ -7,16 +7,16 @@ use Rattle.shogi_core.proofs.Shots.{none_shoots, first_shoots, first_harmless}
 use Rattle.shogi_core.proofs.attack.is_shot_past.Goals as goal
 
 pub returns-in_default : goal.returns-in_default
-returns-in_default c = λ color seen shows. none_shoots seen color c.args.square c.requires.square c.args.snipers shows.snipers_on c.args.direction (c.in_default.ensures.first seen shows.pieces)
+returns-in_default c = λ color seen shows. none_shoots seen color c.args.square c.requires.square c.args.snipers.bits shows.snipers_on c.args.direction (c.in_default.ensures.first seen shows.pieces)
 
 pub returns-then-not-has : goal.returns-then-not-has
-returns-then-not-has c = λ color seen shows. first_harmless seen color c.args.square c.requires.square c.args.snipers shows.snipers_on
+returns-then-not-has c = λ color seen shows. first_harmless seen color c.args.square c.requires.square c.args.snipers.bits shows.snipers_on
     c.args.direction c.in-Some.first c.requires.direction c.in-Some.ensures.range (c.in-Some.ensures.first seen shows.pieces).reached (c.in-Some.ensures.first seen shows.pieces).piece (sym c.if-not-has.ensures)
 
 pub returns : goal.returns
 returns c = λ color seen shows.
-    let set : has_bit c.args.snipers c.in-Some.first ≡ true = search rules in
+    let set : has_bit c.args.snipers.bits c.in-Some.first ≡ true = search rules in
     let against : c.slides_back.result ≡ cell_slides_back (direction_at c.args.direction) (piece_at c.args.board.now c.in-Some.first) = search rules in
     (against ∙ ap (cell_slides_back (direction_at c.args.direction)) (sym (shows.same c.in-Some.first c.in-Some.ensures.range set)))
-    ∙ first_shoots seen color c.args.square c.requires.square c.args.snipers shows.snipers_on
+    ∙ first_shoots seen color c.args.square c.requires.square c.args.snipers.bits shows.snipers_on
     c.args.direction c.in-Some.first c.requires.direction c.in-Some.ensures.range (c.in-Some.ensures.first seen shows.pieces).reached (c.in-Some.ensures.first seen shows.pieces).piece set

@@ -3,4 +3,4 @@ use Rattle.shogi_core.proofs.Shots.{steps_alike}
 use Rattle.shogi_core.proofs.attack.is_stepped_on.Goals as goal
 
 pub returns : goal.returns
-returns c = c.is_stepped_on_among.ensures ∙ steps_alike c.args.board.now c.args.board.now c.args.by c.own.result c.own.ensures.squares.0 (λ n l e. refl) c.args.square
+returns c = c.is_stepped_on_among.ensures ∙ steps_alike c.args.board.now c.args.board.now c.args.by c.own.result.bits c.own.ensures.squares (λ n l e. refl) c.args.square

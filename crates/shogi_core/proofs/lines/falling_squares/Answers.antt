@@ -1,19 +1,15 @@
-use Rattle.std.proofs.Common.{arith, ◌-◌}
-use Rattle.std.proofs.lemmas.Nat.{and_le_l}
 use Rattle.shogi_core.specs.Rays.{direction_at}
 use Rattle.shogi_core.proofs.LineBits.{falling_bits, falling_end, direction_falls}
 use Rattle.shogi_core.proofs.lines.falling_squares.Goals as goal
 
 pub returns : goal.returns
 returns c = record {
-  squares = (
-    λ b h.
-        rw (c.ray-line.ensures.ray, c.ray.ensures.ray)
-        (falling_bits c.args.board.now (direction_at c.args.direction) c.args.from c.occupied.result c.occupied.ensures
-        (direction_falls c.args.direction c.requires.direction.0 c.requires.direction.1)
-        (falling_end c.args.direction c.requires.direction.0 c.requires.direction.1)
-        c.highest-first.result c.highest-first.ensures.range
-        (rw c.ray-line.ensures.ray at c.highest-first.ensures.set) (rw c.ray-line.ensures.ray at c.highest-first.ensures.greatest) b h),
-    omega (arith, and_le_l c.ray-line.result (340282366920938463463374607431768211455 - c.ray.result), c.ray-line.ensures.fits),
-  );
+  squares =
+      λ b h.
+      rw (c.ray-line.ensures.ray, c.ray.ensures.ray)
+      (falling_bits c.args.board.now (direction_at c.args.direction) c.args.from c.occupied.result.bits c.occupied.ensures
+      (direction_falls c.args.direction c.requires.direction.0 c.requires.direction.1)
+      (falling_end c.args.direction c.requires.direction.0 c.requires.direction.1)
+      c.highest-first.result c.highest-first.ensures.range
+      (rw c.ray-line.ensures.ray at c.highest-first.ensures.set) (rw c.ray-line.ensures.ray at c.highest-first.ensures.greatest) b h);
 }

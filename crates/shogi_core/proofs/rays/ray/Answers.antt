@@ -5,7 +5,9 @@ use Rattle.shogi_core.proofs.RayTable.{rays_right}
 use Rattle.shogi_core.proofs.LineBits.{ray_fits}
 use Rattle.shogi_core.proofs.rays.ray.Goals as goal
 
+pub invariant_of-result : goal.invariant_of-result
+invariant_of-result c =
+    record { fits = subst (λ (m : ℕ). m < 2 ^ 81) (sym (rays_right c.args.direction c.args.from c.requires.direction c.requires.from)) (ray_fits (direction_at c.args.direction) c.args.from) }
+
 pub returns : goal.returns
-returns c =
-    let e = rays_right c.args.direction c.args.from c.requires.direction c.requires.from in
-    record { ray = e; fits = subst (λ (m : ℕ). m < 2 ^ 81) (sym e) (ray_fits (direction_at c.args.direction) c.args.from) }
+returns c = record { ray = rays_right c.args.direction c.args.from c.requires.direction c.requires.from }

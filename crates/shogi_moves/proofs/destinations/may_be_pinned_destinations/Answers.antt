@@ -7,12 +7,9 @@ use Rattle.shogi_moves.proofs.destinations.may_be_pinned_destinations.Goals as g
 
 pub returns-then-known : goal.returns-then-known
 returns-then-known c = record {
-  squares = (
-    λ n h. (
-        let off : has_bit c.kings.result c.args.from ≡ false = search rules in
-        c.tried_destinations.ensures.squares.0 n h
-        ∙ narrowed c.args.destinations c.args.known.now.info.pinned_or_king n (is_unchecked c.args.known.now.position.now (Board c.args.from n false))
-        (λ _ out. no_answer c.args.known.now.position.now c.args.known.now.info.checked c.args.known.now.info.pinned_or_king c.args.from n c.args.known.now.right c.if-known.true c.validity.ensures.cells_fit (omega arith) h c.requires.own (sym (rw (c.side.ensures, c.as_board.ensures) at c.kings.ensures.squares.0 c.args.from (omega arith)) ∙ off) out)),
-    c.tried_destinations.ensures.squares.1,
-  );
+  squares = λ n h. (
+      let off : has_bit c.kings.result.bits c.args.from ≡ false = search rules in
+      (rw c.bitand.ensures at c.tried_destinations.ensures.squares) n h
+      ∙ narrowed c.args.destinations.bits c.args.known.now.info.pinned_or_king.bits n (is_unchecked c.args.known.now.position.now (Board c.args.from n false))
+      (λ _ out. no_answer c.args.known.now.position.now c.args.known.now.info.checked c.args.known.now.info.pinned_or_king.bits c.args.from n c.args.known.now.right c.if-known.true c.validity.ensures.cells_fit (omega arith) h c.requires.own (sym (rw (c.side.ensures, c.as_board.ensures) at c.kings.ensures.squares c.args.from (omega arith)) ∙ off) out));
 }

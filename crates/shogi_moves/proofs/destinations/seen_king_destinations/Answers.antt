@@ -6,5 +6,5 @@ use Rattle.shogi_moves.proofs.destinations.seen_king_destinations.Goals as goal
 
 pub returns : goal.returns
 returns c = record {
-  squares = (sifted_mask _ c.args.destinations c.sift.result (λ n. is_unchecked c.args.p.now (Board c.args.from n false)) (λ n b h p. search rules) c.sift.ensures.sifted, c.sift.ensures.fits);
+  squares = sifted_mask _ c.args.destinations.bits c.sift.result.bits (λ n. is_unchecked c.args.p.now (Board c.args.from n false)) (λ n b h p. search rules) c.sift.ensures.sifted;
 }

@@ -7,5 +7,5 @@ use Rattle.shogi_moves.proofs.drops.tried_drops.Goals as goal
 
 pub returns : goal.returns
 returns c = record {
-  squares = (sifted_mask _ c.args.squares c.sift.result (λ n. is_unchecked c.args.p.now (Drop kinds.Pawn n)) (λ n b h p. search rules) c.sift.ensures.sifted, c.sift.ensures.fits);
+  squares = sifted_mask _ c.args.squares.bits c.sift.result.bits (λ n. is_unchecked c.args.p.now (Drop kinds.Pawn n)) (λ n b h p. search rules) c.sift.ensures.sifted;
 }

@@ -13,5 +13,5 @@ returns-clause-within c = λ n e. (and_parts _ _ (sym (has_bit-and _ _ n) ∙ e)
 pub returns-clause-none : goal.returns-clause-none
 returns-clause-none c = λ n t hn ht set out.
     subst (λ (capture : Bool). (reaches c.args.p.now.cells n t && is_destination capture c.args.p.now.side (piece_at c.args.p.now.cells t)) ≡ false) (sym c.if-not-capture.false)
-    (reaches_none c.args.p.now c.args.pieces c.sliders.result c.squares_near.result n t hn ht set out (rw c.as_board-board.ensures at c.sliders.ensures.squares.0)
-    (λ theirs near. c.squares_near.ensures n t hn ht ((rw (c.opponent.ensures, c.side.ensures, c.as_board-board.ensures) at c.own.ensures.squares.0) t ht ∙ theirs) near))
+    (reaches_none c.args.p.now c.args.pieces.bits c.sliders.result.bits c.squares_near-near.result n t hn ht set out (rw c.as_board-board.ensures at c.sliders.ensures.squares)
+    (λ theirs near. c.squares_near-near.ensures n t hn ht ((rw (c.opponent.ensures, c.side.ensures, c.as_board-board.ensures) at c.own.ensures.squares) t ht ∙ theirs) near))

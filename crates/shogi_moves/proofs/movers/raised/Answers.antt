@@ -2,5 +2,5 @@ use Rattle.std.proofs.Common.{◌+◌, refl}
 use Rattle.shogi_moves.proofs.MoverLaws.{moved_up}
 use Rattle.shogi_moves.proofs.movers.raised.Goals as goal
 
-pub returns-clause-bits : goal.returns-clause-bits
-returns-clause-bits c = λ n set. moved_up c.args.mask c.args.places (n + c.args.places) n c.requires.fits c.requires.places refl set
+pub returns-clause-raised : goal.returns-clause-raised
+returns-clause-raised c = λ n set. moved_up c.args.bits c.args.places (n + c.args.places) n c.requires.fits c.requires.places refl set

@@ -4,6 +4,6 @@ use Rattle.shogi_moves.proofs.next.kept_at.Goals as goal
 
 pub returns-then-not-is_piece_of-clause-kept : goal.returns-then-not-is_piece_of-clause-kept
 returns-then-not-is_piece_of-clause-kept c = record {
-  plain = (λ n h. nowhere c.args.known.now.position.now false c.args.from n (omega arith) h (search rules), omega arith);
-  promoting = (λ n h. nowhere c.args.known.now.position.now true c.args.from n (omega arith) h (search rules), omega arith);
+  plain = rw c.none.ensures (λ n h. nowhere c.args.known.now.position.now false c.args.from n (omega arith) h (search rules));
+  promoting = rw c.none-then-not-is_piece_of.ensures (λ n h. nowhere c.args.known.now.position.now true c.args.from n (omega arith) h (search rules));
 }

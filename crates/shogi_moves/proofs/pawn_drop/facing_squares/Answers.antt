@@ -1,6 +1,6 @@
 use Rattle.shogi_moves.proofs.DropChecks.{far_pawn}
 use Rattle.shogi_moves.proofs.pawn_drop.facing_squares.Goals as goal
 
-pub returns-clause-far : goal.returns-clause-far
-returns-clause-far c = λ n h out. far_pawn c.args.p.now n c.in-Some.king c.step_squares.result c.validity.ensures h
-    (rw (c.opponent-opponent.ensures, c.side.ensures) at c.in-Some.ensures.lone) (rw (c.opponent-opponent.ensures, c.side.ensures, c.index.ensures.index) at c.step_squares.ensures.squares.0) out
+pub returns : goal.returns
+returns c = λ n h out. far_pawn c.args.p.now n c.in-Some.king c.step_squares.result.bits c.validity.ensures h
+    (rw (c.opponent-opponent.ensures, c.side.ensures) at c.in-Some.ensures.lone) (rw (c.opponent-opponent.ensures, c.side.ensures, c.index.ensures.index) at c.step_squares.ensures.squares) out

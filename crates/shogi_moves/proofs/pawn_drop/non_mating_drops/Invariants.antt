@@ -7,7 +7,7 @@ use Rattle.shogi_moves.proofs.pawn_drop.non_mating_drops.Given as goal
 
 abbrev pub invariant-loop-left : goal.invariant-loop-left
 invariant-loop-left l = record {
-  sifts : Sifts l.destinations l.left l.kept (λ n. not (is_pawn_drop_mate l.p (Drop kinds.Pawn n)));
+  sifts : Sifts l.fn.destinations.bits l.left l.kept (λ n. not (is_pawn_drop_mate l.p (Drop kinds.Pawn n)));
   left : l.left < 2 ^ 81;
   fits : l.kept < 2 ^ 81;
 }

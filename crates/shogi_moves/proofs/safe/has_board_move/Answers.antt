@@ -1,4 +1,5 @@
-use Rattle.std.proofs.Common.{◌+◌, ◌∙◌, refl, arith}
+use Rattle.std.proofs.Common.{◌+◌, ◌∙◌, refl, sym, arith}
+use Rattle.shogi_moves.proofs.DestinationLaws.{none_there, some_there}
 use Rattle.shogi_moves.proofs.ExistenceLaws.{piece_with, piece_without}
 use Rattle.shogi_moves.proofs.LegalLaws.{pieces_first, next_piece, pieces_after, no_piece_left}
 use Rattle.shogi_moves.proofs.safe.has_board_move.Goals as goal
@@ -6,13 +7,13 @@ use Rattle.shogi_moves.proofs.safe.has_board_move.Goals as goal
 pub pieces-init : goal.pieces-init
 pieces-init c = record {
   first = 0;
-  pieces = pieces_first c.args.known.now.position.now c.own-left.result (rw (c.side.ensures, c.as_board.ensures) at c.own-left.ensures.squares.0);
+  pieces = pieces_first c.args.known.now.position.now c.own-left.result.bits (rw (c.side.ensures, c.as_board.ensures) at c.own-left.ensures.squares);
   same = refl;
-  fits = c.own-left.ensures.squares.1;
+  fits = c.own-left.result.fits;
 }
 
-pub returns-then-destinations-ne0-clause-some : goal.returns-then-destinations-ne0-clause-some
-returns-then-destinations-ne0-clause-some c = λ _. piece_with c.args.known.now.position.now c.of_index-from.result c.all_destinations-destinations.result c.all_destinations-destinations.ensures c.if-destinations-ne0.true
+pub returns-then-not-is_empty-clause-some : goal.returns-then-not-is_empty-clause-some
+returns-then-not-is_empty-clause-some c = λ _. piece_with c.args.known.now.position.now c.of_index-from.result c.all_destinations-destinations.result c.all_destinations-destinations.ensures (rw c.bitor.ensures at (some_there _ _ c.is_empty.ensures c.if-not-is_empty.true))
 
 pub pieces-preserved : goal.pieces-preserved
 pieces-preserved c =
@@ -20,7 +21,7 @@ pieces-preserved c =
     record {
       first = c.lowest-square.result + 1;
       pieces = pieces_after c.args.known.now.position.now c.pieces.left c.without_lowest-left.result c.pieces.invariant.first c.lowest-square.result c.pieces.invariant.pieces reached.0 c.lowest-square.ensures.range c.lowest-square.ensures.least c.without_lowest-left.ensures.bits;
-      same = c.pieces.invariant.same ∙ (reached.2 ∙ piece_without c.args.known.now.position.now c.lowest-square.result c.all_destinations-destinations.result c.lowest-square.ensures.range (rw c.of_index-from.ensures at c.all_destinations-destinations.ensures) (omega (arith, c.if-destinations-ne0.false)));
+      same = c.pieces.invariant.same ∙ (reached.2 ∙ piece_without c.args.known.now.position.now c.lowest-square.result c.all_destinations-destinations.result c.lowest-square.ensures.range (rw c.of_index-from.ensures at c.all_destinations-destinations.ensures) (sym c.bitor.ensures ∙ none_there _ _ c.is_empty.ensures c.if-not-is_empty.false));
       fits = omega (arith, c.without_lowest-left.ensures.less, c.pieces.invariant.fits);
     }
 

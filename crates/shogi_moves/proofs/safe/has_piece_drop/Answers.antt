@@ -2,7 +2,7 @@ use Rattle.std.proofs.Common.{◌≡◌, ◌+◌, ◌*◌, ◌∙◌, arith, ap}
 use Rattle.shogi_core.specs.declared.moves.TheConstants.{FIRST_DROP}
 use Rattle.shogi_core.specs.Pieces.{kind_number}
 use Rattle.shogi_moves.specs.LegalMoves.{legal_from}
-use Rattle.shogi_moves.proofs.DestinationLaws.{legal_other}
+use Rattle.shogi_moves.proofs.DestinationLaws.{legal_other, none_there, some_there}
 use Rattle.shogi_moves.proofs.ExistenceLaws.{kind_with, kind_without, not_pawn}
 use Rattle.shogi_moves.proofs.LegalLaws.{legal_from_end}
 use Rattle.shogi_moves.proofs.safe.has_piece_drop.Goals as goal
@@ -11,10 +11,10 @@ pub kinds-preserved : goal.kinds-preserved
 kinds-preserved c =
     let next : kind_number c.in-Some.next ≡ kind_number c.kinds.kind + 1 = c.in-Some.ensures in
     let here : FIRST_DROP + 81 + kind_number c.kinds.kind * 81 ≡ FIRST_DROP + kind_number c.in-Some.next * 81 = omega arith in
-    c.kinds.invariant ∙ (ap (legal_from c.args.p.now) here ∙ kind_without c.args.p.now c.in-Some.next c.safe_drops.result (λ n h. legal_other c.args.p.now c.in-Some.next c.safe_drops.result n h (not_pawn c.in-Some.next (omega (arith, c.in-Some.ensures))) (c.safe_drops.ensures.squares.0 n h)) (omega arith))
+    c.kinds.invariant ∙ (ap (legal_from c.args.p.now) here ∙ kind_without c.args.p.now c.in-Some.next c.safe_drops.result.bits (λ n h. legal_other c.args.p.now c.in-Some.next c.safe_drops.result.bits n h (not_pawn c.in-Some.next (omega (arith, c.in-Some.ensures))) (c.safe_drops.ensures.squares n h)) (none_there _ _ c.is_empty.ensures c.if-not-is_empty.false))
 
-pub returns-then-safe_drops-ne0-clause-some : goal.returns-then-safe_drops-ne0-clause-some
-returns-then-safe_drops-ne0-clause-some c = λ _. kind_with c.args.p.now c.in-Some.next c.safe_drops.result c.safe_drops.ensures.squares.1 (λ n h. legal_other c.args.p.now c.in-Some.next c.safe_drops.result n h (not_pawn c.in-Some.next (omega (arith, c.in-Some.ensures))) (c.safe_drops.ensures.squares.0 n h)) c.if-safe_drops-ne0.true
+pub returns-then-not-is_empty-clause-some : goal.returns-then-not-is_empty-clause-some
+returns-then-not-is_empty-clause-some c = λ _. kind_with c.args.p.now c.in-Some.next c.safe_drops.result.bits c.safe_drops.result.fits (λ n h. legal_other c.args.p.now c.in-Some.next c.safe_drops.result.bits n h (not_pawn c.in-Some.next (omega (arith, c.in-Some.ensures))) (c.safe_drops.ensures.squares n h)) (some_there _ _ c.is_empty.ensures c.if-not-is_empty.true)
 
 pub returns-clause-none : goal.returns-clause-none
 returns-clause-none c = λ _. (

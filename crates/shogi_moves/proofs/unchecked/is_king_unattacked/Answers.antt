@@ -14,11 +14,11 @@ pub returns-then-index : goal.returns-then-index
 returns-then-index c =
     let pseudo : is_pseudo_legal c.args.p.now (Board c.in-Board.from c.in-Board.to c.in-Board.promote) ≡ true = subst (λ (m : Move). is_pseudo_legal c.args.p.now m ≡ true) c.in-Board.is c.requires.pseudo in
     let ends = and_parts _ _ (and_parts _ _ (and_parts _ _ (and_parts _ _ pseudo).0).0).0 in
-    let seen = board_seen c.args.p.now c.in-Board.from c.in-Board.to c.in-Board.promote c.validity.ensures.cells_fit c.validity-in-Board.ensures c.validity-in-Board-2.ensures ends.0 c.own-theirs.result c.without-among.result c.occupied.result c.without.result c.with-occupied.result
-    (rw (c.opponent.ensures, c.side.ensures, c.as_board-board.ensures) at c.own-theirs.ensures.squares.0) (λ n h. (rw c.index.ensures.index at c.without-among.ensures) n) (rw c.as_board-board.ensures at c.occupied.ensures) (λ n h. (rw c.index-in-Board.ensures.index at c.without.ensures) n) (λ n h. (rw c.index-in-Board-2.ensures.index at c.with-occupied.ensures) n) in
+    let seen = board_seen c.args.p.now c.in-Board.from c.in-Board.to c.in-Board.promote c.validity.ensures.cells_fit c.validity-in-Board.ensures c.validity-in-Board-2.ensures ends.0 c.own-theirs.result.bits c.except-among.result.bits c.occupied.result.bits c.except.result.bits c.with-occupied.result.bits
+    (rw (c.opponent.ensures, c.side.ensures, c.as_board-board.ensures) at c.own-theirs.ensures.squares) (λ n h. c.except-among.ensures n) (rw c.as_board-board.ensures at c.occupied.ensures) (λ n h. c.except.ensures n) (λ n h. c.with-occupied.ensures n) in
     let found = (rw c.as_board-board.ensures at c.is_attacked_among.ensures) (opponent_of c.args.p.now.side) (moved c.args.p.now c.in-Board.from c.in-Board.to c.in-Board.promote) seen in
     subst (λ (m : Move). not c.is_attacked_among.result ≡ is_unchecked c.args.p.now m) (sym c.in-Board.is)
-    (let here : c.in-Board.from ≡ c.args.king = sym c.index-in-Board-3.ensures.index ∙ (c.if-index.true ∙ c.index-in-Board-4.ensures.index) in
+    (let here : c.in-Board.from ≡ c.args.king = sym c.index.ensures.index ∙ (c.if-index.true ∙ c.index-in-Board.ensures.index) in
     king_goes c.args.p.now c.in-Board.from c.in-Board.to c.in-Board.promote c.validity.ensures.cells_fit c.validity-in-Board.ensures c.validity-in-Board-2.ensures ends.0 c.is_attacked_among.result
     (subst (λ (k : ℕ). is_king c.args.p.now.side (piece_at c.args.p.now.cells k) ≡ true) (sym here) c.requires.king) (subst (λ (k : ℕ). HasNoOtherKing c.args.p.now.cells c.args.p.now.side k) (sym here) c.requires.lone) found)
 
@@ -26,19 +26,19 @@ pub returns-else-index : goal.returns-else-index
 returns-else-index c =
     let pseudo : is_pseudo_legal c.args.p.now (Board c.in-Board.from c.in-Board.to c.in-Board.promote) ≡ true = subst (λ (m : Move). is_pseudo_legal c.args.p.now m ≡ true) c.in-Board.is c.requires.pseudo in
     let ends = and_parts _ _ (and_parts _ _ (and_parts _ _ (and_parts _ _ pseudo).0).0).0 in
-    let seen = board_seen c.args.p.now c.in-Board.from c.in-Board.to c.in-Board.promote c.validity.ensures.cells_fit c.validity-in-Board.ensures c.validity-in-Board-2.ensures ends.0 c.own-theirs.result c.without-among.result c.occupied.result c.without.result c.with-occupied.result
-    (rw (c.opponent.ensures, c.side.ensures, c.as_board-board.ensures) at c.own-theirs.ensures.squares.0) (λ n h. (rw c.index.ensures.index at c.without-among.ensures) n) (rw c.as_board-board.ensures at c.occupied.ensures) (λ n h. (rw c.index-in-Board.ensures.index at c.without.ensures) n) (λ n h. (rw c.index-in-Board-2.ensures.index at c.with-occupied.ensures) n) in
+    let seen = board_seen c.args.p.now c.in-Board.from c.in-Board.to c.in-Board.promote c.validity.ensures.cells_fit c.validity-in-Board.ensures c.validity-in-Board-2.ensures ends.0 c.own-theirs.result.bits c.except-among.result.bits c.occupied.result.bits c.except.result.bits c.with-occupied.result.bits
+    (rw (c.opponent.ensures, c.side.ensures, c.as_board-board.ensures) at c.own-theirs.ensures.squares) (λ n h. c.except-among.ensures n) (rw c.as_board-board.ensures at c.occupied.ensures) (λ n h. c.except.ensures n) (λ n h. c.with-occupied.ensures n) in
     let found = (rw c.as_board-board.ensures at c.is_attacked_among-in-Board.ensures) (opponent_of c.args.p.now.side) (moved c.args.p.now c.in-Board.from c.in-Board.to c.in-Board.promote) seen in
     subst (λ (m : Move). not c.is_attacked_among-in-Board.result ≡ is_unchecked c.args.p.now m) (sym c.in-Board.is)
     (king_left c.args.p.now c.in-Board.from c.in-Board.to c.in-Board.promote c.validity.ensures.cells_fit c.validity-in-Board.ensures c.validity-in-Board-2.ensures ends.0 c.args.king c.is_attacked_among-in-Board.result c.validity-2.ensures
-    (λ e. c.if-index.false (c.index-in-Board-3.ensures.index ∙ (sym e ∙ sym c.index-in-Board-4.ensures.index))) c.requires.king c.requires.lone (not-true _ ends.1) found)
+    (λ e. c.if-index.false (c.index.ensures.index ∙ (sym e ∙ sym c.index-in-Board.ensures.index))) c.requires.king c.requires.lone (not-true _ ends.1) found)
 
 pub returns-in-Drop : goal.returns-in-Drop
 returns-in-Drop c =
     let pseudo : is_pseudo_legal c.args.p.now (Drop c.in-Drop.kind c.in-Drop.to) ≡ true = subst (λ (m : Move). is_pseudo_legal c.args.p.now m ≡ true) c.in-Drop.is c.requires.pseudo in
     let bare = (and_parts _ _ (and_parts _ _ (and_parts _ _ pseudo).0).0).1 in
-    let seen = drop_seen c.args.p.now c.in-Drop.kind c.in-Drop.to c.validity.ensures.cells_fit c.validity-in-Drop.ensures bare c.own-theirs.result c.occupied-in-Drop.result c.with-occupied-in-Drop.result
-    (rw (c.opponent.ensures, c.side.ensures, c.as_board-board.ensures) at c.own-theirs.ensures.squares.0) (rw c.as_board-board.ensures at c.occupied-in-Drop.ensures) (λ n h. (rw c.index-in-Drop.ensures.index at c.with-occupied-in-Drop.ensures) n) in
+    let seen = drop_seen c.args.p.now c.in-Drop.kind c.in-Drop.to c.validity.ensures.cells_fit c.validity-in-Drop.ensures bare c.own-theirs.result.bits c.occupied-in-Drop.result.bits c.with-occupied-in-Drop.result.bits
+    (rw (c.opponent.ensures, c.side.ensures, c.as_board-board.ensures) at c.own-theirs.ensures.squares) (rw c.as_board-board.ensures at c.occupied-in-Drop.ensures) (λ n h. c.with-occupied-in-Drop.ensures n) in
     subst (λ (m : Move). not c.is_attacked_among-in-Drop.result ≡ is_unchecked c.args.p.now m) (sym c.in-Drop.is)
     (king_left_by_drop c.args.p.now c.in-Drop.kind c.in-Drop.to c.validity.ensures.cells_fit c.validity-in-Drop.ensures bare c.args.king c.is_attacked_among-in-Drop.result c.validity-2.ensures c.requires.king c.requires.lone
     ((rw c.as_board-board.ensures at c.is_attacked_among-in-Drop.ensures) (opponent_of c.args.p.now.side) (with_drop c.args.p.now c.in-Drop.kind c.in-Drop.to) seen))

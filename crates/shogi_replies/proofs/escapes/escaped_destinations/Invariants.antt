@@ -6,7 +6,7 @@ use Rattle.shogi_replies.proofs.escapes.escaped_destinations.Given as goal
 
 abbrev pub invariant-loop-left : goal.invariant-loop-left
 invariant-loop-left l = record {
-  tried : PassesTried l.all l.left (λ n. IsAnswered l.p (Board l.from n l.promote));
+  tried : PassesTried l.fn.destinations.bits l.left (λ n. IsAnswered l.p (Board l.from n l.promote));
   left : l.left < 2 ^ 81;
 }
 

@@ -6,7 +6,7 @@ use Rattle.shogi_replies.proofs.escapes.escaped_drops.Given as goal
 
 abbrev pub invariant-loop-left : goal.invariant-loop-left
 invariant-loop-left l = record {
-  tried : PassesTried l.all l.left (λ n. IsAnswered l.p (Drop l.kind n));
+  tried : PassesTried l.fn.destinations.bits l.left (λ n. IsAnswered l.p (Drop l.kind n));
   left : l.left < 2 ^ 81;
 }
 

@@ -1,25 +1,26 @@
 use Rattle.std.proofs.Common.{◌≡◌, ◌≢◌, ◌∙◌, [], true, ap, sym, subst}
-use Rattle.std.proofs.lemmas.Bool.{both_ways, eq-eqb, not-true}
+use Rattle.std.proofs.lemmas.Bool.{not-true}
 use Rattle.shogi_core.specs.declared.moves.Move.{Move}
 use Rattle.shogi_core.specs.Pieces.{opponent_of}
 use Rattle.shogi_moves.specs.After.{after}
 use Rattle.shogi_moves.specs.Legal.{is_legal}
 use Rattle.shogi_moves.specs.LegalMoves.{legal_codes}
+use Rattle.shogi_moves.proofs.DestinationLaws.{some_there}
 use Rattle.shogi_replies.proofs.KingReplies.{covered_board, taken_drop}
 use Rattle.shogi_replies.proofs.escapes.leaves_king_move.Goals as goal
 
 pub returns-else-not-has_no_sniper : goal.returns-else-not-has_no_sniper
 returns-else-not-has_no_sniper c = λ e legal. subst (λ (m : Move). legal_codes (after c.args.p.now m) ≢ []) (sym c.in-Board.is)
-    (covered_board c.args.p.now c.in-Board.from c.in-Board.to c.step_squares.result c.in-Board.promote c.in-Some.piece c.validity.ensures c.validity-in-Board.ensures c.validity-in-Board-2.ensures
+    (covered_board c.args.p.now c.in-Board.from c.in-Board.to c.step_squares.result.bits c.in-Board.promote c.in-Some.piece c.validity.ensures c.validity-in-Board.ensures c.validity-in-Board-2.ensures
     (subst (λ (m : Move). is_legal c.args.p.now m ≡ true) c.in-Board.is legal)
     ((rw c.at.ensures at (sym c.piece_moved.ensures)) ∙ c.in-Some.is)
     (sym c.is_sliding.ensures ∙ c.if-is_sliding.false)
     (c.has_no_sniper.ensures c.if-not-has_no_sniper.false)
-    (rw c.index.ensures.index at c.step_squares.ensures.squares.0) (c.has_open.ensures e))
+    (rw c.index.ensures.index at c.step_squares.ensures.squares) (c.has_open.ensures e))
 
 pub returns-then-has : goal.returns-then-has
 returns-then-has c = λ e legal.
     let side : c.opponent.result ≡ opponent_of c.args.p.now.side = c.opponent.ensures ∙ ap opponent_of c.side.ensures in
     subst (λ (m : Move). legal_codes (after c.args.p.now m) ≢ []) (sym c.in-Drop.is)
-    (taken_drop c.args.p.now c.in-Drop.kind c.args.escapes c.kings.result c.in-Drop.to c.validity.ensures c.validity-in-Drop.ensures c.requires c.kings.ensures.squares.1
-    (rw (side, c.as_board.ensures) at c.kings.ensures.squares.0) (λ none. both_ways _ (not-true _ e) (eq-eqb _ 0 none)) (rw c.index-in-Drop.ensures.index at (sym c.has.ensures ∙ c.if-has.true)))
+    (taken_drop c.args.p.now c.in-Drop.kind c.args.escapes.bits c.kings.result.bits c.in-Drop.to c.validity.ensures c.validity-in-Drop.ensures c.requires c.kings.result.fits
+    (rw (side, c.as_board.ensures) at c.kings.ensures.squares) (some_there _ _ c.is_empty-then-has.ensures (not-true _ e)) (sym c.has.ensures ∙ c.if-has.true))

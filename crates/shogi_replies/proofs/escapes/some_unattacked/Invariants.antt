@@ -5,7 +5,7 @@ use Rattle.shogi_replies.proofs.escapes.some_unattacked.Given as goal
 
 abbrev pub invariant-loop-left : goal.invariant-loop-left
 invariant-loop-left l = record {
-  sifts : Sifts l.squares l.left l.kept (λ n. not (is_attacked l.board l.by n));
+  sifts : Sifts l.fn.squares.bits l.left l.kept (λ n. not (is_attacked l.board l.by n));
   left : l.left < 2 ^ 81;
   fits : l.kept < 2 ^ 81;
   few : l.found ≤ 3;

@@ -5,10 +5,7 @@ use Rattle.shogi_replies.proofs.escapes.unattacked.Goals as goal
 
 pub returns : goal.returns
 returns c = record {
-  squares = (
-    λ n h. (
-        let none : c.loop-left.left ≡ 0 = omega arith in
-        sift_done c.args.squares c.loop-left.kept (λ n. not (is_attacked c.args.board.now c.args.by n)) (rw none at c.loop-left.invariant.sifts) n h),
-    c.loop-left.invariant.fits,
-  );
+  squares = λ n h.
+      let none : c.loop-left.left ≡ 0 = omega arith in
+      sift_done c.args.squares.bits c.loop-left.kept (λ n. not (is_attacked c.args.board.now c.args.by n)) (rw none at c.loop-left.invariant.sifts) n h;
 }

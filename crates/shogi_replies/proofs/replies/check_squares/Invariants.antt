@@ -6,6 +6,7 @@ abbrev pub invariant-loop-left : goal.invariant-loop-left
 invariant-loop-left l = record {
   within : ChecksWithin l.p.cells l.fn.side l.fn.cell l.left l.checks;
   left : l.left < 2 ^ 81;
+  fits : l.checks < 2 ^ 81;
 }
 
 abbrev pub decreases-loop-left : goal.decreases-loop-left

@@ -6,8 +6,8 @@ pub returns-in-None : goal.returns-in-None
 returns-in-None c = λ unfound. no_king_checked c.args.p.now c.args.from c.args.to c.validity.ensures c.validity-2.ensures c.validity-3.ensures ((rw (c.opponent.ensures, c.side.ensures) at c.in-None.ensures.none) refl)
 
 pub returns-in-Some : goal.returns-in-Some
-returns-in-Some c = told_safe c.args.p.now c.args.from c.args.to c.in-Some.king c.is_attacked_among.result c.own.result c.without-others.result c.occupied.result c.without.result c.with-occupied.result c.validity.ensures c.validity-2.ensures c.validity-3.ensures c.validity-in-Some.ensures
+returns-in-Some c = told_safe c.args.p.now c.args.from c.args.to c.in-Some.king c.is_attacked_among.result c.own.result.bits c.except-others.result.bits c.occupied.result.bits c.except.result.bits c.with-occupied.result.bits c.validity.ensures c.validity-2.ensures c.validity-3.ensures c.validity-in-Some.ensures
     (rw (c.opponent.ensures, c.side.ensures) at c.in-Some.ensures.king) (rw (c.opponent.ensures, c.side.ensures) at c.in-Some.ensures.lone)
-    (rw (c.side-in-Some.ensures, c.as_board-board.ensures) at c.own.ensures.squares.0) (rw c.index.ensures.index at c.without-others.ensures)
-    (rw c.as_board-board.ensures at c.occupied.ensures) (rw c.index-in-Some.ensures.index at c.without.ensures) (rw c.index-in-Some-2.ensures.index at c.with-occupied.ensures)
+    (rw (c.side-in-Some.ensures, c.as_board-board.ensures) at c.own.ensures.squares) c.except-others.ensures
+    (rw c.as_board-board.ensures at c.occupied.ensures) c.except.ensures c.with-occupied.ensures
     (rw c.as_board-board.ensures at c.is_attacked_among.ensures)

@@ -1,9 +1,11 @@
 use Rattle.std.proofs.Common.{arith}
+use Rattle.shogi_core.proofs.LineBits.{or_fits}
 use Rattle.shogi_replies.proofs.ReplyLaws.{aligns_more}
 use Rattle.shogi_replies.proofs.replies.line_squares.Goals as goal
 
 pub loop-left-preserved : goal.loop-left-preserved
 loop-left-preserved c = record {
-  all = aligns_more c.args.p.now.cells c.args.side c.loop-left.left c.without_lowest-left.result c.loop-left.lines c.lowest-king.result c.aligned_squares-lines.result c.loop-left.invariant.all c.without_lowest-left.ensures.bits c.aligned_squares-lines.ensures.squares.0;
+  all = aligns_more c.args.p.now.cells c.args.side c.loop-left.left c.without_lowest-left.result c.loop-left.lines c.lowest-king.result c.aligned_squares-lines.result.bits c.loop-left.invariant.all c.without_lowest-left.ensures.bits c.aligned_squares-lines.ensures.squares;
   left = omega (arith, c.without_lowest-left.ensures.less, c.loop-left.invariant.left);
+  fits = or_fits c.loop-left.lines c.aligned_squares-lines.result.bits c.loop-left.invariant.fits c.aligned_squares-lines.result.fits;
 }

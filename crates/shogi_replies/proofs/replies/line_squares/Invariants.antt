@@ -6,6 +6,7 @@ abbrev pub invariant-loop-left : goal.invariant-loop-left
 invariant-loop-left l = record {
   all : Aligns l.p.cells l.fn.side l.left l.lines;
   left : l.left < 2 ^ 81;
+  fits : l.lines < 2 ^ 81;
 }
 
 abbrev pub decreases-loop-left : goal.decreases-loop-left

@@ -1,9 +1,11 @@
 use Rattle.std.proofs.Common.{arith}
+use Rattle.shogi_core.proofs.LineBits.{or_fits}
 use Rattle.shogi_replies.proofs.ReplyLaws.{sees_more}
 use Rattle.shogi_replies.proofs.replies.sight_squares.Goals as goal
 
 pub loop-left-preserved : goal.loop-left-preserved
 loop-left-preserved c = record {
-  all = sees_more c.args.p.now.cells c.args.side c.loop-left.left c.without_lowest-left.result c.loop-left.sight c.lowest-king.result c.seen-sight.result c.loop-left.invariant.all c.without_lowest-left.ensures.bits (rw (c.as_board-board.ensures, c.of_index.ensures) at c.seen-sight.ensures.squares.0);
+  all = sees_more c.args.p.now.cells c.args.side c.loop-left.left c.without_lowest-left.result c.loop-left.sight c.lowest-king.result c.seen-sight.result.bits c.loop-left.invariant.all c.without_lowest-left.ensures.bits (rw (c.as_board-board.ensures, c.of_index.ensures) at c.seen-sight.ensures.squares);
   left = omega (arith, c.without_lowest-left.ensures.less, c.loop-left.invariant.left);
+  fits = or_fits c.loop-left.sight c.seen-sight.result.bits c.loop-left.invariant.fits c.seen-sight.result.fits;
 }

@@ -6,6 +6,7 @@ abbrev pub invariant-loop-left : goal.invariant-loop-left
 invariant-loop-left l = record {
   all : Sees l.p.cells l.fn.side l.left l.sight;
   left : l.left < 2 ^ 81;
+  fits : l.sight < 2 ^ 81;
 }
 
 abbrev pub decreases-loop-left : goal.decreases-loop-left

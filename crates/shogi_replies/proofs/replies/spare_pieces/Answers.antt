@@ -1,14 +1,13 @@
-use Rattle.std.proofs.Common.{arith, ◌^◌, ◌-◌}
-use Rattle.shogi_core.proofs.LineBits.{and_fits}
+use Rattle.std.proofs.Common.{arith}
 use Rattle.shogi_replies.proofs.ReplyLaws.{sifted_first, sifted_found, sifted_dropped, sifted_done}
 use Rattle.shogi_replies.proofs.replies.spare_pieces.Goals.{then-has_open_step, else-has_open_step}
 use Rattle.shogi_replies.proofs.replies.spare_pieces.Goals as goal
 
 pub loop-left-init : goal.loop-left-init
 loop-left-init c = record {
-  sifted = sifted_first c.args.p.now.cells c.args.side c.args.lines c.own.result (omega arith) (rw c.as_board.ensures at c.own.ensures.squares.0);
-  left = and_fits c.own.result (2 ^ 128 - 1 - c.args.lines) c.own.ensures.squares.1;
-  fits = and_fits c.own.result (2 ^ 128 - 1 - c.args.lines) c.own.ensures.squares.1;
+  sifted = rw c.without-left.ensures (sifted_first c.args.p.now.cells c.args.side c.args.lines.bits c.own.result.bits (omega arith) (rw c.as_board.ensures at c.own.ensures.squares));
+  left = c.without-left.result.fits;
+  fits = c.without-left.result.fits;
   few = omega arith;
 }
 
@@ -16,7 +15,7 @@ pub loop-left-preserved : goal.loop-left-preserved
 loop-left-preserved c = elim c.if-has_open_step.branch [
   | then-has_open_step w ↦ (rw (w.kept-is, w.found-is)
       (record {
-        sifted = sifted_found c.args.p.now.cells c.args.side c.args.lines c.loop-left.left c.loop-left.kept c.without_lowest-left.result c.lowest-from.result c.requires c.loop-left.invariant.sifted c.lowest-from.ensures.range c.lowest-from.ensures.set
+        sifted = sifted_found c.args.p.now.cells c.args.side c.args.lines.bits c.loop-left.left c.loop-left.kept c.without_lowest-left.result c.lowest-from.result c.requires c.loop-left.invariant.sifted c.lowest-from.ensures.range c.lowest-from.ensures.set
             (rw c.of_index.ensures at c.has_open_step.ensures w.if-has_open_step.true) c.without_lowest-left.ensures.bits;
         left = omega (arith, c.without_lowest-left.ensures.less, c.loop-left.invariant.left);
         fits = c.loop-left.invariant.fits;
@@ -24,12 +23,12 @@ loop-left-preserved c = elim c.if-has_open_step.branch [
       }))
   | else-has_open_step w ↦ (rw (w.kept-is, w.found-is)
       (record {
-        sifted = sifted_dropped c.args.p.now.cells c.args.side c.args.lines c.loop-left.left c.loop-left.kept c.without_lowest-left.result w.cleared-kept.result c.lowest-from.result c.loop-left.invariant.sifted c.without_lowest-left.ensures.bits w.cleared-kept.ensures.bits;
+        sifted = sifted_dropped c.args.p.now.cells c.args.side c.args.lines.bits c.loop-left.left c.loop-left.kept c.without_lowest-left.result w.cleared-kept.result c.lowest-from.result c.loop-left.invariant.sifted c.without_lowest-left.ensures.bits w.cleared-kept.ensures.bits;
         left = omega (arith, c.without_lowest-left.ensures.less, c.loop-left.invariant.left);
         fits = omega (arith, w.cleared-kept.ensures.less, c.loop-left.invariant.fits);
         few = c.loop-left.invariant.few;
       }))
 ]
 
-pub returns-clause-spares : goal.returns-clause-spares
-returns-clause-spares c = sifted_done c.args.p.now.cells c.args.side c.args.lines c.loop-left.left c.loop-left.kept (omega (arith, c.loop-left.invariant.left)) c.loop-left.invariant.sifted
+pub returns : goal.returns
+returns c = sifted_done c.args.p.now.cells c.args.side c.args.lines.bits c.loop-left.left c.loop-left.kept (omega (arith, c.loop-left.invariant.left)) c.loop-left.invariant.sifted

@@ -6,11 +6,12 @@ use Rattle.last_ply.proofs.mates.Outlook.closing_drops.Given as goal
 
 abbrev pub invariant-loop-left : goal.invariant-loop-left
 invariant-loop-left l = record {
-  all : AreDropsAnsweredOff l.self.scene.node.now.position l.fn.kind l.squares l.kept;
-  among : IsWithin l.kept l.squares;
-  off : (n : ℕ) → has_bit l.kept n ≡ true → n < 81 → has_bit l.self.escapes n ≡ false;
-  within : IsWithin l.left l.self.escapes;
+  all : AreDropsAnsweredOff l.self.scene.node.now.position l.fn.kind l.fn.squares.bits l.kept;
+  among : IsWithin l.kept l.fn.squares.bits;
+  off : (n : ℕ) → has_bit l.kept n ≡ true → n < 81 → has_bit l.self.escapes.bits n ≡ false;
+  within : IsWithin l.left l.self.escapes.bits;
   fits : l.left < 2 ^ 81;
+  kept_fit : l.kept < 2 ^ 81;
 }
 
 abbrev pub decreases-loop-left : goal.decreases-loop-left

@@ -6,10 +6,10 @@ use Rattle.last_ply.proofs.mates.Outlook.closing_ends.Given as goal
 
 abbrev pub invariant-loop-left : goal.invariant-loop-left
 invariant-loop-left l = record {
-  all : AreAnsweredOff l.self.scene.node.now.position l.fn.from l.fn.promote l.fn.ends l.kept;
-  within : IsWithin l.left l.self.escapes;
+  all : AreAnsweredOff l.self.scene.node.now.position l.fn.from l.fn.promote l.fn.ends.bits l.kept;
+  within : IsWithin l.left l.self.escapes.bits;
   apart : OnEach l.left (λ n. are_aligned l.fn.from n ≡ false);
-  among : IsWithin l.kept l.fn.ends;
+  among : IsWithin l.kept l.fn.ends.bits;
   fits : l.left < 2 ^ 81;
   kept_fit : l.kept < 2 ^ 81;
 }

@@ -8,7 +8,7 @@ pub loop-left-init : goal.loop-left-init
 loop-left-init c = record {
   ends = c.ends_scoring-left.ensures.reached;
   passed = λ n promote h out legal same. c.ends_scoring-left.ensures.others (omega (arith, ints, c.requires.least)) n promote h out legal (omega (arith, ints, same));
-  fits = c.ends_scoring-left.ensures.fits;
+  fits = c.ends_scoring-left.result.fits;
 }
 
 pub returns-clause-none : goal.returns-clause-none

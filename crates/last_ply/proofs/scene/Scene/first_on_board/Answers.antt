@@ -10,9 +10,9 @@ use Rattle.last_ply.proofs.scene.Scene.first_on_board.Goals as goal
 
 pub loop-left-init : goal.loop-left-init
 loop-left-init c = record {
-  passed = λ n h own out m promote hm legal same. c.pieces_scoring-left.ensures.others n h (c.args.self.now.owns.0 n h ∙ own) out m promote hm legal (omega (arith, ints, same));
-  within = λ n h set. sym (c.args.self.now.owns.0 n h) ∙ c.pieces_scoring-left.ensures.within n set;
-  fits = c.pieces_scoring-left.ensures.fits;
+  passed = λ n h own out m promote hm legal same. c.pieces_scoring-left.ensures.others n h (c.args.self.now.owns n h ∙ own) out m promote hm legal (omega (arith, ints, same));
+  within = λ n h set. sym (c.args.self.now.owns n h) ∙ c.pieces_scoring-left.ensures.within n set;
+  fits = c.pieces_scoring-left.result.fits;
 }
 
 pub returns-in-Some-clause-some : goal.returns-in-Some-clause-some

@@ -4,7 +4,7 @@ use Rattle.last_ply.proofs.scene.Scene.squares_reaching_some.Given as goal
 
 abbrev pub invariant-loop-left : goal.invariant-loop-left
 invariant-loop-left l = record {
-  others : OnRest l.squares l.left (HasReachers l.self.node.now.position.cells l.found);
+  others : OnRest l.fn.squares.bits l.left (HasReachers l.self.node.now.position.cells l.found);
   fits : l.left < 2 ^ 81;
   found_fit : l.found < 2 ^ 81;
 }

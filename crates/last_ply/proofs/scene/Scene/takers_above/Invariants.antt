@@ -4,9 +4,8 @@ use Rattle.last_ply.proofs.scene.Scene.takers_above.Given as goal
 
 abbrev pub invariant-loop-left : goal.invariant-loop-left
 invariant-loop-left l = record {
-  others : OnRest l.victims l.left (λ t. Outside l.squares (TakesLittle l.self.node.now l.floor t));
+  others : OnRest l.fn.victims.bits l.left (λ t. Outside l.squares (TakesLittle l.self.node.now l.floor t));
   fits : l.left < 2 ^ 81;
-  squares_fit : l.squares < 2 ^ 81;
 }
 
 abbrev pub decreases-loop-left : goal.decreases-loop-left

@@ -8,7 +8,7 @@ use Rattle.search_nodes.proofs.Nodes.{waits}
 use Rattle.search_nodes.proofs.frame.Frame.is_retaken.Goals as goal
 
 pub has_retake-requires-clause-takes : goal.has_retake-requires-clause-takes
-has_retake-requires-clause-takes c = subst (λ (q : Shogi). AreAttacked q c.in-Some.threats.takes) (sym c.as_position-p.ensures) (c.args.self.now.threatened c.in-Some.threats c.in-Some.is).takes
+has_retake-requires-clause-takes c = subst (λ (q : Shogi). AreAttacked q c.in-Some.threats.takes.bits) (sym c.as_position-p.ensures) (c.args.self.now.threatened c.in-Some.threats c.in-Some.is).takes
 
 pub has_retake-requires-clause-legal : goal.has_retake-requires-clause-legal
 has_retake-requires-clause-legal c =

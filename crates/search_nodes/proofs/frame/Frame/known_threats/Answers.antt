@@ -16,7 +16,7 @@ returns-in-Some-clause-kept c = kept_again c.args.self.now c.look_for_threats.ne
 
 pub returns-in-None-clause-threats : goal.returns-in-None-clause-threats
 returns-in-None-clause-threats c = record {
-  takes = λ n h e. absurd (both_ways (has_bit 0 n) (has_bit-none n) e);
+  takes = λ n h e. absurd (both_ways (has_bit 0 n) (has_bit-none n) (rw c.none.ensures at e));
   greatest = λ t e. absurd (cc);
   second = λ t e. absurd (cc);
 }

@@ -5,4 +5,4 @@ pub spared_squares-requires-clause-threat : goal.spared_squares-requires-clause-
 spared_squares-requires-clause-threat c = c.requires.threats.greatest c.in-Some.threat c.in-Some.is
 
 pub returns-in-Some : goal.returns-in-Some
-returns-in-Some c = drops_of_either c.args.self.now c.args.kind c.taken_squares-taken.result c.spared_squares.result 0 c.args.code c.taken_squares-taken.ensures c.spared_squares.ensures
+returns-in-Some c = rw c.bitor.ensures (drops_of_either c.args.self.now c.args.kind c.taken_squares-taken.result.bits c.spared_squares.result.bits 0 c.args.code c.taken_squares-taken.ensures c.spared_squares.ensures)

@@ -1,4 +1,6 @@
-use Rattle.std.proofs.Common.{refl, ◌≡◌}
+use Rattle.std.proofs.Common.{refl, ◌≡◌, subst, sym}
+use Rattle.shogi_core.specs.Position.{Shogi}
+use Rattle.shogi_moves.specs.Escapes.{AreEscapes}
 use Rattle.shogi_replies.specs.Passes.{IsCertainDrop, IsPassed}
 use Rattle.search_nodes.specs.Order.{todo}
 use Rattle.search_nodes.proofs.Passed.{left_passed}
@@ -7,12 +9,15 @@ use Rattle.search_nodes.proofs.frame.Frame.pass_kind.Goals as goal
 
 pub invariant_of-self-clause-known : goal.invariant_of-self-clause-known
 invariant_of-self-clause-known c =
-    let passed : IsPassed (IsCertainDrop c.args.self.now.node.position c.args.kind c.args.squares c.args.escapes c.args.code) (todo c.args.self.now.node.position c.args.self.now.picker) (todo c.args.self.now.node.position c.pass_drops.new.self) = rw c.as_position.ensures at (c.pass_drops.ensures.passed c.args.kind c.args.code c.requires.at) in
+    let passed : IsPassed (IsCertainDrop c.args.self.now.node.position c.args.kind c.args.squares.bits c.args.escapes.bits c.args.code) (todo c.args.self.now.node.position c.args.self.now.picker) (todo c.args.self.now.node.position c.pass_drops.new.self) = rw c.as_position.ensures at (c.pass_drops.ensures.passed c.args.kind c.args.code c.requires.at) in
     let same : todo c.args.self.now.node.position c.turn_to_kind.new.self ≡ todo c.args.self.now.node.position c.pass_drops.new.self = rw c.as_position-2.ensures at c.turn_to_kind.ensures.same in
-    rw same (drops_known c.args.self.now c.args.kind c.args.squares c.args.escapes c.args.code c.pass_drops.new.self c.requires.next c.requires.lost passed)
+    rw same (drops_known c.args.self.now c.args.kind c.args.squares.bits c.args.escapes.bits c.args.code c.pass_drops.new.self c.requires.next c.requires.lost passed)
 
 pub returns : goal.returns
 returns c =
-    let passed : IsPassed (IsCertainDrop c.args.self.now.node.position c.args.kind c.args.squares c.args.escapes c.args.code) (todo c.args.self.now.node.position c.args.self.now.picker) (todo c.args.self.now.node.position c.pass_drops.new.self) = rw c.as_position.ensures at (c.pass_drops.ensures.passed c.args.kind c.args.code c.requires.at) in
+    let passed : IsPassed (IsCertainDrop c.args.self.now.node.position c.args.kind c.args.squares.bits c.args.escapes.bits c.args.code) (todo c.args.self.now.node.position c.args.self.now.picker) (todo c.args.self.now.node.position c.pass_drops.new.self) = rw c.as_position.ensures at (c.pass_drops.ensures.passed c.args.kind c.args.code c.requires.at) in
     let same : todo c.args.self.now.node.position c.turn_to_kind.new.self ≡ todo c.args.self.now.node.position c.pass_drops.new.self = rw c.as_position-2.ensures at c.turn_to_kind.ensures.same in
-    rw same ((refl, (refl, (refl, refl))), (c.requires.next, left_passed c.args.self.now c.pass_drops.new.self (IsCertainDrop c.args.self.now.node.position c.args.kind c.args.squares c.args.escapes c.args.code) passed))
+    rw same ((refl, (refl, (refl, refl))), (c.requires.next, left_passed c.args.self.now c.pass_drops.new.self (IsCertainDrop c.args.self.now.node.position c.args.kind c.args.squares.bits c.args.escapes.bits c.args.code) passed))
+
+pub pass_drops-requires-clause-escapes : goal.pass_drops-requires-clause-escapes
+pass_drops-requires-clause-escapes c = subst (λ (q : Shogi). AreEscapes q c.args.escapes.bits) (sym c.as_position.ensures) c.requires.escapes

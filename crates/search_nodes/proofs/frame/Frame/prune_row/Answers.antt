@@ -1,4 +1,6 @@
-use Rattle.std.proofs.Common.{refl, ◌≡◌, false, arith, rules, FitsSigned, w32}
+use Rattle.std.proofs.Common.{refl, ◌≡◌, false, arith, rules, subst, sym, FitsSigned, w32}
+use Rattle.shogi_core.specs.Position.{Shogi}
+use Rattle.shogi_moves.specs.Escapes.{AreEscapes}
 use Rattle.std.proofs.lemmas.Int.{ints, to_z-of_z}
 use Rattle.shogi_replies.specs.declared.row.Row.{Row}
 use Rattle.shogi_replies.specs.Passes.{IsCertainMove, IsPassed}
@@ -41,3 +43,6 @@ pub returns-clause-pruned : goal.returns-clause-pruned
 returns-clause-pruned c =
     let passed : IsPassed (IsCertainMove c.args.self.now.node.position false (record { pieces = c.args.pieces; squares = c.args.squares; promoting = c.roles_within-promoting.result; escapes = c.args.escapes }) c.args.code) (todo c.args.self.now.node.position c.args.self.now.picker) (todo c.args.self.now.node.position c.pass_quiets.new.self) = rw c.as_position.ensures at (c.pass_quiets.ensures.passed c.args.code c.requires.at) in
     ((refl, (refl, (refl, refl))), (c.requires.next, left_passed c.args.self.now c.pass_quiets.new.self _ passed))
+
+pub pass_quiets-requires-clause-escapes : goal.pass_quiets-requires-clause-escapes
+pass_quiets-requires-clause-escapes c = subst (λ (q : Shogi). AreEscapes q c.args.escapes.bits) (sym c.as_position.ensures) c.requires.escapes

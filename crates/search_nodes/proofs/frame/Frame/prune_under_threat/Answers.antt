@@ -1,16 +1,12 @@
-use Rattle.std.proofs.Common.{◌≡◌, ◌≤ℤ◌, ◌-◌, ◌∙◌, sym, ap, subst, true}
+use Rattle.std.proofs.Common.{◌≡◌, ◌≤ℤ◌, ◌∙◌, sym, ap, subst, true}
 use Rattle.shogi_core.specs.declared.moves.Move.{Move}
-use Rattle.shogi_core.specs.Codes.{code_of}
 use Rattle.shogi_core.specs.Position.{Shogi}
 use Rattle.search_nodes.specs.Frames.{worth_of, threshold_of}
 use Rattle.shogi_moves.specs.Legal.{is_legal}
 use Rattle.shogi_replies.specs.Threats.{KeepsThreats, MayRetake}
 use Rattle.shogi_moves.proofs.LegalLaws.{listed_to_legal}
 use Rattle.shogi_eval.specs.Evaluated.{Evaluated}
-use Rattle.minimax.specs.Minimax.{worth}
-use Rattle.minimax.specs.Window.{threshold, code_at}
 use Rattle.search_nodes.specs.declared.frame.Frame.{Frame}
-use Rattle.search_nodes.proofs.Ahead.{still_below}
 use Rattle.search_nodes.proofs.Nodes.{asked, of_current, waits}
 use Rattle.search_nodes.proofs.frame.Frame.prune_under_threat.Goals as goal
 

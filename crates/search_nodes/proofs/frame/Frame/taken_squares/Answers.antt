@@ -14,4 +14,4 @@ returns-then-falls_short c =
     (c.taken_gain-gain.ensures.value ∙ (ap (λ (e : Eval). taken_gain e c.dropped-put.result) c.eval.ensures ∙ ap (taken_gain c.args.self.now.node.eval) (c.dropped-put.ensures ∙ ap (λ (s : Color). dropped s c.args.kind) (c.side.ensures ∙ ap (λ (p : Shogi). p.side) c.as_position.ensures)))) (omega (arith, ints, c.taken_gain-gain.ensures.range)) (c.falls_short.ensures c.if-falls_short.true)
 
 pub returns : goal.returns
-returns c = no_drops c.args.self.now c.args.kind 0 c.args.code
+returns c = rw c.none.ensures (no_drops c.args.self.now c.args.kind 0 c.args.code)

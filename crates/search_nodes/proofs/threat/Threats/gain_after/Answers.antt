@@ -1,4 +1,4 @@
-use Rattle.std.proofs.Common.{◌≡◌, ◌<◌, ◌≤◌, ◌⊎◌, ℕ, true, Option, Some, None, inl, inr, sym, subst, ap, ◌∙◌, arith, refl}
+use Rattle.std.proofs.Common.{◌≡◌, ◌<◌, ◌≤◌, ℕ, true, Option, Some, None, inl, inr, sym, subst, ap, ◌∙◌, arith, refl}
 use Rattle.std.specs.Option.{ForSome}
 use Rattle.std.proofs.Props.{props}
 use Rattle.std.proofs.Math.Logic.{∥∥₁_elim}
@@ -19,7 +19,7 @@ use Rattle.search_nodes.proofs.Ahead.{retake_gain, threat_gain}
 use Rattle.search_nodes.proofs.threat.Threats.gain_after.Goals as goal
 use Rattle.search_nodes.proofs.threat.Threats.gain_after.Goals.{then-has, else-has}
 
-retaken : (threats : Threats) (p : Shogi) (e : Eval) (m : Move) (to : ℕ) {gain : ℕ} → AreThreatsIn p e threats → IsValid p → move_of (code_of m) ≡ Some m → is_legal p m ≡ true → end_of m ≡ to → to < 81 → (0 < gain → (has_bit threats.takes to ≡ true) × (gain ≡ taken_gain e (put_by p m))) → 0 < gain → TakesAfter p e m gain
+retaken : (threats : Threats) (p : Shogi) (e : Eval) (m : Move) (to : ℕ) {gain : ℕ} → AreThreatsIn p e threats → IsValid p → move_of (code_of m) ≡ Some m → is_legal p m ≡ true → end_of m ≡ to → to < 81 → (0 < gain → (has_bit threats.takes.bits to ≡ true) × (gain ≡ taken_gain e (put_by p m))) → 0 < gain → TakesAfter p e m gain
 retaken threats p e m to {gain} are v back legal ends h parts some = λ keeps retakes.
     ∥∥₁_elim (are.takes to h ((parts some).0)) (Prim.hlevel props) (λ attacked. retake_gain p e m to gain v back legal ends attacked ((parts some).1) keeps retakes)
 
@@ -46,9 +46,9 @@ returns-then-greatest-retake-clause-fits c = elim c.gain_if_left-greatest.ensure
 
 pub returns-clause-gain : goal.returns-clause-gain
 returns-clause-gain c = λ some. elim c.gain_if_left.ensures [
-  | inl least ↦ retaken _ _ _ _ _ c.requires.threats c.requires.valid c.validity.ensures.back c.requires.legal (sym c.end_of-end.ensures) (omega arith)
+  | inl least ↦ retaken _ _ _ _ _ c.requires.threats c.requires.valid c.validity.ensures.back c.requires.legal (sym c.end_of.ensures) (omega arith)
       (λ more. elim c.if-has.branch [
-        | then-has w ↦ (subst (λ (x : ℕ). has_bit c.args.self.now.takes x ≡ true) c.index.ensures.index (sym c.has.ensures ∙ w.if-has.true), least ∙ (w.retake-is ∙ (w.taken_gain-retake.ensures.value ∙ ap (taken_gain c.args.e) c.put_by-put.ensures)))
+        | then-has w ↦ (sym c.has.ensures ∙ w.if-has.true, least ∙ (w.retake-is ∙ (w.taken_gain-retake.ensures.value ∙ ap (taken_gain c.args.e) c.put_by-put.ensures)))
         | else-has w ↦ absurd (omega (arith, more, least, w.retake-is))
       ]) some
   | inr after ↦ (left c.args.self.now.second c.args.p.now c.args.e c.args.m.now c.put_by-put.result c.gain_if_left.result c.requires.threats.second c.requires.valid c.validity.ensures.back c.requires.legal (sym c.put_by-put.ensures) after).0

@@ -7,8 +7,10 @@ use Rattle.shogi_core.specs.Movement.{piece_at}
 use Rattle.shogi_core.proofs.Answers.{check_stays_off}
 use Rattle.shogi_core.proofs.board.Board.answers.Goals as goal
 
-pub returns-then-is_open_king-clause-stays : goal.returns-then-is_open_king-clause-stays
-returns-then-is_open_king-clause-stays c = λ _.
+pub returns-then-is_open_king : goal.returns-then-is_open_king
+returns-then-is_open_king c =
     let parts = and_parts (is_king c.args.side (piece_at c.args.self.now c.lowest-king.result)) (is_attacked c.args.self.now (opponent_of c.args.side) c.lowest-king.result) (rw (c.of_index.ensures) at (sym c.if-is_open_king.ensures)) in
-    check_stays_off c.answering_squares.result c.args.self.now c.args.side c.lowest-king.result c.lowest-king.ensures.range parts.0
-    ((rw (c.opponent.ensures) at c.answering_squares.ensures.stays) parts.1)
+    record {
+      stays = λ _. check_stays_off c.answering_squares.result.bits c.args.self.now c.args.side c.lowest-king.result c.lowest-king.ensures.range parts.0
+          ((rw (c.opponent.ensures) at c.answering_squares.ensures.stays) parts.1);
+    }

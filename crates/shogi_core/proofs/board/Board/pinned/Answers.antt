@@ -10,10 +10,10 @@ use Rattle.shogi_core.proofs.board.Board.pinned.Goals as goal
 
 pub loop-left-init : goal.loop-left-init
 loop-left-init c = record {
-  covers = kings_first c.args.self.now c.args.side c.kings-left.result c.kings-left.ensures.squares.0;
-  all = pins_first c.args.self.now c.args.side c.kings-left.result c.kings-left.ensures.squares.0;
-  mine = λ n h e. sym (c.kings-left.ensures.squares.0 n h) ∙ e;
-  left = c.kings-left.ensures.squares.1;
+  covers = kings_first c.args.self.now c.args.side c.kings-left.result.bits c.kings-left.ensures.squares;
+  all = pins_first c.args.self.now c.args.side c.kings-left.result.bits c.kings-left.ensures.squares;
+  mine = λ n h e. sym (c.kings-left.ensures.squares n h) ∙ e;
+  left = c.kings-left.result.fits;
 }
 
 pub loop-left-preserved : goal.loop-left-preserved
@@ -21,7 +21,7 @@ loop-left-preserved c = record {
   covers = covers_less c.loop-left.left c.without_lowest-left.result c.lowest-king.result (is_open_king c.args.self.now c.args.side) c.loop-left.invariant.covers
       (false_from_ne_true (is_open_king c.args.self.now c.args.side c.lowest-king.result) (λ e. both_ways (is_attacked c.args.self.now (opponent_of c.args.side) c.lowest-king.result) c.in-Some.ensures.safe ((and_parts _ _ e).1)))
       c.without_lowest-left.ensures.bits;
-  all = pins_more c.args.self.now c.args.side c.loop-left.left c.without_lowest-left.result c.loop-left.found c.lowest-king.result c.in-Some.more c.loop-left.invariant.all c.in-Some.ensures.fits c.without_lowest-left.ensures.bits c.in-Some.ensures.all;
+  all = pins_more c.args.self.now c.args.side c.loop-left.left c.without_lowest-left.result c.loop-left.found c.lowest-king.result c.in-Some.more.bits c.loop-left.invariant.all c.in-Some.more.fits c.without_lowest-left.ensures.bits c.in-Some.ensures.all;
   mine = λ n h e. c.loop-left.invariant.mine n h ((and_parts (has_bit c.loop-left.left n) _ (sym (c.without_lowest-left.ensures.bits n) ∙ e)).0);
   left = omega (arith, c.without_lowest-left.ensures.less, c.loop-left.invariant.left);
 }

@@ -5,5 +5,5 @@ use Rattle.shogi_moves.proofs.sweep.DropSweep.above.Goals as goal
 pub returns-clause-kept : goal.returns-clause-kept
 returns-clause-kept c = record {
   squares = c.drop_squares-squares.ensures;
-  destinations = rw c.code_above.ensures.code (drops_above c.args.known.now.position.now c.args.kind c.drop_destinations.result c.bits_above.result c.args.to (omega arith) c.drop_destinations.ensures.squares.1 c.drop_destinations.ensures.squares.0 c.bits_above.ensures.fits (rw c.index.ensures.index at c.bits_above.ensures.above) (rw c.index.ensures.index at c.bits_above.ensures.below));
+  destinations = rw c.code_above.ensures.code (drops_above c.args.known.now.position.now c.args.kind c.drop_destinations.result.bits c.bits_above.result c.args.to (omega arith) c.drop_destinations.ensures.squares (rw c.index.ensures.index at c.bits_above.ensures.above) (rw c.index.ensures.index at c.bits_above.ensures.below));
 }

@@ -2,6 +2,7 @@ use Rattle.std.proofs.Common.{◌≡◌, ◌+◌, ◌*◌, arith, refl, subst, �
 use Rattle.shogi_core.specs.declared.moves.TheConstants.{FIRST_DROP}
 use Rattle.shogi_core.specs.Pieces.{kind_number}
 use Rattle.shogi_moves.specs.Sweeps.{KeepsDrop}
+use Rattle.shogi_moves.proofs.DestinationLaws.{none_there, some_there}
 use Rattle.shogi_moves.proofs.SweepLaws.{keeps_kind, no_drop_left, no_drop_more, no_drop_to, no_drop_destination}
 use Rattle.shogi_moves.proofs.sweep.DropSweep.refill.Goals as goal
 
@@ -13,16 +14,16 @@ kinds-init c = record {
   past = c.requires.kept.destinations.high;
 }
 
-pub returns-then-destinations-ne0-clause-some : goal.returns-then-destinations-ne0-clause-some
-returns-then-destinations-ne0-clause-some c = λ _. (
+pub returns-then-not-is_empty-clause-some : goal.returns-then-not-is_empty-clause-some
+returns-then-not-is_empty-clause-some c = λ _. (
     let next : kind_number c.in-Some.next ≡ kind_number c.kinds.kind + 1 = c.in-Some.ensures in
-    (c.if-destinations-ne0.true, rw c.number.ensures.number (no_drop_to c.args.p.now c.kinds.kind c.in-Some.next c.args.self.now.code c.kinds.invariant.none next c.kinds.invariant.past)))
+    (some_there _ _ c.is_empty.ensures c.if-not-is_empty.true, rw c.number.ensures.number (no_drop_to c.args.p.now c.kinds.kind c.in-Some.next c.args.self.now.code c.kinds.invariant.none next c.kinds.invariant.past)))
 
 pub kinds-preserved : goal.kinds-preserved
 kinds-preserved c =
     let next : kind_number c.in-Some.next ≡ kind_number c.kinds.kind + 1 = c.in-Some.ensures in
-    let none : c.drop_destinations-destinations.result ≡ 0 = omega (arith, c.if-destinations-ne0.false) in
-    let here : KeepsDrop c.args.p.now c.in-Some.next (FIRST_DROP + kind_number c.in-Some.next * 81) c.drop_destinations-destinations.result = keeps_kind c.args.p.now c.in-Some.next c.drop_destinations-destinations.result c.drop_destinations-destinations.ensures.squares.1 c.drop_destinations-destinations.ensures.squares.0 in
+    let none : c.drop_destinations-destinations.result.bits ≡ 0 = none_there _ _ c.is_empty.ensures c.if-not-is_empty.false in
+    let here : KeepsDrop c.args.p.now c.in-Some.next (FIRST_DROP + kind_number c.in-Some.next * 81) c.drop_destinations-destinations.result.bits = keeps_kind c.args.p.now c.in-Some.next c.drop_destinations-destinations.result.bits c.drop_destinations-destinations.ensures.squares in
     record {
       kept = c.kinds.invariant.kept;
       same = c.kinds.invariant.same;

@@ -1,24 +1,26 @@
-use Rattle.std.proofs.Common.{◌∙◌, arith, bit_and, false, sym, true}
-use Rattle.std.proofs.lemmas.Bool.{and_parts, eqb-true}
+use Rattle.std.proofs.Common.{◌∙◌, ap, arith, false, sym, true}
+use Rattle.std.proofs.lemmas.Bool.{and_parts}
+use Rattle.shogi_core.specs.Bits.{has_bit}
 use Rattle.shogi_core.proofs.BitLaws.{has_bit-and}
-use Rattle.shogi_moves.proofs.DestinationLaws.{among_bits}
+use Rattle.shogi_moves.proofs.DestinationLaws.{among_bits, none_there}
 use Rattle.shogi_replies.proofs.PassLaws.{certain_moves}
 use Rattle.shogi_replies.proofs.replies.Replies.has_certain_moves.Goals as goal
 
 pub returns : goal.returns
-returns c = λ e. certain_moves c.args.p.now c.args.capture c.args.row.now c.args.from (bit_and c.targets.result c.matching_destinations.result) c.promoting_squares.result c.certain_destinations-certain.result c.promotions-promotions.result c.certain_destinations-promoted.result
-    (λ n h. among_bits c.targets.result c.matching_destinations.result n _ _ (rw c.as_board.ensures at c.targets.ensures.squares.0 n h) (c.matching_destinations.ensures.squares.0 n h))
-    (rw c.at-2.ensures at c.promoting_squares.ensures.squares.0) (rw c.index.ensures.index at (sym c.has.ensures ∙ c.if-not-has.false)) (omega arith) (omega arith) (rw c.at.ensures at c.promotions-promotions.ensures.promoting) c.certain_destinations-certain.ensures.certain c.certain_destinations-promoted.ensures.certain (eqb-true _ 0 e)
+returns c = λ e. certain_moves c.args.p.now c.args.capture c.args.row.now c.args.from c.bitand-ends.result.bits c.promoting_squares.result.bits c.certain_destinations-certain.result.bits c.promotions-promotions.result.bits c.certain_destinations-promoted.result.bits
+    (λ n h. ap (λ m. has_bit m n) c.bitand-ends.ensures ∙ among_bits c.targets.result.bits c.matching_destinations.result.bits n _ _ (rw c.as_board.ensures at c.targets.ensures.squares n h) (c.matching_destinations.ensures.squares n h))
+    (rw c.at-2.ensures at c.promoting_squares.ensures.squares) (sym c.has.ensures ∙ c.if-not-has.false) (omega arith) (omega arith) (rw c.at.ensures at c.promotions-promotions.ensures.promoting) c.certain_destinations-certain.ensures.certain c.certain_destinations-promoted.ensures.certain
+    (rw (c.bitor-uncertain.ensures, c.without-4.ensures, c.without-5.ensures, c.bitand-2.ensures, c.bitand-3.ensures, c.bitand-promoting.ensures) at (none_there _ _ c.is_empty-4.ensures e))
 
 pub returns-then-not-has-2 : goal.returns-then-not-has-2
 returns-then-not-has-2 c = λ e. record {
-  piece = rw c.index.ensures.index at (sym c.has.ensures ∙ c.if-not-has.false);
+  piece = sym c.has.ensures ∙ c.if-not-has.false;
   plain = λ n h reached. (
-      let ends : _ = among_bits c.targets.result c.matching_destinations.result n _ _ (rw c.as_board.ensures at c.targets.ensures.squares.0 n h) (c.matching_destinations.ensures.squares.0 n h) in
-      let both : _ = and_parts _ _ (sym (has_bit-and c.args.row.now.squares c.unseen_destinations-certain.result n) ∙ c.are_among.ensures.plain e n h (ends ∙ reached)) in
-      (both.0, c.unseen_destinations-certain.ensures.certain c.args.row.now.escapes false n h both.1));
+      let ends : _ = ap (λ m. has_bit m n) c.bitand-ends.ensures ∙ among_bits c.targets.result.bits c.matching_destinations.result.bits n _ _ (rw c.as_board.ensures at c.targets.ensures.squares n h) (c.matching_destinations.ensures.squares n h) in
+      let both : _ = and_parts _ _ (sym (has_bit-and c.args.row.now.squares.bits c.unseen_destinations-certain.result.bits n) ∙ (ap (λ m. has_bit m n) (sym c.bitand-then-not-has-2.ensures) ∙ c.are_among.ensures.plain e n h (ends ∙ reached))) in
+      (both.0, c.unseen_destinations-certain.ensures.certain c.args.row.now.escapes.bits false n h both.1));
   promoting = λ n h reached may. (
-      let ends : _ = among_bits c.targets.result c.matching_destinations.result n _ _ (rw c.as_board.ensures at c.targets.ensures.squares.0 n h) (c.matching_destinations.ensures.squares.0 n h) in
-      let both : _ = and_parts _ _ (sym (has_bit-and c.promotions-promotions.result c.unseen_destinations-certain.result n) ∙ c.are_among.ensures.promoting e n h (ends ∙ reached) may) in
-      ((rw c.at.ensures at c.promotions-promotions.ensures.promoting) n both.0, c.unseen_destinations-certain.ensures.certain c.args.row.now.escapes true n h both.1));
+      let ends : _ = ap (λ m. has_bit m n) c.bitand-ends.ensures ∙ among_bits c.targets.result.bits c.matching_destinations.result.bits n _ _ (rw c.as_board.ensures at c.targets.ensures.squares n h) (c.matching_destinations.ensures.squares n h) in
+      let both : _ = and_parts _ _ (sym (has_bit-and c.promotions-promotions.result.bits c.unseen_destinations-certain.result.bits n) ∙ (ap (λ m. has_bit m n) (sym c.bitand-then-not-has-2-2.ensures) ∙ c.are_among.ensures.promoting e n h (ends ∙ reached) may)) in
+      ((rw c.at.ensures at c.promotions-promotions.ensures.promoting) n both.0, c.unseen_destinations-certain.ensures.certain c.args.row.now.escapes.bits true n h both.1));
 }

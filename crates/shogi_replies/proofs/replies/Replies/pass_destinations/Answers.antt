@@ -2,30 +2,29 @@ use Rattle.std.proofs.Common.{◌≤◌, ◌<◌, ◌∙◌, arith, ap, sym, ℕ
 use Rattle.std.proofs.lemmas.Bool.{false_from_ne_true}
 use Rattle.shogi_core.specs.Bits.{has_bit}
 use Rattle.shogi_core.proofs.BitLaws.{has_bit-none}
-use Rattle.shogi_core.proofs.LineBits.{and_fits, or_fits}
+use Rattle.shogi_moves.proofs.DestinationLaws.{none_there}
 use Rattle.shogi_replies.proofs.PassLaws.{destinations_passed, of_both, passed_none}
 use Rattle.shogi_replies.proofs.replies.Replies.pass_destinations.Goals as goal
 
-pub returns-then-uncertain-eq0-clause-passed : goal.returns-then-uncertain-eq0-clause-passed
-returns-then-uncertain-eq0-clause-passed c =
-    let at : (n : ℕ) → n < 81 → _ = λ n h. of_both c.args.sweep.now.destinations.plain c.args.row.now.squares c.certain_destinations-certain.result c.args.sweep.now.destinations.promoting c.promotions-promotions.result c.certain_destinations-promoted.result n (omega arith) (omega arith) h (ap (λ m. has_bit m n) (omega (arith, c.if-uncertain-eq0.true)) ∙ has_bit-none n) in
+pub returns-then-is_empty-clause-passed : goal.returns-then-is_empty-clause-passed
+returns-then-is_empty-clause-passed c =
+    let is : _ = rw (c.without.ensures, c.bitand.ensures, c.without-2.ensures, c.bitand-2.ensures) at c.bitor-uncertain.ensures in
+    let at : (n : ℕ) → n < 81 → _ = λ n h. of_both c.args.sweep.now.destinations.plain.bits c.args.row.now.squares.bits c.certain_destinations-certain.result.bits c.args.sweep.now.destinations.promoting.bits c.promotions-promotions.result.bits c.certain_destinations-promoted.result.bits n (omega arith) (omega arith) h (ap (λ m. has_bit m n) (sym is ∙ none_there _ _ c.is_empty.ensures c.if-is_empty.true) ∙ has_bit-none n) in
     rw c.pass_ends.ensures.code (record {
       up = omega (arith, c.requires.kept.destinations.high);
-      passed = λ first low. destinations_passed c.args.p.now c.args.capture c.args.row.now c.args.sweep.now.from c.args.sweep.now.code _ c.args.sweep.now.destinations.plain c.args.sweep.now.destinations.promoting first c.validity.ensures (rw c.index.ensures.index at (sym c.has.ensures ∙ c.if-not-has.false)) c.requires.kept.destinations low (omega (arith, c.requires.kept.destinations.high)) (omega arith)
+      passed = λ first low. destinations_passed c.args.p.now c.args.capture c.args.row.now c.args.sweep.now.from c.args.sweep.now.code _ c.args.sweep.now.destinations.plain.bits c.args.sweep.now.destinations.promoting.bits first c.validity.ensures (sym c.has.ensures ∙ c.if-not-has.false) c.requires.kept.destinations low (omega (arith, c.requires.kept.destinations.high)) (omega arith)
           (λ n h set below. (let it : _ = (at n h).0 set in (it.0, c.certain_destinations-certain.ensures.certain n h it.1)))
           (λ n h set below. (let it : _ = (at n h).1 set in (c.promotions-promotions.ensures.squares n it.0, (rw c.at.ensures at c.promotions-promotions.ensures.promoting) n it.0, c.certain_destinations-promoted.ensures.certain n h it.1)));
     })
 
-pub lowest-to-requires-clause-fits : goal.lowest-to-requires-clause-fits
-lowest-to-requires-clause-fits c = or_fits _ _ (and_fits _ _ c.requires.kept.destinations.plains.fits) (and_fits _ _ c.requires.kept.destinations.promotings.fits)
-
 pub returns-then-index-to-clause-passed : goal.returns-then-index-to-clause-passed
 returns-then-index-to-clause-passed c =
-    let at : (n : ℕ) → n < 81 → n < c.lowest-to.result → _ = λ n h down. of_both c.args.sweep.now.destinations.plain c.args.row.now.squares c.certain_destinations-certain.result c.args.sweep.now.destinations.promoting c.promotions-promotions.result c.certain_destinations-promoted.result n (omega arith) (omega arith) h
-    (false_from_ne_true _ (λ set. (let least : c.lowest-to.result ≤ n = c.lowest-to.ensures.least n set in omega arith))) in
+    let is : _ = rw (c.without.ensures, c.bitand.ensures, c.without-2.ensures, c.bitand-2.ensures) at c.bitor-uncertain.ensures in
+    let at : (n : ℕ) → n < 81 → n < c.lowest-to.result → _ = λ n h down. of_both c.args.sweep.now.destinations.plain.bits c.args.row.now.squares.bits c.certain_destinations-certain.result.bits c.args.sweep.now.destinations.promoting.bits c.promotions-promotions.result.bits c.certain_destinations-promoted.result.bits n (omega arith) (omega arith) h
+    (ap (λ m. has_bit m n) (sym is) ∙ false_from_ne_true (has_bit c.bitor-uncertain.result.bits n) (λ set. (let least : c.lowest-to.result ≤ n = c.lowest-to.ensures.least n set in omega arith))) in
     rw c.pass_ends-then-index-to.ensures.code (record {
       up = omega (arith, c.if-index-to.true, c.index.ensures.index);
-      passed = λ first low. destinations_passed c.args.p.now c.args.capture c.args.row.now c.args.sweep.now.from c.args.sweep.now.code _ c.args.sweep.now.destinations.plain c.args.sweep.now.destinations.promoting first c.validity.ensures (rw c.index.ensures.index at (sym c.has.ensures ∙ c.if-not-has.false)) c.requires.kept.destinations low (omega (arith, c.if-index-to.true, c.index.ensures.index)) (omega (arith, c.lowest-to.ensures.range))
+      passed = λ first low. destinations_passed c.args.p.now c.args.capture c.args.row.now c.args.sweep.now.from c.args.sweep.now.code _ c.args.sweep.now.destinations.plain.bits c.args.sweep.now.destinations.promoting.bits first c.validity.ensures (sym c.has.ensures ∙ c.if-not-has.false) c.requires.kept.destinations low (omega (arith, c.if-index-to.true, c.index.ensures.index)) (omega (arith, c.lowest-to.ensures.range))
           (λ n h set below. (let it : _ = (at n h (omega (arith, below))).0 set in (it.0, c.certain_destinations-certain.ensures.certain n h it.1)))
           (λ n h set below. (let it : _ = (at n h (omega (arith, below))).1 set in (c.promotions-promotions.ensures.squares n it.0, (rw c.at.ensures at c.promotions-promotions.ensures.promoting) n it.0, c.certain_destinations-promoted.ensures.certain n h it.1)));
     })

@@ -11,17 +11,17 @@ use Rattle.shogi_replies.proofs.replies.Replies.pass_pieces.Goals as goal
 
 pub squares-init : goal.squares-init
 squares-init c =
-    let mine : _ = mine_first c.args.p.now c.own.result c.bits_above-pieces.result c.args.sweep.now.from (rw (c.side.ensures, c.as_board.ensures) at c.own.ensures.squares.0) (rw c.index.ensures.index at c.bits_above-pieces.ensures.above) (rw c.index.ensures.index at c.bits_above-pieces.ensures.below) in
+    let mine : _ = mine_first c.args.p.now c.own.result.bits c.bits_above.result c.args.sweep.now.from (rw (c.side.ensures, c.as_board.ensures) at c.own.ensures.squares) (rw c.index.ensures.index at c.bits_above.ensures.above) (rw c.index.ensures.index at c.bits_above.ensures.below) in
     record {
       same = refl;
-      matching = on_movers c.args.p.now c.args.capture c.bits_above-pieces.result c.matching_movers-moving.result c.args.sweep.now.code c.validity.ensures.cells_fit
-          (on_first c.args.p.now c.args.capture c.own.result c.bits_above-pieces.result c.args.sweep.now.from c.args.sweep.now.code c.args.sweep.now.destinations.plain c.args.sweep.now.destinations.promoting (omega (arith, c.index.ensures.range, c.index.ensures.index)) c.requires.kept.destinations (rw (c.requires.none.0, c.requires.none.1) refl)
-          (rw (c.side.ensures, c.as_board.ensures) at c.own.ensures.squares.0) (rw c.index.ensures.index at c.bits_above-pieces.ensures.above))
+      matching = on_movers c.args.p.now c.args.capture c.bits_above.result c.matching_movers-moving.result.bits c.args.sweep.now.code c.validity.ensures.cells_fit
+          (on_first c.args.p.now c.args.capture c.own.result.bits c.bits_above.result c.args.sweep.now.from c.args.sweep.now.code c.args.sweep.now.destinations.plain.bits c.args.sweep.now.destinations.promoting.bits (omega (arith, c.index.ensures.range, c.index.ensures.index)) c.requires.kept.destinations (rw (c.requires.none.0, c.requires.none.1) refl)
+          (rw (c.side.ensures, c.as_board.ensures) at c.own.ensures.squares) (rw c.index.ensures.index at c.bits_above.ensures.above))
           (λ n h set. (mine n h set).1) c.matching_movers-moving.ensures.none;
       mine = λ n h set. mine n h (c.matching_movers-moving.ensures.within n set);
-      certain = λ n h set out. c.far_pieces-far.ensures n h (not_uncertain c.matching_movers-moving.result c.far_pieces-far.result n (omega arith) h out set);
-      within = λ n set. (and_parts _ _ (sym (has_bit-and c.matching_movers-moving.result (2 ^ 128 - 1 - c.far_pieces-far.result) n) ∙ set)).0;
-      fits = and_fits c.matching_movers-moving.result (2 ^ 128 - 1 - c.far_pieces-far.result) c.matching_movers-moving.ensures.fits;
+      certain = λ n h set out. c.far_pieces-far.ensures n h (not_uncertain c.matching_movers-moving.result.bits c.far_pieces-far.result.bits n (omega arith) h out set);
+      within = λ n set. (and_parts _ _ (sym (has_bit-and c.matching_movers-moving.result.bits (2 ^ 128 - 1 - c.far_pieces-far.result.bits) n) ∙ set)).0;
+      fits = and_fits c.matching_movers-moving.result.bits (2 ^ 128 - 1 - c.far_pieces-far.result.bits) c.matching_movers-moving.result.fits;
     }
 
 pub squares-preserved : goal.squares-preserved
@@ -43,13 +43,13 @@ pass_pieces-requires-clause-ahead c = rw c.squares.invariant.same ((c.squares.in
 pub returns-then-not-has_certain_moves-clause-passed : goal.returns-then-not-has_certain_moves-clause-passed
 returns-then-not-has_certain_moves-clause-passed c =
     let above : c.args.sweep.now.from < c.lowest-square.result = (c.squares.invariant.mine c.lowest-square.result c.lowest-square.ensures.range (c.squares.invariant.within c.lowest-square.result c.lowest-square.ensures.set)).0 in
-    rw c.pass_pieces.ensures.code (row_passed_to c.args.p.now c.args.capture c.args.row.now c.args.sweep.now.code c.matching_movers-moving.result c.lowest-square.result c.validity.ensures.cells_fit (omega (arith, c.lowest-square.ensures.range)) c.squares.invariant.matching
+    rw c.pass_pieces.ensures.code (row_passed_to c.args.p.now c.args.capture c.args.row.now c.args.sweep.now.code c.matching_movers-moving.result.bits c.lowest-square.result c.validity.ensures.cells_fit (omega (arith, c.lowest-square.ensures.range)) c.squares.invariant.matching
     (λ n h set. (c.squares.invariant.mine n h set).1)
     (λ n h below set. c.squares.invariant.certain n h set (false_from_ne_true (has_bit c.squares.left n) (λ there. absurd (let le : _ = c.lowest-square.ensures.least n there in omega (arith, le, below)))))
     (omega (arith, above, c.requires.kept.destinations.high)))
 
 pub returns-clause-passed : goal.returns-clause-passed
-returns-clause-passed c = rw c.pass_pieces-2.ensures.code (row_passed_to c.args.p.now c.args.capture c.args.row.now c.args.sweep.now.code c.matching_movers-moving.result 81 c.validity.ensures.cells_fit (omega arith) c.squares.invariant.matching
+returns-clause-passed c = rw c.pass_pieces-2.ensures.code (row_passed_to c.args.p.now c.args.capture c.args.row.now c.args.sweep.now.code c.matching_movers-moving.result.bits 81 c.validity.ensures.cells_fit (omega arith) c.squares.invariant.matching
     (λ n h set. (c.squares.invariant.mine n h set).1)
     (λ n h below set. c.squares.invariant.certain n h set (subst (λ (m : ℕ). has_bit m n ≡ false) (sym c.squares-test.false) (has_bit-none n)))
     (omega (arith, c.index.ensures.range, c.index.ensures.index, c.requires.kept.destinations.high)))

@@ -21,7 +21,7 @@ board_retaken p m from to sight promote is v sees hf ht legal covered =
 pub returns-then-not-has : goal.returns-then-not-has
 returns-then-not-has c = λ e.
     board_retaken _ _ _ _ _ _ c.in-Board.is c.validity.ensures c.requires.kept.sees (omega arith) (omega arith) c.requires.legal
-    (inl (rw c.index.ensures.index at (sym c.has.ensures ∙ not-true _ e)))
+    (inl (sym c.has.ensures ∙ not-true _ e))
 
 pub returns-else-not-has : goal.returns-else-not-has
 returns-else-not-has c = λ e.

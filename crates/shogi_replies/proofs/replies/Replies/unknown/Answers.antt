@@ -1,4 +1,3 @@
-use Rattle.std.proofs.Common.{arith}
 use Rattle.std.proofs.lemmas.Bool.{both_ways}
 use Rattle.shogi_core.specs.declared.bits.TheConstants.{ALL_SQUARES}
 use Rattle.shogi_core.specs.Bits.{has_bit}
@@ -10,7 +9,6 @@ use Rattle.shogi_replies.proofs.replies.Replies.unknown.Goals as goal
 
 pub returns : goal.returns
 returns c = record {
-  sees = unknown_sees c.args.p.now.cells (opponent_of c.args.p.now.side) ALL_SQUARES all_squares;
-  spares = λ a h e. absurd (both_ways (has_bit 0 a) (has_bit-none a) e);
-  fits = omega arith;
+  sees = rw c.all.ensures (unknown_sees c.args.p.now.cells (opponent_of c.args.p.now.side) ALL_SQUARES all_squares);
+  spares = rw c.none.ensures (λ a h e. absurd (both_ways (has_bit 0 a) (has_bit-none a) e));
 }

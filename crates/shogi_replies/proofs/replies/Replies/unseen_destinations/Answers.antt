@@ -10,11 +10,11 @@ use Rattle.shogi_replies.proofs.ReplyLaws.{harmless_far, open_far}
 use Rattle.shogi_replies.proofs.replies.Replies.unseen_destinations.Goals as goal
 
 pub returns-clause-among : goal.returns-clause-among
-returns-clause-among c = λ n e. (and_parts _ _ (sym (has_bit-and c.args.destinations c.open_squares.result n) ∙ e)).0
+returns-clause-among c = rw c.bitand.ensures (λ n e. (and_parts _ _ (sym (has_bit-and c.args.destinations.bits c.open_squares.result.bits n) ∙ e)).0)
 
 pub returns-clause-certain : goal.returns-clause-certain
-returns-clause-certain c = λ escapes promote n h e.
-    let there : _ = and_parts (has_bit c.args.destinations n) (has_bit c.open_squares.result n) (sym (has_bit-and c.args.destinations c.open_squares.result n) ∙ e) in
-    open_far c.args.p.now escapes c.args.from n promote c.args.self.now.sight 0 c.args.self.now.spare c.validity.ensures c.requires.kept (omega arith) h
+returns-clause-certain c = rw c.bitand.ensures (λ escapes promote n h e.
+    let there : _ = and_parts (has_bit c.args.destinations.bits n) (has_bit c.open_squares.result.bits n) (sym (has_bit-and c.args.destinations.bits c.open_squares.result.bits n) ∙ e) in
+    open_far c.args.p.now escapes c.args.from n promote c.args.self.now.sight.bits c.none.result.bits c.args.self.now.spare.bits c.validity.ensures c.requires.kept (omega arith) h
     c.requires.unseen
-    (harmless_far c.args.p.now.cells (opponent_of c.args.p.now.side) c.args.self.now.sight (piece_moved promote (piece_at c.args.p.now.cells c.args.from)) n c.requires.kept.sees h (unseen_squares c.args.destinations c.args.self.now.sight n there.0 (ap (λ (m : ℕ). has_bit m n) c.requires.off ∙ has_bit-none n))) (c.open_squares.ensures n h there.1)
+    (harmless_far c.args.p.now.cells (opponent_of c.args.p.now.side) c.args.self.now.sight.bits (piece_moved promote (piece_at c.args.p.now.cells c.args.from)) n c.requires.kept.sees h (unseen_squares c.args.destinations.bits c.args.self.now.sight.bits n there.0 (ap (λ (m : ℕ). has_bit m n) c.requires.off ∙ has_bit-none n))) (c.open_squares.ensures n h there.1))

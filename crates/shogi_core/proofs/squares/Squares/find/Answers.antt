@@ -1,6 +1,6 @@
 use Rattle.std.proofs.Common.{◌≡◌, arith}
 use Rattle.shogi_core.proofs.BitLaws.{has_bit-none}
-use Rattle.shogi_core.proofs.squares.find.Goals as goal
+use Rattle.shogi_core.proofs.squares.Squares.find.Goals as goal
 
 pub returns-clause-none : goal.returns-clause-none
 returns-clause-none g c = λ _ n h l set.
