@@ -1,9 +1,11 @@
 -- What an event leaves as it was (own choice).
-use Rattle.std.specs.Prelude.{◌≡◌, Bool, true, false}
+use Rattle.std.specs.Prelude.{◌≡◌, ℕ, Bool, true, false, Result}
 use Rattle.session_slots.specs.declared.id.SessionId.{SessionId}
 use Rattle.session_slots.specs.Slots.{find}
 use Rattle.host_core.specs.Events.{Event, Open, Feed, Work, Take, Close, Outcome, Opened, Refused}
+use Rattle.host_core.specs.declared.event.HostFault.{HostFault}
 use Rattle.host_core.specs.Made.{is_same_id}
+use Rattle.host_core.specs.Seen.{passed_from}
 use Rattle.host_core.specs.Steps.{HostState}
 
 -- the event names the id, or is answered with it
@@ -19,6 +21,12 @@ names id (Close at) outcome = is_same_id at id
 abbrev pub KeepsOthers : HostState → Event → Outcome → HostState → Type 0
 KeepsOthers old event outcome new =
     (id : SessionId) → names id event outcome ≡ false → find new.slots id ≡ find old.slots id
+
+-- each other session is what it was, where queued bytes of one are dropped with this result
+abbrev pub PassKeepsOthers : {U : Type 0} → HostState → SessionId → ℕ → Result U HostFault
+    → HostState → Type 0
+PassKeepsOthers old id n result new =
+    KeepsOthers old (Take id n) (passed_from old id n result) new
 
 -- refused, and no `Work`
 abbrev pub is_refused : Event → Outcome → Bool

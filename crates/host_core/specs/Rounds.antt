@@ -50,6 +50,11 @@ pub record IsRound (old : HostState) (budget : ℕ) (ids : List SessionId)
   pub refused_is : refused ≡ count_by was_refused outcomes
   pub all : worked + refused ≡ length ids
 
+-- a round: one `Work` for each session that was pending, by rising slot, with these numbers
+abbrev pub MakesRound : HostState → ℕ → Round → HostState → Type 0
+MakesRound old budget round new =
+    IsRound old budget (pending_ids old) round.worked round.refused new
+
 -- a round that has come to a slot: it did its part for some ids, and those that are still pending from there on are the rest
 pub record RoundTo (old : HostState) (budget slot worked refused : ℕ)
     (now : HostState) : Type 0 where

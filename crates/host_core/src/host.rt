@@ -1,11 +1,11 @@
 //! A host of sessions.
 
-ghost use Rattle.std.specs.Prelude.{◌≡◌, ◌≤◌, IfOk, IsErrOf, OnErr, Err, true, length, take};
+ghost use Rattle.std.specs.Prelude.{◌≡◌, ◌≤◌, IfOk, IsErrOf, OnErr, Err, true, length};
 ghost use Rattle.session_slots.specs.Slots.{count, find, IsBelow, OthersKept};
 ghost use Rattle.shared_table.specs.Recent.{AreTrue};
 ghost use Rattle.host_core.specs.ById.{IsQueue, pending_of, wants_input_of, is_over_of, is_still_of};
 ghost use Rattle.host_core.specs.Events.{Open, Feed, Work, Take, Close, Opened, Worked, Gave};
-ghost use Rattle.host_core.specs.Kept.{KeepsOthers};
+ghost use Rattle.host_core.specs.Kept.{PassKeepsOthers};
 ghost use Rattle.host_core.specs.Seen.{as_outcome, done_of, passed_from};
 ghost use Rattle.host_core.specs.Steps.{Stepped, new_host};
 ghost use Rattle.host_core.specs.declared.event.HostFault.TheVariants.{OutOfMemory};
@@ -172,8 +172,7 @@ impl<S: BuildHasher, A: Allocator + Copy> Host<S, A> {
     pub fn pass(&mut self, id: SessionId, n: usize) -> Result<(), HostFault>
         ensures taken { Stepped self.old (Take id n) (passed_from self.old id n result) self.new }
         ensures no_memory { IsErrOf result OutOfMemory → ⊥ }
-        ensures others { KeepsOthers self.old (Take id n)
-            (passed_from self.old id n result) self.new }
+        ensures others { PassKeepsOthers self.old id n result self.new }
         ensures err { OnErr result (self.new ≡ self.old) }
         ensures below { IsBelow self.old.slots }
     {

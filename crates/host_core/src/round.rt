@@ -2,7 +2,7 @@
 
 ghost use Rattle.std.specs.Prelude.{◌≡◌, ◌≤◌, ◌<◌, ◌+◌, ◌-◌, ◌^◌, IfSome, IfNone, IsSome, [], drop};
 ghost use Rattle.session_slots.specs.Slots.{find};
-ghost use Rattle.host_core.specs.Rounds.{pending_from, pending_ids, IsRound, PassesSlot};
+ghost use Rattle.host_core.specs.Rounds.{pending_from, MakesRound, PassesSlot};
 ghost use Rattle.host_core.specs.Still.{AreSettled, IsNext};
 
 use crate::host::Host;
@@ -21,8 +21,7 @@ impl<S: BuildHasher, A: Allocator + Copy> Host<S, A> {
     /// One `Work` with this budget for each session that is pending as the call starts, by rising slot,
     /// and for no other.
     pub fn round(&mut self, budget: u64) -> Round
-        ensures { IsRound self.old budget (pending_ids self.old) result.worked result.refused
-            self.new }
+        ensures { MakesRound self.old budget result self.new }
     {
         let mut round = Round {
             worked: 0,

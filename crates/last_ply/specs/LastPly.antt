@@ -1,15 +1,18 @@
 -- What is asked of a node with one ply left (own choice).
-use Rattle.std.specs.Prelude.{◌&&◌, ◌==◌, ◌+◌, ◌*◌, ◌≤◌, ◌+ℤ◌, pos, not, ◌≡◌, ◌≢◌, ◌<◌, ◌≤ℤ◌, ◌⊎◌, ℕ, ℤ, [], true, false, Bool, Some}
+use Rattle.std.specs.Prelude.{◌&&◌, ◌==◌, ◌+◌, ◌*◌, ◌≤◌, ◌+ℤ◌, pos, not, ◌≡◌, ◌≢◌, ◌<◌, ◌≤ℤ◌, ◌<ℤ◌, ◌⊎◌, ℕ, ℤ, [], true, false, Bool, Option, Some}
+use Rattle.shogi_core.specs.declared.moves.Move.{Move}
 use Rattle.shogi_core.specs.declared.moves.Move.TheVariants.{Board, Drop}
 use Rattle.shogi_core.specs.declared.moves.TheConstants.{SQUARE_CODES}
 use Rattle.shogi_core.specs.declared.piece.Kind.{Kind}
 use Rattle.shogi_core.specs.declared.piece.Piece.{Piece}
 use Rattle.shogi_core.specs.Below.{some_below}
 use Rattle.shogi_core.specs.Bits.{HasBits, has_bit}
+use Rattle.shogi_core.specs.Cell.{is_piece_of, is_slider}
 use Rattle.shogi_core.specs.Codes.{code_of}
 use Rattle.shogi_core.specs.Movement.{Cells, cell_reaches, piece_at, reaches}
+use Rattle.shogi_core.specs.Pieces.{opponent_of}
 use Rattle.shogi_core.specs.Position.{Shogi}
-use Rattle.shogi_moves.specs.After.{after_code}
+use Rattle.shogi_moves.specs.After.{after_code, piece_moved}
 use Rattle.shogi_moves.specs.Destinations.{is_own, AreEnterable}
 use Rattle.shogi_moves.specs.Legal.{is_legal_code}
 use Rattle.shogi_moves.specs.LegalMoves.{legal_codes}
@@ -25,6 +28,18 @@ use Rattle.minimax.specs.declared.entry.Entry.{Entry}
 -- the move of what stands on the square to another one is legal, promoting or not
 abbrev pub is_legal_board_move : Shogi → ℕ → ℕ → Bool → Bool
 is_legal_board_move p from to promote = is_legal_code p (code_of (Board from to promote))
+
+-- the same, as a fact
+abbrev pub IsLegalTo : Shogi → ℕ → ℕ → Bool → Type 0
+IsLegalTo p from to promote = is_legal_board_move p from to promote ≡ true
+
+-- what stands on the square becomes this piece by its move, promoting or not
+abbrev pub IsPieceMoved : Shogi → ℕ → Bool → Piece → Type 0
+IsPieceMoved p from promote piece = piece_moved promote (piece_at p.cells from) ≡ Some piece
+
+-- a piece of the other side stands on the square
+abbrev pub is_foe : Shogi → ℕ → Bool
+is_foe p n = is_piece_of (opponent_of p.side) (piece_at p.cells n)
 
 -- they are the squares that what stands on the square reaches, but those of the side's own pieces
 abbrev pub IsReach : Shogi → ℕ → ℕ → Type 0
@@ -55,6 +70,10 @@ base_of node = material_of node.position node.eval
 abbrev pub score_at : Shogi → Eval → ℕ → ℤ
 score_at p e code = negated (material_of (after_code p code) e)
 
+-- the same of a node
+abbrev pub score_of : Evaluated → ℕ → ℤ
+score_of node = score_at node.position node.eval
+
 -- the other side has no legal move after the move of the code
 abbrev pub LeavesNone : Shogi → ℕ → Type 0
 LeavesNone p code = legal_codes (after_code p code) ≡ []
@@ -62,6 +81,14 @@ LeavesNone p code = legal_codes (after_code p code) ≡ []
 -- the other side has a legal move after the move of the code
 abbrev pub LeavesSome : Shogi → ℕ → Type 0
 LeavesSome p code = legal_codes (after_code p code) ≢ []
+
+-- the move leaves the other side without a legal one
+abbrev pub IsMate : Shogi → Move → Type 0
+IsMate p m = LeavesNone p (code_of m)
+
+-- it leaves the other side one
+abbrev pub IsNoMate : Shogi → Move → Type 0
+IsNoMate p m = LeavesSome p (code_of m)
 
 -- some legal move scores this or more
 pub record HasScore (p : Shogi) (e : Eval) (v : ℤ) : Type 0 where
@@ -114,6 +141,14 @@ IsFirstToScore node v = IsLeast node.position (Scores node v)
 abbrev pub NoneScores : Evaluated → ℤ → Type 0
 NoneScores node v = NoneMeets node.position (Scores node v)
 
+-- no legal move scores this, if it is more than the node has
+abbrev pub NoneGains : Evaluated → ℤ → Type 0
+NoneGains node v = base_of node <ℤ v → NoneScores node v
+
+-- the move of what stands on the square to another one scores this
+abbrev pub BoardMoveScores : Evaluated → ℤ → ℕ → ℕ → Bool → Type 0
+BoardMoveScores node v from to promote = Scores node v (code_of (Board from to promote))
+
 -- if the move of what stands on the square to another one is legal, it scores this
 abbrev pub ScoresTo : Evaluated → ℤ → ℕ → ℕ → Bool → Type 0
 ScoresTo node v from to promote = is_legal_board_move node.position from to promote ≡ true
@@ -138,6 +173,10 @@ abbrev pub NoneScoresAmong : Evaluated → ℤ → ℕ → ℕ → Type 0
 NoneScoresAmong node v from squares = (n : ℕ) (promote : Bool) → n < 81
     → has_bit squares n ≡ false
     → ScoresElse node v from n promote
+
+-- the same, if this is no less than the node has
+abbrev pub OtherEndsScoreElse : Evaluated → ℤ → ℕ → ℕ → Type 0
+OtherEndsScoreElse node v from ends = base_of node ≤ℤ v → NoneScoresAmong node v from ends
 
 -- of the legal moves of what stands on the square that score this, the code is the least
 pub record IsFirstFrom (node : Evaluated) (v : ℤ) (from code : ℕ) : Type 0 where
@@ -166,6 +205,10 @@ ScoresFromAtMost p e from v =
 abbrev pub ScoresAmongAtMost : Shogi → Eval → ℕ → Bool → ℕ → ℤ → Type 0
 ScoresAmongAtMost p e from promote squares v =
     OnEach squares (λ n. ScoresToAtMost p e v from n promote)
+
+-- the capture of what does not slide gains no more than this
+abbrev pub StillGainAtMost : Eval → ℕ → Type 0
+StillGainAtMost e gain = (cell : Option Piece) → is_slider cell ≡ false → taken_gain e cell ≤ gain
 
 -- a capture of what stands on the square scores no more than this, whatever takes and promotes
 abbrev pub TakesTooLittle : Evaluated → ℕ → ℤ → Type 0
@@ -220,6 +263,10 @@ abbrev pub DropsLeaveSome : Shogi → Kind → Type 0
 DropsLeaveSome p kind = (n : ℕ) → n < 81 → is_legal_code p (code_of (Drop kind n)) ≡ true
     → LeavesSome p (code_of (Drop kind n))
 
+-- each legal drop does
+abbrev pub AllDropsLeaveSome : Shogi → Type 0
+AllDropsLeaveSome p = (kind : Kind) → DropsLeaveSome p kind
+
 -- beside each square there is another one of these
 abbrev pub HasOthers : ℕ → Type 0
 HasOthers squares = (n : ℕ) → some_below 81 (λ a. has_bit squares a && not (a == n)) ≡ true
@@ -240,6 +287,12 @@ AreDropsAnsweredOff p kind squares kept = OnRest squares kept (λ n. IsAnswered 
 -- the same of a node
 abbrev pub NodeHasScore : Evaluated → ℤ → Type 0
 NodeHasScore node v = HasScore node.position node.eval v
+
+abbrev pub NodeScoresToAtMost : Evaluated → ℤ → ℕ → ℕ → Bool → Type 0
+NodeScoresToAtMost node = ScoresToAtMost node.position node.eval
+
+abbrev pub NodeScoresAmongAtMost : Evaluated → ℕ → Bool → ℕ → ℤ → Type 0
+NodeScoresAmongAtMost node = ScoresAmongAtMost node.position node.eval
 
 abbrev pub NodeScoresAtMost : Evaluated → ℤ → Type 0
 NodeScoresAtMost node v = ScoresAtMost node.position node.eval v

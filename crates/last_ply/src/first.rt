@@ -1,12 +1,12 @@
 //! The legal move of least code that meets something.
 
 ghost use Rattle.std.specs.Prelude.{◌≡◌, ◌<◌, ◌^◌, ◌≤ℤ◌, ◌<ℤ◌, ℕ, ℤ, true, false, IfSome, IsNone};
-ghost use Rattle.shogi_core.specs.declared.moves.Move.TheVariants as moves;
 ghost use Rattle.shogi_core.specs.Codes.{code_of};
 ghost use Rattle.shogi_core.specs.Movement.{reaches};
 ghost use Rattle.shogi_moves.specs.Destinations.{is_own, AreEnterable, IsWithin};
 ghost use Rattle.minimax.specs.Entries.{IsCutoff};
-ghost use Rattle.last_ply.specs.LastPly.{base_of, is_legal_board_move, HasNoMate, IsFirstFrom, IsFirstMate, IsFirstToScore, NoneScores, NoneScoresAmong, NoneScoresFrom, OnRest, Scores, ScoresElse, NodeHasScore, NodeScoresAtMost, IsTrueOf};
+ghost use Rattle.last_ply.specs.LastPly.{base_of, BoardMoveScores, HasNoMate, IsFirstFrom, IsFirstMate, IsFirstToScore, IsLegalTo, NoneGains, NoneScores, NoneScoresFrom, OtherEndsScoreElse, ScoresElse, NodeHasScore, NodeScoresAtMost, IsTrueOf};
+ghost use Rattle.last_ply.specs.Scenes.{OthersScoreElse};
 
 use crate::mates::Outlook;
 use crate::scene::Scene;
@@ -38,10 +38,8 @@ impl Scene<'_> {
         requires own { is_own self.now.node.now.position from ≡ true }
         requires reached { reaches self.now.node.now.position.cells from to ≡ true }
         requires free { is_own self.now.node.now.position to ≡ false }
-        ensures legal { result ≡ true
-            → is_legal_board_move self.now.node.now.position from to promote ≡ true }
-        ensures scores { result ≡ true
-            → Scores self.now.node.now score (code_of (moves.Board from to promote)) }
+        ensures legal { result ≡ true → IsLegalTo self.now.node.now.position from to promote }
+        ensures scores { result ≡ true → BoardMoveScores self.now.node.now score from to promote }
         ensures other { result ≡ false → ScoresElse self.now.node.now score from to promote }
     {
         self.score_to(from, to, promote) == score && self.is_end(from, to, promote)
@@ -51,8 +49,7 @@ impl Scene<'_> {
     /// node has: where it is more, those of captures and promotions.
     fn ends_scoring(&self, from: Square, score: i32) -> Squares
         ensures reached { AreEnterable self.now.node.now.position from result.bits }
-        ensures others { base_of self.now.node.now ≤ℤ score
-            → NoneScoresAmong self.now.node.now score from result.bits }
+        ensures others { OtherEndsScoreElse self.now.node.now score from result.bits }
     {
         from.validity();
         let p = self.node.as_position();
@@ -99,8 +96,7 @@ impl Scene<'_> {
     fn pieces_scoring(&self, score: i32) -> Squares
         requires { base_of self.now.node.now ≤ℤ score }
         ensures within { IsWithin result.bits self.now.own.bits }
-        ensures others { OnRest self.now.own.bits result.bits
-            (NoneScoresFrom self.now.node.now score) }
+        ensures others { OthersScoreElse self.now score result.bits }
     {
         if score <= self.node.score() {
             return self.movable();
@@ -112,9 +108,7 @@ impl Scene<'_> {
     fn first_on_board(&self, score: i32) -> Option<Move>
         requires { base_of self.now.node.now ≤ℤ score }
         ensures some { IfSome result (λ m. IsFirstToScore self.now.node.now score (code_of m)) }
-        ensures none { IsNone result
-            → base_of self.now.node.now <ℤ score
-            → NoneScores self.now.node.now score }
+        ensures none { IsNone result → NoneGains self.now.node.now score }
     {
         let mut left = self.pieces_scoring(score).bits;
         while left != 0 {

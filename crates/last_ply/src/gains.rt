@@ -1,8 +1,6 @@
 //! What the legal moves of a node score at most.
 
-ghost use Rattle.std.specs.Prelude.{◌≡◌, ◌<◌, ◌≤◌, ◌^◌, ◌+◌, ◌*◌, ◌≤ℤ◌, ◌<ℤ◌, ◌-ℤ◌, ◌+ℤ◌, pos, true, false, ℕ, Option};
-ghost use Rattle.shogi_core.specs.declared.piece.Piece as pieces;
-ghost use Rattle.shogi_core.specs.Cell.{is_slider};
+ghost use Rattle.std.specs.Prelude.{◌≡◌, ◌<◌, ◌≤◌, ◌^◌, ◌+◌, ◌*◌, ◌≤ℤ◌, ◌<ℤ◌, ◌-ℤ◌, ◌+ℤ◌, pos, true, false, ℕ};
 ghost use Rattle.shogi_core.specs.Codes.{code_of};
 ghost use Rattle.shogi_core.specs.Movement.{reaches};
 ghost use Rattle.shogi_moves.specs.Destinations.{is_own, AreEnterable, IsWithin};
@@ -11,8 +9,8 @@ ghost use Rattle.shogi_moves.specs.LegalMoves.{legal_codes};
 ghost use Rattle.shogi_moves.specs.Rising.{is_in};
 ghost use Rattle.shogi_eval.specs.declared.gain.TheConstants.{PROMOTION_GAIN_MAX};
 ghost use Rattle.shogi_eval.specs.declared.points.TheConstants.{PIECE_VALUE_MAX, POINTS_MAX};
-ghost use Rattle.shogi_eval.specs.Material.{taken_gain};
-ghost use Rattle.last_ply.specs.LastPly.{base_of, is_legal_board_move, score_at, HasNoneFrom, HasReachers, NodeHasScore, NodeScoresAtMost, NodeScoresFromAtMost, OnEach, OnRest, Outside, ScoresAmongAtMost, ScoresTo, ScoresToAtMost, TakesLittle};
+ghost use Rattle.last_ply.specs.LastPly.{base_of, is_legal_board_move, score_of, HasReachers, NodeHasScore, NodeScoresAmongAtMost, NodeScoresAtMost, NodeScoresFromAtMost, NodeScoresToAtMost, OnEach, Outside, ScoresTo, StillGainAtMost, TakesLittle};
+ghost use Rattle.last_ply.specs.Scenes.{OthersCannotMove, OthersScoreAtMost, OthersTakeLittle};
 
 use crate::scene::Scene;
 use shogi_core::bits::{lowest, without_lowest};
@@ -23,8 +21,7 @@ use shogi_moves::{legal_destinations, takers};
 
 /// The most that the capture of a piece that does not slide gains, that of a gold.
 fn still_gain(e: Eval) -> u32
-    ensures most { (cell : Option pieces.Piece) → is_slider cell ≡ false
-        → taken_gain e cell ≤ result }
+    ensures most { StillGainAtMost e result }
     ensures least { PROMOTION_GAIN_MAX ≤ result }
     ensures range { result ≤ 2 * PIECE_VALUE_MAX }
 {
@@ -39,8 +36,7 @@ impl Scene<'_> {
     /// What the legal move scores.
     pub fn score_with(&self, m: &Move) -> i32
         requires { is_legal self.now.node.now.position m.now ≡ true }
-        ensures value { result ≡ score_at self.now.node.now.position self.now.node.now.eval
-            (code_of m.now) }
+        ensures value { result ≡ score_of self.now.node.now (code_of m.now) }
         ensures listed { is_in (code_of m.now) (legal_codes self.now.node.now.position) ≡ true }
         ensures least { (pos 0 -ℤ pos POINTS_MAX) ≤ℤ result }
         ensures most { result ≤ℤ pos POINTS_MAX }
@@ -53,8 +49,7 @@ impl Scene<'_> {
     pub fn most_with(&self, m: &Move, floor: i32) -> i32
         requires { is_legal self.now.node.now.position m.now ≡ true }
         ensures least { floor ≤ℤ result }
-        ensures at { score_at self.now.node.now.position self.now.node.now.eval (code_of m.now)
-            ≤ℤ result }
+        ensures at { score_of self.now.node.now (code_of m.now) ≤ℤ result }
         ensures some { floor <ℤ result → NodeHasScore self.now.node.now result }
     {
         let score = self.score_with(m);
@@ -97,8 +92,7 @@ impl Scene<'_> {
         requires reached { reaches self.now.node.now.position.cells from to ≡ true }
         requires free { is_own self.now.node.now.position to ≡ false }
         ensures least { floor ≤ℤ result }
-        ensures at { ScoresToAtMost self.now.node.now.position self.now.node.now.eval result from to
-            promote }
+        ensures at { NodeScoresToAtMost self.now.node.now result from to promote }
         ensures some { floor <ℤ result → NodeHasScore self.now.node.now result }
     {
         let score = self.score_to(from, to, promote);
@@ -115,8 +109,7 @@ impl Scene<'_> {
         requires own { is_own self.now.node.now.position from ≡ true }
         requires reached { AreEnterable self.now.node.now.position from ends.bits }
         ensures least { floor ≤ℤ result }
-        ensures all { ScoresAmongAtMost self.now.node.now.position self.now.node.now.eval from
-            promote ends.bits result }
+        ensures all { NodeScoresAmongAtMost self.now.node.now from promote ends.bits result }
         ensures some { floor <ℤ result → NodeHasScore self.now.node.now result }
     {
         let mut best = floor;
@@ -176,8 +169,7 @@ impl Scene<'_> {
     /// Those of the side's pieces that may take one of the victims and score more than the floor.
     fn takers_above(&self, victims: Squares, floor: i32) -> Squares
         ensures within { IsWithin result.bits self.now.own.bits }
-        ensures others { OnEach victims.bits
-            (λ t. OnRest self.now.own.bits result.bits (TakesLittle self.now.node.now floor t)) }
+        ensures others { OthersTakeLittle self.now floor victims.bits result.bits }
     {
         let mut squares = 0;
         let mut left = victims.bits;
@@ -210,8 +202,7 @@ impl Scene<'_> {
     fn answerers(&self) -> Squares
         requires { self.now.known.info.checked ≡ true }
         ensures within { IsWithin result.bits self.now.own.bits }
-        ensures others { OnRest self.now.own.bits result.bits
-            (HasNoneFrom self.now.node.now.position) }
+        ensures others { OthersCannotMove self.now result.bits }
     {
         let p = self.node.as_position();
         p.validity();
@@ -223,8 +214,7 @@ impl Scene<'_> {
     /// The side's pieces, in check without those that surely have no legal move.
     pub fn movable(&self) -> Squares
         ensures within { IsWithin result.bits self.now.own.bits }
-        ensures others { OnRest self.now.own.bits result.bits
-            (HasNoneFrom self.now.node.now.position) }
+        ensures others { OthersCannotMove self.now result.bits }
     {
         if self.known.info.checked {
             return self.answerers();
@@ -238,8 +228,7 @@ impl Scene<'_> {
     pub fn gainers(&self, floor: i32) -> Squares
         requires { base_of self.now.node.now ≤ℤ floor }
         ensures within { IsWithin result.bits self.now.own.bits }
-        ensures others { OnRest self.now.own.bits result.bits
-            (NodeScoresFromAtMost self.now.node.now floor) }
+        ensures others { OthersScoreAtMost self.now floor result.bits }
     {
         if self.known.info.checked {
             return self.answerers();

@@ -3,15 +3,13 @@
 ghost use Rattle.std.specs.Prelude.{[], ◌≢◌, ◌≡◌, ◌<◌, ◌^◌, true, false, ℕ, bit_and};
 ghost use Rattle.std.proofs.Props.{props};
 ghost use Rattle.shogi_core.specs.Bits.{has_bit};
-ghost use Rattle.shogi_core.specs.Codes.{code_of};
-ghost use Rattle.shogi_core.specs.Movement.{piece_at};
-ghost use Rattle.shogi_moves.specs.After.{piece_moved};
 ghost use Rattle.shogi_moves.specs.Destinations.{is_own, AreDropSquares, IsWithin};
 ghost use Rattle.shogi_moves.specs.Escapes.{AreEscapes};
 ghost use Rattle.shogi_moves.specs.LegalMoves.{legal_codes};
 ghost use Rattle.shogi_moves.specs.Legal.{is_legal};
 ghost use Rattle.shogi_replies.specs.Replies.{IsAnswered, IsReplies};
-ghost use Rattle.last_ply.specs.LastPly.{AreAnsweredOff, AreDropsAnsweredOff, AreLegalDropEnds, BoardLeavesSome, DropsLeaveSomeAmong, OnEach, Outside, HasMate, HasNoMate, LeavesNone, LeavesSome, AreDoubtfulEnds, AreLegalEnds, LeaveSomeAmong, LeaveSomeFrom, DropsLeaveSome, IsOutOfReach, HasOthers};
+ghost use Rattle.last_ply.specs.LastPly.{AllDropsLeaveSome, AreLegalDropEnds, BoardLeavesSome, OnEach, Outside, HasMate, HasNoMate, IsMate, IsNoMate, IsPieceMoved, AreLegalEnds, LeaveSomeFrom, DropsLeaveSome, IsOutOfReach, HasOthers};
+ghost use Rattle.last_ply.specs.Scenes.{SceneAnsweredOff, SceneDoubtfulEnds, SceneDropsAnsweredOff, SceneDropsLeaveSomeAmong, SceneLeavesSomeAmong};
 
 use crate::scene::Scene;
 use shogi_core::bits::{lowest, with, without_lowest};
@@ -132,9 +130,9 @@ impl Scene<'_> {
     /// Whether the legal move leaves the other side without one.
     pub fn mates(&self, m: &Move) -> bool
         requires { is_legal self.now.node.now.position m.now ≡ true }
-        ensures mated { result ≡ true → LeavesNone self.now.node.now.position (code_of m.now) }
+        ensures mated { result ≡ true → IsMate self.now.node.now.position m.now }
         ensures some { result ≡ true → HasMate self.now.node.now.position }
-        ensures none { result ≡ false → LeavesSome self.now.node.now.position (code_of m.now) }
+        ensures none { result ≡ false → IsNoMate self.now.node.now.position m.now }
     {
         m.validity();
         if king_takes(self.node.as_position(), m) {
@@ -187,11 +185,9 @@ impl Outlook<'_> {
     #[inline(always)]
     fn tries(&self, m: &Move) -> bool
         requires { is_legal self.now.scene.node.now.position m.now ≡ true }
-        ensures mated { result ≡ true
-            → LeavesNone self.now.scene.node.now.position (code_of m.now) }
+        ensures mated { result ≡ true → IsMate self.now.scene.node.now.position m.now }
         ensures some { result ≡ true → HasMate self.now.scene.node.now.position }
-        ensures none { result ≡ false
-            → LeavesSome self.now.scene.node.now.position (code_of m.now) }
+        ensures none { result ≡ false → IsNoMate self.now.scene.node.now.position m.now }
     {
         m.validity();
         if self.leaves_way(m) {
@@ -203,10 +199,8 @@ impl Outlook<'_> {
     /// The same; where a reply shows after a move that gives no check, nothing more is asked.
     pub fn mates_past(&self, m: &Move) -> bool
         requires { is_legal self.now.scene.node.now.position m.now ≡ true }
-        ensures mated { result ≡ true
-            → LeavesNone self.now.scene.node.now.position (code_of m.now) }
-        ensures none { result ≡ false
-            → LeavesSome self.now.scene.node.now.position (code_of m.now) }
+        ensures mated { result ≡ true → IsMate self.now.scene.node.now.position m.now }
+        ensures none { result ≡ false → IsNoMate self.now.scene.node.now.position m.now }
     {
         m.validity();
         !self.replies.is_certain(self.scene.node.as_position(), m) && self.tries(m)
@@ -216,8 +210,7 @@ impl Outlook<'_> {
     fn mates_among(&self, from: Square, promote: bool, ends: Squares) -> bool
         requires { AreLegalEnds self.now.scene.node.now.position from promote ends.bits }
         ensures some { result ≡ true → HasMate self.now.scene.node.now.position }
-        ensures none { result ≡ false
-            → LeaveSomeAmong self.now.scene.node.now.position from promote ends.bits }
+        ensures none { result ≡ false → SceneLeavesSomeAmong self.now.scene from promote ends.bits }
     {
         from.validity();
         let mut left = ends.bits;
@@ -240,8 +233,7 @@ impl Outlook<'_> {
     fn mates_by_drops(&self, kind: Kind, ends: Squares) -> bool
         requires { AreLegalDropEnds self.now.scene.node.now.position kind ends.bits }
         ensures some { result ≡ true → HasMate self.now.scene.node.now.position }
-        ensures none { result ≡ false
-            → DropsLeaveSomeAmong self.now.scene.node.now.position kind ends.bits }
+        ensures none { result ≡ false → SceneDropsLeaveSomeAmong self.now.scene kind ends.bits }
     {
         let mut left = ends.bits;
         while left != 0 {
@@ -278,11 +270,9 @@ impl Outlook<'_> {
     /// escape on no line with that square, and those on one: elsewhere the king has one left.
     #[inline(always)]
     fn closing_ends(&self, from: Square, promote: bool, piece: Piece, ends: Squares) -> Squares
-        requires { piece_moved promote (piece_at self.now.scene.node.now.position.cells from)
-            ≡ Some piece }
+        requires { IsPieceMoved self.now.scene.node.now.position from promote piece }
         ensures within { IsWithin result.bits ends.bits }
-        ensures answered { AreAnsweredOff self.now.scene.node.now.position from promote ends.bits
-            result.bits }
+        ensures answered { SceneAnsweredOff self.now.scene from promote ends.bits result.bits }
     {
         let _ = promote;
         from.validity();
@@ -304,11 +294,9 @@ impl Outlook<'_> {
     /// Those of the ends after which, once this piece has moved there from the square, it is not
     /// certain that the other side has a legal move.
     fn doubtful_among(&self, from: Square, promote: bool, piece: Piece, ends: Squares) -> Squares
-        requires { piece_moved promote (piece_at self.now.scene.node.now.position.cells from)
-            ≡ Some piece }
+        requires { IsPieceMoved self.now.scene.node.now.position from promote piece }
         ensures within { IsWithin result.bits ends.bits }
-        ensures answered { AreAnsweredOff self.now.scene.node.now.position from promote ends.bits
-            result.bits }
+        ensures answered { SceneAnsweredOff self.now.scene from promote ends.bits result.bits }
     {
         let p = self.scene.node.as_position();
         let closing = self.closing_ends(from, promote, piece, ends);
@@ -321,10 +309,8 @@ impl Outlook<'_> {
     /// Where what stands on the square may go, without promotion and with it, legally or not, so that
     /// it is not certain that the other side has a legal move after it.
     fn doubtful_ends(&self, from: Square) -> Destinations
-        ensures plain { AreDoubtfulEnds self.now.scene.node.now.position from false
-            result.plain.bits }
-        ensures promoting { AreDoubtfulEnds self.now.scene.node.now.position from true
-            result.promoting.bits }
+        ensures plain { SceneDoubtfulEnds self.now.scene from false result.plain.bits }
+        ensures promoting { SceneDoubtfulEnds self.now.scene from true result.promoting.bits }
     {
         from.validity();
         let p = self.scene.node.as_position();
@@ -403,8 +389,7 @@ impl Outlook<'_> {
     /// stand on one: elsewhere the king has one left, or takes it.
     fn closing_drops(&self, kind: Kind, squares: Squares) -> Squares
         ensures among { IsWithin result.bits squares.bits }
-        ensures answered { AreDropsAnsweredOff self.now.scene.node.now.position kind squares.bits
-            result.bits }
+        ensures answered { SceneDropsAnsweredOff self.now.scene kind squares.bits result.bits }
     {
         let p = self.scene.node.as_position();
         let side = p.side();
@@ -463,8 +448,7 @@ impl Outlook<'_> {
     /// Whether a legal drop leaves the other side without a legal move.
     fn has_drop_mate(&self) -> bool
         ensures some { result ≡ true → HasMate self.now.scene.node.now.position }
-        ensures none { result ≡ false
-            → (kind : _) → DropsLeaveSome self.now.scene.node.now.position kind }
+        ensures none { result ≡ false → AllDropsLeaveSome self.now.scene.node.now.position }
     {
         self.mates_by(Kind::Pawn)
             || self.mates_by(Kind::Lance)

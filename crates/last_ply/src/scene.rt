@@ -2,11 +2,9 @@
 
 ghost use Rattle.std.specs.Prelude.{◌≡◌};
 ghost use Rattle.shogi_core.specs.Bits.{HasBits};
-ghost use Rattle.shogi_core.specs.Cell.{is_piece_of};
-ghost use Rattle.shogi_core.specs.Movement.{piece_at};
-ghost use Rattle.shogi_core.specs.Pieces.{opponent_of};
 ghost use Rattle.shogi_core.specs.Validity.{IsValid};
 ghost use Rattle.shogi_moves.specs.Destinations.{is_own};
+ghost use Rattle.last_ply.specs.LastPly.{is_foe};
 
 use shogi_core::{Square, Squares};
 use shogi_eval::Node;
@@ -23,8 +21,7 @@ pub struct Scene<'a> {
     ghost valid: { IsValid node.now.position },
     ghost same: { known.position.now ≡ node.now.position },
     ghost owns: { HasBits own.bits (is_own node.now.position) },
-    ghost foes: { HasBits foe.bits (λ n. is_piece_of (opponent_of node.now.position.side)
-        (piece_at node.now.position.cells n)) },
+    ghost foes: { HasBits foe.bits (is_foe node.now.position) },
 }
 
 impl Scene<'_> {

@@ -57,9 +57,13 @@ IsToBeLeft f = IsOver f.waiting (todo f.node.position f.picker)
 abbrev pub IsWorthAtMost : Frame → Move → ℤ → Type 0
 IsWorthAtMost f m most = worth_of f m ≤ℤ most
 
--- the current move is not worth more than it has to be
+-- the move is not worth more than it has to be
+abbrev pub IsLost : Frame → Move → Type 0
+IsLost f m = IsWorthAtMost f m (threshold_of f m)
+
+-- the current move is not
 abbrev pub FailsLow : Frame → Type 0
-FailsLow f = WhereCurrent f.waiting (λ m. IsWorthAtMost f m (threshold_of f m))
+FailsLow f = WhereCurrent f.waiting (IsLost f)
 
 -- the other side has a legal move after the move
 abbrev pub HasReply : Frame → Move → Type 0
@@ -67,12 +71,11 @@ HasReply f m = legal_codes (after f.node.position m) ≢ []
 
 -- if the other side may carry out its threats after the move, that is not worth more than it has to be
 abbrev pub IsLostWhere : Frame → Move → Type 0
-IsLostWhere f m = KeepsThreats f.node.position m → MayRetake f.node.position m
-    → IsWorthAtMost f m (threshold_of f m)
+IsLostWhere f m = KeepsThreats f.node.position m → MayRetake f.node.position m → IsLost f m
 
 -- if the other side may take what the move puts on its square, that is not worth more than it has to be
 abbrev pub IsLostIfTaken : Frame → Move → Type 0
-IsLostIfTaken f m = ∥ IsTaken f.node.position m ∥₁ → IsWorthAtMost f m (threshold_of f m)
+IsLostIfTaken f m = ∥ IsTaken f.node.position m ∥₁ → IsLost f m
 
 -- no drop of the other side takes more than this from its material
 abbrev pub RepliesLoseAtMost : Frame → ℤ → Type 0

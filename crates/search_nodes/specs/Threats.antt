@@ -28,6 +28,11 @@ pub record Gains (p : Shogi) (e : Eval) (a t : ℕ) (promote : Bool) (gain : ℕ
       ≡ taken_gain e (piece_at p.cells t) + promotion_gain promote (piece_at p.cells a)
   pub gain_fits : gain ≤ 4000
 
+-- the moves of the piece on a to the ends are threats, promoting or not
+abbrev pub AreThreatEnds : Shogi → ℕ → Bool → ℕ → Type 0
+AreThreatEnds p a promote ends =
+    (t : ℕ) → t < 81 → has_bit ends t ≡ true → IsThreat p a t promote
+
 -- the mask has the squares on lines with the piece on a and with its king, if that is on one
 abbrev pub HoldsPinning : Shogi → ℕ → ℕ → Type 0
 HoldsPinning p a squares = is_aligned_with_king p.cells (opponent_of p.side) a ≡ true → (n : ℕ)

@@ -6,10 +6,13 @@ use Rattle.shogi_core.specs.Codes.{code_of}
 use Rattle.shogi_core.specs.Position.{Shogi}
 use Rattle.shogi_moves.specs.LegalMoves.{legal_codes}
 use Rattle.shogi_eval.specs.declared.eval.Eval.{Eval}
+use Rattle.shogi_eval.specs.Evaluated.{Evaluated}
 use Rattle.search_nodes.specs.declared.frame.Waiting.{Waiting}
 use Rattle.search_nodes.specs.declared.frame.Waiting.TheVariants.{Next, Asked, Cut}
+use Rattle.search_nodes.specs.declared.move_picker.MovePicker.{MovePicker}
+use Rattle.search_nodes.specs.Order.{todo}
 use Rattle.minimax.specs.Minimax.{value, worth}
-use Rattle.minimax.specs.Window.{IsCovered}
+use Rattle.minimax.specs.Window.{IsCovered, code_at}
 
 -- the moves that a search at a depth goes through: none at depth 0
 abbrev pub moves_at : Shogi → ℕ → List ℕ
@@ -58,3 +61,13 @@ pub IsKnownWhile-prop :
 IsKnownWhile-prop p e d alpha beta best_value best_move codes Next = Prim.hlevel props
 IsKnownWhile-prop p e d alpha beta best_value best_move codes (Asked m) = Prim.hlevel props
 IsKnownWhile-prop p e d alpha beta best_value best_move codes (Cut v) = Prim.hlevel props
+
+-- the set for `by` after a ghost field of this
+pub ruleset known_props = (props, IsKnownWhile-prop)
+
+-- what is known of a node with the moves that its picker has still to visit
+abbrev pub IsKnownSoFar :
+    Evaluated → ℕ → ℤ → ℤ → ℤ → Option Move → MovePicker → Waiting → Type 0
+IsKnownSoFar node d alpha beta best_value best_move picker waiting =
+    IsKnownWhile node.position node.eval d alpha beta best_value (code_at best_move)
+    (todo node.position picker) waiting

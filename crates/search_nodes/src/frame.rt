@@ -11,9 +11,8 @@ ghost use Rattle.shogi_eval.specs.declared.points.TheConstants.{POINTS_MAX};
 ghost use Rattle.minimax.specs.Minimax.{value, negated};
 ghost use Rattle.minimax.specs.Entries.{IsCutoff};
 ghost use Rattle.search_nodes.specs.Threats.{AreSomeThreats};
-ghost use Rattle.search_nodes.specs.Order.{codes_of, todo, IsWithinTree, IsKept, IsKept-prop};
-ghost use Rattle.search_nodes.specs.Visits.{IsKnownWhile, IsKnownWhile-prop, IsCurrent};
-ghost use Rattle.minimax.specs.Window.{code_at};
+ghost use Rattle.search_nodes.specs.Order.{codes_of, IsWithinTree, IsKept, IsKept-prop};
+ghost use Rattle.search_nodes.specs.Visits.{IsKnownSoFar, known_props, IsCurrent};
 ghost use Rattle.minimax.specs.declared.bounds.TheConstants.{SEARCH_DEPTH_MAX, INFINITY, MATE};
 
 use crate::firsts::{Firsts, KILLERS, with_killer};
@@ -65,10 +64,7 @@ pub struct Frame {
     ghost least: { negated INFINITY ≤ℤ alpha },
     ghost open: { best_value <ℤ beta },
     ghost most: { beta ≤ℤ INFINITY },
-    ghost known: { IsKnownWhile node.position node.eval depth alpha beta best_value
-        (code_at best_move) (todo node.position picker) waiting } by { IsKnownWhile-prop
-            node.position node.eval depth alpha beta best_value (code_at best_move)
-            (todo node.position picker) waiting },
+    ghost known: { IsKnownSoFar node depth alpha beta best_value best_move picker waiting } by { Prim.hlevel known_props },
     ghost moves: { has_move ≡ true → legal_codes node.position ≢ [] } by { Prim.hlevel props },
     ghost kept: { IsKept node.position picker } by { IsKept-prop node.position picker },
     ghost replied: { IsReplies node.position replies.sight.bits replies.spare.bits } by { Prim.hlevel props },

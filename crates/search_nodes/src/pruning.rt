@@ -42,7 +42,7 @@ fn roles_within(most: u32) -> u32
 }
 
 impl Frame {
-    ghost use Rattle.search_nodes.specs.Frames.{DropsAreLost, FallsShort, HasReply, IsLostIfTaken, IsLostWhere, IsWorthAtMost, MovesLeave, RepliesLoseAtMost, threshold_of};
+    ghost use Rattle.search_nodes.specs.Frames.{DropsAreLost, FallsShort, HasReply, IsLost, IsLostIfTaken, IsLostWhere, IsWorthAtMost, MovesLeave, RepliesLoseAtMost};
     ghost use Rattle.search_nodes.specs.Order.{IsAtDrops, IsAtQuiets};
     ghost use Rattle.search_nodes.specs.Changes.{IsSame, KeepsMoves, AsksFor, PrunesRow};
     ghost use Rattle.shogi_replies.specs.Threats.{IsTaken};
@@ -221,8 +221,7 @@ impl Frame {
     fn is_lost_piece(&self, current: &Move) -> bool
         requires current { IsCurrent self.now.waiting current.now }
         requires last { self.now.depth ≡ 2 }
-        ensures { result ≡ true
-            → IsWorthAtMost self.now current.now (threshold_of self.now current.now) }
+        ensures { result ≡ true → IsLost self.now current.now }
     {
         self.loses_piece(current) && self.is_retaken(current)
     }

@@ -2,16 +2,15 @@
 
 ghost use Rattle.std.specs.Prelude.{◌≡◌, ◌≤◌, ◌<◌, ◌^◌, ◌⊎◌, ℕ, Bool, Some, true};
 ghost use Rattle.std.specs.Option.{ForSome};
-ghost use Rattle.shogi_core.specs.Bits.{has_bit};
 ghost use Rattle.shogi_core.specs.Cell.{is_slider};
 ghost use Rattle.shogi_core.specs.Pieces.{opponent_of};
 ghost use Rattle.shogi_core.specs.Position.{Shogi};
 ghost use Rattle.shogi_moves.specs.Legal.{is_legal};
 ghost use Rattle.shogi_eval.specs.declared.eval.Eval.{Eval};
 ghost use Rattle.shogi_replies.specs.Replies.{Aligns, IsReplies};
-ghost use Rattle.shogi_replies.specs.Threats.{IsTaken, IsUnpinnable, IsThreat, end_of};
+ghost use Rattle.shogi_replies.specs.Threats.{IsTaken, IsUnpinnable, end_of};
 ghost use Rattle.shogi_core.specs.Validity.{IsValid};
-ghost use Rattle.search_nodes.specs.Threats.{AddsPrize, AreAttacked, ArePrizesIn, AreSpared, AreThreatsIn, GainsAfter, HoldsPinning, IsPrizeIn, IsThreatIn, IsSparedAt, IsSparedBy, TakesAfter};
+ghost use Rattle.search_nodes.specs.Threats.{AddsPrize, AreAttacked, ArePrizesIn, AreSpared, AreThreatEnds, AreThreatsIn, GainsAfter, HoldsPinning, IsPrizeIn, IsThreatIn, IsSparedAt, IsSparedBy, TakesAfter};
 
 use shogi_core::bits::{lowest, without_lowest};
 use shogi_core::{Move, Piece, Position, Square, Squares, aligned_squares};
@@ -102,8 +101,7 @@ impl Prizes {
     fn with_ends(self, p: &Position, e: Eval, from: usize, promote: bool, ends: Squares) -> Prizes
         requires from { from < 81 }
         requires prizes { ArePrizesIn p.now e self }
-        requires ends { (t : ℕ) → t < 81 → has_bit ends.bits t ≡ true
-            → IsThreat p.now from t promote }
+        requires ends { AreThreatEnds p.now from promote ends.bits }
         ensures { ArePrizesIn p.now e result }
     {
         if ends.is_empty() {

@@ -127,12 +127,16 @@ has_bit-without m n i fits h = elim (cases_eq i n) [
 
 -- ---- halves of 64 bits
 
-pub half_low : (m n : ℕ) → n < 64 → has_bit (m % 2 ^ 64) (n % 64) ≡ has_bit m n
+pub low_half : (m n : ℕ) → n < 64 → has_bit (m % 2 ^ 64) n ≡ has_bit m n
 unfolding has_bit
-half_low m n h =
-    let at : n % 64 ≡ n = omega arith in
+low_half m n h =
     let whole : m / 2 ^ 64 * 2 ^ 64 + m % 2 ^ 64 ≡ m = omega arith in
-    ap (λ i. bit_at (m % 2 ^ 64) i == 1) at ∙ ap (λ x. x == 1) (sym (bit_at_cat_low (m / 2 ^ 64) 64 (m % 2 ^ 64) n h) ∙ ap (λ k. bit_at k n) whole)
+    ap (λ x. x == 1) (sym (bit_at_cat_low (m / 2 ^ 64) 64 (m % 2 ^ 64) n h) ∙ ap (λ k. bit_at k n) whole)
+
+pub half_low : (low m n : ℕ) → ((i : ℕ) → i < 64 → has_bit low i ≡ has_bit m i) → n < 64 → has_bit low (n % 64) ≡ has_bit m n
+half_low low m n bits h =
+    let at : n % 64 ≡ n = omega arith in
+    ap (has_bit low) at ∙ bits n h
 
 pub half_high : (m n : ℕ) → 64 ≤ n → n < 128 → has_bit (m / 2 ^ 64) (n % 64) ≡ has_bit m n
 half_high m n low high =

@@ -81,6 +81,10 @@ abbrev pub is_step_among : Cells → ℕ → ℕ → ℕ → Bool
 is_step_among cells among square from =
     has_bit among from && cell_steps (piece_at cells from) from square
 
+-- no piece on a square of the mask has one
+abbrev pub HasNoStep : Cells → ℕ → ℕ → Type 0
+HasNoStep cells among square = some_below 81 (is_step_among cells among square) ≡ false
+
 -- pieces stand on the squares of the mask, and on no others
 abbrev pub AreOccupied : ℕ → Cells → Type 0
 AreOccupied mask cells = HasBits mask (λ n. not (is_none (piece_at cells n)))
@@ -165,6 +169,11 @@ pub record FillsOnly (old new : Cells) (color : Color) (to : ℕ) : Type 0 where
 abbrev pub StaysAttacked : ℕ → Cells → Color → ℕ → Type 0
 StaysAttacked m cells color square = (new : Cells) (to : ℕ) → to < 81 → has_bit m to ≡ false
     → FillsOnly cells new color to → is_attacked new color square ≡ true
+
+-- an attack by the side on the square, if there is one, so stays
+abbrev pub StaysIfAttacked : ℕ → Cells → Color → ℕ → Type 0
+StaysIfAttacked m cells by square = is_attacked cells by square ≡ true
+    → StaysAttacked m cells by square
 
 -- the side stays in check, unless something comes to stand on a square of the mask or a king moves
 abbrev pub StaysInCheck : ℕ → Cells → Color → Type 0

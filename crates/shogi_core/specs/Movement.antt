@@ -2,6 +2,7 @@
 use Rattle.std.specs.Prelude.{ℕ, ℤ, pos, negsuc, ◌+ℤ◌, ◌*ℤ◌, ◌-ℤ◌, ◌+◌, ◌*◌, ◌/◌, ◌%◌, ◌==◌, ◌&&◌, ◌||◌, Bool, false, List, [], ◌∷◌, ◌++◌, Option, Some, None, is_none, nat_lt, cond, slice_index_or}
 use Rattle.std.specs.List.{list_any}
 use Rattle.shogi_core.specs.Below.{some_below, all_below}
+use Rattle.shogi_core.specs.Bits.{HasBits}
 use Rattle.shogi_core.specs.declared.piece.Color.{Color}
 use Rattle.shogi_core.specs.declared.piece.Color.TheVariants.{Black, White}
 use Rattle.shogi_core.specs.declared.piece.Role.{Role}
@@ -151,6 +152,10 @@ has_step piece from to =
 abbrev pub is_slide : Cells → Color → List Offset → ℕ → ℕ → Bool
 is_slide cells color offsets from to =
     list_any (λ offset. slides cells (for_side color offset) from to) offsets
+
+-- the mask has the squares to which a free slide of either side in one of the directions leads, and no others
+abbrev pub HasSlides : ℕ → Cells → List Offset → ℕ → Type 0
+HasSlides m cells offsets from = (color : Color) → HasBits m (is_slide cells color offsets from)
 
 -- a free slide of the piece leads from the one square to the other
 abbrev pub has_slide : Cells → Piece → ℕ → ℕ → Bool

@@ -1,5 +1,5 @@
 -- Sides, kinds and roles (JSA playing rules, pieces). A kind is what stands in hand; a role is what stands on the board, promoted or not.
-use Rattle.std.specs.Prelude.{ℕ, ◌==◌, Bool, true, false, List, [], ◌∷◌, Option, Some, None}
+use Rattle.std.specs.Prelude.{ℕ, ◌≡◌, ◌+◌, ◌==◌, Bool, true, false, List, [], ◌∷◌, Option, Some, None, MatchOption}
 use Rattle.shogi_core.specs.declared.piece.Color.{Color}
 use Rattle.shogi_core.specs.declared.piece.Color.TheVariants.{Black, White}
 use Rattle.shogi_core.specs.declared.piece.Kind.{Kind}
@@ -28,6 +28,11 @@ kind_number kinds.Silver = 3
 kind_number kinds.Gold = 4
 kind_number kinds.Bishop = 5
 kind_number kinds.Rook = 6
+
+-- the kind after one, in this order; none after the last
+abbrev pub IsKindAfter : Kind → Option Kind → Type 0
+IsKindAfter kind next =
+    MatchOption next (kind_number kind ≡ 6) (λ k. kind_number k ≡ kind_number kind + 1)
 
 -- all of them
 abbrev pub all_kinds : List Kind

@@ -1,5 +1,5 @@
 -- Which positions are valid: one set of pieces, and the rules on kings, pawns and dead pieces (JSA playing rules; that a side may have no king is an own choice).
-use Rattle.std.specs.Prelude.{ℕ, ◌+◌, ◌*◌, ◌||◌, Bool, Option, Some, None, MatchOption, Result, Ok, Err, nat_lt, take, drop, count_by, cond, length, ◌≡◌}
+use Rattle.std.specs.Prelude.{ℕ, ◌+◌, ◌*◌, ◌/◌, ◌==◌, ◌&&◌, ◌||◌, Bool, Option, Some, None, MatchOption, Result, Ok, Err, nat_lt, take, drop, count_by, cond, length, ◌≡◌}
 use Rattle.std.specs.List.{list_any}
 use Rattle.shogi_core.specs.Below.{some_below}
 use Rattle.shogi_core.specs.declared.piece.Color.{Color}
@@ -9,7 +9,7 @@ use Rattle.shogi_core.specs.declared.validity.PositionFault.{PositionFault}
 use Rattle.shogi_core.specs.declared.validity.PositionFault.TheVariants.{TooMany, TwoKings, TwoPawns, DeadPiece, KingOpen}
 use Rattle.shogi_core.specs.Attack.{in_check}
 use Rattle.shogi_core.specs.Cell.{is_king, is_pawn, is_immobile_on}
-use Rattle.shogi_core.specs.Movement.{Cells}
+use Rattle.shogi_core.specs.Movement.{Cells, piece_at}
 use Rattle.shogi_core.specs.Pieces.{opponent_of, all_kinds, set_size, is_of_kind}
 use Rattle.shogi_core.specs.Position.{Shogi, HandCounts, count_in_hand}
 
@@ -36,6 +36,10 @@ on_file file cells = take 9 (drop (9 * file) cells)
 -- how many unpromoted pawns of the side stand on the file
 abbrev pub pawns_on_file : Color → ℕ → Cells → ℕ
 pawns_on_file color file cells = count_by (is_pawn color) (on_file file cells)
+
+-- an unpromoted pawn of the side stands on the first square, and the other is on its file
+abbrev pub is_on_file_of_pawn : Cells → Color → ℕ → ℕ → Bool
+is_on_file_of_pawn cells side square n = is_pawn side (piece_at cells square) && n / 9 == square / 9
 
 -- a side has two unpromoted pawns on the file
 abbrev pub has_two_pawns_on : Cells → ℕ → Bool

@@ -1,7 +1,7 @@
 //! Attacks and checks, seen from the square that is attacked.
 
-ghost use Rattle.std.specs.Prelude.{◌≡◌, ◌≢◌, ◌<◌, ◌≤◌, ◌^◌, ℕ, true, false, not, None, IfSome, IsNone, is_none};
-ghost use Rattle.shogi_core.specs.Attack.{is_attacked, is_open_king, in_check, is_sniper, is_sniping, cell_steps, cell_slides_back, is_step_from, is_step_among, is_shot_along, is_shot, FindsOccupied, FindsPiece, TellsAttack, TellsShot, TellsShotAlong, HasPinned, HasPinnedAlong, OthersAreUnpinned, StaysAttacked, StaysInCheck};
+ghost use Rattle.std.specs.Prelude.{◌≡◌, ◌≢◌, ◌<◌, ◌≤◌, ◌^◌, ℕ, true, false, not, None, IfSome, IsNone};
+ghost use Rattle.shogi_core.specs.Attack.{is_attacked, is_open_king, in_check, is_sniper, is_sniping, cell_steps, cell_slides_back, is_step_from, is_step_among, is_shot_along, is_shot, FindsOccupied, FindsPiece, TellsAttack, TellsShot, TellsShotAlong, HasPinned, HasPinnedAlong, OthersAreUnpinned, HasNoStep, StaysIfAttacked, StaysInCheck};
 ghost use Rattle.shogi_core.specs.Below.{some_below};
 ghost use Rattle.shogi_core.specs.Bits.{HasBits, has_bit};
 ghost use Rattle.shogi_core.specs.Cell.{is_king};
@@ -71,7 +71,7 @@ fn steps_to(cell: Option<Piece>, from: usize, to: usize) -> bool
 #[tactic(auto, using(crate::proofs::Shots::stepping))]
 fn first_stepper(board: &Board, among: Squares, square: usize) -> Option<usize>
     requires { square < 81 }
-    ensures none { IsNone result → some_below 81 (is_step_among board.now among.bits square) ≡ false }
+    ensures none { IsNone result → HasNoStep board.now among.bits square }
     ensures range { IfSome result (λ a. a < 81) }
     ensures steps { IfSome result (λ a. is_step_among board.now among.bits square a ≡ true) }
 {
@@ -394,8 +394,7 @@ fn pinned_pieces(board: &Board, side: Color, square: usize) -> Option<Squares>
 /// that of one attacker, and those on its way.
 fn answering_squares(board: &Board, by: Color, square: usize) -> Squares
     requires { square < 81 }
-    ensures stays { is_attacked board.now by square ≡ true
-        → StaysAttacked result.bits board.now by square }
+    ensures stays { StaysIfAttacked result.bits board.now by square }
 {
     if let Some(from) = first_stepper(board, board.own(by), square) {
         return Squares {

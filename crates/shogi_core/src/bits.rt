@@ -10,6 +10,14 @@ pub const ALL_SQUARES: u128 = 2417851639229258349412351;
 // What divides the lower 64 bits from those above.
 const HALF: u128 = 18446744073709551616;
 
+/// Its lower 64 bits.
+#[tactic(auto, using(crate::proofs::BitLaws::low_half))]
+pub fn low_half(mask: u128) -> u64
+    ensures { (i : ℕ) → i < 64 → has_bit result i ≡ has_bit mask i }
+{
+    (mask % HALF) as u64
+}
+
 /// The half of the mask in which bit n stands: its lower 64 bits, or those above.
 #[tactic(auto, using(crate::proofs::BitLaws::halves))]
 fn half_of(mask: u128, n: usize) -> u64
@@ -17,7 +25,7 @@ fn half_of(mask: u128, n: usize) -> u64
     ensures { has_bit result (n % 64) ≡ has_bit mask n }
 {
     if n < 64 {
-        (mask % HALF) as u64
+        low_half(mask)
     } else {
         (mask / HALF) as u64
     }

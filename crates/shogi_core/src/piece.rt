@@ -1,7 +1,7 @@
 //! Pieces: a colour and a role.
 
-ghost use Rattle.std.specs.Prelude.{◌≡◌, ◌<◌, ◌+◌, MatchOption};
-ghost use Rattle.shogi_core.specs.Pieces.{opponent_of, kind_number, set_size, kind_of, is_same_color, role_of, promoted};
+ghost use Rattle.std.specs.Prelude.{◌≡◌, ◌<◌};
+ghost use Rattle.shogi_core.specs.Pieces.{opponent_of, kind_number, set_size, kind_of, is_same_color, role_of, promoted, IsKindAfter};
 ghost use Rattle.shogi_core.specs.Cell.{is_king_role, is_pawn_role, is_sliding_role, is_immobile_role};
 
 /// A side.
@@ -102,8 +102,7 @@ impl Kind {
 
     /// The kind after this one in the order of their numbers.
     pub fn next(self) -> Option<Kind>
-        ensures { MatchOption result (kind_number self ≡ 6)
-            (λ k. kind_number k ≡ kind_number self + 1) }
+        ensures { IsKindAfter self result }
     {
         match self {
             Kind::Pawn => Some(Kind::Lance),

@@ -4,7 +4,7 @@ ghost use Rattle.std.specs.Prelude.{◌≡◌, ◌≢◌, ◌<◌, Some, true};
 ghost use Rattle.shogi_core.specs.declared.piece.Color.{Color};
 ghost use Rattle.shogi_core.specs.Bits.{HasBits};
 ghost use Rattle.shogi_core.specs.Cell.{is_sliding_role};
-ghost use Rattle.shogi_core.specs.Movement.{reaches, cell_reaches, has_slide, slides_of, straight, diagonal, forward, is_slide};
+ghost use Rattle.shogi_core.specs.Movement.{reaches, cell_reaches, has_slide, slides_of, straight, diagonal, forward, is_slide, HasSlides};
 
 use crate::board::Board;
 use crate::lines::{DOWN, UP, falling_squares, rising_squares, slide_squares};
@@ -19,10 +19,8 @@ use crate::steps::step_squares;
 fn four_slides(board: &Board, first: usize, from: usize) -> Squares
     requires first { first < 2 }
     requires from { from < 81 }
-    ensures straight { (color : Color) → first ≡ 0
-        → HasBits result.bits (is_slide board.now color straight from) }
-    ensures diagonal { (color : Color) → first ≡ 1
-        → HasBits result.bits (is_slide board.now color diagonal from) }
+    ensures straight { first ≡ 0 → HasSlides result.bits board.now straight from }
+    ensures diagonal { first ≡ 1 → HasSlides result.bits board.now diagonal from }
 {
     Squares {
         bits: falling_squares(board, first + 4, from).bits

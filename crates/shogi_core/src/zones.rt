@@ -1,10 +1,9 @@
 //! Where pieces promote, and squares by rank and by file.
 
-ghost use Rattle.std.specs.Prelude.{◌≡◌, ◌<◌, ◌/◌, ◌==◌, ◌&&◌, nat_lt};
+ghost use Rattle.std.specs.Prelude.{◌≡◌, ◌<◌, ◌/◌, nat_lt};
 ghost use Rattle.shogi_core.specs.Bits.{HasBits};
-ghost use Rattle.shogi_core.specs.Cell.{is_immobile, is_pawn};
-ghost use Rattle.shogi_core.specs.Movement.{piece_at};
-ghost use Rattle.shogi_core.specs.Validity.{pawns_on_file};
+ghost use Rattle.shogi_core.specs.Cell.{is_immobile};
+ghost use Rattle.shogi_core.specs.Validity.{is_on_file_of_pawn, pawns_on_file};
 ghost use Rattle.shogi_core.specs.Zones.{is_promotable, in_promotion_zone, may_promote, is_near_zone, is_around};
 
 use crate::bits::ALL_SQUARES;
@@ -173,8 +172,7 @@ const FILES: [u128; 9] = [
 #[inline(always)]
 #[tactic(auto, using(crate::proofs::PawnFiles::pawn_file_bits))]
 fn pawn_file(p: &Position, side: Color, square: Square) -> Squares
-    ensures { HasBits result.bits
-        (λ n. is_pawn side (piece_at p.now.cells square) && n / 9 == square / 9) }
+    ensures { HasBits result.bits (is_on_file_of_pawn p.now.cells side square) }
 {
     if is_pawn(p.at(square), side) {
         Squares {

@@ -1,9 +1,10 @@
 -- The legal moves are counted by the bits of their destinations.
 use Rattle.std.proofs.Common.{◌≡◌, ℕ, ◌+◌, ◌*◌, ◌/◌, ◌%◌, ◌^◌, ◌<◌, ◌≤◌, Bool, true, false, not, cond, refl, sym, ap, ◌∙◌, arith, inl, inr, length, ◌∷◌}
-use Rattle.std.specs.Prelude.{zero, suc, ◌==◌, ◌&&◌, count_ones}
+use Rattle.std.specs.Prelude.{zero, suc, ◌==◌, ◌&&◌, ◌||◌, bit_or, count_ones}
 use Rattle.std.specs.Int.{bit_at}
 use Rattle.std.specs.Int.Count.{ones_step}
-use Rattle.std.proofs.lemmas.Bool.{cases_Bool}
+use Rattle.std.proofs.Math.Bool.{or-false}
+use Rattle.std.proofs.lemmas.Bool.{both_ways, cases_Bool, cases_eq, cases_lt, eq-eqb, ne_eqb, or_cases}
 use Rattle.std.proofs.lemmas.Nat.Bits.{bit_at-suc, bit_at_lowest, bit_at-lt}
 use Rattle.std.proofs.lemmas.Nat.{ones_le_self}
 use native.Mathlib.Nat.{pow-suc}
@@ -11,14 +12,17 @@ use Rattle.shogi_core.specs.declared.moves.TheConstants.{MOVE_CODE_COUNT, FIRST_
 use Rattle.shogi_core.specs.declared.moves.Move.TheVariants.{Board, Drop}
 use Rattle.shogi_core.specs.declared.piece.Kind.{Kind}
 use Rattle.shogi_core.specs.Pieces.{kind_number}
+use Rattle.shogi_core.proofs.BitLaws.{has_bit-above, has_bit-none, has_bit-or}
 use Rattle.shogi_core.proofs.Faults.{number_below}
 use Rattle.shogi_core.specs.Bits.{has_bit}
+use Rattle.shogi_core.specs.Cell.{is_piece_of}
 use Rattle.shogi_core.specs.Codes.{code_of}
+use Rattle.shogi_core.specs.Movement.{piece_at}
 use Rattle.shogi_core.specs.Position.{Shogi}
 use Rattle.shogi_moves.specs.Legal.{is_legal_code}
 use Rattle.shogi_moves.specs.LegalMoves.{CountsLegal, legal_from, legal_codes}
 use Rattle.shogi_moves.specs.Places.{first_of_kind}
-use Rattle.shogi_moves.proofs.LegalLaws.{legal_from_found, legal_from_skips, HasPiecesFrom, next_piece, pieces_after, no_piece_left}
+use Rattle.shogi_moves.proofs.LegalLaws.{legal_from_found, legal_from_skips, HasPiecesFrom, next_piece, pieces_after, pieces_first, no_piece_left}
 
 abbrev digit : Bool → ℕ
 digit b = cond b 1 0
@@ -175,6 +179,86 @@ piece_counted p left next total square plain promoting h range on least less pf 
       whole = omega (arith, h.whole, same, block, pastw);
       range = omega (arith, h.range, reached.0, a, b);
     }
+
+-- ---- first the pieces on the lower 64 squares
+
+-- no square of the set is one of the lower 64
+abbrev IsAbove : ℕ → Type 0
+IsAbove high = (n : ℕ) → n < 64 → has_bit high n ≡ false
+
+pub all_left : (p : Shogi) (own low high : ℕ) → low < 2 ^ 64 → ((n : ℕ) → n < 81 → has_bit own n ≡ is_piece_of p.side (piece_at p.cells n))
+    → ((n : ℕ) → n < 64 → has_bit low n ≡ has_bit own n) → IsAbove high → ((n : ℕ) → n < 81 → 64 ≤ n → has_bit high n ≡ has_bit own n)
+    → IsCounted p (bit_or low high) 0
+all_left p own low high fits bits lows above highs = record {
+  first = 0;
+  pieces = pieces_first p (bit_or low high) (λ n h. has_bit-or low high n ∙ elim (cases_lt n 64) [
+    | inl under ↦ rw (lows n under, above n under, or-false (has_bit own n)) (bits n h)
+    | inr over ↦ rw (has_bit-above low 64 n fits over, highs n h over) (bits n h)
+  ]);
+  whole = omega arith;
+  range = omega arith;
+}
+
+-- the bits of both once the lowest of the lower ones is gone
+both_less : (low high next square i : ℕ) → square < 64 → IsAbove high → has_bit next i ≡ (has_bit low i && not (i == square))
+    → has_bit (bit_or next high) i ≡ (has_bit (bit_or low high) i && not (i == square))
+both_less low high next square i h above less = has_bit-or next high i ∙ (rw (less, has_bit-or low high i) (elim (cases_eq i square) [
+  | inl same ↦ rw (eq-eqb i square same) (gone (has_bit low i) (has_bit high i) (above i (omega (arith, same))))
+  | inr other ↦ rw (ne_eqb i square other) (kept (has_bit low i) (has_bit high i))
+]))
+  where
+    gone : (a b : Bool) → b ≡ false → ((a && not true) || b) ≡ ((a || b) && not true)
+    gone true b e = rw e refl
+    gone false b e = rw e refl
+
+    kept : (a b : Bool) → ((a && not false) || b) ≡ ((a || b) && not false)
+    kept true b = refl
+    kept false true = refl
+    kept false false = refl
+
+-- the lowest of the lower ones is the lowest of both
+low_next : (low high square : ℕ) → low < 2 ^ 64 → IsAbove high → has_bit low square ≡ true → ((n : ℕ) → has_bit low n ≡ true → square ≤ n)
+    → (square < 64) × (has_bit (bit_or low high) square ≡ true) × ((n : ℕ) → has_bit (bit_or low high) n ≡ true → square ≤ n)
+low_next low high square fits above on least =
+    let under : square < 64 = elim (cases_lt square 64) [ inl lower ↦ lower | inr over ↦ absurd (both_ways (has_bit low square) (has_bit-above low 64 square fits over) on) ] in (
+      under,
+      has_bit-or low high square ∙ rw on refl,
+      λ n there. elim (or_cases (has_bit low n) (has_bit high n) (sym (has_bit-or low high n) ∙ there)) [
+        | inl in_low ↦ least n in_low
+        | inr in_high ↦ elim (cases_lt n 64) [ inl low_n ↦ absurd (both_ways (has_bit high n) (above n low_n) in_high) | inr over ↦ omega (arith, under, over) ]
+      ],
+    )
+
+-- it is a piece of the side to move
+pub low_own : (p : Shogi) (low high total square : ℕ) → low < 2 ^ 64 → IsAbove high → IsCounted p (bit_or low high) total → square < 81 → has_bit low square ≡ true → ((n : ℕ) → has_bit low n ≡ true → square ≤ n)
+    → is_piece_of p.side (piece_at p.cells square) ≡ true
+low_own p low high total square fits above h range on least =
+    let next = low_next low high square fits above on least in
+    (next_piece p (bit_or low high) h.first square h.pieces range next.1 next.2).1
+
+-- and is counted next
+pub low_counted : (p : Shogi) (low high next total square plain promoting : ℕ) → low < 2 ^ 64 → IsAbove high → IsCounted p (bit_or low high) total → square < 81 → has_bit low square ≡ true → ((n : ℕ) → has_bit low n ≡ true → square ≤ n) → ((i : ℕ) → has_bit next i ≡ (has_bit low i && not (i == square)))
+    → plain < 2 ^ 81 → promoting < 2 ^ 81 → ((n : ℕ) → n < 81 → has_bit plain n ≡ is_legal_code p (code_of (Board square n false))) → ((n : ℕ) → n < 81 → has_bit promoting n ≡ is_legal_code p (code_of (Board square n true)))
+    → IsCounted p (bit_or next high) (total + (count_ones plain + count_ones promoting))
+low_counted p low high next total square plain promoting fits above h range on least less pf qf pb qb =
+    let lowest = low_next low high square fits above on least in
+    piece_counted p (bit_or low high) (bit_or next high) total square plain promoting h range lowest.1 lowest.2 (λ i. both_less low high next square i lowest.0 above (less i)) pf qf pb qb
+
+-- those above are left
+pub high_left : (p : Shogi) (low high total : ℕ) → low ≡ 0 → IsCounted p (bit_or low high) total → IsCounted p high total
+high_left p low high total none h = record {
+  first = h.first;
+  pieces = record {
+    within = h.pieces.within;
+    below = λ n under. sym (same n) ∙ h.pieces.below n under;
+    above = λ n from over. sym (same n) ∙ h.pieces.above n from over;
+  };
+  whole = h.whole;
+  range = h.range;
+}
+  where
+    same : (n : ℕ) → has_bit (bit_or low high) n ≡ has_bit high n
+    same n = has_bit-or low high n ∙ rw (none, has_bit-none n) refl
 
 -- all pieces are counted
 pub board_counted : (p : Shogi) (left total : ℕ) → IsCounted p left total → left ≡ 0 → (total + length (legal_from p FIRST_DROP) ≡ length (legal_codes p)) × (total ≤ FIRST_DROP)

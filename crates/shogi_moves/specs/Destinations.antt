@@ -1,5 +1,5 @@
 -- Where a piece may end.
-use Rattle.std.specs.Prelude.{ℕ, ◌≡◌, ◌<◌, ◌&&◌, ◌||◌, Bool, true, false, not, Option, None, is_none, slice_set}
+use Rattle.std.specs.Prelude.{ℕ, ◌≡◌, ◌≤◌, ◌<◌, ◌+◌, ◌&&◌, ◌||◌, Bool, true, false, not, Option, None, is_none, slice_set}
 use Rattle.shogi_core.specs.declared.piece.Color.{Color}
 use Rattle.shogi_core.specs.declared.piece.Kind.{Kind}
 use Rattle.shogi_core.specs.declared.piece.Kind.TheVariants.{Pawn}
@@ -7,7 +7,7 @@ use Rattle.shogi_core.specs.declared.piece.Piece.{Piece}
 use Rattle.shogi_core.specs.declared.moves.Move.{Move}
 use Rattle.shogi_core.specs.declared.moves.Move.TheVariants.{Board, Drop}
 use Rattle.shogi_core.specs.Attack.{in_check, is_attacked}
-use Rattle.shogi_core.specs.Bits.{HasBits, has_bit}
+use Rattle.shogi_core.specs.Bits.{HasBits, HasThose, has_bit}
 use Rattle.shogi_core.specs.Cell.{is_king, is_piece_of}
 use Rattle.shogi_core.specs.Codes.{code_of}
 use Rattle.shogi_core.specs.Movement.{Cells, piece_at, reaches}
@@ -24,6 +24,11 @@ abbrev pub is_destination : Bool → Color → Option Piece → Bool
 is_destination true side cell = is_piece_of (opponent_of side) cell
 is_destination false side cell = is_none cell
 
+-- the squares are those
+abbrev pub AreMatchingEnds : Shogi → Bool → ℕ → Type 0
+AreMatchingEnds p capture squares =
+    HasBits squares (λ n. is_destination capture p.side (piece_at p.cells n))
+
 -- a piece of the side to move stands on the square
 abbrev pub is_own : Shogi → ℕ → Bool
 is_own p n = is_piece_of p.side (piece_at p.cells n)
@@ -37,9 +42,9 @@ abbrev pub is_unchecked : Shogi → Move → Bool
 is_unchecked p m = not (in_check (cells_after p.cells p.side m) p.side)
 
 -- the squares are those of the destinations at which the piece leaves its king unattacked
-abbrev pub AreUncheckedDestinations : Shogi → ℕ → ℕ → ℕ → Type 0
-AreUncheckedDestinations p from destinations squares =
-    HasBits squares (λ n. has_bit destinations n && is_unchecked p (Board from n false))
+abbrev pub AreUncheckedEnds : Shogi → ℕ → ℕ → ℕ → Type 0
+AreUncheckedEnds p from destinations squares =
+    HasThose squares destinations (λ n. is_unchecked p (Board from n false))
 
 -- they are the squares that pass, without promotion and with it
 pub record AreDestinations (test : ℕ → Bool → Bool) (destinations : Destinations) : Type 0 where
@@ -57,7 +62,7 @@ AreAllDestinations p from = AreDestinations (λ n b. is_legal_code p (code_of (B
 -- they are those of the squares on which a dropped pawn leaves its king unattacked
 abbrev pub AreUncheckedDrops : Shogi → ℕ → ℕ → Type 0
 AreUncheckedDrops p squares unchecked =
-    HasBits unchecked (λ n. has_bit squares n && is_unchecked p (Drop Pawn n))
+    HasThose unchecked squares (λ n. is_unchecked p (Drop Pawn n))
 
 -- they are the squares on which a held piece of the kind may legally be dropped
 abbrev pub AreLegalDrops : Shogi → Kind → ℕ → Type 0
@@ -98,6 +103,10 @@ HasMovers p capture pieces movers = (n t : ℕ) → n < 81 → t < 81
 abbrev pub Spreads : (ℕ → ℕ → Type 0) → ℕ → ℕ → Type 0
 Spreads near squares spread = (a b : ℕ) → a < 81 → b < 81 → has_bit squares b ≡ true
     → near b a → has_bit spread a ≡ true
+
+-- each square is in the spread, and so are the four places above it
+abbrev pub SpreadsUp : ℕ → ℕ → Type 0
+SpreadsUp squares spread = (n k : ℕ) → k ≤ 4 → has_bit squares n ≡ true → has_bit spread (n + k) ≡ true
 
 -- each of the first squares is one of the second
 abbrev pub IsWithin : ℕ → ℕ → Type 0

@@ -8,6 +8,11 @@ use Rattle.shogi_core.specs.Movement.{Cells, piece_at, reaches}
 use Rattle.shogi_core.specs.Pieces.{opponent_of}
 use Rattle.shogi_core.specs.Position.{Shogi}
 
+-- squares that the side does not attack
+abbrev pub AreSafeFrom : Cells → Color → ℕ → Type 0
+AreSafeFrom cells side squares = (n : ℕ) → n < 81 → has_bit squares n ≡ true
+    → is_attacked cells side n ≡ false
+
 -- the king of the side on k is its only one and steps to e, where none of its own stands
 pub record IsKingStep (cells : Cells) (side : Color) (k e : ℕ) : Type 0 where
   pub lone : HasNoOtherKing cells side k

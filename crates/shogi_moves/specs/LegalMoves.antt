@@ -1,7 +1,7 @@
 -- The legal moves of a position by their codes, and sequences of legal moves (their order is an own choice).
-use Rattle.std.specs.Prelude.{◌≡◌, ℕ, zero, suc, ◌+◌, List, [], ◌∷◌, Option, Some, None, MatchOption, filter, length, sum_by}
+use Rattle.std.specs.Prelude.{◌≡◌, ℕ, zero, suc, ◌+◌, List, [], ◌∷◌, Option, Some, None, MatchOption, filter, length, sum_by, ◌*◌}
 use Rattle.shogi_core.specs.declared.moves.Move.{Move}
-use Rattle.shogi_core.specs.declared.moves.TheConstants.{FIRST_DROP}
+use Rattle.shogi_core.specs.declared.moves.TheConstants.{FIRST_DROP, SQUARE_CODES}
 use Rattle.shogi_core.specs.Codes.{code_of, codes_from}
 use Rattle.shogi_core.specs.Position.{Shogi}
 use Rattle.shogi_moves.specs.After.{after_code}
@@ -38,6 +38,10 @@ CountsLegal p first end count = count + length (legal_from p end) ≡ length (le
 abbrev pub IsLeastFrom : Shogi → Option Move → ℕ → ℕ → Type 0
 IsLeastFrom p found first end = MatchOption found (legal_from p first ≡ legal_from p end)
     (λ m. legal_from p first ≡ code_of m ∷ legal_from p (code_of m + 1))
+
+-- it is so of what stands on the square
+abbrev pub IsLeastOn : Shogi → Option Move → ℕ → ℕ → Type 0
+IsLeastOn p found code from = IsLeastFrom p found code (from * SQUARE_CODES + SQUARE_CODES)
 
 -- the move found is the first of the legal moves above a given one, or of all; where none is found, there is none
 abbrev pub IsNextAbove : Shogi → Option Move → Option Move → Type 0

@@ -1,5 +1,5 @@
 -- What is kept on the way through the moves of a kind: the destinations still to come of the present piece.
-use Rattle.std.specs.Prelude.{ℕ, ◌≡◌, ◌≢◌, ◌≤◌, ◌<◌, ◌+◌, ◌*◌, Bool, true, false, List, [], filter, bit_or, Option}
+use Rattle.std.specs.Prelude.{ℕ, ◌≡◌, ◌≢◌, ◌≤◌, ◌<◌, ◌+◌, ◌*◌, Bool, true, false, List, [], ◌∷◌, filter, bit_or, Option}
 use Rattle.shogi_core.specs.declared.moves.TheConstants.{FIRST_DROP, SQUARE_CODES}
 use Rattle.shogi_core.specs.declared.moves.Move.{Move}
 use Rattle.shogi_core.specs.declared.moves.Move.TheVariants.{Board, Drop}
@@ -78,7 +78,18 @@ board_left p capture s = matching_from p capture s.code
 abbrev pub drops_left : Shogi → DropSweep → List ℕ
 drops_left p s = matching_from p false s.code
 
--- a destination of the present piece is left
+-- the move is the first of them, and the others are left
+abbrev pub TakesOnBoard : Shogi → Bool → Move → BoardSweep → BoardSweep → Type 0
+TakesOnBoard p capture m old new = board_left p capture old ≡ code_of m ∷ board_left p capture new
+
+-- no board move is left
+abbrev pub IsAtDrops : Shogi → Bool → BoardSweep → Type 0
+IsAtDrops p capture s = board_left p capture s ≡ matching_drops p capture
+
+-- no destination of the present piece is left, or one is
+abbrev pub HasNoDestination : BoardSweep → Type 0
+HasNoDestination s = bit_or s.destinations.plain.bits s.destinations.promoting.bits ≡ 0
+
 abbrev pub HasDestination : BoardSweep → Type 0
 HasDestination s = bit_or s.destinations.plain.bits s.destinations.promoting.bits ≢ 0
 
@@ -98,6 +109,10 @@ IsPlace p (places.Drops sweep) = IsDropSweep p sweep
 abbrev pub codes_at : Shogi → Place → List ℕ
 codes_at p (places.Board info code kept) = legal_from p code
 codes_at p (places.Drops sweep) = drops_left p sweep
+
+-- the place is that from which on the legal moves from a code on are given
+abbrev pub StandsAt : Shogi → ℕ → Place → Type 0
+StandsAt p code place = codes_at p place ≡ legal_from p code
 
 -- the move found is the next one, and the others are left; where none is found, there is none of the sweep
 abbrev pub IsNextOnBoard : Shogi → Bool → Option Move → BoardSweep → BoardSweep → Type 0

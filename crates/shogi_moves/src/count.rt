@@ -1,6 +1,6 @@
 //! Counting sequences of legal moves.
 
-ghost use Rattle.std.specs.Prelude.{◌≡◌, ◌≤◌, ◌<◌, ◌^◌, ◌+◌, ◌-◌, ◌↔◌, IfSome, IsNone, length};
+ghost use Rattle.std.specs.Prelude.{◌≡◌, ◌≤◌, ◌<◌, ◌^◌, ◌+◌, ◌-◌, ◌↔◌, IfSome, IsNone, length, count_ones};
 ghost use Rattle.shogi_core.specs.declared.moves.TheConstants.{MOVE_CODE_COUNT, FIRST_DROP};
 ghost use Rattle.shogi_moves.specs.LegalMoves.{CountsLegal, legal_from, perft};
 ghost use Rattle.shogi_moves.specs.Destinations.{AreDropSquares};
@@ -8,34 +8,47 @@ ghost use Rattle.shogi_moves.specs.Places.{first_of_kind};
 
 use crate::after::advance;
 use crate::check_info::{KnownPosition, check_info_of};
-use crate::destinations::{legal_by_marks, marked_squares};
+use crate::destinations::{Destinations, all_by_marks, enterable, marked_squares};
 use crate::drops::drop_squares;
 use crate::pawn_drop::drop_destinations;
 use crate::walk::Walk;
-use shogi_core::bits::{lowest, without_lowest};
+use shogi_core::bits::{bits_from, low_half, lowest, without_lowest};
 use shogi_core::zones::zone_squares;
 use shogi_core::{Kind, Position, Square, Squares};
 
-/// How many board moves are legal.
+/// How many moves lead to the destinations.
+fn count_of(found: Destinations) -> u64
+    ensures { result ≡ count_ones found.plain.bits + count_ones found.promoting.bits }
+{
+    (found.plain.bits.count_ones() + found.promoting.bits.count_ones()) as u64
+}
+
+/// How many board moves are legal. The lower 64 squares, on which most pieces stand, are gone through
+/// as a number of 64 bits.
 fn count_board(known: &KnownPosition<'_>) -> u64
     ensures count { CountsLegal known.now.position.now 0 FIRST_DROP result }
     ensures range { result ≤ FIRST_DROP }
 {
     let p = known.position;
+    let squares = enterable(p);
     let side = p.side();
     let zone = zone_squares(side);
     let marked = marked_squares(&known.info, zone);
-    let board = p.as_board();
-    let own = board.own(side);
-    let mut left = own.bits;
+    let own = p.as_board().own(side);
+    let high = bits_from(own.bits, 64);
+    let mut low = low_half(own.bits);
     let mut total: u64 = 0;
-    'pieces: while left != 0 {
+    'low: while low != 0 {
+        let square = lowest(low as u128);
+        let from = Square::of_index(square);
+        total += count_of(all_by_marks(known, zone, marked, squares, from));
+        low = without_lowest(low as u128, square) as u64;
+    }
+    let mut left = high;
+    'high: while left != 0 {
         let square = lowest(left);
         let from = Square::of_index(square);
-        let among = board.targets(from).without(own);
-        let destinations = legal_by_marks(known, zone, marked, from, among);
-        total += (destinations.plain.bits.count_ones()
-            + destinations.promoting.bits.count_ones()) as u64;
+        total += count_of(all_by_marks(known, zone, marked, squares, from));
         left = without_lowest(left, square);
     }
     total

@@ -1,13 +1,12 @@
 //! The legal destinations of the pieces of the side to move.
 
-ghost use Rattle.std.specs.Prelude.{◌≡◌, ◌<◌, ◌&&◌, ℕ, not, true, false, None, slice_set};
+ghost use Rattle.std.specs.Prelude.{◌≡◌, ◌<◌, ℕ, not, true, false, None, slice_set};
 ghost use Rattle.shogi_core.specs.declared.moves.Move.TheVariants as moves;
 ghost use Rattle.shogi_core.specs.Attack.{in_check};
-ghost use Rattle.shogi_core.specs.Bits.{HasBits, has_bit};
+ghost use Rattle.shogi_core.specs.Bits.{HasBits, HasThose};
 ghost use Rattle.shogi_core.specs.Cell.{is_immobile};
-ghost use Rattle.shogi_core.specs.Movement.{piece_at};
 ghost use Rattle.shogi_core.specs.Zones.{in_promotion_zone, may_promote};
-ghost use Rattle.shogi_moves.specs.Destinations.{is_destination, is_own, is_own_king, is_unchecked, AreUncheckedDestinations, AreLegalDestinations, AreAllDestinations, AreEnterable, AreMarked, ShowsAttack};
+ghost use Rattle.shogi_moves.specs.Destinations.{is_own, is_own_king, is_unchecked, AreMatchingEnds, AreUncheckedEnds, AreLegalDestinations, AreAllDestinations, AreEnterable, AreMarked, ShowsAttack};
 
 use crate::check_info::{CheckInfo, KnownPosition, is_unpinned};
 use crate::unchecked::is_unchecked;
@@ -23,8 +22,7 @@ pub struct Destinations {
 
 /// The destinations of captures, or of the other moves.
 pub fn matching_destinations(p: &Position, capture: bool) -> Squares
-    ensures squares { HasBits result.bits (λ n. is_destination capture p.now.side
-        (piece_at p.now.cells n)) }
+    ensures squares { AreMatchingEnds p.now capture result.bits }
 {
     if capture {
         p.as_board().own(p.side().opponent())
@@ -35,7 +33,7 @@ pub fn matching_destinations(p: &Position, capture: bool) -> Squares
 
 /// Those of the destinations that leave the king unattacked, each of them tried.
 fn tried_destinations(p: &Position, from: Square, destinations: Squares) -> Squares
-    ensures squares { AreUncheckedDestinations p.now from destinations.bits result.bits }
+    ensures squares { AreUncheckedEnds p.now from destinations.bits result.bits }
 {
     destinations.sift(|to| {
         let m = Move::Board {
@@ -80,7 +78,7 @@ fn seen_king_destinations(
 ) -> Squares
     requires king { is_own_king p.now from ≡ true }
     requires seen { (n : ℕ) → n < 81 → ShowsAttack p.now seen.now from n }
-    ensures squares { AreUncheckedDestinations p.now from destinations.bits result.bits }
+    ensures squares { AreUncheckedEnds p.now from destinations.bits result.bits }
 {
     destinations.sift(|to| is_king_safe(p, seen, from, to))
 }
@@ -89,8 +87,7 @@ fn seen_king_destinations(
 /// stands in no piece's way; in check, the board is seen with the king lifted off its square.
 fn king_destinations(known: &KnownPosition<'_>, from: Square, destinations: Squares) -> Squares
     requires king { is_own_king known.now.position.now from ≡ true }
-    ensures squares { AreUncheckedDestinations known.now.position.now from
-        destinations.bits result.bits }
+    ensures squares { AreUncheckedEnds known.now.position.now from destinations.bits result.bits }
 {
     let p = known.position;
     p.validity();
@@ -113,8 +110,7 @@ fn may_be_pinned_destinations(
     destinations: Squares,
 ) -> Squares
     requires own { is_own known.now.position.now from ≡ true }
-    ensures squares { AreUncheckedDestinations known.now.position.now from
-        destinations.bits result.bits }
+    ensures squares { AreUncheckedEnds known.now.position.now from destinations.bits result.bits }
 {
     let p = known.position;
     p.validity();
@@ -136,8 +132,7 @@ fn may_be_pinned_destinations(
 #[tactic(auto, using(crate::proofs::DestinationLaws::unpinned_destinations))]
 fn safe_destinations(known: &KnownPosition<'_>, from: Square, destinations: Squares) -> Squares
     requires own { is_own known.now.position.now from ≡ true }
-    ensures squares { AreUncheckedDestinations known.now.position.now from
-        destinations.bits result.bits }
+    ensures squares { AreUncheckedEnds known.now.position.now from destinations.bits result.bits }
 {
     known.position.validity();
     from.validity();
@@ -152,10 +147,8 @@ fn safe_destinations(known: &KnownPosition<'_>, from: Square, destinations: Squa
 #[inline(always)]
 #[tactic(auto, using(crate::proofs::DestinationLaws::promoting))]
 fn with_promotions(cell: Option<Piece>, from: Square, among: Squares) -> Destinations
-    ensures plain { HasBits result.plain.bits
-        (λ n. has_bit among.bits n && not (is_immobile n cell)) }
-    ensures promoting { HasBits result.promoting.bits
-        (λ n. has_bit among.bits n && may_promote cell from n) }
+    ensures plain { HasThose result.plain.bits among.bits (λ n. not (is_immobile n cell)) }
+    ensures promoting { HasThose result.promoting.bits among.bits (may_promote cell from) }
 {
     let zone = promoting_squares(cell, from);
     if zone.is_empty() || (among & zone).is_empty() {
@@ -225,25 +218,25 @@ pub fn marked_squares(info: &CheckInfo, zone: Squares) -> Squares
     info.pinned_or_king | zone
 }
 
-/// The same legal destinations, where many pieces are asked for theirs. A piece on no marked
-/// square, none of whose destinations lies in the zone, keeps them all and promotes on none,
-/// whatever it is.
+/// The same, where many pieces are asked for theirs. A piece on no marked square, none of whose
+/// destinations lies in the zone, keeps them all and promotes on none, whatever it is.
 #[inline(always)]
-pub fn legal_by_marks(
+pub fn all_by_marks(
     known: &KnownPosition<'_>,
     zone: Squares,
     marked: Squares,
+    squares: Squares,
     from: Square,
-    among: Squares,
 ) -> Destinations
     requires zone { HasBits zone.bits (in_promotion_zone known.now.position.now.side) }
     requires marked { AreMarked known.now.info zone.bits marked.bits }
+    requires squares { HasBits squares.bits (λ n. not (is_own known.now.position.now n)) }
     requires own { is_own known.now.position.now from ≡ true }
-    requires among { AreEnterable known.now.position.now from among.bits }
-    ensures { AreLegalDestinations known.now.position.now from among.bits result }
+    ensures { AreAllDestinations known.now.position.now from result }
 {
     known.position.validity();
     from.validity();
+    let among = known.position.as_board().targets(from) & squares;
     if (among & zone).is_empty() && !marked.has(from) {
         return Destinations {
             plain: among,

@@ -1,12 +1,12 @@
 //! Attacks, legal moves, the position after a move, and counting sequences of legal moves.
 //!
-//! Moves are found as sets of squares: `destinations` has the legal ends of a piece, `drops` and `pawn_drop`
-//! the squares for a held kind. `sweep` goes through them for the search, `walk` over `next` for
-//! everyone else, `count` without looking at each, and `existence` up to the first one. `movers`
-//! leaves out, before their destinations are looked for, pieces that surely take nothing. A move is
-//! tested in `legal`, by the rules one after another, that on checks in `unchecked`, and made in
-//! `after`. `check_info` keeps whether there is a check and which pieces may be pinned, so that few
-//! moves need another look; `safe` and `pawn_escape` tell whether the drop of a pawn mates.
+//! Moves are found as sets of squares: `destinations` has the legal ends of a piece, `drops` and
+//! `pawn_drop` the squares for a held kind. `sweep` goes through them for the search, `walk` over
+//! `next` for everyone else, `count` without looking at each, and `existence` up to the first one.
+//! `movers` leaves out, before their destinations are looked for, pieces that surely take nothing. A
+//! move is tested in `legal`, by the rules one after another, that on checks in `unchecked`, and
+//! made in `after`. `check_info` keeps whether there is a check and which pieces may be pinned, so
+//! that few moves need another look; `safe` and `pawn_escape` tell whether the drop of a pawn mates.
 #![tactic(auto)]
 
 mod after;

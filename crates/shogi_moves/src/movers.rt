@@ -1,9 +1,9 @@
 //! The pieces that may have a move of a kind, found all at once.
 
-ghost use Rattle.std.specs.Prelude.{◌≡◌, ◌<◌, ◌^◌, ◌+◌, ◌⊎◌, true, ℕ, ◌*◌, ◌≤◌};
+ghost use Rattle.std.specs.Prelude.{◌≡◌, ◌<◌, ◌^◌, ◌+◌, ◌⊎◌, true, ℕ, ◌*◌};
 ghost use Rattle.shogi_core.specs.Bits.{has_bit};
 ghost use Rattle.shogi_core.specs.Lines.{is_near};
-ghost use Rattle.shogi_moves.specs.Destinations.{HasMovers, Spreads, IsWithin};
+ghost use Rattle.shogi_moves.specs.Destinations.{HasMovers, Spreads, IsWithin, SpreadsUp};
 
 use shogi_core::{Position, Squares};
 
@@ -27,8 +27,7 @@ fn raised(bits: u128, places: usize) -> u128
 
 /// The squares, and the places up to four above each.
 fn five_places(squares: Squares) -> u128
-    ensures bits { (n k : ℕ) → k ≤ 4 → has_bit squares.bits n ≡ true
-        → has_bit result (n + k) ≡ true }
+    ensures bits { SpreadsUp squares.bits result }
     ensures fits { result < 2 ^ 85 }
 {
     let two = squares.bits | raised(squares.bits, 1);

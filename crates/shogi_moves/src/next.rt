@@ -5,7 +5,7 @@ ghost use Rattle.shogi_core.specs.declared.moves.TheConstants.{FIRST_DROP, SQUAR
 ghost use Rattle.shogi_core.specs.Cell.{is_piece_of};
 ghost use Rattle.shogi_core.specs.Codes.{code_of};
 ghost use Rattle.shogi_moves.specs.Legal.{is_legal};
-ghost use Rattle.shogi_moves.specs.LegalMoves.{IsLeastFrom};
+ghost use Rattle.shogi_moves.specs.LegalMoves.{IsLeastFrom, IsLeastOn};
 ghost use Rattle.shogi_moves.specs.Places.{IsAtSquare};
 ghost use Rattle.shogi_moves.specs.Sweeps.{AreKept, KeepsLegal};
 
@@ -84,8 +84,7 @@ fn least_destination(
 ) -> Option<Move>
     requires code { IsAtSquare from code }
     requires kept { AreKept known.now.position.now kept.old }
-    ensures next { IsLeastFrom known.now.position.now result code
-        (from * SQUARE_CODES + SQUARE_CODES) }
+    ensures next { IsLeastOn known.now.position.now result code from }
     ensures legal { IfSome result (λ m. is_legal known.now.position.now m ≡ true) }
     ensures on_board { IfSome result (λ m. code_of m < FIRST_DROP) }
     ensures kept { AreKept known.now.position.now kept.new }

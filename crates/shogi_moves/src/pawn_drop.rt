@@ -3,7 +3,7 @@
 ghost use Rattle.std.specs.Prelude.{◌≡◌, ◌<◌, ◌&&◌, ℕ, not, true, false};
 ghost use Rattle.shogi_core.specs.declared.moves.Move.TheVariants as moves;
 ghost use Rattle.shogi_core.specs.declared.piece.Kind.TheVariants as kinds;
-ghost use Rattle.shogi_core.specs.Bits.{HasBits, has_bit};
+ghost use Rattle.shogi_core.specs.Bits.{HasBits, has_bit, HasThose};
 ghost use Rattle.shogi_moves.specs.Destinations.{is_mating_square, AreDropSquares, AreLegalDrops};
 ghost use Rattle.shogi_moves.specs.Legal.{is_mated_by_drop, is_pawn_drop, is_pawn_drop_mate, is_safe};
 
@@ -78,8 +78,7 @@ fn is_mating_drop(p: &Position, to: Square) -> bool
 #[tactic(auto, using(crate::proofs::DestinationLaws::sifting))]
 fn non_mating_drops(p: &Position, destinations: Squares) -> Squares
     requires { HasBits destinations.bits (λ n. is_safe p.now (moves.Drop kinds.Pawn n)) }
-    ensures squares { HasBits result.bits
-        (λ n. has_bit destinations.bits n && not (is_mating_square p.now n)) }
+    ensures squares { HasThose result.bits destinations.bits (λ n. not (is_mating_square p.now n)) }
 {
     let mut left = (destinations & facing_squares(p)).bits;
     let mut kept = destinations.bits;

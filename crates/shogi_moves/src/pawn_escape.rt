@@ -1,10 +1,8 @@
 //! Whether a king that is given check by the drop of a pawn surely has a square to go to.
 
-ghost use Rattle.std.specs.Prelude.{◌≡◌, ◌<◌, ℕ, true, false};
-ghost use Rattle.shogi_core.specs.Attack.{is_attacked};
-ghost use Rattle.shogi_core.specs.Bits.{has_bit};
+ghost use Rattle.std.specs.Prelude.{◌≡◌, true, false};
 ghost use Rattle.shogi_moves.specs.Destinations.{IsWithin, is_mating_square};
-ghost use Rattle.shogi_moves.specs.Escapes.{AreKingSteps, AreEscapes, HasOpenEscape};
+ghost use Rattle.shogi_moves.specs.Escapes.{AreSafeFrom, AreKingSteps, AreEscapes, HasOpenEscape};
 
 use shogi_core::bits::{lowest, with, without_lowest};
 use shogi_core::{Board, Color, Piece, Position, Role, Square, Squares, step_squares};
@@ -12,8 +10,7 @@ use shogi_core::{Board, Color, Piece, Position, Role, Square, Squares, step_squa
 /// One of the squares that the side does not attack, if there is one.
 fn first_unattacked(board: &Board, by: Color, squares: Squares) -> Squares
     ensures squares { IsWithin result.bits squares.bits }
-    ensures safe { (n : ℕ) → n < 81 → has_bit result.bits n ≡ true
-        → is_attacked board.now by n ≡ false }
+    ensures safe { AreSafeFrom board.now by result.bits }
 {
     let mut left = squares.bits;
     while left != 0 {

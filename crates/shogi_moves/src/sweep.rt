@@ -1,13 +1,13 @@
 //! Ways through the legal moves of a kind, which keep the destinations of the present piece.
 
-ghost use Rattle.std.specs.Prelude.{◌≡◌, ◌≢◌, ◌<◌, ◌≤◌, ◌+◌, ◌*◌, ◌∷◌, [], ℕ, true, false, IfSome, IsNone, MatchOption, bit_or};
+ghost use Rattle.std.specs.Prelude.{◌≡◌, ◌≢◌, ◌<◌, ◌≤◌, ◌+◌, ◌*◌, ◌∷◌, [], true, false, IfSome, IsNone};
 ghost use Rattle.shogi_core.specs.declared.moves.TheConstants.{FIRST_DROP};
 ghost use Rattle.shogi_core.specs.declared.moves.Move.TheVariants as moves;
 ghost use Rattle.shogi_core.specs.Cell.{is_piece_of};
 ghost use Rattle.shogi_core.specs.Codes.{code_of};
 ghost use Rattle.shogi_core.specs.Pieces.{kind_number};
 ghost use Rattle.shogi_moves.specs.Legal.{is_legal};
-ghost use Rattle.shogi_moves.specs.Sweeps.{matching_drops, board_left, drops_left, AreMatchingDestinations, IsBoardSweep, IsDropSweep, HasDestination, ContinuesBoard, ContinuesDrops, IsNextOnBoard, IsNextDrop};
+ghost use Rattle.shogi_moves.specs.Sweeps.{drops_left, AreMatchingDestinations, IsBoardSweep, IsDropSweep, HasDestination, ContinuesBoard, ContinuesDrops, IsNextOnBoard, IsNextDrop, IsAtDrops, TakesOnBoard, HasNoDestination};
 
 use crate::check_info::{CheckInfo, KnownPosition};
 use crate::destinations::{Destinations, legal_destinations, matching_destinations};
@@ -78,8 +78,7 @@ impl BoardSweep {
         requires kept { IsBoardSweep p.now capture self.old }
         requires some { HasDestination self.old }
         ensures kept { IsBoardSweep p.now capture self.new }
-        ensures next { board_left p.now capture self.old
-            ≡ code_of result ∷ board_left p.now capture self.new }
+        ensures next { TakesOnBoard p.now capture result self.old self.new }
         ensures legal { is_legal p.now result ≡ true }
     {
         let (from, plain, promoting) = (
@@ -121,12 +120,10 @@ impl BoardSweep {
     #[tactic(auto, using(crate::proofs::SweepLaws::sweeping))]
     fn refill(&mut self, p: &Position, capture: bool) -> bool
         requires kept { IsBoardSweep p.now capture self.old }
-        requires none { bit_or self.old.destinations.plain.bits
-            self.old.destinations.promoting.bits ≡ 0 }
+        requires none { HasNoDestination self.old }
         ensures kept { IsBoardSweep p.now capture self.new }
         ensures some { result ≡ true → ContinuesBoard p.now capture self.old self.new }
-        ensures end { result ≡ false
-            → board_left p.now capture self.old ≡ matching_drops p.now capture }
+        ensures end { result ≡ false → IsAtDrops p.now capture self.old }
         ensures same { result ≡ false → self.new.code ≡ self.old.code }
     {
         p.validity();
@@ -162,8 +159,7 @@ impl BoardSweep {
         requires kept { IsBoardSweep p.now capture self.old }
         ensures kept { IsBoardSweep p.now capture self.new }
         ensures some { result ≡ true → ContinuesBoard p.now capture self.old self.new }
-        ensures end { result ≡ false
-            → board_left p.now capture self.old ≡ matching_drops p.now capture }
+        ensures end { result ≡ false → IsAtDrops p.now capture self.old }
         ensures same { result ≡ false → self.new.code ≡ self.old.code }
     {
         if !(self.destinations.plain | self.destinations.promoting).is_empty() {

@@ -3,9 +3,9 @@
 ghost use Rattle.std.specs.Prelude.{◌≡◌, ◌≤◌, true, Some, IfSome};
 ghost use Rattle.shogi_core.specs.declared.moves.TheConstants.{FIRST_DROP};
 ghost use Rattle.shogi_moves.specs.Legal.{is_legal};
-ghost use Rattle.shogi_moves.specs.LegalMoves.{IsNextAbove, legal_above, legal_codes, legal_from};
+ghost use Rattle.shogi_moves.specs.LegalMoves.{IsNextAbove, legal_above, legal_codes};
 ghost use Rattle.shogi_moves.specs.Rising.{IsRising};
-ghost use Rattle.shogi_moves.specs.Sweeps.{IsPlace, codes_at};
+ghost use Rattle.shogi_moves.specs.Sweeps.{IsPlace, codes_at, StandsAt};
 ghost use Rattle.shogi_moves.specs.Walks.{TakesNext};
 
 use crate::check_info::{CheckInfo, KnownPosition, check_info_of};
@@ -49,8 +49,7 @@ impl Model for Walk {
 fn board_place(known: &KnownPosition<'_>, code: u16, from: Square) -> Place
     requires code { code ≤ FIRST_DROP }
     ensures place { IsPlace known.now.position.now result }
-    ensures codes { codes_at known.now.position.now result
-        ≡ legal_from known.now.position.now code }
+    ensures codes { StandsAt known.now.position.now code result }
 {
     Place::Board(known.info, code, kept_at(known, from))
 }

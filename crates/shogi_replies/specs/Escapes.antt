@@ -1,9 +1,9 @@
 -- What leaves such a square open: what a piece reaches once a king has gone, and lines with no piece that slides (own choice).
-use Rattle.std.specs.Prelude.{ℕ, ◌≡◌, ◌<◌, true, false, Option, None, slice_set}
+use Rattle.std.specs.Prelude.{ℕ, ◌≡◌, ◌<◌, ◌&&◌, not, true, false, Option, None, slice_set}
 use Rattle.shogi_core.specs.declared.piece.Color.{Color}
 use Rattle.shogi_core.specs.declared.piece.Piece.{Piece}
 use Rattle.shogi_core.specs.Attack.{is_attacked, is_sniper}
-use Rattle.shogi_core.specs.Bits.{has_bit}
+use Rattle.shogi_core.specs.Bits.{HasBits, has_bit}
 use Rattle.shogi_core.specs.Cell.{is_king, HasNoOtherKing}
 use Rattle.shogi_core.specs.Movement.{Cells, piece_at, cell_reaches}
 use Rattle.shogi_core.specs.Pieces.{opponent_of}
@@ -37,6 +37,16 @@ abbrev pub AreUnattacked : Cells → Color → ℕ → ℕ → Type 0
 AreUnattacked cells side squares set = (n : ℕ) → n < 81 → has_bit set n ≡ true
     → (has_bit squares n ≡ true) × (is_attacked cells side n ≡ false)
 
+-- the set has those of the squares that the side does not attack, and no others
+abbrev pub AreAllUnattacked : Cells → Color → ℕ → ℕ → Type 0
+AreAllUnattacked cells side squares set =
+    HasBits set (λ n. has_bit squares n && not (is_attacked cells side n))
+
 -- the board once nothing stands on either square
 abbrev pub without_both : Cells → ℕ → ℕ → Cells
 without_both cells from king = slice_set (slice_set cells from None) king None
+
+-- the side to move does not attack the third square once nothing stands on the first two
+abbrev pub IsSafeWithoutBoth : Shogi → ℕ → ℕ → ℕ → Type 0
+IsSafeWithoutBoth p from king to =
+    is_attacked (without_both p.cells from king) p.side to ≡ false

@@ -53,6 +53,11 @@ pub record IsPassedTo (p : Shogi) (capture : Bool) (row : Row) (code next : ℕ)
   pub passed : (first : ℕ) → first ≤ code → IsPassed (IsCertainMove p capture row first)
       (matching_from p capture code) (matching_from p capture next)
 
+-- no destination of the present piece is left, neither without promotion nor with it
+abbrev pub HasNoEnds : BoardSweep → Type 0
+HasNoEnds sweep =
+    (sweep.destinations.plain.bits ≡ 0) × (sweep.destinations.promoting.bits ≡ 0)
+
 -- certain moves are passed, and the others are left
 abbrev pub PassesBoard :
     Shogi → Bool → Row → BoardSweep → BoardSweep → Type 0

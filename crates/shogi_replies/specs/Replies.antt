@@ -79,7 +79,12 @@ abbrev pub IsHarmless : Cells → Color → Option Piece → ℕ → Type 0
 IsHarmless cells side cell to = (k : ℕ) → k < 81 → is_king side (piece_at cells k) ≡ true
     → cell_reaches cells cell to k ≡ false
 
--- the same once another square is left
+-- on squares that are not in the set, the piece attacks no king of the side
+abbrev pub ChecksWithin : Cells → Color → Option Piece → ℕ → Type 0
+ChecksWithin cells side cell set =
+    (n : ℕ) → n < 81 → has_bit set n ≡ false → IsHarmless cells side cell n
+
+-- what would stand on the square attacks no king of the side once another square is left
 abbrev pub IsHarmlessFrom : Cells → Color → ℕ → Option Piece → ℕ → Type 0
 IsHarmlessFrom cells side from cell to = (k : ℕ) → k < 81 → is_king side (piece_at cells k) ≡ true
     → cell_reaches (slice_set cells from None) cell to k ≡ false
@@ -97,6 +102,10 @@ UncoversWithin cells side sight from set = (promote : Bool) (n : ℕ) → n < 81
     → IsHarmless cells side (piece_moved promote (piece_at cells from)) n
     → UncoversNothing cells side sight from (piece_moved promote (piece_at cells from)) n
 
+-- the same for kings of the side that is not to move
+abbrev pub UncoversChecksWithin : Shogi → ℕ → ℕ → ℕ → Type 0
+UncoversChecksWithin p sight from set = UncoversWithin p.cells (opponent_of p.side) sight from set
+
 -- such squares for the side that is not to move, and some of those that give it a move
 pub record IsReplies (p : Shogi) (sight spare : ℕ) : Type 0 where
   pub sees : Sees p.cells (opponent_of p.side) 0 sight
@@ -106,6 +115,11 @@ pub record IsReplies (p : Shogi) (sight spare : ℕ) : Type 0 where
 pub record IsOpen (closed spare n : ℕ) : Type 0 where
   pub unclosed : has_bit closed n ≡ false
   pub way : (a : ℕ) × (a < 81) × (has_bit spare a ≡ true) × (a ≢ n)
+
+-- each of the squares is such a one
+abbrev pub AreOpen : ℕ → ℕ → ℕ → Type 0
+AreOpen closed spare squares =
+    (n : ℕ) → n < 81 → has_bit squares n ≡ true → IsOpen closed spare n
 
 -- if the move is legal, the other side has a legal move after it
 abbrev pub IsAnswered : Shogi → Move → Type 0
@@ -121,10 +135,14 @@ abbrev pub AreRemote : Shogi → ℕ → Type 0
 AreRemote p squares = (a n : ℕ) (promote : Bool) → a < 81 → n < 81 → has_bit squares a ≡ true
     → reaches p.cells a n ≡ true → IsAnswered p (Board a n promote)
 
--- those of the squares at which the piece may promote that came from there are in the set
-abbrev pub PromotesWithin : Option Piece → ℕ → ℕ → ℕ → Type 0
-PromotesWithin cell from squares set = (n : ℕ) → n < 81 → has_bit squares n ≡ true
-    → may_promote cell from n ≡ true → has_bit set n ≡ true
+-- each of the squares is in the set
+abbrev pub AreAmong : ℕ → ℕ → Type 0
+AreAmong squares set = (n : ℕ) → n < 81 → has_bit squares n ≡ true → has_bit set n ≡ true
+
+-- those of the squares at which what comes from the square may promote are in the set
+abbrev pub PromotesWithin : Cells → ℕ → ℕ → ℕ → Type 0
+PromotesWithin cells from squares set = (n : ℕ) → n < 81 → has_bit squares n ≡ true
+    → may_promote (piece_at cells from) from n ≡ true → has_bit set n ≡ true
 
 -- a drop of the kind on each of the squares is answered
 abbrev pub AreDropsAnswered : Shogi → Kind → ℕ → Type 0
@@ -143,6 +161,10 @@ IsCertain p escapes m = IsAnswered p m × (escapes ≡ 0 → GivesNoCheck p m)
 abbrev pub AreCertain : Shogi → ℕ → ℕ → Bool → ℕ → Type 0
 AreCertain p escapes from promote set =
     (n : ℕ) → n < 81 → has_bit set n ≡ true → IsCertain p escapes (Board from n promote)
+
+-- and so whatever escapes are given, and promoting or not
+abbrev pub AreAlwaysCertain : Shogi → ℕ → ℕ → Type 0
+AreAlwaysCertain p from set = (escapes : ℕ) (promote : Bool) → AreCertain p escapes from promote set
 
 -- and a drop of the kind on each of the squares
 abbrev pub AreDropsCertain : Shogi → ℕ → Kind → ℕ → Type 0
@@ -171,6 +193,10 @@ abbrev pub lets_promote : ℕ → Option Piece → Bool
 lets_promote roles None = false
 lets_promote roles (Some piece) = has_bit roles (role_number piece.role)
 
+-- the role of what stands there is one of the roles, unless the set has no square
+abbrev pub LetPromote : ℕ → Option Piece → ℕ → Type 0
+LetPromote roles cell set = (n : ℕ) → has_bit set n ≡ true → lets_promote roles cell ≡ true
+
 -- the row has each move of the kind of what stands on the square, and it is certain
 pub record HasCertainMoves (p : Shogi) (capture : Bool) (row : Row) (from : ℕ) : Type 0 where
   pub piece : has_bit row.pieces.bits from ≡ true
@@ -180,6 +206,11 @@ pub record HasCertainMoves (p : Shogi) (capture : Bool) (row : Row) (from : ℕ)
       → may_promote (piece_at p.cells from) from n ≡ true
       → (lets_promote row.promoting (piece_at p.cells from) ≡ true)
       × IsCertain p row.escapes.bits (Board from n true)
+
+-- the same of what stands on each of the squares
+abbrev pub HaveCertainMoves : Shogi → Bool → Row → ℕ → Type 0
+HaveCertainMoves p capture row squares =
+    (n : ℕ) → n < 81 → has_bit squares n ≡ true → HasCertainMoves p capture row n
 
 -- what stands on the squares makes such moves alone
 abbrev pub AreFarPieces : Shogi → ℕ → Bool → ℕ → Type 0

@@ -49,6 +49,11 @@ pub record IsAttack (p : Shogi) (a t : ℕ) (promote : Bool) : Type 0 where
   pub promotes : promote ≡ true → may_promote (piece_at p.cells a) a t ≡ true
   pub mobile : is_immobile t (piece_moved promote (piece_at p.cells a)) ≡ false
 
+-- what stands on the square may go so to each of the squares, promoting or not
+abbrev pub AreAttacks : Shogi → ℕ → ℕ → Bool → Type 0
+AreAttacks p a squares promote =
+    (t : ℕ) → t < 81 → has_bit squares t ≡ true → IsAttack p a t promote
+
 -- and no piece of its own side stands there: it goes there, or takes what does
 pub record IsThreat (p : Shogi) (a t : ℕ) (promote : Bool) : Type 0 where
   pub attack : IsAttack p a t promote

@@ -1,14 +1,11 @@
 //! Squares to which the king of the side that is not to move may go, should a move give it check.
 
-ghost use Rattle.std.specs.Prelude.{◌≡◌, ◌<◌, ◌&&◌, ℕ, not, true, false, Option, Some, None, slice_set};
-ghost use Rattle.shogi_core.specs.declared.piece.Piece.{Piece};
-ghost use Rattle.shogi_core.specs.Attack.{is_attacked};
-ghost use Rattle.shogi_core.specs.Bits.{HasBits, has_bit};
+ghost use Rattle.std.specs.Prelude.{◌≡◌, ◌<◌, ℕ, true, Some};
 ghost use Rattle.shogi_core.specs.Movement.{reaches};
 ghost use Rattle.shogi_moves.specs.Destinations.{IsWithin};
 ghost use Rattle.shogi_moves.specs.Escapes.{AreEscapes};
 ghost use Rattle.shogi_moves.specs.Legal.{is_legal};
-ghost use Rattle.shogi_replies.specs.Escapes.{without_both, AreUnattacked, HasRaysBehind, HasKingsRays, ReachesWithin, HasNoSniper};
+ghost use Rattle.shogi_replies.specs.Escapes.{AreAllUnattacked, AreUnattacked, IsSafeWithoutBoth, HasRaysBehind, HasKingsRays, ReachesWithin, HasNoSniper};
 ghost use Rattle.shogi_replies.specs.Replies.{IsAnswered, AreAnswered, AreDropsAnswered};
 ghost use Rattle.shogi_replies.specs.Threats.{IsTaken};
 
@@ -21,8 +18,7 @@ use shogi_moves::{dropped, has_open, king_steps, piece_moved};
 /// Those of the squares that the side does not attack.
 #[tactic(auto, using(shogi_moves::proofs::DestinationLaws::sifting))]
 fn unattacked(board: &Board, by: Color, squares: Squares) -> Squares
-    ensures squares { HasBits result.bits
-        (λ n. has_bit squares.bits n && not (is_attacked board.now by n)) }
+    ensures squares { AreAllUnattacked board.now by squares.bits result.bits }
 {
     let mut left = squares.bits;
     let mut kept = squares.bits;
@@ -209,8 +205,7 @@ pub fn leaves_king_move(p: &Position, escapes: Squares, m: &Move) -> bool
 /// attacks once the king and what stands on `from` have left theirs.
 fn is_unprotected(p: &Position, king: Square, from: Square, to: Square) -> bool
     ensures reached { result ≡ true → reaches p.now.cells king to ≡ true }
-    ensures safe { result ≡ true
-        → is_attacked (without_both p.now.cells from king) p.now.side to ≡ false }
+    ensures safe { result ≡ true → IsSafeWithoutBoth p.now from king to }
 {
     to.validity();
     let board = p.as_board();

@@ -1,9 +1,8 @@
 //! Moves that are passed in a row.
 
-ghost use Rattle.std.specs.Prelude.{◌≡◌};
 ghost use Rattle.shogi_moves.specs.Escapes.{AreEscapes};
 ghost use Rattle.shogi_moves.specs.Sweeps.{IsBoardSweep, IsDropSweep};
-ghost use Rattle.shogi_replies.specs.Passes.{IsPassedTo, PassesBoard, PassesDrops};
+ghost use Rattle.shogi_replies.specs.Passes.{HasNoEnds, IsPassedTo, PassesBoard, PassesDrops};
 ghost use Rattle.shogi_replies.specs.Replies.{IsReplies};
 
 use crate::replies::Replies;
@@ -50,8 +49,7 @@ impl Replies {
     /// that are far are not looked at one by one.
     fn pass_pieces(&self, p: &Position, capture: bool, row: &Row, sweep: &mut BoardSweep)
         requires kept { IsBoardSweep p.now capture sweep.old }
-        requires none { (sweep.old.destinations.plain.bits ≡ 0)
-            × (sweep.old.destinations.promoting.bits ≡ 0) }
+        requires none { HasNoEnds sweep.old }
         requires replies { IsReplies p.now self.now.sight.bits self.now.spare.bits }
         requires escapes { AreEscapes p.now row.now.escapes.bits }
         ensures kept { IsBoardSweep p.now capture sweep.new }

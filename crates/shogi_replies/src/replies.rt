@@ -1,16 +1,15 @@
 //! Whether the other side surely has a legal move after a move, without making it.
 
-ghost use Rattle.std.specs.Prelude.{◌≡◌, ◌≢◌, ◌<◌, ℕ, Bool, [], true, false, bit_and};
+ghost use Rattle.std.specs.Prelude.{◌≡◌, ◌≢◌, ◌<◌, ℕ, [], true, false, bit_and};
 ghost use Rattle.shogi_core.specs.Below.{some_below};
 ghost use Rattle.shogi_core.specs.Bits.{has_bit};
-ghost use Rattle.shogi_core.specs.Movement.{piece_at};
 ghost use Rattle.shogi_core.specs.Pieces.{opponent_of};
 ghost use Rattle.shogi_moves.specs.After.{after};
 ghost use Rattle.shogi_moves.specs.Destinations.{IsWithin};
 ghost use Rattle.shogi_moves.specs.Escapes.{AreEscapes};
 ghost use Rattle.shogi_moves.specs.Legal.{is_legal};
 ghost use Rattle.shogi_moves.specs.LegalMoves.{legal_codes};
-ghost use Rattle.shogi_replies.specs.Replies.{ChecksAmong, holds_free, is_open_step, is_spare, Sees, Aligns, IsReplies, IsHarmless, IsOpen, StaysCovered, UncoversNoCheck, UncoversWithin, AreCertain, AreDropsCertain, AreRemote, HasCertainMoves, PromotesWithin};
+ghost use Rattle.shogi_replies.specs.Replies.{ChecksAmong, holds_free, is_open_step, is_spare, Sees, Aligns, IsReplies, IsHarmless, StaysCovered, UncoversNoCheck, AreCertain, AreDropsCertain, AreRemote, HasCertainMoves, PromotesWithin, UncoversChecksWithin, AreOpen, AreAmong, ChecksWithin, HaveCertainMoves, AreAlwaysCertain};
 ghost use Rattle.shogi_replies.specs.Threats.{KeepsThreats, MayRetake};
 
 use crate::escapes::{escaped_destinations, escaped_drops};
@@ -149,8 +148,7 @@ fn attacks_king(p: &Position, side: Color, cell: Option<Piece>, to: Square) -> b
 /// The squares from which the piece would attack a king of the side: those that it would reach from
 /// there if it were of the other colour.
 fn check_squares(p: &Position, side: Color, cell: Option<Piece>) -> Squares
-    ensures { (n : ℕ) → n < 81 → has_bit result.bits n ≡ false
-        → IsHarmless p.now.cells side cell n }
+    ensures { ChecksWithin p.now.cells side cell result.bits }
 {
     let Some(piece) = cell else {
         return Squares::none()
@@ -185,10 +183,8 @@ fn holds_free(p: &Position, side: Color) -> bool
 /// promotion, and each at which such a move may promote among those for moves with it.
 #[inline(always)]
 fn are_among(p: &Position, from: Square, ends: Squares, plain: Squares, promoting: Squares) -> bool
-    ensures plain { result ≡ true → (n : ℕ) → n < 81 → has_bit ends.bits n ≡ true
-        → has_bit plain.bits n ≡ true }
-    ensures promoting { result ≡ true
-        → PromotesWithin (piece_at p.now.cells from) from ends.bits promoting.bits }
+    ensures plain { result ≡ true → AreAmong ends.bits plain.bits }
+    ensures promoting { result ≡ true → PromotesWithin p.now.cells from ends.bits promoting.bits }
 {
     if !ends.without(plain).is_empty() {
         return false;
@@ -219,8 +215,7 @@ impl Replies {
     /// slides.
     #[inline(always)]
     fn uncovering_squares(&self, p: &Position, from: Square) -> Squares
-        ensures { UncoversWithin p.now.cells (opponent_of p.now.side) self.now.sight.bits from
-            result.bits }
+        ensures { UncoversChecksWithin p.now self.now.sight.bits from result.bits }
     {
         from.validity();
         if !self.sight.has(from) {
@@ -346,8 +341,7 @@ impl Replies {
 
     /// The squares that are not closed and leave the other side one that gives it a move.
     fn open_squares(&self, closed: Squares) -> Squares
-        ensures { (n : ℕ) → n < 81 → has_bit result.bits n ≡ true
-            → IsOpen closed.bits self.now.spare.bits n }
+        ensures { AreOpen closed.bits self.now.spare.bits result.bits }
     {
         if self.spare.is_empty() {
             return Squares::none();
@@ -365,8 +359,7 @@ impl Replies {
     /// row has not all squares for moves without promotion.
     pub fn far_pieces(&self, p: &Position, capture: bool, row: &Row) -> Squares
         requires kept { IsReplies p.now self.now.sight.bits self.now.spare.bits }
-        ensures { (n : ℕ) → n < 81 → has_bit result.bits n ≡ true
-            → HasCertainMoves p.now capture row.now n }
+        ensures { HaveCertainMoves p.now capture row.now result.bits }
     {
         p.validity();
         let open = self.open_squares(Squares::none());
@@ -437,8 +430,7 @@ impl Replies {
         requires unseen { has_bit self.now.sight.bits from ≡ false }
         requires off { bit_and destinations.bits self.now.sight.bits ≡ 0 }
         ensures among { IsWithin result.bits destinations.bits }
-        ensures certain { (escapes : ℕ) (promote : Bool)
-            → AreCertain p.now escapes from promote result.bits }
+        ensures certain { AreAlwaysCertain p.now from result.bits }
     {
         p.validity();
         from.validity();

@@ -1,9 +1,9 @@
 //! Which moves on the board may be passed in a row.
 
-ghost use Rattle.std.specs.Prelude.{◌≡◌, ◌<◌, ℕ, true};
-ghost use Rattle.shogi_core.specs.Bits.{has_bit};
+ghost use Rattle.std.specs.Prelude.{◌≡◌, ◌<◌};
 ghost use Rattle.shogi_core.specs.Same.{role_number};
-ghost use Rattle.shogi_replies.specs.Replies.{lets_promote};
+ghost use Rattle.shogi_moves.specs.Destinations.{IsWithin};
+ghost use Rattle.shogi_replies.specs.Replies.{LetPromote};
 
 use shogi_core::{Piece, Role, Squares};
 
@@ -34,10 +34,8 @@ impl Row {
     /// those.
     #[inline(always)]
     pub fn promotions(&self, cell: Option<Piece>) -> Squares
-        ensures squares { (n : ℕ) → has_bit result.bits n ≡ true
-            → has_bit self.now.squares.bits n ≡ true }
-        ensures promoting { (n : ℕ) → has_bit result.bits n ≡ true
-            → lets_promote self.now.promoting cell ≡ true }
+        ensures squares { IsWithin result.bits self.now.squares.bits }
+        ensures promoting { LetPromote self.now.promoting cell result.bits }
     {
         let Some(piece) = cell else {
             return Squares::none()

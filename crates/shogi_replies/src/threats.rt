@@ -3,8 +3,7 @@
 ghost use Rattle.std.specs.Prelude.{◌≡◌, ◌<◌, ℕ, true, false};
 ghost use Rattle.shogi_core.specs.Bits.{has_bit};
 ghost use Rattle.shogi_core.specs.Movement.{reaches};
-ghost use Rattle.shogi_core.specs.Pieces.{opponent_of};
-ghost use Rattle.shogi_replies.specs.Threats.{HasBetween, HasBeforeSnipers, IsOffPins, IsUnpinnable, IsAttack, put_by};
+ghost use Rattle.shogi_replies.specs.Threats.{AreAttacks, HasBetween, HasBeforeSnipers, IsOffPins, IsUnpinnable, put_by};
 
 use shogi_core::bits::{lowest, without_lowest};
 use shogi_core::zones::{dead_squares, promoting_squares};
@@ -74,10 +73,8 @@ pub fn unpinnable_pieces(p: &Position) -> Squares
 pub fn attacks_of(p: &Position, from: Square, reach: Squares) -> Destinations
     requires from { IsUnpinnable p.now from }
     requires reach { (n : ℕ) → n < 81 → has_bit reach.bits n ≡ reaches p.now.cells from n }
-    ensures plain { (t : ℕ) → t < 81 → has_bit result.plain.bits t ≡ true
-        → IsAttack p.now from t false }
-    ensures promoting { (t : ℕ) → t < 81 → has_bit result.promoting.bits t ≡ true
-        → IsAttack p.now from t true }
+    ensures plain { AreAttacks p.now from result.plain.bits false }
+    ensures promoting { AreAttacks p.now from result.promoting.bits true }
 {
     let cell = p.at(from);
     let others = reach.except(from);

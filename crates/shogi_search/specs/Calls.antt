@@ -9,6 +9,10 @@ pub data Call : Type 0 where
   Probe : (p : Shogi) (e : Eval) (d : ℕ) (answer : Option Entry) → Call
   Note : (p : Shogi) (e : Eval) (d : ℕ) (entry : Entry) → Call
 
+-- a question for a position, with what a memory that gives these answers has for it
+abbrev pub probe_of : (Shogi → Eval → ℕ → Option Entry) → Shogi → Eval → ℕ → Call
+probe_of answers p e d = Probe p e d (answers p e d)
+
 -- 1 for a question, and 1 for what was told
 abbrev pub question_of : Call → ℕ
 question_of (Probe p e d answer) = 1

@@ -1,6 +1,6 @@
 -- Moves ranked by what they are worth (own choice: the greater worth first, among equal ones the lesser code).
 use Rattle.std.specs.List.{slice_get}
-use Rattle.std.specs.Prelude.{◌≡◌, Option, Some, None, ℕ, ℤ, ◌-◌, List, [], ◌∷◌, ◌++◌, map, take, insert, cond, ◌&&◌, ◌||◌, Bool, true, false, int_lt, nat_lt}
+use Rattle.std.specs.Prelude.{◌≡◌, ◌≤◌, Option, Some, None, ℕ, ℤ, ◌-◌, List, [], ◌∷◌, ◌++◌, length, map, take, insert, cond, ◌&&◌, ◌||◌, Bool, true, false, int_lt, nat_lt}
 use Rattle.std.specs.Ordering.{int_eq}
 use Rattle.shogi_core.specs.declared.moves.Move.{Move}
 use Rattle.shogi_core.specs.Codes.{code_of}
@@ -10,6 +10,7 @@ use Rattle.shogi_moves.specs.Rising.{is_in}
 use Rattle.shogi_eval.specs.declared.eval.Eval.{Eval}
 use Rattle.minimax.specs.Minimax.{worth, negated}
 use Rattle.minimax.specs.declared.bounds.TheConstants.{INFINITY}
+use Rattle.shogi_search.specs.declared.ranks.TheConstants.{MULTI_PV_MAX}
 
 -- whether a move of worth v and this code is better than one of worth w and the other code: it is worth more, or as much with the lesser code
 abbrev pub is_better : ℤ → ℕ → ℤ → ℕ → Bool
@@ -55,6 +56,11 @@ abbrev pub are_ranked : List (Move × ℤ) → Bool
 are_ranked [] = true
 are_ranked (x ∷ []) = true
 are_ranked (x ∷ y ∷ rest) = is_better x.1 (code_of x.0) y.1 (code_of y.0) && are_ranked (y ∷ rest)
+
+-- there may be so many lines, and the pairs are ranked and no more than these
+abbrev pub AreRankedWithin : ℕ → List (Move × ℤ) → Type 0
+AreRankedWithin lines pairs =
+    (1 ≤ lines) × (lines ≤ MULTI_PV_MAX) × (length pairs ≤ lines) × (are_ranked pairs ≡ true)
 
 -- a pair with the code in place of the move
 abbrev pub coded : Move × ℤ → ℕ × ℤ

@@ -1,5 +1,5 @@
 -- What a search asks and tells a memory (own choice).
-use Rattle.std.specs.Prelude.{◌≡◌, ◌⊎◌, ℕ, Bool, true, false, None, Some, length}
+use Rattle.std.specs.Prelude.{◌≡◌, ◌⊎◌, ℕ, Bool, true, false, IfSome, None, Option, Some, length}
 use Rattle.minimax.specs.declared.entry.Entry.{Entry}
 use Rattle.minimax.specs.declared.entry.Entry.TheVariants.{Exact, AtLeast, AtMost}
 use Rattle.minimax.specs.Entries.{IsEnoughBelow}
@@ -40,6 +40,12 @@ pub record TellsRoot {M : Type 0} (called : M → Call → M → Type 0) (old ne
   pub last :
       EndsWith called old new (Note search.root search.eval search.depth entry)
       ⊎ EndsWith called old new (Probe search.root search.eval search.depth (Some entry))
+
+-- where nothing was found before, the last call tells what is found now
+abbrev pub TellsFound : {M : Type 0} → (M → Call → M → Type 0) → M → M → Progress → Option Found
+    → Type 0
+TellsFound called old new search result =
+    search.found ≡ None → IfSome result (TellsRoot called old new search)
 
 -- the calls of a whole search, from before its first step to its end
 abbrev pub CallsOfWhole : {M : Type 0} → (M → Call → M → Type 0) → M → M → Found → Type 0

@@ -11,10 +11,11 @@ use Rattle.search_nodes.specs.declared.frame.Frame.{Frame}
 use Rattle.search_nodes.specs.declared.frame.Waiting.{Waiting}
 use Rattle.search_nodes.specs.declared.frame.Waiting.TheVariants.{Next, Asked, Cut}
 use Rattle.minimax.specs.declared.entry.Entry.{Entry}
+use Rattle.shogi_search.specs.declared.memo.Memo.{Ghosts}
 use Rattle.shogi_search.specs.declared.stack.Stack.{Stack}
 use Rattle.search_nodes.specs.Frames.{position_after, threshold_of}
 use Rattle.minimax.specs.Minimax.{negated, tree_size, IsTrueEntry}
-use Rattle.shogi_search.specs.Calls.{Call, CallsInSteps, Note}
+use Rattle.shogi_search.specs.Calls.{Asks, Call, CallsInSteps, EndsWith, Note}
 use Rattle.minimax.specs.declared.bounds.TheConstants.{SEARCH_DEPTH_MAX, INFINITY}
 use Rattle.search_nodes.specs.Changes.{IsAt, left_of_frame, steps_after}
 
@@ -51,6 +52,10 @@ frames_of s = take (s.height + 1) s.frames
 -- what holds of the node on top
 abbrev pub OnTop : Stack → (Frame → Type 0) → Type 0
 OnTop s fact = IsSomeAnd (slice_get s.frames s.height) fact
+
+-- the position is the one after the move of the node on top
+abbrev pub IsPositionAfter : Stack → Move → Shogi → Type 0
+IsPositionAfter s m p = OnTop s (λ top. p ≡ position_after top m)
 
 -- one frame stands for the position after the move of the other one, one ply less deep
 abbrev pub IsChildAfter : Frame → Move → Frame → Type 0
@@ -110,7 +115,8 @@ UsesSteps old new m made =
 -- the same, where the root has its whole window, and no move of it is asked twice
 abbrev pub UsesStepsOnce : Stack → Stack → Move → Type 0
 UsesStepsOnce old new m =
-    OnTop old (λ top. steps_left new + 1 ≤ steps_left old + steps_after top m)
+    old.bound ≡ old.beta
+    → OnTop old (λ top. steps_left new + 1 ≤ steps_left old + steps_after top m)
 
 -- with one step, and those for the tree after a move of the node that is on top now, no more is left than was
 abbrev pub LeavesStepsFor : Stack → Stack → Move → Type 0
@@ -120,6 +126,18 @@ LeavesStepsFor old new m =
 -- a note of the root
 abbrev pub note_of_root : Stack → Entry → Call
 note_of_root s entry = Note s.root s.eval s.depth entry
+
+-- the last call was that note
+abbrev pub EndsWithRoot : {M : Type 0} → (M → Call → M → Type 0) → M → M → Stack → Entry → Type 0
+EndsWithRoot called old new s entry = EndsWith called old new (note_of_root s entry)
+
+-- where the root is on top, it was the only one
+abbrev pub NotesRoot : {M : Type 0} → (M → Call → M → Type 0) → M → M → Stack → Entry → Type 0
+NotesRoot called old new s entry = s.height ≡ 0 → called old (note_of_root s entry) new
+
+-- as the node on top is left, the memory was asked at most once for each node that is entered in its place, and told nothing
+abbrev pub AsksForEach : {M : Type 0} → (M → Call → M → Type 0) → M → M → Stack → Stack → Type 0
+AsksForEach called old new before after = Asks called old new (after.height + 1 - before.height)
 
 -- how many nodes are entered and not left: none once the root is left
 abbrev pub entered_unless : Option Entry → Stack → ℕ
@@ -131,3 +149,7 @@ abbrev pub CallsOnStack : {M : Type 0} → (M → Call → M → Type 0) → M �
     → Stack → Option Entry → Stack → Type 0
 CallsOnStack called old new before after stack left next =
     CallsInSteps called old new before after (stack.height + 1) (entered_unless left next) 0
+
+-- the same of a memory in a run of steps
+abbrev pub Runs : {M : Type 0} → Ghosts M → M → M → ℕ → ℕ → Stack → Option Entry → Stack → Type 0
+Runs memory = CallsOnStack memory.called

@@ -28,16 +28,13 @@ pub struct Ranks {
 }
 
 impl Model for Ranks {
-    ghost use Rattle.std.specs.Prelude.{◌≡◌, ◌≤◌, length, true};
-    ghost use Rattle.shogi_search.specs.Ranked.{Ranking, are_ranked};
-    ghost use Rattle.shogi_search.specs.declared.ranks.TheConstants.{MULTI_PV_MAX};
+    ghost use Rattle.shogi_search.specs.Ranked.{AreRankedWithin, Ranking};
 
     ghost Value = { Ranking };
 
     ghost view = { λ r. record { lines = r.lines; pairs = r.pairs.items } };
 
-    ghost invariant = { λ r. (1 ≤ r.lines) × (r.lines ≤ MULTI_PV_MAX)
-        × (length r.pairs.items ≤ r.lines) × (are_ranked r.pairs.items ≡ true) };
+    ghost invariant = { λ r. AreRankedWithin r.lines r.pairs.items };
 }
 
 /// Whether a move with its value stands before another one.

@@ -7,7 +7,7 @@ ghost use Rattle.minimax.specs.Minimax.{IsTrueEntry, negated};
 ghost use Rattle.shogi_search.specs.Entered.{IsKnownNode};
 ghost use Rattle.minimax.specs.Entries.{IsCutoff};
 ghost use Rattle.shogi_search.specs.Calls.{Asks};
-ghost use Rattle.shogi_search.specs.SearchCalls.{CallsBetween, CallsOfSearch, Says, TellsRoot};
+ghost use Rattle.shogi_search.specs.SearchCalls.{CallsBetween, CallsOfSearch, Says, TellsFound, TellsRoot};
 ghost use Rattle.shogi_search.specs.Progress.{untouched, untouched_below, left_of, HasPath, IsAnsweredBy, EndsWhereAnswered, EndsWhereKnown, KeepsQuestion, IsFoundBelow, IsFoundBy, FindsValue, FindsBest, FitsTree};
 ghost use Rattle.minimax.specs.declared.bounds.TheConstants.{SEARCH_DEPTH_MAX, INFINITY};
 
@@ -295,8 +295,7 @@ impl Search {
         ensures capacity { M.capacity memo.new ≡ M.capacity memo.old }
         ensures calls { CallsOfSearch M.called memo.old memo.new self.old self.new }
         // Its last call says what it found of the root.
-        ensures told { self.old.found ≡ None
-            → IfSome result (TellsRoot M.called memo.old memo.new self.old) }
+        ensures told { TellsFound M.called memo.old memo.new self.old result }
         ensures found { self.new.found ≡ result }
 
         // Until the end the whole budget is used.

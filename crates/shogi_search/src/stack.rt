@@ -4,10 +4,10 @@ ghost use Rattle.std.specs.Prelude.{◌≡◌, ◌≤◌, ◌<ℤ◌, ◌<◌, �
 ghost use Rattle.minimax.specs.Minimax.{negated, IsTrueEntry};
 ghost use Rattle.minimax.specs.Entries.{IsCutoff, IsEnough, move_in};
 ghost use Rattle.search_nodes.specs.Visits.{IsAsked, IsFree};
-ghost use Rattle.search_nodes.specs.Frames.{IsTrueOf, IsToBeLeft, position_after};
+ghost use Rattle.search_nodes.specs.Frames.{IsTrueOf, IsToBeLeft};
 ghost use Rattle.search_nodes.specs.Changes.{KeepsAsked};
-ghost use Rattle.shogi_search.specs.Stack.{IsStack, IsWhole, IsNarrow, IsChildAfter, OnTop, IsTrueAnywhere, IsTrueOfRoot, KeepsGoal, CallsOnStack, LeavesStepsFor, UsesSteps, UsesStepsOnce, steps_left, note_of_root};
-ghost use Rattle.shogi_search.specs.Calls.{Probe, Asks, EndsWith, TellsOnce};
+ghost use Rattle.shogi_search.specs.Stack.{AsksForEach, EndsWithRoot, IsStack, IsWhole, IsNarrow, IsChildAfter, IsPositionAfter, OnTop, IsTrueAnywhere, IsTrueOfRoot, KeepsGoal, CallsOnStack, LeavesStepsFor, NotesRoot, Runs, UsesSteps, UsesStepsOnce, steps_left};
+ghost use Rattle.shogi_search.specs.Calls.{probe_of, Asks, TellsOnce};
 ghost use Rattle.minimax.specs.declared.bounds.TheConstants.{SEARCH_DEPTH_MAX, INFINITY};
 
 use crate::memo::Memo;
@@ -60,8 +60,7 @@ pub fn probe<M: Memo>(
     ensures truth { IfSome result (IsTrueEntry p.now e depth) }
     ensures cutoff { IfSome result (IsCutoff alpha beta) }
     ensures enough { IsSome result ↔ IsEnough alpha beta (M.answers memo.old p.now e depth) }
-    ensures asked { M.called memo.old
-        (Probe p.now e depth (M.answers memo.old p.now e depth)) memo.new }
+    ensures asked { M.called memo.old (probe_of (M.answers memo.old) p.now e depth) memo.new }
     ensures answer { OnSome result (result ≡ M.answers memo.old p.now e depth) }
     ensures capacity { M.capacity memo.new ≡ M.capacity memo.old }
 {
@@ -205,16 +204,14 @@ impl Stack {
         requires asked { OnTop self.old (λ top. top.waiting ≡ Waiting.Asked current.now) }
         requires room { self.old.height + 1 < SEARCH_DEPTH_MAX }
         requires deep { OnTop self.old (λ top. 0 < top.depth) }
-        requires position { OnTop self.old
-            (λ top. node.now.position ≡ position_after top current.now) }
+        requires position { IsPositionAfter self.old current.now node.now.position }
         requires eval { OnTop self.old (λ top. node.now.eval ≡ top.node.eval) }
         ensures stack { IsStack self.new }
         ensures free { OnTop self.new (λ top. IsFree top.waiting) }
         ensures height { self.new.height ≡ self.old.height + 1 }
         ensures bound { self.new.bound ≡ self.old.bound }
         ensures left { UsesSteps self.old self.new current.now 1 }
-        ensures once { self.old.bound ≡ self.old.beta
-            → UsesStepsOnce self.old self.new current.now }
+        ensures once { UsesStepsOnce self.old self.new current.now }
         ensures same { KeepsGoal self.old self.new }
         ensures asked { Asks M.called memo.old memo.new 1 }
         ensures capacity { M.capacity memo.new ≡ M.capacity memo.old }
@@ -274,8 +271,7 @@ impl Stack {
         ensures some { result ≡ true → 0 < self.old.height }
         ensures root { result ≡ false → self.old.height ≡ 0 }
         ensures same { KeepsGoal self.old self.new }
-        ensures asked { result ≡ true
-            → Asks M.called memo.old memo.new (self.new.height + 1 - self.old.height) }
+        ensures asked { result ≡ true → AsksForEach M.called memo.old memo.new self.old self.new }
         ensures capacity { M.capacity memo.new ≡ M.capacity memo.old }
     {
         if self.height == 0 {
@@ -358,8 +354,7 @@ impl Stack {
     fn note_top<M: Memo>(&self, entry: &Entry, memo: &mut M)
         requires stack { IsStack self.now }
         requires truth { OnTop self.now (λ top. IsTrueOf top entry.now) }
-        ensures root { self.now.height ≡ 0
-            → M.called memo.old (note_of_root self.now entry.now) memo.new }
+        ensures root { NotesRoot M.called memo.old memo.new self.now entry.now }
         ensures told { TellsOnce M.called memo.old memo.new }
         ensures capacity { M.capacity memo.new ≡ M.capacity memo.old }
     {
@@ -403,8 +398,7 @@ impl Stack {
         ensures cutoff { IfSome result (IsCutoff (negated INFINITY) self.old.beta) }
         ensures same { KeepsGoal self.old self.new }
         ensures calls { CallsOnStack M.called memo.old memo.new 0 1 self.old result self.new }
-        ensures told { IfSome result (λ entry.
-            EndsWith M.called memo.old memo.new (note_of_root self.old entry)) }
+        ensures told { IfSome result (EndsWithRoot M.called memo.old memo.new self.old) }
         ensures capacity { M.capacity memo.new ≡ M.capacity memo.old }
     {
         let entry = self.frames[self.height].to_entry();
@@ -433,8 +427,7 @@ impl Stack {
         ensures cutoff { IfSome result (IsCutoff (negated INFINITY) self.old.beta) }
         ensures same { KeepsGoal self.old self.new }
         ensures calls { CallsOnStack M.called memo.old memo.new 0 1 self.old result self.new }
-        ensures told { IfSome result (λ entry.
-            EndsWith M.called memo.old memo.new (note_of_root self.old entry)) }
+        ensures told { IfSome result (EndsWithRoot M.called memo.old memo.new self.old) }
         ensures capacity { M.capacity memo.new ≡ M.capacity memo.old }
     {
         let top = &mut self.frames[self.height];
@@ -470,10 +463,8 @@ impl Stack {
         ensures truth { IfSome result (IsTrueOfRoot self.old) }
         ensures cutoff { IfSome result (IsCutoff (negated INFINITY) self.old.beta) }
         ensures same { KeepsGoal self.old self.new }
-        ensures calls { CallsOnStack M.called memo.old memo.new steps.old steps.new self.old result
-            self.new }
-        ensures told { IfSome result (λ entry.
-            EndsWith M.called memo.old memo.new (note_of_root self.old entry)) }
+        ensures calls { Runs M.Memo memo.old memo.new steps.old steps.new self.old result self.new }
+        ensures told { IfSome result (EndsWithRoot M.called memo.old memo.new self.old) }
         ensures capacity { M.capacity memo.new ≡ M.capacity memo.old }
     {
         let mut made = 0;

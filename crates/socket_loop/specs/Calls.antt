@@ -228,6 +228,14 @@ pub record Turns (slice : ℕ) (moved : Bool) (tally : Tally) (before after : Sc
   pub continues : ContinuesServing before after
   pub starts : ServesNew before (links_of after.held) after
 
+-- ---- the same of a loop, a host and a wire of the code
+
+-- new connections were accepted, if any
+abbrev pub AcceptedAll : {W : Type 0} → Ghosts W → Arrivals → LoopState → HostState → W
+    → LoopState → HostState → W → Type 0
+AcceptedAll wires arrivals old before from new after to =
+    Over wires (AcceptsAll arrivals) old before from new after to
+
 -- a loop took a turn, with its own budget, over a wire and with a host
 abbrev pub Turned : {W : Type 0} → Ghosts W → Turn → LoopState → HostState → W
     → LoopState → HostState → W → Type 0

@@ -6,6 +6,7 @@ use Rattle.session_slots.specs.Slots.{find}
 use Rattle.usi_session.specs.Due.{SessionView, is_pending}
 use Rattle.host_core.specs.declared.event.HostFault.TheVariants.{OutOfMemory}
 use Rattle.host_core.specs.Steps.{HostState}
+use Rattle.host_core.specs.ById.{wants_input_of}
 use Rattle.host_core.specs.Events.{Outcome, Event, Refused, Open, Feed, Work, Take, Close}
 use Rattle.host_core.specs.Made.{Step, own, taken, is_same_id}
 use Rattle.host_core.specs.Runs.{IsStep, IsRun}
@@ -22,6 +23,10 @@ use Rattle.socket_loop.specs.Scenes.{Scene}
 pub record IsGone (host : HostState) (id : SessionId) : Type 0 where
   pub none : find host.slots id ≡ None
   pub below : id.generation < host.slots.next
+
+-- the session of the id wants input
+abbrev pub WantsInput : HostState → SessionId → Type 0
+WantsInput host id = wants_input_of (find host.slots id) ≡ true
 
 -- the session was closed, where it was open
 pub record IsClosing (old : HostState) (id : SessionId) (new : HostState) : Type 0 where

@@ -99,6 +99,11 @@ pub record IsAway (bound : ℕ) (text : List ℕ) (old new : Report) (number : �
   pub failed : OnlyRises (old.has_failed number) (new.has_failed number)
   pub others : KeepsOthers old new number
 
+-- a connection of a wire of the code was written a prefix of `info string host full`, and shut
+abbrev pub FindsHostFull : {W : Type 0} → Ghosts W → (old new : W) → ℕ → Type 0
+FindsHostFull wires old new number =
+    IsAway (wires.bound old) host_full (wires.report old) (wires.report new) number
+
 -- a new connection was rejected, since its `Open` was refused: it was written a prefix of what it is due, and shut
 pub record IsRejected (from to : ℕ) (accepted : List Accepted) (old new : Report) (number : ℕ)
     : Type 0 where

@@ -6,6 +6,7 @@ use Rattle.host_core.specs.Events.{Event}
 use Rattle.host_core.specs.Steps.{HostState}
 use Rattle.socket_loop.specs.declared.connection.Link.{Link}
 use Rattle.socket_loop.specs.declared.connection.Connection.{Connection}
+use Rattle.socket_loop.specs.declared.tally.Visited.{Visited}
 use Rattle.wires.specs.Asked.{Call, Asks}
 use Rattle.wires.specs.Moves.{GaveBytes, IsEmptied, Transfers}
 use Rattle.wires.specs.Report.{Report, IsRaised, Stays}
@@ -13,7 +14,7 @@ use Rattle.wires.specs.declared.wire.Wire.{Ghosts}
 use Rattle.socket_loop.specs.Links.{links_of, reads_ended, AreOnce, IsMarked}
 use Rattle.socket_loop.specs.Scenes.{Scene, scene}
 use Rattle.socket_loop.specs.Parts.{IsEnd, IsInput, IsOutput, KeepsAllMarks, CarriesHeld, CarriesBy}
-use Rattle.socket_loop.specs.Turns.{AllKeepMade, AreLeft, EndsOrShuts, IsQuiet, KeepsMade, Stirs}
+use Rattle.socket_loop.specs.Turns.{AllKeepMade, AreLeft, EndsOrShuts, IsQuiet, KeepsMade, LoopState, Over, Stirs}
 use Rattle.socket_loop.specs.Calls.{AsksTo, Visits, ends_of, reads_of, shuts_of, writes_of}
 
 -- a connection was visited with steps of this kind: it is linked as before, and its marks stay; where it is shut now and
@@ -92,6 +93,9 @@ abbrev pub OverOne : {W : Type 0} → Ghosts W → (Connection → Connection �
 OverOne wires Relates old before from new after to =
     Relates old new (scene wires (old ∷ []) from before) (scene wires (new ∷ []) to after)
 
+abbrev pub EndsEmptiedOver : {W : Type 0} → Ghosts W → Connection → W → Connection → W → Type 0
+EndsEmptiedOver wires old from new to = EndsEmptied old new (wires.report from) (wires.report to)
+
 abbrev pub Feeds : {W : Type 0} → Ghosts W → List ℕ → Connection → HostState → W
     → Connection → HostState → W → Type 0
 Feeds wires chunk = OverOne wires (FeedsOne chunk)
@@ -147,3 +151,23 @@ pub record EndsEach (moved : Bool) (before after : Scene) : Type 0 where
   pub ended : (number : ℕ) → IsMarked reads_ended after.held number
       → IsMarked reads_ended before.held number
   pub left : AreOnce (links_of before.held) → AreLeft after.host after.held
+
+-- ---- the same of a loop, a host and a wire of the code
+
+-- one read was made for each connection that is to be read
+abbrev pub ReadAll : {W : Type 0} → Ghosts W → Visited → LoopState → HostState → W
+    → LoopState → HostState → W → Type 0
+ReadAll wires visited old before from new after to =
+    Over wires (ReadsEach visited.moved) old before from new after to
+
+-- one write was made for each that is to be written
+abbrev pub WroteAll : {W : Type 0} → Ghosts W → Visited → LoopState → HostState → W
+    → LoopState → HostState → W → Type 0
+WroteAll wires visited old before from new after to =
+    Over wires (WritesEach visited.moved) old before from new after to
+
+-- each was shut that was finished with
+abbrev pub EndedAll : {W : Type 0} → Ghosts W → Visited → LoopState → HostState → W
+    → LoopState → HostState → W → Type 0
+EndedAll wires visited old before from new after to =
+    Over wires (EndsEach visited.moved) old before from new after to

@@ -2,13 +2,13 @@
 
 ghost use Rattle.std.specs.Prelude.{false, ◌≡◌, ◌≤◌, ◌<◌, [], ◌∷◌, ◌+◌, length, IfOk, vec_capacity};
 ghost use Rattle.socket_loop.specs.Links.{links_of, new_connection, place_for, unshut_of, with_connection, AreOnce, IsRising};
-ghost use Rattle.socket_loop.specs.Turns.{any_pending, host_full, NoneFinished, NonePending, Fits, IsAway, Over};
+ghost use Rattle.socket_loop.specs.Turns.{any_pending, host_full, FindsHostFull, NoneFinished, NonePending, Fits, Over};
 ghost use Rattle.socket_loop.specs.Tallies.{pending_count, shut_count};
-ghost use Rattle.socket_loop.specs.Visits.{EndsEach, ReadsEach, WritesEach};
+ghost use Rattle.socket_loop.specs.Visits.{EndedAll, ReadAll, WroteAll};
 ghost use Rattle.wires.specs.Moves.{StaysKnown};
 ghost use Rattle.wires.specs.Asked.{Write, Shut};
 ghost use Rattle.wires.specs.Wires.{IsAsked};
-ghost use Rattle.socket_loop.specs.Calls.{AcceptsAll, AdmitsOne, Turned};
+ghost use Rattle.socket_loop.specs.Calls.{AcceptedAll, AdmitsOne, Turned};
 ghost use Rattle.socket_loop.specs.declared.turn.TheConstants.{ACCEPTS};
 ghost use Rattle.session_slots.specs.declared.limits.TheConstants.{SESSIONS_MAX};
 
@@ -79,8 +79,7 @@ fn drop_shut<A: Allocator>(held: &mut Vec<Connection, A>)
 /// Writes to a connection, in one write, that the host is full, and shuts it.
 fn reject<W: Wire>(wire: &mut W, number: u64)
     ensures asked { IsAsked W.Wire wire.old wire.new (Write number host_full ∷ Shut number ∷ []) }
-    ensures away { IsAway (W.bound wire.old) host_full
-        (W.report wire.old) (W.report wire.new) number }
+    ensures away { FindsHostFull W.Wire wire.old wire.new number }
     ensures bound { W.bound wire.new ≡ W.bound wire.old }
     ensures faults { W.failed wire.old ≤ W.failed wire.new }
 {
@@ -163,8 +162,7 @@ impl<A: Allocator + Copy> Loop<A> {
         wire: &mut W,
     ) -> Arrivals
         requires fits { Fits (links_of self.old.held) (W.bound wire.old) host.old }
-        ensures { Over W.Wire (AcceptsAll result)
-            self.old host.old wire.old self.new host.new wire.new }
+        ensures { AcceptedAll W.Wire result self.old host.old wire.old self.new host.new wire.new }
     {
         let mut arrivals = Arrivals {
             moved: false,
@@ -193,8 +191,7 @@ impl<A: Allocator + Copy> Loop<A> {
 
     /// One read for each connection whose session wants input.
     fn read_all<W: Wire, S: BuildHasher>(&mut self, host: &mut Host<S, A>, wire: &mut W) -> Visited
-        ensures each { Over W.Wire (ReadsEach result.moved)
-            self.old host.old wire.old self.new host.new wire.new }
+        ensures all { ReadAll W.Wire result self.old host.old wire.old self.new host.new wire.new }
         ensures shut { result.shut + shut_count self.old.held ≡ shut_count self.new.held }
     {
         let mut moved = false;
@@ -211,8 +208,7 @@ impl<A: Allocator + Copy> Loop<A> {
 
     /// One write for each connection with queued bytes.
     fn write_all<W: Wire, S: BuildHasher>(&mut self, host: &mut Host<S, A>, wire: &mut W) -> Visited
-        ensures each { Over W.Wire (WritesEach result.moved)
-            self.old host.old wire.old self.new host.new wire.new }
+        ensures all { WroteAll W.Wire result self.old host.old wire.old self.new host.new wire.new }
         ensures shut { result.shut + shut_count self.old.held ≡ shut_count self.new.held }
     {
         let mut moved = false;
@@ -228,8 +224,7 @@ impl<A: Allocator + Copy> Loop<A> {
 
     /// Shuts each connection that is finished with.
     fn close_all<W: Wire, S: BuildHasher>(&mut self, host: &mut Host<S, A>, wire: &mut W) -> Visited
-        ensures each { Over W.Wire (EndsEach result.moved)
-            self.old host.old wire.old self.new host.new wire.new }
+        ensures all { EndedAll W.Wire result self.old host.old wire.old self.new host.new wire.new }
         ensures shut { result.shut + shut_count self.old.held ≡ shut_count self.new.held }
     {
         let mut moved = false;

@@ -1,15 +1,14 @@
 //! What a turn does with one connection.
 
 ghost use Rattle.std.specs.Prelude.{◌≡◌, ◌<◌, ◌≤◌, [], ◌∷◌, None, length, true, false};
-ghost use Rattle.host_core.specs.ById.{wants_input_of};
 ghost use Rattle.session_slots.specs.Slots.{find};
 ghost use Rattle.usi_session.specs.declared.limits.TheConstants.{CHUNK_MAX};
-ghost use Rattle.socket_loop.specs.Parts.{IsClosing, IsGone, is_finished};
+ghost use Rattle.socket_loop.specs.Parts.{IsClosing, IsGone, WantsInput, is_finished};
 ghost use Rattle.wires.specs.Report.{Shuts};
 ghost use Rattle.wires.specs.Asked.{Shut, Asks};
 ghost use Rattle.socket_loop.specs.Calls.{is_to_read, is_to_write, is_to_shut};
 ghost use Rattle.socket_loop.specs.Turns.{IsLeft};
-ghost use Rattle.socket_loop.specs.Visits.{Ends, EndsEmptied, Feeds, Reads, Writes};
+ghost use Rattle.socket_loop.specs.Visits.{Ends, EndsEmptiedOver, Feeds, Reads, Writes};
 
 use crate::connection::{Connection, Link};
 use host_core::Host;
@@ -39,36 +38,31 @@ pub fn shut_down<W: Wire, S: BuildHasher, A: Allocator + Copy>(
 
 /// Feeds a session what its connection gave; where allocation fails, both end.
 fn feed_from<W: Wire, S: BuildHasher, A: Allocator + Copy>(
-    connection: &mut Connection,
+    held: &mut Connection,
     host: &mut Host<S, A>,
     wire: &mut W,
     chunk: &[u8],
 )
-    requires wants { wants_input_of (find host.old.slots connection.old.link.id) ≡ true }
+    requires wants { WantsInput host.old held.old.link.id }
     requires few { length chunk.now ≤ CHUNK_MAX }
     requires some { 1 ≤ length chunk.now }
-    ensures fed { Feeds W.Wire chunk.now
-        connection.old host.old wire.old connection.new host.new wire.new }
-    ensures ended { connection.new.has_ended ≡ connection.old.has_ended }
+    ensures fed { Feeds W.Wire chunk.now held.old host.old wire.old held.new host.new wire.new }
+    ensures ended { held.new.has_ended ≡ held.old.has_ended }
 {
-    if host.feed(connection.link.id, chunk).is_ok() {
+    if host.feed(held.link.id, chunk).is_ok() {
         return;
     }
-    shut_down(connection.link, host, wire);
-    connection.is_shut = true;
+    shut_down(held.link, host, wire);
+    held.is_shut = true;
 }
 
 /// Whether a connection is to be read.
-fn is_to_read<S: BuildHasher, A: Allocator + Copy>(
-    connection: &Connection,
-    host: &Host<S, A>,
-) -> bool
-    ensures test { result ≡ is_to_read host.now connection.now }
-    ensures wants { result ≡ true
-        → wants_input_of (find host.now.slots connection.now.link.id) ≡ true }
-    ensures open { result ≡ true → connection.now.is_shut ≡ false }
+fn is_to_read<S: BuildHasher, A: Allocator + Copy>(held: &Connection, host: &Host<S, A>) -> bool
+    ensures test { result ≡ is_to_read host.now held.now }
+    ensures wants { result ≡ true → WantsInput host.now held.now.link.id }
+    ensures open { result ≡ true → held.now.is_shut ≡ false }
 {
-    !connection.has_ended && !connection.is_shut && host.wants_input(connection.link.id)
+    !held.has_ended && !held.is_shut && host.wants_input(held.link.id)
 }
 
 /// One read into the chunk for a connection whose session wants input, and what it gave is fed. What the
@@ -76,35 +70,33 @@ fn is_to_read<S: BuildHasher, A: Allocator + Copy>(
 /// the connection and its session. True where something was read, or the reads ended, or the connection
 /// was shut.
 pub fn read_from<W: Wire, S: BuildHasher, A: Allocator + Copy>(
-    connection: &mut Connection,
+    held: &mut Connection,
     host: &mut Host<S, A>,
     wire: &mut W,
     chunk: &mut [u8; CHUNK_MAX],
 ) -> bool
-    ensures reads { Reads W.Wire result
-        connection.old host.old wire.old connection.new host.new wire.new }
-    ensures still { is_to_read host.old connection.old ≡ false → result ≡ false }
-    ensures ended { EndsEmptied connection.old connection.new
-        (W.report wire.old) (W.report wire.new) }
+    ensures reads { Reads W.Wire result held.old host.old wire.old held.new host.new wire.new }
+    ensures still { is_to_read host.old held.old ≡ false → result ≡ false }
+    ensures ended { EndsEmptiedOver W.Wire held.old wire.old held.new wire.new }
 {
-    let link = connection.link;
-    if !is_to_read(connection, host) {
+    let link = held.link;
+    if !is_to_read(held, host) {
         return false;
     }
     match wire.read(link.number, chunk) {
         Ok(Got::Bytes(n)) => {
             let (bytes, _) = chunk.split_at(n);
-            feed_from(connection, host, wire, bytes);
+            feed_from(held, host, wire, bytes);
             true
         }
         Ok(Got::Nothing) => false,
         Ok(Got::Ended) => {
-            connection.has_ended = true;
+            held.has_ended = true;
             true
         }
         Err(_) => {
             shut_down(link, host, wire);
-            connection.is_shut = true;
+            held.is_shut = true;
             true
         }
     }
@@ -114,17 +106,16 @@ pub fn read_from<W: Wire, S: BuildHasher, A: Allocator + Copy>(
 /// write that fails ends the connection and its session. True where something was written, or the
 /// connection was shut.
 pub fn write_to<W: Wire, S: BuildHasher, A: Allocator + Copy>(
-    connection: &mut Connection,
+    held: &mut Connection,
     host: &mut Host<S, A>,
     wire: &mut W,
 ) -> bool
-    ensures writes { Writes W.Wire result
-        connection.old host.old wire.old connection.new host.new wire.new }
-    ensures still { is_to_write host.old connection.old ≡ false → result ≡ false }
-    ensures ended { connection.new.has_ended ≡ connection.old.has_ended }
+    ensures writes { Writes W.Wire result held.old host.old wire.old held.new host.new wire.new }
+    ensures still { is_to_write host.old held.old ≡ false → result ≡ false }
+    ensures ended { held.new.has_ended ≡ held.old.has_ended }
 {
-    let link = connection.link;
-    if connection.is_shut {
+    let link = held.link;
+    if held.is_shut {
         return false;
     }
     let Some(bytes) = host.output(link.id) else {
@@ -140,7 +131,7 @@ pub fn write_to<W: Wire, S: BuildHasher, A: Allocator + Copy>(
         }
         Err(_) => {
             shut_down(link, host, wire);
-            connection.is_shut = true;
+            held.is_shut = true;
             true
         }
     }
@@ -148,41 +139,37 @@ pub fn write_to<W: Wire, S: BuildHasher, A: Allocator + Copy>(
 
 /// Whether a connection is to be shut: the host no longer has its session; or the session is over, or
 /// the reads have ended, and nothing is pending or queued.
-fn is_finished<S: BuildHasher, A: Allocator + Copy>(
-    connection: &Connection,
-    host: &Host<S, A>,
-) -> bool
-    ensures { result ≡ is_finished host.now connection.now }
+fn is_finished<S: BuildHasher, A: Allocator + Copy>(held: &Connection, host: &Host<S, A>) -> bool
+    ensures { result ≡ is_finished host.now held.now }
 {
-    let id = connection.link.id;
-    if !connection.has_ended && host.wants_input(id) {
+    let id = held.link.id;
+    if !held.has_ended && host.wants_input(id) {
         return false;
     }
     let Some(bytes) = host.output(id) else {
         return true;
     };
-    let has_ended = connection.has_ended || host.is_over(id);
+    let has_ended = held.has_ended || host.is_over(id);
     has_ended && bytes.is_empty() && !host.pending(id)
 }
 
 /// Shuts a connection that is finished with, and closes its session. True where it was shut.
 pub fn close_if_finished<W: Wire, S: BuildHasher, A: Allocator + Copy>(
-    connection: &mut Connection,
+    held: &mut Connection,
     host: &mut Host<S, A>,
     wire: &mut W,
 ) -> bool
-    ensures ends { Ends W.Wire result
-        connection.old host.old wire.old connection.new host.new wire.new }
-    ensures finished { result ≡ is_to_shut host.old connection.old }
-    ensures shuts { result ≡ true → connection.new.is_shut ≡ true }
+    ensures ends { Ends W.Wire result held.old host.old wire.old held.new host.new wire.new }
+    ensures finished { result ≡ is_to_shut host.old held.old }
+    ensures shuts { result ≡ true → held.new.is_shut ≡ true }
     ensures unchanged { result ≡ false → host.new ≡ host.old }
-    ensures left { IsLeft host.new connection.new }
-    ensures ended { connection.new.has_ended ≡ connection.old.has_ended }
+    ensures left { IsLeft host.new held.new }
+    ensures ended { held.new.has_ended ≡ held.old.has_ended }
 {
-    if connection.is_shut || !is_finished(connection, host) {
+    if held.is_shut || !is_finished(held, host) {
         return false;
     }
-    shut_down(connection.link, host, wire);
-    connection.is_shut = true;
+    shut_down(held.link, host, wire);
+    held.is_shut = true;
     true
 }

@@ -124,6 +124,10 @@ module _ {L A S : Type 0} where
   LeavesMore number old new =
       new.has_more ≡ (old.has_more || has_kept new.places.items number)
 
+  -- where a look or a wait has named the listener, somebody may wait to be accepted
+  abbrev pub OpensIfNamed : (L → List Ready) → StreamWire L A S → Type 0
+  OpensIfNamed named wire = NamesListener (named wire.listener) → wire.may_accept ≡ true
+
   -- its listener was asked for the next one who waits, with this answer
   abbrev pub AsksNext : (L → Option (List Ask)) → (old new : StreamWire L A S)
       → Result (Option ℕ) WireFault → Type 0

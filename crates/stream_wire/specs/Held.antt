@@ -19,6 +19,10 @@ module _ {S A : Type 0} where
   abbrev pub held : List (Option (Connection S A)) → ℕ → Option (Connection S A)
   held places number = of_number number (slice_index_or places (number % PLACES) None)
 
+  -- nothing has the place of this number
+  abbrev pub IsFree : List (Option (Connection S A)) → ℕ → Type 0
+  IsFree places number = slice_index_or places (number % PLACES) None ≡ None
+
   -- the bytes that reads of it will give: those that are kept, and those that the stream has
   abbrev pub unread_of : (S → Option (List ℕ)) → Connection S A → Option (List ℕ)
   unread_of remaining connection = prepend_known connection.kept (remaining connection.stream)

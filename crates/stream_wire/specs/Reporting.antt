@@ -1,9 +1,11 @@
--- What a wire of the code reports before and after a call (own choice).
-use Rattle.std.specs.Prelude.{ℕ, List, Result}
-use Rattle.wires.specs.Report.{KeepsAll, Reads, Writes, Shuts}
+-- What a wire of the code reports before and after a call, and what it counts (own choice).
+use Rattle.std.specs.Prelude.{◌≡◌, ℕ, List, Result}
+use Rattle.wires.specs.Report.{KeepsAll, Reads, Writes, Shuts, bytes_read, bytes_written}
 use Rattle.wires.specs.declared.wire.Got.{Got}
 use Rattle.wires.specs.declared.wire.Wire.{Ghosts}
 use Rattle.wires.specs.declared.wire.WireFault.{WireFault}
+use Rattle.stream_wire.specs.Held.{counted}
+use Rattle.stream_wire.specs.declared.wire.StreamWire.{StreamWire}
 
 module _ {W : Type 0} (wires : Ghosts W) (old new : W) where
   abbrev pub KeepsReport : Type 0
@@ -17,3 +19,12 @@ module _ {W : Type 0} (wires : Ghosts W) (old new : W) where
 
   abbrev pub ReportsShut : ℕ → Type 0
   ReportsShut number = Shuts (wires.bound old) (wires.report old) (wires.report new) number
+
+module _ {L A S : Type 0} (old new : StreamWire L A S) where
+  -- the bytes that a read gave were counted
+  abbrev pub CountsRead : Result Got WireFault → List ℕ → Type 0
+  CountsRead result buf = new.received ≡ counted old.received (bytes_read result buf)
+
+  -- the bytes that a write took were counted
+  abbrev pub CountsWrite : Result ℕ WireFault → List ℕ → Type 0
+  CountsWrite result buf = new.sent ≡ counted old.sent (bytes_written result buf)

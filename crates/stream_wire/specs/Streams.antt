@@ -1,7 +1,7 @@
 -- What a listener tells of the connections that a wire does not hold, and what each of its calls does to that; and what it
 -- and its streams are asked for (own choice).
 use Rattle.std.specs.Prelude.{◌≡◌, ◌+◌, ⊤, ℕ, Bool, List, Option, None, Some, Result, Ok, Err, slice_get}
-use Rattle.std.specs.Io.KnownBytes.{Keeps, prepend_known}
+use Rattle.std.specs.Io.KnownBytes.{Keeps, ReadConsumes, WriteAppends, prepend_known}
 use Rattle.wires.specs.declared.wire.WireFault.{WireFault}
 use Rattle.wires.specs.Report.{Report, IsRaised, KeepsOthers, ReportsFailure, Stays}
 use Rattle.stream_wire.specs.declared.listener.Ready.{Ready}
@@ -29,17 +29,36 @@ pub record KeepsElse (old new : Report) (number : ℕ) : Type 0 where
   pub failed : Stays (old.has_failed number) (new.has_failed number)
   pub others : KeepsOthers old new number
 
-module _ {S : Type 0} (remaining contents : S → Option (List ℕ)) where
+-- a read of a stream gave the next ones of the bytes that it has left
+abbrev pub Receives : {S E : Type 0} → (S → Option (List ℕ)) → (old new : S)
+    → Result ℕ E → List ℕ → Type 0
+Receives remaining old new result buf = ReadConsumes (remaining old) (remaining new) result buf
+
+-- a write to a stream added to the bytes that it took
+abbrev pub Sends : {S E : Type 0} → (S → Option (List ℕ)) → (old new : S)
+    → Result ℕ E → List ℕ → Type 0
+Sends contents old new result buf = WriteAppends (contents old) (contents new) result buf
+
+-- what streams tell: the bytes that they took and have left, and how often they were called
+abbrev pub Streams : Type 0 → Type 0
+Streams S = record {
+  contents : S → Option (List ℕ);
+  remaining : S → Option (List ℕ);
+  calls : S → Option ℕ;
+}
+
+module _ {S : Type 0} (streams : Streams S) where
   -- a stream that was handed out has the bytes that were told of this number, those to be read and those that it took
   abbrev pub HandsOut : {E : Type 0} → Report → ℕ → Result S E → Type 0
   HandsOut told number (Ok stream) =
-      Keeps (told.unread number) (remaining stream) × Keeps (told.written number) (contents stream)
+      Keeps (told.unread number) (streams.remaining stream)
+      × Keeps (told.written number) (streams.contents stream)
   HandsOut told number (Err error) = ⊤
 
   -- of this number the bytes of a stream are told, those to be read, behind some that are kept, and those that it took
   pub record HasBack (told : Report) (number : ℕ) (kept : List ℕ) (stream : S) : Type 0 where
-    pub unread : Keeps (prepend_known kept (remaining stream)) (told.unread number)
-    pub written : Keeps (contents stream) (told.written number)
+    pub unread : Keeps (prepend_known kept (streams.remaining stream)) (told.unread number)
+    pub written : Keeps (streams.contents stream) (told.written number)
 
 -- it was told that a call of this number has failed, and of nothing else
 pub record IsToldFailed (old new : Report) (number : ℕ) : Type 0 where

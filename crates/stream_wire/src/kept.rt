@@ -1,6 +1,6 @@
 //! What was read from a connection and is not given yet.
 
-ghost use Rattle.std.specs.Prelude.{◌≡◌, ◌≢◌, ◌≤◌, ◌+◌, [], ◌++◌, length, take, nat_eq, vec_len, vec_capacity};
+ghost use Rattle.std.specs.Prelude.{◌≡◌, ◌≢◌, ◌≤◌, ◌+◌, [], ◌++◌, length, take, nat_eq, vec_capacity};
 ghost use Rattle.usi_lines.specs.OneLine.{one_line, IsOneLine};
 
 use std::alloc::Allocator;
@@ -15,14 +15,14 @@ pub struct Kept<A: Allocator> {
 }
 
 impl<A: Allocator> Model for Kept<A> {
-    ghost use Rattle.std.specs.Prelude.{◌≡◌, ◌≤◌, ℕ, List, drop, vec_len, vec_capacity};
+    ghost use Rattle.std.specs.Prelude.{ℕ, List, drop};
+    ghost use Rattle.stream_wire.specs.Kept.{HasRoomWhileKept};
 
     ghost Value = { List ℕ };
 
     ghost view = { λ kept. drop kept.start kept.bytes.items };
 
-    ghost invariant = { λ kept. (kept.start ≤ vec_len kept.bytes)
-        × (kept.start ≡ vec_len kept.bytes → vec_capacity kept.bytes ≡ 0) };
+    ghost invariant = { λ kept. HasRoomWhileKept kept.start kept.bytes };
 }
 
 impl<A: Allocator> Kept<A> {

@@ -2,10 +2,10 @@
 
 ghost use Rattle.std.specs.Prelude.{◌≡◌, ℕ, [], ◌∷◌, length, is_some, slice_get, IfOk, OnErr, Option, None, List};
 ghost use Rattle.std.specs.Io.{ReadsAtMost, WritesAtMost};
-ghost use Rattle.std.specs.Io.KnownBytes.{Keeps, ReadConsumes, WriteAppends};
+ghost use Rattle.std.specs.Io.KnownBytes.{Keeps};
 ghost use Rattle.wires.specs.Asked.{Asks};
 ghost use Rattle.wires.specs.Report.{Report, KeepsAll, nothing_reported};
-ghost use Rattle.stream_wire.specs.Streams.{Accept, Ask, HandsOut, HasBack, IsCalledOnce, IsToldFailed, IsToldShut, KeepsElse, Look, Wait};
+ghost use Rattle.stream_wire.specs.Streams.{Accept, Ask, HandsOut, HasBack, IsCalledOnce, IsToldFailed, IsToldShut, KeepsElse, Look, Receives, Sends, Wait};
 ghost use Rattle.stream_wire.specs.declared.listener.Ready.{Ready};
 
 use std::io;
@@ -20,16 +20,14 @@ pub trait Duplex: Read + Write + Drop {
     /// A `read` of the stream.
     fn receive(&mut self, buf: &mut [u8]) -> io::Result<usize>
         ensures bound { ReadsAtMost result buf.new }
-        ensures bytes { ReadConsumes
-            (Self.remaining self.old) (Self.remaining self.new) result buf.new }
+        ensures bytes { Receives Self.remaining self.old self.new result buf.new }
         ensures written { Keeps (Self.contents self.old) (Self.contents self.new) }
         ensures called { IsCalledOnce (calls self.old) (calls self.new) };
 
     /// A `write` of the stream.
     fn send(&mut self, buf: &[u8]) -> io::Result<usize>
         ensures bound { WritesAtMost result buf.now }
-        ensures bytes { WriteAppends
-            (Self.contents self.old) (Self.contents self.new) result buf.now }
+        ensures bytes { Sends Self.contents self.old self.new result buf.now }
         ensures unread { Keeps (Self.remaining self.old) (Self.remaining self.new) }
         ensures called { IsCalledOnce (calls self.old) (calls self.new) };
 }
@@ -60,8 +58,7 @@ pub trait Listener: Drop {
     /// The stream of who waits first, which is named by this number from then on; `WouldBlock` where
     /// nobody waits.
     fn accept(&mut self, number: u64) -> io::Result<Self::Stream>
-        ensures given { HandsOut Self.Stream.remaining Self.Stream.contents
-            (told self.old) number result }
+        ensures given { HandsOut Self.Stream.Duplex (told self.old) number result }
         ensures rest { IfOk result (λ stream. KeepsElse (told self.old) (told self.new) number) }
         ensures err { OnErr result (KeepsAll (told self.old) (told self.new)) }
         ensures asked { Asks (asked self.old) (asked self.new) (Accept ∷ []) }
@@ -97,8 +94,7 @@ pub trait Listener: Drop {
 
     /// Takes the stream of a number back, with the bytes that were read from it and are not given.
     fn take_back(&mut self, number: u64, stream: Self::Stream, kept: &[u8])
-        ensures back { HasBack Self.Stream.remaining Self.Stream.contents
-            (told self.new) number kept.now stream }
+        ensures back { HasBack Self.Stream.Duplex (told self.new) number kept.now stream }
         ensures rest { KeepsElse (told self.old) (told self.new) number }
         ensures asked { asked self.new ≡ asked self.old };
 }

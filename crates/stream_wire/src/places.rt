@@ -3,7 +3,7 @@
 ghost use Rattle.std.specs.Prelude.{◌≡◌, ◌<◌, ◌≤◌, ◌%◌, ◌^◌, ◌+◌, ◌-◌, None, Some, IfErr, IfOk, IfSome, is_some, true, length, slice_index_or, vec_len};
 ghost use Rattle.wires.specs.declared.wire.WireFault.TheVariants.{OutOfMemory};
 ghost use Rattle.stream_wire.specs.Asking.{IsAwake, IsQuiet};
-ghost use Rattle.stream_wire.specs.Held.{AreAlike, HoldsAll, HoldsOthers, held};
+ghost use Rattle.stream_wire.specs.Held.{AreAlike, HoldsAll, HoldsOthers, IsFree, held};
 ghost use Rattle.stream_wire.specs.declared.connection.TheConstants.{PLACES};
 
 use crate::connection::{Connection, PLACES};
@@ -59,8 +59,7 @@ pub fn take_out<S: Duplex, A: Allocator + Copy>(
     ensures others { HoldsOthers places.old.items places.new.items number }
     ensures none { held places.new.items number ≡ None }
     ensures room { IfSome result (λ connection. number % PLACES < vec_len places.new) }
-    ensures free { IfSome result (λ connection.
-        slice_index_or places.new.items (number % PLACES) None ≡ None) }
+    ensures free { IfSome result (λ connection. IsFree places.new.items number) }
 {
     if !is_held(places.as_slice(), number) {
         return None;
@@ -74,7 +73,7 @@ pub fn put<S: Duplex, A: Allocator + Copy>(
     connection: Connection<S, A>,
 )
     requires room { connection.number % PLACES < vec_len places.old }
-    requires free { slice_index_or places.old.items (connection.number % PLACES) None ≡ None }
+    requires free { IsFree places.old.items connection.number }
     ensures held { held places.new.items connection.number ≡ Some connection }
     ensures others { HoldsOthers places.old.items places.new.items connection.number }
     ensures none { held places.old.items connection.number ≡ None }

@@ -1,13 +1,13 @@
 //! A wire over a listener.
 
-ghost use Rattle.std.specs.Prelude.{◌≡◌, ◌≢◌, ◌≤◌, ◌-◌, ◌^◌, ◌&&◌, not, false, true, length, is_some, IfOk, None, Ok, Some, OnErr, OnOk};
+ghost use Rattle.std.specs.Prelude.{◌≡◌, ◌≢◌, ◌≤◌, ◌-◌, ◌^◌, ◌&&◌, not, true, length, is_some, IfOk, None, Ok, Some, OnErr, OnOk};
 ghost use Rattle.usi_lines.specs.OneLine.{IsOneLine};
 ghost use Rattle.wires.specs.Report.{GivesNumber, HasCause, HasRisen, IsWithin, KeepsAll, bytes_read, bytes_written};
 ghost use Rattle.wires.specs.declared.wire.WireFault.TheVariants.{Device};
-ghost use Rattle.stream_wire.specs.Asking.{AreAwake, AreAwakeStill, AsksByAccept, AsksByRead, AsksByWait, AsksNext, AsksToTake, GivesKept, IsNamedAwake, LeavesMore, OfNumber, StaysOpen, WakesByWait};
-ghost use Rattle.stream_wire.specs.Held.{AreAlike, counted, kept_of};
-ghost use Rattle.stream_wire.specs.Reporting.{KeepsReport, ReportsRead, ReportsShut, ReportsWrite};
-ghost use Rattle.stream_wire.specs.Streams.{NamesListener, Notes};
+ghost use Rattle.stream_wire.specs.Asking.{AreAwake, AreAwakeStill, AsksByAccept, AsksByRead, AsksByWait, AsksNext, AsksToTake, GivesKept, IsNamedAwake, LeavesMore, OfNumber, OpensIfNamed, StaysOpen, WakesByWait};
+ghost use Rattle.stream_wire.specs.Held.{AreAlike, kept_of};
+ghost use Rattle.stream_wire.specs.Reporting.{CountsRead, CountsWrite, KeepsReport, ReportsRead, ReportsShut, ReportsWrite};
+ghost use Rattle.stream_wire.specs.Streams.{Notes};
 ghost use Rattle.stream_wire.specs.declared.listener.Ready.TheVariants as who;
 ghost use Rattle.stream_wire.specs.declared.connection.TheConstants.{PLACES};
 
@@ -90,11 +90,11 @@ fn taken_by(taken: &Result<usize, WireFault>, buf: &[u8]) -> u64
 impl<L: Listener, A: Allocator + Copy> StreamWire<L, A> {
     /// A wire that has accepted nobody.
     pub fn new(alloc: A, listener: L) -> StreamWire<L, A>
-        ensures bound { ⟦<StreamWire<L, A> as Wire>⟧.bound result ≡ 0 }
-        ensures failed { ⟦<StreamWire<L, A> as Wire>⟧.failed result ≡ 0 }
+        ensures bound { ⟦<Self as Wire>⟧.bound result ≡ 0 }
+        ensures failed { ⟦<Self as Wire>⟧.failed result ≡ 0 }
         ensures none { (result.received ≡ 0) × (result.sent ≡ 0) }
         ensures opens { result.may_accept ≡ true }
-        ensures report { KeepsAll (L.told listener) (⟦<StreamWire<L, A> as Wire>⟧.report result) }
+        ensures report { KeepsAll (L.told listener) (⟦<Self as Wire>⟧.report result) }
     {
         StreamWire {
             alloc,
@@ -183,8 +183,7 @@ impl<L: Listener, A: Allocator + Copy> StreamWire<L, A> {
         ensures alike { AreAlike self.old.places.items self.new.places.items }
         ensures awake { OnOk result
             (AreAwake (L.named self.new.listener) self.new.places.items) }
-        ensures named { OnOk result
-            (NamesListener (L.named self.new.listener) → self.new.may_accept ≡ true) }
+        ensures named { OnOk result (OpensIfNamed L.named self.new) }
         ensures opens { self.old.may_accept ≡ true → self.new.may_accept ≡ true }
         ensures next { self.new.next ≡ self.old.next }
         ensures more { self.new.has_more ≡ self.old.has_more }
@@ -215,7 +214,7 @@ impl<L: Listener, A: Allocator + Copy> StreamWire<L, A> {
         ensures unsure { self.new.is_unsure ≡ self.old.is_unsure }
         ensures received { self.new.received ≡ self.old.received }
         ensures sent { self.new.sent ≡ self.old.sent }
-        ensures kept { KeepsReport ⟦<StreamWire<L, A> as Wire>⟧ self.old self.new }
+        ensures kept { KeepsReport ⟦<Self as Wire>⟧ self.old self.new }
     {
         let place = free_place(&mut self.places)?;
         if place >= PLACES as usize {
@@ -249,7 +248,7 @@ impl<L: Listener, A: Allocator + Copy> StreamWire<L, A> {
         ensures awake { AreAwakeStill self.old.places.items self.new.places.items }
         ensures opens { result ≢ Ok None → self.new.may_accept ≡ self.old.may_accept }
         ensures more { self.new.has_more ≡ self.old.has_more }
-        ensures kept { KeepsReport ⟦<StreamWire<L, A> as Wire>⟧ self.old self.new }
+        ensures kept { KeepsReport ⟦<Self as Wire>⟧ self.old self.new }
         ensures unsure { OnErr result (self.new.is_unsure ≡ true) }
         ensures received { self.new.received ≡ self.old.received }
         ensures sent { self.new.sent ≡ self.old.sent }
@@ -264,8 +263,7 @@ impl<L: Listener, A: Allocator + Copy> StreamWire<L, A> {
     /// Reads from the connection of this number, where it may have something.
     fn read_from(&mut self, number: u64, buf: &mut [u8]) -> Result<Got, WireFault>
         ensures bound { self.new.next ≡ self.old.next }
-        ensures read { ReportsRead ⟦<StreamWire<L, A> as Wire>⟧
-            self.old self.new number result buf.new }
+        ensures read { ReportsRead ⟦<Self as Wire>⟧ self.old self.new number result buf.new }
         ensures line { IsOneLine (bytes_read result buf.new) }
         ensures cause { HasCause self.old.failed self.new.failed result }
         ensures first { GivesKept (kept_of self.old.places.items number) result buf.new }
@@ -289,8 +287,7 @@ impl<L: Listener, A: Allocator + Copy> StreamWire<L, A> {
     /// Writes to the connection of this number.
     fn write_to(&mut self, number: u64, buf: &[u8]) -> Result<usize, WireFault>
         ensures bound { self.new.next ≡ self.old.next }
-        ensures written { ReportsWrite ⟦<StreamWire<L, A> as Wire>⟧
-            self.old self.new number result buf.now }
+        ensures written { ReportsWrite ⟦<Self as Wire>⟧ self.old self.new number result buf.now }
         ensures cause { HasCause self.old.failed self.new.failed result }
         ensures asks { L.asked self.new.listener ≡ L.asked self.old.listener }
         ensures takes { OfNumber number (AsksToTake L.Stream.calls result) self.old self.new }
@@ -321,7 +318,7 @@ impl<L: Listener, A: Allocator + Copy> Wire for StreamWire<L, A> {
 
     fn accept(&mut self) -> Result<Option<u64>, WireFault>
         ensures number { GivesNumber self.old.next self.new.next result }
-        ensures kept { KeepsReport ⟦<StreamWire<L, A> as Wire>⟧ self.old self.new }
+        ensures kept { KeepsReport ⟦<Self as Wire>⟧ self.old self.new }
         ensures cause { HasCause self.old.failed self.new.failed result }
         ensures asks { AsksByAccept L.named L.asked self.old self.new result }
         ensures opens { StaysOpen result self.old.may_accept self.new.may_accept }
@@ -344,8 +341,7 @@ impl<L: Listener, A: Allocator + Copy> Wire for StreamWire<L, A> {
 
     fn read(&mut self, number: u64, buf: &mut [u8]) -> Result<Got, WireFault>
         ensures bound { self.new.next ≡ self.old.next }
-        ensures read { ReportsRead ⟦<StreamWire<L, A> as Wire>⟧
-            self.old self.new number result buf.new }
+        ensures read { ReportsRead ⟦<Self as Wire>⟧ self.old self.new number result buf.new }
         ensures line { IsOneLine (bytes_read result buf.new) }
         ensures cause { HasCause self.old.failed self.new.failed result }
         ensures first { GivesKept (kept_of self.old.places.items number) result buf.new }
@@ -353,8 +349,7 @@ impl<L: Listener, A: Allocator + Copy> Wire for StreamWire<L, A> {
         ensures gives { AsksByRead L.Stream.calls number buf.old result self.old self.new }
         ensures opens { self.new.may_accept ≡ self.old.may_accept }
         ensures more { LeavesMore number self.old self.new }
-        ensures received { self.new.received
-            ≡ counted self.old.received (bytes_read result buf.new) }
+        ensures received { CountsRead self.old self.new result buf.new }
         ensures sent { self.new.sent ≡ self.old.sent }
     {
         let received = self.received;
@@ -368,14 +363,13 @@ impl<L: Listener, A: Allocator + Copy> Wire for StreamWire<L, A> {
 
     fn write(&mut self, number: u64, buf: &[u8]) -> Result<usize, WireFault>
         ensures bound { self.new.next ≡ self.old.next }
-        ensures written { ReportsWrite ⟦<StreamWire<L, A> as Wire>⟧
-            self.old self.new number result buf.now }
+        ensures written { ReportsWrite ⟦<Self as Wire>⟧ self.old self.new number result buf.now }
         ensures cause { HasCause self.old.failed self.new.failed result }
         ensures asks { L.asked self.new.listener ≡ L.asked self.old.listener }
         ensures takes { OfNumber number (AsksToTake L.Stream.calls result) self.old self.new }
         ensures opens { self.new.may_accept ≡ self.old.may_accept }
         ensures more { self.new.has_more ≡ self.old.has_more }
-        ensures sent { self.new.sent ≡ counted self.old.sent (bytes_written result buf.now) }
+        ensures sent { CountsWrite self.old self.new result buf.now }
         ensures received { self.new.received ≡ self.old.received }
     {
         let sent = self.sent;
@@ -386,7 +380,7 @@ impl<L: Listener, A: Allocator + Copy> Wire for StreamWire<L, A> {
 
     fn shut(&mut self, number: u64)
         ensures bound { self.new.next ≡ self.old.next }
-        ensures shut { ReportsShut ⟦<StreamWire<L, A> as Wire>⟧ self.old self.new number }
+        ensures shut { ReportsShut ⟦<Self as Wire>⟧ self.old self.new number }
         ensures faults { self.old.failed ≤ self.new.failed }
         ensures asks { L.asked self.new.listener ≡ L.asked self.old.listener }
         ensures opens { self.new.may_accept ≡ self.old.may_accept }
@@ -403,7 +397,7 @@ impl<L: Listener, A: Allocator + Copy> Wire for StreamWire<L, A> {
 
     fn wait(&mut self, idle: bool) -> Result<(), WireFault>
         ensures bound { self.new.next ≡ self.old.next }
-        ensures kept { KeepsReport ⟦<StreamWire<L, A> as Wire>⟧ self.old self.new }
+        ensures kept { KeepsReport ⟦<Self as Wire>⟧ self.old self.new }
         ensures cause { HasCause self.old.failed self.new.failed result }
         ensures asks { AsksByWait L.asked idle self.old self.new }
         ensures awake { OnOk result (WakesByWait L.named idle self.old self.new) }

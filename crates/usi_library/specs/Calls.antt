@@ -1,8 +1,9 @@
 -- What the calls make of a session (own choice).
-use Rattle.std.specs.Prelude.{◌≡◌, ◌≢◌, ◌≤◌, ◌<◌, ℕ, List, ◌++◌, length, take, drop, min, true, false, Option, None, Some}
+use Rattle.std.specs.Prelude.{◌≡◌, ◌≢◌, ◌≤◌, ◌<◌, ◌+◌, ℕ, List, ◌++◌, length, take, drop, min, true, false, Option, None, Some, Result, OnOk}
 use Rattle.shared_table.specs.Recent.{new_table}
 use Rattle.shared_table.specs.declared.table.TheConstants.{CAPACITY_MAX}
 use Rattle.usi_session.specs.Due.{SessionView, due, state_due, load, new_session, wants_input, is_pending, IsSameAfter, HasSpent}
+use Rattle.usi_session.specs.WholeLines.{GrowsByLines}
 use Rattle.usi_session.specs.declared.limits.TheConstants.{CHUNK_MAX}
 use Rattle.usi_library.specs.declared.calls.UsiAnswer.{UsiAnswer}
 use Rattle.usi_library.specs.declared.calls.UsiLook.{UsiLook}
@@ -31,11 +32,27 @@ abbrev pub IsFed : List ℕ → SessionView → SessionView → Type 0
 IsFed bytes old new = IsSameAfter due bytes old new × IsSameAfter state_due bytes old new
     × (new.queued ≡ old.queued) × (new.state ≡ old.state) × (new.running_go ≡ old.running_go)
 
+-- where the status is `USI_OK` the bytes were fed
+abbrev pub IsFedOnOk : List ℕ → ℕ → SessionView → SessionView → Type 0
+IsFedOnOk bytes status old new = status ≡ USI_OK → IsFed bytes old new
+
 -- the status where these bytes were fed to an open session: that they are too many is said before that none are wanted
 pub record AnswersFeed (bytes : List ℕ) (status : ℕ) (old : SessionView) : Type 0 where
   pub too_long : CHUNK_MAX < length bytes → status ≡ USI_TOO_LONG
   pub not_wanted : length bytes ≤ CHUNK_MAX → wants_input old ≡ false → status ≡ USI_NOT_WANTED
   pub wanted : length bytes ≤ CHUNK_MAX → wants_input old ≡ true → FailsForMemory status
+
+-- the load is at least so many steps less
+abbrev pub LowersLoad : ℕ → SessionView → SessionView → Type 0
+LowersLoad count old new = count + load new ≤ load old
+
+-- what is queued grew by whole lines
+abbrev pub QueuesLines : SessionView → SessionView → Type 0
+QueuesLines old new = GrowsByLines old.queued new.queued
+
+-- where these steps are as many as the load, nothing is pending after a success
+abbrev pub Settles : {A E : Type 0} → ℕ → Result A E → SessionView → SessionView → Type 0
+Settles steps result old new = load old ≤ steps → OnOk result (is_pending new ≡ false)
 
 -- where the work was done and something is pending still, all of these steps were made
 abbrev pub SpendsAll : ℕ → UsiAnswer → SessionView → Type 0
@@ -74,6 +91,10 @@ abbrev pub IsOpened : ℕ → Option Opened → Option Opened → Type 0
 IsOpened entries old None = ⊥
 IsOpened entries old (Some new) =
     (old ≡ None) × (new.session ≡ new_session) × (new.table ≡ new_table entries)
+
+-- the same of what is open in a session of C
+abbrev pub Opens : ℕ → UsiSession → UsiSession → Type 0
+Opens entries old new = IsOpened entries (open_in old) (open_in new)
 
 -- what there is of an open session
 abbrev pub IsSeen : SessionView → UsiLook → Type 0

@@ -1,10 +1,9 @@
 //! What C calls.
 
-ghost use Rattle.std.specs.Prelude.{◌≡◌, ◌≢◌, ◌≤◌, ◌<◌, ◌+◌, [], None};
+ghost use Rattle.std.specs.Prelude.{◌≡◌, ◌≢◌, ◌≤◌, ◌<◌, [], None};
 ghost use Rattle.shared_table.specs.declared.table.TheConstants.{CAPACITY_MAX};
-ghost use Rattle.usi_session.specs.Due.{due, state_due, load, IsSameAfter};
-ghost use Rattle.usi_session.specs.WholeLines.{GrowsByLines};
-ghost use Rattle.usi_library.specs.Calls.{closed_answer, open_in, AnswersFeed, FailsForMemory, IsCapacity, IsEnough, IsFed, IsMoved, IsNothing, IsOpened, IsSeen, SpendsAll, WhereOpen};
+ghost use Rattle.usi_session.specs.Due.{due, state_due, IsSameAfter};
+ghost use Rattle.usi_library.specs.Calls.{closed_answer, open_in, AnswersFeed, FailsForMemory, IsCapacity, IsEnough, IsFedOnOk, IsMoved, IsNothing, IsSeen, LowersLoad, Opens, QueuesLines, SpendsAll, WhereOpen};
 ghost use Rattle.usi_library.specs.declared.status.TheConstants.{USI_OK, USI_CLOSED, USI_IS_OPEN, USI_OUT_OF_RANGE};
 
 use crate::handle::UsiSession;
@@ -44,8 +43,7 @@ pub struct UsiLook {
 /// `USI_OUT_OF_MEMORY` where allocation failed; each of them leaves the session as it was.
 #[unsafe(no_mangle)]
 pub extern "C" fn usi_open(session: &mut UsiSession, alloc: Global, entries: usize) -> u32
-    ensures opened { result ≡ USI_OK
-        → IsOpened entries (open_in session.old) (open_in session.new) }
+    ensures opened { result ≡ USI_OK → Opens entries session.old session.new }
     ensures refused { result ≢ USI_OK → open_in session.new ≡ open_in session.old }
     ensures least { entries < 1 → result ≡ USI_OUT_OF_RANGE }
     ensures most { CAPACITY_MAX < entries → result ≡ USI_OUT_OF_RANGE }
@@ -91,10 +89,9 @@ pub extern "C" fn usi_close(session: &mut UsiSession) -> u32
 pub extern "C" fn usi_feed(session: &mut UsiSession, bytes: &[u8]) -> u32
     ensures closed { open_in session.old ≡ None → result ≡ USI_CLOSED }
     ensures refused { result ≢ USI_OK → open_in session.new ≡ open_in session.old }
-    ensures fed { WhereOpen session.old session.new
-        (λ old new. result ≡ USI_OK → IsFed bytes.now old new) }
+    ensures fed { WhereOpen session.old session.new (IsFedOnOk bytes.now result) }
     ensures status { WhereOpen session.old session.new
-        (λ old new. AnswersFeed bytes.now result old) }
+        (λ old _. AnswersFeed bytes.now result old) }
 {
     let Some(mut open) = session.take_out() else {
         return USI_CLOSED;
@@ -116,12 +113,10 @@ pub extern "C" fn usi_work(session: &mut UsiSession, steps: u64) -> UsiAnswer
     ensures due { WhereOpen session.old session.new (IsSameAfter due []) }
     ensures after { WhereOpen session.old session.new (IsSameAfter state_due []) }
     ensures most { result.count ≤ steps }
-    ensures made { WhereOpen session.old session.new
-        (λ old new. result.count + load new ≤ load old) }
+    ensures made { WhereOpen session.old session.new (LowersLoad result.count) }
     ensures spent { WhereOpen session.old session.new (λ old new. SpendsAll steps result new) }
     ensures enough { WhereOpen session.old session.new (IsEnough steps result) }
-    ensures grown { WhereOpen session.old session.new
-        (λ old new. GrowsByLines old.queued new.queued) }
+    ensures grown { WhereOpen session.old session.new QueuesLines }
     ensures err { result.status ≢ USI_OK → result.count ≡ 0 }
 {
     let Some(mut open) = session.take_out() else {

@@ -1,11 +1,11 @@
 //! An open session with the table of its searches.
 
-ghost use Rattle.std.specs.Prelude.{◌≡◌, ◌≢◌, ◌≤◌, ◌+◌, ℕ, List, false, IfOk, OnOk, OnErr};
+ghost use Rattle.std.specs.Prelude.{◌≡◌, ◌≢◌, ◌≤◌, ◌+◌, ℕ, List, IfOk, OnErr};
 ghost use Rattle.shared_table.specs.Recent.{new_table};
 ghost use Rattle.shared_table.specs.declared.table.TheConstants.{CAPACITY_MAX};
-ghost use Rattle.usi_session.specs.Due.{due, state_due, load, is_pending, new_session, HasSpent};
+ghost use Rattle.usi_session.specs.Due.{due, state_due, load, new_session, HasSpent};
 ghost use Rattle.usi_session.specs.WholeLines.{GrowsByLines};
-ghost use Rattle.usi_library.specs.Calls.{AnswersFeed, IsFed, IsMoved};
+ghost use Rattle.usi_library.specs.Calls.{AnswersFeed, IsFed, IsMoved, Settles};
 ghost use Rattle.usi_library.specs.declared.status.TheConstants.{USI_OK};
 
 use crate::status::{USI_NOT_WANTED, USI_OK, USI_OUT_OF_MEMORY, USI_TOO_LONG};
@@ -63,8 +63,7 @@ impl Opened {
         ensures made { IfOk result
             (λ made. made + load self.new.session ≤ load self.old.session) }
         ensures spent { IfOk result (HasSpent self.new.session steps) }
-        ensures enough { load self.old.session ≤ steps
-            → OnOk result (is_pending self.new.session ≡ false) }
+        ensures enough { Settles steps result self.old.session self.new.session }
         ensures grown { GrowsByLines self.old.session.queued self.new.session.queued }
         ensures err { OnErr result (load self.new.session ≤ load self.old.session) }
     {

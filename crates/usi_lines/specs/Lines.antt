@@ -1,7 +1,8 @@
 -- The lines of a byte stream (USI: a line ends with LF, and a CR right before it is no part of it; the greatest length is an own choice).
-use Rattle.std.specs.Prelude.{◌≡◌, ℕ, ◌+◌, ◌≤◌, ◌==◌, Bool, List, [], ◌∷◌, ◌++◌, length, drop, cond, nat_lt}
+use Rattle.std.specs.Prelude.{◌≡◌, ℕ, ◌+◌, ◌≤◌, ◌==◌, Bool, List, [], ◌∷◌, ◌++◌, length, drop, cond, nat_lt, Vec}
 use Rattle.std.specs.List.{slice_split, position_or_len}
 use Rattle.std.specs.Str.Lines.{strip_carriage_return}
+use Rattle.usi_lines.specs.Room.{KeepsRoom}
 use Rattle.usi_lines.specs.declared.line.TheConstants.{LINE_MAX, LINE_FEED}
 
 -- a line without its LF and the CR before it, or the end of all lines
@@ -38,6 +39,10 @@ pub record Buffer : Type 0 where
 abbrev pub ahead : Buffer → List ℕ → List Line
 ahead buffer bytes = cond buffer.closed [] (lines (buffer.unread ++ bytes))
 
+-- whatever bytes follow, the lines ahead are those that were ahead for the chunk and then these
+abbrev pub IsAheadAfter : List ℕ → Buffer → Buffer → Type 0
+IsAheadAfter chunk old new = (x : List ℕ) → ahead new x ≡ ahead old (chunk ++ x)
+
 -- it is the first of these lines, whatever bytes follow
 abbrev pub IsFirstAhead : Buffer → Line → Type 0
 IsFirstAhead buffer line = (x : List ℕ) → ahead buffer x ≡ line ∷ drop 1 (ahead buffer x)
@@ -46,3 +51,7 @@ IsFirstAhead buffer line = (x : List ℕ) → ahead buffer x ≡ line ∷ drop 1
 pub record IsSearched (bytes : List ℕ) (start end : ℕ) : Type 0 where
   pub within : start ≤ length bytes
   pub searched : end ≡ start + position_or_len is_line_feed (drop start bytes)
+
+-- the bytes were searched, and while none of them are unread at most so much room is kept
+abbrev pub IsLineBuffer : {A : Type 0} → ℕ → Vec ℕ A → ℕ → ℕ → Type 0
+IsLineBuffer kept bytes start end = IsSearched bytes.items start end × KeepsRoom kept start bytes

@@ -1,7 +1,8 @@
 //! A byte stream that comes in chunks, cut into lines.
 
-ghost use Rattle.std.specs.Prelude.{◌≡◌, ◌≢◌, ◌↔◌, ◌≤◌, ℕ, false, true, List, [], ◌∷◌, ◌++◌, IsTrue, IsNone, IsOk, IfSome, OnOk, OnErr, drop, vec_len, vec_capacity, ◌<◌};
-ghost use Rattle.usi_lines.specs.Lines.{Buffer, ahead, IsFirstAhead, TooLong};
+ghost use Rattle.std.specs.Prelude.{◌≡◌, ◌≢◌, ◌↔◌, ◌≤◌, ℕ, false, true, List, [], ◌∷◌, IsTrue, IsNone, IsOk, IfSome, OnOk, OnErr, drop, vec_len, ◌<◌};
+ghost use Rattle.usi_lines.specs.Lines.{Buffer, ahead, IsAheadAfter, IsFirstAhead, TooLong};
+ghost use Rattle.usi_lines.specs.Room.{KeepsRoom};
 ghost use Rattle.usi_lines.specs.Seen.{line_of};
 ghost use Rattle.usi_lines.specs.declared.buffer.TheConstants.{ROOM_KEPT};
 
@@ -38,16 +39,15 @@ pub struct LineBuffer<A: Allocator> {
 }
 
 impl<A: Allocator> Model for LineBuffer<A> {
-    ghost use Rattle.std.specs.Prelude.{drop, ◌≡◌, ◌≤◌, vec_len, vec_capacity};
-    ghost use Rattle.usi_lines.specs.Lines.{Buffer, IsSearched};
+    ghost use Rattle.std.specs.Prelude.{drop};
+    ghost use Rattle.usi_lines.specs.Lines.{Buffer, IsLineBuffer};
     ghost use Rattle.usi_lines.specs.declared.buffer.TheConstants.{ROOM_KEPT};
 
     ghost Value = { Buffer };
 
     ghost view = { λ b. record { unread = drop b.start b.bytes.items; closed = b.closed } };
 
-    ghost invariant = { λ b. IsSearched b.bytes.items b.start b.end
-        × (b.start ≡ vec_len b.bytes → vec_capacity b.bytes ≤ ROOM_KEPT) };
+    ghost invariant = { λ b. IsLineBuffer ROOM_KEPT b.bytes b.start b.end };
 }
 
 /// Gives up the read bytes where they are more than half of the buffer, and room with them, and
@@ -56,7 +56,7 @@ fn compact<A: Allocator>(bytes: &mut Vec<u8, A>, start: usize) -> usize
     requires { start ≤ vec_len bytes.old }
     ensures kept { drop result bytes.new.items ≡ drop start bytes.old.items }
     ensures within { result ≤ vec_len bytes.new }
-    ensures room { 0 < start → result ≡ vec_len bytes.new → vec_capacity bytes.new ≤ ROOM_KEPT }
+    ensures room { 0 < start → KeepsRoom ROOM_KEPT result bytes.new }
 {
     if start <= bytes.len() / 2 {
         return start;
@@ -83,8 +83,7 @@ impl<A: Allocator> LineBuffer<A> {
     /// accepted and forgotten. `OutOfMemory` comes only where the allocation for the chunk fails,
     /// and leaves all as it was.
     pub fn feed(&mut self, chunk: &[u8]) -> Result<(), LineFault>
-        ensures ok { OnOk result
-            ((x : List ℕ) → ahead self.new x ≡ ahead self.old (chunk.now ++ x)) }
+        ensures ok { OnOk result (IsAheadAfter chunk.now self.old self.new) }
         ensures closed { self.old.closed ≡ true → IsOk result × (self.new ≡ self.old) }
         ensures err { OnErr result (self.new ≡ self.old) }
     {

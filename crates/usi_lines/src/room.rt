@@ -1,6 +1,6 @@
 //! Room that a buffer gives back.
 
-ghost use Rattle.std.specs.Prelude.{◌≡◌, vec_len, vec_capacity};
+ghost use Rattle.std.specs.Prelude.{◌≡◌};
 ghost use Rattle.usi_lines.specs.Room.{GivesRoom};
 
 use std::alloc::Allocator;
@@ -10,8 +10,7 @@ use std::alloc::Allocator;
 /// Where nothing is in use none is left, and nothing is allocated.
 pub fn give_back_room<A: Allocator>(bytes: &mut Vec<u8, A>, kept: usize)
     ensures items { bytes.new.items ≡ bytes.old.items }
-    ensures room { GivesRoom kept
-        (vec_len bytes.new) (vec_capacity bytes.old) (vec_capacity bytes.new) }
+    ensures room { GivesRoom kept bytes.old bytes.new }
 {
     let len = bytes.len();
     if bytes.capacity() > kept && len <= bytes.capacity() / 4 {

@@ -1,12 +1,13 @@
 -- A script that is being replayed: what is kept, beside the `+` lines so far.
 use Rattle.std.specs.Prelude.{◌≡◌, ◌≢◌, ℕ, ◌+◌, ◌≤◌, List, [], ◌∷◌, ◌++◌, Bool, true, false, ◌&&◌, ◌==◌, cond, Option, Some, None, Result, IfOk, count_by, codes, is_some, length, get_or, set}
+use Rattle.std.specs.List.{position_or_len}
 use Rattle.session_slots.specs.declared.id.SessionId.{SessionId}
 use Rattle.session_slots.specs.Slots.{find, count}
 use Rattle.usi_session.specs.Due.{SessionView, due}
 use Rattle.usi_session.specs.WholeStream.{replies}
-use Rattle.usi_lines.specs.Lines.{lines}
+use Rattle.usi_lines.specs.Lines.{Line, lines}
 use Rattle.host_core.specs.Steps.{HostState}
-use Rattle.usi_replay.specs.Script.{ScriptLine, Opening, has_session, closed_opening, new_opening, openings_after, read_from, read_script, output}
+use Rattle.usi_replay.specs.Script.{ScriptLine, Opening, meaning, has_session, closed_opening, new_opening, ended, openings_after, read_from, read_script, output}
 use Rattle.usi_lines.specs.declared.line.TheConstants.{LINE_FEED}
 
 -- what is kept for a `+` line: its name, whether that is in use, its session's id if it got one, and the bytes made so far
@@ -31,9 +32,17 @@ pub record Play : Type 0 where
 abbrev pub play : HostState → List Transcript → Play
 play h ts = record { host = h; transcripts = ts }
 
+-- the same, but for the bytes made
+abbrev pub IsSameButForMade : Transcript → Transcript → Type 0
+IsSameButForMade before after = after ≡ record before { made = after.made }
+
 -- the name is in use for it
 abbrev pub is_transcript_under : ℕ → Transcript → Bool
 is_transcript_under name t = t.in_use && t.name == name
+
+-- the place of the first for which the name is in use, or the number of all
+abbrev pub place_of : ℕ → List Transcript → ℕ
+place_of name ts = position_or_len (is_transcript_under name) ts
 
 -- the id, while its session is open
 abbrev pub open_id : Transcript → Option SessionId
@@ -106,6 +115,10 @@ IsSent old new i chunk =
     → IsPlayback slots new.host (set os i (with_more chunk (get_or os i no_opening)))
     new.transcripts
 
+-- a text and the LF that ends it were sent to the `+` line of this place
+abbrev pub IsFedLine : Play → Play → ℕ → List ℕ → Type 0
+IsFedLine old new i text = IsSent old new i (ended text)
+
 -- all that the session replies was kept
 abbrev pub HasAllReplies : Opening → Transcript → Type 0
 HasAllReplies o t = t.made ≡ replies o.text
@@ -159,3 +172,7 @@ Plays result old line new =
     IfOk result (λ good. (slots : ℕ) (os : List Opening)
     → IsPlayback slots old.host os old.transcripts
     → LeadsTo good slots (openings_after slots line os) new.host new.transcripts)
+
+-- what a line of bytes did, by what it means
+abbrev pub PlaysLine : {E : Type 0} → Result Bool E → Play → Line → Play → Type 0
+PlaysLine result old line new = Plays result old (meaning line) new

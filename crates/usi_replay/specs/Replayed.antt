@@ -76,6 +76,10 @@ IsAnswerOf slots bytes result =
 abbrev pub GivesAll : Report → Report → List ℕ → Type 0
 GivesAll old new bytes = IsAllRead old.unread new.unread bytes
 
+-- the same of the bytes in a buffer
+abbrev pub GivesAllIn : {Z : Type 0} → Report → Report → Vec ℕ Z → Type 0
+GivesAllIn old new bytes = GivesAll old new bytes.items
+
 -- the script's output was written
 abbrev pub Replays : ℕ → Report → Report → Type 0
 Replays slots old new = IsReplayed slots old.unread new.unread old.written new.written

@@ -49,8 +49,8 @@ IsCollected (Some s) (Some t) made more =
     (more ≡ made ++ s.queued) × ((x : List ℕ) → due s x ≡ s.queued ++ due t x)
 
 -- what was queued for the id was added to what its transcript had made
-abbrev pub IsHandedOver : HostState → HostState → SessionId → Transcript → Transcript → Type 0
-IsHandedOver old new id before after =
+abbrev pub HandsOver : HostState → HostState → SessionId → Transcript → Transcript → Type 0
+HandsOver old new id before after =
     IsCollected (find old.slots id) (find new.slots id) before.made after.made
 
 -- the session owes what it owed for these bytes and for what follows; a session that is over owes nothing for them

@@ -1,11 +1,10 @@
 //! A script that is being replayed over a host.
 
 ghost use Rattle.std.specs.Prelude.{◌≡◌, ◌≤◌, ◌<◌, ◌++◌, IfOk, OnOk, length, true};
-ghost use Rattle.std.specs.List.{position_or_len};
 ghost use Rattle.usi_lines.specs.Seen.{line_of};
 ghost use Rattle.usi_replay.specs.Seen.{play_of};
-ghost use Rattle.usi_replay.specs.Script.{Open, Close, Send, ended, meaning};
-ghost use Rattle.usi_replay.specs.Playback.{KeepsPlayback, KeepsUse, CollectsAll, IsSent, IsClosedAt, IsOpenedUnder, IsWhole, Plays, is_transcript_under, is_used_at, transcript_section};
+ghost use Rattle.usi_replay.specs.Script.{Open, Close, Send};
+ghost use Rattle.usi_replay.specs.Playback.{KeepsPlayback, KeepsUse, CollectsAll, IsFedLine, IsSent, IsClosedAt, IsOpenedUnder, IsWhole, Plays, PlaysLine, is_used_at, place_of, transcript_section};
 
 use crate::script_line::{ScriptLine, meaning};
 use crate::sessions;
@@ -41,8 +40,7 @@ pub struct Playback<S: BuildHasher, A: Allocator + Copy> {
 impl<S: BuildHasher, A: Allocator + Copy> Playback<S, A> {
     /// The place of the `+` line for which the name is in use, or the number of all of them.
     fn place_of(&self, name: u8) -> usize
-        ensures value { result
-            ≡ position_or_len (is_transcript_under name) self.now.transcripts.items }
+        ensures value { result ≡ place_of name self.now.transcripts.items }
         ensures within { result ≤ length self.now.transcripts.items }
     {
         for i in 0..self.transcripts.len() {
@@ -96,7 +94,7 @@ impl<S: BuildHasher, A: Allocator + Copy> Playback<S, A> {
         requires least { 1 ≤ self.old.slice }
         requires used { is_used_at (play_of self.old) place ≡ true }
         ensures fed { OnOk result
-            (IsSent (play_of self.old) (play_of self.new) place (ended text.now)) }
+            (IsFedLine (play_of self.old) (play_of self.new) place text.now) }
         ensures slice { self.new.slice ≡ self.old.slice }
     {
         let mut rest = text;
@@ -182,8 +180,7 @@ impl<S: BuildHasher, A: Allocator + Copy> Playback<S, A> {
     /// Does what a line of the script means; no where the line is bad.
     pub fn play_line(&mut self, line: Line<'_>) -> Result<bool, AllocError>
         requires { 1 ≤ self.old.slice }
-        ensures done { Plays result (play_of self.old) (meaning (line_of line.entry))
-            (play_of self.new) }
+        ensures done { PlaysLine result (play_of self.old) (line_of line.entry) (play_of self.new) }
         ensures slice { self.new.slice ≡ self.old.slice }
     {
         match meaning(line) {

@@ -3,7 +3,8 @@
 ghost use Rattle.std.specs.Prelude.{◌≡◌, ◌≤◌, false, IfOk, OnOk};
 ghost use Rattle.session_slots.specs.Slots.{find};
 ghost use Rattle.host_core.specs.ById.{pending_of};
-ghost use Rattle.usi_replay.specs.Sessions.{KeepsDue, KeepsAllBut, IsHandedOver, IsFed, IsOpenedAs, IsClosedAs, NeedFewerWorks};
+ghost use Rattle.usi_replay.specs.Playback.{IsSameButForMade};
+ghost use Rattle.usi_replay.specs.Sessions.{KeepsDue, KeepsAllBut, HandsOver, IsFed, IsOpenedAs, IsClosedAs, NeedFewerWorks};
 
 use crate::transcript::Transcript;
 use host_core::{Host, HostFault};
@@ -50,9 +51,8 @@ pub fn take_output<S: BuildHasher, A: Allocator + Copy>(
 ) -> Result<(), AllocError>
     ensures others { OnOk result (KeepsAllBut host.old host.new id) }
     ensures collected { OnOk result
-        (IsHandedOver host.old host.new id transcript.old transcript.new) }
-    ensures rest { OnOk result (transcript.new
-        ≡ record transcript.old { made = transcript.new.made }) }
+        (HandsOver host.old host.new id transcript.old transcript.new) }
+    ensures rest { OnOk result (IsSameButForMade transcript.old transcript.new) }
 {
     let Some(bytes) = host.output(id) else {
         return Ok(());

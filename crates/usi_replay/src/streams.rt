@@ -2,7 +2,7 @@
 
 ghost use Rattle.std.specs.Prelude.{◌≤◌, OnOk, IfOk, IfErr};
 ghost use Rattle.std.specs.Io.KnownBytes.{Keeps};
-ghost use Rattle.usi_replay.specs.Replayed.{FlushesAll, GivesAll, IsAnswerOf, IsReadFault, Leaves, Replays};
+ghost use Rattle.usi_replay.specs.Replayed.{FlushesAll, GivesAllIn, IsAnswerOf, IsReadFault, Leaves, Replays};
 ghost use Rattle.session_slots.specs.declared.limits.TheConstants.{SESSIONS_MAX};
 ghost use Rattle.shared_table.specs.declared.table.TheConstants.{CAPACITY_MAX};
 
@@ -20,8 +20,7 @@ fn read_all<A: Allocator, T: FrontEnd>(
     alloc: A,
     front_end: &mut T,
 ) -> Result<Vec<u8, A>, ReplayFault>
-    ensures read { IfOk result (λ all.
-        GivesAll (T.report front_end.old) (T.report front_end.new) all.items) }
+    ensures read { IfOk result (GivesAllIn (T.report front_end.old) (T.report front_end.new)) }
     ensures kept { Keeps (T.report front_end.old).written (T.report front_end.new).written }
     ensures flushed { OnOk result (FlushesAll (T.report front_end.old) (T.report front_end.new)) }
     ensures fault { IfErr result IsReadFault }

@@ -16,19 +16,18 @@ use wires::{Wire, WireFault};
 /// Each connection of the loop is accepted from this wire and each session opened in this host.
 pub fn serve<W: Wire, S: BuildHasher, A: Allocator + Copy, M: Monitor<W, S, A>>(
     host: &mut Host<S, A>,
-    connections: &mut Loop<A>,
+    links: &mut Loop<A>,
     wire: &mut W,
     monitor: &mut M,
     turns: u64,
 ) -> Result<(), WireFault>
-    requires fits { Fits (links_of connections.old.held) (W.bound wire.old) host.old }
-    ensures all { Ran W.Wire turns result
-        connections.old host.old wire.old connections.new host.new wire.new }
-    ensures fits { Fits (links_of connections.new.held) (W.bound wire.new) host.new }
+    requires fits { Fits (links_of links.old.held) (W.bound wire.old) host.old }
+    ensures all { Ran W.Wire turns result links.old host.old wire.old links.new host.new wire.new }
+    ensures fits { Fits (links_of links.new.held) (W.bound wire.new) host.new }
 {
     for _ in 0..turns {
-        let turn = connections.turn(host, wire);
-        monitor.see(&turn, host, connections, wire);
+        let turn = links.turn(host, wire);
+        monitor.see(&turn, host, links, wire);
         wire.wait(!turn.moved)?;
     }
     Ok(())

@@ -9,6 +9,7 @@ pub mod Roots
 pub mod Told
 pub mod RunningGo
 pub mod Walked
+pub mod GoCommand
 pub mod Due
 pub mod WholeLines
 pub mod Numbers

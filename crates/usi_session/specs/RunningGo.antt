@@ -4,6 +4,7 @@ use Rattle.shogi_core.specs.declared.moves.Move.{Move}
 use Rattle.shogi_core.specs.Position.{Shogi}
 use Rattle.shogi_moves.specs.LegalMoves.{legal_above}
 use Rattle.minimax.specs.Minimax.{best, pv_cost, then_pv_cost, sum_of_tree_sizes}
+use Rattle.shogi_search.specs.Calls.{Call}
 use Rattle.usi_lines.specs.Commands.{Command}
 use Rattle.usi_lines.specs.Lines.{Line}
 use Rattle.usi_lines.specs.declared.command.Hold.{Hold}
@@ -15,6 +16,7 @@ use Rattle.usi_session.specs.Texts.{info_line}
 use Rattle.usi_session.specs.GoInfos.{listed, numbered_lines, depth_lines}
 use Rattle.usi_session.specs.Costs.{cost_of_command, cost_to, depth_cost, go_cost, pvs_cost}
 use Rattle.usi_session.specs.Roots.{Root, pv_roots, pvs_roots, roots_of_depths, roots_of_go, roots_of_command, roots_to}
+use Rattle.usi_session.specs.Told.{TellsEnded}
 use Rattle.usi_session.specs.Answer.{Answer, answer, answer_go, bestmove_at, write_or_hold, answer_with}
 use Rattle.usi_session.specs.WholeStream.{answer_to}
 
@@ -96,6 +98,10 @@ pub record HasDone (question : Question) (depths_done lines_done : ℕ) (go : Ru
   pub question_is : go.question ≡ question
   pub depths_done_is : go.depths_done ≡ depths_done
   pub lines_done_is : go.lines_done ≡ lines_done
+
+-- one line more of the current depth is done
+abbrev pub HasDoneLine : RunningGo → RunningGo → Type 0
+HasDoneLine old new = HasDone old.question old.depths_done (old.lines_done + 1) new
 
 -- the same `go`, but for the search that is running, and where it stands on its walk
 abbrev pub IsSameButForSearch : RunningGo → RunningGo → Type 0
@@ -208,6 +214,13 @@ current_roots None go =
 -- the searches along pvs that a running `go` has still to end
 abbrev pub roots_of : RunningGo → List Root
 roots_of go = current_roots go.root_move go ++ deeper_roots go.question go.depths_done
+
+-- of the searches that a running `go` has still to end, a memory was told the first, and the others
+-- are left to a later state of it
+abbrev pub EndsSearchesOfGo : {M : Type 0} → (M → Call → M → Type 0) → M → M → RunningGo → RunningGo
+    → Type 0
+EndsSearchesOfGo called old new before after =
+    TellsEnded called old new (roots_of before) (roots_of after)
 
 -- none, where no `go` is running
 abbrev pub roots_of_if : Option RunningGo → List Root

@@ -66,6 +66,10 @@ abbrev pub info_for : List ℕ → ℕ → ℤ → List Move → List ℕ
 info_for which depth value moves =
     head_text depth which ++ (score_text depth value ++ pv_text moves)
 
+-- the same, where the words for which are a word and its number
+abbrev pub info_with : List ℕ → List ℕ → ℕ → ℤ → List Move → List ℕ
+info_with word number depth value moves = info_for (word ++ number) depth value moves
+
 -- a value and a pv at a depth
 abbrev pub info_text : ℕ → ℤ → List Move → List ℕ
 info_text depth value moves = info_for [] depth value moves

@@ -1,6 +1,6 @@
 -- A walk along a pv, ply by ply, and what a running `go` knows of the depth that it is at
 -- (own choice).
-use Rattle.std.specs.Prelude.{ℕ, ℤ, List, [], ◌∷◌, Option, None, Some, ◌≡◌, ◌≢◌, ◌+◌, ◌-◌, ◌<◌, ◌≤◌, ◌++◌, ◌==◌, cond, slice_get, unwrap_or}
+use Rattle.std.specs.Prelude.{ℕ, ℤ, List, [], ◌∷◌, Option, None, Some, ◌≡◌, ◌≢◌, ◌+◌, ◌-◌, ◌<◌, ◌≤◌, ◌++◌, ◌==◌, true, cond, is_some, length, slice_get, unwrap_or}
 use Rattle.shogi_core.specs.Codes.{code_of}
 use Rattle.shogi_core.specs.Position.{Shogi}
 use Rattle.shogi_core.specs.declared.moves.Move.{Move}
@@ -13,6 +13,7 @@ use Rattle.shogi_search.specs.Ranked.{Ranking, IsTop, child_beta}
 use Rattle.minimax.specs.declared.bounds.TheConstants.{INFINITY}
 use Rattle.shogi_search.specs.declared.found.Found.{Found}
 use Rattle.usi_lines.specs.Options.{IsDepth, IsMultiPv}
+use Rattle.usi_lines.specs.declared.options.TheConstants.{DEPTH_MAX}
 use Rattle.usi_session.specs.declared.question.Question.{Question}
 use Rattle.usi_session.specs.declared.state.HeldBestmove.{HeldBestmove}
 use Rattle.usi_session.specs.GoInfos.{pv_by}
@@ -37,6 +38,12 @@ walk_of eval at plies moves found = record {
   pv = moves ++ pv at eval plies;
   value = unwrap_or found (value at eval plies);
 }
+
+-- the moves so far and the plies that are left are no more than the greatest depth has, and where
+-- none is left the value is known
+abbrev pub IsPvWalk : ℕ → List Move → Option ℤ → Type 0
+IsPvWalk plies moves found =
+    (length moves + plies ≤ DEPTH_MAX) × (plies ≡ 0 → is_some found ≡ true)
 
 -- before the first ply
 abbrev pub walk_from : Shogi → Eval → ℕ → Walked

@@ -4,9 +4,8 @@ ghost use Rattle.std.specs.Prelude.{◌≡◌, ◌≢◌, ◌≤◌, ◌<◌, �
 ghost use Rattle.minimax.specs.Minimax.{value, best};
 ghost use Rattle.usi_session.specs.Answer.{bestmove_of};
 ghost use Rattle.usi_session.specs.GoInfos.{move_to_play, move_to_ponder};
-ghost use Rattle.usi_session.specs.RunningGo.{listed_at, infos_left, infos_after, deeper_infos, is_last, is_last_of_depth, is_searching, bestmove_to, cost_of_depths, load_of, reports_of, deeper_roots, first_roots, roots_of, HasDone, IsSameButForSearch, WritesLine};
+ghost use Rattle.usi_session.specs.RunningGo.{listed_at, infos_left, infos_after, deeper_infos, is_last, is_last_of_depth, is_searching, bestmove_to, cost_of_depths, load_of, reports_of, deeper_roots, first_roots, roots_of, EndsSearchesOfGo, HasDone, HasDoneLine, IsSameButForSearch, WritesLine};
 ghost use Rattle.usi_session.specs.Walked.{IsQuestionInRange, IsFirst, IsRankedTo, IsRankedUpTo, IsRanked, BeginsLine, IsSearchedAlong, IsFoundOfChild, IsAtFirstLine, first_root_move, first_search, child_search, cost_after, walk_cost, walk_roots, roots_after, LeavesLoad, LeavesRoots};
-ghost use Rattle.usi_session.specs.Told.{TellsEnded};
 ghost use Rattle.usi_session.specs.WholeLines.{GrowsByLines};
 
 use crate::pv_walk::PvWalk;
@@ -40,16 +39,14 @@ pub struct GoCommand<A: Allocator> {
 
 impl<A: Allocator> Model for GoCommand<A> {
     ghost use Rattle.usi_session.specs.RunningGo.{RunningGo};
-    ghost use Rattle.usi_session.specs.Walked.{IsRunningGo, running_go_of};
 
     ghost Value = { RunningGo };
 
-    ghost view = { λ g.
-        running_go_of g.question g.depths_done g.lines_done g.root_move g.walk g.search.value };
+    ghost use Rattle.usi_session.specs.GoCommand.{running_go_in, IsGoCommand};
 
-    ghost invariant = { λ g.
-        IsRunningGo g.question g.first g.depths_done g.lines_done
-        g.root_move g.ranks g.walk g.bestmove g.search.value };
+    ghost view = { running_go_in };
+
+    ghost invariant = { IsGoCommand };
 }
 
 /// The move to play.
@@ -282,8 +279,7 @@ impl<A: Allocator> GoCommand<A> {
         ensures most { IfSome result (λ made. made ≤ budget) }
         ensures made { IfSome result (λ made. made + load_of self.new ≤ load_of self.old) }
         ensures fewer { OnSome result (load_of self.new < load_of self.old) }
-        ensures told { TellsEnded M.called memo.old memo.new (roots_of self.old)
-            (roots_of self.new) }
+        ensures told { EndsSearchesOfGo M.called memo.old memo.new self.old self.new }
         ensures capacity { M.capacity memo.new ≡ M.capacity memo.old }
     {
         let before = self.search.steps();
@@ -375,8 +371,7 @@ impl<A: Allocator> GoCommand<A> {
     fn next_line(&mut self)
         requires whole { is_searching self.old ≡ false }
         requires more { is_last_of_depth self.old ≡ false }
-        ensures done { HasDone self.old.question self.old.depths_done (self.old.lines_done + 1)
-            self.new }
+        ensures done { HasDoneLine self.old self.new }
         ensures roots { roots_of self.new ≡ roots_of self.old }
         ensures load { load_of self.new ≤ load_of self.old }
         ensures fewer { reports_of self.new < reports_of self.old }

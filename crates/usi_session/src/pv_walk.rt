@@ -29,16 +29,13 @@ pub struct PvWalk {
 }
 
 impl Model for PvWalk {
-    ghost use Rattle.std.specs.Prelude.{◌≡◌, ◌≤◌, ◌+◌, length, is_some, true};
-    ghost use Rattle.usi_lines.specs.declared.options.TheConstants.{DEPTH_MAX};
-    ghost use Rattle.usi_session.specs.Walked.{Walked, walk_of};
+    ghost use Rattle.usi_session.specs.Walked.{Walked, IsPvWalk, walk_of};
 
     ghost Value = { Walked };
 
     ghost view = { λ w. walk_of w.eval w.at w.plies w.moves.items w.value };
 
-    ghost invariant = { λ w. (length w.moves.items + w.plies ≤ DEPTH_MAX)
-        × (w.plies ≡ 0 → is_some w.value ≡ true) };
+    ghost invariant = { λ w. IsPvWalk w.plies w.moves.items w.value };
 }
 
 impl PvWalk {

@@ -19,15 +19,16 @@ pub struct Queue<A: Allocator> {
 }
 
 impl<A: Allocator> Model for Queue<A> {
-    ghost use Rattle.std.specs.Prelude.{ℕ, List, drop, ◌≡◌, ◌≤◌, vec_len, vec_capacity};
+    ghost use Rattle.std.specs.Prelude.{ℕ, List, drop, ◌≤◌, vec_len};
+    ghost use Rattle.usi_lines.specs.Room.{KeepsRoom};
     ghost use Rattle.usi_session.specs.declared.queue.TheConstants.{ROOM_KEPT};
 
     ghost Value = { List ℕ };
 
     ghost view = { λ o. drop o.taken o.bytes.items };
 
-    ghost invariant = { λ o. (o.taken ≤ vec_len o.bytes)
-        × (o.taken ≡ vec_len o.bytes → vec_capacity o.bytes ≤ ROOM_KEPT) };
+    ghost invariant = { λ o.
+        (o.taken ≤ vec_len o.bytes) × KeepsRoom ROOM_KEPT o.taken o.bytes };
 }
 
 impl<A: Allocator> Queue<A> {

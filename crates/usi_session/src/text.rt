@@ -1,7 +1,7 @@
 //! The lines that a session writes.
 
 ghost use Rattle.std.specs.Prelude.{◌++◌, flat_map};
-ghost use Rattle.usi_session.specs.Texts.{Writes, usi_reply, mate_not_implemented_reply, bad_position_line, illegal_move_line, size_text, score_text, moves_text, head_text, pv_text, info_for, info_text, numbered_info_text, bestmove_line};
+ghost use Rattle.usi_session.specs.Texts.{Writes, usi_reply, mate_not_implemented_reply, bad_position_line, illegal_move_line, size_text, score_text, moves_text, head_text, pv_text, info_with, info_text, numbered_info_text, bestmove_line};
 
 use crate::options::write_options;
 use itoa::Buffer;
@@ -134,8 +134,7 @@ fn write_info_for<A: Allocator>(
     value: i32,
     moves: &[Move],
 ) -> Result<(), AllocError>
-    ensures { Writes result out.old out.new
-        (info_for (word.now ++ number.now) depth value moves.now) }
+    ensures { Writes result out.old out.new (info_with word.now number.now depth value moves.now) }
 {
     write_head(out, depth, word, number)?;
     write_score(out, depth, value)?;

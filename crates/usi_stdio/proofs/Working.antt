@@ -1,5 +1,5 @@
 -- A session whose replies are written slice by slice.
-use Rattle.std.proofs.Common.{◌≡◌, ℕ, List, [], ◌++◌, true, refl, sym, ap, ◌∙◌, append_assoc, Result, IsErrAnd, IfErr, OnErr, Ok, Err}
+use Rattle.std.proofs.Common.{◌≡◌, ℕ, List, [], ◌++◌, true, refl, sym, ap, ◌∙◌, append_assoc, Result, IsErrAnd, IfErr, OnOk, OnErr, Ok, Err}
 use Rattle.usi_session.specs.Due.{SessionView, due}
 use Rattle.usi_stdio.specs.Calls.{Report}
 use Rattle.usi_stdio.specs.Saying.{SaysPrefix, Says, IsWorkedOn, asked_by}
@@ -78,6 +78,11 @@ worked_prefix before mid old part new fault a front x = said_prefix old part new
 pub on_err : {T E : Type 0} {P : Type 0} (r : Result T E) → P → OnErr r P
 on_err (Ok x) h = tt
 on_err (Err e) h = h
+
+-- what follows from two things that hold after a success
+pub on_ok_both : {T E : Type 0} {P Q R : Type 0} (r : Result T E) → (P → Q → R) → OnOk r P → OnOk r Q → OnOk r R
+on_ok_both (Ok x) f p q = f p q
+on_ok_both (Err e) f p q = tt
 
 pub passed_on : {T : Type 0} (r : Result T StdioFault) (fault : StdioFault) (P : StdioFault → Type 0) → IsErrAnd r (λ given. given ≡ fault) → P fault → IfErr r P
 passed_on (Ok x) fault P same h = tt

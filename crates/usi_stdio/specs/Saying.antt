@@ -1,5 +1,5 @@
 -- What is written between two reads (own choice).
-use Rattle.std.specs.Prelude.{◌≡◌, ◌+◌, ◌*◌, ℕ, List, [], ◌++◌, Bool, true, false, cond, Option, None, Some, Result, Err}
+use Rattle.std.specs.Prelude.{◌≡◌, ◌+◌, ◌*◌, ℕ, List, [], ◌++◌, Bool, true, false, cond, Option, None, Some, Result, Err, IfErr}
 use Rattle.std.specs.Io.KnownBytes.{Appends}
 use Rattle.usi_session.specs.Due.{SessionView, due, state_due, load, is_pending}
 use Rattle.usi_stdio.specs.Calls.{Call, Report, Makes}
@@ -94,17 +94,26 @@ pub record Answers (before after : SessionView) (chunk : List ℕ) (old new : Re
   pub empty : after.queued ≡ []
   pub settled : is_pending after ≡ false
 
+-- these bytes were fed and answered in full: nothing waits, and with further bytes what was due for
+-- these comes first
+pub record IsAnsweredInFull (before after : SessionView) (chunk : List ℕ) : Type 0 where
+  pub owed : (x : List ℕ) → due before (chunk ++ x) ≡ due before chunk ++ due after x
+  pub left : (x : List ℕ) → state_due after x ≡ state_due before (chunk ++ x)
+  pub empty : after.queued ≡ []
+  pub settled : is_pending after ≡ false
+
 -- ---- the same of a front end of the code, by what it reports
 
 module _ {F : Type 0} (report : F → Report) where
   abbrev pub Wrote : SessionView → SessionView → (old new : F) → Type 0
   Wrote before after old new = IsWritten before after (report old) (report new)
 
-  abbrev pub WorkedOn : SessionView → SessionView → (old new : F) → Type 0
-  WorkedOn before after old new = IsWorkedOn before after (report old) (report new)
+  abbrev pub Worked : SessionView → SessionView → (old new : F) → Type 0
+  Worked before after old new = IsWorkedOn before after (report old) (report new)
 
-  abbrev pub Answered : SessionView → SessionView → List ℕ → (old new : F) → Type 0
-  Answered before after chunk old new = Answers before after chunk (report old) (report new)
+  -- the front end took what was due for these bytes, and all is flushed
+  abbrev pub SaidDue : (old new : F) → SessionView → List ℕ → Type 0
+  SaidDue old new session bytes = Says (report old) (report new) (due session bytes)
 
   abbrev pub WrotePrefix : (old new : F) → List ℕ → StdioFault → Type 0
   WrotePrefix old new bytes fault = SaysPrefix (report old) (report new) bytes fault
@@ -112,3 +121,13 @@ module _ {F : Type 0} (report : F → Report) where
   abbrev pub WrotePrefixOfDue : (old new : F) → SessionView → List ℕ → StdioFault → Type 0
   WrotePrefixOfDue old new session bytes fault =
       SaysPrefixOfDue (report old) (report new) session bytes fault
+
+  -- where it fails, the front end took a prefix of the bytes
+  abbrev pub CutShort : Result (Unit {0}) StdioFault → (old new : F) → List ℕ → Type 0
+  CutShort result old new bytes = IfErr result (WrotePrefix old new bytes)
+
+  -- the same of what is owed, whatever bytes follow these
+  abbrev pub CutShortDue : Result (Unit {0}) StdioFault → (old new : F) → SessionView → List ℕ
+      → Type 0
+  CutShortDue result old new session bytes =
+      IfErr result (WrotePrefixOfDue old new session bytes)

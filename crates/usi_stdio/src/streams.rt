@@ -2,7 +2,7 @@
 
 ghost use Rattle.std.specs.Prelude.{◌≡◌, ◌<◌, ◌≤◌, [], true, false, length, IfErr, OnOk, OnErr, Err};
 ghost use Rattle.usi_stdio.specs.Dialogue.{Talks};
-ghost use Rattle.usi_stdio.specs.Saying.{Answered, Says, WorkedOn, Wrote, WrotePrefix, WrotePrefixOfDue, slices_of};
+ghost use Rattle.usi_stdio.specs.Saying.{CutShort, CutShortDue, IsAnsweredInFull, SaidDue, Says, Worked, Wrote, WrotePrefix, slices_of};
 ghost use Rattle.usi_stdio.specs.Stdio.{IsLeft, IsServed};
 ghost use Rattle.usi_stdio.specs.declared.streams.StdioFault.TheVariants.{OutOfMemory, WriteFailed};
 ghost use Rattle.usi_lines.specs.OneLine.{IsOneLine};
@@ -86,8 +86,7 @@ fn write_queued<A: Allocator + Copy, T: FrontEnd>(
 ) -> Result<(), StdioFault>
     ensures ok { OnOk result
         (Wrote T.report session.old session.new front_end.old front_end.new) }
-    ensures err { IfErr result
-        (WrotePrefix T.report front_end.old front_end.new session.old.queued) }
+    ensures err { CutShort T.report result front_end.old front_end.new session.old.queued }
 {
     let queued = session.output().len();
     if queued == 0 {
@@ -106,11 +105,9 @@ fn work_slice<A: Allocator + Copy, M: Memo, T: FrontEnd>(
 ) -> Result<(), StdioFault>
     requires pending { is_pending session.old ≡ true }
     requires empty { session.old.queued ≡ [] }
-    ensures ok { OnOk result
-        (WorkedOn T.report session.old session.new front_end.old front_end.new) }
+    ensures ok { OnOk result (Worked T.report session.old session.new front_end.old front_end.new) }
     ensures fewer { OnOk result (slices_of session.new < slices_of session.old) }
-    ensures err { IfErr result
-        (WrotePrefixOfDue T.report front_end.old front_end.new session.old []) }
+    ensures err { CutShortDue T.report result front_end.old front_end.new session.old [] }
 {
     session.work(memo, SLICE)?;
     write_queued(session, front_end)
@@ -123,11 +120,9 @@ fn work_off<A: Allocator + Copy, M: Memo, T: FrontEnd>(
     front_end: &mut T,
 ) -> Result<(), StdioFault>
     requires { session.old.queued ≡ [] }
-    ensures ok { OnOk result
-        (WorkedOn T.report session.old session.new front_end.old front_end.new) }
+    ensures ok { OnOk result (Worked T.report session.old session.new front_end.old front_end.new) }
     ensures settled { OnOk result (is_pending session.new ≡ false) }
-    ensures err { IfErr result
-        (WrotePrefixOfDue T.report front_end.old front_end.new session.old []) }
+    ensures err { CutShortDue T.report result front_end.old front_end.new session.old [] }
 {
     'slices: while session.pending() {
         work_slice(session, memo, front_end)?;
@@ -146,10 +141,9 @@ fn answer_line<A: Allocator + Copy, M: Memo, T: FrontEnd>(
     requires empty { session.old.queued ≡ [] }
     requires most { length line.now ≤ CHUNK_MAX }
     requires one { IsOneLine line.now }
-    ensures ok { OnOk result
-        (Answered T.report session.old session.new line.now front_end.old front_end.new) }
-    ensures err { IfErr result
-        (WrotePrefixOfDue T.report front_end.old front_end.new session.old line.now) }
+    ensures ok { OnOk result (SaidDue T.report front_end.old front_end.new session.old line.now) }
+    ensures answered { OnOk result (IsAnsweredInFull session.old session.new line.now) }
+    ensures err { CutShortDue T.report result front_end.old front_end.new session.old line.now }
 {
     session.feed(line)?;
     work_off(session, memo, front_end)
@@ -166,10 +160,9 @@ fn answer_chunk<A: Allocator + Copy, M: Memo, T: FrontEnd>(
     requires wants { wants_input session.old ≡ true }
     requires empty { session.old.queued ≡ [] }
     requires most { length chunk.now ≤ CHUNK_MAX }
-    ensures ok { OnOk result
-        (Answered T.report session.old session.new chunk.now front_end.old front_end.new) }
-    ensures err { IfErr result
-        (WrotePrefix T.report front_end.old front_end.new (due session.old chunk.now)) }
+    ensures ok { OnOk result (SaidDue T.report front_end.old front_end.new session.old chunk.now) }
+    ensures answered { OnOk result (IsAnsweredInFull session.old session.new chunk.now) }
+    ensures err { CutShort T.report result front_end.old front_end.new (due session.old chunk.now) }
 {
     let mut rest = chunk;
     'lines: while !rest.is_empty() && !session.is_over() {

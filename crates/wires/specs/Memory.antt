@@ -6,7 +6,7 @@ use Rattle.wires.specs.declared.wire.Got.{Got}
 use Rattle.wires.specs.declared.wire.Got.TheVariants.{Bytes, Nothing, Ended}
 use Rattle.wires.specs.declared.wire.WireFault.{WireFault}
 use Rattle.wires.specs.declared.wire.WireFault.TheVariants.{Device, OutOfMemory}
-use Rattle.wires.specs.Report.{Report, bytes_read}
+use Rattle.wires.specs.Report.{Report, ReportsFailure, bytes_read}
 
 -- a peer: what its reads give from here on, chunk by chunk; what its writes took; the most bytes that a write takes;
 -- whether it was shut, and whether a read or a write of it has failed
@@ -34,6 +34,10 @@ bytes_left chunks = flat_map (λ chunk. chunk) chunks
 -- the bytes that reads of the peer give from here on
 abbrev pub unread_of : PeerState → List ℕ
 unread_of peer = bytes_left peer.chunks
+
+-- reads of the peer gave these bytes
+abbrev pub HasGiven : PeerState → PeerState → List ℕ → Type 0
+HasGiven old new bytes = unread_of old ≡ bytes ++ unread_of new
 
 -- the bytes of each of these
 abbrev pub contents_of : {A : Type 0} → List (Vec ℕ A) → List (List ℕ)
@@ -70,6 +74,10 @@ new_peer chunks = record {
 -- a call of the peer has failed
 abbrev pub failing : PeerState → PeerState
 failing peer = record peer { has_failed = true }
+
+-- a call that failed is marked at its peer
+abbrev pub MarksFailure : {T : Type 0} → Result T WireFault → PeerState → PeerState → Type 0
+MarksFailure result old new = ReportsFailure result (Some old.has_failed) (Some new.has_failed)
 
 -- the peer is shut
 abbrev pub shutting : PeerState → PeerState

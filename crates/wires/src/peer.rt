@@ -1,8 +1,8 @@
 //! One connection of a wire in memory.
 
 ghost use Rattle.std.specs.Prelude.{◌≡◌, ◌≤◌, ◌++◌, length, min, take, drop, Some, Ok, Err, IfOk, IfErr, OnErr};
-ghost use Rattle.wires.specs.Report.{IsWithin, EndsAt, ReportsFailure, bytes_read, bytes_written};
-ghost use Rattle.wires.specs.Memory.{Gives, unread_of, contents_of, new_peer, failing, shutting, narrowing, taking, past_empty, got_from, giving};
+ghost use Rattle.wires.specs.Report.{IsWithin, EndsAt, bytes_read, bytes_written};
+ghost use Rattle.wires.specs.Memory.{Gives, HasGiven, MarksFailure, unread_of, contents_of, new_peer, failing, shutting, narrowing, taking, past_empty, got_from, giving};
 ghost use Rattle.wires.specs.declared.wire.WireFault.TheVariants.{OutOfMemory};
 
 use crate::wire::{Got, WireFault};
@@ -140,8 +140,7 @@ impl<A: Allocator + Copy> Peer<A> {
         ensures given { Gives (Ok result) buf.old buf.new self.old }
         ensures left { self.new ≡ giving (length buf.old) self.old }
         ensures within { IsWithin (Ok result) (length buf.new) }
-        ensures consumed { unread_of self.old
-            ≡ bytes_read (Ok result) buf.new ++ unread_of self.new }
+        ensures consumed { HasGiven self.old self.new (bytes_read (Ok result) buf.new) }
         ensures ended { EndsAt (Ok result) (Some (unread_of self.new)) }
     {
         self.give(buf)
@@ -155,8 +154,7 @@ impl<A: Allocator + Copy> Peer<A> {
         ensures fault { IfErr result (λ fault. fault ≡ OutOfMemory) }
         ensures within { IfOk result (λ n. n ≤ length bytes.now) }
         ensures appended { self.new.written ≡ self.old.written ++ bytes_written result bytes.now }
-        ensures failed { ReportsFailure result
-            (Some self.old.has_failed) (Some self.new.has_failed) }
+        ensures failed { MarksFailure result self.old self.new }
         ensures chunks { self.new.chunks ≡ self.old.chunks }
         ensures shut { self.new.is_shut ≡ self.old.is_shut }
     {

@@ -2,4 +2,4 @@ use Rattle.std.proofs.Common.{refl}
 use Rattle.shogi_core.proofs.targets.diagonal_squares.Goals as goal
 
 pub returns : goal.returns
-returns c = record { squares = c.four_slides.ensures.diagonal c.args.color refl }
+returns c = record { squares = c.four_slides.ensures.diagonal refl c.args.color }

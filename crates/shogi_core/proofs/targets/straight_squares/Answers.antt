@@ -2,4 +2,4 @@ use Rattle.std.proofs.Common.{refl}
 use Rattle.shogi_core.proofs.targets.straight_squares.Goals as goal
 
 pub returns : goal.returns
-returns c = record { squares = c.four_slides.ensures.straight c.args.color refl }
+returns c = record { squares = c.four_slides.ensures.straight refl c.args.color }

@@ -1,34 +1,32 @@
-use Rattle.std.proofs.Common.{◌-◌, ◌^◌, true, false, arith}
-use Rattle.shogi_moves.proofs.DestinationLaws.{all_destinations, all_ways, entering}
-use Rattle.shogi_moves.proofs.LegalLaws.{pieces_first}
-use Rattle.shogi_moves.proofs.TallyLaws.{piece_counted, board_counted}
+use Rattle.std.proofs.Common.{arith}
+use Rattle.shogi_moves.proofs.TallyLaws.{all_left, board_counted, high_left, low_counted, low_own, piece_counted}
 use Rattle.shogi_moves.proofs.count.count_board.Goals as goal
 
-pub legal_by_marks-destinations-requires-clause-among : goal.legal_by_marks-destinations-requires-clause-among
-legal_by_marks-destinations-requires-clause-among c = rw c.without-among.ensures (λ n h. all_ways c.targets.result.bits (2 ^ 128 - 1 - c.own-own.result.bits) n _ _ (rw c.as_board-board.ensures at c.targets.ensures.squares n h) (entering c.own-own.result.bits n _ c.own-own.result.fits h ((rw (c.side-side.ensures, c.as_board-board.ensures) at c.own-own.ensures.squares) n h)))
+pub low-init : goal.low-init
+low-init c = all_left c.args.known.now.position.now c.own-own.result.bits c.low_half-low.result c.bits_from-high.result c.low_half-low.type_inv (rw (c.side-side.ensures, c.as_board.ensures) at c.own-own.ensures.squares) c.low_half-low.ensures c.bits_from-high.ensures.below (λ n h over. c.bits_from-high.ensures.from n h over)
 
-pub pieces-init : goal.pieces-init
-pieces-init c = record {
-  counted = record {
-    first = 0;
-    pieces = pieces_first c.args.known.now.position.now c.own-own.result.bits (rw (c.side-side.ensures, c.as_board-board.ensures) at c.own-own.ensures.squares);
-    whole = omega arith;
-    range = omega arith;
-  };
-  fits = c.own-own.result.fits;
+pub all_by_marks-requires-clause-own : goal.all_by_marks-requires-clause-own
+all_by_marks-requires-clause-own c = rw c.of_index-from.ensures (low_own c.args.known.now.position.now c.low.low c.bits_from-high.result c.low.total c.lowest-square.result (omega arith) c.bits_from-high.ensures.below c.low.invariant c.lowest-square.ensures.range c.lowest-square.ensures.set c.lowest-square.ensures.least)
+
+pub low-preserved : goal.low-preserved
+low-preserved c = rw c.count_of-total.ensures (low_counted c.args.known.now.position.now c.low.low c.bits_from-high.result c.without_lowest-low.result c.low.total c.lowest-square.result c.all_by_marks.result.plain.bits c.all_by_marks.result.promoting.bits (omega arith) c.bits_from-high.ensures.below c.low.invariant c.lowest-square.ensures.range c.lowest-square.ensures.set c.lowest-square.ensures.least c.without_lowest-low.ensures.bits
+    c.all_by_marks.result.plain.fits c.all_by_marks.result.promoting.fits (rw c.of_index-from.ensures at c.all_by_marks.ensures.plain) (rw c.of_index-from.ensures at c.all_by_marks.ensures.promoting))
+
+pub high-init : goal.high-init
+high-init c = record {
+  counted = high_left c.args.known.now.position.now c.low.low c.bits_from-high.result c.low.total (omega (arith, c.low-test.false)) c.low.invariant;
+  fits = c.bits_from-high.ensures.fits;
 }
 
-pub pieces-preserved : goal.pieces-preserved
-pieces-preserved c = record {
-  counted = piece_counted c.args.known.now.position.now c.pieces.left c.without_lowest-left.result c.pieces.total c.lowest-square.result c.legal_by_marks-destinations.result.plain.bits c.legal_by_marks-destinations.result.promoting.bits c.pieces.invariant.counted c.lowest-square.ensures.range c.lowest-square.ensures.set c.lowest-square.ensures.least c.without_lowest-left.ensures.bits
-      c.legal_by_marks-destinations.result.plain.fits c.legal_by_marks-destinations.result.promoting.fits
-      (all_destinations c.args.known.now.position.now false c.lowest-square.result c.targets.result.bits (2 ^ 128 - 1 - c.own-own.result.bits) c.legal_by_marks-destinations.result.plain.bits c.lowest-square.ensures.range (rw (c.of_index-from.ensures, c.as_board-board.ensures) at c.targets.ensures.squares) (λ n h. entering c.own-own.result.bits n _ c.own-own.result.fits h ((rw (c.side-side.ensures, c.as_board-board.ensures) at c.own-own.ensures.squares) n h)) (rw (c.of_index-from.ensures, c.without-among.ensures) at c.legal_by_marks-destinations.ensures.plain))
-      (all_destinations c.args.known.now.position.now true c.lowest-square.result c.targets.result.bits (2 ^ 128 - 1 - c.own-own.result.bits) c.legal_by_marks-destinations.result.promoting.bits c.lowest-square.ensures.range (rw (c.of_index-from.ensures, c.as_board-board.ensures) at c.targets.ensures.squares) (λ n h. entering c.own-own.result.bits n _ c.own-own.result.fits h ((rw (c.side-side.ensures, c.as_board-board.ensures) at c.own-own.ensures.squares) n h)) (rw (c.of_index-from.ensures, c.without-among.ensures) at c.legal_by_marks-destinations.ensures.promoting));
-  fits = omega (arith, c.without_lowest-left.ensures.less, c.pieces.invariant.fits);
+pub high-preserved : goal.high-preserved
+high-preserved c = record {
+  counted = rw c.count_of-total-in-high.ensures (piece_counted c.args.known.now.position.now c.high.left c.without_lowest-left.result c.high.total c.lowest-square-in-high.result c.all_by_marks-in-high.result.plain.bits c.all_by_marks-in-high.result.promoting.bits c.high.invariant.counted c.lowest-square-in-high.ensures.range c.lowest-square-in-high.ensures.set c.lowest-square-in-high.ensures.least c.without_lowest-left.ensures.bits
+      c.all_by_marks-in-high.result.plain.fits c.all_by_marks-in-high.result.promoting.fits (rw c.of_index-from-in-high.ensures at c.all_by_marks-in-high.ensures.plain) (rw c.of_index-from-in-high.ensures at c.all_by_marks-in-high.ensures.promoting));
+  fits = omega (arith, c.without_lowest-left.ensures.less, c.high.invariant.fits);
 }
 
 pub returns-clause-count : goal.returns-clause-count
-returns-clause-count c = (board_counted c.args.known.now.position.now c.pieces.left c.pieces.total c.pieces.invariant.counted (omega (arith, c.pieces-test.false))).0
+returns-clause-count c = (board_counted c.args.known.now.position.now c.high.left c.high.total c.high.invariant.counted (omega (arith, c.high-test.false))).0
 
 pub returns-clause-range : goal.returns-clause-range
-returns-clause-range c = (board_counted c.args.known.now.position.now c.pieces.left c.pieces.total c.pieces.invariant.counted (omega (arith, c.pieces-test.false))).1
+returns-clause-range c = (board_counted c.args.known.now.position.now c.high.left c.high.total c.high.invariant.counted (omega (arith, c.high-test.false))).1

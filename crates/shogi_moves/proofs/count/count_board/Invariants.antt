@@ -1,12 +1,18 @@
-use Rattle.std.proofs.Common.{◌<◌, ◌^◌}
+use Rattle.std.proofs.Common.{◌<◌, ◌^◌, bit_or}
 use Rattle.shogi_moves.proofs.TallyLaws.{IsCounted}
 use Rattle.shogi_moves.proofs.count.count_board.Given as goal
 
-abbrev pub invariant-pieces : goal.invariant-pieces
-invariant-pieces l = record {
+abbrev pub invariant-low : goal.invariant-low
+invariant-low l = IsCounted l.known.position.now (bit_or l.low l.high) l.total
+
+abbrev pub decreases-low : goal.decreases-low
+decreases-low l = l.low
+
+abbrev pub invariant-high : goal.invariant-high
+invariant-high l = record {
   counted : IsCounted l.known.position.now l.left l.total;
   fits : l.left < 2 ^ 81;
 }
 
-abbrev pub decreases-pieces : goal.decreases-pieces
-decreases-pieces l = l.left
+abbrev pub decreases-high : goal.decreases-high
+decreases-high l = l.left

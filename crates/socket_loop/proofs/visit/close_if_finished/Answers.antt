@@ -6,8 +6,8 @@ use Rattle.socket_loop.proofs.Calls.{visits_closing}
 use Rattle.socket_loop.proofs.Each.{visit_none}
 use Rattle.socket_loop.proofs.visit.close_if_finished.Goals as goal
 
-pub returns-then-connection-clause-ends : goal.returns-then-connection-clause-ends
-returns-then-connection-clause-ends g c = record { visited = visit_none _ _ _ _ (search rules); carries = λ marks marked. carries_by_same _ _ _ _ _ _ }
+pub returns-then-held-clause-ends : goal.returns-then-held-clause-ends
+returns-then-held-clause-ends g c = record { visited = visit_none _ _ _ _ (search rules); carries = λ marks marked. carries_by_same _ _ _ _ _ _ }
 
 pub returns-clause-ends : goal.returns-clause-ends
 returns-clause-ends g c = record {
@@ -17,5 +17,5 @@ returns-clause-ends g c = record {
     quiet = search rules;
     stirs = search rules;
   };
-  carries = λ marks marked. carries_by_finished marks _ c.args.connection.now.link _ _ _ _ c.args.connection.now.has_ended marked (search rules) c.shut_down.ensures.shuts c.shut_down.ensures.closed;
+  carries = λ marks marked. carries_by_finished marks _ c.args.held.now.link _ _ _ _ c.args.held.now.has_ended marked (search rules) c.shut_down.ensures.shuts c.shut_down.ensures.closed;
 }

@@ -8,7 +8,7 @@ use Rattle.usi_serve.proofs.Waits.{in_time}
 use Rattle.usi_serve.proofs.serving.serve.Goals as goal
 
 pub loop-init : goal.loop-init
-loop-init g c = record { so_far = turns_none c.args.connections.now.slice _; fits = c.requires.fits; slice = search rules }
+loop-init g c = record { so_far = turns_none c.args.links.now.slice _; fits = c.requires.fits; slice = search rules }
 
 pub loop-preserved : goal.loop-preserved
 loop-preserved g c = record {
@@ -36,7 +36,7 @@ loop-preserved g c = record {
 pub returns-in_err-wait-clause-all : goal.returns-in_err-wait-clause-all
 returns-in_err-wait-clause-all g c =
     let middle = scene g.W.Wire c.turn-turn.new.self.held c.turn-turn.new.wire c.turn-turn.new.host in
-    let turn : IsTurnTo c.args.connections.now.slice (scene g.W.Wire c.loop.connections.held c.loop.wire c.loop.host) middle =
+    let turn : IsTurnTo c.args.links.now.slice (scene g.W.Wire c.loop.links.held c.loop.wire c.loop.host) middle =
     record {
       moved = c.turn-turn.result.moved;
       tally = c.turn-turn.result.tally;

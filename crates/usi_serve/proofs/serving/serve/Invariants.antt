@@ -8,9 +8,9 @@ use Rattle.usi_serve.proofs.serving.serve.Given as goal
 -- so many turns so far, each with a wait after it
 abbrev pub invariant-loop : goal.invariant-loop
 invariant-loop g l = record {
-  so_far : AreTurns l.fn.connections.slice l.counter
-      (scene g.W.Wire l.fn.connections.held l.fn.wire l.fn.host)
-      (scene g.W.Wire l.connections.held l.wire l.host);
-  fits : Fits (links_of l.connections.held) (g.W.Wire.bound l.wire) l.host;
-  slice : l.connections.slice ≡ l.fn.connections.slice;
+  so_far : AreTurns l.fn.links.slice l.counter
+      (scene g.W.Wire l.fn.links.held l.fn.wire l.fn.host)
+      (scene g.W.Wire l.links.held l.wire l.host);
+  fits : Fits (links_of l.links.held) (g.W.Wire.bound l.wire) l.host;
+  slice : l.links.slice ≡ l.fn.links.slice;
 }

@@ -1,5 +1,6 @@
-use Rattle.std.proofs.Common.{rules}
-use Rattle.usi_stdio.proofs.Lining.{lines_start, lines_more, lines_over, lines_prefix}
+use Rattle.std.proofs.Common.{arith, rules}
+use Rattle.std.proofs.lemmas.Grind.{common_steps}
+use Rattle.usi_stdio.proofs.Lining.{both_answers, in_full, lines_done, lines_start, lines_more, lines_over, lines_prefix, said_due}
 use Rattle.usi_stdio.proofs.Working.{passed_on}
 use Rattle.usi_stdio.proofs.streams.answer_chunk.Goals as goal
 
@@ -13,8 +14,18 @@ returns-in_err-answer_line-clause-err g c =
 
 -- one line more
 pub lines-preserved : goal.lines-preserved
-lines-preserved g c = lines_more _ c.lines.session _ _ _ _ _ _ _ _ c.lines.invariant c.cut_line.ensures.whole c.in_ok-answer_line.ensures.ok
+lines-preserved g c = lines_more _ c.lines.session _ _ _ _ _ _ _ _ c.lines.invariant c.cut_line.ensures.whole (both_answers _ _ _ _ _ c.in_ok-answer_line.ensures.ok c.in_ok-answer_line.ensures.answered)
 
 -- the session is over
 pub returns-else-not-is_over-clause-ok : goal.returns-else-not-is_over-clause-ok
-returns-else-not-is_over-clause-ok g c = lines_over _ c.lines.session _ _ _ _ c.lines.invariant (search rules)
+returns-else-not-is_over-clause-ok g c = said_due _ _ _ _ _ (lines_over _ c.lines.session _ _ _ _ c.lines.invariant (search rules))
+
+pub returns-else-not-is_over-clause-answered : goal.returns-else-not-is_over-clause-answered
+returns-else-not-is_over-clause-answered g c = in_full _ _ _ _ _ (lines_over _ c.lines.session _ _ _ _ c.lines.invariant (search rules))
+
+-- no line is left
+pub returns-after-lines-clause-ok : goal.returns-after-lines-clause-ok
+returns-after-lines-clause-ok g c = said_due _ _ _ _ _ (lines_done _ c.lines.session _ _ _ _ c.lines.invariant (first_of (search rules, grind (arith, common_steps))))
+
+pub returns-after-lines-clause-answered : goal.returns-after-lines-clause-answered
+returns-after-lines-clause-answered g c = in_full _ _ _ _ _ (lines_done _ c.lines.session _ _ _ _ c.lines.invariant (first_of (search rules, grind (arith, common_steps))))

@@ -1,6 +1,7 @@
 use Rattle.std.proofs.Common.{refl, sym, ◌∙◌, ap, take, arith, rules}
 use Rattle.std.proofs.lemmas.Grind.{common_steps}
 use Rattle.usi_stdio.proofs.Between.{left_start, between_start, read_more, left_failed, talks_failed, left_many, talks_many, served_at_end, talks_at_end, between_more, served_over, talks_over, left_chunk, talks_chunk, talks_passed}
+use Rattle.usi_stdio.proofs.Lining.{both_answers}
 use Rattle.usi_stdio.proofs.Working.{on_err}
 use Rattle.usi_stdio.proofs.streams.stdio.Goals as goal
 
@@ -39,16 +40,16 @@ returns-in_err-answer_chunk-clause-calls g c =
 -- the session is over
 pub returns-then-is_over-clause-ok : goal.returns-then-is_over-clause-ok
 returns-then-is_over-clause-ok g c =
-    served_over (g.T.FrontEnd.report c.args.front_end.now) (g.T.FrontEnd.report c.read.new.self) (g.T.FrontEnd.report c.answer_chunk.new.front_end) c.chunks.session c.answer_chunk.new.session c.chunks._reads c.split_at.result.0.now (read_more (g.T.FrontEnd.report c.args.front_end.now) (g.T.FrontEnd.report c.chunks.front_end) (g.T.FrontEnd.report c.read.new.self) c.chunks.session c.chunks._reads c.in-Ok.n c.read.new.buf c.split_at.result.0.now c.chunks.invariant c.in-Ok.ensures c.split_at.ensures.front) c.in_ok-answer_chunk.ensures.ok (sym c.is_over.ensures ∙ c.if-is_over.true) (first_of (search rules, omega arith, grind (arith, common_steps)))
+    served_over (g.T.FrontEnd.report c.args.front_end.now) (g.T.FrontEnd.report c.read.new.self) (g.T.FrontEnd.report c.answer_chunk.new.front_end) c.chunks.session c.answer_chunk.new.session c.chunks._reads c.split_at.result.0.now (read_more (g.T.FrontEnd.report c.args.front_end.now) (g.T.FrontEnd.report c.chunks.front_end) (g.T.FrontEnd.report c.read.new.self) c.chunks.session c.chunks._reads c.in-Ok.n c.read.new.buf c.split_at.result.0.now c.chunks.invariant c.in-Ok.ensures c.split_at.ensures.front) (both_answers _ _ _ _ _ c.in_ok-answer_chunk.ensures.ok c.in_ok-answer_chunk.ensures.answered) (sym c.is_over.ensures ∙ c.if-is_over.true) (first_of (search rules, omega arith, grind (arith, common_steps)))
 
 pub returns-then-is_over-clause-calls : goal.returns-then-is_over-clause-calls
 returns-then-is_over-clause-calls g c =
-    talks_over (g.T.FrontEnd.report c.args.front_end.now) (g.T.FrontEnd.report c.read.new.self) (g.T.FrontEnd.report c.answer_chunk.new.front_end) c.chunks.session c.answer_chunk.new.session c.chunks._reads c.split_at.result.0.now _ (read_more (g.T.FrontEnd.report c.args.front_end.now) (g.T.FrontEnd.report c.chunks.front_end) (g.T.FrontEnd.report c.read.new.self) c.chunks.session c.chunks._reads c.in-Ok.n c.read.new.buf c.split_at.result.0.now c.chunks.invariant c.in-Ok.ensures c.split_at.ensures.front) (first_of (search rules, omega arith, grind (arith, common_steps))) c.in_ok-answer_chunk.ensures.ok (sym c.is_over.ensures ∙ c.if-is_over.true)
+    talks_over (g.T.FrontEnd.report c.args.front_end.now) (g.T.FrontEnd.report c.read.new.self) (g.T.FrontEnd.report c.answer_chunk.new.front_end) c.chunks.session c.answer_chunk.new.session c.chunks._reads c.split_at.result.0.now _ (read_more (g.T.FrontEnd.report c.args.front_end.now) (g.T.FrontEnd.report c.chunks.front_end) (g.T.FrontEnd.report c.read.new.self) c.chunks.session c.chunks._reads c.in-Ok.n c.read.new.buf c.split_at.result.0.now c.chunks.invariant c.in-Ok.ensures c.split_at.ensures.front) (first_of (search rules, omega arith, grind (arith, common_steps))) (both_answers _ _ _ _ _ c.in_ok-answer_chunk.ensures.ok c.in_ok-answer_chunk.ensures.answered) (sym c.is_over.ensures ∙ c.if-is_over.true)
 
 -- one chunk more
 pub chunks-preserved : goal.chunks-preserved
 chunks-preserved g c =
-    between_more (g.T.FrontEnd.report c.args.front_end.now) (g.T.FrontEnd.report c.read.new.self) (g.T.FrontEnd.report c.answer_chunk.new.front_end) c.chunks.session c.answer_chunk.new.session c.chunks._reads c.split_at.result.0.now (read_more (g.T.FrontEnd.report c.args.front_end.now) (g.T.FrontEnd.report c.chunks.front_end) (g.T.FrontEnd.report c.read.new.self) c.chunks.session c.chunks._reads c.in-Ok.n c.read.new.buf c.split_at.result.0.now c.chunks.invariant c.in-Ok.ensures c.split_at.ensures.front) (first_of (search rules, omega arith, grind (arith, common_steps))) c.in_ok-answer_chunk.ensures.ok (sym c.is_over.ensures ∙ c.if-is_over.false)
+    between_more (g.T.FrontEnd.report c.args.front_end.now) (g.T.FrontEnd.report c.read.new.self) (g.T.FrontEnd.report c.answer_chunk.new.front_end) c.chunks.session c.answer_chunk.new.session c.chunks._reads c.split_at.result.0.now (read_more (g.T.FrontEnd.report c.args.front_end.now) (g.T.FrontEnd.report c.chunks.front_end) (g.T.FrontEnd.report c.read.new.self) c.chunks.session c.chunks._reads c.in-Ok.n c.read.new.buf c.split_at.result.0.now c.chunks.invariant c.in-Ok.ensures c.split_at.ensures.front) (first_of (search rules, omega arith, grind (arith, common_steps))) (both_answers _ _ _ _ _ c.in_ok-answer_chunk.ensures.ok c.in_ok-answer_chunk.ensures.answered) (sym c.is_over.ensures ∙ c.if-is_over.false)
 
 -- the greatest number of reads was made
 pub returns-clause-err : goal.returns-clause-err

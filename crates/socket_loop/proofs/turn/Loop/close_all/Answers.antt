@@ -18,7 +18,7 @@ loop-connection-init g c =
 
 pub loop-connection-preserved : goal.loop-connection-preserved
 loop-connection-preserved g c = record {
-  visits = visits_next c.loop-connection.connection-index ends_of IsEnd c.loop-connection.moved _ (scene g.W.Wire c.args.self.now.held c.args.wire.now c.args.host.now) (scene g.W.Wire c.loop-connection.connection-items c.loop-connection.wire c.loop-connection.host) (scene g.W.Wire [] c.close_if_finished-has_moved.new.wire c.close_if_finished-has_moved.new.host) c.close_if_finished-has_moved.new.connection _ (search rules) c.loop-connection.invariant.visits
+  visits = visits_next c.loop-connection.connection-index ends_of IsEnd c.loop-connection.moved _ (scene g.W.Wire c.args.self.now.held c.args.wire.now c.args.host.now) (scene g.W.Wire c.loop-connection.connection-items c.loop-connection.wire c.loop-connection.host) (scene g.W.Wire [] c.close_if_finished-has_moved.new.wire c.close_if_finished-has_moved.new.host) c.close_if_finished-has_moved.new.held _ (search rules) c.loop-connection.invariant.visits
       c.loop-connection.invariant.carries.carries.all (c.close_if_finished-has_moved.ensures.ends.carries c.args.self.now.held (λ e. c.loop-connection.invariant.ended _ (marked_at reads_ended c.loop-connection.connection-items c.loop-connection.connection-index _ (search rules) e))).carries.all c.close_if_finished-has_moved.ensures.ends.visited (λ e. inl (sym c.close_if_finished-has_moved.ensures.ended ∙ e))
       (visit_ends c.loop-connection.host c.close_if_finished-has_moved.new.host _ _ c.close_if_finished-has_moved.ensures.ends.visited.visit.link c.close_if_finished-has_moved.ensures.ends.visited.visit.made c.close_if_finished-has_moved.ensures.ended c.close_if_finished-has_moved.ensures.ends.visited.visit.closed (λ e. c.close_if_finished-has_moved.ensures.shuts (c.close_if_finished-has_moved.ensures.finished ∙ e)) (λ e. (c.close_if_finished-has_moved.ensures.ends.visited.quiet (c.close_if_finished-has_moved.ensures.finished ∙ e)).1));
   carries = carries_by_next IsEnd c.args.self.now.held _ c.loop-connection.connection-items _ c.loop-connection.connection-index _ _ _ _ _ _ _ (search rules) c.loop-connection.invariant.visits.links c.loop-connection.invariant.carries (rw c.loop-connection.invariant.visits.bound at (c.close_if_finished-has_moved.ensures.ends.carries c.args.self.now.held (λ e. c.loop-connection.invariant.ended _ (marked_at reads_ended c.loop-connection.connection-items c.loop-connection.connection-index _ (search rules) e))));
@@ -28,8 +28,8 @@ loop-connection-preserved g c = record {
   few = omega arith;
 }
 
-pub returns-clause-each : goal.returns-clause-each
-returns-clause-each g c = record {
+pub returns-clause-all : goal.returns-clause-all
+returns-clause-all g c = record {
   slice = search rules;
   scenes = record {
     visited = visits_end c.loop-connection.connection-index c.self.inside.held.len ends_of IsEnd c.loop-connection.moved (scene g.W.Wire c.args.self.now.held c.args.wire.now c.args.host.now) (scene g.W.Wire c.loop-connection.connection-items c.loop-connection.wire c.loop-connection.host) (drop (length c.loop-connection.connection-items) c.self.inside.held.items) (search rules) (search rules) c.loop-connection.invariant.visits;

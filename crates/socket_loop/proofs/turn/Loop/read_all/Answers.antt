@@ -15,7 +15,7 @@ loop-connection-init g c =
 
 pub loop-connection-preserved : goal.loop-connection-preserved
 loop-connection-preserved g c = record {
-  visits = visits_next c.loop-connection.connection-index reads_of IsInput c.loop-connection.moved _ (scene g.W.Wire c.args.self.now.held c.args.wire.now c.args.host.now) (scene g.W.Wire c.loop-connection.connection-items c.loop-connection.wire c.loop-connection.host) (scene g.W.Wire [] c.read_from-has_moved.new.wire c.read_from-has_moved.new.host) c.read_from-has_moved.new.connection _ (search rules) c.loop-connection.invariant.visits
+  visits = visits_next c.loop-connection.connection-index reads_of IsInput c.loop-connection.moved _ (scene g.W.Wire c.args.self.now.held c.args.wire.now c.args.host.now) (scene g.W.Wire c.loop-connection.connection-items c.loop-connection.wire c.loop-connection.host) (scene g.W.Wire [] c.read_from-has_moved.new.wire c.read_from-has_moved.new.host) c.read_from-has_moved.new.held _ (search rules) c.loop-connection.invariant.visits
       (c.loop-connection.invariant.carries []).carries.all (c.read_from-has_moved.ensures.reads.carries []).carries.all c.read_from-has_moved.ensures.reads.visited c.read_from-has_moved.ensures.ended
       (visit_reads c.loop-connection.host c.read_from-has_moved.new.host _ _ c.read_from-has_moved.ensures.reads.visited.visit.link c.read_from-has_moved.ensures.reads.visited.visit.made c.read_from-has_moved.ensures.reads.visited.visit.closed (λ e. (c.read_from-has_moved.ensures.reads.visited.quiet (c.read_from-has_moved.ensures.still e)).1));
   carries = λ marks. carries_by_next IsInput marks _ c.loop-connection.connection-items _ c.loop-connection.connection-index _ _ _ _ _ _ _ (search rules) c.loop-connection.invariant.visits.links (c.loop-connection.invariant.carries marks) (rw c.loop-connection.invariant.visits.bound at c.read_from-has_moved.ensures.reads.carries marks);
@@ -23,8 +23,8 @@ loop-connection-preserved g c = record {
   few = omega arith;
 }
 
-pub returns-clause-each : goal.returns-clause-each
-returns-clause-each g c = record {
+pub returns-clause-all : goal.returns-clause-all
+returns-clause-all g c = record {
   slice = search rules;
   scenes = record {
     visited = visits_end c.loop-connection.connection-index c.self.inside.held.len reads_of IsInput c.loop-connection.moved (scene g.W.Wire c.args.self.now.held c.args.wire.now c.args.host.now) (scene g.W.Wire c.loop-connection.connection-items c.loop-connection.wire c.loop-connection.host) (drop (length c.loop-connection.connection-items) c.self.inside.held.items) (search rules) (search rules) c.loop-connection.invariant.visits;

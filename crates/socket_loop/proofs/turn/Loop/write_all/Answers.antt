@@ -15,7 +15,7 @@ loop-connection-init g c =
 
 pub loop-connection-preserved : goal.loop-connection-preserved
 loop-connection-preserved g c = record {
-  visits = visits_next c.loop-connection.connection-index writes_of IsOutput c.loop-connection.moved _ (scene g.W.Wire c.args.self.now.held c.args.wire.now c.args.host.now) (scene g.W.Wire c.loop-connection.connection-items c.loop-connection.wire c.loop-connection.host) (scene g.W.Wire [] c.write_to-has_moved.new.wire c.write_to-has_moved.new.host) c.write_to-has_moved.new.connection _ (search rules) c.loop-connection.invariant.visits
+  visits = visits_next c.loop-connection.connection-index writes_of IsOutput c.loop-connection.moved _ (scene g.W.Wire c.args.self.now.held c.args.wire.now c.args.host.now) (scene g.W.Wire c.loop-connection.connection-items c.loop-connection.wire c.loop-connection.host) (scene g.W.Wire [] c.write_to-has_moved.new.wire c.write_to-has_moved.new.host) c.write_to-has_moved.new.held _ (search rules) c.loop-connection.invariant.visits
       (c.loop-connection.invariant.carries []).carries.all (c.write_to-has_moved.ensures.writes.carries []).carries.all c.write_to-has_moved.ensures.writes.visited (λ e. inl (sym c.write_to-has_moved.ensures.ended ∙ e))
       (visit_writes c.loop-connection.host c.write_to-has_moved.new.host _ _ c.write_to-has_moved.ensures.writes.visited.visit.link c.write_to-has_moved.ensures.writes.visited.visit.made c.write_to-has_moved.ensures.ended c.write_to-has_moved.ensures.writes.visited.visit.closed (λ e. (c.write_to-has_moved.ensures.writes.visited.quiet (c.write_to-has_moved.ensures.still e)).1));
   carries = λ marks. carries_by_next IsOutput marks _ c.loop-connection.connection-items _ c.loop-connection.connection-index _ _ _ _ _ _ _ (search rules) c.loop-connection.invariant.visits.links (c.loop-connection.invariant.carries marks) (rw c.loop-connection.invariant.visits.bound at c.write_to-has_moved.ensures.writes.carries marks);
@@ -23,8 +23,8 @@ loop-connection-preserved g c = record {
   few = omega arith;
 }
 
-pub returns-clause-each : goal.returns-clause-each
-returns-clause-each g c = record {
+pub returns-clause-all : goal.returns-clause-all
+returns-clause-all g c = record {
   slice = search rules;
   scenes = record {
     visited = visits_end c.loop-connection.connection-index c.self.inside.held.len writes_of IsOutput c.loop-connection.moved (scene g.W.Wire c.args.self.now.held c.args.wire.now c.args.host.now) (scene g.W.Wire c.loop-connection.connection-items c.loop-connection.wire c.loop-connection.host) (drop (length c.loop-connection.connection-items) c.self.inside.held.items) (search rules) (search rules) c.loop-connection.invariant.visits;
