@@ -1,23 +1,30 @@
 -- The table of squares on lines holds those to which lines lead in any direction.
-use Rattle.std.proofs.Common.{◌≡◌, ℕ, ◌<◌, ◌^◌, Bool, true, refl, ap, ◌∙◌, subst, sym, get_or}
-use Rattle.std.specs.Prelude.{◌==◌}
-use Rattle.std.proofs.lemmas.Bool.{agree_below_at, eqb-true}
-use Rattle.shogi_core.specs.Below.{some_below, all_below}
+use Rattle.std.proofs.Common.{◌≡◌, ℕ, ◌<◌, ◌%◌, ◌^◌, refl, ap, ◌∙◌, subst, sym, get_or, map, []}
+use Rattle.std.specs.List.{range_with_len}
+use Rattle.shogi_core.specs.Below.{all_below}
 use Rattle.shogi_core.specs.Bits.{has_bit, mask_below}
-use Rattle.shogi_core.specs.Lines.{are_aligned, are_lined}
-use Rattle.shogi_core.specs.Movement.{away}
+use Rattle.shogi_core.specs.Lines.{around, are_aligned, are_lined}
+use Rattle.shogi_core.specs.Movement.{away, slides}
 use Rattle.shogi_core.specs.declared.line_table.TheConstants.{ALIGNED}
 use Rattle.shogi_core.proofs.BitLaws.{has_bit-mask, mask_fits}
+use Rattle.shogi_core.proofs.TableBits.{entry_at, mask_is, some_bits, has_bit-some, line_bits, has_bit-line}
 
-abbrev is_right_at : ℕ → Bool
-is_right_at i = get_or ALIGNED i 0 == mask_below 81 (are_aligned i)
+-- the bits of the lines in all directions
+abbrev line_bits_around : ℕ → ℕ
+line_bits_around a = some_bits (λ o. line_bits o a 8) around
 
-right_at : (i : ℕ) → i < 81 → is_right_at i ≡ true
-unfolding mask_below some_below all_below away are_lined
-right_at i h = agree_below_at is_right_at (λ _. true) 81 i refl h
+-- the entry of each index
+abbrev entry : ℕ → ℕ
+entry a = line_bits_around a % 2 ^ 81
+
+entries : ALIGNED ≡ map entry (range_with_len 0 81)
+unfolding some_bits line_bits all_below away
+entries = refl
 
 aligned_right : (a : ℕ) → a < 81 → get_or ALIGNED a 0 ≡ mask_below 81 (are_aligned a)
-aligned_right a h = eqb-true _ _ (right_at a h)
+unfolding are_lined
+aligned_right a h = entry_at ALIGNED entry 81 a entries h ∙ mask_is (line_bits_around a) (are_aligned a) (λ b.
+    has_bit-some (λ o. line_bits o a 8) (λ o. slides [] o a b) around b (λ o. has_bit-line o a 8 b))
 
 pub aligned_bits : (a b : ℕ) → a < 81 → b < 81 → has_bit (get_or ALIGNED a 0) b ≡ are_aligned a b
 aligned_bits a b h l = ap (λ (m : ℕ). has_bit m b) (aligned_right a h) ∙ has_bit-mask 81 (are_aligned a) b l

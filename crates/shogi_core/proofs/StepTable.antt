@@ -1,15 +1,16 @@
 -- The table of steps holds the squares to which they lead.
-use Rattle.std.proofs.Common.{◌≡◌, ℕ, ◌+◌, ◌*◌, ◌/◌, ◌%◌, ◌^◌, ◌<◌, Bool, true, refl, ◌∙◌, arith, get_or, List}
+use Rattle.std.proofs.Common.{◌≡◌, ℕ, ◌+◌, ◌*◌, ◌/◌, ◌%◌, ◌^◌, ◌<◌, refl, ◌∙◌, arith, get_or, map, List}
 use Rattle.std.specs.Prelude.{◌==◌, cond}
-use Rattle.std.proofs.lemmas.Bool.{agree_below_at, eqb-true}
+use Rattle.std.specs.List.{range_with_len}
 use Rattle.shogi_core.specs.declared.offset.Offset.{Offset}
 use Rattle.shogi_core.specs.declared.piece.Color.{Color}
 use Rattle.shogi_core.specs.declared.piece.Color.TheVariants.{Black, White}
 use Rattle.shogi_core.specs.Bits.{mask_below, has_bit}
-use Rattle.shogi_core.specs.Movement.{away}
+use Rattle.shogi_core.specs.Movement.{away, leads, for_side}
 use Rattle.shogi_core.proofs.BitLaws.{has_bit-mask, mask_fits}
 use Rattle.shogi_core.specs.Steps.{steps_at, color_number, is_step}
 use Rattle.shogi_core.specs.declared.step_table.TheConstants.{STEPS}
+use Rattle.shogi_core.proofs.TableBits.{entry_at, mask_is, bit_of, has_bit-of, some_bits, has_bit-some}
 
 -- the side of a number
 abbrev color_at : ℕ → Color
@@ -19,12 +20,20 @@ color_at n = cond (n == 0) Black White
 unfoldable pub steps_mask : Color → List Offset → ℕ → ℕ
 steps_mask color os a = mask_below 81 (is_step color os a)
 
-abbrev is_right_at : ℕ → Bool
-is_right_at i = get_or STEPS i 0 == steps_mask (color_at (i / 81 % 2)) (steps_at (i / 162)) (i % 81)
+-- the bits of those squares
+abbrev step_bits : Color → List Offset → ℕ → ℕ
+step_bits color os a = some_bits (λ o. bit_of (away 1 (for_side color o) a)) os
 
-right_at : (i : ℕ) → i < 1296 → is_right_at i ≡ true
-unfolding steps_mask mask_below away
-right_at i h = agree_below_at is_right_at (λ _. true) 1296 i refl h
+has_bit-step_bits : (color : Color) (os : List Offset) (a b : ℕ) → has_bit (step_bits color os a) b ≡ is_step color os a b
+has_bit-step_bits color os a b = has_bit-some (λ o. bit_of (away 1 (for_side color o) a)) (λ o. leads 1 (for_side color o) a b) os b (λ o. has_bit-of (away 1 (for_side color o) a) b)
+
+-- the entry of each index
+abbrev entry : ℕ → ℕ
+entry i = step_bits (color_at (i / 81 % 2)) (steps_at (i / 162)) (i % 81) % 2 ^ 81
+
+entries : STEPS ≡ map entry (range_with_len 0 1296)
+unfolding some_bits away
+entries = refl
 
 color_back : (color : Color) → color_at (color_number color) ≡ color
 color_back Black = refl
@@ -35,13 +44,13 @@ color_below Black = omega arith
 color_below White = omega arith
 
 pub steps_right : (k a : ℕ) (color : Color) (os : List Offset) → steps_at k ≡ os → k < 8 → a < 81 → get_or STEPS ((k * 2 + color_number color) * 81 + a) 0 ≡ steps_mask color os a
+unfolding steps_mask
 steps_right k a color os e h l =
     let low : color_number color < 2 = color_below color in
-    let i : ℕ = (k * 2 + color_number color) * 81 + a in
     let one : ((k * 2 + color_number color) * 81 + a) / 81 % 2 ≡ color_number color = omega arith in
     let two : ((k * 2 + color_number color) * 81 + a) / 162 ≡ k = omega arith in
     let three : ((k * 2 + color_number color) * 81 + a) % 81 ≡ a = omega arith in
-    eqb-true _ _ (right_at ((k * 2 + color_number color) * 81 + a) (omega arith)) ∙ rw (one, two, three, color_back color, e) refl
+    entry_at STEPS entry 1296 ((k * 2 + color_number color) * 81 + a) entries (omega arith) ∙ (rw (one, two, three, color_back color, e) (mask_is (step_bits color os a) (is_step color os a) (has_bit-step_bits color os a)))
 
 pub has_bit-steps : (color : Color) (os : List Offset) (a b : ℕ) → b < 81 → has_bit (steps_mask color os a) b ≡ is_step color os a b
 unfolding steps_mask

@@ -1,10 +1,12 @@
 -- Sets of squares as masks of 81 bits: bit n is the square of index n (own choice).
-use Rattle.std.specs.Prelude.{ℕ, Bool, false, Option, Some, None}
+use Rattle.std.specs.Prelude.{◌≡◌, ℕ, Bool, false, List, length, Option, Some, None}
 use Rattle.shogi_core.specs.declared.piece.Color.{Color}
+use Rattle.shogi_core.specs.declared.piece.Color.TheVariants.{Black, White}
 use Rattle.shogi_core.specs.Bits.{mask_below}
 use Rattle.shogi_core.specs.Cell.{is_piece_of, is_king_role, is_slider}
 use Rattle.shogi_core.specs.Movement.{Cells, piece_at}
 use Rattle.shogi_core.specs.declared.piece.Piece.{Piece}
+use Rattle.shogi_core.specs.Words.{board_words}
 
 -- what stands on the square passes the test
 abbrev pub passes : (Option Piece → Bool) → Cells → ℕ → Bool
@@ -30,3 +32,9 @@ kings_of cells = places_of is_any_king cells
 -- the squares on which pieces stand that slide
 abbrev pub sliders_of : Cells → ℕ
 sliders_of cells = places_of is_slider cells
+
+-- there are 81 cells, and these are the masks and the words that a board keeps of them
+abbrev pub IsBoard : Cells → ℕ → ℕ → ℕ → ℕ → List ℕ → Type 0
+IsBoard cells black white kings sliders words =
+    (length cells ≡ 81) × (black ≡ own_of cells Black) × (white ≡ own_of cells White)
+    × (kings ≡ kings_of cells) × (sliders ≡ sliders_of cells) × (words ≡ board_words cells)

@@ -13,7 +13,9 @@ use crate::cell::{is_piece_of, is_slider};
 use crate::piece::{Color, Piece};
 use crate::square::Square;
 use crate::squares::Squares;
-use crate::start::{START, START_BLACK, START_KINGS, START_SLIDERS, START_WHITE, START_WORDS};
+use crate::start::{
+    START_BLACK, START_KINGS, START_SLIDERS, START_WHITE, START_WORDS, start_cells,
+};
 use crate::words::{board_words, cell_number, with_digit};
 use std::marker::Model;
 
@@ -35,10 +37,10 @@ pub struct Board {
 }
 
 impl Model for Board {
-    ghost use Rattle.std.specs.Prelude.{List, Option, ◌≡◌, length};
+    ghost use Rattle.std.specs.Prelude.{List, Option};
     ghost use Rattle.shogi_core.specs.declared.piece.Piece.{Piece};
     ghost use Rattle.shogi_core.specs.declared.piece.Color.TheVariants.{Black, White};
-    ghost use Rattle.shogi_core.specs.Masks.{own_of, kings_of, sliders_of};
+    ghost use Rattle.shogi_core.specs.Masks.{IsBoard, own_of, kings_of, sliders_of};
     ghost use Rattle.shogi_core.specs.Words.{board_words};
     ghost use Rattle.std.proofs.Common.{ap, sym, ◌∙◌};
 
@@ -46,7 +48,7 @@ impl Model for Board {
 
     ghost view = { λ b. b.cells };
 
-    ghost invariant = { λ b. (length b.cells ≡ 81) × (b.black ≡ own_of b.cells Black) × (b.white ≡ own_of b.cells White) × (b.kings ≡ kings_of b.cells) × (b.sliders ≡ sliders_of b.cells) × (b.words ≡ board_words b.cells) };
+    ghost invariant = { λ b. IsBoard b.cells b.black b.white b.kings b.sliders b.words };
 
     ghost inverse = { λ cells. record { cells = cells; black = own_of cells Black; white = own_of cells White; kings = kings_of cells; sliders = sliders_of cells; words = board_words cells } };
 
@@ -138,7 +140,7 @@ impl Board {
         ensures { result ≡ start_cells }
     {
         Board {
-            cells: START,
+            cells: start_cells(),
             black: START_BLACK,
             white: START_WHITE,
             kings: START_KINGS,

@@ -1,7 +1,7 @@
 //! The opening position.
 
 ghost use Rattle.std.specs.Prelude.{◌≡◌};
-ghost use Rattle.shogi_core.specs.Start.{start};
+ghost use Rattle.shogi_core.specs.Start.{cell_with, start, start_cells};
 
 use crate::board::Board;
 use crate::hands::Hands;
@@ -28,209 +28,44 @@ pub const START_WORDS: [u64; 7] = [
     3300682383377,
 ];
 
-pub const START: [Option<Piece>; 81] = [
-    Some(Piece {
-        color: Color::White,
-        role: Role::Lance,
-    }),
-    None,
-    Some(Piece {
-        color: Color::White,
-        role: Role::Pawn,
-    }),
-    None,
-    None,
-    None,
-    Some(Piece {
-        color: Color::Black,
-        role: Role::Pawn,
-    }),
-    None,
-    Some(Piece {
-        color: Color::Black,
-        role: Role::Lance,
-    }),
-    Some(Piece {
-        color: Color::White,
-        role: Role::Knight,
-    }),
-    Some(Piece {
-        color: Color::White,
-        role: Role::Bishop,
-    }),
-    Some(Piece {
-        color: Color::White,
-        role: Role::Pawn,
-    }),
-    None,
-    None,
-    None,
-    Some(Piece {
-        color: Color::Black,
-        role: Role::Pawn,
-    }),
-    Some(Piece {
-        color: Color::Black,
-        role: Role::Rook,
-    }),
-    Some(Piece {
-        color: Color::Black,
-        role: Role::Knight,
-    }),
-    Some(Piece {
-        color: Color::White,
-        role: Role::Silver,
-    }),
-    None,
-    Some(Piece {
-        color: Color::White,
-        role: Role::Pawn,
-    }),
-    None,
-    None,
-    None,
-    Some(Piece {
-        color: Color::Black,
-        role: Role::Pawn,
-    }),
-    None,
-    Some(Piece {
-        color: Color::Black,
-        role: Role::Silver,
-    }),
-    Some(Piece {
-        color: Color::White,
-        role: Role::Gold,
-    }),
-    None,
-    Some(Piece {
-        color: Color::White,
-        role: Role::Pawn,
-    }),
-    None,
-    None,
-    None,
-    Some(Piece {
-        color: Color::Black,
-        role: Role::Pawn,
-    }),
-    None,
-    Some(Piece {
-        color: Color::Black,
-        role: Role::Gold,
-    }),
-    Some(Piece {
-        color: Color::White,
-        role: Role::King,
-    }),
-    None,
-    Some(Piece {
-        color: Color::White,
-        role: Role::Pawn,
-    }),
-    None,
-    None,
-    None,
-    Some(Piece {
-        color: Color::Black,
-        role: Role::Pawn,
-    }),
-    None,
-    Some(Piece {
-        color: Color::Black,
-        role: Role::King,
-    }),
-    Some(Piece {
-        color: Color::White,
-        role: Role::Gold,
-    }),
-    None,
-    Some(Piece {
-        color: Color::White,
-        role: Role::Pawn,
-    }),
-    None,
-    None,
-    None,
-    Some(Piece {
-        color: Color::Black,
-        role: Role::Pawn,
-    }),
-    None,
-    Some(Piece {
-        color: Color::Black,
-        role: Role::Gold,
-    }),
-    Some(Piece {
-        color: Color::White,
-        role: Role::Silver,
-    }),
-    None,
-    Some(Piece {
-        color: Color::White,
-        role: Role::Pawn,
-    }),
-    None,
-    None,
-    None,
-    Some(Piece {
-        color: Color::Black,
-        role: Role::Pawn,
-    }),
-    None,
-    Some(Piece {
-        color: Color::Black,
-        role: Role::Silver,
-    }),
-    Some(Piece {
-        color: Color::White,
-        role: Role::Knight,
-    }),
-    Some(Piece {
-        color: Color::White,
-        role: Role::Rook,
-    }),
-    Some(Piece {
-        color: Color::White,
-        role: Role::Pawn,
-    }),
-    None,
-    None,
-    None,
-    Some(Piece {
-        color: Color::Black,
-        role: Role::Pawn,
-    }),
-    Some(Piece {
-        color: Color::Black,
-        role: Role::Bishop,
-    }),
-    Some(Piece {
-        color: Color::Black,
-        role: Role::Knight,
-    }),
-    Some(Piece {
-        color: Color::White,
-        role: Role::Lance,
-    }),
-    None,
-    Some(Piece {
-        color: Color::White,
-        role: Role::Pawn,
-    }),
-    None,
-    None,
-    None,
-    Some(Piece {
-        color: Color::Black,
-        role: Role::Pawn,
-    }),
-    None,
-    Some(Piece {
-        color: Color::Black,
-        role: Role::Lance,
-    }),
+/// The roles on the first and the last rank, file by file.
+const BACK_RANK: [Role; 9] = [
+    Role::Lance,
+    Role::Knight,
+    Role::Silver,
+    Role::Gold,
+    Role::King,
+    Role::Gold,
+    Role::Silver,
+    Role::Knight,
+    Role::Lance,
 ];
+
+/// A square with a piece of the side and role on it.
+fn cell_with(color: Color, role: Role) -> Option<Piece>
+    ensures { result ≡ cell_with color role }
+{
+    Some(Piece { color, role })
+}
+
+/// The cells of the opening position.
+pub fn start_cells() -> [Option<Piece>; 81]
+    ensures { result ≡ start_cells }
+{
+    let mut cells = [None; 81];
+    for file in 0..9 {
+        let first = 9 * file;
+        cells[first] = cell_with(Color::White, BACK_RANK[file]);
+        cells[first + 2] = cell_with(Color::White, Role::Pawn);
+        cells[first + 6] = cell_with(Color::Black, Role::Pawn);
+        cells[first + 8] = cell_with(Color::Black, BACK_RANK[file]);
+    }
+    cells[10] = cell_with(Color::White, Role::Bishop);
+    cells[16] = cell_with(Color::Black, Role::Rook);
+    cells[64] = cell_with(Color::White, Role::Rook);
+    cells[70] = cell_with(Color::Black, Role::Bishop);
+    cells
+}
 
 impl Position {
     /// The opening position.
