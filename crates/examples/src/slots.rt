@@ -7,10 +7,13 @@ use session_slots::{SessionId, SlotFault, Slots};
 use std::alloc::Allocator;
 
 /// Opens a session and closes it. Its id finds nothing from then on.
-pub fn open_and_close<A: Allocator + Copy>(slots: &mut Slots<A>) -> Result<SessionId, SlotFault>
+pub fn open_and_close<T: Drop, A: Allocator + Copy>(
+    slots: &mut Slots<T, A>,
+    session: T,
+) -> Result<SessionId, SlotFault>
     ensures { IfOk result (λ id. find slots.new id ≡ None) }
 {
-    let id = slots.open()?;
+    let id = slots.open(session)?;
     let _session = slots.close(id);
     Ok(id)
 }

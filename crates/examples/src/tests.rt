@@ -108,8 +108,8 @@ fn a_session_is_ready(rt: HostRuntime) -> Result<(), Fail> {
 #[test]
 fn a_closed_session_is_not_found(rt: HostRuntime) -> Result<(), Fail> {
     let mut slots = Slots::new(rt.alloc(), 2);
-    let first = open_and_close(&mut slots)?;
-    let second = open_and_close(&mut slots)?;
+    let first = open_and_close(&mut slots, 'a')?;
+    let second = open_and_close(&mut slots, 'b')?;
     assert!(rt; first.generation != second.generation);
     assert!(rt; slots.get(first).is_none());
     Ok(())

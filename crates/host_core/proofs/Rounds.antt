@@ -23,7 +23,7 @@ suc_plus : (i : ℕ) → suc i + 1 ≡ suc (i + 1)
 suc_plus i = omega arith
 
 -- a slot with a session
-pending_opened : (slot : ℕ) (slots_ : List (Option OpenSession)) (i : ℕ) (o : OpenSession) → slice_index_or slots_ i None ≡ Some o → pending_from slot (drop i slots_) ≡ cond (is_pending o.session) (record { slot = slot; generation = o.generation } ∷ pending_from (slot + 1) (drop (i + 1) slots_)) (pending_from (slot + 1) (drop (i + 1) slots_))
+pending_opened : (slot : ℕ) (slots_ : List (Option (OpenSession SessionView))) (i : ℕ) (o : OpenSession SessionView) → slice_index_or slots_ i None ≡ Some o → pending_from slot (drop i slots_) ≡ cond (is_pending o.session) (record { slot = slot; generation = o.generation } ∷ pending_from (slot + 1) (drop (i + 1) slots_)) (pending_from (slot + 1) (drop (i + 1) slots_))
 pending_opened slot [] zero o e = absurd (cc)
 pending_opened slot [] (suc i) o e = absurd (cc)
 pending_opened slot (None ∷ rest) zero o e = absurd (cc)
@@ -31,22 +31,22 @@ pending_opened slot (Some p ∷ rest) zero o e = (let same : p ≡ o = cc in rw 
 pending_opened slot (x ∷ rest) (suc i) o e = rw (suc_plus i) (pending_opened slot rest i o e)
 
 -- from a slot on, the next open session stands here, and the slots before it add nothing
-record Skips (slot : ℕ) (slots : List (Option OpenSession)) (id : SessionId) : Type 0 where
+record Skips (slot : ℕ) (slots : List (Option (OpenSession SessionView))) (id : SessionId) : Type 0 where
   from : slot ≤ id.slot
   rest : pending_from slot slots ≡ pending_from id.slot (drop (id.slot - slot) slots)
 
-skips_here : (slot : ℕ) (slots : List (Option OpenSession)) (id : SessionId) → id.slot ≡ slot → Skips slot slots id
+skips_here : (slot : ℕ) (slots : List (Option (OpenSession SessionView))) (id : SessionId) → id.slot ≡ slot → Skips slot slots id
 skips_here slot slots id e =
     let none : id.slot - slot ≡ 0 = omega arith in
     record { from = omega arith; rest = rw (none, e) refl }
 
-skips_one : (slot : ℕ) (rest : List (Option OpenSession)) (id : SessionId) → Skips (slot + 1) rest id → Skips slot (None ∷ rest) id
+skips_one : (slot : ℕ) (rest : List (Option (OpenSession SessionView))) (id : SessionId) → Skips (slot + 1) rest id → Skips slot (None ∷ rest) id
 skips_one slot rest id s =
     let from : slot + 1 ≤ id.slot = s.from in
     let more : id.slot - slot ≡ suc (id.slot - (slot + 1)) = omega arith in
     record { from = omega arith; rest = s.rest ∙ ap (λ n. pending_from id.slot (drop n (None ∷ rest))) (sym more) }
 
-skips : (slot : ℕ) (slots : List (Option OpenSession)) (id : SessionId) → first_open slot slots ≡ Some id → Skips slot slots id
+skips : (slot : ℕ) (slots : List (Option (OpenSession SessionView))) (id : SessionId) → first_open slot slots ≡ Some id → Skips slot slots id
 skips slot [] id e = absurd (cc)
 skips slot (None ∷ rest) id e = skips_one slot rest id (skips (slot + 1) rest id e)
 skips slot (Some o ∷ rest) id e =
@@ -54,7 +54,7 @@ skips slot (Some o ∷ rest) id e =
     skips_here slot (Some o ∷ rest) id (ap (λ (i : SessionId). i.slot) (sym same))
 
 -- up to the next open session none is pending
-next_settled : (slot : ℕ) (slots : List (Option OpenSession)) (id : SessionId) → first_open slot (drop slot slots) ≡ Some id → (slot ≤ id.slot) × AreSettled slot id.slot slots
+next_settled : (slot : ℕ) (slots : List (Option (OpenSession SessionView))) (id : SessionId) → first_open slot (drop slot slots) ≡ Some id → (slot ≤ id.slot) × AreSettled slot id.slot slots
 next_settled slot slots id e =
     let s : Skips slot (drop slot slots) id = skips slot (drop slot slots) id e in
     let from : slot ≤ id.slot = s.from in
@@ -62,13 +62,13 @@ next_settled slot slots id e =
     (from, s.rest ∙ ap (pending_from id.slot) (drop-drop (id.slot - slot) slot slots ∙ ap (λ n. drop n slots) there))
 
 -- where no more session is open none is pending
-none_open : (slot : ℕ) (slots : List (Option OpenSession)) → first_open slot slots ≡ None → pending_from slot slots ≡ []
+none_open : (slot : ℕ) (slots : List (Option (OpenSession SessionView))) → first_open slot slots ≡ None → pending_from slot slots ≡ []
 none_open slot [] e = refl
 none_open slot (None ∷ rest) e = none_open (slot + 1) rest e
 none_open slot (Some o ∷ rest) e = absurd (cc)
 
 -- the next open session after slots of which none is pending
-pub next_found : (slots : OpenSessions) (from first : ℕ) (after : Option ℕ) (result : Option SessionId) → start_of after ≡ first → result ≡ next_of slots after → from ≤ first → AreSettled from first slots.slots
+pub next_found : (slots : OpenSessions SessionView) (from first : ℕ) (after : Option ℕ) (result : Option SessionId) → start_of after ≡ first → result ≡ next_of slots after → from ≤ first → AreSettled from first slots.slots
     → IfSome result (IsNext from slots)
 next_found slots from first after None s e on passed = tt
 next_found slots from first after (Some id) s e on passed =
@@ -76,7 +76,7 @@ next_found slots from first after (Some id) s e on passed =
     let further : first ≤ id.slot = n.0 in
     (omega arith, passed ∙ n.1)
 
-pub next_none : (slots : OpenSessions) (from first : ℕ) (after : Option ℕ) (result : Option SessionId) → start_of after ≡ first → result ≡ next_of slots after → AreSettled from first slots.slots
+pub next_none : (slots : OpenSessions SessionView) (from first : ℕ) (after : Option ℕ) (result : Option SessionId) → start_of after ≡ first → result ≡ next_of slots after → AreSettled from first slots.slots
     → IfNone result (pending_from from (drop from slots.slots) ≡ [])
 next_none slots from first after None s e passed = passed ∙ none_open first (drop first slots.slots) (sym (e ∙ ap (λ n. first_open n (drop n slots.slots)) s))
 next_none slots from first after (Some id) s e passed = tt
@@ -124,7 +124,7 @@ is_settled h id some idle = here_settled h id (find h.slots id) refl some idle
 -- the later slots are what they were
 works_later : (budget : ℕ) (h next : HostState) (id : SessionId) (o : Outcome) (found : Option SessionView) → OnSession (Works budget) h id found o next → drop (id.slot + 1) next.slots.slots ≡ drop (id.slot + 1) h.slots.slots
 works_later budget h next id o None u = ap (λ (x : HostState). drop (id.slot + 1) x.slots.slots) u.same
-works_later budget h next id o (Some s) c = ap (λ (q : OpenSessions). drop (id.slot + 1) q.slots) c.slots_are ∙ drop-set-lt (id.slot + 1) h.slots.slots id.slot _ (omega arith)
+works_later budget h next id o (Some s) c = ap (λ (q : OpenSessions SessionView). drop (id.slot + 1) q.slots) c.slots_are ∙ drop-set-lt (id.slot + 1) h.slots.slots id.slot _ (omega arith)
 
 first_pending : (h : HostState) (id : SessionId) (found : Option SessionView) → find h.slots id ≡ found → pending_of found ≡ true → pending_from id.slot (drop id.slot h.slots.slots) ≡ id ∷ pending_from (id.slot + 1) (drop (id.slot + 1) h.slots.slots)
 first_pending h id None e pending = absurd (cc)
@@ -170,7 +170,7 @@ in_more : (b : Bool) (id first : SessionId) (rest : List SessionId) → is_in id
 in_more true id first rest e = or_right (is_same_id first id) (is_in id rest) e
 in_more false id first rest e = e
 
-in_later : (slot i later : ℕ) (slots : List (Option OpenSession)) (id : SessionId) → later ≡ slot + i → is_in id (pending_from later (drop i slots)) ≡ true → is_in id (pending_from slot slots) ≡ true
+in_later : (slot i later : ℕ) (slots : List (Option (OpenSession SessionView))) (id : SessionId) → later ≡ slot + i → is_in id (pending_from later (drop i slots)) ≡ true → is_in id (pending_from slot slots) ≡ true
 in_later slot zero later slots id f e = let here : later ≡ slot = omega arith in rw here at e
 in_later slot (suc i) later [] id f e = absurd (cc)
 in_later slot (suc i) later (None ∷ rest) id f e = in_later (slot + 1) i later rest id (omega arith) e

@@ -88,7 +88,7 @@ took old new at id n (Refused UnknownSession) (Some s) e c = absurd c.went
 took old new at id n (Refused NotReady) (Some s) e c = quiet (Takes n) old new at id s (Refused NotReady) e c (λ x. ap (λ (t : SessionView). due t x) c.went.1) (λ x. ap (λ (t : SessionView). state_due t x) c.went.1)
 took old new at id n (Refused OutOfMemory) (Some s) e c = quiet (Takes n) old new at id s (Refused OutOfMemory) e c (λ x. ap (λ (t : SessionView). due t x) c.went.1) (λ x. ap (λ (t : SessionView). state_due t x) c.went.1)
 
-opened_at : (b : Bool) (old new : HostState) (at id : SessionId) → is_same_id at id ≡ b → Opens old.slots new.slots at → Sees [] [] b (find old.slots id) (find new.slots id)
+opened_at : (b : Bool) (old new : HostState) (at id : SessionId) → is_same_id at id ≡ b → Opens old.slots new.slots at new_session → Sees [] [] b (find old.slots id) (find new.slots id)
 opened_at true old new at id e p =
     let same : at ≡ id = same_id at id e in
     let before : find old.slots id ≡ None = ap (find old.slots) (sym same) ∙ p.was in
@@ -142,9 +142,9 @@ rises_same old new id e = same_next old new id (ap (λ (h : HostState). h.slots.
 
 rises_on : (goes : SessionView → Outcome → SessionView → Type 0) (old new : HostState) (at id : SessionId) (o : Outcome) (found : Option SessionView) → OnSession goes old at found o new → Rises old new id false
 rises_on goes old new at id o None u = rises_same old new id u.same
-rises_on goes old new at id o (Some s) c = same_next old new id (ap (λ (q : OpenSessions). q.next) c.slots_are)
+rises_on goes old new at id o (Some s) c = same_next old new id (ap (λ (q : OpenSessions SessionView). q.next) c.slots_are)
 
-rises_opened : (b : Bool) (old new : HostState) (at id : SessionId) → is_same_id at id ≡ b → Opens old.slots new.slots at → Rises old new id b
+rises_opened : (b : Bool) (old new : HostState) (at id : SessionId) → is_same_id at id ≡ b → Opens old.slots new.slots at new_session → Rises old new id b
 rises_opened true old new at id e p =
     let g : id.generation ≡ old.slots.next = ap (λ (i : SessionId). i.generation) (sym (same_id at id e)) ∙ p.generation_is in
     let n : new.slots.next ≡ old.slots.next + 1 = p.next_is in

@@ -49,7 +49,7 @@ shares old new id budget outcome before after front root back stepped was now le
     shared_among root front back old.table new.table (subst (λ (roots : List Root). AreTold IsUsed old.table roots new.table) same tells.told)
 
 -- a session that was written back is the one that the table was told of
-pub told_written : (old new : OpenSessions) (id : SessionId) (s t : SessionView) (table later : Table)
+pub told_written : (old new : OpenSessions SessionView) (id : SessionId) (s t : SessionView) (table later : Table)
     → find old id ≡ Some s → new ≡ with_session old id t → EndsSearches IsUsed table later s t
     → (before after : SessionView) → find old id ≡ Some before → find new id ≡ Some after
     → EndsSearches IsUsed table later before after

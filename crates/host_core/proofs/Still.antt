@@ -22,7 +22,7 @@ blank zero k g e = absurd (cc)
 blank (suc n) zero g e = absurd (cc)
 blank (suc n) (suc k) g e = blank n k g e
 
-pub none_still : (n : ℕ) (slots : OpenSessions) → AreStill (replicate n None) slots
+pub none_still : (n : ℕ) (slots : OpenSessions SessionView) → AreStill (replicate n None) slots
 none_still n slots id e = absurd (blank n id.slot id.generation e)
 
 written : (noted : List (Option ℕ)) (k : ℕ) (m : Option ℕ) (g : ℕ) → slice_index_or (set noted k m) k None ≡ Some g → m ≡ Some g
@@ -45,7 +45,7 @@ same_slot at id found differs same e =
     let g : at.generation ≡ id.generation = noted_generation (is_still_of found) at.generation id.generation e in
     differs (λ k. record { slot = same k; generation = sym g k })
 
-noted_by : (b : Bool) (noted : List (Option ℕ)) (old new : OpenSessions) (at id : SessionId) (found : Option SessionView)
+noted_by : (b : Bool) (noted : List (Option ℕ)) (old new : OpenSessions SessionView) (at id : SessionId) (found : Option SessionView)
     → is_same_id at id ≡ b → find new at ≡ found → AreStill noted old → OthersKept old new at
     → slice_index_or (set noted at.slot (note_of at found)) id.slot None ≡ Some id.generation
     → is_still_of (find new id) ≡ true
@@ -61,13 +61,13 @@ noted_by false noted old new at id found s finds still kept e =
     ]
 
 -- after one session changed, and was noted
-pub still_after : (noted : List (Option ℕ)) (old new : OpenSessions) (at : SessionId) (found : Option SessionView)
+pub still_after : (noted : List (Option ℕ)) (old new : OpenSessions SessionView) (at : SessionId) (found : Option SessionView)
     → find new at ≡ found → AreStill noted old → OthersKept old new at
     → AreStill (set noted at.slot (note_of at found)) new
 still_after noted old new at found finds still kept id e = noted_by (is_same_id at id) noted old new at id found refl finds still kept e
 
 -- after a write to the session of an id
-pub still_written : (noted : List (Option ℕ)) (old : OpenSessions) (at : SessionId) (t after : SessionView)
+pub still_written : (noted : List (Option ℕ)) (old : OpenSessions SessionView) (at : SessionId) (t after : SessionView)
     → find old at ≡ Some t → AreStill noted old
     → AreStill (set noted at.slot (note_of at (Some after))) (with_session old at after)
 still_written noted old at t after e still =
@@ -78,7 +78,7 @@ new_noted : (at : SessionId) → note_of at (Some new_session) ≡ Some at.gener
 new_noted at = ap (λ b. cond (b && true) (Some at.generation) None) new_wants
 
 -- after a session was opened
-pub still_opened : (noted : List (Option ℕ)) (old new : OpenSessions) (at : SessionId) → AreStill noted old → Opens old new at
+pub still_opened : (noted : List (Option ℕ)) (old new : OpenSessions SessionView) (at : SessionId) → AreStill noted old → Opens old new at new_session
     → AreStill (set noted at.slot (Some at.generation)) new
 still_opened noted old new at still o =
     let s : AreStill (set noted at.slot (note_of at (Some new_session))) new = still_after noted old new at (Some new_session) o.now still o.others in

@@ -2,7 +2,7 @@
 use Rattle.std.specs.Prelude.{◌≡◌, ℕ, ◌+◌, List, [], ◌∷◌, ◌++◌, Bool, true, false, cond, Option, Some, None, length, drop, count_by}
 use Rattle.session_slots.specs.declared.id.SessionId.{SessionId}
 use Rattle.session_slots.specs.Slots.{OpenSession}
-use Rattle.usi_session.specs.Due.{is_pending}
+use Rattle.usi_session.specs.Due.{is_pending, SessionView}
 use Rattle.host_core.specs.Events.{Outcome, Worked, Refused, Work}
 use Rattle.host_core.specs.Made.{Step}
 use Rattle.host_core.specs.Runs.{IsRun}
@@ -10,11 +10,11 @@ use Rattle.host_core.specs.Steps.{HostState}
 use Rattle.host_core.specs.declared.round.Round.{Round}
 
 -- the id of an open session in this slot
-abbrev pub id_in : ℕ → OpenSession → SessionId
+abbrev pub id_in : ℕ → OpenSession SessionView → SessionId
 id_in slot o = record { slot = slot; generation = o.generation }
 
 -- the ids of the pending sessions of these slots, of which the first has this number
-abbrev pub pending_from : ℕ → List (Option OpenSession) → List SessionId
+abbrev pub pending_from : ℕ → List (Option (OpenSession SessionView)) → List SessionId
 pending_from slot [] = []
 pending_from slot (None ∷ rest) = pending_from (slot + 1) rest
 pending_from slot (Some o ∷ rest) =

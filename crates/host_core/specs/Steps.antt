@@ -4,7 +4,7 @@ use Rattle.session_slots.specs.declared.id.SessionId.{SessionId}
 use Rattle.session_slots.specs.Slots.{OpenSessions, find, with_session, count, Opens, OthersKept, IsFull}
 use Rattle.shared_table.specs.Recent.{Table, new_table}
 use Rattle.shared_table.specs.Uses.{IsUsed}
-use Rattle.usi_session.specs.Due.{SessionView, EndsSearches}
+use Rattle.usi_session.specs.Due.{SessionView, EndsSearches, new_session}
 use Rattle.host_core.specs.declared.event.HostFault.TheVariants.{Full, OutOfMemory, UnknownSession}
 use Rattle.host_core.specs.Events.{Event, Open, Feed, Work, Take, Close, Outcome, Opened, Done, Refused}
 use Rattle.host_core.specs.ById.{pending_of}
@@ -13,7 +13,7 @@ use Rattle.host_core.specs.Sessions.{Feeds, Works, Takes}
 -- the table that all sessions share, and the open sessions
 pub record HostState : Type 0 where
   pub table : Table
-  pub slots : OpenSessions
+  pub slots : OpenSessions SessionView
 
 -- no session was opened yet, and the table is empty
 abbrev pub new_host : ℕ → ℕ → HostState
@@ -43,7 +43,7 @@ OnSession goes old id (Some session) outcome new = Changed goes old id session o
 -- a session was opened where there was room
 pub record OpenedAs (old : HostState) (id : SessionId) (new : HostState) : Type 0 where
   pub room : IsFull old.slots → ⊥
-  pub opens : Opens old.slots new.slots id
+  pub opens : Opens old.slots new.slots id new_session
   pub table_is : new.table ≡ old.table
 
 -- `Full` exactly where there is no room; `OutOfMemory` only where there is

@@ -7,7 +7,7 @@ use Rattle.host_core.specs.ById.{is_still_of}
 use Rattle.host_core.specs.Rounds.{pending_from}
 
 -- each session whose generation is noted at its slot is still
-abbrev pub AreStill : List (Option ℕ) → OpenSessions → Type 0
+abbrev pub AreStill : List (Option ℕ) → OpenSessions SessionView → Type 0
 AreStill noted slots =
     (id : SessionId) → slice_index_or noted id.slot None ≡ Some id.generation
     → is_still_of (find slots id) ≡ true
@@ -17,10 +17,10 @@ abbrev pub note_of : SessionId → Option SessionView → Option ℕ
 note_of id found = cond (is_still_of found) (Some id.generation) None
 
 -- between these slots none is pending
-abbrev pub AreSettled : ℕ → ℕ → List (Option OpenSession) → Type 0
+abbrev pub AreSettled : ℕ → ℕ → List (Option (OpenSession SessionView)) → Type 0
 AreSettled first last slots =
     pending_from first (drop first slots) ≡ pending_from last (drop last slots)
 
 -- the id stands at this slot or a later one, and none between is pending
-abbrev pub IsNext : ℕ → OpenSessions → SessionId → Type 0
+abbrev pub IsNext : ℕ → OpenSessions SessionView → SessionId → Type 0
 IsNext from slots id = (from ≤ id.slot) × AreSettled from id.slot slots.slots

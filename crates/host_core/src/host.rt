@@ -20,6 +20,7 @@ use shared_table::SharedTable;
 use std::alloc::Allocator;
 use std::hash::BuildHasher;
 use std::marker::Model;
+use usi_session::Session;
 
 /// Sessions over one table of searched positions. Each is answered as if it were alone; what the
 /// others searched can only save it steps.
@@ -27,7 +28,7 @@ use std::marker::Model;
 pub struct Host<S: BuildHasher, A: Allocator + Copy> {
     pub(crate) alloc: A,
     table: SharedTable<S, A>,
-    pub(crate) slots: Slots<A>,
+    pub(crate) slots: Slots<Session<A>, A>,
     // By slot: the generation of its session, where that is still.
     pub(crate) noted: Vec<Option<u64>, A>,
 }
@@ -96,14 +97,15 @@ impl<S: BuildHasher, A: Allocator + Copy> Host<S, A> {
         self.table.len()
     }
 
-    /// Opens a session at its start: `Full` where as many are open as may be, or no id is left.
+    /// Opens a session at its start, the opening position, each option at its default, nothing held:
+    /// `Full` where as many are open as may be, or no id is left.
     pub fn open(&mut self) -> Result<SessionId, HostFault>
         ensures opened { Stepped self.old Open (as_outcome Opened result) self.new }
         ensures err { OnErr result (self.new ≡ self.old) }
         ensures below { IsBelow self.old.slots }
     {
         self.slots.validity();
-        match self.slots.open() {
+        match self.slots.open(Session::new(self.alloc)) {
             Ok(id) => {
                 notes::set(&mut self.noted, id.slot, Some(id.generation));
                 Ok(id)

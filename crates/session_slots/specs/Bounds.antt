@@ -3,9 +3,10 @@ use Rattle.std.specs.Prelude.{ℕ, ◌≤◌, ◌<◌, List, Option, IfSome, Non
 use Rattle.session_slots.specs.Slots.{OpenSession}
 use Rattle.session_slots.specs.declared.limits.TheConstants.{SESSIONS_MAX}
 
--- each generation is below the next one, and no more are open than may be
-pub record AreBounded (max next : ℕ) (slots : List (Option OpenSession)) : Type 0 where
-  pub least : 1 ≤ max
-  pub most : max ≤ SESSIONS_MAX
-  pub few : count_by is_some slots ≤ max
-  pub below : (key : ℕ) → IfSome (slice_index_or slots key None) (λ o. o.generation < next)
+module _ {T : Type 0} where
+  -- each generation is below the next one, and no more are open than may be
+  pub record AreBounded (max next : ℕ) (slots : List (Option (OpenSession T))) : Type 0 where
+    pub least : 1 ≤ max
+    pub most : max ≤ SESSIONS_MAX
+    pub few : count_by is_some slots ≤ max
+    pub below : (key : ℕ) → IfSome (slice_index_or slots key None) (λ o. o.generation < next)

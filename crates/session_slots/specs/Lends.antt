@@ -2,18 +2,15 @@
 use Rattle.std.specs.Prelude.{Option}
 use Rattle.std.specs.Borrow.{Lends, LendsIf, Fml, RattleType, MutBor}
 use Rattle.std.specs.declared.alloc.Allocator.{Ghosts}
-use Rattle.usi_session.specs.Due.{SessionView}
-use Rattle.usi_session.specs.contracts.session.Session.{the_row as session_row}
 use Rattle.session_slots.specs.Slots.{OpenSessions, with_session}
 use Rattle.session_slots.specs.declared.id.SessionId.{SessionId}
 use Rattle.session_slots.specs.contracts.slots.Slots.{the_row}
 
-module _ (A : RattleType) (alloc : Ghosts A.Denot) (s : MutBor OpenSessions) (id : SessionId) where
+module _ (T A : RattleType) (alloc : Ghosts A.Denot) (s : MutBor (OpenSessions T.Denot)) (id : SessionId) where
   -- once the borrow ends, the id has the session as it was left
-  abbrev pub lends_found : MutBor SessionView → Fml
-  lends_found r = Lends (the_row A alloc) (session_row A alloc) s r (with_session s.now id)
+  abbrev pub lends_found : MutBor T.Denot → Fml
+  lends_found r = Lends (the_row T A alloc) T s r (with_session s.now id)
 
   -- where a session was lent, the id has it as it was left once the borrow ends; else the slots stay as they are
-  abbrev pub lends_if_found : Option (MutBor SessionView) → Fml
-  lends_if_found r =
-      LendsIf (the_row A alloc) (session_row A alloc) s r (with_session s.now id) s.now
+  abbrev pub lends_if_found : Option (MutBor T.Denot) → Fml
+  lends_if_found r = LendsIf (the_row T A alloc) T s r (with_session s.now id) s.now

@@ -3,17 +3,18 @@ use Rattle.std.specs.Prelude.{ℕ, ◌+◌, List, [], ◌∷◌, Option, Some, N
 use Rattle.session_slots.specs.declared.id.SessionId.{SessionId}
 use Rattle.session_slots.specs.Slots.{OpenSession, OpenSessions}
 
--- the id of the first open session of these slots, of which the first has this number
-abbrev pub first_open : ℕ → List (Option OpenSession) → Option SessionId
-first_open slot [] = None
-first_open slot (None ∷ rest) = first_open (slot + 1) rest
-first_open slot (Some o ∷ rest) = Some (record { slot = slot; generation = o.generation })
-
 -- the slot after this one, or the first one
 abbrev pub start_of : Option ℕ → ℕ
 start_of None = 0
 start_of (Some slot) = slot + 1
 
--- the id of least slot, or of least slot above one
-abbrev pub next_of : OpenSessions → Option ℕ → Option SessionId
-next_of s after = first_open (start_of after) (drop (start_of after) s.slots)
+module _ {T : Type 0} where
+  -- the id of the first open session of these slots, of which the first has this number
+  abbrev pub first_open : ℕ → List (Option (OpenSession T)) → Option SessionId
+  first_open slot [] = None
+  first_open slot (None ∷ rest) = first_open (slot + 1) rest
+  first_open slot (Some o ∷ rest) = Some (record { slot = slot; generation = o.generation })
+
+  -- the id of least slot, or of least slot above one
+  abbrev pub next_of : OpenSessions T → Option ℕ → Option SessionId
+  next_of s after = first_open (start_of after) (drop (start_of after) s.slots)

@@ -1,4 +1,4 @@
-//! Open sessions, each under an id that is never used again.
+//! Open sessions of any type, each under an id that is never used again.
 #![tactic(auto)]
 
 mod id;

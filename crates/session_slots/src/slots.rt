@@ -13,7 +13,6 @@ use crate::slot::Slot;
 use slab::Slab;
 use std::alloc::Allocator;
 use std::marker::Model;
-use usi_session::Session;
 
 /// Why no session was opened. Nothing changed.
 #[derive(Clone, Copy, Debug, PartialEq, Eq)]
@@ -27,18 +26,17 @@ pub enum SlotFault {
 
 /// Open sessions under their ids, at most so many at a time.
 #[derive(Drop)]
-pub struct Slots<A: Allocator + Copy> {
-    alloc: A,
+pub struct Slots<T, A: Allocator + Copy> {
     max: usize,
     // How many sessions were ever opened: the generation of the next one.
     next: u64,
-    slots: Slab<Slot<A>, A>,
+    slots: Slab<Slot<T>, A>,
 }
 
-impl<A: Allocator + Copy> Model for Slots<A> {
+impl<T, A: Allocator + Copy> Model for Slots<T, A> {
     ghost use Rattle.session_slots.specs.Slots.{OpenSessions};
 
-    ghost Value = { OpenSessions };
+    ghost Value = { OpenSessions T };
 
     ghost use Rattle.session_slots.specs.Bounds.{AreBounded};
 
@@ -47,17 +45,16 @@ impl<A: Allocator + Copy> Model for Slots<A> {
     ghost invariant = { λ s. AreBounded s.max s.next s.slots.slots };
 }
 
-impl<A: Allocator + Copy> Slots<A> {
+impl<T, A: Allocator + Copy> Slots<T, A> {
     ghost use Rattle.session_slots.specs.Lends.{lends_found, lends_if_found};
 
     /// No session is open, and at most `max` may be at a time, from 1 to 1,024. It takes no memory.
-    pub fn new(alloc: A, max: usize) -> Slots<A>
+    pub fn new(alloc: A, max: usize) -> Slots<T, A>
         requires least { 1 ≤ max }
         requires most { max ≤ SESSIONS_MAX }
         ensures { result ≡ record { max = max; next = 0; slots = [] } }
     {
         Slots {
-            alloc,
             max,
             next: 0,
             slots: Slab::new(alloc),
@@ -80,11 +77,13 @@ impl<A: Allocator + Copy> Slots<A> {
         self.slots.len() >= self.max || self.next == u64::MAX
     }
 
-    /// Opens a session at its start: the opening position, each option at its default, nothing
-    /// held. Its generation is the number of sessions opened before it, so no id comes twice.
-    /// `Full` is looked at first; a refusal uses no generation.
-    pub fn open(&mut self) -> Result<SessionId, SlotFault>
-        ensures opened { IfOk result (λ id. Opens self.old self.new id) }
+    /// Opens a session, as it is given. Its generation is the number of sessions opened before it,
+    /// so no id comes twice. `Full` is looked at first; a refusal uses no generation and lets the
+    /// session go.
+    pub fn open(&mut self, session: T) -> Result<SessionId, SlotFault>
+    where
+        T: Drop,
+        ensures opened { IfOk result (λ id. Opens self.old self.new id session) }
         ensures full { (result ≡ Err SlotFault.Full) ↔ IsFull self.old }
         ensures spent { (id : SessionId) → IsSpent self.old id → IsSpent self.new id }
         ensures err { OnErr result (self.new ≡ self.old) }
@@ -96,7 +95,6 @@ impl<A: Allocator + Copy> Slots<A> {
             return Err(SlotFault::OutOfMemory);
         }
         let generation = self.next;
-        let session = Session::new(self.alloc);
         let slot = self.slots.insert_reserved(Slot {
             generation,
             session,
@@ -132,7 +130,7 @@ impl<A: Allocator + Copy> Slots<A> {
     }
 
     /// The session of an id, if it is open. The id of a closed one finds nothing, for good.
-    pub fn get(&self, id: SessionId) -> Option<&Session<A>>
+    pub fn get(&self, id: SessionId) -> Option<&T>
         ensures { option_copied result ≡ find self.now id }
     {
         let slot = self.slots.get(id.slot)?;
@@ -151,17 +149,17 @@ impl<A: Allocator + Copy> Slots<A> {
     }
 
     /// The session of an id that is open, to be changed.
-    fn session_mut(&mut self, id: SessionId) -> &mut Session<A>
+    fn session_mut(&mut self, id: SessionId) -> &mut T
         requires { IsSome (find self.old id) }
-        ensures* writes_back { sem 𝓛 (lends_found A.row A.Allocator self.entry id result) }
+        ensures* writes_back { sem 𝓛 (lends_found T.row A.row A.Allocator self.entry id result) }
         ensures value { find self.old id ≡ Some result.now }
     {
         self.slots[id.slot].session_mut()
     }
 
     /// The session of an id, if it is open, to be changed.
-    pub fn get_mut(&mut self, id: SessionId) -> Option<&mut Session<A>>
-        ensures* writes_back { sem 𝓛 (lends_if_found A.row A.Allocator self.entry id result) }
+    pub fn get_mut(&mut self, id: SessionId) -> Option<&mut T>
+        ensures* writes_back { sem 𝓛 (lends_if_found T.row A.row A.Allocator self.entry id result) }
         ensures value { option_copied_mut result ≡ find self.old id }
     {
         if self.has(id) {
@@ -173,7 +171,7 @@ impl<A: Allocator + Copy> Slots<A> {
 
     /// Closes the session of an id, if it is open, and hands it out. Its id finds nothing from now
     /// on.
-    pub fn close(&mut self, id: SessionId) -> Option<Session<A>>
+    pub fn close(&mut self, id: SessionId) -> Option<T>
         ensures value { result ≡ find self.old id }
         ensures none { find self.new id ≡ None }
         ensures others { OthersKept self.old self.new id }

@@ -52,7 +52,7 @@ on_open goes old new at id o (Some t) true e f c s =
 on_open goes old new at id o (Some t) false e f c s =
     same_some _ _ (ap (λ q. find q id) c.slots_are ∙ find-with_session-other old.slots at id t c.after f (other_id at id e)) s
 
-opened_open : (old new : HostState) (at id : SessionId) (same : Bool) → is_same_id at id ≡ same → Opens old.slots new.slots at → IsSome (find old.slots id) → IsSome (find new.slots id)
+opened_open : (old new : HostState) (at id : SessionId) (same : Bool) → is_same_id at id ≡ same → Opens old.slots new.slots at new_session → IsSome (find old.slots id) → IsSome (find new.slots id)
 opened_open old new at id true e p s = some_of (find new.slots id) new_session (ap (find new.slots) (sym (same_id at id e)) ∙ p.now)
 opened_open old new at id false e p s = same_some _ _ (p.others id (other_id at id e)) s
 

@@ -5,6 +5,7 @@ use Rattle.std.proofs.lemmas.List.{get_or-set_other}
 use Rattle.std.proofs.lemmas.List.Sums.{sum_by-cons}
 use Rattle.session_slots.specs.declared.id.SessionId.{SessionId}
 use Rattle.session_slots.specs.Slots.{OpenSession, OpenSessions, count, find}
+use Rattle.usi_session.specs.Due.{SessionView}
 use Rattle.session_slots.proofs.Finds.{IsAt, found_at}
 use Rattle.host_core.specs.Steps.{HostState}
 use Rattle.socket_loop.specs.declared.connection.Link.{Link}
@@ -14,28 +15,28 @@ use Rattle.socket_loop.specs.Turns.{Accepts, Fits, HaveSessions, IsNew}
 use Rattle.socket_loop.proofs.Endings.{Found, found, opened_stays, stays_open}
 use Rattle.socket_loop.proofs.Runs.{closes-admissions}
 
-abbrev open_in : Option OpenSession → ℕ
+abbrev open_in : Option (OpenSession SessionView) → ℕ
 open_in slot = cond (is_some slot) 1 0
 
 -- an open slot less
-count-emptied : (xs : List (Option OpenSession)) (k : ℕ) (o : OpenSession) → slice_index_or xs k None ≡ Some o → count_by is_some (set xs k None) + 1 ≡ count_by is_some xs
+count-emptied : (xs : List (Option (OpenSession SessionView))) (k : ℕ) (o : OpenSession SessionView) → slice_index_or xs k None ≡ Some o → count_by is_some (set xs k None) + 1 ≡ count_by is_some xs
 count-emptied [] k o e = absurd (cc)
 count-emptied (x ∷ xs) zero o e =
     let one : open_in x ≡ 1 = ap open_in e in
     omega (arith, one, sum_by-cons open_in x xs, sum_by-cons open_in None xs)
 count-emptied (x ∷ xs) (suc k) o e = omega (arith, count-emptied xs k o e, sum_by-cons open_in x xs, sum_by-cons open_in x (set xs k None))
 
-at_some : (s : OpenSessions) (id : SessionId) → IsSome (find s id) → IsAt id.generation (slice_index_or s.slots id.slot None)
+at_some : (s : OpenSessions SessionView) (id : SessionId) → IsSome (find s id) → IsAt id.generation (slice_index_or s.slots id.slot None)
 at_some s id some = (let f : Found (find s id) = found (find s id) some in found_at id.generation (slice_index_or s.slots id.slot None) f.session f.is)
 
 -- two that are open in one slot are one
-one_slot : (s : OpenSessions) (a b : SessionId) → IsSome (find s a) → IsSome (find s b) → a.slot ≡ b.slot → a ≡ b
+one_slot : (s : OpenSessions SessionView) (a b : SessionId) → IsSome (find s a) → IsSome (find s b) → a.slot ≡ b.slot → a ≡ b
 one_slot s a b some_a some_b same =
     let x = at_some s a some_a in
     let y = at_some s b some_b in
     let one : Some x.opened ≡ Some y.opened = sym x.slot_is ∙ (ap (λ key. slice_index_or s.slots key None) same ∙ y.slot_is) in
     let opened : x.opened ≡ y.opened = cc in
-    let generation : a.generation ≡ b.generation = sym x.generation_is ∙ (ap (λ (o : OpenSession). o.generation) opened ∙ y.generation_is) in
+    let generation : a.generation ≡ b.generation = sym x.generation_is ∙ (ap (λ (o : OpenSession SessionView). o.generation) opened ∙ y.generation_is) in
     λ k. record { slot = same k; generation = generation k }
 
 strange_of : (ls : List Link) (id : SessionId) (l : Link) → IsStrange ls id → IsAmong ls l → l.id ≢ id
@@ -44,11 +45,11 @@ strange_of (x ∷ xs) id l p (inl e) = λ same. p.0 (ap (λ (k : Link). k.id) (s
 strange_of (x ∷ xs) id l p (inr m) = strange_of xs id l p.1 m
 
 -- each with an open session of its own
-few : (ls : List Link) (s : OpenSessions) → AreOnce ls → ((l : Link) → IsAmong ls l → IsSome (find s l.id)) → length ls ≤ count s
+few : (ls : List Link) (s : OpenSessions SessionView) → AreOnce ls → ((l : Link) → IsAmong ls l → IsSome (find s l.id)) → length ls ≤ count s
 few [] s once open_all = omega arith
 few (x ∷ ls) s once open_all =
     let here = at_some s x.id (open_all x (inl refl)) in
-    let less : OpenSessions = record s { slots = set s.slots x.id.slot None } in
+    let less : OpenSessions SessionView = record s { slots = set s.slots x.id.slot None } in
     let rest : length ls ≤ count less = few ls less once.1 (λ l m.
     let some : IsSome (find s l.id) = open_all l (inr m) in
     let other : l.id.slot ≢ x.id.slot = λ same. strange_of ls x.id l once.0 m (one_slot s l.id x.id some (open_all x (inl refl)) same) in

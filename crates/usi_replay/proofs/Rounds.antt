@@ -21,12 +21,12 @@ use Rattle.host_core.proofs.Rounds.{is_in, pending_in}
 use Rattle.usi_replay.specs.Sessions.{OwesTheSame, KeepsDue, KeepsAllBut, works_left}
 
 -- as many are open after a write to a session
-pub count-with_session : (s : slots.OpenSessions) (id : SessionId) (t after : SessionView) → find s id ≡ Some t → count (with_session s id after) ≡ count s
+pub count-with_session : (s : slots.OpenSessions SessionView) (id : SessionId) (t after : SessionView) → find s id ≡ Some t → count (with_session s id after) ≡ count s
 count-with_session s id t after e =
     let a : IsAt id.generation (slice_index_or s.slots id.slot None) = found_at id.generation (slice_index_or s.slots id.slot None) t e in
     let within : id.slot < length s.slots = (let f : slice_index_or s.slots id.slot None ≡ Some a.opened = a.slot_is in grind (arith, get_or_past)) in
-    let one : ◌≡◌ {A = ℕ} (cond (is_some (get_or s.slots id.slot None)) 1 0) 1 = ap (λ (o : Option slots.OpenSession). cond (is_some o) 1 0) a.slot_is in
-    let u = sum_by-set (λ (o : Option slots.OpenSession). cond (is_some o) 1 0) s.slots id.slot (Some (record { generation = id.generation; session = after })) None within in
+    let one : ◌≡◌ {A = ℕ} (cond (is_some (get_or s.slots id.slot None)) 1 0) 1 = ap (λ (o : Option (slots.OpenSession SessionView)). cond (is_some o) 1 0) a.slot_is in
+    let u = sum_by-set (λ (o : Option (slots.OpenSession SessionView)). cond (is_some o) 1 0) s.slots id.slot (Some (record { generation = id.generation; session = after })) None within in
     omega (arith, u, one)
 
 -- a session changed, and no other
@@ -34,8 +34,8 @@ pub changes_keep : (goes : SessionView → Outcome → SessionView → Type 0) (
 changes_keep goes old new id s o e c = record {
   others = λ other differs. ap (λ q. find q other) c.slots_are ∙ find-with_session-other old.slots id other s c.after e differs;
   count_is = ap count c.slots_are ∙ count-with_session old.slots id s c.after e;
-  max_is = ap (λ (q : slots.OpenSessions). q.max) c.slots_are;
-  next_is = ap (λ (q : slots.OpenSessions). q.next) c.slots_are;
+  max_is = ap (λ (q : slots.OpenSessions SessionView). q.max) c.slots_are;
+  next_is = ap (λ (q : slots.OpenSessions SessionView). q.next) c.slots_are;
 }
 
 pub changed_finds : (goes : SessionView → Outcome → SessionView → Type 0) (old new : HostState) (id : SessionId) (s : SessionView) (o : Outcome) → find old.slots id ≡ Some s → (c : Changed goes old id s o new) → find new.slots id ≡ Some c.after

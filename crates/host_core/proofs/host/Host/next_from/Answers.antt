@@ -2,6 +2,7 @@ use Rattle.std.proofs.Common.{◌≡◌, ℕ, ◌-◌, ◌≤◌, Option, None, 
 use Rattle.std.specs.Prelude.{IfSome, IsSome, SomeIff}
 use Rattle.session_slots.specs.Order.{next_of, start_of}
 use Rattle.session_slots.specs.Slots.{OpenSessions, find}
+use Rattle.usi_session.specs.Due.{SessionView}
 use Rattle.host_core.specs.Steps.{HostState}
 use Rattle.host_core.proofs.Rounds.{next_found, next_none}
 use Rattle.host_core.proofs.host.Host.next_from.Goals as goal
@@ -18,7 +19,7 @@ returns-clause-next g c =
 pub returns-clause-open : goal.returns-clause-open
 returns-clause-open g c =
     let same = ap (λ (h : HostState). h.slots) c.self.view_is in
-    subst (λ (s : OpenSessions). IfSome c.next_open.result (λ id. IsSome (find s id))) same c.next_open.ensures.open
+    subst (λ (s : OpenSessions SessionView). IfSome c.next_open.result (λ id. IsSome (find s id))) same c.next_open.ensures.open
 
 pub returns-clause-none : goal.returns-clause-none
 returns-clause-none g c =

@@ -1,5 +1,6 @@
 use Rattle.std.proofs.Common.{◌≡◌, ◌∙◌, Some, refl, sym, ap, rules}
 use Rattle.session_slots.specs.Slots.{OpenSessions, find, with_session}
+use Rattle.usi_session.specs.Due.{SessionView}
 use Rattle.host_core.specs.ById.{pending_of}
 use Rattle.host_core.proofs.Shares.{told_written}
 use Rattle.host_core.proofs.Still.{still_written}
@@ -12,7 +13,7 @@ invariant_of-self-2 g c =
 
 pub returns-clause-worked : goal.returns-clause-worked
 returns-clause-worked g c =
-    let slots : OpenSessions = c.self.inside.slots in
+    let slots : OpenSessions SessionView = c.self.inside.slots in
     let is : find slots c.args.id ≡ Some c.in-Some.session.now = search rules in (
       search rules,
       rw (← c.self.view_is) (record {

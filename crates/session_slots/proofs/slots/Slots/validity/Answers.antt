@@ -1,6 +1,5 @@
-use Rattle.std.proofs.Common.{◌≤◌, None, arith}
+use Rattle.std.proofs.Common.{None, arith}
 use Rattle.std.specs.Prelude.{slice_index_or}
-use Rattle.session_slots.specs.Slots.{count}
 use Rattle.session_slots.proofs.Below.{found_below}
 use Rattle.session_slots.proofs.slots.Slots.validity.Goals as goal
 
