@@ -28,7 +28,7 @@ QUIET = 20
 USUAL_MINUTES = 12
 # What each crate takes in it, in seconds. What is left is told by these and by how fast it went so far.
 USUAL = {
-    "shogi_core": 98,
+    "shogi_core": 82,
     "shogi_moves": 59,
     "shogi_replies": 35,
     "shogi_sfen": 40,
@@ -42,8 +42,8 @@ USUAL = {
     "usi_session": 113,
     "wires": 58,
     "stream_wire": 90,
-    "session_slots": 32,
-    "host_core": 47,
+    "session_slots": 12,
+    "host_core": 50,
     "socket_loop": 54,
     "usi_stdio": 31,
     "usi_serve": 20,

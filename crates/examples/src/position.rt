@@ -10,8 +10,7 @@ use shogi_core::{Piece, Position, Square};
 /// on the board.
 pub fn own_piece(p: &Position, file: u8, rank: u8) -> Option<Piece>
     ensures on_board { IfSome result (λ piece. IsOnBoard file rank) }
-    ensures there { IfSome result
-        (λ piece. piece_at p.now.cells (index_of file rank) ≡ Some piece) }
+    ensures at { IfSome result (λ piece. piece_at p.now.cells (index_of file rank) ≡ Some piece) }
     ensures own { IfSome result (λ piece. piece.color ≡ p.now.side) }
 {
     let piece = p.at(Square::new(file, rank)?)?;

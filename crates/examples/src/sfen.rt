@@ -12,8 +12,7 @@ use shogi_sfen::read_move;
 /// The position after a move given by its text, as `7g7f` or `P*5e`; none where the text is no move's
 /// or the move is not legal.
 pub fn play_text(p: &Position, text: &[u8]) -> Option<Position>
-    ensures legal { IsSome result
-        → IsSomeAnd (move_of_text text.now) (λ m. is_legal p.now m ≡ true) }
+    ensures law { IsSome result → IsSomeAnd (move_of_text text.now) (λ m. is_legal p.now m ≡ true) }
     ensures next { IfSome result
         (λ q. IsSomeAnd (move_of_text text.now) (λ m. q ≡ after p.now m)) }
 {

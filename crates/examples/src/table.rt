@@ -18,8 +18,8 @@ pub fn search_twice<S: BuildHasher, A: Allocator + Clone>(
     table: &mut SharedTable<S, A>,
 ) -> (Found, Found)
     requires { depth ≤ 16 }
-    ensures value { (result.0.value ≡ value p.now e depth)
-        × (result.1.value ≡ value p.now e depth) }
+    ensures first { result.0.value ≡ value p.now e depth }
+    ensures second { result.1.value ≡ value p.now e depth }
     ensures best { result.0.best ≡ result.1.best }
 {
     let first = search(p, e, depth, table);

@@ -1,8 +1,8 @@
 //! A front end that tells its bytes and its calls, and the calls of runs over it.
 
-ghost use Rattle.std.specs.Prelude.{◌≡◌, ◌++◌, ◌∷◌, [], map, Some};
+ghost use Rattle.std.specs.Prelude.{◌≡◌, ◌++◌, ◌∷◌, []};
 ghost use Rattle.usi_stdio.specs.Dialogue.{Talks};
-ghost use Rattle.session_acceptance.specs.Calls.{call_of};
+ghost use Rattle.session_acceptance.specs.Calls.{told_by};
 
 use crate::call::Call;
 use std::alloc::Global;
@@ -53,13 +53,13 @@ impl<'r, R: Abort> TellingEnd<'r, R> {
 }
 
 impl<'r, R: Abort> FrontEnd for TellingEnd<'r, R> {
-    ghost use Rattle.std.specs.Prelude.{map, Some};
-    ghost use Rattle.session_acceptance.specs.Calls.{call_of};
+    ghost use Rattle.std.specs.Prelude.{Some};
+    ghost use Rattle.session_acceptance.specs.Calls.{told_by};
 
     ghost report = { λ end. record {
       unread = Some end.unread.now;
       written = Some end.written.items;
-      calls = Some (map call_of end.calls.items);
+      calls = told_by end.calls.items;
     } };
 
     fn read(&mut self, buf: &mut [u8]) -> io::Result<usize> {
@@ -103,8 +103,7 @@ impl<'r, R: Abort> FrontEnd for TellingEnd<'r, R> {
 
 /// A run over such a front end: its calls are a dialogue that ends with the result.
 fn run_over<R: Abort>(alloc: Global, end: &mut TellingEnd<'_, R>) -> Result<(), StdioFault>
-    ensures calls { Talks (Some (map call_of end.old.calls.items))
-        (Some (map call_of end.new.calls.items)) result }
+    ensures calls { Talks (told_by end.old.calls.items) (told_by end.new.calls.items) result }
 {
     stdio(alloc, end, 1)
 }

@@ -286,8 +286,7 @@ impl<A: Allocator + Copy> Loop<A> {
     /// it failed, a feed of its session was refused for memory, or it was finished with.
     pub fn turn<W: Wire, S: BuildHasher>(&mut self, host: &mut Host<S, A>, wire: &mut W) -> Turn
         requires fits { Fits (links_of self.old.held) (W.bound wire.old) host.old }
-        ensures turned { Turned W.Wire result
-            self.old host.old wire.old self.new host.new wire.new }
+        ensures turn { Turned W.Wire result self.old host.old wire.old self.new host.new wire.new }
         ensures pending { result.moved ≡ false → NonePending host.new self.new.held }
         ensures known { StaysKnown (W.report wire.old) (W.report wire.new) }
         ensures fits { Fits (links_of self.new.held) (W.bound wire.new) host.new }

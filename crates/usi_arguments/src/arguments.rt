@@ -3,7 +3,7 @@ ghost use Rattle.std.specs.Prelude.{◌≡◌, ◌<◌, ◌^◌, ℕ, false, [],
 ghost use Rattle.clap.specs.Words.{app_of, kind_of, rule_of, subcommand_rows_of};
 ghost use Rattle.clap.specs.declared.builder.command.Command.TheViews.{out-Command as fields_of};
 ghost use Rattle.usi_arguments.specs.Answers.{AreHelpArguments, AreReplayArguments, AreServeNumbers, AreStdioArguments, AreVersionArguments, Gives, GivesHelp, GivesReplay, HasNoNumbers, HasRanges, IsAnswerTo, IsAnswerToParsed, IsAskedBy, IsJobIn, IsJobOf, IsRefusedFor, IsReplayOf, IsServeIn, IsStdioOf, NamesNoJob, NamesNoReplay, NamesNoServe, NamesNoStdio};
-ghost use Rattle.usi_arguments.specs.CommandLine.{HasNone, HasNumber, IsNumber, NamesTextIfAny, command_line, entries_option, options_in, replay_command, replay_line, serve_command, slice_option, slots_option, socket_command, socket_option, status_option, stdio_command, stdio_line, turns_option};
+ghost use Rattle.usi_arguments.specs.CommandLine.{HasNone, HasNumber, IsNumber, NamesTextIfAny, command_line, entries_option, options_in, replay_command, replay_line, serve_command, slice_option, slots_option, socket_command, socket_option, status_option, stdio_command, stdio_line, turns_option, with_host_options};
 ghost use Rattle.usi_arguments.specs.declared.arguments.Job.TheVariants.{Stdio, Replay, Version};
 ghost use Rattle.usi_arguments.specs.declared.arguments.ArgumentsFault.TheVariants.{OutOfMemory};
 
@@ -312,10 +312,20 @@ fn replay_command<'a>(alloc: Global) -> Result<Command<'a>, AllocError>
     ensures app { IfOk result (λ command. app_of command ≡ replay_command) }
     ensures local { IfOk result (λ command. (fields_of command).has_globals ≡ false) }
 {
-    Command::new(alloc, "replay")
+    let command = Command::new(alloc, "replay")
         .about("Runs many sessions from one script on standard input")
         .after_help(REPLAY_HELP)
-        .after_long_help(REPLAY_LONG_HELP)
+        .after_long_help(REPLAY_LONG_HELP);
+    with_host_options(alloc, command)
+}
+
+/// The command with the options of a host.
+fn with_host_options<'a>(alloc: Global, command: Command<'a>) -> Result<Command<'a>, AllocError>
+    requires { (fields_of command).has_globals ≡ false }
+    ensures app { IfOk result (λ made. app_of made ≡ with_host_options (app_of command.entry)) }
+    ensures local { IfOk result (λ made. (fields_of made).has_globals ≡ false) }
+{
+    command
         .arg(slots_option(alloc))?
         .arg(entries_option(alloc))?
         .arg(slice_option(alloc))
@@ -325,11 +335,7 @@ fn serve_command<'a>(alloc: Global) -> Result<Command<'a>, AllocError>
     ensures app { IfOk result (λ command. app_of command ≡ serve_command) }
     ensures local { IfOk result (λ command. (fields_of command).has_globals ≡ false) }
 {
-    socket_command(alloc)?
-        .arg(slots_option(alloc))?
-        .arg(entries_option(alloc))?
-        .arg(slice_option(alloc))?
-        .arg(turns_option(alloc))
+    with_host_options(alloc, socket_command(alloc)?)?.arg(turns_option(alloc))
 }
 
 /// `serve` with the options that name its sockets.

@@ -17,7 +17,7 @@ loop-preserved g c = record {
     turn = record {
       moved = c.turn-turn.result.moved;
       tally = c.turn-turn.result.tally;
-      turned = rw c.loop.invariant.slice at c.turn-turn.ensures.turned.scenes;
+      turned = rw c.loop.invariant.slice at c.turn-turn.ensures.turn.scenes;
       pending = c.turn-turn.ensures.pending;
       known = c.turn-turn.ensures.known;
       fits = c.turn-turn.ensures.fits;
@@ -29,7 +29,7 @@ loop-preserved g c = record {
     wait = record { held = search rules; bound = c.wait.ensures.bound; report = c.wait.ensures.kept; asked = c.in_ok-wait.ensures.asked; faults = c.wait.ensures.cause.0; host = search rules };
   });
   fits = rw c.wait.ensures.bound c.turn-turn.ensures.fits;
-  slice = c.turn-turn.ensures.turned.slice ∙ c.loop.invariant.slice;
+  slice = c.turn-turn.ensures.turn.slice ∙ c.loop.invariant.slice;
 }
 
 -- the wait is what failed, after one more turn
@@ -40,7 +40,7 @@ returns-in_err-wait-clause-all g c =
     record {
       moved = c.turn-turn.result.moved;
       tally = c.turn-turn.result.tally;
-      turned = rw c.loop.invariant.slice at c.turn-turn.ensures.turned.scenes;
+      turned = rw c.loop.invariant.slice at c.turn-turn.ensures.turn.scenes;
       pending = c.turn-turn.ensures.pending;
       known = c.turn-turn.ensures.known;
       fits = c.turn-turn.ensures.fits;
@@ -52,7 +52,7 @@ returns-in_err-wait-clause-all g c =
     let wait : IsWait c.turn-turn.result.moved c.wait.result middle (scene g.W.Wire c.turn-turn.new.self.held c.wait.new.self c.turn-turn.new.host) =
     record { held = search rules; bound = c.wait.ensures.bound; report = c.wait.ensures.kept; asked = c.wait.ensures.asked; faults = c.wait.ensures.cause.0; host = search rules } in
     record {
-      slice = c.turn-turn.ensures.turned.slice ∙ c.loop.invariant.slice;
+      slice = c.turn-turn.ensures.turn.slice ∙ c.loop.invariant.slice;
       scenes = record {
         done = search rules;
         stopped = stopped_by _ _ _ _ c.from_residual.result c.requires.fits (stops c.wait.result c.from_residual.result _ _ _ _ _ middle _ (search rules) (search rules) c.loop.invariant.so_far turn wait c.wait.ensures.cause);

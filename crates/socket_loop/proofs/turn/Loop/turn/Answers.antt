@@ -10,8 +10,8 @@ use Rattle.socket_loop.proofs.Rising.{rising_filter}
 use Rattle.socket_loop.proofs.Left.{none_finished, once_filter}
 use Rattle.socket_loop.proofs.turn.Loop.turn.Goals as goal
 
-pub returns-clause-turned : goal.returns-clause-turned
-returns-clause-turned g c = record {
+pub returns-clause-turn : goal.returns-clause-turn
+returns-clause-turn g c = record {
   slice = c.remove_shut.ensures.slice ∙ (c.close_all-closed.ensures.all.slice ∙ (c.write_all-written.ensures.all.slice ∙ (c.read_all-read.ensures.all.slice ∙ c.accept_all-arrivals.ensures.slice)));
   scenes = turns _ _ _ _ _
       (
