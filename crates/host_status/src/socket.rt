@@ -28,7 +28,8 @@ pub struct StatusSocket<A: Allocator> {
     listener: UnixListener,
     registry: Registry,
     line: Vec<u8, A>,
-    limits: Limits,
+    /// What the host was given.
+    pub limits: Limits,
     /// What was counted so far.
     pub totals: Totals,
 }
@@ -61,6 +62,7 @@ impl<A: Allocator + Copy> StatusSocket<A> {
         wire: &MioWire<A>,
     ) -> Result<StatusSocket<A>, WireFault>
         ensures unnamed { path.now ≡ [] → result ≡ Err Device }
+        ensures limits { IfOk result (λ socket. socket.limits ≡ limits) }
         ensures none { IfOk result (λ socket. socket.totals ≡ no_totals) }
     {
         if path.is_empty() {
@@ -84,7 +86,8 @@ impl<A: Allocator + Copy> StatusSocket<A> {
 
     /// Makes the line of now. There is none where memory is refused.
     fn tell<S: BuildHasher>(&mut self, host: &Host<S, A>, connections: &Loop<A>, wire: &MioWire<A>)
-        ensures { self.new.totals ≡ self.old.totals }
+        ensures limits { self.new.limits ≡ self.old.limits }
+        ensures totals { self.new.totals ≡ self.old.totals }
     {
         let status = status_of(self.limits, self.totals, host, connections, wire);
         if write_line(&mut self.line, &status).is_err() {
@@ -95,7 +98,8 @@ impl<A: Allocator + Copy> StatusSocket<A> {
 
 impl<S: BuildHasher, A: Allocator + Copy> Monitor<MioWire<A>, S, A> for StatusSocket<A> {
     fn see(&mut self, turn: &Turn, host: &Host<S, A>, connections: &Loop<A>, wire: &MioWire<A>)
-        ensures { self.new.totals ≡ counted self.old.totals turn.now.tally }
+        ensures limits { self.new.limits ≡ self.old.limits }
+        ensures totals { self.new.totals ≡ counted self.old.totals turn.now.tally }
     {
         self.totals.count(&turn.tally);
         let Ok((first, _)) = self.listener.accept() else {
