@@ -1,12 +1,14 @@
 #!/usr/bin/env python3
-"""check/build.py [NAME..]: proves and builds these programs, or the library for C, where a source is newer than
-them; without a NAME, usi_host. By the command of the gate, `rt ci`, over the crates that they stand on, in a
-tree of their own without edits. So each proof is from nothing, and what passed is kept on the machine, for the
-gate as well, and where a build was cut off.
+"""check/build.py [--passed] [NAME..]: proves and builds these programs, or the library for C; without a NAME, usi_host.
+Each crate that they stand on is proved from nothing, by the command of the toolchain that `rt ci` calls as well, and
+again only where a file of it, or of a crate below it, is another than when it was proved. First comes the crate with
+the longest chain of others behind it, by all processors; two others are proved beside it, and give way to it.
+With --passed, right after `rt ci`, nothing is built: what that proved in this tree is taken as proved.
 Standard error tells which crates are proved, after how many seconds, and about how long is left, as fast as it
-went so far. What the toolchain says is kept in `crates/usi_host/out/build.log`, and shown where it fails."""
+went so far. What the toolchain says is kept in `out/build.log` of each crate, and shown where it fails."""
 
 import fcntl
+import hashlib
 import os
 import re
 import shutil
@@ -18,42 +20,42 @@ import time
 TOP = os.path.dirname(os.path.dirname(os.path.abspath(__file__)))
 CRATES = os.path.join(TOP, "crates")
 NAME, LIBRARY = "usi_host", "usi_library"
-OUT = os.path.join(CRATES, NAME, "out")
-LOG = os.path.join(OUT, "build.log")
-# The tree in which the crates are proved.
-ROOM = os.path.join(OUT, "room")
 # How long nothing is told at most, in seconds.
 QUIET = 20
-# How long a build from nothing takes on four usual cores, in minutes.
-USUAL_MINUTES = 12
-# What each crate takes in it, in seconds. What is left is told by these and by how fast it went so far.
+# How many crates are proved at a time, at most one a processor.
+AT_ONCE = 3
+# What each crate takes of a processor in it, in seconds. What is left is told by these and by how fast it went so far.
 USUAL = {
-    "shogi_core": 82,
-    "shogi_moves": 59,
-    "shogi_replies": 35,
-    "shogi_sfen": 40,
-    "shogi_eval": 19,
+    "shogi_core": 95,
+    "shogi_moves": 70,
+    "shogi_replies": 42,
+    "shogi_sfen": 44,
+    "shogi_eval": 25,
     "minimax": 6,
-    "search_nodes": 68,
+    "search_nodes": 72,
     "last_ply": 56,
-    "shogi_search": 103,
+    "shogi_search": 117,
     "shared_table": 23,
     "usi_lines": 27,
-    "usi_session": 113,
-    "wires": 58,
+    "usi_session": 120,
+    "wires": 6,
     "stream_wire": 90,
     "session_slots": 12,
-    "host_core": 50,
-    "socket_loop": 54,
+    "host_core": 72,
+    "socket_loop": 60,
     "usi_stdio": 31,
     "usi_serve": 20,
     "host_status": 38,
     "usi_replay": 47,
     "usi_library": 36,
-    "usi_arguments": 100,
+    "usi_arguments": 86,
     "usi_runs": 12,
-    "usi_host": 63,
+    "usi_host": 80,
 }
+
+
+class Failed(Exception):
+    """Why nothing was built, for standard error."""
 
 
 def uses():
@@ -77,22 +79,9 @@ def below(used, names):
     return [it for it in used if it in found]
 
 
-def newest(folder):
-    """When a file of the folder that is no product was changed last."""
-    times = [0.0]
-    for path, folders, names in os.walk(folder):
-        folders[:] = [it for it in folders if it not in ("out", "must-fail")]
-        times.extend(os.path.getmtime(os.path.join(path, name)) for name in names)
-    return max(times)
-
-
-def product(crate):
-    """The program, or the library for C, in the crate's folder."""
-    return os.path.join(CRATES, crate, "out", f"lib{crate}.a" if crate == LIBRARY else crate)
-
-
-def changed(path):
-    return os.path.getmtime(path) if os.path.exists(path) else 0.0
+def usual(crates):
+    """What these crates take of a processor, in usual seconds."""
+    return sum(USUAL.get(it, 20) for it in crates)
 
 
 def minutes(seconds):
@@ -103,159 +92,232 @@ def tell(text):
     print(text, file=sys.stderr, flush=True)
 
 
-def longest(used, crates, left):
-    """How long the crates that are left take: the longest chain of them, each waiting for the one before it,
-    or all of them on the processors, in usual seconds."""
-    chain = {}
-    for crate in crates:
-        own = USUAL.get(crate, 0) if crate in left else 0
-        chain[crate] = own + max((chain[it] for it in used[crate] if it in chain), default=0)
-    whole = sum(USUAL.get(it, 0) for it in left)
-    return max(*chain.values(), whole / len(os.sched_getaffinity(0)))
+def out(crate, *path):
+    return os.path.join(CRATES, crate, "out", *path)
 
 
-def furnish(lines, crates):
-    """Makes the tree: of each crate its line, and its folder but for edits and products."""
-    shutil.rmtree(ROOM, ignore_errors=True)
-    # Without a folder of this name it would be taken for a part of the repository around it.
-    os.makedirs(os.path.join(ROOM, ".git"))
-    shutil.copy2(os.path.join(TOP, "HANDLES"), ROOM)
-    with open(os.path.join(ROOM, "crates.txt"), "w", encoding="utf-8") as list_of_crates:
-        list_of_crates.writelines(lines[it] for it in crates)
+def is_program(crate):
+    return os.path.exists(os.path.join(CRATES, crate, "src", "main.rt"))
+
+
+def product(crate):
+    """What is made of a crate: a program, the library for C, or a library for the crates above."""
+    if crate == LIBRARY:
+        return out(crate, f"lib{crate}.a")
+    return out(crate, crate) if is_program(crate) else out(crate, "proved", f"{crate}.rlib")
+
+
+def unlinked(program):
+    return out(program, "proved", f"{program}.o")
+
+
+def sums(lines, used, crates):
+    """Of each of these crates, lowest first, a sum of all that its proof reads: the toolchain, its line, its files, and
+    those of the crates below it."""
+    kit, found = subprocess.run(["rt", "version"], capture_output=True, check=True).stdout, {}
     for crate in crates:
-        to = os.path.join(ROOM, "crates", crate)
-        shutil.copytree(os.path.join(CRATES, crate), to, ignore=shutil.ignore_patterns("out", "must-fail"))
+        read = hashlib.sha256(repr((kit, lines[crate], [found[it] for it in used[crate]])).encode())
+        for part in ("src", "specs", "proofs"):
+            for folder, folders, names in os.walk(os.path.join(CRATES, crate, part)):
+                folders.sort()
+                for name in sorted(names):
+                    path = os.path.join(folder, name)
+                    with open(path, "rb") as file:
+                        read.update(repr((os.path.relpath(path, CRATES), file.read())).encode())
+        found[crate] = read.hexdigest()
+    return found
+
+
+def note(crate, its_sum):
+    """Notes that the product of the crate was made of what has this sum."""
+    os.makedirs(out(crate, "proved"), exist_ok=True)
+    with open(out(crate, "proved", "sum"), "w", encoding="utf-8") as file:
+        file.write(f"{its_sum} {os.stat(product(crate)).st_mtime_ns}")
+
+
+def is_made(crate, its_sum):
+    """Whether the product of the crate stands there as it was made of this."""
+    try:
+        with open(out(crate, "proved", "sum"), encoding="utf-8") as file:
+            return file.read() == f"{its_sum} {os.stat(product(crate)).st_mtime_ns}"
+    except OSError:
+        return False
+
+
+def take(crate, its_sum):
+    """Takes what `rt ci` made of the crate, unless what stands there is of `rt check`."""
+    made = out(crate, "rlib", f"{crate}.rlib")
+    if os.path.isdir(made) and not os.path.exists(out(crate, "rlib", "stamp")):
+        os.makedirs(out(crate, "proved"), exist_ok=True)
+        shutil.rmtree(product(crate), ignore_errors=True)
+        os.rename(made, product(crate))
+    if os.path.exists(product(crate)):
+        note(crate, its_sum)
 
 
 class Build:
-    """A run of `rt ci` over the tree, and what it has told."""
+    """The crates that are to be proved, and those that are being proved."""
 
-    def __init__(self, lines, used, crates, lock):
-        self.used, self.crates = used, crates
-        self.left, self.new = set(crates), set(crates)
+    def __init__(self, lines, used, crates, its_sums):
+        self.lines, self.used, self.crates, self.sums = lines, used, crates, its_sums
+        self.kit = os.path.dirname(os.path.dirname(os.path.realpath(shutil.which("rt"))))
+        self.processors = len(os.sched_getaffinity(0))
+        said = subprocess.run([f"{self.kit}/bin/rattle", "build", "--help"], capture_output=True, check=False).stdout
+        self.statements = ["--statements"] if b"--statements" in said else []
+        self.left = [it for it in crates if not is_made(it, its_sums[it])]
+        self.new = len(self.left)
+        self.behind, self.running, self.stopped = {}, {}, 0
+        for crate in reversed(crates):
+            after = (self.behind[it] for it in self.behind if crate in used[it])
+            self.behind[crate] = usual([crate]) + max(after, default=0)
         self.start = self.told = self.last = time.time()
-        self.stopped = 0
-        furnish(lines, crates)
-        with open(LOG, "wb") as log:
-            self.running = subprocess.Popen(
-                ["rt", "ci"],
-                cwd=ROOM,
-                stdin=subprocess.DEVNULL,
-                stdout=log,
-                stderr=subprocess.STDOUT,
-                start_new_session=True,
-                pass_fds=[lock],
-            )
+        self.work = usual(self.left)
 
     def stop(self, number, _):
         """Notes the signal that ends the build."""
         self.stopped = number
 
-    def said(self):
-        with open(LOG, encoding="utf-8", errors="replace") as log:
-            return log.read()
+    def words(self, crate, jobs):
+        """The command that proves a crate from nothing, over what those below it state, and makes its product."""
+        kit, to = self.kit, product(crate)
+        words = [f"{kit}/bin/rattle", "build", "--crate-name", crate]
+        words += ["src/main.rt" if is_program(crate) else "src/lib.rt", "-L", f"dependency={kit}/rlibs"]
+        for name in ("std", *self.lines[crate].split(":")[1].split()):
+            words += ["--extern", f"{name}={product(name) if name in self.used else f'{kit}/rlibs/{name}.rlib'}"]
+        for it in below(self.used, self.used[crate]):
+            words += ["-L", f"dependency={os.path.dirname(product(it))}"]
+        words += ["--antt-project", f"{kit}/rattle/logic/antt-project.json", "--logic-built", f"{kit}/logic_built"]
+        words += ["--links", f"{crate}=", "--jobs", str(jobs)]
+        if crate != LIBRARY and not is_program(crate):
+            return [*words, *self.statements, "-o", to]
+        words += ["--toolchain", f"{kit}/toolchain", "--backend", "llvm"]
+        return words + (["--crate-type", "staticlib", "-o", to] if crate == LIBRARY else ["-o", unlinked(crate)])
+
+    def begin(self, crate, is_first):
+        os.makedirs(out(crate, "proved"), exist_ok=True)
+        with open(out(crate, "build.log"), "wb") as log:
+            running = subprocess.Popen(
+                self.words(crate, self.processors if is_first else (self.processors + 1) // 2),
+                cwd=os.path.join(CRATES, crate),
+                stdin=subprocess.DEVNULL,
+                stdout=log,
+                stderr=subprocess.STDOUT,
+                start_new_session=True,
+                preexec_fn=None if is_first else lambda: os.nice(10),
+            )
+        self.running[crate] = running, is_first
+
+    def begin_ready(self):
+        """Begins the crate with the longest chain behind it, if it waits for none, and others beside it."""
+        unproved = {*self.left, *self.running}
+        beside = {it for it, (_, is_first) in self.running.items() if not is_first}
+        first = max(unproved - beside, key=self.behind.get)
+        for crate in sorted(self.left, key=self.behind.get, reverse=True):
+            # While the first waits for others, a place is kept for it.
+            most = min(AT_ONCE, self.processors) - (crate != first and first in self.left)
+            if unproved.isdisjoint(self.used[crate]) and len(self.running) < most:
+                self.left.remove(crate)
+                self.begin(crate, crate == first)
+
+    def link(self, crate):
+        """Links a program; what went wrong."""
+        words = [f"{self.kit}/bin/rattle-link", "--target", "x86_64-unknown-linux-gnu"]
+        words += ["--toolchain", f"{self.kit}/toolchain", "-o", product(crate), unlinked(crate)]
+        words += [f"{self.kit}/c/libos_c.a", f"{self.kit}/c/liblibc_c.a"]
+        made = subprocess.run(words, capture_output=True, errors="replace", check=False)
+        return f"{made.stdout}{made.stderr}" if made.returncode else ""
+
+    def end(self, crate, status):
+        """Takes in that a crate was proved, or shows why not."""
+        said = ""
+        if status:
+            with open(out(crate, "build.log"), encoding="utf-8", errors="replace") as log:
+                said = "".join(it for it in log if not re.search(r": proved$|^(checked|statements) ", it))
+        elif is_program(crate):
+            said = self.link(crate)
+        if status or said:
+            log = os.path.relpath(out(crate, "build.log"), TOP)
+            raise Failed(f"{said}{crate} was not built (status {status}); {log} has what was said.")
+        if sums(self.lines, self.used, below(self.used, [crate]))[crate] != self.sums[crate]:
+            raise Failed(f"What {crate} stands on changed while it was proved. Call it again.")
+        note(crate, self.sums[crate])
+        self.last = self.told = time.time()
+        tell(f"{self.proved()}: {crate} proved, {self.after()}")
+
+    def proved(self):
+        return f"{len(self.crates) - len(self.left) - len(self.running)} of {len(self.crates)}"
+
+    def expected(self):
+        """About how long all of it takes on usual cores: no crate keeps all of them busy to its end."""
+        return minutes(1.3 * self.work / self.processors)
 
     def after(self):
         """How long it took so far, and about how long is left once a crate was proved."""
         now = time.time()
-        rest, all_new = (longest(self.used, self.crates, it) for it in (self.left, self.new))
+        rest = usual([*self.left, *self.running])
         text = f"after {now - self.start:.0f} s"
-        if all_new > rest > 0:
-            pace = (self.last - self.start) / (all_new - rest)
+        if self.work > rest > 0:
+            pace = (self.last - self.start) / (self.work - rest)
             text += f", {minutes(max(0.0, pace * rest - (now - self.last)))} left"
         return text
 
-    def look(self):
-        """Tells of the crates that are proved since the last look."""
-        found = re.findall(r"^rt: (\w+) (proved|is kept)", self.said(), re.M)
-        for crate, how in found:
-            if crate in self.left:
-                self.left.remove(crate)
-                if how == "proved":
-                    self.last = time.time()
-                else:
-                    self.new.discard(crate)
-                self.told = time.time()
-                tell(f"{len(self.crates) - len(self.left)} of {len(self.crates)}: {crate} {how}, {self.after()}")
-        if time.time() - self.told >= QUIET:
-            self.told = time.time()
-            tell(f"{len(self.crates) - len(self.left)} of {len(self.crates)} {self.after()}")
-
     def whole(self):
-        """Waits for its end; the status."""
-        while self.running.poll() is None:
-            if self.stopped:
-                self.running.send_signal(signal.SIGTERM)
-                self.running.wait()
-                return 128 + self.stopped
+        """Proves and builds all; the status."""
+        while self.left or self.running:
+            if self.left:
+                self.begin_ready()
             time.sleep(0.2)
-            self.look()
-        if self.running.returncode:
-            parts = re.split(r"^== ", self.said(), flags=re.M)
-            failed = [it for it in parts if re.search(r"^rt: .*(NOT PROVED|FAILED|wrote)", it, re.M)] or parts[-1:]
-            shown = (it for it in "".join(failed).splitlines() if not re.match(r"checked |fn .*: proved$", it))
-            tell("\n".join(shown).replace(ROOM, TOP))
-            tell(f"The build failed; {os.path.relpath(LOG, TOP)} has what was said.")
-        return self.running.returncode
+            if self.stopped:
+                return 128 + self.stopped
+            for crate, (running, _) in list(self.running.items()):
+                if running.poll() is not None:
+                    del self.running[crate]
+                    self.end(crate, running.returncode)
+            if time.time() - self.told >= QUIET:
+                self.told = time.time()
+                tell(f"{self.proved()} {self.after()}")
+        return 0
 
-
-def take(name):
-    """Puts the program of the tree in its place; the status."""
-    os.replace(os.path.join(ROOM, "crates", name, "out", name), product(name))
-    return 0
-
-
-def archive(used):
-    """Makes the library for C over the libraries of the tree; the status."""
-    kit = os.path.dirname(os.path.dirname(os.path.realpath(shutil.which("rt"))))
-    libraries = [it for it in below(used, [LIBRARY]) if it != LIBRARY]
-    rlib = {it: os.path.join(ROOM, "crates", it, "out", "rlib", f"{it}.rlib") for it in libraries}
-    words = [os.path.join(kit, "bin", "rattle"), "build", "--crate-name", LIBRARY, "src/lib.rt"]
-    words += ["--crate-type", "staticlib", "--backend", "llvm", "--toolchain", os.path.join(kit, "toolchain")]
-    words += ["--extern", f"std={kit}/rlibs/std.rlib", "-L", f"dependency={kit}/rlibs"]
-    for it in libraries:
-        words += ["--extern", f"{it}={rlib[it]}"] if it in used[LIBRARY] else []
-        words += ["-L", f"dependency={os.path.dirname(rlib[it])}"]
-    words += ["--antt-project", f"{kit}/rattle/logic/antt-project.json", "--logic-built", f"{kit}/logic_built"]
-    words += ["--jobs", str(len(os.sched_getaffinity(0))), "-o", product(LIBRARY)]
-    made = subprocess.run(words, cwd=os.path.join(CRATES, LIBRARY), capture_output=True, errors="replace")
-    if made.returncode:
-        tell(f"{made.stdout}{made.stderr}The library for C was not built.")
-    return made.returncode
+    def kill(self):
+        for running, _ in self.running.values():
+            os.killpg(running.pid, signal.SIGKILL)
+            running.wait()
 
 
 def main():
-    lines, used = uses()
-    names = sys.argv[1:] or [NAME]
-    crates = below(used, names)
-    sources = max(newest(os.path.join(CRATES, crate)) for crate in crates)
-    if all(changed(product(it)) > sources for it in names):
-        return 0
+    names = [it for it in sys.argv[1:] if it != "--passed"] or [NAME]
     if shutil.which("rt") is None:
-        tell("The command rt of the Rattle toolchain is not on the path. README.md says what is needed.")
-        return 1
-    os.makedirs(OUT, exist_ok=True)
-    with open(os.path.join(OUT, "build.lock"), "w", encoding="utf-8") as lock:
+        raise Failed("The command rt of the Rattle toolchain is not on the path. README.md says what is needed.")
+    lines, used = uses()
+    crates = below(used, names)
+    os.makedirs(out(NAME), exist_ok=True)
+    with open(out(NAME, "build.lock"), "w", encoding="utf-8") as lock:
         try:
             fcntl.flock(lock, fcntl.LOCK_EX | fcntl.LOCK_NB)
         except BlockingIOError:
             tell("Another build is under way here; waiting for its end.")
             fcntl.flock(lock, fcntl.LOCK_EX)
-        if not os.path.exists(product(names[0])):
-            tell(f"Proving and building; from nothing about {USUAL_MINUTES} minutes on four usual cores.")
-        build = Build(lines, used, crates, lock.fileno())
-        for number in (signal.SIGINT, signal.SIGTERM):
+        its_sums = sums(lines, used, crates)
+        if "--passed" in sys.argv:
+            for it in crates:
+                take(it, its_sums[it])
+            return 0
+        build = Build(lines, used, crates, its_sums)
+        if build.new == len(crates):
+            tell(f"Proving and building; from nothing {build.expected()} on usual cores.")
+        elif build.new:
+            tell(f"{build.proved()} were proved before.")
+        for number in (signal.SIGINT, signal.SIGTERM, signal.SIGHUP):
             signal.signal(number, build.stop)
-        status = build.whole()
-        for it in names:
-            os.makedirs(os.path.dirname(product(it)), exist_ok=True)
-            status = status or (archive(used) if it == LIBRARY else take(it))
-            if status == 0:
-                # As old as the copies of its sources, so that it is older than what changed since.
-                os.utime(product(it), (build.start, build.start))
-        shutil.rmtree(ROOM, ignore_errors=True)
-    return status
+        try:
+            return build.whole()
+        finally:
+            build.kill()
 
 
 if __name__ == "__main__":
-    sys.exit(main())
+    try:
+        sys.exit(main())
+    except Failed as why:
+        tell(str(why))
+        sys.exit(1)

@@ -13,6 +13,8 @@ status=0
 check/readmes.py | tee "$log" || status=1
 rt ci | tee -a "$log" || status=1
 if [ $status -eq 0 ]; then
+    # What was proved just now is not proved once more.
+    check/build.py --passed usi_host usi_library
     if make --no-print-directory library; then
         check/program.py | tee -a "$log" || status=1
         check/serve.py | tee -a "$log" || status=1

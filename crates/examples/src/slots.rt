@@ -7,7 +7,7 @@ use session_slots::{SessionId, SlotFault, Slots};
 use std::alloc::Allocator;
 
 /// Opens a session and closes it. Its id finds nothing from then on.
-pub fn open_and_close<T: Drop, A: Allocator + Copy>(
+pub fn open_and_close<T: Drop, A: Allocator>(
     slots: &mut Slots<T, A>,
     session: T,
 ) -> Result<SessionId, SlotFault>

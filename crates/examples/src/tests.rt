@@ -16,6 +16,7 @@ use crate::stdio::answer_all;
 use crate::table::search_twice;
 use crate::wire::write_and_shut;
 use host_core::{Event, Host, Outcome};
+use memory_wire::MemoryWire;
 use session_slots::Slots;
 use shared_table::SharedTable;
 use shogi_core::{Color, Move, Piece, Position, Role};
@@ -26,7 +27,7 @@ use socket_loop::Loop;
 use std::hash::{BuildHasherDefault, FoldHasher};
 use std::test::Fail;
 use usi_stdio::Duplex;
-use wires::{MemoryWire, Wire, WireFault};
+use wires::{Wire, WireFault};
 
 #[test]
 fn a_piece_of_the_side_to_move(rt: HostRuntime) {

@@ -1,6 +1,7 @@
 //! Each request of a loop refused in turn: one connection at most is shut early.
 
 use host_core::Host;
+use memory_wire::MemoryWire;
 use socket_loop::Loop;
 use std::alloc::Global;
 use std::hash::{BuildHasherDefault, FoldHasher};
@@ -9,7 +10,7 @@ use std::process::Abort;
 use std::test::Fail;
 use test_support::rows::INFO_AND_BEST_ONE;
 use test_support::{FailingAllocator, holds};
-use wires::{MemoryWire, Wire};
+use wires::Wire;
 
 type Memory = FailingAllocator<Global>;
 

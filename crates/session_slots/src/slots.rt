@@ -26,14 +26,14 @@ pub enum SlotFault {
 
 /// Open sessions under their ids, at most so many at a time.
 #[derive(Drop)]
-pub struct Slots<T, A: Allocator + Copy> {
+pub struct Slots<T, A: Allocator> {
     max: usize,
     // How many sessions were ever opened: the generation of the next one.
     next: u64,
     slots: Slab<Slot<T>, A>,
 }
 
-impl<T, A: Allocator + Copy> Model for Slots<T, A> {
+impl<T, A: Allocator> Model for Slots<T, A> {
     ghost use Rattle.session_slots.specs.Slots.{OpenSessions};
 
     ghost Value = { OpenSessions T };
@@ -45,7 +45,7 @@ impl<T, A: Allocator + Copy> Model for Slots<T, A> {
     ghost invariant = { λ s. AreBounded s.max s.next s.slots.slots };
 }
 
-impl<T, A: Allocator + Copy> Slots<T, A> {
+impl<T, A: Allocator> Slots<T, A> {
     ghost use Rattle.session_slots.specs.Lends.{lends_found, lends_if_found};
 
     /// No session is open, and at most `max` may be at a time, from 1 to 1,024. It takes no memory.

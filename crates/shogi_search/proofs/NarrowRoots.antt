@@ -31,7 +31,7 @@ none_before : (s : Stack) (i : ℕ) → i ≡ 0 → take i s.frames ≡ []
 none_before s i e = ap (λ (n : ℕ). take n s.frames) e
 
 -- the first frame stands for the root
-first_at : (s : Stack) (i : ℕ) (f : Frame) → i ≡ 0 → IsChain s.root s.eval s.depth (negated INFINITY) s.bound (take i s.frames) f → IsAt s.root s.eval s.depth (negated INFINITY) s.bound f
+pub first_at : (s : Stack) (i : ℕ) (f : Frame) → i ≡ 0 → IsChain s.root s.eval s.depth (negated INFINITY) s.bound (take i s.frames) f → IsAt s.root s.eval s.depth (negated INFINITY) s.bound f
 first_at s i f e c = subst (λ (fs : List Frame). IsChain s.root s.eval s.depth (negated INFINITY) s.bound fs f) (none_before s i e) c
 
 -- and so it does under another window

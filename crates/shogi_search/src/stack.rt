@@ -165,12 +165,12 @@ impl Stack {
         if self.height > 0 || self.depth < DEEP_ROOT_MIN {
             return;
         }
-        let root = &mut self.frames[self.height];
+        let root = &self.frames[self.height];
         let bound = root.best_value + 1;
         if root.best_move.is_none() || bound >= self.beta {
             return;
         }
-        root.end_at(bound);
+        self.frames[self.height].end_at(bound);
         self.bound = bound;
     }
 

@@ -1,15 +1,22 @@
 -- What the arguments after the program's name ask for, as `clap` reads them (own choice).
-use Rattle.std.specs.Prelude.{◌≡◌, ◌∷◌, ◌≤◌, ◌-◌, ◌^◌, ℕ, true, List, [], Option, Some, String, codes, option_map, string_bytes}
+use Rattle.std.specs.Prelude.{◌≡◌, ◌∷◌, ◌≤◌, ◌-◌, ◌^◌, ℕ, true, false, IfOk, List, [], Option, Result, Some, String, codes, option_map, string_bytes}
 use Rattle.std.specs.Str.Parse.{IsNumeral, digits_value}
-use Rattle.clap.specs.Words.{App, Kinds, Row, Rule, Text, fault_of, first_of, found_of, new_app, new_rule, rows_of, subcommand_of, with_rule, with_subcommand}
+use Rattle.clap.specs.Words.{App, Kinds, Row, Rule, Text, app_of, fault_of, first_of, found_of, new_app, new_rule, rows_of, subcommand_of, with_rule, with_subcommand}
+use Rattle.clap.specs.declared.builder.command.Command.{Command}
+use Rattle.clap.specs.declared.builder.command.Command.TheViews.{out-Command as fields_of}
 use Rattle.clap.specs.declared.builder.value_parser.ValueParser.TheVariants as parser
 use Rattle.clap.specs.declared.parser.matches.ArgMatches.{ArgMatches}
 
--- the option `--NAME N`, a number from 1 to `most`, and `usual` where it is left out
-abbrev pub number_option : Text → ℕ → Text → Rule
-number_option name most usual = record (new_rule name) {
+-- the option `--NAME VALUE`, which may be left out
+abbrev pub value_option : Text → Rule
+value_option name = record (new_rule name) {
   long = Some name;
   value_names = 1;
+}
+
+-- the option `--NAME N`, a number from 1 to `most`, and `usual` where it is left out
+abbrev pub number_option : Text → ℕ → Text → Rule
+number_option name most usual = record (value_option name) {
   defaults = usual ∷ [];
   parser = Some (parser.Unsigned 1 most);
 }
@@ -32,11 +39,12 @@ turns_option = number_option (codes "turns") (2 ^ 64 - 1) (codes "18446744073709
 
 -- where the socket is made: `--socket PATH`, which has to be there
 abbrev pub socket_option : Rule
-socket_option = record (new_rule (codes "socket")) {
-  long = Some (codes "socket");
-  value_names = 1;
-  required = true;
-}
+socket_option = record (value_option (codes "socket")) { required = true }
+
+-- the command, where it could be made, is this one, with no option that its commands share
+abbrev pub IsMade : {E : Type 0} → App → Result Command E → Type 0
+IsMade app made =
+    IfOk made (λ command. (app_of command ≡ app) × ((fields_of command).has_globals ≡ false))
 
 -- the command `stdio`
 abbrev pub stdio_command : App
@@ -53,10 +61,7 @@ replay_command = with_host_options (new_app (codes "replay"))
 
 -- where a second socket is made, for the status: `--status PATH`, which may be left out
 abbrev pub status_option : Rule
-status_option = record (new_rule (codes "status")) {
-  long = Some (codes "status");
-  value_names = 1;
-}
+status_option = value_option (codes "status")
 
 -- the command `serve` with the options that name its sockets
 abbrev pub socket_command : App

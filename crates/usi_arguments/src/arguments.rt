@@ -1,9 +1,9 @@
 //! The arguments of the command line.
 ghost use Rattle.std.specs.Prelude.{◌≡◌, ◌<◌, ◌^◌, ℕ, false, [], IfErr, IfNone, IfOk, IfSome, codes, map};
-ghost use Rattle.clap.specs.Words.{app_of, kind_of, rule_of, subcommand_rows_of};
+ghost use Rattle.clap.specs.Words.{App, Rule, app_of, kind_of, new_app, rule_of, subcommand_rows_of, with_rule, with_subcommand};
 ghost use Rattle.clap.specs.declared.builder.command.Command.TheViews.{out-Command as fields_of};
 ghost use Rattle.usi_arguments.specs.Answers.{AreHelpArguments, AreReplayArguments, AreServeNumbers, AreStdioArguments, AreVersionArguments, Gives, GivesHelp, GivesReplay, HasNoNumbers, HasRanges, IsAnswerTo, IsAnswerToParsed, IsAskedBy, IsJobIn, IsJobOf, IsRefusedFor, IsReplayOf, IsServeIn, IsStdioOf, NamesNoJob, NamesNoReplay, NamesNoServe, NamesNoStdio};
-ghost use Rattle.usi_arguments.specs.CommandLine.{HasNone, HasNumber, IsNumber, NamesTextIfAny, command_line, entries_option, options_in, replay_command, replay_line, serve_command, slice_option, slots_option, socket_command, socket_option, status_option, stdio_command, stdio_line, turns_option, with_host_options};
+ghost use Rattle.usi_arguments.specs.CommandLine.{HasNone, HasNumber, IsMade, IsNumber, NamesTextIfAny, bare_line, command_line, entries_option, number_option, options_in, replay_command, serve_command, slice_option, slots_option, socket_command, socket_option, status_option, stdio_command, turns_option, value_option, with_host_options};
 ghost use Rattle.usi_arguments.specs.declared.arguments.Job.TheVariants.{Stdio, Replay, Version};
 ghost use Rattle.usi_arguments.specs.declared.arguments.ArgumentsFault.TheVariants.{OutOfMemory};
 
@@ -275,149 +275,223 @@ fn text_of(alloc: Global, error: &Error, pointer: &str) -> Result<Job, Arguments
 fn command_line<'a>(alloc: Global) -> Result<Command<'a>, AllocError>
     ensures { IfOk result (λ line. app_of line ≡ command_line) }
 {
-    replay_line(alloc)?.subcommand(serve_command(alloc)?)
+    let line = with_command(bare_line(alloc), stdio_command(alloc));
+    let line = with_command(line, replay_command(alloc));
+    with_command(line, serve_command(alloc))
 }
 
-fn replay_line<'a>(alloc: Global) -> Result<Command<'a>, AllocError>
-    ensures { IfOk result (λ line. app_of line ≡ replay_line) }
+/// The line with one command more, where both were made.
+fn with_command<'a>(
+    line: Result<Command<'a>, AllocError>,
+    command: Result<Command<'a>, AllocError>,
+) -> Result<Command<'a>, AllocError>
+    ensures { (whole part : App) → IfOk line.entry (λ line. app_of line ≡ whole)
+        → IsMade part command.entry
+        → IfOk result (λ made. app_of made ≡ with_subcommand whole part.top) }
 {
-    stdio_line(alloc)?.subcommand(replay_command(alloc)?)
+    line?.subcommand(command?)
 }
 
-fn stdio_line<'a>(alloc: Global) -> Result<Command<'a>, AllocError>
-    ensures { IfOk result (λ line. app_of line ≡ stdio_line) }
+fn bare_line<'a>(alloc: Global) -> Result<Command<'a>, AllocError>
+    ensures { IfOk result (λ line. app_of line ≡ bare_line) }
 {
-    Command::new(alloc, "usi_host")
+    described(alloc, "usi_host", ABOUT, AFTER_HELP, AFTER_LONG_HELP)
         .no_binary_name(true)
-        .bin_name("usi_host")?
         .version(version_text())
-        .about(ABOUT)
-        .after_help(AFTER_HELP)
-        .after_long_help(AFTER_LONG_HELP)
-        .subcommand(stdio_command(alloc)?)
+        .bin_name("usi_host")
+}
+
+/// A command with the texts of its help.
+fn described<'a>(
+    alloc: Global,
+    name: &'a str,
+    about: &'a str,
+    after_help: &'a str,
+    after_long_help: &'a str,
+) -> Command<'a>
+    ensures app { app_of result ≡ new_app name.entry.now }
+    ensures local { (fields_of result).has_globals ≡ false }
+{
+    Command::new(alloc, name)
+        .about(about)
+        .after_help(after_help)
+        .after_long_help(after_long_help)
+}
+
+/// The command with one option more, where it was made.
+fn with_option<'a>(
+    made: Result<Command<'a>, AllocError>,
+    option: Arg<'a>,
+) -> Result<Command<'a>, AllocError>
+    requires { option.global ≡ false }
+    ensures { (app : App) (rule : Rule) → rule_of option.entry ≡ rule → IsMade app made.entry
+        → IsMade (with_rule app rule) result }
+{
+    made?.arg(option)
 }
 
 fn stdio_command<'a>(alloc: Global) -> Result<Command<'a>, AllocError>
-    ensures app { IfOk result (λ command. app_of command ≡ stdio_command) }
-    ensures local { IfOk result (λ command. (fields_of command).has_globals ≡ false) }
+    ensures { IsMade stdio_command result }
 {
-    Command::new(alloc, "stdio")
-        .about("Answers one front end over standard input and output")
-        .after_help(STDIO_HELP)
-        .after_long_help(STDIO_LONG_HELP)
-        .arg(entries_option(alloc))
+    let command = described(
+        alloc,
+        "stdio",
+        "Answers one front end over standard input and output",
+        STDIO_HELP,
+        STDIO_LONG_HELP,
+    );
+    with_option(Ok(command), entries_option(alloc))
 }
 
 fn replay_command<'a>(alloc: Global) -> Result<Command<'a>, AllocError>
-    ensures app { IfOk result (λ command. app_of command ≡ replay_command) }
-    ensures local { IfOk result (λ command. (fields_of command).has_globals ≡ false) }
+    ensures { IsMade replay_command result }
 {
-    let command = Command::new(alloc, "replay")
-        .about("Runs many sessions from one script on standard input")
-        .after_help(REPLAY_HELP)
-        .after_long_help(REPLAY_LONG_HELP);
-    with_host_options(alloc, command)
+    let command = described(
+        alloc,
+        "replay",
+        "Runs many sessions from one script on standard input",
+        REPLAY_HELP,
+        REPLAY_LONG_HELP,
+    );
+    with_host_options(alloc, Ok(command))
 }
 
-/// The command with the options of a host.
-fn with_host_options<'a>(alloc: Global, command: Command<'a>) -> Result<Command<'a>, AllocError>
-    requires { (fields_of command).has_globals ≡ false }
-    ensures app { IfOk result (λ made. app_of made ≡ with_host_options (app_of command.entry)) }
-    ensures local { IfOk result (λ made. (fields_of made).has_globals ≡ false) }
+/// The command with the options of a host, where it was made.
+fn with_host_options<'a>(
+    alloc: Global,
+    made: Result<Command<'a>, AllocError>,
+) -> Result<Command<'a>, AllocError>
+    ensures { (app : App) → IsMade app made.entry → IsMade (with_host_options app) result }
 {
-    command
-        .arg(slots_option(alloc))?
-        .arg(entries_option(alloc))?
-        .arg(slice_option(alloc))
+    let made = with_option(made, slots_option(alloc));
+    let made = with_option(made, entries_option(alloc));
+    with_option(made, slice_option(alloc))
 }
 
 fn serve_command<'a>(alloc: Global) -> Result<Command<'a>, AllocError>
-    ensures app { IfOk result (λ command. app_of command ≡ serve_command) }
-    ensures local { IfOk result (λ command. (fields_of command).has_globals ≡ false) }
+    ensures { IsMade serve_command result }
 {
-    with_host_options(alloc, socket_command(alloc)?)?.arg(turns_option(alloc))
+    let made = with_host_options(alloc, socket_command(alloc));
+    with_option(made, turns_option(alloc))
 }
 
 /// `serve` with the options that name its sockets.
 fn socket_command<'a>(alloc: Global) -> Result<Command<'a>, AllocError>
-    ensures app { IfOk result (λ command. app_of command ≡ socket_command) }
-    ensures local { IfOk result (λ command. (fields_of command).has_globals ≡ false) }
+    ensures { IsMade socket_command result }
 {
-    Command::new(alloc, "serve")
-        .about("Serves many front ends on a Unix socket, each with a session of its own")
-        .after_help(SERVE_HELP)
-        .after_long_help(SERVE_LONG_HELP)
-        .arg(socket_option(alloc))?
-        .arg(status_option(alloc))
+    let command = described(
+        alloc,
+        "serve",
+        "Serves many front ends on a Unix socket, each with a session of its own",
+        SERVE_HELP,
+        SERVE_LONG_HELP,
+    );
+    let made = with_option(Ok(command), socket_option(alloc));
+    with_option(made, status_option(alloc))
 }
 
 fn socket_option<'a>(alloc: Global) -> Arg<'a>
     ensures rule { rule_of result ≡ socket_option }
     ensures local { result.global ≡ false }
 {
-    Arg::new(alloc, "socket")
-        .long("socket")
-        .value_name("PATH")
-        .required(true)
-        .help("Where the socket is made: a path of 1 to 107 bytes, which must not exist")
+    value_option(
+        alloc,
+        "socket",
+        "PATH",
+        "Where the socket is made: a path of 1 to 107 bytes, which must not exist",
+    )
+    .required(true)
 }
 
 fn status_option<'a>(alloc: Global) -> Arg<'a>
     ensures rule { rule_of result ≡ status_option }
     ensures local { result.global ≡ false }
 {
-    Arg::new(alloc, "status")
-        .long("status")
-        .value_name("PATH")
-        .help("Where a second socket is made, which tells the status: a path like that of --socket")
+    value_option(
+        alloc,
+        "status",
+        "PATH",
+        "Where a second socket is made, which tells the status: a path like that of --socket",
+    )
 }
 
 fn turns_option<'a>(alloc: Global) -> Arg<'a>
     ensures rule { rule_of result ≡ turns_option }
     ensures local { result.global ≡ false }
 {
-    Arg::new(alloc, "turns")
-        .long("turns")
-        .value_name("N")
-        .value_parser(ValueParser::unsigned(1, u64::MAX))
-        .default_value("18446744073709551615")
-        .help("After how many turns it ends, from 1 to 18446744073709551615")
+    number_option(
+        alloc,
+        "turns",
+        u64::MAX,
+        "18446744073709551615",
+        "After how many turns it ends, from 1 to 18446744073709551615",
+    )
 }
 
 fn slots_option<'a>(alloc: Global) -> Arg<'a>
     ensures rule { rule_of result ≡ slots_option }
     ensures local { result.global ≡ false }
 {
-    Arg::new(alloc, "slots")
-        .long("slots")
-        .value_name("N")
-        .value_parser(ValueParser::unsigned(1, 1024))
-        .default_value("64")
-        .help("How many sessions may be open at a time, from 1 to 1024")
+    number_option(
+        alloc,
+        "slots",
+        1024,
+        "64",
+        "How many sessions may be open at a time, from 1 to 1024",
+    )
 }
 
 fn entries_option<'a>(alloc: Global) -> Arg<'a>
     ensures rule { rule_of result ≡ entries_option }
     ensures local { result.global ≡ false }
 {
-    Arg::new(alloc, "entries")
-        .long("entries")
-        .value_name("N")
-        .value_parser(ValueParser::unsigned(1, 1_000_000))
-        .default_value("4096")
-        .help("How many positions the transposition table keeps, from 1 to 1000000")
+    number_option(
+        alloc,
+        "entries",
+        1_000_000,
+        "4096",
+        "How many positions the transposition table keeps, from 1 to 1000000",
+    )
 }
 
 fn slice_option<'a>(alloc: Global) -> Arg<'a>
     ensures rule { rule_of result ≡ slice_option }
     ensures local { result.global ≡ false }
 {
-    Arg::new(alloc, "slice")
-        .long("slice")
-        .value_name("N")
-        .value_parser(ValueParser::unsigned(1, 1_000_000_000))
-        .default_value("500")
-        .help("How many steps a session searches before the others' turn, from 1 to 1000000000")
+    number_option(
+        alloc,
+        "slice",
+        1_000_000_000,
+        "500",
+        "How many steps a session searches before the others' turn, from 1 to 1000000000",
+    )
+}
+
+/// The option of a number from 1 to `most`, which is `usual` where it is left out.
+fn number_option<'a>(
+    alloc: Global,
+    name: &'a str,
+    most: u64,
+    usual: &'a str,
+    help: &'a str,
+) -> Arg<'a>
+    ensures rule { rule_of result ≡ number_option name.entry.now most usual.entry.now }
+    ensures local { result.global ≡ false }
+{
+    value_option(alloc, name, "N", help)
+        .value_parser(ValueParser::unsigned(1, most))
+        .default_value(usual)
+}
+
+/// The option of a value, which help calls `value`.
+fn value_option<'a>(alloc: Global, name: &'a str, value: &'a str, help: &'a str) -> Arg<'a>
+    ensures rule { rule_of result ≡ value_option name.entry.now }
+    ensures local { result.global ≡ false }
+{
+    Arg::new(alloc, name)
+        .long(name)
+        .value_name(value)
+        .help(help)
 }
 
 const NOT_DIGITS: &str = "error: a number is written in digits alone, without a sign

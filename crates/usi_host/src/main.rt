@@ -7,14 +7,14 @@ ghost use Rattle.shared_table.specs.declared.table.TheConstants.{CAPACITY_MAX};
 
 use host_core::Host;
 use host_status::{Limits, StatusSocket};
-use socket_loop::Loop;
+use socket_loop::{Loop, Monitor, Turn};
 use std::alloc::Global;
-use std::hash::RandomState;
+use std::hash::{BuildHasher, RandomState};
 use std::io;
 use std::process::ExitCode;
 use usi_arguments::{Job, asked, complaint, status, version_text};
 use usi_runs::{DONE, ServeFault, print_out, script, session, socket_fault, status_fault};
-use usi_serve::{MioWire, Unseen, serve};
+use usi_serve::{MioWire, serve};
 use usi_stdio::Duplex;
 use wires::WireFault;
 
@@ -35,23 +35,70 @@ fn bound(rt: &HostRuntime, socket: &str) -> Result<MioWire<Global>, ServeFault> 
     }
 }
 
-/// A socket for the status at the path, watched by the wire of another socket.
-fn bound_status(
+/// Who is shown the turns: the status on a socket, where one is asked for.
+#[derive(Drop)]
+struct Watch {
+    status: Option<StatusSocket<Global>>,
+}
+
+impl<S: BuildHasher> Monitor<MioWire<Global>, S, Global> for Watch {
+    fn see(
+        &mut self,
+        turn: &Turn,
+        host: &Host<S, Global>,
+        connections: &Loop<Global>,
+        wire: &MioWire<Global>,
+    ) {
+        if let Some(status) = &mut self.status {
+            status.see(turn, host, connections, wire);
+        }
+    }
+}
+
+/// A socket for the status at the path, where there is one, watched by the wire of another socket.
+fn watched(
     rt: &HostRuntime,
-    status: &str,
+    status: &Option<String>,
     limits: Limits,
     wire: &MioWire<Global>,
-) -> Result<StatusSocket<Global>, ServeFault> {
-    match StatusSocket::bind(rt, rt.alloc(), status, limits, wire) {
-        Ok(bound) => Ok(bound),
-        Err(WireFault::Device) => Err(status_fault(rt, status)),
+) -> Result<Watch, ServeFault> {
+    let Some(path) = status else {
+        return Ok(Watch { status: None });
+    };
+    match StatusSocket::bind(rt, rt.alloc(), path.as_str(), limits, wire) {
+        Ok(bound) => Ok(Watch {
+            status: Some(bound),
+        }),
+        Err(WireFault::Device) => Err(status_fault(rt, path.as_str())),
         Err(WireFault::OutOfMemory) => Err(ServeFault::OutOfMemory),
     }
 }
 
-/// A host on a Unix socket at this path, for so many turns, and where there is another path its status
-/// on one there. Strangers share its table, so the hash of
-/// the table has a seed that they can't know.
+/// Serves a host on a Unix socket at this path, for so many turns, and where there is another path its
+/// status on one there.
+fn serve_host(
+    rt: &HostRuntime,
+    host: &mut Host<RandomState, Global>,
+    socket: &str,
+    status: &Option<String>,
+    limits: Limits,
+    turns: u64,
+) -> Result<(), ServeFault>
+    requires least_slice { 1 ≤ limits.slice }
+{
+    let Ok(mut connections) = Loop::new(rt.alloc(), limits.slice) else {
+        return Err(ServeFault::OutOfMemory);
+    };
+    let mut wire = bound(rt, socket)?;
+    let mut watch = watched(rt, status, limits, &wire)?;
+    match serve(host, &mut connections, &mut wire, &mut watch, turns) {
+        Ok(()) => Ok(()),
+        Err(fault) => Err(fault.into()),
+    }
+}
+
+/// Makes a host and serves it. Strangers share its table, so the hash of the table has a seed that they
+/// can't know.
 fn run_socket(
     rt: &HostRuntime,
     socket: &str,
@@ -70,24 +117,13 @@ fn run_socket(
     let Ok(hasher) = RandomState::new(rt) else {
         return Err(ServeFault::ReadFailed);
     };
-    let mut host = Host::new(rt.alloc(), slots, entries, hasher)?;
-    let Ok(mut connections) = Loop::new(rt.alloc(), slice) else {
-        return Err(ServeFault::OutOfMemory);
+    let limits = Limits {
+        slots: slots as u64,
+        entries: entries as u64,
+        slice,
     };
-    let mut wire = bound(rt, socket)?;
-    match status {
-        None => serve(&mut host, &mut connections, &mut wire, &mut Unseen, turns)?,
-        Some(status) => {
-            let limits = Limits {
-                slots: slots as u64,
-                entries: entries as u64,
-                slice,
-            };
-            let mut monitor = bound_status(rt, status.as_str(), limits, &wire)?;
-            serve(&mut host, &mut connections, &mut wire, &mut monitor, turns)?;
-        }
-    }
-    Ok(())
+    let mut host = Host::new(rt.alloc(), slots, entries, hasher)?;
+    serve_host(rt, &mut host, socket, status, limits, turns)
 }
 
 /// Does what the arguments of the command line ask for. The status is 0 where it was done, 1 where

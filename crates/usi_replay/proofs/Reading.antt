@@ -1,6 +1,6 @@
 -- A script that is read to its end, and its output written.
 use Rattle.std.proofs.Common.{◌≡◌, ◌<◌, ℕ, List, [], ◌∷◌, ◌++◌, Option, None, Some, Result, IsErrAnd, IfErr, Ok, Err, refl, sym, ap, ◌∙◌, length, take}
-use Rattle.std.specs.Io.KnownBytes.{Appends, Consumes, IsAtEnd, Keeps}
+use Rattle.std.specs.Io.KnownBytes.{Appends, Consumes, Keeps}
 use Rattle.std.proofs.KnownBytes.{Consumes-nil, Consumes-trans, Consumes-kept, Keeps-refl, Keeps-trans}
 use Rattle.usi_stdio.specs.Calls.{Call, Read, Write, Flush, FailedRead, FailedWrite, FailedFlush, Report, Reads, read_call}
 use Rattle.usi_stdio.specs.Dialogue.{Talk, after_call, after_calls, no_call}

@@ -1,7 +1,7 @@
 -- One line more is answered, or one line of a `go` is reported.
 use Rattle.std.proofs.Common.{◌≡◌, ℕ, ◌+◌, ◌*◌, ◌<◌, ◌≤◌, List, [], ◌∷◌, ◌++◌, length, refl, sym, ap, ◌∙◌, arith, append_assoc, append-nil, true, false, Bool, Option, Some, None, cond}
-use Rattle.std.specs.Prelude.{not, ◌&&◌, ◌||◌, is_some}
-use Rattle.usi_lines.specs.Lines.{ahead}
+use Rattle.std.specs.Prelude.{IfNone, IfSome, not, ◌&&◌, ◌||◌, is_some}
+use Rattle.usi_lines.specs.Lines.{ahead, Buffer}
 use Rattle.usi_session.specs.declared.question.Question.{Question}
 use Rattle.usi_session.specs.declared.state.HeldBestmove.{HeldBestmove}
 use Rattle.usi_session.specs.Answer.{write_or_hold}
@@ -9,12 +9,13 @@ use Rattle.usi_session.proofs.RunningGoLaws.{infos_after_line-last, write_or_hol
 use Rattle.usi_lines.specs.Lines.{Line}
 use Rattle.usi_session.specs.declared.state.State.{State}
 use Rattle.usi_session.specs.WholeStream.{replies_from, state_from, answer_to, answer_unless}
-use Rattle.usi_session.specs.RunningGo.{RunningGo, rest_of_go, rest_of_go_if, with_rest, load_of, load_of_if, infos_left, infos_after, bestmove_to, is_last, reports_of_if, roots_of, roots_of_if, is_searching, most_reports}
+use Rattle.usi_session.specs.RunningGo.{RunningGo, IsSameButForSearch, rest_of_go, rest_of_go_if, with_rest, load_of, load_of_if, infos_left, infos_after, bestmove_to, is_last, reports_of_if, roots_of, roots_of_if, is_searching, most_reports}
 use Rattle.usi_session.specs.Costs.{costs_from, cost_to}
 use Rattle.usi_session.specs.Roots.{roots_to, roots_from}
-use Rattle.usi_session.specs.Due.{SessionView, owed, owed_after, load_ahead, roots_ahead, is_pending, has_line}
+use Rattle.usi_session.specs.Due.{SessionView, KeepsDue, QueuesAnswer, QueuesEnd, QueuesLine, owed, owed_after, load_ahead, roots_ahead, is_pending, has_line, roots_left, turns}
 use Rattle.usi_session.proofs.Settled.{replies_from-over}
 use Rattle.usi_session.proofs.RootLaws.{roots_of-last}
+use Rattle.usi_session.proofs.WholeReplies.{grows_by_none, grows_then}
 
 -- a session that is not over answers the line
 replies_from-alive : (s : State) (line : Line) (rest : List Line) → s.is_over ≡ false → replies_from s (line ∷ rest) ≡ (answer_to s line).bytes ++ replies_from (answer_to s line).state rest
@@ -106,20 +107,22 @@ due_reported s queued more infos go next running_go ahead alive i q f g m =
     ∙ ap (λ xs. queued ++ xs) (ap (λ xs. infos ++ xs) after ∙ (sym (append_assoc infos (rest_of_go s next).bytes (replies_from (rest_of_go s go).state ahead)) ∙ (ap (λ xs. xs ++ replies_from (rest_of_go s go).state ahead) bytes ∙ sym before))))
 
 -- its end leads to the same state
-ends-state : (s next : State) (go : RunningGo) (held : HeldBestmove) → held ≡ last_bestmove go → next ≡ (write_or_hold s [] held held.until).state → (rest_of_go s go).state ≡ next
+pub ends-state : (s next : State) (go : RunningGo) (held : HeldBestmove) → held ≡ last_bestmove go → next ≡ (write_or_hold s [] held held.until).state → (rest_of_go s go).state ≡ next
 ends-state s next go held e h = rest-state s go ∙ (ap (λ (k : HeldBestmove). (write_or_hold s [] k k.until).state) (sym e) ∙ sym h)
 
--- the last line was reported, and the bestmove written or held
-pub due_ends : (s next : State) (queued more infos reply : List ℕ) (go : RunningGo) (running_go : Option RunningGo) (held : HeldBestmove) (ahead : List Line) → s.is_over ≡ false → running_go ≡ Some go → is_last go ≡ true → held ≡ last_bestmove go
-    → infos ++ infos_after go ≡ infos_left go → reply ≡ infos ++ (write_or_hold s [] held held.until).bytes → next ≡ (write_or_hold s [] held held.until).state → more ≡ queued ++ reply → more ++ owed next None ahead ≡ queued ++ owed s running_go ahead
-due_ends s next queued more infos reply go running_go held ahead alive i last e f g h m =
+-- the last line was reported, and the bestmove written or held: all that it still said
+pub ends_bytes : (s : State) (infos reply : List ℕ) (go : RunningGo) (held : HeldBestmove) → is_last go ≡ true → held ≡ last_bestmove go
+    → infos ++ infos_after go ≡ infos_left go → reply ≡ infos ++ (write_or_hold s [] held held.until).bytes → reply ≡ (rest_of_go s go).bytes
+ends_bytes s infos reply go held last e f g =
     let lines : infos ≡ infos_left go = sym (append-nil infos) ∙ (ap (λ xs. infos ++ xs) (sym (infos_after_line-last go last)) ∙ f) in
-    let bytes : (rest_of_go s go).bytes ≡ reply = rest-bytes s go ∙ (ap (λ xs. xs ++ (write_or_hold s [] (last_bestmove go) go.question.hold).bytes) (sym lines) ∙ (ap (λ (k : HeldBestmove). infos ++ (write_or_hold s [] k k.until).bytes) (sym e) ∙ sym g)) in
-    let state : (rest_of_go s go).state ≡ next = ends-state s next go held e h in
+    g ∙ (ap (λ (k : HeldBestmove). infos ++ (write_or_hold s [] k k.until).bytes) e ∙ (ap (λ xs. xs ++ (write_or_hold s [] (last_bestmove go) go.question.hold).bytes) lines ∙ sym (rest-bytes s go)))
+
+due_ends : (s next : State) (queued more : List ℕ) (go : RunningGo) (running_go : Option RunningGo) (ahead : List Line) → s.is_over ≡ false → running_go ≡ Some go → QueuesEnd go s next queued more → more ++ owed next None ahead ≡ queued ++ owed s running_go ahead
+due_ends s next queued more go running_go ahead alive i h =
     let before : owed s running_go ahead ≡ (rest_of_go s go).bytes ++ replies_from (rest_of_go s go).state ahead = ap (λ (o : Option RunningGo). owed s o ahead) i ∙ owed-alive s (Some go) ahead alive in
     let after : owed next None ahead ≡ replies_from next ahead = owed_on next None ahead (λ _. refl) in
-    ap (λ xs. more ++ xs) after ∙ (ap (λ xs. xs ++ replies_from next ahead) m ∙ (append_assoc queued reply (replies_from next ahead)
-    ∙ ap (λ xs. queued ++ xs) (ap (λ xs. xs ++ replies_from next ahead) (sym bytes) ∙ (ap (λ (t : State). (rest_of_go s go).bytes ++ replies_from t ahead) (sym state) ∙ sym before))))
+    ap (λ xs. more ++ xs) after ∙ (ap (λ xs. xs ++ replies_from next ahead) h.after_end ∙ (append_assoc queued (rest_of_go s go).bytes (replies_from next ahead)
+    ∙ ap (λ xs. queued ++ xs) (ap (λ (t : State). (rest_of_go s go).bytes ++ replies_from t ahead) h.state_is ∙ sym before)))
 
 alive_of : (over some : Bool) → (not over && some) ≡ true → over ≡ false
 alive_of false some e = refl
@@ -153,7 +156,92 @@ pub roots_reported : (s : State) (go more : RunningGo) (running_go : Option Runn
 roots_reported s go more running_go ahead i q same =
     rw i (rw same (ap (λ (t : State). roots_of go ++ roots_from t ahead) (rest_reported-state s go more q)))
 
+less_load : (new old budget : ℕ) (result : Option ℕ) → IfNone result (budget + new ≤ old) → IfSome result (λ made. made + new ≤ old) → new ≤ old
+less_load new old budget None spent made = let h : budget + new ≤ old = spent in omega arith
+less_load new old budget (Some n) spent made = let h : n + new ≤ old = made in omega arith
+
+-- where nothing changed what is owed stays
+pub keeps_same : (old new : SessionView) → new ≡ old → KeepsDue old new
+keeps_same old new e = rw e (record { due_is = λ x. refl; after_is = λ x. refl; load_most = omega arith; grown = grows_by_none old.queued })
+
+-- and from one time to the next
+pub keeps_then : (a b c : SessionView) → KeepsDue a b → KeepsDue b c → KeepsDue a c
+keeps_then a b c g h = record {
+  due_is = λ x. h.due_is x ∙ g.due_is x;
+  after_is = λ x. h.after_is x ∙ g.after_is x;
+  load_most = omega (arith, g.load_most, h.load_most);
+  grown = grows_then g.grown h.grown;
+}
+
 -- and one that ends has none left
-pub roots_ended : (s next : State) (go : RunningGo) (running_go : Option RunningGo) (held : HeldBestmove) (ahead : List Line) → running_go ≡ Some go → is_last go ≡ true → is_searching go ≡ false → held ≡ last_bestmove go → next ≡ (write_or_hold s [] held held.until).state → roots_ahead next None ahead ≡ roots_ahead s running_go ahead
-roots_ended s next go running_go held ahead i last whole e h =
-    rw i (rw (roots_of-last go whole last) (ap (λ (t : State). roots_from t ahead) (sym (ends-state s next go held e h))))
+pub roots_ended : (s next : State) (queued more : List ℕ) (go : RunningGo) (running_go : Option RunningGo) (ahead : List Line) → running_go ≡ Some go → is_last go ≡ true → is_searching go ≡ false → QueuesEnd go s next queued more → roots_ahead next None ahead ≡ roots_ahead s running_go ahead
+roots_ended s next queued more go running_go ahead i last whole h =
+    rw i (rw (roots_of-last go whole last) (ap (λ (t : State). roots_from t ahead) h.state_is))
+
+-- a search went on
+pub keeps_searched : (s : State) (queued : List ℕ) (input : Buffer) (go next : RunningGo) (running_go : Option RunningGo) (budget : ℕ) (result : Option ℕ) → running_go ≡ Some go → IsSameButForSearch go next
+    → IfNone result (budget + load_of next ≤ load_of go) → IfSome result (λ made. made + load_of next ≤ load_of go)
+    → KeepsDue (record { state = s; running_go = running_go; queued = queued; input = input }) (record { state = s; running_go = Some next; queued = queued; input = input })
+keeps_searched s queued input go next running_go budget result i e spent made =
+    let less : load_of next ≤ load_of go = less_load (load_of next) (load_of go) budget result spent made in
+    let same : (rest_of_go s next).state ≡ (rest_of_go s go).state = ap (λ (g : RunningGo). (rest_of_go s g).state) e in
+    let costs : costs_from (rest_of_go s next).state (ahead input []) ≡ costs_from (rest_of_go s go).state (ahead input []) = ap (λ (t : State). costs_from t (ahead input [])) same in
+    rw i (record {
+      due_is = λ x. ap (λ (g : RunningGo). queued ++ owed s (Some g) (ahead input x)) e;
+      after_is = λ x. ap (λ (t : State). state_from t (ahead input x)) same;
+      load_most = omega arith;
+      grown = grows_by_none queued;
+    })
+
+-- a line was reported
+pub keeps_reported : (s : State) (queued more : List ℕ) (input : Buffer) (go next : RunningGo) (running_go : Option RunningGo) → is_pending (record { state = s; running_go = running_go; queued = queued; input = input }) ≡ true → running_go ≡ Some go
+    → next.question ≡ go.question → infos_left next ≡ infos_after go → load_of next ≤ load_of go → QueuesLine go queued more
+    → KeepsDue (record { state = s; running_go = running_go; queued = queued; input = input }) (record { state = s; running_go = Some next; queued = more; input = input })
+keeps_reported s queued more input go next running_go pending i q f less h =
+    let alive : s.is_over ≡ false = pending_alive (record { state = s; running_go = running_go; queued = queued; input = input }) pending in
+    record {
+      due_is = λ x. due_reported s queued more h.line go next running_go (ahead input x) alive i q f h.writes h.after_line;
+      after_is = λ x. ap (λ (t : State). state_from t (ahead input x)) (rest_reported-state s go next q) ∙ sym (ap (λ (o : Option RunningGo). state_from (rest_of_go_if s o).state (ahead input x)) i);
+      load_most = load_reported s go next running_go (ahead input []) i q less;
+      grown = record { lines = h.line; after_is = h.after_line; whole = h.whole };
+    }
+
+-- a `go` ended
+pub keeps_ended : (s next : State) (queued more : List ℕ) (input : Buffer) (go : RunningGo) (running_go : Option RunningGo) → is_pending (record { state = s; running_go = running_go; queued = queued; input = input }) ≡ true → running_go ≡ Some go
+    → QueuesEnd go s next queued more
+    → KeepsDue (record { state = s; running_go = running_go; queued = queued; input = input }) (record { state = next; running_go = None; queued = more; input = input })
+keeps_ended s next queued more input go running_go pending i h =
+    let alive : s.is_over ≡ false = pending_alive (record { state = s; running_go = running_go; queued = queued; input = input }) pending in
+    let costs : costs_from next (ahead input []) ≡ costs_from (rest_of_go s go).state (ahead input []) = ap (λ (t : State). costs_from t (ahead input [])) h.state_is in
+    record {
+      due_is = λ x. due_ends s next queued more go running_go (ahead input x) alive i h;
+      after_is = λ x. ap (λ (t : State). state_from t (ahead input x)) h.state_is ∙ sym (ap (λ (o : Option RunningGo). state_from (rest_of_go_if s o).state (ahead input x)) i);
+      load_most = rw i (omega arith);
+      grown = record { lines = (rest_of_go s go).bytes; after_is = h.after_end; whole = h.whole };
+    }
+
+-- a line was answered, or its `go` was started
+pub keeps_answered : (s next : State) (queued more : List ℕ) (input rest : Buffer) (idle running_go : Option RunningGo) (line : Line) → is_pending (record { state = s; running_go = idle; queued = queued; input = input }) ≡ true → idle ≡ None
+    → ((x : List ℕ) → ahead input x ≡ line ∷ ahead rest x) → QueuesAnswer s line next queued more running_go
+    → KeepsDue (record { state = s; running_go = idle; queued = queued; input = input }) (record { state = next; running_go = running_go; queued = more; input = rest })
+keeps_answered s next queued more input rest idle running_go line pending i first h =
+    let alive : s.is_over ≡ false = pending_alive (record { state = s; running_go = idle; queued = queued; input = input }) pending in
+    record {
+      due_is = λ x. due_on s next queued more h.reply idle running_go line (ahead input x) (ahead rest x) alive i (first x) h.after_reply h.begun.bytes h.begun.state_is h.idle;
+      after_is = λ x. state_on s next idle running_go line (ahead input x) (ahead rest x) alive i (first x) h.begun.state_is;
+      load_most = load_on s next idle running_go line (ahead input []) (ahead rest []) alive i (first []) h.begun.state_is h.begun.load;
+      grown = record { lines = h.reply; after_is = h.after_reply; whole = h.whole };
+    }
+
+pub roots_answered : (s next : State) (queued more : List ℕ) (input rest : Buffer) (idle running_go : Option RunningGo) (line : Line) → is_pending (record { state = s; running_go = idle; queued = queued; input = input }) ≡ true → idle ≡ None
+    → ((x : List ℕ) → ahead input x ≡ line ∷ ahead rest x) → QueuesAnswer s line next queued more running_go
+    → roots_left (record { state = next; running_go = running_go; queued = more; input = rest }) ≡ roots_left (record { state = s; running_go = idle; queued = queued; input = input })
+roots_answered s next queued more input rest idle running_go line pending i first h =
+    roots_on s next idle running_go line (ahead input []) (ahead rest []) (pending_alive (record { state = s; running_go = idle; queued = queued; input = input }) pending) i (first []) h.begun.state_is h.begun.roots_are
+
+-- and a turn less may be taken
+pub fewer_answered : (s next : State) (queued more : List ℕ) (input rest : Buffer) (idle running_go : Option RunningGo) (line : Line) → is_pending (record { state = s; running_go = idle; queued = queued; input = input }) ≡ true → idle ≡ None
+    → ((x : List ℕ) → ahead input x ≡ line ∷ ahead rest x) → QueuesAnswer s line next queued more running_go
+    → turns (record { state = next; running_go = running_go; queued = more; input = rest }) < turns (record { state = s; running_go = idle; queued = queued; input = input })
+fewer_answered s next queued more input rest idle running_go line pending i first h =
+    turns_on s next idle running_go line (ahead input []) (ahead rest []) (pending_alive (record { state = s; running_go = idle; queued = queued; input = input }) pending) i (first []) h.begun.state_is h.begun.load h.begun.reports

@@ -1,14 +1,15 @@
 -- A session between two calls, and what it owes (own choice).
-use Rattle.std.specs.Prelude.{◌≡◌, ℕ, ◌+◌, ◌*◌, List, [], ◌∷◌, ◌++◌, length, Bool, true, false, ◌&&◌, ◌||◌, not, nat_lt, cond, Option, None, Some, is_some, ◌<◌}
+use Rattle.std.specs.Prelude.{◌≡◌, ◌≤◌, ℕ, ◌+◌, ◌*◌, List, [], ◌∷◌, ◌++◌, length, Bool, true, false, ◌&&◌, ◌||◌, not, nat_lt, cond, Option, None, Some, is_some, ◌<◌}
 use Rattle.shogi_search.specs.Calls.{Call}
 use Rattle.usi_lines.specs.Lines.{Buffer, Line, ahead}
 use Rattle.usi_session.specs.declared.state.State.{State}
 use Rattle.usi_session.specs.Answer.{Answer, initial_state}
-use Rattle.usi_session.specs.RunningGo.{RunningGo, rest_of_go_if, load_of_if, roots_of_if, is_searching, reports_of_if, most_reports}
-use Rattle.usi_session.specs.WholeStream.{replies_from, state_from}
-use Rattle.usi_session.specs.Costs.{costs_from}
-use Rattle.usi_session.specs.Roots.{Root, roots_from}
+use Rattle.usi_session.specs.RunningGo.{RunningGo, IsBegun, WritesLine, rest_of_go, rest_of_go_if, load_of_if, roots_of_if, is_searching, reports_of_if, most_reports}
+use Rattle.usi_session.specs.WholeStream.{answer_to, replies_from, state_from}
+use Rattle.usi_session.specs.Costs.{cost_to, costs_from}
+use Rattle.usi_session.specs.Roots.{Root, roots_from, roots_to}
 use Rattle.usi_session.specs.Told.{TellsEnded}
+use Rattle.usi_session.specs.WholeLines.{AreWholeLines, GrowsByLines}
 use Rattle.usi_session.specs.declared.limits.TheConstants.{QUEUE_FULL}
 
 -- the state after the lines that were answered, the running `go`, the replies not yet taken, and what was fed and not yet answered
@@ -65,6 +66,37 @@ abbrev pub EndsSearches : {M : Type 0} → (M → Call → M → Type 0) → M �
     → Type 0
 EndsSearches called old new before after =
     TellsEnded called old new (roots_left before) (roots_left after)
+
+-- what is owed stays, with the state after it; no more steps may be made than before, and the queue
+-- has only grown, by whole lines
+pub record KeepsDue (old new : SessionView) : Type 0 where
+  pub due_is : (further : List ℕ) → due new further ≡ due old further
+  pub after_is : (further : List ℕ) → state_due new further ≡ state_due old further
+  pub load_most : load new ≤ load old
+  pub grown : GrowsByLines old.queued new.queued
+
+-- the answer to a line was queued, and the state is the one after it; or its `go` was started
+pub record QueuesAnswer (old : State) (line : Line) (new : State) (before after : List ℕ)
+    (running_go : Option RunningGo) : Type 0 where
+  pub reply : List ℕ
+  pub after_reply : after ≡ before ++ reply
+  pub begun :
+      IsBegun (answer_to old line) (cost_to old line) (roots_to old line) [] reply new running_go
+  pub whole : AreWholeLines reply
+  pub idle : new.is_over ≡ true → running_go ≡ None
+
+-- the current line of a running `go` was queued
+pub record QueuesLine (go : RunningGo) (before after : List ℕ) : Type 0 where
+  pub line : List ℕ
+  pub after_line : after ≡ before ++ line
+  pub writes : WritesLine go [] line
+  pub whole : AreWholeLines line
+
+-- all that a running `go` still says was queued, and the state is the one after it
+pub record QueuesEnd (go : RunningGo) (old new : State) (before after : List ℕ) : Type 0 where
+  pub after_end : after ≡ before ++ (rest_of_go old go).bytes
+  pub state_is : new ≡ (rest_of_go old go).state
+  pub whole : AreWholeLines (rest_of_go old go).bytes
 
 -- a line is there
 abbrev pub has_line : List Line → Bool

@@ -1,10 +1,14 @@
 //! A running `go`: its searches, one after another, depth by depth.
 
-ghost use Rattle.std.specs.Prelude.{◌≡◌, ◌≢◌, ◌≤◌, ◌<◌, ◌+◌, IfOk, IfSome, IfNone, OnSome, OnOk, length, true, false};
+ghost use Rattle.std.specs.Prelude.{◌≡◌, ◌≢◌, ◌≤◌, ◌<◌, ◌+◌, IfOk, IfSome, IfNone, OnSome, OnOk, length, true, false, is_some, ◌==◌, ◌&&◌};
+ghost use Rattle.std.specs.Option.{ForSome};
 ghost use Rattle.minimax.specs.Minimax.{value, best};
+ghost use Rattle.shogi_search.specs.Progress.{FindsBest, FindsValue, IsFoundBy, KeepsQuestion};
+ghost use Rattle.shogi_search.specs.SearchCalls.{TellsFound};
 ghost use Rattle.usi_session.specs.Answer.{bestmove_of};
 ghost use Rattle.usi_session.specs.GoInfos.{move_to_play, move_to_ponder};
 ghost use Rattle.usi_session.specs.RunningGo.{listed_at, infos_left, infos_after, deeper_infos, is_last, is_last_of_depth, is_searching, bestmove_to, cost_of_depths, load_of, reports_of, deeper_roots, first_roots, roots_of, EndsSearchesOfGo, HasDone, HasDoneLine, IsSameButForSearch, WritesLine};
+ghost use Rattle.usi_session.specs.Told.{IsCalled};
 ghost use Rattle.usi_session.specs.Walked.{IsQuestionInRange, IsFirst, IsRankedTo, IsRankedUpTo, IsRanked, BeginsLine, IsSearchedAlong, IsFoundOfChild, IsAtFirstLine, first_root_move, first_search, child_search, cost_after, walk_cost, walk_roots, roots_after, LeavesLoad, LeavesRoots};
 ghost use Rattle.usi_session.specs.WholeLines.{GrowsByLines};
 
@@ -148,6 +152,28 @@ fn search_along(walk: &PvWalk, search: &mut Search)
     }
 }
 
+/// Continues a search. A leaf is not worth a place in the memory, and is searched without it.
+fn search_on<M: Memo>(search: &mut Search, memo: &mut M, leaf: bool, budget: u64) -> Option<Found>
+    ensures same { KeepsQuestion search.old search.new }
+    ensures below { IfSome result (IsFoundBy search.old) }
+    ensures value { IfSome result (FindsValue search.old) }
+    ensures best { IfSome result (FindsBest search.old) }
+    ensures over { OnSome result (search.new.left ≡ 0) }
+    ensures most { IfSome result (λ f. f.steps ≤ search.old.steps + budget) }
+    ensures made { IfSome result (λ f. f.steps ≤ search.old.steps + search.old.left) }
+    ensures spent { IfNone result (budget + search.new.left ≤ search.old.left) }
+    ensures unfinished { IfNone result (0 < search.new.left) }
+    ensures again { ForSome search.old.found (λ f. (result ≡ Some f) × (search.new ≡ search.old)) }
+    ensures told { leaf ≡ false → TellsFound M.called memo.old memo.new search.old result }
+    ensures calls { IsCalled M.called memo.old memo.new }
+    ensures capacity { M.capacity memo.new ≡ M.capacity memo.old }
+{
+    if leaf {
+        return search.advance(&mut NoMemo, budget);
+    }
+    search.advance(memo, budget)
+}
+
 /// Takes the end of a search along a walk: the next one along it is started, or its pv is whole.
 fn walk_on(walk: &mut PvWalk, search: &mut Search, found: &Found)
     requires some { 0 < walk.old.plies }
@@ -283,29 +309,30 @@ impl<A: Allocator> GoCommand<A> {
         ensures capacity { M.capacity memo.new ≡ M.capacity memo.old }
     {
         let before = self.search.steps();
-        let leaf = self.depths_done == 0 && self.root_move.is_some();
-        let found = if leaf {
-            // A leaf is not worth a place in the memory.
-            self.search.advance(&mut NoMemo, budget)?
-        } else {
-            self.search.advance(memo, budget)?
+        let leaf = self.is_leaf();
+        let found = search_on(&mut self.search, memo, leaf, budget)?;
+        let made = found.steps.saturating_sub(before);
+        let Some(m) = self.root_move else {
+            walk_on(&mut self.walk, &mut self.search, &found);
+            return Some(made);
         };
-        let after = found.steps;
-        match self.root_move {
-            None => walk_on(&mut self.walk, &mut self.search, &found),
-            Some(m) => {
-                self.root_move = rank_on(
-                    &self.question,
-                    self.depths_done,
-                    m,
-                    &found,
-                    &mut self.ranks,
-                    &mut self.walk,
-                    &mut self.search,
-                );
-            }
-        }
-        Some(after.saturating_sub(before))
+        self.root_move = rank_on(
+            &self.question,
+            self.depths_done,
+            m,
+            &found,
+            &mut self.ranks,
+            &mut self.walk,
+            &mut self.search,
+        );
+        Some(made)
+    }
+
+    /// Whether the position after a root move is searched and has no plies after it.
+    fn is_leaf(&self) -> bool
+        ensures { result ≡ (self.now.depths_done == 0 && is_some self.now.root_move) }
+    {
+        self.depths_done == 0 && self.root_move.is_some()
     }
 
     /// Reports the current line, once its pv is whole.

@@ -1,11 +1,14 @@
 //! One USI session.
 
 ghost use Rattle.std.specs.Prelude.{◌≡◌, ◌≤◌, ◌++◌, ℕ, List, true, false, OnOk, OnErr, IfOk, OnSome, IfSome, IfNone, None, length, take, drop, ◌<◌, ◌+◌};
-ghost use Rattle.usi_session.specs.Due.{due, state_due, load, roots_left, turns, is_pending, wants_input, new_session, EndsSearches, HasSpent, IsMidSearch, IsPvWhole, IsSameAfter};
+ghost use Rattle.usi_session.specs.Due.{due, state_due, load, roots_left, turns, is_pending, wants_input, new_session, EndsSearches, HasSpent, IsMidSearch, IsPvWhole, IsSameAfter, KeepsDue, QueuesAnswer, QueuesEnd, QueuesLine};
+ghost use Rattle.usi_session.specs.RunningGo.{is_last, is_searching};
 ghost use Rattle.usi_session.specs.WholeStream.{replies, state_from};
 ghost use Rattle.usi_session.specs.Answer.{initial_state};
 ghost use Rattle.usi_session.specs.WholeLines.{GrowsByLines};
 ghost use Rattle.usi_lines.specs.Lines.{lines};
+ghost use Rattle.usi_lines.specs.Seen.{line_of};
+ghost use Rattle.usi_session.specs.Options.{AreInRange};
 ghost use Rattle.usi_session.specs.declared.limits.TheConstants.{CHUNK_MAX};
 
 use crate::answer::{answer_line, write_or_hold};
@@ -18,7 +21,7 @@ use shogi_core::Position;
 use shogi_search::Memo;
 use std::alloc::{AllocError, Allocator};
 use std::marker::Model;
-use usi_lines::{LineBuffer, LineFault};
+use usi_lines::{Line, LineBuffer, LineFault};
 
 /// Why a session did not do what it was asked.
 #[derive(Clone, Copy, Debug, PartialEq, Eq)]
@@ -54,6 +57,69 @@ impl<A: Allocator + Copy> Model for Session<A> {
         record { state = s.state; running_go = s.running_go; queued = s.queue; input = s.input } };
 
     ghost invariant = { λ s. AreInRange s.state.options };
+}
+
+/// Queues the answer to a line, or starts its `go`. Where allocation fails nothing changed.
+fn queue_answer<A: Allocator + Copy>(
+    alloc: A,
+    line: Line<'_>,
+    state: &mut State,
+    queue: &mut Queue<A>,
+) -> Result<Option<GoCommand<A>>, AllocError>
+    requires options { AreInRange state.old.options }
+    requires alive { state.old.is_over ≡ false }
+    ensures answer { IfOk result
+        (QueuesAnswer state.old (line_of line.entry) state.new queue.old queue.new) }
+    ensures options { AreInRange state.new.options }
+    ensures queue_err { OnErr result (queue.new ≡ queue.old) }
+    ensures state_err { OnErr result (state.new ≡ state.old) }
+{
+    let mut reply = Vec::new(alloc);
+    let mut next = *state;
+    let running_go = answer_line(alloc, &mut reply, &mut next, line)?;
+    queue.push(reply.as_slice())?;
+    *state = next;
+    Ok(running_go)
+}
+
+/// Queues the current line of a running `go`. Where allocation fails nothing changed.
+fn queue_line<A: Allocator + Copy>(
+    alloc: A,
+    running_go: &GoCommand<A>,
+    queue: &mut Queue<A>,
+) -> Result<(), AllocError>
+    requires whole { is_searching running_go.now ≡ false }
+    ensures line { OnOk result (QueuesLine running_go.now queue.old queue.new) }
+    ensures err { OnErr result (queue.new ≡ queue.old) }
+{
+    let mut reply = Vec::new(alloc);
+    running_go.report(&mut reply)?;
+    queue.push(reply.as_slice())?;
+    Ok(())
+}
+
+/// Queues the last line of a running `go`, and writes or holds its bestmove. Where allocation fails
+/// nothing changed.
+fn queue_end<A: Allocator + Copy>(
+    alloc: A,
+    running_go: &GoCommand<A>,
+    state: &mut State,
+    queue: &mut Queue<A>,
+) -> Result<(), AllocError>
+    requires whole { is_searching running_go.now ≡ false }
+    requires last { is_last running_go.now ≡ true }
+    ensures end { OnOk result (QueuesEnd running_go.now state.old state.new queue.old queue.new) }
+    ensures options { state.new.options ≡ state.old.options }
+    ensures queue_err { OnErr result (queue.new ≡ queue.old) }
+    ensures state_err { OnErr result (state.new ≡ state.old) }
+{
+    let mut reply = Vec::new(alloc);
+    running_go.report(&mut reply)?;
+    let mut next = *state;
+    write_or_hold(&mut reply, &mut next, running_go.bestmove())?;
+    queue.push(reply.as_slice())?;
+    *state = next;
+    Ok(())
 }
 
 impl<A: Allocator + Copy> Session<A> {
@@ -99,22 +165,15 @@ impl<A: Allocator + Copy> Session<A> {
     fn answer_next(&mut self) -> Result<(), SessionFault>
         requires idle { self.old.running_go ≡ None }
         requires pending { is_pending self.old ≡ true }
-        ensures due { (x : List ℕ) → due self.new x ≡ due self.old x }
-        ensures after { (x : List ℕ) → state_due self.new x ≡ state_due self.old x }
+        ensures kept { KeepsDue self.old self.new }
         ensures roots { roots_left self.new ≡ roots_left self.old }
-        ensures load { load self.new ≤ load self.old }
         ensures fewer { OnOk result (turns self.new < turns self.old) }
-        ensures grown { GrowsByLines self.old.queued self.new.queued }
         ensures err { OnErr result (self.new ≡ self.old) }
     {
         let Some(line) = self.input.next_line() else {
             return Ok(());
         };
-        let mut state = self.state;
-        let mut reply = Vec::new(self.alloc);
-        let running_go = answer_line(self.alloc, &mut reply, &mut state, line)?;
-        self.queue.push(reply.as_slice())?;
-        self.state = state;
+        let running_go = queue_answer(self.alloc, line, &mut self.state, &mut self.queue)?;
         self.running_go = running_go;
         self.input.drop_line();
         Ok(())
@@ -125,28 +184,20 @@ impl<A: Allocator + Copy> Session<A> {
     fn report_next(&mut self) -> Result<(), SessionFault>
         requires whole { IsPvWhole self.old.running_go }
         requires pending { is_pending self.old ≡ true }
-        ensures due { (x : List ℕ) → due self.new x ≡ due self.old x }
-        ensures after { (x : List ℕ) → state_due self.new x ≡ state_due self.old x }
+        ensures kept { KeepsDue self.old self.new }
         ensures roots { roots_left self.new ≡ roots_left self.old }
-        ensures load { load self.new ≤ load self.old }
         ensures fewer { OnOk result (turns self.new < turns self.old) }
-        ensures grown { GrowsByLines self.old.queued self.new.queued }
         ensures err { OnErr result (self.new ≡ self.old) }
     {
         let Some(running_go) = &mut self.running_go else {
             return Ok(());
         };
-        let mut reply = Vec::new(self.alloc);
-        running_go.report(&mut reply)?;
         if !running_go.is_last() {
-            self.queue.push(reply.as_slice())?;
+            queue_line(self.alloc, running_go, &mut self.queue)?;
             running_go.next();
             return Ok(());
         }
-        let mut state = self.state;
-        write_or_hold(&mut reply, &mut state, running_go.bestmove())?;
-        self.queue.push(reply.as_slice())?;
-        self.state = state;
+        queue_end(self.alloc, running_go, &mut self.state, &mut self.queue)?;
         self.running_go = None;
         Ok(())
     }
@@ -156,14 +207,12 @@ impl<A: Allocator + Copy> Session<A> {
     /// used up within a search.
     fn turn<M: Memo>(&mut self, memo: &mut M, budget: u64) -> Result<Option<u64>, SessionFault>
         requires pending { is_pending self.old ≡ true }
-        ensures due { (x : List ℕ) → due self.new x ≡ due self.old x }
-        ensures after { (x : List ℕ) → state_due self.new x ≡ state_due self.old x }
+        ensures kept { KeepsDue self.old self.new }
         ensures spent { IfOk result (λ made. IfNone made (budget + load self.new ≤ load self.old)) }
         ensures unfinished { IfOk result (λ made. IfNone made (IsMidSearch self.new.running_go)) }
         ensures most { IfOk result (λ made. IfSome made (λ n. n ≤ budget)) }
         ensures made { IfOk result (λ made. IfSome made (λ n. n + load self.new ≤ load self.old)) }
         ensures fewer { IfOk result (λ made. OnSome made (turns self.new < turns self.old)) }
-        ensures grown { GrowsByLines self.old.queued self.new.queued }
         ensures told { EndsSearches M.called memo.old memo.new self.old self.new }
         ensures capacity { M.capacity memo.new ≡ M.capacity memo.old }
         ensures err { OnErr result (self.new ≡ self.old) }

@@ -1,4 +1,3 @@
 pub mod Asked
-pub mod Chunks
 pub mod Reported
 pub mod Transfers

@@ -4,19 +4,20 @@ ghost use Rattle.std.specs.Prelude.{◌≡◌, map, ◌++◌, ◌∷◌, [], Som
 ghost use Rattle.socket_loop.specs.Links.{links_of};
 ghost use Rattle.socket_loop.specs.Turns.{Fits};
 ghost use Rattle.socket_loop.specs.Calls.{AsksTurn};
-ghost use Rattle.wires.specs.Memory.{report_by};
+ghost use Rattle.memory_wire.specs.Memory.{report_by};
 ghost use Rattle.host_acceptance.specs.Calls.{call_of};
 
 use crate::connections::call::Call;
 use crate::connections::scene::{ANSWER, GO_AND_QUIT, HOST_FULL, SeedlessHost};
 use host_core::Host;
+use memory_wire::MemoryWire;
 use socket_loop::{Loop, Turn};
 use std::alloc::Global;
 use std::hash::{BuildHasherDefault, FoldHasher};
 use std::process::Abort;
 use std::test::Fail;
 use test_support::{holds, same};
-use wires::{Got, MemoryWire, Wire, WireFault};
+use wires::{Got, Wire, WireFault};
 
 /// A wire in memory that keeps each call. Where there is no memory to keep one, the process ends.
 #[derive(Drop)]
@@ -49,7 +50,7 @@ impl<'r, R: Abort> RecordingWire<'r, R> {
 
 impl<'r, R: Abort> Wire for RecordingWire<'r, R> {
     ghost use Rattle.std.specs.Prelude.{map, Some};
-    ghost use Rattle.wires.specs.Memory.{report_by};
+    ghost use Rattle.memory_wire.specs.Memory.{report_by};
     ghost use Rattle.host_acceptance.specs.Calls.{call_of};
 
     ghost report = { λ w. report_by w.wire };

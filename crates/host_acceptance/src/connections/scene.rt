@@ -4,6 +4,7 @@
 ghost use Rattle.std.specs.Prelude.{◌≤◌};
 
 use host_core::Host;
+use memory_wire::MemoryWire;
 use socket_loop::Loop;
 use std::alloc::Global;
 use std::hash::{BuildHasherDefault, FoldHasher};
@@ -11,7 +12,7 @@ use std::marker::Model;
 use std::process::Abort;
 use std::test::Fail;
 use test_support::{holds, same};
-use wires::{MemoryWire, Wire};
+use wires::Wire;
 
 /// What `go depth 1` from the opening position is answered.
 pub const ANSWER: &[u8] = b"info depth 1 score cp 0 pv 1g1f\nbestmove 1g1f\n";

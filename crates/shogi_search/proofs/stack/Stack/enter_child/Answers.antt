@@ -4,7 +4,7 @@ use Rattle.shogi_moves.specs.After.{after_code}
 use Rattle.shogi_eval.specs.Evaluated.{Evaluated}
 use Rattle.std.proofs.lemmas.Int.{ints}
 use Rattle.search_nodes.specs.Frames.{IsCutoffAfter, position_after, threshold_of}
-use Rattle.shogi_search.proofs.Entries.{same_window}
+use Rattle.shogi_search.proofs.Entries.{same_truth, same_window}
 use Rattle.minimax.specs.Minimax.{IsTrueEntry, negated}
 use Rattle.search_nodes.specs.Changes.{KeepsAsked}
 use Rattle.shogi_search.specs.Stack.{OnTop}
@@ -145,3 +145,56 @@ returns-clause-calls g c =
     asks_in_step g.M.Memo.called _ _ 0 1 _ _ 2
     (asks_and_asks g.M.Memo.called _ _ _ 1 1 2 c.answer_of.ensures.asked c.push.ensures.asked (omega arith))
     refl (omega (arith, c.push.ensures.height, c.narrow.ensures.height)) (omega (arith, c.push.ensures.height, c.narrow.ensures.height))
+
+pub window-alpha-requires : goal.window-alpha-requires
+window-alpha-requires g c =
+    let f : Frame = get_or c.args.self.now.frames c.args.self.now.height c.index-self-self.result in
+    let is : IsTop c.args.self.now f = read_top c.args.self.now c.index-self-self.result (omega (arith, c.requires.stack.height_fits)) in
+    let asks : f.waiting ≡ Asked c.args.current.now = on_top c.args.self.now f (λ (top : Frame). top.waiting ≡ Asked c.args.current.now) is c.requires.asked in
+    record { current = asked f.waiting c.args.current.now asks }
+
+pub overflow_sub-depth : goal.overflow_sub-depth
+overflow_sub-depth g c =
+    let f : Frame = get_or c.args.self.now.frames c.args.self.now.height c.index-self-self.result in
+    let is : IsTop c.args.self.now f = read_top c.args.self.now c.index-self-self.result (omega (arith, c.requires.stack.height_fits)) in
+    let asks : f.waiting ≡ Asked c.args.current.now = on_top c.args.self.now f (λ (top : Frame). top.waiting ≡ Asked c.args.current.now) is c.requires.asked in
+    let w : _ = waits _ _ _ _ _ _ _ _ _ _ (asked f.waiting c.args.current.now asks) f.known in
+    omega (arith, w.deep)
+
+pub far_answer-requires : goal.far_answer-requires
+far_answer-requires g c =
+    let f : Frame = get_or c.args.self.now.frames c.args.self.now.height c.index-self-self.result in
+    record { shallow = omega (arith, f.shallow) }
+
+pub answer_of-requires : goal.answer_of-requires
+answer_of-requires g c = record { «open» = omega (arith, ints, c.window-alpha.ensures.least, c.window-alpha.ensures.«open», c.window-alpha.ensures.most) }
+
+pub back_up-requires-clause-cutoff : goal.back_up-requires-clause-cutoff
+back_up-requires-clause-cutoff g c =
+    let f : Frame = get_or c.args.self.now.frames c.args.self.now.height c.index-self-self-in-Some.result in
+    let h : Frame = get_or c.args.self.now.frames c.args.self.now.height c.index-self-self.result in
+    let same : h ≡ f = one_top c.args.self.now h f (read_top c.args.self.now c.index-self-self.result (omega (arith, c.requires.stack.height_fits))) (read_top c.args.self.now c.index-self-self-in-Some.result (omega (arith, c.requires.stack.height_fits))) in
+    subst (λ (x : Frame). IsCutoffAfter x c.args.current.now c.in-Some.entry) same
+    (same_window _ (negated h.beta) _ (negated (threshold_of h c.args.current.now)) c.in-Some.entry
+    (omega (arith, ints, c.window-alpha.ensures.alpha, c.window-alpha.ensures.least, c.window-alpha.ensures.«open», c.window-alpha.ensures.most))
+    (omega (arith, ints, c.window-alpha.ensures.beta, c.window-alpha.ensures.least, c.window-alpha.ensures.«open», c.window-alpha.ensures.most))
+    c.in-Some.ensures.cutoff)
+
+pub back_up-requires-in-Some-answer_of-clause-truth : goal.back_up-requires-in-Some-answer_of-clause-truth
+back_up-requires-in-Some-answer_of-clause-truth g c =
+    let f : Frame = get_or c.args.self.now.frames c.args.self.now.height c.index-self-self-in-Some-answer_of.result in
+    let h : Frame = get_or c.args.self.now.frames c.args.self.now.height c.index-self-self.result in
+    let same : h ≡ f = one_top c.args.self.now h f (read_top c.args.self.now c.index-self-self.result (omega (arith, c.requires.stack.height_fits))) (read_top c.args.self.now c.index-self-self-in-Some-answer_of.result (omega (arith, c.requires.stack.height_fits))) in
+    let place : c.advance.new.self.position ≡ position_after h c.args.current.now = search rules in
+    let eval : c.advance.new.self.eval ≡ h.node.eval = search rules in
+    subst (λ (x : Frame). IsTrueEntry (position_after x c.args.current.now) x.node.eval (x.depth - 1) c.in-Some-answer_of.entry) same
+    (same_truth _ _ _ _ _ _ c.in-Some-answer_of.entry place eval refl c.in-Some-answer_of.ensures.truth)
+
+pub returns-clause-stack : goal.returns-clause-stack
+returns-clause-stack g c = c.push.ensures.stack
+
+pub returns-clause-free : goal.returns-clause-free
+returns-clause-free g c = c.push.ensures.free
+
+pub returns-clause-whole : goal.returns-clause-whole
+returns-clause-whole g c = λ root. absurd (omega (arith, root, c.push.ensures.height))

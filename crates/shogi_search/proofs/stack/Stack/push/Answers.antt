@@ -9,6 +9,7 @@ use Rattle.search_nodes.specs.Changes.{IsAt}
 use Rattle.search_nodes.specs.Visits.{IsFree}
 use Rattle.search_nodes.specs.declared.frame.Frame.{Frame}
 use Rattle.search_nodes.specs.declared.frame.Waiting.TheVariants.{Asked}
+use Rattle.search_nodes.proofs.Nodes.{asked}
 use Rattle.shogi_search.specs.declared.stack.Stack.{Stack}
 use Rattle.shogi_search.proofs.Places.{IsTop, read_top, on_top, on_with, stack_entered, left_child, left_once, free_next}
 use Rattle.shogi_search.proofs.stack.Stack.push.Goals as goal
@@ -70,3 +71,35 @@ returns-clause-once g c = λ whole.
     } in
     let counted : IsWithinTree (position_after f m) (f.depth - 1) c.enter.new.self.picker = subst (λ (p : Shogi). IsWithinTree p (f.depth - 1) c.enter.new.self.picker) there c.enter.ensures.counted in
     left_once s f c.enter.new.self m _ _ _ is c.requires.stack deep whole (omega (arith, c.requires.room)) window counted
+
+pub window-alpha-requires : goal.window-alpha-requires
+window-alpha-requires g c =
+    let s : Stack = c.args.self.now in
+    let f : Frame = get_or s.frames s.height c.index-self-self.result in
+    let is : IsTop s f = read_top s c.index-self-self.result (omega (arith, c.requires.room)) in
+    record { current = asked f.waiting c.args.current.now (on_top s f (λ (top : Frame). top.waiting ≡ Asked c.args.current.now) is c.requires.asked) }
+
+pub overflow_sub-depth : goal.overflow_sub-depth
+overflow_sub-depth g c =
+    let s : Stack = c.args.self.now in
+    let f : Frame = get_or s.frames s.height c.index-self-self.result in
+    let is : IsTop s f = read_top s c.index-self-self.result (omega (arith, c.requires.room)) in
+    let deep : 0 < f.depth = on_top s f (λ (top : Frame). 0 < top.depth) is c.requires.deep in
+    omega (arith, deep)
+
+pub enter-requires-clause-shallow : goal.enter-requires-clause-shallow
+enter-requires-clause-shallow g c =
+    let f : Frame = get_or c.args.self.now.frames c.args.self.now.height c.index-self-self.result in
+    omega (arith, f.shallow)
+
+pub enter-requires-clause-least : goal.enter-requires-clause-least
+enter-requires-clause-least g c = omega (arith, ints, c.window-alpha.ensures.least, c.window-alpha.ensures.«open», c.window-alpha.ensures.most)
+
+pub enter-requires-clause-open : goal.enter-requires-clause-open
+enter-requires-clause-open g c = omega (arith, ints, c.window-alpha.ensures.least, c.window-alpha.ensures.«open», c.window-alpha.ensures.most)
+
+pub enter-requires-clause-most : goal.enter-requires-clause-most
+enter-requires-clause-most g c = omega (arith, ints, c.window-alpha.ensures.least, c.window-alpha.ensures.«open», c.window-alpha.ensures.most)
+
+pub returns-clause-asked : goal.returns-clause-asked
+returns-clause-asked g c = c.child_hash_move_of-hash_move.ensures.asked

@@ -1,10 +1,13 @@
-use Rattle.std.proofs.Common.{arith, get_or, ◌≡◌, ◌<◌, length}
+use Rattle.std.proofs.Common.{arith, get_or, refl, ℕ, ◌≡◌, ◌<◌, ◌≤◌, length, Option, Some, None}
+use Rattle.std.specs.Prelude.{IfNone}
+use Rattle.minimax.specs.declared.entry.Entry.{Entry}
+use Rattle.shogi_search.specs.declared.stack.Stack.{Stack}
 use Rattle.std.proofs.lemmas.Bool.{both_ways}
 use Rattle.search_nodes.specs.Order.{todo}
 use Rattle.search_nodes.specs.Visits.{IsFree, IsOver}
 use Rattle.search_nodes.specs.declared.frame.Frame.{Frame}
 use Rattle.search_nodes.specs.declared.frame.Waiting.TheVariants.{Asked}
-use Rattle.shogi_search.proofs.Places.{read_top, on_top, on_with, changed, over_next, over_cut, left_descended}
+use Rattle.shogi_search.proofs.Places.{IsTop, left_passed, read_top, on_top, on_with, changed, over_next, over_cut, left_descended}
 use Rattle.shogi_search.proofs.stack.Stack.step.Goals as goal
 
 pub enter_child-requires-clause-stack : goal.enter_child-requires-clause-stack
@@ -29,3 +32,44 @@ leave-requires-2-clause-over g c =
     let f : Frame = get_or c.args.self.now.frames c.args.self.now.height c.index-self-self.result in
     let free : IsFree f.waiting = on_top c.args.self.now f (λ (top : Frame). IsFree top.waiting) (read_top c.args.self.now c.index-self-self.result (omega (arith, c.requires.stack.height_fits))) c.requires.free in
     on_with c.args.self.now c.args.self.now.height f (λ (top : Frame). IsOver top.waiting (todo top.node.position top.picker)) (omega (arith, c.requires.stack.height_fits)) (over_cut f.waiting (todo f.node.position f.picker) (λ next. both_ways c.is_next.result c.if-is_next.false (c.is_next.ensures.1 next)) free)
+
+-- less than what was passed on is less than what was
+less_still : (o : Option Entry) (a b n : ℕ) → IfNone o (a < b) → b ≤ n → IfNone o (a < n)
+less_still None a b n less more = omega arith
+less_still (Some entry) a b n less more = tt
+
+pub returns-in_default-clause-left : goal.returns-in_default-clause-left
+returns-in_default-clause-left g c =
+    let s : Stack = c.args.self.now in
+    let f : Frame = get_or s.frames s.height c.index-self-self.result in
+    let is : IsTop s f = read_top s c.index-self-self.result (omega (arith, c.requires.stack.height_fits)) in
+    less_still c.leave.result _ _ _ c.leave.ensures.left (left_passed s f c.next_move.new.self is c.next_move.ensures.0 c.in_default.ensures.1.1.0)
+
+pub returns-in_default-clause-calls : goal.returns-in_default-clause-calls
+returns-in_default-clause-calls g c = c.leave.ensures.calls
+
+pub returns-in_default-clause-told : goal.returns-in_default-clause-told
+returns-in_default-clause-told g c = c.leave.ensures.told
+
+pub returns-in_default-clause-truth : goal.returns-in_default-clause-truth
+returns-in_default-clause-truth g c = c.leave.ensures.truth
+
+pub returns-in_default-clause-cutoff : goal.returns-in_default-clause-cutoff
+returns-in_default-clause-cutoff g c = c.leave.ensures.cutoff
+
+pub returns-then-is_next-clause-calls : goal.returns-then-is_next-clause-calls
+returns-then-is_next-clause-calls g c = c.enter_child.ensures.calls
+
+pub leave-requires-2-clause-stack : goal.leave-requires-2-clause-stack
+leave-requires-2-clause-stack g c =
+    let s : Stack = c.args.self.now in
+    let f : Frame = get_or s.frames s.height c.index-self-self.result in
+    let is : IsTop s f = read_top s c.index-self-self.result (omega (arith, c.requires.stack.height_fits)) in
+    changed s f f is c.requires.stack (refl, (refl, (refl, refl)))
+
+pub returns-clause-left : goal.returns-clause-left
+returns-clause-left g c =
+    let s : Stack = c.args.self.now in
+    let f : Frame = get_or s.frames s.height c.index-self-self.result in
+    let is : IsTop s f = read_top s c.index-self-self.result (omega (arith, c.requires.stack.height_fits)) in
+    less_still c.leave-2.result _ _ _ c.leave-2.ensures.left (left_passed s f f is (refl, (refl, (refl, refl))) (omega arith))

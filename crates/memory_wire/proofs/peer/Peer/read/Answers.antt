@@ -1,7 +1,7 @@
 use Rattle.wires.specs.Report.{bytes_read}
 use Rattle.std.proofs.Common.{Ok, length}
-use Rattle.wires.proofs.Chunks.{all_left}
-use Rattle.wires.proofs.peer.Peer.read.Goals as goal
+use Rattle.memory_wire.proofs.Chunks.{all_left}
+use Rattle.memory_wire.proofs.peer.Peer.read.Goals as goal
 
 -- what is given and what is left are all
 pub returns-clause-consumed : goal.returns-clause-consumed

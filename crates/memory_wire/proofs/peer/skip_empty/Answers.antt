@@ -1,6 +1,6 @@
 use Rattle.std.proofs.Common.{rules, ◌∙◌, sym}
-use Rattle.wires.proofs.Chunks.{past_empty_removed, past_empty_same, past_empty_none}
-use Rattle.wires.proofs.peer.skip_empty.Goals as goal
+use Rattle.memory_wire.proofs.Chunks.{past_empty_removed, past_empty_same, past_empty_none}
+use Rattle.memory_wire.proofs.peer.skip_empty.Goals as goal
 
 pub loop-chunks-preserved : goal.loop-chunks-preserved
 loop-chunks-preserved g c = rw c.remove.ensures.items (past_empty_removed (λ chunk. chunk.items) c.loop-chunks.chunks.items c.index.result.now (search rules) (search rules) ∙ c.loop-chunks.invariant)

@@ -2,12 +2,12 @@
 
 ghost use Rattle.std.specs.Prelude.{◌≡◌, ◌≤◌, ◌++◌, length, min, take, drop, Some, Ok, Err, IfOk, IfErr, OnErr};
 ghost use Rattle.wires.specs.Report.{IsWithin, EndsAt, bytes_read, bytes_written};
-ghost use Rattle.wires.specs.Memory.{Gives, HasGiven, MarksFailure, unread_of, contents_of, new_peer, failing, shutting, narrowing, taking, past_empty, got_from, giving};
+ghost use Rattle.memory_wire.specs.Memory.{Gives, HasGiven, MarksFailure, unread_of, contents_of, new_peer, failing, shutting, narrowing, taking, past_empty, got_from, giving};
 ghost use Rattle.wires.specs.declared.wire.WireFault.TheVariants.{OutOfMemory};
 
-use crate::wire::{Got, WireFault};
 use std::alloc::Allocator;
 use std::marker::Model;
+use wires::{Got, WireFault};
 
 #[derive(Drop)]
 pub struct Peer<A: Allocator + Copy> {
@@ -23,7 +23,7 @@ pub struct Peer<A: Allocator + Copy> {
 }
 
 impl<A: Allocator + Copy> Model for Peer<A> {
-    ghost use Rattle.wires.specs.Memory.{PeerState, contents_of};
+    ghost use Rattle.memory_wire.specs.Memory.{PeerState, contents_of};
 
     ghost Value = { PeerState };
 

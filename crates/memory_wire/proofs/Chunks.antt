@@ -2,7 +2,7 @@
 use Rattle.std.proofs.Common.{◌≡◌, ◌∙◌, ℕ, ◌<◌, List, [], ◌∷◌, ◌++◌, length, take, drop, map, slice_index_or, refl, sym, ap, arith}
 use Rattle.std.proofs.lemmas.List.{take-append-drop, append_assoc}
 use Rattle.std.specs.List.{remove}
-use Rattle.wires.specs.Memory.{bytes_left, past_empty, given_from, left_from}
+use Rattle.memory_wire.specs.Memory.{bytes_left, past_empty, given_from, left_from}
 
 -- an empty chunk in front may go
 pub past_empty_removed : {X : Type 0} (f : X → List ℕ) (xs : List X) (d : X) → 0 < length xs → length (f (slice_index_or xs 0 d)) ≡ 0 → past_empty (map f (remove xs 0)) ≡ past_empty (map f xs)

@@ -2,13 +2,13 @@
 
 ghost use Rattle.std.specs.Prelude.{◌≡◌, ◌<◌, ◌≤◌, ◌↔◌, true, false, nat_lt, [], length, cond, min, Some, Ok, Err, IfOk, IfErr, OnErr, OnOk};
 ghost use Rattle.wires.specs.Report.{GivesNumber, KeepsAll, HasCause, HasRisen, Reads, Writes};
-ghost use Rattle.wires.specs.Memory.{Gives, IsKnown, contents_of, report_by, with_peer, changed, narrowing, failing, called, failed, is_open, fails_for, peer_of, width_of, accept_answer, after_accept, read_answer, after_failing, after_read, after_write, after_shut};
+ghost use Rattle.memory_wire.specs.Memory.{Gives, IsKnown, contents_of, report_by, with_peer, changed, narrowing, failing, called, failed, is_open, fails_for, peer_of, width_of, accept_answer, after_accept, read_answer, after_failing, after_read, after_write, after_shut};
 ghost use Rattle.wires.specs.declared.wire.WireFault.TheVariants.{Device, OutOfMemory};
 
 use crate::peer::Peer;
-use crate::wire::{Got, Wire, WireFault};
 use std::alloc::Allocator;
 use std::marker::Model;
+use wires::{Got, Wire, WireFault};
 
 /// A wire whose connections are peers that were made beforehand. It reports all that is read and
 /// written, which are shut, and of which a call has failed.
@@ -24,7 +24,7 @@ pub struct MemoryWire<A: Allocator + Copy> {
 
 impl<A: Allocator + Copy> Model for MemoryWire<A> {
     ghost use Rattle.std.specs.Prelude.{◌≤◌, vec_len};
-    ghost use Rattle.wires.specs.Memory.{WireState};
+    ghost use Rattle.memory_wire.specs.Memory.{WireState};
 
     ghost Value = { WireState };
 
@@ -172,7 +172,7 @@ impl<A: Allocator + Copy> MemoryWire<A> {
 }
 
 impl<A: Allocator + Copy> Wire for MemoryWire<A> {
-    ghost use Rattle.wires.specs.Memory.{report_by};
+    ghost use Rattle.memory_wire.specs.Memory.{report_by};
 
     ghost report = { report_by };
 

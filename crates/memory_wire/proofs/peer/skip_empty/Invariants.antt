@@ -1,6 +1,6 @@
 use Rattle.std.proofs.Common.{◌≡◌, map}
-use Rattle.wires.specs.Memory.{past_empty}
-use Rattle.wires.proofs.peer.skip_empty.Given as goal
+use Rattle.memory_wire.specs.Memory.{past_empty}
+use Rattle.memory_wire.proofs.peer.skip_empty.Given as goal
 
 -- past the empty chunks is the same place as before
 abbrev pub invariant-loop-chunks : goal.invariant-loop-chunks
