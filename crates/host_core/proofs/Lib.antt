@@ -7,3 +7,4 @@ pub mod Kept
 pub mod Rounds
 pub mod Still
 pub mod Shares
+pub mod Found

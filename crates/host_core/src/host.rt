@@ -1,6 +1,6 @@
 //! A host of sessions.
 
-ghost use Rattle.std.specs.Prelude.{◌≡◌, ◌≤◌, IfOk, IsErrOf, OnErr, Err, true, length};
+ghost use Rattle.std.specs.Prelude.{◌≡◌, ◌≤◌, IfNone, IfOk, IsErrOf, IsSome, None, OnErr, OnSome, Err, true, length};
 ghost use Rattle.session_slots.specs.Slots.{count, find, IsBelow, OthersKept};
 ghost use Rattle.shared_table.specs.Recent.{AreTrue};
 ghost use Rattle.host_core.specs.ById.{IsQueue, pending_of, wants_input_of, is_over_of, is_still_of};
@@ -21,6 +21,17 @@ use std::alloc::Allocator;
 use std::hash::BuildHasher;
 use std::marker::Model;
 use usi_session::Session;
+
+/// Drops what is there. Tells whether something was.
+fn dropped<T: Drop>(value: Option<T>) -> Option<()>
+    ensures some { OnSome result (IsSome value) }
+    ensures none { IfNone result (value ≡ None) }
+{
+    match value {
+        Some(_) => Some(()),
+        None => None,
+    }
+}
 
 /// Sessions over one table of searched positions. Each is answered as if it were alone; what the
 /// others searched can only save it steps.
@@ -195,8 +206,8 @@ impl<S: BuildHasher, A: Allocator + Copy> Host<S, A> {
         ensures below { IsBelow self.old.slots }
     {
         self.slots.validity();
-        match self.slots.close(id) {
-            Some(_) => {
+        match dropped(self.slots.close(id)) {
+            Some(()) => {
                 notes::set(&mut self.noted, id.slot, None);
                 Ok(())
             }

@@ -27,7 +27,6 @@ pub fn feed<A: Allocator + Copy>(session: &mut Session<A>, chunk: &[u8]) -> Resu
 }
 
 /// Continues by at most so many steps. With nothing pending, the session and the memo are left as they are.
-#[tactic(auto, using(usi_session::proofs::WholeReplies::grows_by_none))]
 pub fn work<A: Allocator + Copy, M: Memo>(
     session: &mut Session<A>,
     memo: &mut M,

@@ -7,3 +7,4 @@ pub mod MateLaws
 pub mod OneWalk
 pub mod Firsts
 pub mod DropLaws
+pub mod Held

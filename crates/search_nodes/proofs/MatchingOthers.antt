@@ -1,5 +1,5 @@
 -- The visits of a node's moves are its moves, in another order.
-use Rattle.std.proofs.Common.{◌≡◌, ◌≤◌, ◌+◌, ℕ, List, [], ◌∷◌, ◌++◌, ◌⊎◌, Bool, true, false, ◌==◌, filter, not, refl, ap, ◌∙◌, sym, arith, subst, inl, inr}
+use Rattle.std.proofs.Common.{◌≡◌, ◌<◌, ◌≤◌, ◌+◌, length, ℕ, List, [], ◌∷◌, ◌++◌, ◌⊎◌, Bool, true, false, ◌==◌, filter, not, refl, ap, ◌∙◌, sym, arith, subst, inl, inr}
 use Rattle.std.specs.Prelude.{cond, ◌&&◌}
 use Rattle.std.specs.List.{sum_by}
 use Rattle.std.proofs.lemmas.List.Sums.{sum_by-cons}
@@ -42,6 +42,10 @@ other-passed p firsts capture m xs rest e h =
 
 pub other-none : (p : Shogi) (firsts : List ℕ) (capture : Bool) (xs : List ℕ) → filter (matches_kind p capture) xs ≡ [] → filter (matches_other p firsts capture) xs ≡ []
 other-none p firsts capture xs e = filter-both p firsts capture xs ∙ ap (filter (λ n. not (is_in n firsts))) e
+
+-- with each one that matches fewer are left
+pub fewer_left : (left rest : List ℕ) (m : ℕ) → left ≡ m ∷ rest → length rest < length left
+fewer_left left rest m e = subst (λ (xs : List ℕ). length rest < length xs) (sym e) (omega arith)
 
 -- what matches from one code on as from another does so without the first moves
 pub other-same : (p : Shogi) (firsts : List ℕ) (capture : Bool) (xs ys : List ℕ) → filter (matches_kind p capture) xs ≡ filter (matches_kind p capture) ys → filter (matches_other p firsts capture) xs ≡ filter (matches_other p firsts capture) ys

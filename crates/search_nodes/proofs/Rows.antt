@@ -1,35 +1,40 @@
 -- Moves that are passed in a row since a threat stands after them.
-use Rattle.std.proofs.Common.{◌≡◌, ◌≢◌, ◌-◌, ◌*◌, ℕ, ℤ, pos, ◌-ℤ◌, ◌+ℤ◌, ◌≤ℤ◌, Bool, true, false, refl, sym, ◌∙◌, arith, subst, inl, inr, bit_or}
+use Rattle.std.proofs.Common.{◌≡◌, ◌≢◌, ◌≤◌, ◌+◌, ◌-◌, ◌*◌, ℕ, ℤ, pos, ◌-ℤ◌, ◌+ℤ◌, ◌≤ℤ◌, List, ◌∷◌, Option, Bool, true, false, refl, sym, ap, ◌∙◌, arith, subst, inl, inr, bit_or}
 use Rattle.std.proofs.lemmas.Bool.{both_ways, or_cases}
 use Rattle.std.proofs.Props.{props}
 use Rattle.std.proofs.Math.Logic.{∥∥₁_elim}
+use Rattle.shogi_core.specs.declared.moves.Move.{Move}
 use Rattle.shogi_core.specs.declared.moves.Move.TheVariants.{Board, Drop}
 use Rattle.shogi_core.specs.declared.moves.TheConstants.{FIRST_DROP}
 use Rattle.shogi_core.specs.declared.piece.Kind.{Kind}
 use Rattle.shogi_core.specs.Attack.{in_check}
 use Rattle.shogi_core.specs.Bits.{has_bit}
 use Rattle.shogi_core.specs.Cell.{is_slider}
+use Rattle.shogi_core.specs.Codes.{code_of}
 use Rattle.shogi_core.specs.Pieces.{kind_number, opponent_of}
 use Rattle.shogi_core.specs.Position.{Shogi}
 use Rattle.shogi_core.proofs.BitLaws.{has_bit-none, has_bit-or}
 use Rattle.shogi_core.proofs.CodesBack.{move_of-board, move_of-drop}
-use Rattle.shogi_moves.specs.After.{after, dropped}
+use Rattle.shogi_moves.specs.After.{after, after_code, dropped}
 use Rattle.shogi_moves.specs.Escapes.{AreEscapes}
 use Rattle.shogi_replies.specs.declared.row.Row.{Row}
 use Rattle.shogi_replies.specs.Passes.{IsCertainDrop, IsCertainMove, IsPassed}
 use Rattle.shogi_replies.proofs.ThreatLaws.{retake_drop, retake_unchecked, threat_board, threat_drop}
+use Rattle.shogi_eval.specs.Evaluated.{Evaluated}
 use Rattle.shogi_eval.specs.Material.{material_of, taken_gain}
-use Rattle.minimax.specs.Window.{code_at, threshold}
+use Rattle.minimax.specs.Minimax.{sum_of_tree_sizes, worth}
+use Rattle.minimax.specs.Window.{IsCovered, code_at, threshold}
 use Rattle.search_nodes.specs.declared.frame.Frame.{Frame}
-use Rattle.search_nodes.specs.declared.frame.Waiting.TheVariants.{Next}
+use Rattle.search_nodes.specs.declared.frame.Waiting.TheVariants.{Asked, Next}
 use Rattle.search_nodes.specs.declared.move_picker.MovePicker.{MovePicker}
 use Rattle.search_nodes.specs.declared.threat.Threat.{Threat}
 use Rattle.search_nodes.specs.declared.threat.Threats.{Threats}
-use Rattle.search_nodes.specs.Frames.{DropsAreLost, FallsShort, LeavesAtLeast, MovesLeave, PromotesWithin, RepliesLoseAtMost}
+use Rattle.search_nodes.specs.Frames.{DropsAreLost, FallsShort, IsLost, LeavesAtLeast, MovesLeave, PromotesWithin, RepliesLoseAtMost, threshold_of, worth_of}
 use Rattle.search_nodes.specs.Order.{todo}
-use Rattle.search_nodes.specs.Changes.{IsSame, KeepsMoves, PrunesRow}
+use Rattle.search_nodes.specs.Changes.{IsSame, KeepsMoves, PrunesRow, left_of_frame, steps_after}
 use Rattle.search_nodes.specs.Threats.{AreSpared, AreThreatsIn, IsAttacked, IsThreatIn, TakesAfter}
-use Rattle.search_nodes.specs.Visits.{IsKnownWhile}
+use Rattle.search_nodes.specs.Visits.{IsKnownWhile, moves_at}
+use Rattle.minimax.proofs.MinimaxLaws.{sum_of_tree_sizes-next}
 use Rattle.search_nodes.proofs.Ahead.{material_left, retake_gain, threat_gain, threat_left}
 use Rattle.search_nodes.proofs.Passing.{left_kept}
 use Rattle.search_nodes.proofs.Passed.{IsDropAt, IsWithin, drop_at, drop_worth, drops_covered, known_next, next_known, quiets_covered, threshold_within}
@@ -117,8 +122,55 @@ same_again f g h s t = (t.0 ∙ s.0, (t.1.0 ∙ s.1.0, (t.1.1.0 ∙ s.1.1.0, t.1
 pub kept_again : (f g h : Frame) → KeepsMoves f g → KeepsMoves g h → KeepsMoves f h
 kept_again f g h s t = (same_again f g h s.0 t.0, (t.1.0 ∙ s.1.0, (t.1.1.0 ∙ s.1.1.0, (t.1.1.1.0 ∙ s.1.1.1.0, t.1.1.1.1 ∙ s.1.1.1.1))))
 
+-- a move that is lost is lost in a frame that keeps the moves
+pub lost_kept : (f g : Frame) (m : Move) → KeepsMoves f g → IsLost f m → IsLost g m
+lost_kept f g m k lost =
+    let same : worth_of g m ≡ worth_of f m =
+    ap (λ (n : Evaluated). worth n.position n.eval (g.depth - 1) (code_of m)) k.0.0
+    ∙ ap (λ (d : ℕ). worth f.node.position f.node.eval (d - 1) (code_of m)) k.0.1.0 in
+    let most : threshold_of g m ≡ threshold_of f m =
+    ap (λ (v : ℤ). threshold v (code_at g.best_move) (code_of m)) k.1.1.1.0
+    ∙ ap (λ (b : Option Move). threshold f.best_value (code_at b) (code_of m)) k.1.1.1.1 in
+    subst (λ (x : ℤ). worth_of g m ≤ℤ x) (sym most)
+    (subst (λ (x : ℤ). x ≤ℤ threshold_of f m) (sym same) lost)
+
+-- the next move of the picker is asked for
+pub asked_known : (f : Frame) (m : Move) (picker : MovePicker) → f.waiting ≡ Next
+    → todo f.node.position f.picker ≡ code_of m ∷ todo f.node.position picker
+    → IsKnownWhile f.node.position f.node.eval f.depth f.alpha f.beta f.best_value (code_at f.best_move) (todo f.node.position picker) (Asked m)
+asked_known f m picker next codes =
+    subst (λ (xs : List ℕ). IsCovered (worth f.node.position f.node.eval (f.depth - 1)) (moves_at f.node.position f.depth) xs f.alpha f.best_value (code_at f.best_move))
+    codes (known_next _ _ _ _ _ _ _ _ _ next f.known)
+
+-- the same moves are still to be visited
+pub turned_known : (f : Frame) (picker : MovePicker) → f.waiting ≡ Next
+    → todo f.node.position picker ≡ todo f.node.position f.picker
+    → IsKnownWhile f.node.position f.node.eval f.depth f.alpha f.beta f.best_value (code_at f.best_move) (todo f.node.position picker) f.waiting
+turned_known f picker next codes =
+    next_known _ _ _ _ _ _ _ _ _ next
+    (subst (λ (xs : List ℕ). IsCovered (worth f.node.position f.node.eval (f.depth - 1)) (moves_at f.node.position f.depth) xs f.alpha f.best_value (code_at f.best_move))
+    (sym codes) (known_next _ _ _ _ _ _ _ _ _ next f.known))
+
+-- and as much is left
+pub turned_left : (f : Frame) (picker : MovePicker) → todo f.node.position picker ≡ todo f.node.position f.picker
+    → 1 + 2 * sum_of_tree_sizes f.node.position (f.depth - 1) (todo f.node.position picker) ≤ left_of_frame f
+turned_left f picker codes = omega (arith, ap (sum_of_tree_sizes f.node.position (f.depth - 1)) codes)
+
+-- of what was left the steps for the tree after the move that is asked for are taken off
+pub asked_left : (f : Frame) (m : Move) (picker : MovePicker)
+    → todo f.node.position f.picker ≡ code_of m ∷ todo f.node.position picker
+    → steps_after f m + (1 + 2 * sum_of_tree_sizes f.node.position (f.depth - 1) (todo f.node.position picker)) ≤ left_of_frame f
+asked_left f m picker codes = omega (arith, sum_of_tree_sizes-next f.node.position (f.depth - 1) (code_of m) (after_code f.node.position (code_of m)) (todo f.node.position f.picker) (todo f.node.position picker) refl codes)
+
+-- where nothing changes, nothing is passed
+pub nothing_pruned : (f : Frame) → f.waiting ≡ Next → PrunesRow f f
+nothing_pruned f next = ((refl, (refl, (refl, refl))), (next, omega arith))
+
 pub kept_prunes : (f g : Frame) → f.waiting ≡ Next → KeepsMoves f g → PrunesRow f g
 kept_prunes f g next k = (k.0, (k.1.1.0 ∙ next, omega (arith, left_kept f g k.0 k.1.0)))
 
 pub prunes_after : (f g h : Frame) → KeepsMoves f g → PrunesRow g h → PrunesRow f h
 prunes_after f g h k r = (same_again f g h k.0 r.0, (r.1.0, omega (arith, r.1.1, left_kept f g k.0 k.1.0)))
+
+pub prunes_again : (f g h : Frame) → PrunesRow f g → PrunesRow g h → PrunesRow f h
+prunes_again f g h r s = (same_again f g h r.0 s.0, (s.1.0, omega (arith, r.1.1, s.1.1)))

@@ -62,6 +62,11 @@ not_both side (Some piece) e = go side piece.color e
 no_bit : (m n : ℕ) → m ≡ 0 → has_bit m n ≡ true → false ≡ true
 no_bit m n none e = sym (has_bit-none n) ∙ (ap (λ (k : ℕ). has_bit k n) (sym none) ∙ e)
 
+-- nothing is pinned on a line on which no piece stands
+pub none_on_line : (cells : Cells) (side : Color) (square d : ℕ) → ((n : ℕ) → slides cells (direction_at d) square n ≡ true → is_none (piece_at cells n) ≡ true)
+    → (found n a : ℕ) → is_pinned_by cells side square (direction_at d) n a ≡ true → has_bit found n ≡ true
+none_on_line cells side square d free found n a pin = absurd (both_ways (is_none (piece_at cells n)) (some_of side (piece_at cells n) (pin_own cells side square d n a pin)) (free n (pin_near cells side square d n a pin)))
+
 module _ (cells : Cells) (side : Color) (square d snipers : ℕ) (shots : (b : ℕ) → b < 81 → has_bit snipers b ≡ is_sniper cells (opponent_of side) square b) where
   pub no_sniper_there : (line n a : ℕ) → line ≡ ray_of (direction_at d) square → bit_and line snipers ≡ 0 → n < 81 → a < 81 → is_pinned_by cells side square (direction_at d) n a ≡ true → has_bit 0 n ≡ true
   no_sniper_there line n a there none l h pin = absurd (let clash : false ≡ true = no_bit (bit_and line snipers) a none

@@ -1,5 +1,5 @@
 -- Sequences of legal moves, counted by their first moves.
-use Rattle.std.proofs.Common.{◌≡◌, ℕ, ◌+◌, ◌-◌, ◌≤◌, List, [], ◌∷◌, refl, arith, length}
+use Rattle.std.proofs.Common.{◌≡◌, ◌≢◌, ℕ, ◌+◌, ◌-◌, ◌^◌, ◌<◌, ◌≤◌, List, [], ◌∷◌, refl, arith, length}
 use Rattle.std.specs.Prelude.{zero, suc, sum_by}
 use Rattle.std.proofs.lemmas.List.Sums.{sum_by-cons}
 use Rattle.shogi_core.specs.Position.{Shogi}
@@ -33,6 +33,20 @@ perft_by-more p n code codes = sum_by-cons (λ code. perft (after_code p code) n
 -- the first move's share of what is left
 pub perft_by-left : (p : Shogi) (n code : ℕ) (codes rest : List ℕ) (child : Shogi) → codes ≡ code ∷ rest → child ≡ after_code p code → perft_by p n codes ≡ perft child n + perft_by p n rest
 perft_by-left p n code codes rest child e f = rw (e, f) (perft_by-more p n code rest)
+
+-- before the first move nothing is counted, and all is left
+pub perft_first : (p : Shogi) (n : ℕ) (codes : List ℕ) → n ≢ 0 → codes ≡ legal_codes p → 0 + perft_by p (n - 1) codes ≡ perft p n
+perft_first p n codes some e = rw e (let all : perft_by p (n - 1) (legal_codes p) ≡ perft p n = perft_step p n (omega arith) in omega arith)
+
+-- after the last move all is counted
+pub perft_last : (p : Shogi) (n total : ℕ) (codes : List ℕ) → total + perft_by p (n - 1) codes ≡ perft p n → codes ≡ [] → total ≡ perft p n
+perft_last p n total codes whole e = let none : perft_by p (n - 1) codes ≡ 0 = rw e (perft_by-none p (n - 1)) in omega arith
+
+pub perft_none-few : (p : Shogi) (n : ℕ) → n ≡ 0 → 2 ^ 64 ≤ perft p n → ⊥
+perft_none-few p n e many = omega (arith, perft_none p n e)
+
+pub fewer_left : (codes left : List ℕ) (code : ℕ) → codes ≡ code ∷ left → length left < length codes
+fewer_left codes left code e = rw e (omega arith)
 
 -- one move: as many as are legal
 pub perft_one : (p : Shogi) → perft p 1 ≡ length (legal_codes p)

@@ -1,12 +1,15 @@
--- What a search that has ended knows.
-use Rattle.std.proofs.Common.{◌≡◌, ℤ, Option, Some, None, refl, sym, ◌∙◌, subst}
+-- What a search knows between its slices and once it has ended.
+use Rattle.std.proofs.Common.{◌≡◌, ℤ, Option, Some, None, refl, sym, ◌∙◌, ◌<ℤ◌, ◌≤ℤ◌, w32, ap, arith, subst}
+use Rattle.std.proofs.lemmas.Int.{ints, to_z-of_z}
+use lib.IntN.{negsuc, pos}
+use mir.Val.{to_z, of_z}
 use Rattle.std.specs.Prelude.{IfSome}
 use Rattle.std.specs.Option.{ForSome}
 use Rattle.shogi_search.specs.declared.found.Found.{Found}
 use Rattle.shogi_search.specs.declared.sliced_search.Search.TheInside.{Inside}
-use Rattle.minimax.specs.Minimax.{value, best}
-use Rattle.shogi_search.specs.Progress.{IsFoundBelow}
-use Rattle.shogi_search.specs.SlicedSearch.{IsKnown}
+use Rattle.minimax.specs.Minimax.{value, best, negated}
+use Rattle.shogi_search.specs.Progress.{IsFoundBelow, Progress}
+use Rattle.shogi_search.specs.SlicedSearch.{IsKnown, progress_of}
 use Rattle.shogi_search.proofs.Entries.{whole_value, whole_best}
 use Rattle.minimax.specs.declared.bounds.TheConstants.{INFINITY}
 
@@ -27,3 +30,15 @@ known_value s (Some f) k = λ e. whole_value _ _ _ _ f (k f refl).below e
 pub known_best : (s : Inside) (found : Option Found) → ForSome found (IsKnown s) → IfSome found (λ f. s.stack.beta ≡ INFINITY → f.best ≡ best s.stack.root s.stack.eval s.stack.depth)
 known_best s None k = tt
 known_best s (Some f) k = λ e. whole_best _ _ _ _ f (k f refl).below e
+
+-- what its caller sees is what it has inside
+pub found_seen : (inside : Inside) (search : Progress) → progress_of inside ≡ search → inside.found ≡ search.found
+found_seen inside search e = ap (λ (p : Progress). p.found) e
+
+pub started_seen : (inside : Inside) (search : Progress) → progress_of inside ≡ search → inside.started ≡ search.started
+started_seen inside search e = ap (λ (p : Progress). p.started) e
+
+-- the end of a window is kept in 32 bits
+pub end_kept : (beta : ℤ) → negated INFINITY <ℤ beta → beta ≤ℤ INFINITY → to_z w32 (of_z w32 beta) ≡ beta
+end_kept (pos n) above most = to_z-of_z w32 (pos n) (record { sfits = omega (arith, ints) })
+end_kept (negsuc n) above most = to_z-of_z w32 (negsuc n) (record { sfits = omega (arith, ints) })

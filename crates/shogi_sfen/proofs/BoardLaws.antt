@@ -1,13 +1,14 @@
 -- Ranks one after another.
-use Rattle.std.proofs.Common.{◌≡◌, ℕ, ◌+◌, ◌*◌, ◌≤◌, ◌<◌, refl, sym, ◌∙◌, ap, arith, List, [], ◌∷◌, ◌++◌, length, take, drop, get_or, append_assoc, append-nil, Option, Some, None}
+use Rattle.std.proofs.Common.{◌≡◌, ◌≢◌, ℕ, ◌+◌, ◌*◌, ◌≤◌, ◌<◌, refl, sym, ◌∙◌, ap, arith, List, [], ◌∷◌, ◌++◌, length, take, drop, get_or, append_assoc, append-nil, Option, Some, None, inl, inr}
 use Rattle.std.specs.Prelude.{◌==◌, map}
 use Rattle.std.specs.List.{slice_split, position_or_len, range_with_len}
-use Rattle.std.proofs.lemmas.List.{length-append, ext_get_or}
+use Rattle.std.proofs.Math.ListN.{set}
+use Rattle.std.proofs.lemmas.List.{length-append, ext_get_or, get_or-set_same, get_or-set_other}
 use Rattle.std.proofs.lemmas.List.FromFn.{get_or-map-range_with_len, length-map-range_with_len}
 use Rattle.std.proofs.lemmas.List.Splits.{slice_split_first, slice_split_none, length-slice_split}
 use Rattle.std.proofs.lemmas.List.Sums.{fails_before_first}
 use Rattle.std.specs.Prelude.{count_by}
-use Rattle.std.proofs.lemmas.Bool.{cond-true, cond-false, eq-eqb, ne_eqb, cond_both}
+use Rattle.std.proofs.lemmas.Bool.{cases_eq, cond-true, cond-false, eq-eqb, ne_eqb, cond_both}
 use Rattle.shogi_core.specs.declared.piece.Piece.{Piece}
 use Rattle.shogi_core.specs.Movement.{Cells, piece_at}
 use Rattle.shogi_sfen.specs.BoardTexts.{joined, rank_of, both_joined, ranks_of, is_slash, squares_of, place_in_text, board_from}
@@ -100,6 +101,18 @@ ranks-last word rest squares rank new has e r add =
     ∙ (has.ranks ∙ (ap (λ (ps : List (List ℕ)). joined squares (ranks_of ps)) (one_part rest e)
     ∙ (ap (λ (o : Option Cells). joined squares (both_joined o (Some []))) r
     ∙ (ap (λ (c : Cells). Some (squares ++ c)) (append-nil rank) ∙ ap Some (sym add)))))
+
+pub place_below : (square : ℕ) → square < 81 → place_in_text square < 81
+place_below square below = omega arith
+
+-- one more square is in its place
+pub placed : (cells squares : Cells) (square : ℕ) (cell : Option Piece) → length cells ≡ 81 → square < 81 → cell ≡ get_or squares (place_in_text square) None
+    → ((k : ℕ) → k < square → get_or cells k None ≡ get_or squares (place_in_text k) None)
+    → (k : ℕ) → k < square + 1 → get_or (set cells square cell) k None ≡ get_or squares (place_in_text k) None
+placed cells squares square cell len below is before k lt = elim (cases_eq k square) [
+  | inl same ↦ ap (λ (i : ℕ). get_or (set cells square cell) i None) same ∙ (get_or-set_same cells square cell None (omega arith) ∙ (is ∙ ap (λ (i : ℕ). get_or squares (place_in_text i) None) (sym same)))
+  | inr apart ↦ get_or-set_other cells square k cell None apart ∙ before k (let a : k ≢ square = apart in omega arith)
+]
 
 -- squares put in their places
 pub arranged : (cells squares : Cells) → length cells ≡ 81 → ((k : ℕ) → k < 81 → get_or cells k None ≡ get_or squares (place_in_text k) None) → cells ≡ board_from squares

@@ -482,3 +482,14 @@ pub number_rises : (old new : ℕ) (r : Result (Option ℕ) WireFault) → Gives
 number_rises old new (Ok (Some n)) p = (let u : old ≤ n = p.0 in let v : n < new = p.1 in omega arith)
 number_rises old new (Ok None) p = (let u : new ≡ old = p in omega arith)
 number_rises old new (Err e) p = p
+
+-- a number that is given lies above what was given before
+pub rose : (a b number c d : ℕ) → a ≤ b → b ≤ number → number < c → d ≡ c → a < d
+rose a b number c d p q r e = omega arith
+
+pub below_then : (a b c : ℕ) → a < b → b ≤ c → a < c
+below_then a b c p q = omega arith
+
+-- at most one more of both
+pub few_more : (full unopened n f u : ℕ) → full + unopened ≤ n → f + u ≤ 1 → (full + f) + (unopened + u) ≤ n + 1
+few_more full unopened n f u p q = omega arith

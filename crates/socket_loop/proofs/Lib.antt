@@ -1,6 +1,7 @@
 pub mod Runs
 pub mod Parts
 pub mod Visits
+pub mod OneVisit
 pub mod Accepting
 pub mod Marks
 pub mod Quiet

@@ -1,11 +1,12 @@
 -- What a listener was asked for.
-use Rattle.std.proofs.Common.{◌≡◌, ℕ, Bool, true, false, List, [], ◌∷◌, Option, None, Some, Result, Ok, Err, refl, ap, inl, inr}
+use Rattle.std.specs.Prelude.{◌&&◌, not, cond}
+use Rattle.std.proofs.Common.{◌≡◌, ℕ, Bool, true, false, List, [], ◌∷◌, Option, None, Some, Result, Ok, Err, refl, sym, ap, subst, ◌∙◌, inl, inr}
 use Rattle.wires.specs.Asked.{Asks}
 use Rattle.wires.proofs.Asked.{asks_none, asks_then}
 use Rattle.wires.specs.declared.wire.WireFault.{WireFault}
 use Rattle.stream_wire.specs.declared.listener.Ready.{Ready}
-use Rattle.stream_wire.specs.Streams.{Ask, Look, NamesListener}
-use Rattle.stream_wire.specs.Asking.{AsksForNext, AsksToAccept, IsAskedForNext, IsAskedToAccept}
+use Rattle.stream_wire.specs.Streams.{Ask, Look, NamesListener, Wait}
+use Rattle.stream_wire.specs.Asking.{AsksForNext, AsksToAccept, IsAskedForNext, IsAskedToAccept, waits_for}
 
 after_look : (may : Bool) (named : List Ready) (r : Result (Option ℕ) WireFault) (asks : List Ask) → AsksForNext r asks → AsksToAccept may named r (Look ∷ asks)
 after_look may named (Ok (Some n)) asks e = ap (λ (l : List Ask). Look ∷ l) e
@@ -40,3 +41,33 @@ asked_nobody may now named a b look opens names closed = record {
   asked = look;
   due = inr (refl, (was_false may now opens closed, λ n. (let t : now ≡ true = names n in let f : now ≡ false = closed in absurd (cc))));
 }
+
+pub asked_unmoved : (may : Bool) (named : List Ready) (a b : Option (List Ask)) (fault : WireFault) → b ≡ a → IsAskedToAccept may named a b (Err fault)
+asked_unmoved may named a b fault e = subst (λ x. IsAskedToAccept may named a x (Err fault)) (sym e) (asked_nothing may named a fault)
+
+-- who waits first was not asked for
+pub asked_no_next : (a b : Option (List Ask)) (fault : WireFault) → b ≡ a → IsAskedForNext a b (Err fault)
+asked_no_next a b fault e = record { asks = []; asked = subst (λ x. Asks a x []) (sym e) (asks_none a); due = inl refl }
+
+-- ---- waits
+
+-- one that is not to wait, and one where a read has left something
+pub waits_not : (idle more unsure : Bool) → idle ≡ false → waits_for idle more unsure ≡ []
+waits_not idle more unsure e = ap (λ (b : Bool). cond (b && not more) (Wait unsure ∷ []) []) e
+
+pub waits_no_more : (idle more unsure : Bool) → more ≡ true → waits_for idle more unsure ≡ []
+waits_no_more true more unsure e = ap (λ (b : Bool). cond (not b) (Wait unsure ∷ []) []) e
+waits_no_more false more unsure e = refl
+
+-- any other
+pub waits_once : (idle more unsure : Bool) → idle ≡ true → more ≡ false → waits_for idle more unsure ≡ Wait unsure ∷ []
+waits_once idle more unsure e f =
+    ap (λ (b : Bool). cond (b && not more) (Wait unsure ∷ []) []) e ∙ ap (λ (b : Bool). cond (not b) (Wait unsure ∷ []) []) f
+
+pub more_stays : (more idle : Bool) → idle ≡ false → more ≡ (more && not idle)
+more_stays true idle e = ap (λ (b : Bool). not b) (sym e)
+more_stays false idle e = refl
+
+pub more_goes : (more idle : Bool) → idle ≡ true → false ≡ (more && not idle)
+more_goes true idle e = ap (λ (b : Bool). not b) (sym e)
+more_goes false idle e = refl

@@ -1,4 +1,7 @@
 pub mod Giving
+pub mod Outcomes
+pub mod Placing
+pub mod Reading
 pub mod Reports
 pub mod Waking
 pub mod Asked

@@ -1,18 +1,34 @@
 -- What is reported of the connections that are held, and of all others.
-use Rattle.std.proofs.Common.{◌≡◌, ℕ, List, [], Option, Some, None, sym, ap, subst, ◌∙◌, inl, inr}
+use Rattle.std.proofs.Common.{◌≡◌, ℕ, ◌≤◌, List, [], Option, Some, None, Result, Ok, Err, length, sym, ap, subst, ◌∙◌, inl, inr}
 use Rattle.std.proofs.lemmas.Bool.{cases_eq}
-use Rattle.std.specs.Io.KnownBytes.{Keeps, prepend_known}
-use Rattle.std.proofs.KnownBytes.{Keeps-refl}
-use Rattle.wires.specs.Report.{Report, KeepsAll, KeepsOthers, KeepsConnection, Shuts}
-use Rattle.wires.proofs.Reported.{kept_same, kept_then, raised_rise, raised_rises, stays_rise, stays_then}
+use Rattle.std.specs.Prelude.{IfOk}
+use Rattle.std.specs.Io.KnownBytes.{Appends, Consumes, Keeps, prepend_known}
+use Rattle.std.proofs.KnownBytes.{Consumes-nil, Keeps-refl}
+use Rattle.wires.specs.Report.{EndsAt, IsWithin, Report, KeepsAll, KeepsOthers, KeepsConnection, Reads, Shuts, Writes, bytes_read, bytes_written}
+use Rattle.wires.specs.declared.wire.Got.{Got}
+use Rattle.wires.specs.declared.wire.Got.TheVariants.{Nothing}
+use Rattle.wires.specs.declared.wire.WireFault.{WireFault}
+use Rattle.wires.proofs.Reported.{Appends-none, Consumes-none, kept_same, kept_then, raised_rise, raised_rises, stays-refl, stays_rise, stays_then}
 use Rattle.stream_wire.specs.declared.connection.Connection.{Connection}
-use Rattle.stream_wire.specs.Streams.{HasBack, IsToldShut, KeepsElse, Streams}
-use Rattle.stream_wire.specs.Held.{AreAlike, HoldsOthers, IsAlike, bytes_of, held, reported, unread_of, written_of}
+use Rattle.stream_wire.specs.Streams.{HasBack, IsToldShut, KeepsElse, Notes, Streams}
+use Rattle.stream_wire.specs.Held.{AreAlike, HasGiven, HasTaken, HoldsOthers, IsAlike, bytes_of, held, reported, unread_of, written_of}
 
 keeps_nil : (a b : Option (List ℕ)) → Keeps a b → Keeps a (prepend_known [] b)
 keeps_nil None b k = tt
 keeps_nil (Some x) None k = absurd k
 keeps_nil (Some x) (Some y) k = k
+
+-- nothing was read
+pub reads_none : (t : Report) (number : ℕ) (buf : List ℕ) → Reads t t number (Ok Nothing) buf
+reads_none t number buf = record {
+  within = tt;
+  consumed = Consumes-nil (t.unread number);
+  ended = tt;
+  written = Keeps-refl (t.written number);
+  shut = stays-refl (t.is_shut number);
+  failed = stays-refl (t.has_failed number);
+  others = λ other apart. kept_same t other;
+}
 
 module _ {S A : Type 0} where
   -- ---- of one number
@@ -29,6 +45,9 @@ module _ {S A : Type 0} where
 
   at_start : (P : Option (List ℕ) → Option (List ℕ) → Type 0) (f : Connection S A → Option (List ℕ)) (t u : Option (List ℕ)) (a b : Option (Connection S A)) (q : Connection S A) → a ≡ None → b ≡ Some q → P t (f q) → P (bytes_of f t a) (bytes_of f u b)
   at_start P f t u a b q d e h = subst (λ x. P (bytes_of f t x) (bytes_of f u b)) (sym d) (subst (λ x. P t (bytes_of f u x)) (sym e) h)
+
+  at_both : (P : Option (List ℕ) → Option (List ℕ) → Type 0) (f : Connection S A → Option (List ℕ)) (t u : Option (List ℕ)) (a b : Option (Connection S A)) (p q : Connection S A) → a ≡ Some p → b ≡ Some q → P (f p) (f q) → P (bytes_of f t a) (bytes_of f u b)
+  at_both P f t u a b p q d e h = subst (λ x. P (bytes_of f t x) (bytes_of f u b)) (sym d) (subst (λ x. P (f p) (bytes_of f u x)) (sym e) h)
 
   same_unread : (r : S → Option (List ℕ)) (p q : Connection S A) → q.stream ≡ p.stream → q.kept ≡ p.kept → Keeps (unread_of r p) (unread_of r q)
   same_unread r p q s k = subst (λ x. Keeps (unread_of r p) x) (sym (ap (λ x. prepend_known q.kept (r x)) s ∙ ap (λ x. prepend_known x (r p.stream)) k)) (Keeps-refl (unread_of r p))
@@ -64,6 +83,16 @@ module _ {S A : Type 0} where
     failed = (kept n).failed;
   }
 
+  -- nothing moved
+  pub unmoved : (r c : S → Option (List ℕ)) (t u : Report) (old new : List (Option (Connection S A))) → u ≡ t → new ≡ old → KeepsAll (reported r c t old) (reported r c u new)
+  unmoved r c t u old new e f =
+      subst (λ x. KeepsAll (reported r c t old) (reported r c x new)) (sym e)
+      (subst (λ x. KeepsAll (reported r c t old) (reported r c t x)) (sym f) (kept_same (reported r c t old)))
+
+  -- the listener was asked, and what it found was remembered
+  pub looked : (r c : S → Option (List ℕ)) (t u v : Report) (old new : List (Option (Connection S A))) → v ≡ u → AreAlike old new → KeepsAll t u → KeepsAll (reported r c t old) (reported r c v new)
+  looked r c t u v old new e alike kept = subst (λ x. KeepsAll (reported r c t old) (reported r c x new)) (sym e) (alike_keeps r c t u old new alike kept)
+
   -- a stream comes, under its number
   pub comes : (r c : S → Option (List ℕ)) (t u : Report) (old mid new : List (Option (Connection S A))) (number : ℕ) (q : Connection S A) → AreAlike old mid → held mid number ≡ None → held new number ≡ Some q → HoldsOthers mid new number
       → Keeps (t.unread number) (r q.stream) × Keeps (t.written number) (c q.stream) → KeepsElse t u number → q.kept ≡ [] → KeepsAll (reported r c t old) (reported r c u new)
@@ -92,3 +121,49 @@ module _ {S A : Type 0} where
         failed = stays_then (t.has_failed number) (u.has_failed number) (v.has_failed number) told.failed rest.failed;
         others = others_kept s.remaining s.contents t v old new number holds (λ other apart. kept_then t u v other (told.others other apart) (rest.others other apart));
       }
+
+  -- ---- reads and writes
+
+  -- no connection is held under this number
+  pub reads_missing : (r c : S → Option (List ℕ)) (t u : Report) (old new : List (Option (Connection S A))) (number : ℕ) (fault : WireFault) (buf : List ℕ) → held old number ≡ None → held new number ≡ None → HoldsOthers old new number → Notes {T = Got} t u number (Err fault) → Reads (reported r c t old) (reported r c u new) number (Err fault) buf
+  reads_missing r c t u old new number fault buf d e holds n = record {
+    within = tt;
+    consumed = Consumes-none _ _ (keeps_is (unread_of r) (t.unread number) (u.unread number) (held old number) (held new number) (e ∙ sym d) n.unread);
+    ended = tt;
+    written = keeps_is (written_of c) (t.written number) (u.written number) (held old number) (held new number) (e ∙ sym d) n.written;
+    shut = n.shut;
+    failed = n.failed;
+    others = others_kept r c t u old new number holds n.others;
+  }
+
+  pub writes_missing : (r c : S → Option (List ℕ)) (t u : Report) (old new : List (Option (Connection S A))) (number : ℕ) (fault : WireFault) (buf : List ℕ) → held old number ≡ None → held new number ≡ None → HoldsOthers old new number → Notes {T = ℕ} t u number (Err fault) → Writes (reported r c t old) (reported r c u new) number (Err fault) buf
+  writes_missing r c t u old new number fault buf d e holds n = record {
+    within = tt;
+    appended = Appends-none _ _ (keeps_is (written_of c) (t.written number) (u.written number) (held old number) (held new number) (e ∙ sym d) n.written);
+    unread = keeps_is (unread_of r) (t.unread number) (u.unread number) (held old number) (held new number) (e ∙ sym d) n.unread;
+    shut = n.shut;
+    failed = n.failed;
+    others = others_kept r c t u old new number holds n.others;
+  }
+
+  -- this connection was read from, and is held again
+  pub reads_held : (r c : S → Option (List ℕ)) (t u : Report) (old new : List (Option (Connection S A))) (number : ℕ) (p q : Connection S A) (result : Result Got WireFault) (buf : List ℕ) → held old number ≡ Some p → held new number ≡ Some q → HoldsOthers old new number → IsWithin result (length buf) → HasGiven r p q (bytes_read result buf) → Keeps (written_of c p) (written_of c q) → EndsAt result (unread_of r q) → Notes t u number result → Reads (reported r c t old) (reported r c u new) number result buf
+  reads_held r c t u old new number p q result buf d e holds within gave kept ended n = record {
+    within = within;
+    consumed = at_both (λ a b. Consumes a b (bytes_read result buf)) (unread_of r) (t.unread number) (u.unread number) (held old number) (held new number) p q d e gave;
+    ended = subst (λ x. EndsAt result (bytes_of (unread_of r) (u.unread number) x)) (sym e) ended;
+    written = at_both (λ a b. Keeps a b) (written_of c) (t.written number) (u.written number) (held old number) (held new number) p q d e kept;
+    shut = n.shut;
+    failed = n.failed;
+    others = others_kept r c t u old new number holds n.others;
+  }
+
+  pub writes_held : (r c : S → Option (List ℕ)) (t u : Report) (old new : List (Option (Connection S A))) (number : ℕ) (p q : Connection S A) (result : Result ℕ WireFault) (buf : List ℕ) → held old number ≡ Some p → held new number ≡ Some q → HoldsOthers old new number → IfOk result (λ k. k ≤ length buf) → HasTaken c p q (bytes_written result buf) → Keeps (unread_of r p) (unread_of r q) → Notes t u number result → Writes (reported r c t old) (reported r c u new) number result buf
+  writes_held r c t u old new number p q result buf d e holds within took kept n = record {
+    within = within;
+    appended = at_both (λ a b. Appends a b (bytes_written result buf)) (written_of c) (t.written number) (u.written number) (held old number) (held new number) p q d e took;
+    unread = at_both (λ a b. Keeps a b) (unread_of r) (t.unread number) (u.unread number) (held old number) (held new number) p q d e kept;
+    shut = n.shut;
+    failed = n.failed;
+    others = others_kept r c t u old new number holds n.others;
+  }

@@ -1,5 +1,5 @@
 -- Those that a look or a wait has named are awake.
-use Rattle.std.proofs.Common.{◌≡◌, ◌≢◌, ℕ, Bool, true, ◌+◌, ◌<◌, List, Option, Some, None, refl, sym, ap, subst, ◌∙◌, inl, inr, arith}
+use Rattle.std.proofs.Common.{◌≡◌, ◌≢◌, ℕ, Bool, true, ◌+◌, ◌<◌, ◌≤◌, List, Option, Some, None, refl, sym, ap, subst, ◌∙◌, inl, inr, arith}
 use Rattle.std.proofs.lemmas.Bool.{cases_eq}
 use Rattle.std.proofs.lemmas.Option.{slice_get_within}
 use Rattle.std.specs.Prelude.{slice_get, length}
@@ -29,6 +29,10 @@ module _ {S A : Type 0} where
   pub awake_still : (named : List Ready) (old new : List (Option (Connection S A))) → AreAwakeStill old new → AreAwake named old → AreAwake named new
   awake_still named old new still awake place number is = still number (awake place number is)
 
+  -- the same of those that are named after a call
+  pub awake_named : (named now : List Ready) (old new : List (Option (Connection S A))) → now ≡ named → AreAwakeStill old new → AreAwake named old → AreAwake now new
+  awake_named named now old new e still awake = subst (λ x. AreAwake x new) (sym e) (awake_still named old new still awake)
+
   -- one more was remembered
   pub awake_more : (n : ℕ) (named : List Ready) (found : Option Ready) (old new : List (Option (Connection S A))) → found ≡ slice_get named n → ((number : ℕ) → found ≡ Some (Stream number) → IsAwake (held new number)) → AreAwakeStill old new → AwakeTo n named old → AwakeTo (n + 1) named new
   awake_more n named found old new is one still awake place number lt e = elim (cases_eq place n) [
@@ -44,6 +48,19 @@ module _ {S A : Type 0} where
   pub same_alike : (old new : List (Option (Connection S A))) → HoldsAll old new → AreAlike old new
   same_alike old new same n = subst (λ x. IsAlike (held old n) x) (sym (same n)) (alike_refl (held old n))
 
+  alike_then : (a b d : Option (Connection S A)) → IsAlike a b → IsAlike b d → IsAlike a d
+  alike_then None b d e f = (let r : IsAlike None d = rw e at f in r)
+  alike_then (Some p) None d e f = absurd e
+  alike_then (Some p) (Some q) None e f = absurd f
+  alike_then (Some p) (Some q) (Some r) e f = (f.0 ∙ e.0, f.1 ∙ e.1)
+
+  pub still_alike : (old mid new : List (Option (Connection S A))) → AreAlike old mid → AreAlike mid new → AreAlike old new
+  still_alike old mid new first second n = alike_then (held old n) (held mid n) (held new n) (first n) (second n)
+
+  -- none was named yet
+  pub awake_none : (named : List Ready) (places : List (Option (Connection S A))) → AwakeTo 0 named places
+  awake_none named places place number lt e = absurd (omega arith)
+
   -- all of them
   pub awake_all : (n : ℕ) (named : List Ready) (places : List (Option (Connection S A))) → n ≡ length named → AwakeTo n named places → AreAwake named places
   awake_all n named places e awake place number is = awake place number (let lt : place < length named = slice_get_within named place (Stream number) is in omega arith) is
@@ -51,6 +68,9 @@ module _ {S A : Type 0} where
 -- where one of the first so many is the listener, it is so
 abbrev pub NamedTo : ℕ → List Ready → Bool → Type 0
 NamedTo n named now = (place : ℕ) → place < n → slice_get named place ≡ Some Listener → now ≡ true
+
+pub named_none : (named : List Ready) (now : Bool) → NamedTo 0 named now
+named_none named now place lt e = absurd (omega arith)
 
 pub named_more : (n : ℕ) (named : List Ready) (found : Option Ready) (old new : Bool) → found ≡ slice_get named n → (found ≡ Some Listener → new ≡ true) → (old ≡ true → new ≡ true) → NamedTo n named old → NamedTo (n + 1) named new
 named_more n named found old new is one still before place lt e = elim (cases_eq place n) [
@@ -60,3 +80,6 @@ named_more n named found old new is one still before place lt e = elim (cases_eq
 
 pub named_all : (n : ℕ) (named : List Ready) (now : Bool) → n ≡ length named → NamedTo n named now → NamesListener named → now ≡ true
 named_all n named now e before names = before names.0 (let lt : names.0 < length named = slice_get_within named names.0 Listener names.1 in omega arith) names.1
+
+pub at_end : (place last found named : ℕ) → last ≤ place → place ≤ last → last ≡ found → named ≡ found → place ≡ named
+at_end place last found named past within is same = omega arith

@@ -42,9 +42,9 @@ pub fn is_quiet<S: Duplex, A: Allocator + Copy>(
     ensures { result ≡ true → IsQuiet (held places.now number) }
 {
     match places.get(place_of(number)) {
-        Some(Some(connection)) => connection.number == number
-            && !connection.may_give
-            && connection.kept.is_empty(),
+        Some(Some(connection)) => (connection.number == number)
+            & !connection.may_give
+            & connection.kept.is_empty(),
         _ => false,
     }
 }

@@ -3,6 +3,7 @@
 ghost use Rattle.std.specs.Prelude.{◌≡◌, ◌≢◌, ◌≤◌, ◌-◌, ◌^◌, ◌&&◌, not, true, length, is_some, IfOk, None, Ok, Some, OnErr, OnOk};
 ghost use Rattle.usi_lines.specs.OneLine.{IsOneLine};
 ghost use Rattle.wires.specs.Report.{GivesNumber, HasCause, HasRisen, IsWithin, KeepsAll, bytes_read, bytes_written};
+ghost use Rattle.wires.specs.declared.wire.Got.TheVariants.{Nothing};
 ghost use Rattle.wires.specs.declared.wire.WireFault.TheVariants.{Device};
 ghost use Rattle.stream_wire.specs.Asking.{AreAwake, AreAwakeStill, AsksByAccept, AsksByRead, AsksByWait, AsksNext, AsksToTake, GivesKept, IsNamedAwake, LeavesMore, OfNumber, OpensIfNamed, StaysOpen, WakesByWait};
 ghost use Rattle.stream_wire.specs.Held.{AreAlike, kept_of};
@@ -85,6 +86,20 @@ fn taken_by(taken: &Result<usize, WireFault>, buf: &[u8]) -> u64
         Ok(n) => *n as u64,
         Err(_) => 0,
     }
+}
+
+/// Whether a read found nothing.
+fn gave_nothing(got: &Result<Got, WireFault>) -> bool
+    ensures { result ≡ true → got.now ≡ Ok Nothing }
+{
+    matches!(got, Ok(Got::Nothing))
+}
+
+/// Whether a write found no room.
+fn took_nothing(taken: &Result<usize, WireFault>) -> bool
+    ensures { result ≡ true → taken.now ≡ Ok 0 }
+{
+    matches!(taken, Ok(0))
 }
 
 impl<L: Listener, A: Allocator + Copy> StreamWire<L, A> {
@@ -279,7 +294,7 @@ impl<L: Listener, A: Allocator + Copy> StreamWire<L, A> {
         };
         let got = connection.read(self.alloc, buf);
         self.has_more = self.has_more | !connection.kept.is_empty();
-        self.is_unsure = self.is_unsure | (connection.may_give && matches!(got, Ok(Got::Nothing)));
+        self.is_unsure = self.is_unsure | (connection.may_give & gave_nothing(&got));
         put(&mut self.places, connection);
         self.answer(number, got)
     }
@@ -300,7 +315,7 @@ impl<L: Listener, A: Allocator + Copy> StreamWire<L, A> {
             return self.answer(number, Err(WireFault::Device));
         };
         let taken = connection.write(buf);
-        self.is_unsure = self.is_unsure | (connection.may_take && matches!(taken, Ok(0)));
+        self.is_unsure = self.is_unsure | (connection.may_take & took_nothing(&taken));
         put(&mut self.places, connection);
         self.answer(number, taken)
     }

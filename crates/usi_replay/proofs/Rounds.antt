@@ -1,24 +1,27 @@
 -- What a round does to one session.
-use Rattle.std.proofs.Common.{◌≡◌, ℕ, ◌+◌, ◌*◌, ◌<◌, ◌≤◌, List, [], ◌∷◌, Bool, true, false, cond, Option, Some, None, length, get_or, count_by, refl, sym, ap, ◌∙◌, arith}
-use Rattle.std.specs.Prelude.{slice_index_or, is_some, ◌||◌}
-use Rattle.std.proofs.lemmas.List.{get_or_past}
+use Rattle.std.proofs.Common.{◌≡◌, ℕ, ◌+◌, ◌*◌, ◌<◌, ◌≤◌, List, [], ◌∷◌, ◌++◌, take, Bool, Result, Ok, Err, Bor, true, false, cond, Option, Some, None, length, get_or, count_by, refl, sym, ap, ◌∙◌, arith}
+use Rattle.std.specs.Prelude.{slice_index_or, is_err, is_some, ◌||◌}
+use Rattle.std.proofs.lemmas.List.{get_or_past, take_all}
 use Rattle.std.proofs.lemmas.List.Sums.{sum_by-cons, sum_by-set}
 use Rattle.session_slots.specs.declared.id.SessionId.{SessionId}
 use Rattle.session_slots.specs.Slots as slots
 use Rattle.session_slots.specs.Slots.{find, with_session, count}
 use Rattle.session_slots.proofs.Finds.{IsAt, found_at, find-with_session, find-with_session-other}
 use Rattle.usi_session.specs.Due.{SessionView, due, load, is_pending}
+use Rattle.host_core.specs.declared.event.HostFault.{HostFault}
 use Rattle.host_core.specs.declared.event.HostFault.TheVariants.{Full, OutOfMemory, UnknownSession, NotReady}
 use Rattle.host_core.specs.Events.{Outcome, Opened, Done, Worked, Gave, Refused, Work}
 use Rattle.host_core.specs.Made.{is_same_id}
 use Rattle.host_core.specs.Runs.{IsRun}
 use Rattle.host_core.specs.Steps.{HostState, Stepped, OnSession, Changed}
-use Rattle.host_core.specs.Sessions.{Works, WorkedOn}
-use Rattle.host_core.specs.ById.{pending_of}
+use Rattle.host_core.specs.Seen.{passed_of}
+use Rattle.host_core.specs.Sessions.{Taken, Takes, Works, WorkedOn}
+use Rattle.host_core.specs.ById.{IsQueue, pending_of}
 use Rattle.host_core.specs.Rounds.{pending_ids, works, was_refused, IsRound}
 use Rattle.host_core.proofs.Ids.{same_id, other_id}
 use Rattle.host_core.proofs.Rounds.{is_in, pending_in}
-use Rattle.usi_replay.specs.Sessions.{OwesTheSame, KeepsDue, KeepsAllBut, works_left}
+use Rattle.usi_replay.specs.Playback.{IsSameButForMade, Transcript}
+use Rattle.usi_replay.specs.Sessions.{IsCollected, OwesTheSame, KeepsDue, KeepsAllBut, works_left}
 
 -- as many are open after a write to a session
 pub count-with_session : (s : slots.OpenSessions SessionView) (id : SessionId) (t after : SessionView) → find s id ≡ Some t → count (with_session s id after) ≡ count s
@@ -207,3 +210,23 @@ run_less budget (at ∷ ids) (o ∷ os) old new id one len ok is p r =
 -- a round that is never refused brings a pending session nearer to its end
 pub round_falls : (old new : HostState) (budget worked refused : ℕ) (id : SessionId) → 1 ≤ budget → refused ≡ 0 → pending_of (find old.slots id) ≡ true → IsRound old budget (pending_ids old) worked refused new → works_left (find new.slots id) < works_left (find old.slots id)
 round_falls old new budget worked refused id one none p r = run_less budget (pending_ids old) r.outcomes old new id one r.each (sym r.refused_is ∙ none) (pending_in old id p) p r.run
+
+-- a queue that was taken to its end
+taken_all : (s t : SessionView) (n : ℕ) (bytes : List ℕ) → n ≡ length s.queued → Taken s n bytes t → (x : List ℕ) → due s x ≡ s.queued ++ due t x
+taken_all s t n bytes e h x = h.owed x ∙ ap (λ xs. xs ++ due t x) (ap (λ k. take k s.queued) e ∙ take_all (length s.queued) s.queued (omega arith))
+
+pub collects : {U : Type 0} (result : Result U HostFault) (old new : HostState) (id : SessionId) (found : Option SessionView) (queue : Bor (List ℕ)) (given made more : List ℕ) → find old.slots id ≡ found → is_err result ≡ false
+    → IsQueue found (Some queue) → OnSession (Takes (length queue.now)) old id found (passed_of given result) new → more ≡ made ++ queue.now → IsCollected found (find new.slots id) made more
+collects (Err fault) old new id found queue given made more e ok q c m = absurd (cc)
+collects (Ok u) old new id None queue given made more e ok q c m = absurd q
+collects (Ok u) old new id (Some s) queue given made more e ok q c m =
+    let same : queue.now ≡ s.queued = q in
+    rw (changed_finds (Takes (length queue.now)) old new id s (Gave given) e c)
+    (m ∙ ap (λ xs. made ++ xs) same, taken_all s c.after (length queue.now) given (ap length same) c.went)
+
+pub collects_none : (found : Option SessionView) (made : List ℕ) → IsQueue found None → IsCollected found found made made
+collects_none None made q = (refl, refl)
+collects_none (Some s) made q = absurd q
+
+pub but_for_made : (before after : Transcript) (made : List ℕ) → after ≡ record before { made = made } → IsSameButForMade before after
+but_for_made before after made e = e ∙ ap (λ (xs : List ℕ). record before { made = xs }) (sym (ap (λ (t : Transcript). t.made) e))

@@ -1,5 +1,3 @@
-pub mod Appends
-pub mod PositionLaws
 pub mod RunningGoLaws
 pub mod Walk
 pub mod Listed

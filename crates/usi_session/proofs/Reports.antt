@@ -9,7 +9,7 @@ use Rattle.shogi_moves.specs.LegalMoves.{legal_codes}
 use Rattle.shogi_eval.specs.declared.eval.Eval.{Eval}
 use Rattle.minimax.specs.Minimax.{value, worth, pv}
 use Rattle.usi_session.specs.declared.question.Question.{Question}
-use Rattle.usi_session.specs.Texts.{info_line, info_text, numbered_info_text}
+use Rattle.usi_texts.specs.Texts.{info_line, info_text, numbered_info_text}
 use Rattle.usi_session.specs.GoInfos.{numbered_line, numbered_lines}
 use Rattle.usi_session.specs.RunningGo.{listed_at, infos_of_depths, deeper_infos, rest_of_depth, infos_to_come, infos_after_line, ends_depth}
 use Rattle.usi_session.specs.Walked.{Walked, IsLine}

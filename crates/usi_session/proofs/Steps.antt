@@ -1,6 +1,6 @@
 -- One line more is answered, or one line of a `go` is reported.
-use Rattle.std.proofs.Common.{◌≡◌, ℕ, ◌+◌, ◌*◌, ◌<◌, ◌≤◌, List, [], ◌∷◌, ◌++◌, length, refl, sym, ap, ◌∙◌, arith, append_assoc, append-nil, true, false, Bool, Option, Some, None, cond}
-use Rattle.std.specs.Prelude.{IfNone, IfSome, not, ◌&&◌, ◌||◌, is_some}
+use Rattle.std.proofs.Common.{◌≡◌, ℕ, ◌+◌, ◌-◌, ◌*◌, ◌<◌, ◌≤◌, List, [], ◌∷◌, ◌++◌, length, refl, sym, ap, ◌∙◌, arith, append_assoc, append-nil, true, false, Bool, Option, Some, None, cond}
+use Rattle.std.specs.Prelude.{IfNone, IfSome, OnSome, not, ◌&&◌, ◌||◌, is_some}
 use Rattle.usi_lines.specs.Lines.{ahead, Buffer}
 use Rattle.usi_session.specs.declared.question.Question.{Question}
 use Rattle.usi_session.specs.declared.state.HeldBestmove.{HeldBestmove}
@@ -9,13 +9,16 @@ use Rattle.usi_session.proofs.RunningGoLaws.{infos_after_line-last, write_or_hol
 use Rattle.usi_lines.specs.Lines.{Line}
 use Rattle.usi_session.specs.declared.state.State.{State}
 use Rattle.usi_session.specs.WholeStream.{replies_from, state_from, answer_to, answer_unless}
-use Rattle.usi_session.specs.RunningGo.{RunningGo, IsSameButForSearch, rest_of_go, rest_of_go_if, with_rest, load_of, load_of_if, infos_left, infos_after, bestmove_to, is_last, reports_of_if, roots_of, roots_of_if, is_searching, most_reports}
+use Rattle.usi_session.specs.RunningGo.{RunningGo, IsSameButForSearch, rest_of_go, rest_of_go_if, with_rest, load_after_search, load_of, load_of_if, infos_left, infos_after, bestmove_to, is_last, reports_of, reports_of_if, roots_of, roots_of_if, is_searching, most_reports}
 use Rattle.usi_session.specs.Costs.{costs_from, cost_to}
 use Rattle.usi_session.specs.Roots.{roots_to, roots_from}
-use Rattle.usi_session.specs.Due.{SessionView, KeepsDue, QueuesAnswer, QueuesEnd, QueuesLine, owed, owed_after, load_ahead, roots_ahead, is_pending, has_line, roots_left, turns}
+use Rattle.usi_session.specs.Due.{SessionView, IsMidSearch, KeepsDue, QueuesAnswer, QueuesEnd, QueuesLine, owed, owed_after, load_ahead, roots_ahead, is_pending, has_line, roots_left, turns}
 use Rattle.usi_session.proofs.Settled.{replies_from-over}
 use Rattle.usi_session.proofs.RootLaws.{roots_of-last}
 use Rattle.usi_session.proofs.WholeReplies.{grows_by_none, grows_then}
+use Rattle.shogi_search.specs.Calls.{Call}
+use Rattle.usi_session.specs.Told.{TellsEnded}
+use Rattle.usi_session.proofs.TellsLaws.{ended_ahead}
 
 -- a session that is not over answers the line
 replies_from-alive : (s : State) (line : Line) (rest : List Line) → s.is_over ≡ false → replies_from s (line ∷ rest) ≡ (answer_to s line).bytes ++ replies_from (answer_to s line).state rest
@@ -245,3 +248,101 @@ pub fewer_answered : (s next : State) (queued more : List ℕ) (input rest : Buf
     → turns (record { state = next; running_go = running_go; queued = more; input = rest }) < turns (record { state = s; running_go = idle; queued = queued; input = input })
 fewer_answered s next queued more input rest idle running_go line pending i first h =
     turns_on s next idle running_go line (ahead input []) (ahead rest []) (pending_alive (record { state = s; running_go = idle; queued = queued; input = input }) pending) i (first []) h.begun.state_is h.begun.load h.begun.reports
+
+-- what was made of a `go` is no longer left of it, nor of the session
+added : (made new old x y : ℕ) → made + new ≤ old → x ≡ y → made + (new + x) ≤ old + y
+added made new old x y less same = omega arith
+
+fewer_added : (new old x y k r t : ℕ) → new < old → x ≡ y → r ≡ t → (new + x) + (k + r) < (old + y) + (k + t)
+fewer_added new old x y k r t less same still = omega arith
+
+costs_searched : (s : State) (go next : RunningGo) (ahead : List Line) → IsSameButForSearch go next → costs_from (rest_of_go s next).state ahead ≡ costs_from (rest_of_go s go).state ahead
+costs_searched s go next ahead e = ap (λ (g : RunningGo). costs_from (rest_of_go s g).state ahead) e
+
+load_searched : (made : ℕ) (s : State) (go next : RunningGo) (running_go : Option RunningGo) (ahead : List Line) → running_go ≡ Some go → IsSameButForSearch go next
+    → made + load_of next ≤ load_of go → made + load_ahead s (Some next) ahead ≤ load_ahead s running_go ahead
+load_searched made s go next running_go ahead i e less =
+    rw i (added made (load_of next) (load_of go) (costs_from (rest_of_go s next).state ahead) (costs_from (rest_of_go s go).state ahead) less (costs_searched s go next ahead e))
+
+pub spent_searched : (budget : ℕ) (result : Option ℕ) (s : State) (go next : RunningGo) (running_go : Option RunningGo) (ahead : List Line) → running_go ≡ Some go → IsSameButForSearch go next
+    → IfNone result (budget + load_of next ≤ load_of go) → IfNone result (budget + load_ahead s (Some next) ahead ≤ load_ahead s running_go ahead)
+spent_searched budget None s go next running_go ahead i e spent = load_searched budget s go next running_go ahead i e spent
+spent_searched budget (Some n) s go next running_go ahead i e spent = spent
+
+pub made_searched : (result : Option ℕ) (s : State) (go next : RunningGo) (running_go : Option RunningGo) (ahead : List Line) → running_go ≡ Some go → IsSameButForSearch go next
+    → IfSome result (λ made. made + load_of next ≤ load_of go) → IfSome result (λ made. made + load_ahead s (Some next) ahead ≤ load_ahead s running_go ahead)
+made_searched None s go next running_go ahead i e made = made
+made_searched (Some n) s go next running_go ahead i e made = load_searched n s go next running_go ahead i e made
+
+pub fewer_searched : (result : Option ℕ) (s : State) (queued : List ℕ) (input : Buffer) (go next : RunningGo) (running_go : Option RunningGo) → running_go ≡ Some go → IsSameButForSearch go next → OnSome result (load_of next < load_of go)
+    → OnSome result (turns (record { state = s; running_go = Some next; queued = queued; input = input }) < turns (record { state = s; running_go = running_go; queued = queued; input = input }))
+fewer_searched None s queued input go next running_go i e fewer = fewer
+fewer_searched (Some n) s queued input go next running_go i e fewer =
+    rw i (fewer_added (load_of next) (load_of go) (costs_from (rest_of_go s next).state (ahead input [])) (costs_from (rest_of_go s go).state (ahead input [])) ((most_reports + 1) * length (ahead input [])) (reports_of_if (Some next)) (reports_of_if (Some go))
+    fewer (costs_searched s go next (ahead input []) e) (ap (λ (g : RunningGo). reports_of_if (Some g)) e))
+
+-- the searches that it ended are the first of the session
+pub told_searched : {M : Type 0} (called : M → Call → M → Type 0) (old new : M) (s : State) (go next : RunningGo) (running_go : Option RunningGo) (ahead : List Line) → running_go ≡ Some go → IsSameButForSearch go next
+    → TellsEnded called old new (roots_of go) (roots_of next) → TellsEnded called old new (roots_ahead s running_go ahead) (roots_ahead s (Some next) ahead)
+told_searched called old new s go next running_go ahead i e told =
+    rw i (ended_ahead called old new (roots_of go) (roots_of next) (roots_from (rest_of_go s go).state ahead) (roots_from (rest_of_go s next).state ahead) (ap (λ (g : RunningGo). roots_from (rest_of_go s g).state ahead) e) told)
+
+-- what holds where nothing is returned holds together
+pub both_none : (A B : Type 0) (result : Option ℕ) → IfNone result A → IfNone result B → IfNone result (A × B)
+both_none A B None a b = (a, b)
+both_none A B (Some n) a b = a
+
+-- where no `go` runs and no line is ahead, nothing is pending
+not_pending : (over : Bool) → (not over && false) ≡ true → ⊥
+not_pending true e = cc
+not_pending false e = cc
+
+pub nothing_pending : (s : SessionView) → s.running_go ≡ None → ahead s.input [] ≡ [] → is_pending s ≡ true → ⊥
+nothing_pending s idle none pending =
+    not_pending s.state.is_over (ap (λ (lines : List Line). not s.state.is_over && (false || has_line lines)) (sym none)
+    ∙ (ap (λ (o : Option RunningGo). not s.state.is_over && (is_some o || has_line (ahead s.input []))) (sym idle) ∙ pending))
+
+-- a session whose state and queue are the same is the same
+pub same_view : (s t : State) (queued more : List ℕ) (input : Buffer) (running_go : Option RunningGo) → t ≡ s → more ≡ queued
+    → ◌≡◌ {A = SessionView} (record { state = t; running_go = running_go; queued = more; input = input }) (record { state = s; running_go = running_go; queued = queued; input = input })
+same_view s t queued more input running_go e h = λ k. record { state = e k; running_go = running_go; queued = h k; input = input }
+
+less_added : (new old k r t : ℕ) → new ≤ old → r < t → new + (k + (r + 1)) < old + (k + (t + 1))
+less_added new old k r t less fewer = omega arith
+
+ended_added : (x y k load r : ℕ) → x ≡ y → (0 + x) + (k + 0) < (load + y) + (k + (r + 1))
+ended_added x y k load r e = omega arith
+
+-- a `go` that has reported a line has a turn less to take, and so has one that ended
+pub fewer_reported : (s : State) (queued more : List ℕ) (input : Buffer) (go next : RunningGo) (running_go : Option RunningGo) → running_go ≡ Some go → next.question ≡ go.question → load_of next ≤ load_of go → reports_of next < reports_of go
+    → turns (record { state = s; running_go = Some next; queued = more; input = input }) < turns (record { state = s; running_go = running_go; queued = queued; input = input })
+fewer_reported s queued more input go next running_go i q less fewer =
+    rw i (less_added (load_ahead s (Some next) (ahead input [])) (load_ahead s (Some go) (ahead input [])) ((most_reports + 1) * length (ahead input [])) (reports_of next) (reports_of go)
+    (load_reported s go next (Some go) (ahead input []) refl q less) fewer)
+
+pub fewer_ended : (s next : State) (queued more : List ℕ) (input : Buffer) (go : RunningGo) (running_go : Option RunningGo) → running_go ≡ Some go → QueuesEnd go s next queued more
+    → turns (record { state = next; running_go = None; queued = more; input = input }) < turns (record { state = s; running_go = running_go; queued = queued; input = input })
+fewer_ended s next queued more input go running_go i h =
+    rw i (ended_added (costs_from next (ahead input [])) (costs_from (rest_of_go s go).state (ahead input [])) ((most_reports + 1) * length (ahead input [])) (load_of go) (reports_of go)
+    (ap (λ (t : State). costs_from t (ahead input [])) h.state_is))
+
+-- a search that is not at its end has steps left
+some_added : (left x y : ℕ) → 0 < left → 0 < (left + x) + y
+some_added left x y some = omega arith
+
+pub mid_load : (s : State) (running_go : Option RunningGo) (ahead : List Line) → IsMidSearch running_go → 0 < load_ahead s running_go ahead
+mid_load s None ahead mid = absurd mid
+mid_load s (Some go) ahead mid = some_added go.steps_left (load_after_search go) (costs_from (rest_of_go s go).state ahead) mid.1
+
+-- the steps of a slice: those that were made, and those that are left of the budget and of the session
+pub made_on : (budget left old now made new : ℕ) → budget + now ≤ old + left → made ≤ left → made + new ≤ now → budget + new ≤ old + (left - made)
+made_on budget left old now made new before most h = omega arith
+
+pub made_all : (budget left old now new : ℕ) → budget + now ≤ old + left → left + new ≤ now → budget + new ≤ old
+made_all budget left old now new before h = omega arith
+
+pub made_so_far : (budget left old now : ℕ) → left ≤ budget → budget + now ≤ old + left → (budget - left) + now ≤ old
+made_so_far budget left old now within before = omega arith
+
+pub not_enough : (budget old new : ℕ) → budget + new ≤ old → 0 < new → old ≤ budget → ⊥
+not_enough budget old new made some enough = omega arith

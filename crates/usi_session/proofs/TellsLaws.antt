@@ -84,6 +84,15 @@ ended_then called a b c x y z first second = record {
   told = told_and_told called a b c first.ended second.ended first.told second.told;
 }
 
+-- searches ended before others, which are left
+pub ended_ahead : {M : Type 0} (called : M → Call → M → Type 0) (a b : M) (x y z w : List Root)
+    → w ≡ z → TellsEnded called a b x y → TellsEnded called a b (x ++ z) (y ++ w)
+ended_ahead called a b x y z w e h = record {
+  ended = h.ended;
+  left = ap (λ roots. roots ++ z) h.left ∙ (append_assoc h.ended y z ∙ ap (λ rest. h.ended ++ (y ++ rest)) (sym e));
+  told = h.told;
+}
+
 -- an entry that says what was found below the end of the whole window is the value with the best move
 whole_entry : (root : Root) (entry : Entry) (f : Found) → Says entry f → IsEnoughBelow INFINITY (Some entry)
     → f.value ≡ value root.position root.eval root.depth → f.best ≡ best root.position root.eval root.depth

@@ -12,13 +12,13 @@ use Rattle.usi_lines.specs.CommandLines.{command_of}
 use Rattle.usi_lines.specs.Lines.{Line, Text, TooLong}
 use Rattle.usi_lines.specs.declared.command.Hold.{Hold}
 use Rattle.usi_lines.specs.declared.command.Hold.TheVariants.{Nothing, UntilStop, UntilHit}
-use Rattle.usi_session.specs.declared.position_command.Refusal.{Refusal}
-use Rattle.usi_session.specs.declared.position_command.Refusal.TheVariants as refusals
+use Rattle.usi_texts.specs.declared.position_command.Refusal.{Refusal}
+use Rattle.usi_texts.specs.declared.position_command.Refusal.TheVariants as refusals
 use Rattle.usi_session.specs.declared.state.HeldBestmove.{HeldBestmove}
 use Rattle.usi_session.specs.declared.state.State.{State}
-use Rattle.usi_session.specs.Options.{option_lines}
-use Rattle.usi_session.specs.Texts.{usi_reply, score_text, moves_text, info_for, info_text, numbered_info_text, info_line, bestmove_line, bad_position_line, illegal_move_line}
-use Rattle.usi_session.specs.PositionCommand.{position_of_startpos, position_of_sfen}
+use Rattle.usi_texts.specs.Options.{option_lines}
+use Rattle.usi_texts.specs.Texts.{usi_reply, score_text, moves_text, info_for, info_text, numbered_info_text, info_line, bestmove_line, bad_position_line, illegal_move_line}
+use Rattle.usi_texts.specs.PositionCommand.{position_of_startpos, position_of_sfen}
 use Rattle.usi_session.specs.GoInfos.{listed, pv_by, numbered_line, numbered_lines, depth_lines, info_lines, go_infos, go_infos_where}
 use Rattle.usi_session.specs.Answer.{answer, answer_position, write_or_hold, answer_stop, answer_ponderhit_held, answer_ponderhit, held_line, bestmove_at}
 use Rattle.usi_session.specs.WholeStream.{answer_to}

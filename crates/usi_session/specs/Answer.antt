@@ -8,15 +8,15 @@ use Rattle.minimax.specs.Minimax.{pv}
 use Rattle.usi_lines.specs.Commands.{Command, Usi, IsReady, SetDepth, SetEval, SetLines, NewGame, Startpos, Sfen, BadPosition, Go, GoMate, Stop, PonderHit, GameOver, Quit, Other}
 use Rattle.usi_lines.specs.declared.command.Hold.{Hold}
 use Rattle.usi_lines.specs.declared.command.Hold.TheVariants.{Nothing, UntilStop, UntilHit}
-use Rattle.usi_session.specs.declared.position_command.Refusal.{Refusal}
-use Rattle.usi_session.specs.declared.position_command.Refusal.TheVariants as refusals
+use Rattle.usi_texts.specs.declared.position_command.Refusal.{Refusal}
+use Rattle.usi_texts.specs.declared.position_command.Refusal.TheVariants as refusals
 use Rattle.usi_session.specs.declared.state.HeldBestmove.{HeldBestmove}
 use Rattle.usi_session.specs.declared.state.State.{State}
-use Rattle.usi_session.specs.declared.options.Options.{Options}
-use Rattle.usi_session.specs.Options.{default_options}
-use Rattle.usi_session.specs.PositionCommand.{position_of_startpos, position_of_sfen}
+use Rattle.usi_texts.specs.declared.options.Options.{Options}
+use Rattle.usi_texts.specs.Options.{default_options}
+use Rattle.usi_texts.specs.PositionCommand.{position_of_startpos, position_of_sfen}
 use Rattle.usi_session.specs.GoInfos.{move_to_play, move_to_ponder, go_infos}
-use Rattle.usi_session.specs.Texts.{usi_reply, ready_reply, mate_not_implemented_reply, bad_position_line, illegal_move_line, bestmove_line}
+use Rattle.usi_texts.specs.Texts.{usi_reply, ready_reply, mate_not_implemented_reply, bad_position_line, illegal_move_line, bestmove_line}
 
 -- What a bestmove is held until: `Nothing`, where it is written at once; `UntilStop`; `UntilHit`, which is until `ponderhit` or `stop`. The command `BadPosition` is a `position` line whose second word is missing, or is neither `startpos` nor `sfen`. The refusal `BadPosition` is for a line that begins with `position startpos` or `position sfen` and names no position; `rest` is what follows those two words. `Other` is a line that is no command, or a `setoption` that sets nothing.
 

@@ -7,7 +7,7 @@ use Rattle.shogi_eval.specs.declared.eval.Eval.{Eval}
 use Rattle.shogi_moves.specs.LegalMoves.{legal_codes}
 use Rattle.minimax.specs.Minimax.{worth, pv, then_pv}
 use Rattle.shogi_search.specs.Ranked.{ranked_codes}
-use Rattle.usi_session.specs.Texts.{info_line, numbered_info_text}
+use Rattle.usi_texts.specs.Texts.{info_line, numbered_info_text}
 
 -- the move to play
 abbrev pub move_to_play : List Move → Option Move

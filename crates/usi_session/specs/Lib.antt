@@ -1,6 +1,3 @@
-pub mod Options
-pub mod Texts
-pub mod PositionCommand
 pub mod GoInfos
 pub mod Answer
 pub mod WholeStream

@@ -12,7 +12,7 @@ use Rattle.usi_lines.specs.declared.options.TheConstants.{DEPTH_MAX, MULTI_PV_MA
 use Rattle.usi_session.specs.declared.question.Question.{Question}
 use Rattle.usi_session.specs.declared.state.HeldBestmove.{HeldBestmove}
 use Rattle.usi_session.specs.declared.state.State.{State}
-use Rattle.usi_session.specs.Texts.{info_line}
+use Rattle.usi_texts.specs.Texts.{info_line}
 use Rattle.usi_session.specs.GoInfos.{listed, numbered_lines, depth_lines}
 use Rattle.usi_session.specs.Costs.{cost_of_command, cost_to, depth_cost, go_cost, pvs_cost}
 use Rattle.usi_session.specs.Roots.{Root, pv_roots, pvs_roots, roots_of_depths, roots_of_go, roots_of_command, roots_to}

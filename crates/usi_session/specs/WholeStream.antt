@@ -4,7 +4,7 @@ use Rattle.usi_lines.specs.CommandLines.{command_of}
 use Rattle.usi_lines.specs.Lines.{Line, Text, TooLong, lines}
 use Rattle.usi_session.specs.declared.state.State.{State}
 use Rattle.usi_session.specs.Answer.{Answer, answer, answer_with, initial_state}
-use Rattle.usi_session.specs.Texts.{too_long_reply}
+use Rattle.usi_texts.specs.Texts.{too_long_reply}
 
 -- the answer to a line; one that is too long ends the session
 abbrev pub answer_to : State → Line → Answer

@@ -4,21 +4,21 @@ ghost use Rattle.std.specs.Prelude.{◌≡◌, ◌≤◌, IfOk, OnOk};
 ghost use Rattle.usi_lines.specs.Seen.{meaning_of, line_of};
 ghost use Rattle.usi_lines.specs.declared.options.TheConstants.{DEPTH_MIN, DEPTH_MAX};
 ghost use Rattle.usi_lines.specs.Options.{IsInRange};
-ghost use Rattle.usi_session.specs.Options.{AreInRange};
+ghost use Rattle.usi_texts.specs.Options.{AreInRange};
 ghost use Rattle.usi_session.specs.Answer.{Gives, answer_position, answer_bestmove, answer_stop, answer_ponderhit};
 ghost use Rattle.usi_session.specs.RunningGo.{Answers, AnswersLine, BeginsGo, EndsIdle};
 
 use crate::go_command::GoCommand;
-use crate::position_command::{Refusal, position_of_sfen, position_of_startpos};
 use crate::question::Question;
 use crate::state::{HeldBestmove, State};
-use crate::text::{
-    write_bad_position, write_bestmove, write_illegal_move, write_mate_not_implemented, write_usi,
-};
 use shogi_core::Position;
 use shogi_moves::next_legal;
 use std::alloc::{AllocError, Allocator};
 use usi_lines::{Command, Hold, Line, read_command};
+use usi_texts::{
+    Refusal, position_of_sfen, position_of_startpos, write_bad_position, write_bestmove,
+    write_illegal_move, write_mate_not_implemented, write_usi,
+};
 
 /// Takes the position that was reached, or says why there is none.
 fn answer_position<A: Allocator>(

@@ -15,13 +15,13 @@ ghost use Rattle.usi_session.specs.WholeLines.{GrowsByLines};
 use crate::pv_walk::PvWalk;
 use crate::question::Question;
 use crate::state::HeldBestmove;
-use crate::text::{write_info, write_numbered_info};
 use shogi_core::Move;
 use shogi_moves::{apply, next_legal};
 use shogi_search::{Found, INFINITY, Memo, NoMemo, Ranks, Search};
 use std::alloc::{AllocError, Allocator};
 use std::marker::Model;
 use usi_lines::Hold;
+use usi_texts::{write_info, write_numbered_info};
 
 /// A running `go`. With one line it walks along the pv of each depth; with several it first
 /// searches each child of the root, only as far as its move may still be listed, and ranks the

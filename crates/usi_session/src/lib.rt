@@ -5,14 +5,11 @@ mod answer;
 mod go_command;
 mod laws;
 mod limits;
-mod options;
-mod position_command;
 mod pv_walk;
 mod question;
 mod queue;
 mod session;
 mod state;
-mod text;
 
 pub use laws::numbers;
 pub use limits::{CHUNK_MAX, QUEUE_FULL};

@@ -8,13 +8,12 @@ ghost use Rattle.usi_session.specs.Answer.{initial_state};
 ghost use Rattle.usi_session.specs.WholeLines.{GrowsByLines};
 ghost use Rattle.usi_lines.specs.Lines.{lines};
 ghost use Rattle.usi_lines.specs.Seen.{line_of};
-ghost use Rattle.usi_session.specs.Options.{AreInRange};
+ghost use Rattle.usi_texts.specs.Options.{AreInRange};
 ghost use Rattle.usi_session.specs.declared.limits.TheConstants.{CHUNK_MAX};
 
 use crate::answer::{answer_line, write_or_hold};
 use crate::go_command::GoCommand;
 use crate::limits::QUEUE_FULL;
-use crate::options::Options;
 use crate::queue::Queue;
 use crate::state::State;
 use shogi_core::Position;
@@ -22,6 +21,7 @@ use shogi_search::Memo;
 use std::alloc::{AllocError, Allocator};
 use std::marker::Model;
 use usi_lines::{Line, LineBuffer, LineFault};
+use usi_texts::Options;
 
 /// Why a session did not do what it was asked.
 #[derive(Clone, Copy, Debug, PartialEq, Eq)]
@@ -48,7 +48,7 @@ pub struct Session<A: Allocator + Copy> {
 }
 
 impl<A: Allocator + Copy> Model for Session<A> {
-    ghost use Rattle.usi_session.specs.Options.{AreInRange};
+    ghost use Rattle.usi_texts.specs.Options.{AreInRange};
     ghost use Rattle.usi_session.specs.Due.{SessionView};
 
     ghost Value = { SessionView };
@@ -270,9 +270,7 @@ impl<A: Allocator + Copy> Session<A> {
     pub fn wants_input(&self) -> bool
         ensures { result ≡ wants_input self.now }
     {
-        !self.state.is_over
-            && !(self.running_go.is_some() || self.input.has_line())
-            && self.queue.as_slice().len() < QUEUE_FULL
+        !self.state.is_over && !self.pending() && self.queue.as_slice().len() < QUEUE_FULL
     }
 
     /// The queued bytes.

@@ -1,8 +1,8 @@
 //! What a session knows between two lines.
 
-use crate::options::Options;
 use shogi_core::{Move, Position};
 use usi_lines::Hold;
+use usi_texts::Options;
 
 /// A `bestmove` that is held back, and until when.
 #[derive(Clone, Copy, Debug, PartialEq, Eq)]

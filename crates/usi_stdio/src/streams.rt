@@ -1,12 +1,15 @@
 //! One session over a front end.
 
-ghost use Rattle.std.specs.Prelude.{◌≡◌, ◌<◌, ◌≤◌, [], true, false, length, IfErr, OnOk, OnErr, Err};
+ghost use Rattle.std.specs.Prelude.{◌≡◌, ◌<◌, ◌≤◌, ℕ, List, [], true, false, length, IfErr, OnOk, OnErr, Err};
 ghost use Rattle.usi_stdio.specs.Dialogue.{Talks};
 ghost use Rattle.usi_stdio.specs.Saying.{CutShort, CutShortDue, IsAnsweredInFull, SaidDue, Says, Worked, Wrote, WrotePrefix, slices_of};
 ghost use Rattle.usi_stdio.specs.Stdio.{IsLeft, IsServed};
 ghost use Rattle.usi_stdio.specs.declared.streams.StdioFault.TheVariants.{OutOfMemory, WriteFailed};
 ghost use Rattle.usi_lines.specs.OneLine.{IsOneLine};
-ghost use Rattle.usi_session.specs.Due.{due, is_pending, wants_input};
+ghost use Rattle.usi_lines.specs.Lines.{lines};
+ghost use Rattle.usi_session.specs.Answer.{initial_state};
+ghost use Rattle.usi_session.specs.Due.{due, is_pending, new_session, state_due, wants_input};
+ghost use Rattle.usi_session.specs.WholeStream.{replies, state_from};
 ghost use Rattle.usi_session.specs.declared.limits.TheConstants.{CHUNK_MAX};
 ghost use Rattle.shared_table.specs.declared.table.TheConstants.{CAPACITY_MAX};
 
@@ -173,6 +176,36 @@ fn answer_chunk<A: Allocator + Copy, M: Memo, T: FrontEnd>(
     Ok(())
 }
 
+/// Answers a new session chunk by chunk, until the input ends or the session is over.
+fn answer_all<A: Allocator + Copy, M: Memo, T: FrontEnd>(
+    session: &mut Session<A>,
+    memo: &mut M,
+    front_end: &mut T,
+) -> Result<(), StdioFault>
+    requires initial { session.old ≡ new_session }
+    requires due { (x : List ℕ) → due session.old x ≡ replies x }
+    requires after { (x : List ℕ) → state_due session.old x ≡ state_from initial_state (lines x) }
+    ensures ok { OnOk result (IsServed (T.report front_end.old) (T.report front_end.new)) }
+    ensures err { OnErr result (IsLeft (T.report front_end.old) (T.report front_end.new)) }
+    ensures calls { Talks (T.report front_end.old).calls (T.report front_end.new).calls result }
+{
+    let mut chunk = [0u8; CHUNK_MAX];
+    'chunks: for _reads in 0..u64::MAX {
+        let Ok(n) = front_end.read(&mut chunk) else {
+            return Err(StdioFault::ReadFailed);
+        };
+        if n == 0 {
+            return Ok(());
+        }
+        let (given, _) = chunk.split_at(n);
+        answer_chunk(session, memo, front_end, given)?;
+        if session.is_over() {
+            return Ok(());
+        }
+    }
+    Err(StdioFault::ReadFailed)
+}
+
 /// Runs one session: reads chunks of at most 4,096 bytes and answers each before the next, until
 /// the input ends or the session is over. Replies are written and flushed as they are found: those
 /// to a line before the next line is looked at, and the info line of a depth before the next 500
@@ -193,21 +226,8 @@ pub fn stdio<A: Allocator + Copy, T: FrontEnd>(
     ensures err { OnErr result (IsLeft (T.report front_end.old) (T.report front_end.new)) }
     ensures calls { Talks (T.report front_end.old).calls (T.report front_end.new).calls result }
 {
-    let mut table = SharedTable::new(alloc, entries, BuildHasherDefault::<FoldHasher>::new())?;
+    let hasher = BuildHasherDefault::<FoldHasher>::new();
+    let mut table = SharedTable::new(alloc, entries, hasher)?;
     let mut session = Session::new(alloc);
-    let mut chunk = [0u8; CHUNK_MAX];
-    'chunks: for _reads in 0..u64::MAX {
-        let Ok(n) = front_end.read(&mut chunk) else {
-            return Err(StdioFault::ReadFailed);
-        };
-        if n == 0 {
-            return Ok(());
-        }
-        let (given, _) = chunk.split_at(n);
-        answer_chunk(&mut session, &mut table, front_end, given)?;
-        if session.is_over() {
-            return Ok(());
-        }
-    }
-    Err(StdioFault::ReadFailed)
+    answer_all(&mut session, &mut table, front_end)
 }

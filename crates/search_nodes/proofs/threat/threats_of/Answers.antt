@@ -60,3 +60,39 @@ attackers-preserved c = record {
   left = search rules;
   fits = or_fits c.attackers.takes c.attacks_of-attacks.result.plain.bits c.attackers.invariant.fits c.attacks_of-attacks.result.plain.fits;
 }
+
+pub lowest-from-requires-clause-fits : goal.lowest-from-requires-clause-fits
+lowest-from-requires-clause-fits c = c.attackers.invariant.left
+
+pub without_lowest-left-requires-clause-fits : goal.without_lowest-left-requires-clause-fits
+without_lowest-left-requires-clause-fits c = c.attackers.invariant.left
+
+pub without_lowest-left-requires-clause-set : goal.without_lowest-left-requires-clause-set
+without_lowest-left-requires-clause-set c = c.lowest-from.ensures.set
+
+pub without_lowest-left-requires-clause-least : goal.without_lowest-left-requires-clause-least
+without_lowest-left-requires-clause-least c = c.lowest-from.ensures.least
+
+pub attackers-smaller : goal.attackers-smaller
+attackers-smaller c = c.without_lowest-left.ensures.less
+
+pub of_index-square-requires : goal.of_index-square-requires
+of_index-square-requires c = c.lowest-from.ensures.range
+
+pub with_ends-prizes-requires-clause-from : goal.with_ends-prizes-requires-clause-from
+with_ends-prizes-requires-clause-from c = c.lowest-from.ensures.range
+
+pub with_ends-prizes-requires-clause-prizes : goal.with_ends-prizes-requires-clause-prizes
+with_ends-prizes-requires-clause-prizes c = c.attackers.invariant.prizes
+
+pub with_ends-prizes-requires-in-attackers-clause-from : goal.with_ends-prizes-requires-in-attackers-clause-from
+with_ends-prizes-requires-in-attackers-clause-from c = c.lowest-from.ensures.range
+
+pub with_ends-prizes-requires-in-attackers-clause-prizes : goal.with_ends-prizes-requires-in-attackers-clause-prizes
+with_ends-prizes-requires-in-attackers-clause-prizes c = c.with_ends-prizes.ensures
+
+pub threat_by-requires-clause-prize : goal.threat_by-requires-clause-prize
+threat_by-requires-clause-prize c = c.attackers.invariant.prizes.greatest
+
+pub threat_by-requires-2-clause-prize : goal.threat_by-requires-2-clause-prize
+threat_by-requires-2-clause-prize c = c.attackers.invariant.prizes.second

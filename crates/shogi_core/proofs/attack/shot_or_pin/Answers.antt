@@ -1,11 +1,15 @@
 use Rattle.std.proofs.Common.{rules, sym, ◌∙◌}
+use Rattle.std.proofs.lemmas.Bool.{or_left}
 use Rattle.shogi_core.specs.Pieces.{opponent_of}
-use Rattle.shogi_core.proofs.Pins.{others_not_pinned, snipers_not_pinned, none_beyond, no_sniper_next, first_marked, marked_fits}
+use Rattle.shogi_core.proofs.Pins.{none_on_line, others_not_pinned, snipers_not_pinned, none_beyond, no_sniper_next, first_marked, marked_fits}
 use Rattle.shogi_core.proofs.Shots.{none_shoots, first_shoots, first_harmless}
 use Rattle.shogi_core.proofs.attack.shot_or_pin.Goals as goal
 
 pub returns-in_default-clause-shot : goal.returns-in_default-clause-shot
 returns-in_default-clause-shot c = none_shoots c.args.board.now (opponent_of c.args.side) c.args.square c.requires.square c.args.snipers.bits c.requires.snipers c.args.direction c.in_default.ensures.first
+
+pub returns-in_default-clause-all : goal.returns-in_default-clause-all
+returns-in_default-clause-all c = λ _ n a l h pin. none_on_line c.args.board.now c.args.side c.args.square c.args.direction c.in_default.ensures.first c.args.pinned.now n a pin
 
 pub returns-then-has-clause-shot : goal.returns-then-has-clause-shot
 returns-then-has-clause-shot c = (search rules) ∙ first_shoots c.args.board.now (opponent_of c.args.side) c.args.square c.requires.square c.args.snipers.bits c.requires.snipers
@@ -37,6 +41,9 @@ returns-then-has-2-clause-shot c = first_harmless c.args.board.now (opponent_of 
 
 pub returns-then-has-2-clause-fits : goal.returns-then-has-2-clause-fits
 returns-then-has-2-clause-fits c = marked_fits c.args.pinned.now c.with.result c.in-Some.first c.requires.fits c.in-Some.ensures.range (search rules) c.with.ensures
+
+pub returns-then-has-2-clause-kept : goal.returns-then-has-2-clause-kept
+returns-then-has-2-clause-kept c = λ n e. c.with.ensures n ∙ or_left _ _ e
 
 pub returns-then-has-2-clause-all : goal.returns-then-has-2-clause-all
 returns-then-has-2-clause-all c = λ _ n a l h pin. first_marked c.args.board.now c.args.side c.args.square c.args.direction c.args.snipers.bits c.requires.snipers

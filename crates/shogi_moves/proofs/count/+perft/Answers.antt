@@ -1,9 +1,34 @@
-use Rattle.std.proofs.Common.{rules, arith, refl, ap, ◌∙◌, ◌≡◌, ◌≤◌, ◌-◌, ◌^◌}
+use Rattle.std.proofs.Common.{rules, arith, refl, sym, ap, ◌∙◌, ◌≡◌, ◌≤◌, ◌-◌, ◌^◌}
+use Rattle.std.proofs.lemmas.Bool.{true≢false}
 use Rattle.shogi_core.specs.Codes.{code_of}
 use Rattle.shogi_moves.specs.LegalMoves.{perft}
-use Rattle.shogi_moves.proofs.PerftLaws.{perft_by, perft_by-left, perft_by-none}
+use Rattle.shogi_moves.proofs.PerftLaws.{perft_by, perft_none, perft_first, perft_last, perft_none-few, perft_by-left, perft_by-none, fewer_left}
 use Rattle.shogi_moves.proofs.count.+perft.Goals as goal
 use Rattle.shogi_moves.proofs.count.+perft.Goals.{then-n-eq2, else-n-eq2+in_ok-count}
+
+pub returns-then-n-eq0-clause-count : goal.returns-then-n-eq0-clause-count
+returns-then-n-eq0-clause-count t c = sym (perft_none c.args.p.now c.args.n c.if-n-eq0.true)
+
+pub returns-then-n-eq0-clause-none : goal.returns-then-n-eq0-clause-none
+returns-then-n-eq0-clause-none t c = ((λ none. absurd (true≢false none)), (λ many. absurd (perft_none-few c.args.p.now c.args.n c.if-n-eq0.true many)))
+
+pub returns-then-n-eq1-clause-count : goal.returns-then-n-eq1-clause-count
+returns-then-n-eq1-clause-count t c = c.count_legal.ensures.count ∙ ap (perft c.args.p.now) (sym c.if-n-eq1.true)
+
+pub returns-then-n-eq1-clause-none : goal.returns-then-n-eq1-clause-none
+returns-then-n-eq1-clause-none t c =
+    let all : c.count_legal.result ≡ perft c.args.p.now c.args.n = c.count_legal.ensures.count ∙ ap (perft c.args.p.now) (sym c.if-n-eq1.true) in
+    ((λ none. absurd (true≢false none)), (λ many. absurd (omega (arith, c.count_legal.ensures.range))))
+
+pub moves-init : goal.moves-init
+moves-init t c = record {
+  whole = perft_first c.args.p.now c.args.n c.new-walk.result.codes c.if-n-eq0.false c.new-walk.ensures.codes;
+  same = c.new-walk.ensures.position;
+  fits = omega arith;
+}
+
+pub moves-smaller : goal.moves-smaller
+moves-smaller t c = fewer_left c.moves.walk.codes c.next.new.self.codes _ c.in-Some.ensures.next
 
 -- the move's share joins what is counted
 pub moves-preserved : goal.moves-preserved
@@ -38,4 +63,7 @@ returns-in_err-total-clause-none t c =
 pub returns-clause-none : goal.returns-clause-none
 returns-clause-none t c =
     let end : perft_by c.args.p.now (c.args.n - 1) c.moves.walk.codes ≡ 0 = rw c.in_default.ensures.next.0 (perft_by-none c.args.p.now (c.args.n - 1)) in
-    ((λ none. cc), (λ many. absurd (omega arith)))
+    ((λ none. absurd (true≢false none)), (λ many. absurd (omega arith)))
+
+pub returns-clause-count : goal.returns-clause-count
+returns-clause-count t c = perft_last c.args.p.now c.args.n c.moves.total c.moves.walk.codes c.moves.invariant.whole c.in_default.ensures.next.0

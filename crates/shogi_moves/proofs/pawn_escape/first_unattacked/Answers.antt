@@ -3,8 +3,12 @@ use Rattle.std.proofs.lemmas.Bool.{both_ways}
 use Rattle.shogi_core.specs.Attack.{is_attacked}
 use Rattle.shogi_core.specs.Bits.{has_bit}
 use Rattle.shogi_core.proofs.BitLaws.{has_bit-none}
+use Rattle.shogi_core.proofs.LineBits.{and_fits}
 use Rattle.shogi_moves.proofs.EscapeLaws.{one_square}
 use Rattle.shogi_moves.proofs.pawn_escape.first_unattacked.Goals as goal
+
+pub invariant_of-result : goal.invariant_of-result
+invariant_of-result c = record { fits = and_fits c.args.squares.bits c.with.result c.args.squares.fits }
 
 pub returns-then-not-is_attacked-clause-squares : goal.returns-then-not-is_attacked-clause-squares
 returns-then-not-is_attacked-clause-squares c = λ n e. (one_square c.args.squares.bits c.with.result c.lowest-square.result n c.with.ensures e).0

@@ -3,7 +3,8 @@ use Rattle.std.proofs.lemmas.Bool.{and_parts}
 use Rattle.shogi_core.specs.declared.moves.Move.TheVariants.{Drop}
 use Rattle.shogi_core.proofs.BitLaws.{has_bit-and}
 use Rattle.shogi_replies.specs.Replies.{IsAnswered}
-use Rattle.shogi_replies.proofs.EscapeLaws.{tried_first, tried_before, tried_done}
+use Rattle.shogi_replies.proofs.EscapeLaws.{tried_first, tried_before, tried_done, tried_next}
+use Rattle.shogi_core.proofs.LineBits.{and_fits}
 use Rattle.shogi_replies.proofs.escapes.escaped_drops.Goals as goal
 
 pub loop-left-init : goal.loop-left-init
@@ -24,3 +25,34 @@ returns-then-not-leaves_escape-clause-answered c = tried_before c.args.destinati
 
 pub returns-clause-answered : goal.returns-clause-answered
 returns-clause-answered c = tried_done c.args.destinations.bits c.loop-left.left (λ n. IsAnswered c.args.p.now (Drop c.args.kind n)) c.loop-left.invariant.tried (omega arith)
+
+pub lowest-to-requires-clause-fits : goal.lowest-to-requires-clause-fits
+lowest-to-requires-clause-fits c = c.loop-left.invariant.left
+
+pub of_index-requires : goal.of_index-requires
+of_index-requires c = c.lowest-to.ensures.range
+
+pub without_lowest-left-requires-clause-fits : goal.without_lowest-left-requires-clause-fits
+without_lowest-left-requires-clause-fits c = c.loop-left.invariant.left
+
+pub without_lowest-left-requires-clause-set : goal.without_lowest-left-requires-clause-set
+without_lowest-left-requires-clause-set c = c.lowest-to.ensures.set
+
+pub without_lowest-left-requires-clause-least : goal.without_lowest-left-requires-clause-least
+without_lowest-left-requires-clause-least c = c.lowest-to.ensures.least
+
+pub loop-left-smaller : goal.loop-left-smaller
+loop-left-smaller c = c.without_lowest-left.ensures.less
+
+pub leaves_escape-requires : goal.leaves_escape-requires
+leaves_escape-requires c = c.requires
+
+pub loop-left-preserved : goal.loop-left-preserved
+loop-left-preserved c = record {
+  tried = tried_next c.args.destinations.bits c.loop-left.left c.without_lowest-left.result c.lowest-to.result (λ n. IsAnswered c.args.p.now (Drop c.args.kind n)) c.loop-left.invariant.tried c.without_lowest-left.ensures.bits
+      (rw c.of_index.ensures at (c.leaves_escape.ensures c.if-not-leaves_escape.false));
+  left = omega (arith, c.without_lowest-left.ensures.less, c.loop-left.invariant.left);
+}
+
+pub invariant_of-result : goal.invariant_of-result
+invariant_of-result c = record { fits = and_fits c.args.destinations.bits (2 ^ 128 - 1 - c.loop-left.left) c.args.destinations.fits }

@@ -19,3 +19,21 @@ loop-left-preserved c = record {
 
 pub returns : goal.returns
 returns c = checks_done c.args.p.now.cells c.args.side c.args.cell c.loop-left.checks (rw c.loop-left-test.false at c.loop-left.invariant.within)
+
+pub lowest-king-requires-clause-fits : goal.lowest-king-requires-clause-fits
+lowest-king-requires-clause-fits c = c.loop-left.invariant.left
+
+pub of_index-requires : goal.of_index-requires
+of_index-requires c = c.lowest-king.ensures.range
+
+pub without_lowest-left-requires-clause-fits : goal.without_lowest-left-requires-clause-fits
+without_lowest-left-requires-clause-fits c = c.loop-left.invariant.left
+
+pub without_lowest-left-requires-clause-set : goal.without_lowest-left-requires-clause-set
+without_lowest-left-requires-clause-set c = c.lowest-king.ensures.set
+
+pub without_lowest-left-requires-clause-least : goal.without_lowest-left-requires-clause-least
+without_lowest-left-requires-clause-least c = c.lowest-king.ensures.least
+
+pub loop-left-smaller : goal.loop-left-smaller
+loop-left-smaller c = c.without_lowest-left.ensures.less

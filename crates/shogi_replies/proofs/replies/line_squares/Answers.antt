@@ -9,3 +9,18 @@ loop-left-preserved c = record {
   left = omega (arith, c.without_lowest-left.ensures.less, c.loop-left.invariant.left);
   fits = or_fits c.loop-left.lines c.aligned_squares-lines.result.bits c.loop-left.invariant.fits c.aligned_squares-lines.result.fits;
 }
+
+pub lowest-king-requires-clause-fits : goal.lowest-king-requires-clause-fits
+lowest-king-requires-clause-fits c = c.loop-left.invariant.left
+
+pub without_lowest-left-requires-clause-fits : goal.without_lowest-left-requires-clause-fits
+without_lowest-left-requires-clause-fits c = c.loop-left.invariant.left
+
+pub without_lowest-left-requires-clause-set : goal.without_lowest-left-requires-clause-set
+without_lowest-left-requires-clause-set c = c.lowest-king.ensures.set
+
+pub without_lowest-left-requires-clause-least : goal.without_lowest-left-requires-clause-least
+without_lowest-left-requires-clause-least c = c.lowest-king.ensures.least
+
+pub loop-left-smaller : goal.loop-left-smaller
+loop-left-smaller c = c.without_lowest-left.ensures.less

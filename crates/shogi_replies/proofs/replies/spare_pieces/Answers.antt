@@ -1,6 +1,7 @@
-use Rattle.std.proofs.Common.{arith}
+use Rattle.std.proofs.Common.{arith, ◌-◌, ◌^◌}
 use Rattle.shogi_replies.proofs.ReplyLaws.{sifted_first, sifted_found, sifted_dropped, sifted_done}
 use Rattle.shogi_replies.proofs.replies.spare_pieces.Goals.{then-has_open_step, else-has_open_step}
+use Rattle.shogi_core.proofs.LineBits.{and_fits}
 use Rattle.shogi_replies.proofs.replies.spare_pieces.Goals as goal
 
 pub loop-left-init : goal.loop-left-init
@@ -32,3 +33,24 @@ loop-left-preserved c = elim c.if-has_open_step.branch [
 
 pub returns : goal.returns
 returns c = sifted_done c.args.p.now.cells c.args.side c.args.lines.bits c.loop-left.left c.loop-left.kept (omega (arith, c.loop-left.invariant.left)) c.loop-left.invariant.sifted
+
+pub lowest-from-requires-clause-fits : goal.lowest-from-requires-clause-fits
+lowest-from-requires-clause-fits c = c.loop-left.invariant.left
+
+pub of_index-requires : goal.of_index-requires
+of_index-requires c = c.lowest-from.ensures.range
+
+pub without_lowest-left-requires-clause-fits : goal.without_lowest-left-requires-clause-fits
+without_lowest-left-requires-clause-fits c = c.loop-left.invariant.left
+
+pub without_lowest-left-requires-clause-set : goal.without_lowest-left-requires-clause-set
+without_lowest-left-requires-clause-set c = c.lowest-from.ensures.set
+
+pub without_lowest-left-requires-clause-least : goal.without_lowest-left-requires-clause-least
+without_lowest-left-requires-clause-least c = c.lowest-from.ensures.least
+
+pub loop-left-smaller : goal.loop-left-smaller
+loop-left-smaller c = c.without_lowest-left.ensures.less
+
+pub invariant_of-result : goal.invariant_of-result
+invariant_of-result c = record { fits = and_fits c.loop-left.kept (2 ^ 128 - 1 - c.loop-left.left) c.loop-left.invariant.fits }

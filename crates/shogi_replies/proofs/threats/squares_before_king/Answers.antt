@@ -9,3 +9,18 @@ loop-left-preserved c = record {
   left = omega (arith, c.without_lowest-left.ensures.less, c.loop-left.invariant.left);
   fits = or_fits c.loop-left.squares c.squares_between-squares.result.bits c.loop-left.invariant.fits c.squares_between-squares.result.fits;
 }
+
+pub lowest-sniper-requires-clause-fits : goal.lowest-sniper-requires-clause-fits
+lowest-sniper-requires-clause-fits c = c.loop-left.invariant.left
+
+pub without_lowest-left-requires-clause-fits : goal.without_lowest-left-requires-clause-fits
+without_lowest-left-requires-clause-fits c = c.loop-left.invariant.left
+
+pub without_lowest-left-requires-clause-set : goal.without_lowest-left-requires-clause-set
+without_lowest-left-requires-clause-set c = c.lowest-sniper.ensures.set
+
+pub without_lowest-left-requires-clause-least : goal.without_lowest-left-requires-clause-least
+without_lowest-left-requires-clause-least c = c.lowest-sniper.ensures.least
+
+pub loop-left-smaller : goal.loop-left-smaller
+loop-left-smaller c = c.without_lowest-left.ensures.less

@@ -1,4 +1,9 @@
-use Rattle.std.proofs.Common.{None}
+use Rattle.std.proofs.Common.{◌≡◌, ◌∙◌, None, refl, sym, ap}
+use Rattle.std.specs.Prelude.{◌+◌}
+use Rattle.session_slots.specs.Slots.{OpenSessions, count, find}
+use Rattle.usi_session.specs.Due.{SessionView}
+use Rattle.host_core.specs.Steps.{HostState}
+use Rattle.host_core.proofs.Found.{closed_found, closed_none, on_some}
 use Rattle.host_core.proofs.Still.{still_after}
 use Rattle.host_core.proofs.host.Host.close.Goals as goal
 
@@ -6,3 +11,37 @@ pub invariant_of-self : goal.invariant_of-self
 invariant_of-self g c =
     rw c.set.ensures
     (still_after c.self.inside.noted.items c.self.inside.slots c.close.new.self c.args.id None c.close.ensures.none c.self.invariant c.close.ensures.others)
+
+pub returns-in-Some-clause-closed : goal.returns-in-Some-clause-closed
+returns-in-Some-clause-closed g c =
+    rw (← c.self.view_is)
+    (closed_found _ _ c.args.id _ c.close.result (sym c.close.ensures.value) c.in-Some.ensures.some (record {
+      done = refl;
+      none = c.close.ensures.none;
+      others = c.close.ensures.others;
+      max_is = c.close.ensures.same.0;
+      next_is = c.close.ensures.same.1;
+      count_is = on_some c.close.result (count c.close.new.self + 1 ≡ count c.self.inside.slots) c.in-Some.ensures.some c.close.ensures.count;
+      table_is = refl;
+    }))
+
+pub returns-in-Some-clause-others : goal.returns-in-Some-clause-others
+returns-in-Some-clause-others g c = rw (← c.self.view_is) c.close.ensures.others
+
+pub returns-in-Some-clause-below : goal.returns-in-Some-clause-below
+returns-in-Some-clause-below g c = rw (← c.self.view_is) c.validity.ensures.below
+
+pub returns-in-None-clause-err : goal.returns-in-None-clause-err
+returns-in-None-clause-err g c =
+    let same = ap (λ (s : OpenSessions SessionView). (let h : HostState = record { table = c.self.inside.table; slots = s } in h)) (rw c.in-None.ensures.none at c.close.ensures.absent) in
+    same ∙ c.self.view_is
+
+pub returns-in-None-clause-closed : goal.returns-in-None-clause-closed
+returns-in-None-clause-closed g c =
+    closed_none _ _ c.args.id (ap (λ (h : HostState). find h.slots c.args.id) (sym c.self.view_is) ∙ (sym c.close.ensures.value ∙ c.in-None.ensures.none)) (returns-in-None-clause-err g c)
+
+pub returns-in-None-clause-others : goal.returns-in-None-clause-others
+returns-in-None-clause-others g c = rw (← c.self.view_is) c.close.ensures.others
+
+pub returns-in-None-clause-below : goal.returns-in-None-clause-below
+returns-in-None-clause-below g c = rw (← c.self.view_is) c.validity.ensures.below

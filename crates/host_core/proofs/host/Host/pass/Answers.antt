@@ -8,13 +8,19 @@ use Rattle.host_core.proofs.Kept.{keeps_others, refused_call}
 use Rattle.host_core.proofs.Still.{still_written}
 use Rattle.host_core.proofs.host.Host.pass.Goals as goal
 
+pub returns-clause-taken : goal.returns-clause-taken
+returns-clause-taken g c = search rules
+
+pub returns-clause-below : goal.returns-clause-below
+returns-clause-below g c = rw (← c.self.view_is) c.validity.ensures.below
+
 pub returns-clause-others : goal.returns-clause-others
 returns-clause-others g c = λ id n.
     let new : HostState = record { table = c.self.inside.table; slots = with_session c.self.inside.slots c.args.id c.pass-passed.new.session } in
-    keeps_others c.args.self.now new (Take c.args.id c.args.n) (passed_from c.args.self.now c.args.id c.args.n c.pass-passed.result) (search rules) id n
+    keeps_others c.args.self.now new (Take c.args.id c.args.n) (passed_from c.args.self.now c.args.id c.args.n c.pass-passed.result) (returns-clause-taken g c) id n
 
 pub returns-clause-err : goal.returns-clause-err
-returns-clause-err g c = refused_call (λ _. Gave (take c.args.n (queued_of (find c.args.self.now.slots c.args.id)))) c.args.self.now _ (Take c.args.id c.args.n) c.pass-passed.result (λ _. refl) (search rules)
+returns-clause-err g c = refused_call (λ _. Gave (take c.args.n (queued_of (find c.args.self.now.slots c.args.id)))) c.args.self.now _ (Take c.args.id c.args.n) c.pass-passed.result (λ _. refl) (returns-clause-taken g c)
 
 pub invariant_of-self-2 : goal.invariant_of-self-2
 invariant_of-self-2 g c =

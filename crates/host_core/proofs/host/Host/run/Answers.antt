@@ -1,4 +1,4 @@
-use Rattle.std.proofs.Common.{rules, ◌≡◌, take, arith}
+use Rattle.std.proofs.Common.{rules, ◌≡◌, take}
 use Rattle.std.proofs.lemmas.List.{take_all}
 use Rattle.host_core.specs.Seen.{answered}
 use Rattle.host_core.proofs.Chains.{run-start, run_on}
@@ -19,35 +19,35 @@ loop-event-preserved g c = record {
 
 pub returns-clause-prefix : goal.returns-clause-prefix
 returns-clause-prefix g c = λ id o.
-    let all : take c.loop-event.event-index c.args.events.now ≡ c.args.events.now = take_all c.loop-event.event-index c.args.events.now (omega arith) in
+    let all : take c.loop-event.event-index c.args.events.now ≡ c.args.events.now = take_all c.loop-event.event-index c.args.events.now c.loop-event-test.false in
     made_prefix c.args.self.now c.loop-event.self id (answered c.args.events.now c.loop-event.outcomes.items) o (rw all at c.loop-event.invariant.chain)
 
 pub returns-clause-all : goal.returns-clause-all
 returns-clause-all g c = λ id o settled.
-    let all : take c.loop-event.event-index c.args.events.now ≡ c.args.events.now = take_all c.loop-event.event-index c.args.events.now (omega arith) in
+    let all : take c.loop-event.event-index c.args.events.now ≡ c.args.events.now = take_all c.loop-event.event-index c.args.events.now c.loop-event-test.false in
     made_all c.args.self.now c.loop-event.self id (answered c.args.events.now c.loop-event.outcomes.items) o settled (rw all at c.loop-event.invariant.chain)
 
 pub returns-clause-before : goal.returns-clause-before
 returns-clause-before g c = λ id s e.
-    let all : take c.loop-event.event-index c.args.events.now ≡ c.args.events.now = take_all c.loop-event.event-index c.args.events.now (omega arith) in
+    let all : take c.loop-event.event-index c.args.events.now ≡ c.args.events.now = take_all c.loop-event.event-index c.args.events.now c.loop-event-test.false in
     (kept c.args.self.now c.loop-event.self id (answered c.args.events.now c.loop-event.outcomes.items) s e (rw all at c.loop-event.invariant.chain)).ends
 
 pub returns-clause-ends : goal.returns-clause-ends
 returns-clause-ends g c = λ id o.
-    let all : take c.loop-event.event-index c.args.events.now ≡ c.args.events.now = take_all c.loop-event.event-index c.args.events.now (omega arith) in
+    let all : take c.loop-event.event-index c.args.events.now ≡ c.args.events.now = take_all c.loop-event.event-index c.args.events.now c.loop-event-test.false in
     opened_over c.args.self.now c.loop-event.self id (answered c.args.events.now c.loop-event.outcomes.items) o (rw all at c.loop-event.invariant.chain)
 
 pub returns-clause-over : goal.returns-clause-over
 returns-clause-over g c = λ id o settled.
-    let all : take c.loop-event.event-index c.args.events.now ≡ c.args.events.now = take_all c.loop-event.event-index c.args.events.now (omega arith) in
+    let all : take c.loop-event.event-index c.args.events.now ≡ c.args.events.now = take_all c.loop-event.event-index c.args.events.now c.loop-event-test.false in
     made_over c.args.self.now c.loop-event.self id (answered c.args.events.now c.loop-event.outcomes.items) o settled (rw all at c.loop-event.invariant.chain)
 
 pub returns-clause-ends_on : goal.returns-clause-ends_on
 returns-clause-ends_on g c = λ id s e.
-    let all : take c.loop-event.event-index c.args.events.now ≡ c.args.events.now = take_all c.loop-event.event-index c.args.events.now (omega arith) in
+    let all : take c.loop-event.event-index c.args.events.now ≡ c.args.events.now = take_all c.loop-event.event-index c.args.events.now c.loop-event-test.false in
     kept_over c.args.self.now c.loop-event.self id (answered c.args.events.now c.loop-event.outcomes.items) s e (rw all at c.loop-event.invariant.chain)
 
 pub returns-clause-capacity : goal.returns-clause-capacity
 returns-clause-capacity g c =
-    let all : take c.loop-event.event-index c.args.events.now ≡ c.args.events.now = take_all c.loop-event.event-index c.args.events.now (omega arith) in
+    let all : take c.loop-event.event-index c.args.events.now ≡ c.args.events.now = take_all c.loop-event.event-index c.args.events.now c.loop-event-test.false in
     keeps_capacity c.args.self.now c.loop-event.self (answered c.args.events.now c.loop-event.outcomes.items) (rw all at c.loop-event.invariant.chain)

@@ -1,13 +1,49 @@
-use Rattle.std.proofs.Common.{rules, refl}
+use Rattle.std.proofs.Common.{◌≡◌, Some, None, refl, rules, sym}
+use Rattle.session_slots.specs.Slots.{find}
+use Rattle.session_slots.proofs.Finds.{find-with_session-other}
 use Rattle.host_core.specs.Events.{Take, Gave}
+use Rattle.host_core.specs.Seen.{as_outcome}
+use Rattle.host_core.specs.Sessions.{Takes}
+use Rattle.host_core.proofs.Found.{on_found, on_none}
 use Rattle.host_core.proofs.Kept.{refused_call}
 use Rattle.host_core.proofs.Still.{still_written}
 use Rattle.host_core.proofs.host.Host.take.Goals as goal
 
+pub returns-clause-taken : goal.returns-clause-taken
+returns-clause-taken g c =
+    let is : find c.self.inside.slots c.args.id ≡ Some c.in-Some.session.now = sym c.in-Some.ensures.value in
+    rw (← c.self.view_is)
+    (on_found (Takes c.args.n) (record { table = c.self.inside.table; slots = c.self.inside.slots }) c.self.inside.table c.args.id c.in-Some.session.now c.take-taken.new.session (as_outcome Gave c.take-taken.result) is c.take-taken.ensures, refl)
+
+pub returns-clause-others : goal.returns-clause-others
+returns-clause-others g c =
+    let is : find c.self.inside.slots c.args.id ≡ Some c.in-Some.session.now = sym c.in-Some.ensures.value in
+    rw (← c.self.view_is)
+    (λ other differs. find-with_session-other c.self.inside.slots c.args.id other c.in-Some.session.now c.take-taken.new.session is differs)
+
 pub returns-clause-err : goal.returns-clause-err
-returns-clause-err g c = refused_call Gave c.args.self.now _ (Take c.args.id c.args.n) c.take-taken.result (λ _. refl) (search rules)
+returns-clause-err g c = refused_call Gave c.args.self.now _ (Take c.args.id c.args.n) c.take-taken.result (λ _. refl) (returns-clause-taken g c)
+
+pub returns-clause-below : goal.returns-clause-below
+returns-clause-below g c = rw (← c.self.view_is) c.validity.ensures.below
+
+pub returns-in_default-clause-others : goal.returns-in_default-clause-others
+returns-in_default-clause-others g c = rw (← c.self.view_is) (λ other differs. refl)
+
+pub returns-in_default-clause-taken : goal.returns-in_default-clause-taken
+returns-in_default-clause-taken g c =
+    let is : find c.self.inside.slots c.args.id ≡ None = search rules in
+    rw (← c.self.view_is)
+    (on_none (Takes c.args.n) (record { table = c.self.inside.table; slots = c.self.inside.slots }) c.args.id is, refl)
+
+pub returns-in_default-clause-err : goal.returns-in_default-clause-err
+returns-in_default-clause-err g c = c.self.view_is
+
+pub returns-in_default-clause-below : goal.returns-in_default-clause-below
+returns-in_default-clause-below g c = rw (← c.self.view_is) c.validity.ensures.below
 
 pub invariant_of-self-2 : goal.invariant_of-self-2
 invariant_of-self-2 g c =
+    let is : find c.self.inside.slots c.args.id ≡ Some c.in-Some.session.now = sym c.in-Some.ensures.value in
     rw (c.set.ensures, c.of.ensures)
-    (still_written c.self.inside.noted.items c.self.inside.slots c.args.id c.in-Some.session.now c.take-taken.new.session (search rules) c.self.invariant)
+    (still_written c.self.inside.noted.items c.self.inside.slots c.args.id c.in-Some.session.now c.take-taken.new.session is c.self.invariant)

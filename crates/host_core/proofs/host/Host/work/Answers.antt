@@ -1,24 +1,46 @@
-use Rattle.std.proofs.Common.{◌≡◌, ◌∙◌, Some, refl, sym, ap, rules}
+use Rattle.std.proofs.Common.{◌≡◌, ◌∙◌, Some, refl, sym, ap}
 use Rattle.session_slots.specs.Slots.{OpenSessions, find, with_session}
+use Rattle.session_slots.proofs.Finds.{find-with_session-other}
 use Rattle.usi_session.specs.Due.{SessionView}
 use Rattle.host_core.specs.ById.{pending_of}
+use Rattle.host_core.specs.Events.{Worked}
+use Rattle.host_core.specs.Seen.{as_outcome}
+use Rattle.host_core.specs.Sessions.{Works}
+use Rattle.host_core.proofs.Found.{on_found}
 use Rattle.host_core.proofs.Shares.{told_written}
 use Rattle.host_core.proofs.Still.{still_written}
 use Rattle.host_core.proofs.host.Host.work.Goals as goal
 
 pub invariant_of-self-2 : goal.invariant_of-self-2
 invariant_of-self-2 g c =
+    let is : find c.self.inside.slots c.args.id ≡ Some c.in-Some.session.now = sym c.in-Some.ensures.value in
     rw (c.set.ensures, c.of.ensures)
-    (still_written c.self.inside.noted.items c.self.inside.slots c.args.id c.in-Some.session.now c.work-worked.new.session (search rules) c.self.invariant)
+    (still_written c.self.inside.noted.items c.self.inside.slots c.args.id c.in-Some.session.now c.work-worked.new.session is c.self.invariant)
 
 pub returns-clause-worked : goal.returns-clause-worked
 returns-clause-worked g c =
     let slots : OpenSessions SessionView = c.self.inside.slots in
-    let is : find slots c.args.id ≡ Some c.in-Some.session.now = search rules in (
-      search rules,
-      rw (← c.self.view_is) (record {
+    let is : find slots c.args.id ≡ Some c.in-Some.session.now = sym c.in-Some.ensures.value in
+    rw (← c.self.view_is) (
+      on_found (Works c.args.budget) (record { table = c.self.inside.table; slots = slots }) c.work-worked.new.memo c.args.id c.in-Some.session.now c.work-worked.new.session (as_outcome Worked c.work-worked.result) is c.work-worked.ensures.works,
+      record {
         capacity_is = c.work-worked.ensures.capacity;
         idle = λ h. c.work-worked.ensures.idle (sym (ap pending_of is) ∙ h);
         told = told_written slots (with_session slots c.args.id c.work-worked.new.session) c.args.id c.in-Some.session.now c.work-worked.new.session c.self.inside.table c.work-worked.new.memo is refl c.work-worked.ensures.told;
-      }),
+      },
     )
+
+pub returns-clause-others : goal.returns-clause-others
+returns-clause-others g c =
+    let is : find c.self.inside.slots c.args.id ≡ Some c.in-Some.session.now = sym c.in-Some.ensures.value in
+    rw (← c.self.view_is)
+    (λ other differs. find-with_session-other c.self.inside.slots c.args.id other c.in-Some.session.now c.work-worked.new.session is differs)
+
+pub returns-clause-below : goal.returns-clause-below
+returns-clause-below g c = rw (← c.self.view_is) c.validity.ensures.below
+
+pub returns-in_default-clause-others : goal.returns-in_default-clause-others
+returns-in_default-clause-others g c = rw (← c.self.view_is) (λ other differs. refl)
+
+pub returns-in_default-clause-below : goal.returns-in_default-clause-below
+returns-in_default-clause-below g c = rw (← c.self.view_is) c.validity.ensures.below

@@ -34,3 +34,18 @@ loop-left-preserved c = record {
   fits = omega (arith, c.without_lowest-left.ensures.less, c.loop-left.invariant.fits);
   kept_fit = and_fits c.loop-left.kept _ c.loop-left.invariant.kept_fit;
 }
+
+pub lowest-escape-requires-clause-fits : goal.lowest-escape-requires-clause-fits
+lowest-escape-requires-clause-fits c = c.loop-left.invariant.fits
+
+pub without_lowest-left-requires-clause-fits : goal.without_lowest-left-requires-clause-fits
+without_lowest-left-requires-clause-fits c = c.loop-left.invariant.fits
+
+pub without_lowest-left-requires-clause-set : goal.without_lowest-left-requires-clause-set
+without_lowest-left-requires-clause-set c = c.lowest-escape.ensures.set
+
+pub without_lowest-left-requires-clause-least : goal.without_lowest-left-requires-clause-least
+without_lowest-left-requires-clause-least c = c.lowest-escape.ensures.least
+
+pub loop-left-smaller : goal.loop-left-smaller
+loop-left-smaller c = c.without_lowest-left.ensures.less

@@ -1,8 +1,11 @@
-use Rattle.std.proofs.Common.{◌≡◌, [], arith}
+use Rattle.std.proofs.Common.{◌≡◌, [], arith, ◌≢◌, ℤ, ◌<ℤ◌, FitsSigned, inr, rules, w32, of_z, to_z}
 use Rattle.std.proofs.lemmas.Bool.{iff_false}
 use Rattle.shogi_moves.specs.LegalMoves.{legal_codes}
 use Rattle.minimax.proofs.Left.{left_lost}
 use Rattle.last_ply.proofs.Composing.{none_left}
+use Rattle.minimax.specs.Entries.{IsCutoff}
+use Rattle.last_ply.specs.LastPly.{IsNoLoss, NodeHasScore, NodeScoresAtMost}
+use Rattle.last_ply.proofs.Held.{as_held, both_held, from_both_held}
 use Rattle.last_ply.proofs.scene.Scene.by_all_moves.Goals as goal
 
 pub returns-then-not-has_legal-clause-truth : goal.returns-then-not-has_legal-clause-truth
@@ -10,3 +13,37 @@ returns-then-not-has_legal-clause-truth c =
     let none : legal_codes c.args.self.now.node.now.position ≡ [] = none_left _ (rw c.as_position.ensures at (iff_false c.has_legal.ensures c.if-not-has_legal.true)) in
     let f : _ = left_lost c.args.self.now.node.now.position c.args.self.now.node.now.eval 1 (omega arith) none in
     (f.value_is, f.best_is)
+
+pub returns-then-not-has_legal-clause-cutoff : goal.returns-then-not-has_legal-clause-cutoff
+returns-then-not-has_legal-clause-cutoff c = tt
+
+pub settled-requires-clause-all : goal.settled-requires-clause-all
+settled-requires-clause-all c =
+    let fits : FitsSigned w32 c.most_of_all.result = search rules in
+    as_held (λ (v : ℤ). v <ℤ to_z w32 (of_z w32 c.args.beta) → NodeScoresAtMost c.args.self.now.node.now v) c.most_of_all.result fits (λ _. c.most_of_all.ensures.all)
+
+pub settled-requires-clause-some : goal.settled-requires-clause-some
+settled-requires-clause-some c =
+    let fits : FitsSigned w32 c.most_of_all.result = search rules in
+    as_held (λ (v : ℤ). to_z w32 (of_z w32 c.args.alpha) <ℤ v → NodeHasScore c.args.self.now.node.now v) c.most_of_all.result fits c.most_of_all.ensures.some
+
+pub settled-requires-clause-lost : goal.settled-requires-clause-lost
+settled-requires-clause-lost c =
+    let fits : FitsSigned w32 c.most_of_all.result = search rules in
+    let some : legal_codes c.args.self.now.node.now.position ≢ [] = rw c.as_position.ensures at (c.has_legal.ensures.0 c.if-not-has_legal.false) in
+    as_held (IsNoLoss c.args.self.now.node.now.position) c.most_of_all.result fits (inr some)
+
+pub settled-requires-clause-open : goal.settled-requires-clause-open
+settled-requires-clause-open c =
+    let a : FitsSigned w32 c.args.alpha = c.ranges.alpha in
+    let b : FitsSigned w32 c.args.beta = c.ranges.beta in
+    both_held (λ (x y : ℤ). x <ℤ y) c.args.alpha c.args.beta a b c.requires.«open»
+
+pub returns-clause-truth : goal.returns-clause-truth
+returns-clause-truth c = c.settled.ensures.truth
+
+pub returns-clause-cutoff : goal.returns-clause-cutoff
+returns-clause-cutoff c =
+    let a : FitsSigned w32 c.args.alpha = c.ranges.alpha in
+    let b : FitsSigned w32 c.args.beta = c.ranges.beta in
+    from_both_held (λ (x y : ℤ). IsCutoff x y c.settled.result) c.args.alpha c.args.beta a b c.settled.ensures.cutoff

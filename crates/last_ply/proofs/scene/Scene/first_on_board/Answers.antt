@@ -1,11 +1,13 @@
-use Rattle.std.proofs.Common.{◌≡◌, ℤ, to_z, of_z, arith, ap, sym, ◌∙◌, subst, w32}
+use Rattle.std.proofs.Common.{◌≡◌, ℤ, to_z, of_z, arith, ap, sym, ◌∙◌, subst, w32, ℕ, ◌≤ℤ◌, refl, true}
 use Rattle.std.proofs.lemmas.Int.{ints, to_z-of_z}
-use Rattle.std.proofs.lemmas.Bool.{false_from_ne_true}
+use Rattle.std.proofs.lemmas.Bool.{false_from_ne_true, both_ways}
 use Rattle.shogi_core.specs.Bits.{has_bit}
 use Rattle.shogi_core.specs.Codes.{code_of}
 use Rattle.shogi_core.proofs.BitLaws.{has_bit-none}
-use Rattle.last_ply.specs.LastPly.{IsFirstFrom}
+use Rattle.last_ply.specs.LastPly.{IsFirstFrom, base_of}
 use Rattle.last_ply.proofs.Firsts.{first_of_all, none_of_all}
+use Rattle.shogi_moves.specs.Destinations.{is_own}
+use Rattle.last_ply.proofs.Held.{as_held}
 use Rattle.last_ply.proofs.scene.Scene.first_on_board.Goals as goal
 
 pub loop-left-init : goal.loop-left-init
@@ -25,3 +27,36 @@ returns-in-Some-clause-some c =
 pub returns-clause-none : goal.returns-clause-none
 returns-clause-none c = λ _ more. none_of_all c.args.self.now.node.now c.args.score c.args.self.now.valid more
     (λ n h own m promote hm legal same. c.loop-left.invariant.passed n h own (ap (λ x. has_bit x n) (omega (arith, c.loop-left-test.false)) ∙ has_bit-none n) m promote hm legal (omega (arith, ints, same)))
+
+pub pieces_scoring-left-requires : goal.pieces_scoring-left-requires
+pieces_scoring-left-requires c = as_held (λ (v : ℤ). base_of c.args.self.now.node.now ≤ℤ v) c.args.score c.ranges.score c.requires
+
+pub first_from-requires-clause-own : goal.first_from-requires-clause-own
+first_from-requires-clause-own c = subst (λ (k : ℕ). is_own c.args.self.now.node.now.position k ≡ true) (sym c.of_index.ensures) (c.loop-left.invariant.within _ c.lowest-from.ensures.range c.lowest-from.ensures.set)
+
+pub first_from-requires-clause-least : goal.first_from-requires-clause-least
+first_from-requires-clause-least c = as_held (λ (v : ℤ). base_of c.args.self.now.node.now ≤ℤ v) c.args.score c.ranges.score c.requires
+
+pub returns-in-Some-clause-none : goal.returns-in-Some-clause-none
+returns-in-Some-clause-none c = λ e. absurd (both_ways true e refl)
+
+pub returns-clause-some : goal.returns-clause-some
+returns-clause-some c = tt
+
+pub lowest-from-requires-clause-fits : goal.lowest-from-requires-clause-fits
+lowest-from-requires-clause-fits c = c.loop-left.invariant.fits
+
+pub without_lowest-left-requires-clause-fits : goal.without_lowest-left-requires-clause-fits
+without_lowest-left-requires-clause-fits c = c.loop-left.invariant.fits
+
+pub without_lowest-left-requires-clause-set : goal.without_lowest-left-requires-clause-set
+without_lowest-left-requires-clause-set c = c.lowest-from.ensures.set
+
+pub without_lowest-left-requires-clause-least : goal.without_lowest-left-requires-clause-least
+without_lowest-left-requires-clause-least c = c.lowest-from.ensures.least
+
+pub loop-left-smaller : goal.loop-left-smaller
+loop-left-smaller c = c.without_lowest-left.ensures.less
+
+pub of_index-requires : goal.of_index-requires
+of_index-requires c = c.lowest-from.ensures.range

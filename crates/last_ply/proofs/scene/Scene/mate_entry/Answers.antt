@@ -1,8 +1,9 @@
-use Rattle.std.proofs.Common.{◌≤ℤ◌, arith}
+use Rattle.std.proofs.Common.{◌≤ℤ◌, arith, refl, true}
 use Rattle.std.proofs.lemmas.Int.{ints}
 use Rattle.minimax.specs.declared.bounds.TheConstants.{MATE}
 use Rattle.minimax.specs.Minimax.{value}
 use Rattle.last_ply.proofs.Composing.{mate_at_least, at_most_mate, mate_found}
+use Rattle.std.proofs.lemmas.Bool.{both_ways}
 use Rattle.last_ply.proofs.scene.Scene.mate_entry.Goals as goal
 
 pub returns-then-beta-le-MATE-clause-truth : goal.returns-then-beta-le-MATE-clause-truth
@@ -17,3 +18,27 @@ pub returns-in-Some-clause-truth : goal.returns-in-Some-clause-truth
 returns-in-Some-clause-truth c =
     let f : _ = mate_found c.args.self.now.node.now.position c.args.self.now.node.now.eval c.in-Some.m c.args.self.now.valid c.validity.ensures.back c.in-Some.ensures.some in
     (f.value_is, f.best_is)
+
+pub returns-then-not-has_mate-clause-truth : goal.returns-then-not-has_mate-clause-truth
+returns-then-not-has_mate-clause-truth c = tt
+
+pub returns-then-not-has_mate-clause-cutoff : goal.returns-then-not-has_mate-clause-cutoff
+returns-then-not-has_mate-clause-cutoff c = tt
+
+pub returns-then-beta-le-MATE-clause-none : goal.returns-then-beta-le-MATE-clause-none
+returns-then-beta-le-MATE-clause-none c = λ e. absurd (both_ways true e refl)
+
+pub returns-in-None-clause-truth : goal.returns-in-None-clause-truth
+returns-in-None-clause-truth c = tt
+
+pub returns-in-None-clause-cutoff : goal.returns-in-None-clause-cutoff
+returns-in-None-clause-cutoff c = tt
+
+pub returns-in-None-clause-none : goal.returns-in-None-clause-none
+returns-in-None-clause-none c = λ _. c.in-None.ensures.none refl
+
+pub returns-in-Some-clause-cutoff : goal.returns-in-Some-clause-cutoff
+returns-in-Some-clause-cutoff c = tt
+
+pub returns-in-Some-clause-none : goal.returns-in-Some-clause-none
+returns-in-Some-clause-none c = λ e. absurd (both_ways true e refl)

@@ -51,3 +51,30 @@ raise_alpha-requires-clause-is c =
     let w : _ = waits _ _ _ _ _ _ _ _ _ _ c.requires.current c.args.self.now.known in
     let e : IsWorth c.args.self.now.node.position c.args.self.now.node.eval (c.args.self.now.depth - 1) (code_of c.args.current.now) c.in-Exact.v = exact_says _ _ _ _ _ _ _ c.args.self.now.valid w.is_listed c.args.self.now.shallow c.in-Exact.is c.requires.truth in
     omega (arith, ints, e.is)
+
+pub cut_off-requires-clause-current : goal.cut_off-requires-clause-current
+cut_off-requires-clause-current c = c.requires.current
+
+pub is_better-requires : goal.is_better-requires
+is_better-requires c = record { current = c.requires.current }
+
+pub raise_alpha-requires-clause-current : goal.raise_alpha-requires-clause-current
+raise_alpha-requires-clause-current c = c.requires.current
+
+pub cut_off-requires-in-AtMost-clause-current : goal.cut_off-requires-in-AtMost-clause-current
+cut_off-requires-in-AtMost-clause-current c = c.requires.current
+
+pub returns-then-worth-self : goal.returns-then-worth-self
+returns-then-worth-self c = c.cut_off.ensures
+
+pub returns-then-is_better : goal.returns-then-is_better
+returns-then-is_better c = c.raise_alpha.ensures
+
+pub returns-else-is_better : goal.returns-else-is_better
+returns-else-is_better c = c.fail_low.ensures.ended
+
+pub returns-in-AtLeast : goal.returns-in-AtLeast
+returns-in-AtLeast c = c.fail_low-in-AtLeast.ensures.ended
+
+pub returns-in-AtMost : goal.returns-in-AtMost
+returns-in-AtMost c = c.cut_off-in-AtMost.ensures

@@ -1,6 +1,14 @@
-use Rattle.std.proofs.Common.{◌-◌}
-use Rattle.minimax.specs.Minimax.{worth}
+use Rattle.std.proofs.Common.{◌-◌, FitsSigned, false, refl, subst, w32, ◌≡◌, ℤ, ◌≤ℤ◌, ◌<ℤ◌, None, Some, sym, to_z, of_z}
+use Rattle.std.proofs.lemmas.Bool.{both_ways}
+use Rattle.std.proofs.lemmas.Int.{to_z-of_z}
+use Rattle.shogi_core.specs.Position.{Shogi}
+use Rattle.shogi_core.specs.Validity.{IsValid}
+use Rattle.shogi_replies.specs.Replies.{IsReplies}
+use Rattle.minimax.specs.Minimax.{worth, negated}
 use Rattle.search_nodes.proofs.Nodes.{new_node}
+use Rattle.shogi_core.specs.declared.squares.Squares.{Squares}
+use Rattle.minimax.specs.declared.bounds.TheConstants.{INFINITY}
+use Rattle.search_nodes.specs.declared.threat.Threats.{Threats}
 use Rattle.search_nodes.proofs.frame.Frame.enter.Goals as goal
 
 pub invariant_of-self-clause-known : goal.invariant_of-self-clause-known
@@ -11,3 +19,54 @@ invariant_of-self-clause-kept c = (new_node (worth c.args.node.now.position c.ar
 
 pub returns-clause-counted : goal.returns-clause-counted
 returns-clause-counted c = (new_node (worth c.args.node.now.position c.args.node.now.eval (c.args.depth - 1)) _ _ c.args.alpha _ _ c.new-self.ensures.leaf c.new-self.ensures.inner).counted
+
+pub invariant_of-self-clause-valid : goal.invariant_of-self-clause-valid
+invariant_of-self-clause-valid c = subst IsValid c.as_position.ensures c.validity.ensures
+
+pub invariant_of-self-clause-shallow : goal.invariant_of-self-clause-shallow
+invariant_of-self-clause-shallow c = c.requires.shallow
+
+pub invariant_of-self-clause-moves : goal.invariant_of-self-clause-moves
+invariant_of-self-clause-moves c = λ e. absurd (both_ways false refl e)
+
+pub invariant_of-self-clause-replied : goal.invariant_of-self-clause-replied
+invariant_of-self-clause-replied c = subst (λ (q : Shogi). IsReplies q c.unknown-self.result.sight.bits c.unknown-self.result.spare.bits) c.as_position-2.ensures c.unknown-self.ensures
+
+pub returns-clause-place : goal.returns-clause-place
+returns-clause-place c =
+    let alpha : FitsSigned w32 c.args.alpha = c.ranges.alpha in
+    let beta : FitsSigned w32 c.args.beta = c.ranges.beta in
+    record {
+      position = refl;
+      eval = refl;
+      depth = refl;
+      alpha_is = to_z-of_z w32 c.args.alpha alpha;
+      beta_is = to_z-of_z w32 c.args.beta beta;
+    }
+
+pub returns-clause-waiting : goal.returns-clause-waiting
+returns-clause-waiting c = refl
+
+pub returns-clause-firsts : goal.returns-clause-firsts
+returns-clause-firsts c = c.new-self.ensures.inner
+
+pub invariant_of-self-clause-least : goal.invariant_of-self-clause-least
+invariant_of-self-clause-least c = subst (λ (v : ℤ). negated INFINITY ≤ℤ v) (sym (to_z-of_z w32 c.args.alpha c.ranges.alpha)) c.requires.least
+
+pub invariant_of-self-clause-open : goal.invariant_of-self-clause-open
+invariant_of-self-clause-open c =
+    subst (λ (v : ℤ). to_z w32 (of_z w32 c.args.alpha) <ℤ v) (sym (to_z-of_z w32 c.args.beta c.ranges.beta))
+    (subst (λ (v : ℤ). v <ℤ c.args.beta) (sym (to_z-of_z w32 c.args.alpha c.ranges.alpha)) c.requires.«open»)
+
+pub invariant_of-self-clause-most : goal.invariant_of-self-clause-most
+invariant_of-self-clause-most c = subst (λ (v : ℤ). v ≤ℤ INFINITY) (sym (to_z-of_z w32 c.args.beta c.ranges.beta)) c.requires.most
+
+-- nothing is something
+no_some : (A : Type 0) (x : A) → None ≡ Some x → ⊥
+no_some A x e = cc
+
+pub invariant_of-self-clause-escaping : goal.invariant_of-self-clause-escaping
+invariant_of-self-clause-escaping c = λ squares e. absurd (no_some Squares squares e)
+
+pub invariant_of-self-clause-threatened : goal.invariant_of-self-clause-threatened
+invariant_of-self-clause-threatened c = λ threats e. absurd (no_some Threats threats e)

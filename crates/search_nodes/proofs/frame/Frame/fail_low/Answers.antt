@@ -1,5 +1,6 @@
 use Rattle.minimax.proofs.Cover.{IsCovered-skip}
 use Rattle.search_nodes.proofs.Nodes.{has_current, waits, at_depth}
+use Rattle.std.proofs.Common.{refl}
 use Rattle.search_nodes.proofs.frame.Frame.fail_low.Goals as goal
 
 pub invariant_of-self-clause-known : goal.invariant_of-self-clause-known
@@ -7,3 +8,36 @@ invariant_of-self-clause-known c =
     let k : _ = has_current c.args.self.now.waiting _ c.requires in
     let w : _ = waits _ _ _ _ _ _ _ _ _ _ k.is c.args.self.now.known in
     at_depth _ _ _ _ _ _ _ w.deep (IsCovered-skip _ _ _ _ _ _ _ w.covered k.has)
+
+pub invariant_of-self-clause-valid : goal.invariant_of-self-clause-valid
+invariant_of-self-clause-valid c = c.args.self.now.valid
+
+pub invariant_of-self-clause-shallow : goal.invariant_of-self-clause-shallow
+invariant_of-self-clause-shallow c = c.args.self.now.shallow
+
+pub invariant_of-self-clause-least : goal.invariant_of-self-clause-least
+invariant_of-self-clause-least c = c.args.self.now.least
+
+pub invariant_of-self-clause-open : goal.invariant_of-self-clause-open
+invariant_of-self-clause-open c = c.args.self.now.open
+
+pub invariant_of-self-clause-most : goal.invariant_of-self-clause-most
+invariant_of-self-clause-most c = c.args.self.now.most
+
+pub invariant_of-self-clause-kept : goal.invariant_of-self-clause-kept
+invariant_of-self-clause-kept c = c.args.self.now.kept
+
+pub invariant_of-self-clause-replied : goal.invariant_of-self-clause-replied
+invariant_of-self-clause-replied c = c.args.self.now.replied
+
+pub invariant_of-self-clause-escaping : goal.invariant_of-self-clause-escaping
+invariant_of-self-clause-escaping c = c.args.self.now.escaping
+
+pub invariant_of-self-clause-threatened : goal.invariant_of-self-clause-threatened
+invariant_of-self-clause-threatened c = c.args.self.now.threatened
+
+pub returns-clause-ended : goal.returns-clause-ended
+returns-clause-ended c = ((refl, (refl, (refl, refl))), (refl, tt))
+
+pub returns-clause-next : goal.returns-clause-next
+returns-clause-next c = refl

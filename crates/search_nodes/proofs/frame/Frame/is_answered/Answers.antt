@@ -4,7 +4,10 @@ use Rattle.shogi_moves.specs.Escapes.{AreEscapes}
 use Rattle.shogi_moves.specs.Legal.{is_legal}
 use Rattle.shogi_moves.proofs.LegalLaws.{listed_to_legal}
 use Rattle.shogi_eval.specs.Evaluated.{Evaluated}
+use Rattle.shogi_replies.specs.Replies.{IsReplies}
+use Rattle.search_nodes.specs.declared.frame.Frame.{Frame}
 use Rattle.search_nodes.proofs.Nodes.{waits}
+use Rattle.search_nodes.proofs.Rows.{kept_again}
 use Rattle.search_nodes.proofs.frame.Frame.is_answered.Goals as goal
 
 pub is_certain-requires-clause-legal : goal.is_certain-requires-clause-legal
@@ -23,3 +26,48 @@ pub leaves_escape-requires : goal.leaves_escape-requires
 leaves_escape-requires c =
     let same : c.as_position-2.result.now ≡ c.look_ahead.new.self.node.position = c.as_position-2.ensures ∙ ap (λ (n : Evaluated). n.position) c.look_for_escapes-escapes.ensures.kept.0.0 in
     subst (λ (q : Shogi). AreEscapes q c.look_for_escapes-escapes.result.bits) (sym same) c.look_for_escapes-escapes.ensures.escapes
+
+pub is_certain-requires-clause-kept : goal.is_certain-requires-clause-kept
+is_certain-requires-clause-kept c =
+    let f : Frame = c.look_ahead.new.self in
+    subst (λ (q : Shogi). IsReplies q f.replies.sight.bits f.replies.spare.bits) (sym c.as_position.ensures) f.replied
+
+pub returns-then-is_certain-clause-kept : goal.returns-then-is_certain-clause-kept
+returns-then-is_certain-clause-kept c = c.look_ahead.ensures
+
+pub returns-clause-kept : goal.returns-clause-kept
+returns-clause-kept c = kept_again c.args.self.now c.look_ahead.new.self c.look_for_escapes-escapes.new.self c.look_ahead.ensures c.look_for_escapes-escapes.ensures.kept
+
+pub invariant_of-self : goal.invariant_of-self
+invariant_of-self c =
+    let f : Frame = c.look_ahead.new.self in
+    record {
+      valid = f.valid;
+      shallow = f.shallow;
+      least = f.least;
+      «open» = f.open;
+      most = f.most;
+      known = f.known;
+      moves = f.moves;
+      kept = f.kept;
+      replied = f.replied;
+      escaping = f.escaping;
+      threatened = f.threatened;
+    }
+
+pub invariant_of-self-2 : goal.invariant_of-self-2
+invariant_of-self-2 c =
+    let f : Frame = c.look_for_escapes-escapes.new.self in
+    record {
+      valid = f.valid;
+      shallow = f.shallow;
+      least = f.least;
+      «open» = f.open;
+      most = f.most;
+      known = f.known;
+      moves = f.moves;
+      kept = f.kept;
+      replied = f.replied;
+      escaping = f.escaping;
+      threatened = f.threatened;
+    }

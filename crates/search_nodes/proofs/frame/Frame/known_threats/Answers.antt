@@ -1,9 +1,10 @@
-use Rattle.std.proofs.Common.{◌∙◌, subst}
+use Rattle.std.proofs.Common.{◌≡◌, ◌∙◌, None, Some, subst}
 use Rattle.std.proofs.lemmas.Bool.{both_ways}
 use Rattle.shogi_core.specs.Bits.{has_bit}
 use Rattle.shogi_core.proofs.BitLaws.{has_bit-none}
 use Rattle.shogi_eval.specs.Evaluated.{Evaluated}
-use Rattle.search_nodes.specs.Threats.{AreThreatsIn}
+use Rattle.search_nodes.specs.declared.threat.Threat.{Threat}
+use Rattle.search_nodes.specs.Threats.{AreThreatsIn, IsThreatIn}
 use Rattle.search_nodes.proofs.Rows.{kept_again}
 use Rattle.search_nodes.proofs.frame.Frame.known_threats.Goals as goal
 
@@ -14,11 +15,15 @@ returns-in-Some-clause-threats c =
 pub returns-in-Some-clause-kept : goal.returns-in-Some-clause-kept
 returns-in-Some-clause-kept c = kept_again c.args.self.now c.look_for_threats.new.self c.look_ahead.new.self c.look_for_threats.ensures c.look_ahead.ensures
 
+-- no threat is a threat of anything
+no_threat : (fact : Threat → Type 0) (t : Threat) → None ≡ Some t → fact t
+no_threat fact t e = absurd (cc)
+
 pub returns-in-None-clause-threats : goal.returns-in-None-clause-threats
 returns-in-None-clause-threats c = record {
   takes = λ n h e. absurd (both_ways (has_bit 0 n) (has_bit-none n) (rw c.none.ensures at e));
-  greatest = λ t e. absurd (cc);
-  second = λ t e. absurd (cc);
+  greatest = no_threat (IsThreatIn c.args.self.now.node.position c.args.self.now.node.eval);
+  second = no_threat (IsThreatIn c.args.self.now.node.position c.args.self.now.node.eval);
 }
 
 pub returns-in-None-clause-kept : goal.returns-in-None-clause-kept

@@ -1,13 +1,16 @@
-use Rattle.std.proofs.Common.{refl, ◌≡◌, false, arith, rules, subst, sym, FitsSigned, w32}
+use Rattle.std.proofs.Common.{refl, ◌≡◌, false, true, arith, rules, subst, sym, FitsSigned, w32}
 use Rattle.shogi_core.specs.Position.{Shogi}
 use Rattle.shogi_moves.specs.Escapes.{AreEscapes}
+use Rattle.std.proofs.lemmas.Bool.{both_ways}
 use Rattle.std.proofs.lemmas.Int.{ints, to_z-of_z}
 use Rattle.shogi_replies.specs.declared.row.Row.{Row}
 use Rattle.shogi_replies.specs.Passes.{IsCertainMove, IsPassed}
-use Rattle.search_nodes.specs.Order.{todo}
+use Rattle.shogi_replies.specs.Replies.{IsReplies}
+use Rattle.search_nodes.specs.declared.frame.Frame.{Frame}
+use Rattle.search_nodes.specs.Order.{IsKept, todo}
 use Rattle.minimax.specs.Window.{threshold, code_at}
 use Rattle.search_nodes.proofs.Passed.{left_passed}
-use Rattle.search_nodes.proofs.Rows.{row_known, within_of}
+use Rattle.search_nodes.proofs.Rows.{nothing_pruned, row_known, within_of}
 use Rattle.search_nodes.proofs.frame.Frame.prune_row.Goals as goal
 
 pub threshold_at-threshold-requires : goal.threshold_at-threshold-requires
@@ -46,3 +49,67 @@ returns-clause-pruned c =
 
 pub pass_quiets-requires-clause-escapes : goal.pass_quiets-requires-clause-escapes
 pass_quiets-requires-clause-escapes c = subst (λ (q : Shogi). AreEscapes q c.args.escapes.bits) (sym c.as_position.ensures) c.requires.escapes
+
+pub invariant_of-self : goal.invariant_of-self
+invariant_of-self c =
+    let f : Frame = c.args.self.now in
+    record {
+      valid = f.valid;
+      shallow = f.shallow;
+      least = f.least;
+      «open» = f.open;
+      most = f.most;
+      known = f.known;
+      moves = f.moves;
+      kept = f.kept;
+      replied = f.replied;
+      escaping = f.escaping;
+      threatened = f.threatened;
+    }
+
+pub returns-then-room-lt0-clause-pruned : goal.returns-then-room-lt0-clause-pruned
+returns-then-room-lt0-clause-pruned c = nothing_pruned c.args.self.now c.requires.next
+
+pub returns-then-room-lt0-clause-same : goal.returns-then-room-lt0-clause-same
+returns-then-room-lt0-clause-same c = λ e. ((refl, (refl, (refl, refl))), (refl, (refl, (refl, refl))))
+
+pub returns-clause-same : goal.returns-clause-same
+returns-clause-same c = λ e. absurd (both_ways true e refl)
+
+pub pass_quiets-requires-clause-kept : goal.pass_quiets-requires-clause-kept
+pass_quiets-requires-clause-kept c = subst (λ (q : Shogi). IsKept q c.args.self.now.picker) (sym c.as_position.ensures) c.args.self.now.kept
+
+pub pass_quiets-requires-clause-replies : goal.pass_quiets-requires-clause-replies
+pass_quiets-requires-clause-replies c =
+    let f : Frame = c.args.self.now in
+    subst (λ (q : Shogi). IsReplies q f.replies.sight.bits f.replies.spare.bits) (sym c.as_position.ensures) f.replied
+
+pub invariant_of-self-2-clause-valid : goal.invariant_of-self-2-clause-valid
+invariant_of-self-2-clause-valid c = c.args.self.now.valid
+
+pub invariant_of-self-2-clause-shallow : goal.invariant_of-self-2-clause-shallow
+invariant_of-self-2-clause-shallow c = c.args.self.now.shallow
+
+pub invariant_of-self-2-clause-least : goal.invariant_of-self-2-clause-least
+invariant_of-self-2-clause-least c = c.args.self.now.least
+
+pub invariant_of-self-2-clause-open : goal.invariant_of-self-2-clause-open
+invariant_of-self-2-clause-open c = c.args.self.now.open
+
+pub invariant_of-self-2-clause-most : goal.invariant_of-self-2-clause-most
+invariant_of-self-2-clause-most c = c.args.self.now.most
+
+pub invariant_of-self-2-clause-moves : goal.invariant_of-self-2-clause-moves
+invariant_of-self-2-clause-moves c = c.args.self.now.moves
+
+pub invariant_of-self-2-clause-kept : goal.invariant_of-self-2-clause-kept
+invariant_of-self-2-clause-kept c = subst (λ (q : Shogi). IsKept q c.pass_quiets.new.self) c.as_position.ensures c.pass_quiets.ensures.kept
+
+pub invariant_of-self-2-clause-replied : goal.invariant_of-self-2-clause-replied
+invariant_of-self-2-clause-replied c = c.args.self.now.replied
+
+pub invariant_of-self-2-clause-escaping : goal.invariant_of-self-2-clause-escaping
+invariant_of-self-2-clause-escaping c = c.args.self.now.escaping
+
+pub invariant_of-self-2-clause-threatened : goal.invariant_of-self-2-clause-threatened
+invariant_of-self-2-clause-threatened c = c.args.self.now.threatened

@@ -1,4 +1,4 @@
-use Rattle.std.proofs.Common.{◌∙◌, sym, subst, w32, ℤ, ◌<ℤ◌}
+use Rattle.std.proofs.Common.{◌∙◌, sym, subst, w32, ℤ, ◌<ℤ◌, refl}
 use Rattle.std.proofs.lemmas.Int.{to_z-of_z}
 use Rattle.minimax.proofs.Cover.{IsCovered-raise}
 use Rattle.search_nodes.specs.Frames.{threshold_of}
@@ -12,3 +12,36 @@ invariant_of-self-clause-known c =
     at_depth _ _ _ _ _ _ _ w.deep
     (IsCovered-raise _ _ _ _ _ _ _ _ w.covered (c.requires.is ∙ kept)
     (subst (λ (v : ℤ). threshold_of c.args.self.now c.args.current.now <ℤ v) kept c.requires.above))
+
+pub invariant_of-self-clause-valid : goal.invariant_of-self-clause-valid
+invariant_of-self-clause-valid c = c.args.self.now.valid
+
+pub invariant_of-self-clause-shallow : goal.invariant_of-self-clause-shallow
+invariant_of-self-clause-shallow c = c.args.self.now.shallow
+
+pub invariant_of-self-clause-least : goal.invariant_of-self-clause-least
+invariant_of-self-clause-least c = c.args.self.now.least
+
+pub invariant_of-self-clause-most : goal.invariant_of-self-clause-most
+invariant_of-self-clause-most c = c.args.self.now.most
+
+pub invariant_of-self-clause-moves : goal.invariant_of-self-clause-moves
+invariant_of-self-clause-moves c = c.args.self.now.moves
+
+pub invariant_of-self-clause-kept : goal.invariant_of-self-clause-kept
+invariant_of-self-clause-kept c = c.args.self.now.kept
+
+pub invariant_of-self-clause-replied : goal.invariant_of-self-clause-replied
+invariant_of-self-clause-replied c = c.args.self.now.replied
+
+pub invariant_of-self-clause-escaping : goal.invariant_of-self-clause-escaping
+invariant_of-self-clause-escaping c = c.args.self.now.escaping
+
+pub invariant_of-self-clause-threatened : goal.invariant_of-self-clause-threatened
+invariant_of-self-clause-threatened c = c.args.self.now.threatened
+
+pub invariant_of-self-clause-open : goal.invariant_of-self-clause-open
+invariant_of-self-clause-open c = subst (λ (v : ℤ). v <ℤ c.args.self.now.beta) (sym (to_z-of_z w32 c.args.value c.ranges.value)) c.requires.«open»
+
+pub returns : goal.returns
+returns c = ((refl, (refl, (refl, refl))), (refl, tt))

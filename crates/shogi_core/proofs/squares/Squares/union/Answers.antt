@@ -1,7 +1,15 @@
 use Rattle.std.proofs.Common.{◌≡◌, arith}
 use Rattle.shogi_core.proofs.LineBits.{or_fits}
-use Rattle.shogi_core.proofs.Sifting.{union_more, united}
+use Rattle.shogi_core.proofs.Sifting.{union_first, union_more, united}
 use Rattle.shogi_core.proofs.squares.Squares.union.Goals as goal
+
+pub loop-left-init : goal.loop-left-init
+loop-left-init g c = record {
+  callable = c.requires;
+  unites = union_first _ c.args.self.bits;
+  left = c.args.self.fits;
+  fits = omega arith;
+}
 
 pub loop-left-preserved : goal.loop-left-preserved
 loop-left-preserved g c = record {

@@ -10,3 +10,12 @@ returns-then-is_empty-clause-certain c = rw c.none.ensures (λ n h e. absurd (bo
 
 pub returns-then-not-has-clause-certain : goal.returns-then-not-has-clause-certain
 returns-then-not-has-clause-certain c = c.unseen_destinations.ensures.certain c.args.escapes.bits c.args.promote
+
+pub unseen_destinations-requires-clause-kept : goal.unseen_destinations-requires-clause-kept
+unseen_destinations-requires-clause-kept c = c.requires.kept
+
+pub certain_among-requires-clause-escapes : goal.certain_among-requires-clause-escapes
+certain_among-requires-clause-escapes c = c.requires.escapes
+
+pub certain_among-requires-clause-kept : goal.certain_among-requires-clause-kept
+certain_among-requires-clause-kept c = c.requires.kept

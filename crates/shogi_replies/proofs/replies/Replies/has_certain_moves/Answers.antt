@@ -1,5 +1,5 @@
-use Rattle.std.proofs.Common.{◌∙◌, ap, arith, false, sym, true}
-use Rattle.std.proofs.lemmas.Bool.{and_parts}
+use Rattle.std.proofs.Common.{◌∙◌, ap, arith, false, sym, true, refl}
+use Rattle.std.proofs.lemmas.Bool.{and_parts, both_ways}
 use Rattle.shogi_core.specs.Bits.{has_bit}
 use Rattle.shogi_core.proofs.BitLaws.{has_bit-and}
 use Rattle.shogi_moves.proofs.DestinationLaws.{among_bits, none_there}
@@ -24,3 +24,27 @@ returns-then-not-has-2 c = λ e. record {
       let both : _ = and_parts _ _ (sym (has_bit-and c.promotions-promotions.result.bits c.unseen_destinations-certain.result.bits n) ∙ (ap (λ m. has_bit m n) (sym c.bitand-then-not-has-2-2.ensures) ∙ c.are_among.ensures.promoting e n h (ends ∙ reached) may)) in
       ((rw c.at.ensures at c.promotions-promotions.ensures.promoting) n both.0, c.unseen_destinations-certain.ensures.certain c.args.row.now.escapes.bits true n h both.1));
 }
+
+pub returns-then-not-has : goal.returns-then-not-has
+returns-then-not-has c = λ e. absurd (both_ways false refl e)
+
+pub returns-then-not-is_empty : goal.returns-then-not-is_empty
+returns-then-not-is_empty c = λ e. absurd (both_ways false refl e)
+
+pub returns-then-not-is_empty-2 : goal.returns-then-not-is_empty-2
+returns-then-not-is_empty-2 c = λ e. absurd (both_ways false refl e)
+
+pub unseen_destinations-certain-requires-clause-kept : goal.unseen_destinations-certain-requires-clause-kept
+unseen_destinations-certain-requires-clause-kept c = c.requires.kept
+
+pub certain_destinations-certain-requires-clause-escapes : goal.certain_destinations-certain-requires-clause-escapes
+certain_destinations-certain-requires-clause-escapes c = c.requires.escapes
+
+pub certain_destinations-certain-requires-clause-kept : goal.certain_destinations-certain-requires-clause-kept
+certain_destinations-certain-requires-clause-kept c = c.requires.kept
+
+pub certain_destinations-promoted-requires-clause-escapes : goal.certain_destinations-promoted-requires-clause-escapes
+certain_destinations-promoted-requires-clause-escapes c = c.requires.escapes
+
+pub certain_destinations-promoted-requires-clause-kept : goal.certain_destinations-promoted-requires-clause-kept
+certain_destinations-promoted-requires-clause-kept c = c.requires.kept

@@ -1,5 +1,5 @@
-use Rattle.std.proofs.Common.{◌≡◌, ◌≢◌, ◌∙◌, [], true, arith, sym, subst, ap}
-use Rattle.std.proofs.lemmas.Bool.{not-true}
+use Rattle.std.proofs.Common.{◌≡◌, ◌≢◌, ◌∙◌, [], true, arith, sym, subst, ap, refl, false}
+use Rattle.std.proofs.lemmas.Bool.{not-true, both_ways}
 use Rattle.shogi_core.specs.declared.moves.Move.{Move}
 use Rattle.shogi_core.specs.Pieces.{opponent_of}
 use Rattle.shogi_moves.specs.After.{after, dropped}
@@ -38,3 +38,30 @@ returns-else-uncovers-clause-retakes c = λ e. subst (MayRetake c.args.p.now) (s
 pub returns-else-not-is_harmless-2-clause-retakes : goal.returns-else-not-is_harmless-2-clause-retakes
 returns-else-not-is_harmless-2-clause-retakes c = λ e. subst (MayRetake c.args.p.now) (sym c.in-Drop.is)
     (retake_drop c.args.p.now c.in-Drop.kind c.in-Drop.to c.validity.ensures (omega arith))
+
+pub returns-then-not-is_harmless-clause-replied : goal.returns-then-not-is_harmless-clause-replied
+returns-then-not-is_harmless-clause-replied c = λ e. absurd (both_ways false refl e)
+
+pub returns-then-not-is_harmless-clause-threats : goal.returns-then-not-is_harmless-clause-threats
+returns-then-not-is_harmless-clause-threats c = λ e. absurd (both_ways false refl e)
+
+pub returns-then-not-is_harmless-clause-retakes : goal.returns-then-not-is_harmless-clause-retakes
+returns-then-not-is_harmless-clause-retakes c = λ e. absurd (both_ways false refl e)
+
+pub returns-then-uncovers-clause-replied : goal.returns-then-uncovers-clause-replied
+returns-then-uncovers-clause-replied c = λ e. absurd (both_ways false refl e)
+
+pub returns-then-uncovers-clause-threats : goal.returns-then-uncovers-clause-threats
+returns-then-uncovers-clause-threats c = λ e. absurd (both_ways false refl e)
+
+pub returns-then-uncovers-clause-retakes : goal.returns-then-uncovers-clause-retakes
+returns-then-uncovers-clause-retakes c = λ e. absurd (both_ways false refl e)
+
+pub returns-then-not-is_harmless-2-clause-replied : goal.returns-then-not-is_harmless-2-clause-replied
+returns-then-not-is_harmless-2-clause-replied c = λ e. absurd (both_ways false refl e)
+
+pub returns-then-not-is_harmless-2-clause-threats : goal.returns-then-not-is_harmless-2-clause-threats
+returns-then-not-is_harmless-2-clause-threats c = λ e. absurd (both_ways false refl e)
+
+pub returns-then-not-is_harmless-2-clause-retakes : goal.returns-then-not-is_harmless-2-clause-retakes
+returns-then-not-is_harmless-2-clause-retakes c = λ e. absurd (both_ways false refl e)

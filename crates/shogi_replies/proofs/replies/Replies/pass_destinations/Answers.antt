@@ -34,3 +34,36 @@ returns-else-index-to-clause-passed c = record { up = omega arith; passed = λ f
 
 pub returns-then-not-has-clause-passed : goal.returns-then-not-has-clause-passed
 returns-then-not-has-clause-passed c = record { up = omega arith; passed = λ first low. passed_none _ _ _ refl }
+
+pub returns-then-not-has-clause-kept : goal.returns-then-not-has-clause-kept
+returns-then-not-has-clause-kept c = c.requires.kept
+
+pub certain_destinations-certain-requires-clause-escapes : goal.certain_destinations-certain-requires-clause-escapes
+certain_destinations-certain-requires-clause-escapes c = c.requires.escapes
+
+pub certain_destinations-certain-requires-clause-kept : goal.certain_destinations-certain-requires-clause-kept
+certain_destinations-certain-requires-clause-kept c = c.requires.replies
+
+pub certain_destinations-promoted-requires-clause-escapes : goal.certain_destinations-promoted-requires-clause-escapes
+certain_destinations-promoted-requires-clause-escapes c = c.requires.escapes
+
+pub certain_destinations-promoted-requires-clause-kept : goal.certain_destinations-promoted-requires-clause-kept
+certain_destinations-promoted-requires-clause-kept c = c.requires.replies
+
+pub pass_ends-requires-clause-kept : goal.pass_ends-requires-clause-kept
+pass_ends-requires-clause-kept c = c.requires.kept
+
+pub pass_ends-requires-then-index-to-clause-kept : goal.pass_ends-requires-then-index-to-clause-kept
+pass_ends-requires-then-index-to-clause-kept c = c.requires.kept
+
+pub returns-then-is_empty-clause-kept : goal.returns-then-is_empty-clause-kept
+returns-then-is_empty-clause-kept c = c.pass_ends.ensures.kept
+
+pub returns-then-index-to-clause-kept : goal.returns-then-index-to-clause-kept
+returns-then-index-to-clause-kept c = c.pass_ends-then-index-to.ensures.kept
+
+pub returns-else-index-to-clause-kept : goal.returns-else-index-to-clause-kept
+returns-else-index-to-clause-kept c = c.requires.kept
+
+pub lowest-to-requires-clause-fits : goal.lowest-to-requires-clause-fits
+lowest-to-requires-clause-fits c = c.bitor-uncertain.result.fits

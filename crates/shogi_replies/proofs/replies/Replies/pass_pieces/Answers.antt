@@ -7,6 +7,7 @@ use Rattle.shogi_replies.specs.Replies.{HasCertainMoves}
 use Rattle.shogi_replies.proofs.PassLaws.{row_passed_to, not_uncertain, out_before}
 use Rattle.shogi_moves.proofs.SweepLaws.{on_first, mine_first}
 use Rattle.shogi_moves.proofs.MoverLaws.{on_movers}
+use Rattle.shogi_moves.specs.Sweeps.{IsBoardSweep}
 use Rattle.shogi_replies.proofs.replies.Replies.pass_pieces.Goals as goal
 
 pub squares-init : goal.squares-init
@@ -53,3 +54,42 @@ returns-clause-passed c = rw c.pass_pieces-2.ensures.code (row_passed_to c.args.
     (λ n h set. (c.squares.invariant.mine n h set).1)
     (λ n h below set. c.squares.invariant.certain n h set (subst (λ (m : ℕ). has_bit m n ≡ false) (sym c.squares-test.false) (has_bit-none n)))
     (omega (arith, c.index.ensures.range, c.index.ensures.index, c.requires.kept.destinations.high)))
+
+pub lowest-square-requires-clause-fits : goal.lowest-square-requires-clause-fits
+lowest-square-requires-clause-fits c = c.squares.invariant.fits
+
+pub of_index-from-requires : goal.of_index-from-requires
+of_index-from-requires c = c.lowest-square.ensures.range
+
+pub without_lowest-left-requires-clause-fits : goal.without_lowest-left-requires-clause-fits
+without_lowest-left-requires-clause-fits c = c.squares.invariant.fits
+
+pub without_lowest-left-requires-clause-set : goal.without_lowest-left-requires-clause-set
+without_lowest-left-requires-clause-set c = c.lowest-square.ensures.set
+
+pub without_lowest-left-requires-clause-least : goal.without_lowest-left-requires-clause-least
+without_lowest-left-requires-clause-least c = c.lowest-square.ensures.least
+
+pub squares-smaller : goal.squares-smaller
+squares-smaller c = c.without_lowest-left.ensures.less
+
+pub has_certain_moves-requires-clause-kept : goal.has_certain_moves-requires-clause-kept
+has_certain_moves-requires-clause-kept c = c.requires.replies
+
+pub has_certain_moves-requires-clause-escapes : goal.has_certain_moves-requires-clause-escapes
+has_certain_moves-requires-clause-escapes c = c.requires.escapes
+
+pub bits_above-requires-clause-fits : goal.bits_above-requires-clause-fits
+bits_above-requires-clause-fits c = c.own.result.fits
+
+pub pass_pieces-requires-clause-kept : goal.pass_pieces-requires-clause-kept
+pass_pieces-requires-clause-kept c = subst (IsBoardSweep c.args.p.now c.args.capture) (sym c.squares.invariant.same) c.requires.kept
+
+pub pass_pieces-requires-2-clause-kept : goal.pass_pieces-requires-2-clause-kept
+pass_pieces-requires-2-clause-kept c = subst (IsBoardSweep c.args.p.now c.args.capture) (sym c.squares.invariant.same) c.requires.kept
+
+pub returns-then-not-has_certain_moves-clause-kept : goal.returns-then-not-has_certain_moves-clause-kept
+returns-then-not-has_certain_moves-clause-kept c = c.pass_pieces.ensures.kept
+
+pub returns-clause-kept : goal.returns-clause-kept
+returns-clause-kept c = c.pass_pieces-2.ensures.kept

@@ -1,75 +1,116 @@
-use Rattle.std.proofs.Common.{rules, arith, refl, true, FitsSigned, w32, ◌≡◌, ◌<◌, ◌+◌, ◌*◌, ◌∙◌}
-use Rattle.std.proofs.lemmas.Int.{ints, to_z-of_z}
+use Rattle.std.proofs.Common.{arith, refl, ap, map, subst, true, w32, ◌≡◌, ◌<◌, ◌≤◌, ◌+◌, ◌-◌, ◌*◌, ◌^◌, ◌∙◌, ◌≤ℤ◌, ℕ, ℤ, Bool, false, Option, None, Some, length}
+use Rattle.std.specs.Prelude.{min}
+use Rattle.std.specs.Option.{ForSome}
+use Rattle.std.proofs.lemmas.Int.{ints}
 use mir.Val.{to_z, of_z}
+use Rattle.shogi_core.specs.Position.{Shogi}
+use Rattle.shogi_eval.specs.Evaluated.{Evaluated}
+use Rattle.shogi_search.specs.Calls.{Asks, Call, CallsInSteps}
 use Rattle.shogi_search.proofs.CallLaws.{as_counted, asks_in_step}
 use Rattle.shogi_search.proofs.SearchCallLaws.{entered_count, none_entered}
+use Rattle.shogi_search.proofs.Searches.{end_kept, found_seen, started_seen}
 use Rattle.search_nodes.specs.declared.frame.Frame.{Frame}
 use Rattle.minimax.specs.Minimax.{negated, tree_size}
+use Rattle.minimax.specs.declared.bounds.TheConstants.{INFINITY, SEARCH_DEPTH_MAX}
 use Rattle.search_nodes.specs.Changes.{IsAt}
-use Rattle.shogi_search.specs.Stack.{steps_left}
+use Rattle.search_nodes.specs.Order.{IsWithinTree}
 use Rattle.search_nodes.specs.Visits.{IsFree}
+use Rattle.shogi_search.specs.Stack.{IsStack, frames_of, steps_left}
+use Rattle.shogi_search.specs.Progress.{Progress}
+use Rattle.shogi_search.specs.declared.sliced_search.Search.TheInside.{Inside}
+use Rattle.shogi_search.specs.SlicedSearch.{IsSearch, entered_in, entered_of, left_in, progress_of, steps_of_tree}
+use Rattle.shogi_search.specs.declared.found.Found.{Found}
+use Rattle.shogi_search.specs.declared.stack.Stack.{Stack}
 use Rattle.shogi_search.proofs.Places.{stack_with, on_with, with_frame, left_begun, free_next}
 use Rattle.shogi_search.proofs.NarrowRoots.{with_bound}
 use Rattle.shogi_search.proofs.sliced_search.Search.enter_root.Goals as goal
-use Rattle.minimax.specs.declared.bounds.TheConstants.{INFINITY}
-use Rattle.std.proofs.Common.{ℕ, Bool, false, Option, None, Some}
-use Rattle.shogi_search.specs.SlicedSearch.{left_in, steps_of_tree}
-use Rattle.shogi_search.specs.declared.found.Found.{Found}
-use Rattle.shogi_search.specs.declared.stack.Stack.{Stack}
 
--- all is left before the root is entered, and then what is left of the stack
-all_left : (found : Option Found) (started : Bool) (whole rest : ℕ) → found ≡ None → started ≡ false → left_in found started whole rest ≡ whole
-all_left None false whole rest e f = refl
-all_left None true whole rest e f = absurd (cc)
-all_left (Some x) started whole rest e f = absurd (cc)
+-- the root waits for its first move, and less is left than before it was entered
+left_less : (found : Option Found) (started : Bool) (whole rest rest' : ℕ) → found ≡ None → started ≡ false → rest' + 1 < whole → left_in found true whole rest' < left_in found started whole rest
+left_less None false whole rest rest' e f h = omega arith
+left_less None true whole rest rest' e f h = absurd (cc)
+left_less (Some x) started whole rest rest' e f h = absurd (cc)
 
-rest_left : (found : Option Found) (whole rest : ℕ) → found ≡ None → left_in found true whole rest ≡ rest
-rest_left None whole rest e = refl
-rest_left (Some x) whole rest e = absurd (cc)
+counted_begun : (found : Option Found) (started : Bool) (whole rest rest' steps now : ℕ) → found ≡ None → started ≡ false → steps + left_in found started whole rest ≤ whole → now ≡ min (steps + 1) (2 ^ 64 - 1) → rest' + 1 < whole → now + left_in found true whole rest' ≤ whole
+counted_begun None false whole rest rest' steps now e f k n h = omega arith
+counted_begun None true whole rest rest' steps now e f k n h = absurd (cc)
+counted_begun (Some x) started whole rest rest' steps now e f k n h = absurd (cc)
+
+none_known : (found : Option Found) (fact : Found → Type 0) → found ≡ None → ForSome found fact
+none_known found fact none x e = absurd (cc)
+
+-- the root is entered under the whole window
+root_at : (s : Stack) (f : Frame) (node : Evaluated) (beta : ℤ) → node.position ≡ s.root → node.eval ≡ s.eval → IsAt node.position node.eval s.depth (negated INFINITY) beta f → IsAt s.root s.eval s.depth (negated INFINITY) beta f
+root_at s f node beta p e at = record {
+  position = at.position ∙ p;
+  eval = at.eval ∙ e;
+  depth = at.depth;
+  alpha_is = at.alpha_is;
+  beta_is = at.beta_is;
+}
+
+counted_as : (p : Shogi) (d : ℕ) (f : Frame) {q : Shogi} → q ≡ p → IsWithinTree q d f.picker → IsWithinTree p d f.picker
+counted_as p d f e k = subst (λ (x : Shogi). IsWithinTree x d f.picker) e k
+
+not_above : (x y : ℤ) → x ≡ y → x ≤ℤ y
+not_above x y e = omega (arith, ints)
+
+first_fits : 0 < SEARCH_DEPTH_MAX
+first_fits = omega arith
+
+-- one question is asked, and the root is the only node
+root_calls : {M : Type 0} (called : M → Call → M → Type 0) (a b : M) (inside : Inside) (search : Progress) (t : ℕ) (n : Stack)
+    → progress_of inside ≡ search → inside.found ≡ None → inside.started ≡ false → IsStack n → n.height ≡ 0
+    → Asks called a b 1 → t ≡ min (inside.steps + 1) (2 ^ 64 - 1)
+    → CallsInSteps called a b search.steps t (length search.entered) (length (entered_in inside.found true (map entered_of (frames_of n)))) 0
+root_calls called a b inside search t n e none fresh chain low k counted =
+    subst (λ (p : Progress). CallsInSteps called a b p.steps t (length p.entered) (length (entered_in inside.found true (map entered_of (frames_of n)))) 0) e
+    (as_counted called a b inside.steps inside.steps t t 0 _ 1 _ 0
+    (asks_in_step called a b inside.steps t 0 1 1 k counted (omega arith) (omega arith)) refl refl
+    (none_entered inside.found inside.started _ none fresh)
+    (entered_count inside.found true n none refl chain ∙ ap (λ (x : ℕ). x + 1) low))
 
 pub invariant_of-self : goal.invariant_of-self
 invariant_of-self g c =
-    let s = c.self.inside.stack in
-    let at = c.enter.ensures.place in
-    let fits : FitsSigned w32 s.beta = search rules in
-    let whole = to_z-of_z w32 s.beta fits in
+    let s : Stack = c.self.inside.stack in
+    let i : IsSearch c.self.inside = c.self.invariant in
+    let whole : to_z w32 (of_z w32 s.beta) ≡ s.beta = end_kept s.beta i.above i.most in
     let n : Stack = with_bound s (to_z w32 (of_z w32 s.beta)) in
-    let root : IsAt s.root s.eval s.depth (negated INFINITY) n.bound c.enter.new.self = record { position = at.position ∙ search rules; eval = at.eval ∙ search rules; depth = at.depth; alpha_is = search rules; beta_is = omega (arith, ints, at.beta_is, whole) } in
-    let left : steps_left (with_frame n 0 c.enter.new.self) + 1 < 4 * tree_size s.root s.depth = left_begun n c.enter.new.self _ _ _ _ (omega arith) root (search rules) in
+    let room : 0 < length s.frames = omega arith in
+    let none : c.self.inside.found ≡ None = found_seen c.self.inside c.args.self.now c.self.view_is ∙ c.requires.«open» in
+    let fresh : c.self.inside.started ≡ false = started_seen c.self.inside c.args.self.now c.self.view_is ∙ c.requires.fresh in
+    let root : IsAt s.root s.eval s.depth (negated INFINITY) n.bound c.enter.new.self = root_at s c.enter.new.self c.of-node.result _ c.of-node.ensures.position c.of-node.ensures.eval c.enter.ensures.place in
+    let left : steps_left (with_frame n 0 c.enter.new.self) + 1 < 4 * tree_size s.root s.depth = left_begun n c.enter.new.self _ _ _ _ room root (counted_as s.root s.depth c.enter.new.self c.of-node.ensures.position c.enter.ensures.counted) in
     record {
-      shallow = search rules;
-      above = search rules;
-      most = search rules;
-      known = search rules;
-      chain = λ _ _. stack_with n 0 c.enter.new.self (omega arith) (omega arith) c.self.invariant.shallow (omega (arith, ints, whole)) c.self.invariant.most root;
+      shallow = i.shallow;
+      above = i.above;
+      most = i.most;
+      known = none_known c.self.inside.found _ none;
+      chain = λ _ _. stack_with n 0 c.enter.new.self room first_fits i.shallow (not_above _ _ whole) i.most root;
       whole = λ _ _ _. whole;
-      free = λ _ _. on_with n 0 c.enter.new.self (λ (top : Frame). IsFree top.waiting) (omega arith) (free_next _ c.enter.ensures.waiting);
-      counted = search rules;
+      free = λ _ _. on_with n 0 c.enter.new.self (λ (top : Frame). IsFree top.waiting) room (free_next _ c.enter.ensures.waiting);
+      counted = counted_begun c.self.inside.found c.self.inside.started (steps_of_tree s) _ _ c.self.inside.steps _ none fresh i.counted c.saturating_add-self-inside.ensures left;
     }
 
 pub returns-clause-left : goal.returns-clause-left
 returns-clause-left g c =
-    let s = c.self.inside.stack in
-    let at = c.enter.ensures.place in
-    let fits : FitsSigned w32 s.beta = search rules in
-    let whole = to_z-of_z w32 s.beta fits in
+    let s : Stack = c.self.inside.stack in
+    let i : IsSearch c.self.inside = c.self.invariant in
     let n : Stack = with_bound s (to_z w32 (of_z w32 s.beta)) in
-    let root : IsAt s.root s.eval s.depth (negated INFINITY) n.bound c.enter.new.self = record { position = at.position ∙ search rules; eval = at.eval ∙ search rules; depth = at.depth; alpha_is = search rules; beta_is = omega (arith, ints, at.beta_is, whole) } in
-    let left : steps_left (with_frame n 0 c.enter.new.self) + 1 < 4 * tree_size s.root s.depth = left_begun n c.enter.new.self _ _ _ _ (omega arith) root (search rules) in
-    rw (← c.self.view_is) (omega (arith, left, all_left c.self.inside.found c.self.inside.started (steps_of_tree s) (steps_left s) (search rules) (search rules), rest_left c.self.inside.found (steps_of_tree s) (steps_left (with_frame n 0 c.enter.new.self)) (search rules)))
+    let none : c.self.inside.found ≡ None = found_seen c.self.inside c.args.self.now c.self.view_is ∙ c.requires.«open» in
+    let fresh : c.self.inside.started ≡ false = started_seen c.self.inside c.args.self.now c.self.view_is ∙ c.requires.fresh in
+    let root : IsAt s.root s.eval s.depth (negated INFINITY) n.bound c.enter.new.self = root_at s c.enter.new.self c.of-node.result _ c.of-node.ensures.position c.of-node.ensures.eval c.enter.ensures.place in
+    let left : steps_left (with_frame n 0 c.enter.new.self) + 1 < 4 * tree_size s.root s.depth = left_begun n c.enter.new.self _ _ _ _ (omega arith) root (counted_as s.root s.depth c.enter.new.self c.of-node.ensures.position c.enter.ensures.counted) in
+    rw (← c.self.view_is) (left_less c.self.inside.found c.self.inside.started (steps_of_tree s) (steps_left s) (steps_left (with_frame n 0 c.enter.new.self)) none fresh left)
 
 pub returns-clause-calls : goal.returns-clause-calls
 returns-clause-calls g c =
-    let s = c.self.inside.stack in
-    let at = c.enter.ensures.place in
-    let fits : FitsSigned w32 s.beta = search rules in
-    let whole = to_z-of_z w32 s.beta fits in
+    let s : Stack = c.self.inside.stack in
+    let i : IsSearch c.self.inside = c.self.invariant in
     let n : Stack = with_bound s (to_z w32 (of_z w32 s.beta)) in
-    let root : IsAt s.root s.eval s.depth (negated INFINITY) n.bound c.enter.new.self = record { position = at.position ∙ search rules; eval = at.eval ∙ search rules; depth = at.depth; alpha_is = search rules; beta_is = omega (arith, ints, at.beta_is, whole) } in
-    rw (← c.self.view_is)
-    (as_counted g.M.Memo.called _ _ _ _ _ _ _ _ _ _ _
-    (asks_in_step g.M.Memo.called _ _ c.self.inside.steps c.saturating_add-self-inside.result 0 1 1 c.hash_move_of-hash_move.ensures.asked c.saturating_add-self-inside.ensures (omega arith) (omega arith))
-    refl refl
-    (none_entered c.self.inside.found c.self.inside.started _ (search rules) (search rules))
-    (entered_count c.self.inside.found true (with_frame n 0 c.enter.new.self) (search rules) refl
-    (stack_with n 0 c.enter.new.self (omega arith) (omega arith) c.self.invariant.shallow (omega (arith, ints, whole)) c.self.invariant.most root)))
+    let none : c.self.inside.found ≡ None = found_seen c.self.inside c.args.self.now c.self.view_is ∙ c.requires.«open» in
+    let fresh : c.self.inside.started ≡ false = started_seen c.self.inside c.args.self.now c.self.view_is ∙ c.requires.fresh in
+    let root : IsAt s.root s.eval s.depth (negated INFINITY) n.bound c.enter.new.self = root_at s c.enter.new.self c.of-node.result _ c.of-node.ensures.position c.of-node.ensures.eval c.enter.ensures.place in
+    root_calls g.M.Memo.called c.args.memo.now c.hash_move_of-hash_move.new.memo c.self.inside c.args.self.now c.saturating_add-self-inside.result (with_frame n 0 c.enter.new.self) c.self.view_is none fresh
+    (stack_with n 0 c.enter.new.self (omega arith) first_fits i.shallow (not_above _ _ (end_kept s.beta i.above i.most)) i.most root)
+    refl c.hash_move_of-hash_move.ensures.asked c.saturating_add-self-inside.ensures

@@ -1,8 +1,9 @@
-use Rattle.std.proofs.Common.{rules, ◌≡◌, ◌≤◌, ◌<◌, List, arith, inl, inr, length, sym}
+use Rattle.std.proofs.Common.{rules, ◌≡◌, ◌≤◌, ◌<◌, ◌+◌, ◌∙◌, ℕ, List, Some, Ok, ap, arith, inl, inr, length, sym}
+use Rattle.wires.specs.Report.{GivesNumber}
 use Rattle.std.proofs.lemmas.List.{length-map}
 use Rattle.socket_loop.specs.declared.connection.Connection.{Connection}
 use Rattle.socket_loop.specs.Links.{links_of}
-use Rattle.socket_loop.proofs.Accepting.{some_start, some_stop, some_full, some_more, number_rises}
+use Rattle.socket_loop.proofs.Accepting.{some_start, some_stop, some_full, some_more, number_rises, below_then, few_more, rose}
 use Rattle.socket_loop.proofs.Few.{few_met}
 use Rattle.socket_loop.proofs.Marks.{more_same, more_then}
 use Rattle.wires.proofs.Reported.{kept_same}
@@ -15,14 +16,14 @@ loop-init g c = record { so_far = some_start _ _ _ _ _ _; more = more_same _ _; 
 -- no connection waits, or the wire fails
 pub returns-in_default : goal.returns-in_default
 returns-in_default g c = record {
-  slice = search rules;
+  slice = c.loop.invariant.slice;
   scenes = record {
     accepts = some_stop c.loop.counter _ _ _ _ _ _ _ _ _ _ _ _ _ _ c.accept.result (search rules) c.loop.invariant.so_far (number_rises _ _ c.accept.result c.accept.ensures.number) c.accept.ensures.kept c.accept.ensures.asked (search rules);
     quiet = quiet_stop _ _ _ _ _ _ c.loop.invariant.quiet c.accept.ensures.kept;
     accepted = λ e. (
         let u : g.W.Wire.bound c.args.wire.now < g.W.Wire.bound c.loop.wire = c.loop.invariant.accepted e in
         let v : g.W.Wire.bound c.loop.wire ≤ g.W.Wire.bound c.accept.new.self = number_rises _ _ c.accept.result c.accept.ensures.number in
-        omega arith);
+        below_then _ _ _ u v);
     more = more_then _ _ _ _ _ _ _ c.loop.invariant.more c.accept.ensures.cause.0 (more_same _ _);
   };
 }
@@ -46,26 +47,24 @@ returns-then-len-gt-SESSIONS_MAX g c = record {
     full held le = rw (length-map held (λ (c : Connection). c.link)) le
 
 pub loop-preserved : goal.loop-preserved
-loop-preserved g c = record {
-  so_far =
-      let one = c.admit-admission.ensures.one.scenes in
-      rw one.bound (some_more c.loop.counter _ _ one.outcome _ _ _ _ _ c.in-Ok-Some.number _ _ _ _ _ _ _ _ _ _ _ _ c.loop.invariant.so_far (search rules) (search rules) c.accept.ensures.kept (rw c.in-Ok-Some.field-0-is at c.in-Ok-Some.ensures.asked) one.admits one.asked one.full one.unopened);
-  more = more_then _ _ _ _ _ _ _ c.loop.invariant.more c.accept.ensures.cause.0 c.admit-admission.ensures.one.scenes.more;
-  quiet = λ q. absurd (cc);
-  accepted = λ e. (
-      let u : g.W.Wire.bound c.args.wire.now ≤ g.W.Wire.bound c.loop.wire = c.loop.invariant.so_far.accepts.rises in
-      let v : g.W.Wire.bound c.loop.wire ≤ c.in-Ok-Some.number = search rules in
-      let w : c.in-Ok-Some.number < g.W.Wire.bound c.accept.new.self = search rules in
-      let x : g.W.Wire.bound c.admit-admission.new.wire ≡ g.W.Wire.bound c.accept.new.self = c.admit-admission.ensures.one.scenes.bound in
-      omega arith);
-  slice = search rules;
-  count = omega arith;
-  few = omega arith;
-}
+loop-preserved g c =
+    let gives : GivesNumber (g.W.Wire.bound c.loop.wire) (g.W.Wire.bound c.accept.new.self) (Ok (Some c.in-Ok-Some.number)) = rw c.in-Ok-Some.field-0-is at c.in-Ok-Some.ensures.number in
+    record {
+      so_far =
+          let one = c.admit-admission.ensures.one.scenes in
+          rw one.bound (some_more c.loop.counter _ _ one.outcome _ _ _ _ _ c.in-Ok-Some.number _ _ _ _ _ _ _ _ _ _ _ _ c.loop.invariant.so_far gives.0 gives.1 c.accept.ensures.kept (rw c.in-Ok-Some.field-0-is at c.in-Ok-Some.ensures.asked) one.admits one.asked one.full one.unopened);
+      more = more_then _ _ _ _ _ _ _ c.loop.invariant.more c.accept.ensures.cause.0 c.admit-admission.ensures.one.scenes.more;
+      quiet = λ q. absurd (cc);
+      accepted = λ e. (
+          rose _ _ c.in-Ok-Some.number _ _ c.loop.invariant.so_far.accepts.rises gives.0 gives.1 c.admit-admission.ensures.one.scenes.bound);
+      slice = c.admit-admission.ensures.one.slice ∙ c.loop.invariant.slice;
+      count = ap (λ (n : ℕ). n + 1) c.loop.invariant.count;
+      few = few_more c.loop.arrivals.full c.loop.arrivals.unopened c.loop.counter c.admit-admission.result.full c.admit-admission.result.unopened c.loop.invariant.few c.admit-admission.ensures.most;
+    }
 
 pub returns : goal.returns
 returns g c = record {
-  slice = search rules;
+  slice = c.loop.invariant.slice;
   scenes = record {
     accepts = some_full c.loop.counter _ _ _ _ _ _ _ _ _ _ _ (inl (search rules)) c.loop.invariant.so_far;
     quiet = c.loop.invariant.quiet;

@@ -1,4 +1,6 @@
-use Rattle.std.proofs.Common.{rules, ◌≡◌, ◌≤◌, ◌∙◌, arith, refl, []}
+use Rattle.std.proofs.Common.{◌≡◌, ◌≤◌, ◌∙◌, ap, refl, []}
+use Rattle.socket_loop.specs.Turns.{LoopState}
+use Rattle.socket_loop.proofs.OneVisit.{at_most_then}
 use Rattle.socket_loop.specs.Links.{links_of, AreOnce, IsRising}
 use Rattle.socket_loop.proofs.Shutting.{shuts_all}
 use Rattle.socket_loop.proofs.Turning.{turn_with, asks_turn, turn_fits, turns, carries_by_rises}
@@ -16,7 +18,7 @@ returns-clause-turn g c = record {
   scenes = turns _ _ _ _ _
       (
       let same : links_of c.close_all-closed.new.self.held ≡ links_of c.accept_all-arrivals.new.self.held = c.close_all-closed.ensures.all.scenes.visited.links ∙ (c.write_all-written.ensures.all.scenes.visited.links ∙ c.read_all-read.ensures.all.scenes.visited.links) in
-      let slice : c.self.inside.slice ≡ c.args.self.now.slice = search rules in
+      let slice : c.self.inside.slice ≡ c.args.self.now.slice = ap (λ (l : LoopState). l.slice) c.self.view_is ∙ (c.read_all-read.ensures.all.slice ∙ c.accept_all-arrivals.ensures.slice) in
       let bound_read = c.read_all-read.ensures.all.scenes.visited.bound in
       let bound_written = c.write_all-written.ensures.all.scenes.visited.bound ∙ bound_read in
       rw (c.close_all-closed.ensures.all.scenes.visited.bound ∙ bound_written) (
@@ -81,7 +83,7 @@ returns-clause-faults g c =
     let v : g.W.Wire.failed c.accept_all-arrivals.new.wire ≤ g.W.Wire.failed c.read_all-read.new.wire = c.read_all-read.ensures.all.scenes.visited.faults in
     let w : g.W.Wire.failed c.read_all-read.new.wire ≤ g.W.Wire.failed c.write_all-written.new.wire = c.write_all-written.ensures.all.scenes.visited.faults in
     let x : g.W.Wire.failed c.write_all-written.new.wire ≤ g.W.Wire.failed c.close_all-closed.new.wire = c.close_all-closed.ensures.all.scenes.visited.faults in
-    omega arith
+    at_most_then _ _ _ u (at_most_then _ _ _ v (at_most_then _ _ _ w x))
 
 pub returns-clause-fits : goal.returns-clause-fits
 returns-clause-fits g c =
@@ -94,7 +96,7 @@ returns-clause-fits g c =
     rw (bound, c.remove_shut.ensures.held) (
     turn_fits c.args.self.now.held c.accept_all-arrivals.new.self.held c.close_all-closed.new.self.held _ _ _ _ _ _ _ c.requires.fits
     c.accept_all-arrivals.ensures.scenes.accepts.accepts
-    (omega arith)
+    (at_most_then _ _ _ u (at_most_then _ _ _ v (at_most_then _ _ _ w x)))
     same)
 
 pub returns-clause-rising : goal.returns-clause-rising

@@ -1,7 +1,11 @@
+use Rattle.std.proofs.Common.{[], ◌∷◌, refl, ap, inr, ◌∙◌}
 use Rattle.std.specs.Io.KnownBytes.{Keeps}
-use Rattle.stream_wire.specs.Streams.{KeepsElse}
-use Rattle.stream_wire.proofs.Reports.{comes}
-use Rattle.stream_wire.proofs.Waking.{same_alike}
+use Rattle.wires.proofs.Reported.{kept_same}
+use Rattle.stream_wire.specs.Streams.{Accept, KeepsElse}
+use Rattle.stream_wire.proofs.Asked.{asked_no_next}
+use Rattle.stream_wire.proofs.Outcomes.{cause_of_ok, not_below}
+use Rattle.stream_wire.proofs.Reports.{alike_keeps, comes}
+use Rattle.stream_wire.proofs.Waking.{same_alike, still_one, still_same}
 use Rattle.stream_wire.proofs.wire.StreamWire.accept_next.Goals as goal
 
 -- the stream has the bytes that were told of its number
@@ -15,3 +19,101 @@ returns-in-Ok-clause-kept g c =
     let given : Keeps ((told old.listener).unread new.number) (left new.stream) × Keeps ((told old.listener).written new.number) (taken new.stream) = rw (c.new.ensures.number, c.new.ensures.stream) c.in-Ok.ensures.given in
     let rest : KeepsElse (told old.listener) (told c.accept.new.self) new.number = rw c.new.ensures.number c.in-Ok.ensures.rest in
     comes left taken (told old.listener) (told c.accept.new.self) old.places.items c.free_place.new.places.items c.put.new.places.items new.number new (same_alike old.places.items c.free_place.new.places.items c.free_place.ensures.same) c.put.ensures.none c.put.ensures.held c.put.ensures.others given rest c.new.ensures.kept
+
+-- there is no place
+pub returns-then-place-clause-cause : goal.returns-then-place-clause-cause
+returns-then-place-clause-cause g c = (c.fault.ensures.rises, λ e. c.fault.ensures.risen)
+
+pub returns-then-place-clause-asks : goal.returns-then-place-clause-asks
+returns-then-place-clause-asks g c = asked_no_next _ _ c.fault.result (ap g.L.Listener.asked c.fault.ensures.listener)
+
+pub returns-then-place-clause-named : goal.returns-then-place-clause-named
+returns-then-place-clause-named g c = ap g.L.Listener.named c.fault.ensures.listener
+
+pub returns-then-place-clause-awake : goal.returns-then-place-clause-awake
+returns-then-place-clause-awake g c = rw c.fault.ensures.places (still_same c.args.self.now.places.items c.free_place.new.places.items c.free_place.ensures.same)
+
+pub returns-then-place-clause-opens : goal.returns-then-place-clause-opens
+returns-then-place-clause-opens g c = λ some. c.fault.ensures.opens
+
+pub returns-then-place-clause-kept : goal.returns-then-place-clause-kept
+returns-then-place-clause-kept g c =
+    let told = g.L.Listener.told in
+    let old = c.args.self.now in
+    rw (c.fault.ensures.listener, c.fault.ensures.places) (alike_keeps g.L.Stream.Read.remaining g.L.Stream.Write.contents (told old.listener) (told old.listener) old.places.items c.free_place.new.places.items (same_alike old.places.items c.free_place.new.places.items c.free_place.ensures.same) (kept_same (told old.listener)))
+
+-- the listener failed
+pub returns-in-Err-2-clause-cause : goal.returns-in-Err-2-clause-cause
+returns-in-Err-2-clause-cause g c = (c.fault-in-Err-2.ensures.rises, λ e. c.fault-in-Err-2.ensures.risen)
+
+pub returns-in-Err-2-clause-asks : goal.returns-in-Err-2-clause-asks
+returns-in-Err-2-clause-asks g c = record { asks = Accept ∷ []; asked = rw c.fault-in-Err-2.ensures.listener c.accept.ensures.asked; due = inr refl }
+
+pub returns-in-Err-2-clause-named : goal.returns-in-Err-2-clause-named
+returns-in-Err-2-clause-named g c = ap g.L.Listener.named c.fault-in-Err-2.ensures.listener ∙ c.accept.ensures.named
+
+pub returns-in-Err-2-clause-awake : goal.returns-in-Err-2-clause-awake
+returns-in-Err-2-clause-awake g c = rw c.fault-in-Err-2.ensures.places (still_same c.args.self.now.places.items c.free_place.new.places.items c.free_place.ensures.same)
+
+pub returns-in-Err-2-clause-opens : goal.returns-in-Err-2-clause-opens
+returns-in-Err-2-clause-opens g c = λ some. c.fault-in-Err-2.ensures.opens
+
+pub returns-in-Err-2-clause-kept : goal.returns-in-Err-2-clause-kept
+returns-in-Err-2-clause-kept g c =
+    let told = g.L.Listener.told in
+    let old = c.args.self.now in
+    rw (c.fault-in-Err-2.ensures.listener, c.fault-in-Err-2.ensures.places) (alike_keeps g.L.Stream.Read.remaining g.L.Stream.Write.contents (told old.listener) (told c.accept.new.self) old.places.items c.free_place.new.places.items (same_alike old.places.items c.free_place.new.places.items c.free_place.ensures.same) (c.in-Err-2.ensures.err))
+
+-- no memory for a place
+pub returns-in_err-place-clause-awake : goal.returns-in_err-place-clause-awake
+returns-in_err-place-clause-awake g c = still_same c.args.self.now.places.items c.free_place.new.places.items c.free_place.ensures.same
+
+pub returns-in_err-place-clause-kept : goal.returns-in_err-place-clause-kept
+returns-in_err-place-clause-kept g c =
+    let told = g.L.Listener.told in
+    let old = c.args.self.now in
+    alike_keeps g.L.Stream.Read.remaining g.L.Stream.Write.contents (told old.listener) (told old.listener) old.places.items c.free_place.new.places.items (same_alike old.places.items c.free_place.new.places.items c.free_place.ensures.same) (kept_same (told old.listener))
+
+-- the stream comes
+pub number_at-number-requires-clause-place : goal.number_at-number-requires-clause-place
+number_at-number-requires-clause-place g c = c.if-place.false
+
+pub put-requires-clause-room : goal.put-requires-clause-room
+put-requires-clause-room g c = rw (c.new.ensures.number, c.number_at-number.ensures.place) c.in_ok-place.ensures.room
+
+pub put-requires-clause-free : goal.put-requires-clause-free
+put-requires-clause-free g c = rw (c.new.ensures.number, c.number_at-number.ensures.place) c.in_ok-place.ensures.free
+
+pub returns-in-Ok-clause-cause : goal.returns-in-Ok-clause-cause
+returns-in-Ok-clause-cause g c = cause_of_ok _ c.args.self.now.failed c.args.self.now.failed (not_below c.args.self.now.failed)
+
+pub returns-in-Ok-clause-asks : goal.returns-in-Ok-clause-asks
+returns-in-Ok-clause-asks g c = record { asks = Accept ∷ []; asked = c.accept.ensures.asked; due = refl }
+
+pub returns-in-Ok-clause-named : goal.returns-in-Ok-clause-named
+returns-in-Ok-clause-named g c = c.accept.ensures.named
+
+pub returns-in-Ok-clause-awake : goal.returns-in-Ok-clause-awake
+returns-in-Ok-clause-awake g c = λ number awake. still_one c.free_place.new.places.items c.put.new.places.items c.new.result.number c.put.ensures.others (rw c.put.ensures.held c.new.ensures.awake) number (still_same c.args.self.now.places.items c.free_place.new.places.items c.free_place.ensures.same number awake)
+
+-- nobody waits
+pub returns-in-Err-clause-cause : goal.returns-in-Err-clause-cause
+returns-in-Err-clause-cause g c = cause_of_ok _ c.args.self.now.failed c.args.self.now.failed (not_below c.args.self.now.failed)
+
+pub returns-in-Err-clause-asks : goal.returns-in-Err-clause-asks
+returns-in-Err-clause-asks g c = record { asks = Accept ∷ []; asked = c.accept.ensures.asked; due = refl }
+
+pub returns-in-Err-clause-named : goal.returns-in-Err-clause-named
+returns-in-Err-clause-named g c = c.accept.ensures.named
+
+pub returns-in-Err-clause-awake : goal.returns-in-Err-clause-awake
+returns-in-Err-clause-awake g c = still_same c.args.self.now.places.items c.free_place.new.places.items c.free_place.ensures.same
+
+pub returns-in-Err-clause-opens : goal.returns-in-Err-clause-opens
+returns-in-Err-clause-opens g c = λ some. absurd (some refl)
+
+pub returns-in-Err-clause-kept : goal.returns-in-Err-clause-kept
+returns-in-Err-clause-kept g c =
+    let told = g.L.Listener.told in
+    let old = c.args.self.now in
+    alike_keeps g.L.Stream.Read.remaining g.L.Stream.Write.contents (told old.listener) (told c.accept.new.self) old.places.items c.free_place.new.places.items (same_alike old.places.items c.free_place.new.places.items c.free_place.ensures.same) c.in-Err.ensures.err

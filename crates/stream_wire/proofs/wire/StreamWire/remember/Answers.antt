@@ -1,5 +1,6 @@
-use Rattle.std.proofs.Common.{rules}
-use Rattle.stream_wire.proofs.Waking.{awake_more, named_more}
+use Rattle.std.proofs.Common.{length, refl, ap, ◌∙◌}
+use Rattle.stream_wire.proofs.Outcomes.{cause_of_ok, not_below}
+use Rattle.stream_wire.proofs.Waking.{at_end, awake_all, awake_more, awake_none, named_all, named_more, named_none, same_alike, still_alike}
 use Rattle.stream_wire.proofs.wire.StreamWire.remember.Goals as goal
 
 -- one more is awake, or it is the listener
@@ -10,12 +11,54 @@ loop-place-preserved g c =
       awake = rw c.note.ensures.listener (awake_more c.loop-place.place named c.ready-found.result c.loop-place.self.places.items c.note.new.self.places.items c.ready-found.ensures c.note.ensures.awake c.note.ensures.still c.loop-place.invariant.awake);
       named = rw c.note.ensures.listener (named_more c.loop-place.place named c.ready-found.result c.loop-place.self.may_accept c.note.new.self.may_accept c.ready-found.ensures c.note.ensures.named c.note.ensures.opens c.loop-place.invariant.named);
       opens = λ e. c.note.ensures.opens (c.loop-place.invariant.opens e);
-      listener = search rules;
-      alike = search rules;
-      next = search rules;
-      failed = search rules;
-      more = search rules;
-      unsure = search rules;
-      received = search rules;
-      sent = search rules;
+      listener = c.note.ensures.listener ∙ c.loop-place.invariant.listener;
+      alike = still_alike c.args.self.now.places.items c.loop-place.self.places.items c.note.new.self.places.items c.loop-place.invariant.alike c.note.ensures.alike;
+      next = c.note.ensures.next ∙ c.loop-place.invariant.next;
+      failed = c.note.ensures.failed ∙ c.loop-place.invariant.failed;
+      more = c.note.ensures.more ∙ c.loop-place.invariant.more;
+      unsure = c.note.ensures.unsure ∙ c.loop-place.invariant.unsure;
+      received = c.note.ensures.received ∙ c.loop-place.invariant.received;
+      sent = c.note.ensures.sent ∙ c.loop-place.invariant.sent;
     }
+
+-- none so far
+pub loop-place-init : goal.loop-place-init
+loop-place-init g c = record {
+  awake = awake_none (g.L.Listener.named c.args.self.now.listener) c.args.self.now.places.items;
+  named = named_none (g.L.Listener.named c.args.self.now.listener) c.args.self.now.may_accept;
+  opens = λ e. e;
+  listener = refl;
+  alike = same_alike c.args.self.now.places.items c.args.self.now.places.items (λ n. refl);
+  next = refl;
+  failed = refl;
+  more = refl;
+  unsure = refl;
+  received = refl;
+  sent = refl;
+}
+
+-- all of them
+pub returns-clause-cause : goal.returns-clause-cause
+returns-clause-cause g c = rw c.loop-place.invariant.failed (cause_of_ok _ c.args.self.now.failed c.args.self.now.failed (not_below c.args.self.now.failed))
+
+pub returns-clause-alike : goal.returns-clause-alike
+returns-clause-alike g c = c.loop-place.invariant.alike
+
+pub returns-clause-awake : goal.returns-clause-awake
+returns-clause-awake g c = awake_all c.loop-place.place (g.L.Listener.named c.loop-place.self.listener) c.loop-place.self.places.items (at_end c.loop-place.place c.found-place-end.result _ _ c.loop-place-test.false c.loop-place.auto.place-end c.found-place-end.ensures (ap (λ x. length (g.L.Listener.named x)) c.loop-place.invariant.listener)) c.loop-place.invariant.awake
+
+pub returns-clause-named : goal.returns-clause-named
+returns-clause-named g c = named_all c.loop-place.place (g.L.Listener.named c.loop-place.self.listener) c.loop-place.self.may_accept (at_end c.loop-place.place c.found-place-end.result _ _ c.loop-place-test.false c.loop-place.auto.place-end c.found-place-end.ensures (ap (λ x. length (g.L.Listener.named x)) c.loop-place.invariant.listener)) c.loop-place.invariant.named
+
+pub returns-clause-opens : goal.returns-clause-opens
+returns-clause-opens g c = c.loop-place.invariant.opens
+
+-- the look failed
+pub returns-then-is_err-clause-cause : goal.returns-then-is_err-clause-cause
+returns-then-is_err-clause-cause g c = (c.fault.ensures.rises, λ e. c.fault.ensures.risen)
+
+pub returns-then-is_err-clause-alike : goal.returns-then-is_err-clause-alike
+returns-then-is_err-clause-alike g c = rw c.fault.ensures.places (same_alike c.args.self.now.places.items c.args.self.now.places.items (λ n. refl))
+
+pub returns-then-is_err-clause-opens : goal.returns-then-is_err-clause-opens
+returns-then-is_err-clause-opens g c = λ may. c.fault.ensures.opens ∙ may

@@ -1,7 +1,10 @@
+use Rattle.std.proofs.Common.{ap, ◌∙◌}
 use Rattle.wires.proofs.Reported.{kept_then}
 use Rattle.stream_wire.specs.Held.{reported}
-use Rattle.stream_wire.proofs.Asked.{asked_next}
-use Rattle.stream_wire.proofs.Reports.{alike_keeps}
+use Rattle.stream_wire.proofs.Asked.{asked_next, asked_nobody, asked_unmoved}
+use Rattle.stream_wire.proofs.Outcomes.{cause_of_ok, cause_then, on_ok, stays_open}
+use Rattle.stream_wire.proofs.Reports.{alike_keeps, looked, unmoved}
+use Rattle.stream_wire.proofs.Waking.{awake_named}
 use Rattle.stream_wire.proofs.wire.StreamWireWire.accept.Goals as goal
 
 -- a look leaves all that is reported, and so does what is accepted
@@ -17,3 +20,54 @@ returns-clause-kept g c =
 -- a look, and then the next one who waits
 pub returns-clause-asks : goal.returns-clause-asks
 returns-clause-asks g c = asked_next _ _ _ _ _ _ c.look-looked.ensures.asked (rw c.remember.ensures.listener at c.take_in.ensures.asks)
+
+pub returns-clause-number : goal.returns-clause-number
+returns-clause-number g c = rw c.remember.ensures.next at c.take_in.ensures.number
+
+pub returns-clause-cause : goal.returns-clause-cause
+returns-clause-cause g c = cause_then c.args.self.now.failed c.remember.new.self.failed c.take_in.new.self.failed c.take_in.result c.remember.ensures.cause.0 c.take_in.ensures.cause
+
+pub returns-clause-opens : goal.returns-clause-opens
+returns-clause-opens g c = stays_open c.take_in.result c.args.self.now.may_accept c.remember.new.self.may_accept c.take_in.new.self.may_accept c.take_in.ensures.opens c.if-not-self.false
+
+pub returns-clause-awake : goal.returns-clause-awake
+returns-clause-awake g c = on_ok c.take_in.result _ (awake_named (g.L.Listener.named c.remember.new.self.listener) (g.L.Listener.named c.take_in.new.self.listener) c.remember.new.self.places.items c.take_in.new.self.places.items c.take_in.ensures.named c.take_in.ensures.awake c.in_ok-remember.ensures.awake)
+
+pub take_in-requires : goal.take_in-requires
+take_in-requires g c = record { left = rw c.remember.ensures.next c.if-self.false }
+
+-- nobody may wait
+pub returns-then-not-self-clause-kept : goal.returns-then-not-self-clause-kept
+returns-then-not-self-clause-kept g c =
+    let told = g.L.Listener.told in
+    looked g.L.Stream.Read.remaining g.L.Stream.Write.contents (told c.args.self.now.listener) (told c.look-looked.new.self) (told c.remember.new.self.listener) c.args.self.now.places.items c.remember.new.self.places.items (ap told c.remember.ensures.listener) c.remember.ensures.alike c.look-looked.ensures.kept
+
+pub returns-then-not-self-clause-cause : goal.returns-then-not-self-clause-cause
+returns-then-not-self-clause-cause g c = cause_of_ok _ c.args.self.now.failed c.remember.new.self.failed c.remember.ensures.cause.0
+
+pub returns-then-not-self-clause-asks : goal.returns-then-not-self-clause-asks
+returns-then-not-self-clause-asks g c = asked_nobody c.args.self.now.may_accept c.remember.new.self.may_accept _ _ _ (rw (← c.remember.ensures.listener) at c.look-looked.ensures.asked) c.remember.ensures.opens c.in_ok-remember.ensures.named c.if-not-self.true
+
+pub returns-then-not-self-clause-awake : goal.returns-then-not-self-clause-awake
+returns-then-not-self-clause-awake g c = c.in_ok-remember.ensures.awake
+
+-- a look that failed
+pub returns-in_err-remember-clause-kept : goal.returns-in_err-remember-clause-kept
+returns-in_err-remember-clause-kept g c =
+    let told = g.L.Listener.told in
+    looked g.L.Stream.Read.remaining g.L.Stream.Write.contents (told c.args.self.now.listener) (told c.look-looked.new.self) (told c.remember.new.self.listener) c.args.self.now.places.items c.remember.new.self.places.items (ap told c.remember.ensures.listener) c.remember.ensures.alike c.look-looked.ensures.kept
+
+-- no number is left
+pub returns-then-self-clause-kept : goal.returns-then-self-clause-kept
+returns-then-self-clause-kept g c =
+    let told = g.L.Listener.told in
+    unmoved g.L.Stream.Read.remaining g.L.Stream.Write.contents (told c.args.self.now.listener) (told c.fault.new.self.listener) c.args.self.now.places.items c.fault.new.self.places.items (ap told c.fault.ensures.listener) (ap (λ x. x.items) c.fault.ensures.places)
+
+pub returns-then-self-clause-cause : goal.returns-then-self-clause-cause
+returns-then-self-clause-cause g c = (c.fault.ensures.rises, λ e. c.fault.ensures.risen)
+
+pub returns-then-self-clause-asks : goal.returns-then-self-clause-asks
+returns-then-self-clause-asks g c = asked_unmoved c.args.self.now.may_accept _ _ _ c.fault.result (ap g.L.Listener.asked c.fault.ensures.listener)
+
+pub returns-then-self-clause-opens : goal.returns-then-self-clause-opens
+returns-then-self-clause-opens g c = λ may. c.fault.ensures.opens ∙ may

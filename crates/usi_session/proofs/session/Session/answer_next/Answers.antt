@@ -1,8 +1,8 @@
-use Rattle.std.proofs.Common.{◌≡◌, ap, ◌∙◌, sym, rules, ◌∷◌, ℕ, List}
+use Rattle.std.proofs.Common.{refl, ◌≡◌, ap, ◌∙◌, sym, rules, ◌∷◌, ℕ, List}
 use Rattle.usi_lines.specs.Lines.{ahead}
 use Rattle.usi_lines.specs.Seen.{line_of}
-use Rattle.usi_session.specs.Due.{SessionView, is_pending}
-use Rattle.usi_session.proofs.Steps.{fewer_answered, keeps_answered, keeps_same, pending_alive, roots_answered}
+use Rattle.usi_session.specs.Due.{SessionView, is_pending, roots_left}
+use Rattle.usi_session.proofs.Steps.{fewer_answered, keeps_answered, keeps_same, nothing_pending, pending_alive, roots_answered, same_view}
 use Rattle.usi_session.proofs.session.Session.answer_next.Goals as goal
 
 pub queue_answer-requires-clause-alive : goal.queue_answer-requires-clause-alive
@@ -32,6 +32,21 @@ returns-clause-roots g c =
     let first : (x : List ℕ) → ahead s.input x ≡ line_of c.in-Some.line ∷ ahead c.drop_line.new.self x = λ x. c.in-Some.ensures.first x ∙ ap (λ xs. line_of c.in-Some.line ∷ xs) (sym (c.drop_line.ensures.rest x)) in
     rw (← c.self.view_is) (roots_answered s.state c.queue_answer.new.state s.queue c.queue_answer.new.queue s.input c.drop_line.new.self s.running_go c.in_ok-running_go.running_go (line_of c.in-Some.line) pending idle first c.in_ok-running_go.ensures.answer)
 
+-- a line is there
+pub returns-in_default-clause-fewer : goal.returns-in_default-clause-fewer
+returns-in_default-clause-fewer g c =
+    let s = c.self.inside in
+    let pending = ap is_pending c.self.view_is ∙ c.requires.pending in
+    let idle = ap (λ (t : SessionView). t.running_go) c.self.view_is ∙ c.requires.idle in
+    absurd (nothing_pending (record { state = s.state; running_go = s.running_go; queued = s.queue; input = s.input }) idle (c.in_default.ensures.none.0 refl) pending)
+
 -- nothing was queued: nothing changed
 pub returns-in_err-running_go-clause-kept : goal.returns-in_err-running_go-clause-kept
-returns-in_err-running_go-clause-kept g c = keeps_same _ _ (search rules)
+returns-in_err-running_go-clause-kept g c =
+    let s = c.self.inside in
+    rw (← c.self.view_is) (keeps_same _ _ (same_view s.state c.queue_answer.new.state s.queue c.queue_answer.new.queue s.input s.running_go c.in_err-running_go.ensures.state_err c.in_err-running_go.ensures.queue_err))
+
+pub returns-in_err-running_go-clause-roots : goal.returns-in_err-running_go-clause-roots
+returns-in_err-running_go-clause-roots g c =
+    let s = c.self.inside in
+    rw (← c.self.view_is) (ap roots_left (same_view s.state c.queue_answer.new.state s.queue c.queue_answer.new.queue s.input s.running_go c.in_err-running_go.ensures.state_err c.in_err-running_go.ensures.queue_err))

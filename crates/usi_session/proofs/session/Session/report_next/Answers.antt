@@ -1,7 +1,7 @@
-use Rattle.std.proofs.Common.{ap, ◌∙◌, rules, []}
+use Rattle.std.proofs.Common.{Some, ap, subst, sym, ◌∙◌, refl, rules, []}
 use Rattle.usi_lines.specs.Lines.{ahead}
-use Rattle.usi_session.specs.Due.{is_pending}
-use Rattle.usi_session.proofs.Steps.{keeps_ended, keeps_reported, keeps_same, roots_ended, roots_reported}
+use Rattle.usi_session.specs.Due.{IsPvWhole, SessionView, is_pending, roots_left}
+use Rattle.usi_session.proofs.Steps.{fewer_ended, fewer_reported, keeps_ended, keeps_reported, keeps_same, roots_ended, roots_reported, same_view}
 use Rattle.usi_session.proofs.session.Session.report_next.Goals as goal
 
 pub returns-then-not-is_last-clause-kept : goal.returns-then-not-is_last-clause-kept
@@ -18,10 +18,38 @@ returns-clause-kept g c =
 
 -- nothing was queued: nothing changed
 pub returns-in_err-queue_line-clause-kept : goal.returns-in_err-queue_line-clause-kept
-returns-in_err-queue_line-clause-kept g c = keeps_same _ _ (search rules)
+returns-in_err-queue_line-clause-kept g c =
+    let s = c.self.inside in
+    rw (← c.self.view_is, c.in-Some.is) (keeps_same _ _ (same_view s.state s.state s.queue c.queue_line.new.queue s.input (Some c.in-Some.running_go) refl c.in_err-queue_line.ensures.err))
+
+pub returns-in_err-queue_line-clause-roots : goal.returns-in_err-queue_line-clause-roots
+returns-in_err-queue_line-clause-roots g c =
+    let s = c.self.inside in
+    rw (← c.self.view_is, c.in-Some.is) (ap roots_left (same_view s.state s.state s.queue c.queue_line.new.queue s.input (Some c.in-Some.running_go) refl c.in_err-queue_line.ensures.err))
 
 pub returns-in_err-queue_end-clause-kept : goal.returns-in_err-queue_end-clause-kept
-returns-in_err-queue_end-clause-kept g c = keeps_same _ _ (search rules)
+returns-in_err-queue_end-clause-kept g c =
+    let s = c.self.inside in
+    rw (← c.self.view_is, c.in-Some.is) (keeps_same _ _ (same_view s.state c.queue_end.new.state s.queue c.queue_end.new.queue s.input (Some c.in-Some.running_go) c.in_err-queue_end.ensures.state_err c.in_err-queue_end.ensures.queue_err))
+
+pub returns-in_err-queue_end-clause-roots : goal.returns-in_err-queue_end-clause-roots
+returns-in_err-queue_end-clause-roots g c =
+    let s = c.self.inside in
+    rw (← c.self.view_is, c.in-Some.is) (ap roots_left (same_view s.state c.queue_end.new.state s.queue c.queue_end.new.queue s.input (Some c.in-Some.running_go) c.in_err-queue_end.ensures.state_err c.in_err-queue_end.ensures.queue_err))
+
+-- a `go` is running
+pub returns-in_default : goal.returns-in_default
+returns-in_default g c = absurd (subst IsPvWhole (ap (λ (t : SessionView). t.running_go) (sym c.self.view_is) ∙ c.in_default.is) c.requires.whole)
+
+pub returns-then-not-is_last-clause-fewer : goal.returns-then-not-is_last-clause-fewer
+returns-then-not-is_last-clause-fewer g c =
+    let s = c.self.inside in
+    rw (← c.self.view_is) (fewer_reported s.state s.queue c.queue_line.new.queue s.input c.in-Some.running_go c.next.new.self s.running_go c.in-Some.is c.next.ensures.question c.next.ensures.load c.next.ensures.fewer)
+
+pub returns-clause-fewer : goal.returns-clause-fewer
+returns-clause-fewer g c =
+    let s = c.self.inside in
+    rw (← c.self.view_is) (fewer_ended s.state c.queue_end.new.state s.queue c.queue_end.new.queue s.input c.in-Some.running_go s.running_go c.in-Some.is (search rules))
 
 pub returns-then-not-is_last-clause-roots : goal.returns-then-not-is_last-clause-roots
 returns-then-not-is_last-clause-roots g c =

@@ -1,5 +1,7 @@
-use Rattle.std.proofs.Common.{refl, rules}
-use Rattle.usi_session.proofs.Steps.{keeps_same, keeps_then}
+use Rattle.std.proofs.Common.{◌≤◌, ◌+◌, ◌∙◌, [], refl, sym, rules}
+use Rattle.usi_lines.specs.Lines.{ahead}
+use Rattle.usi_session.specs.Due.{IsMidSearch, load}
+use Rattle.usi_session.proofs.Steps.{keeps_same, keeps_then, made_all, made_on, made_so_far, mid_load, not_enough}
 use Rattle.usi_session.proofs.WholeReplies.{grows_then}
 use Rattle.usi_session.proofs.TellsLaws.{ended_then, none_called, none_ended}
 use Rattle.usi_session.proofs.session.Session.work.Goals as goal
@@ -13,15 +15,63 @@ turns-init g c = record {
   capacity = search rules;
 }
 
+pub overflow_sub-left : goal.overflow_sub-left
+overflow_sub-left g c = rw c.in-Some.is at c.in_ok-made.ensures.most
+
+pub turns-smaller : goal.turns-smaller
+turns-smaller g c = rw c.in-Some.is at c.in_ok-made.ensures.fewer
+
 -- a turn's lines come after those of the turns before
 pub turns-preserved : goal.turns-preserved
-turns-preserved g c = record {
-  kept = keeps_then _ _ _ c.turns.invariant.kept c.turn.ensures.kept;
-  within = search rules;
-  made = search rules;
-  told = ended_then _ _ _ _ _ _ _ c.turns.invariant.told c.turn.ensures.told;
-  capacity = search rules;
-}
+turns-preserved g c =
+    let most : c.in-Some.made ≤ c.turns.left = rw c.in-Some.is at c.in_ok-made.ensures.most in
+    let made : c.in-Some.made + load c.turn.new.self ≤ load c.turns.self = rw c.in-Some.is at c.in_ok-made.ensures.made in
+    record {
+      kept = keeps_then _ _ _ c.turns.invariant.kept c.turn.ensures.kept;
+      within = search rules;
+      made = made_on c.args.budget c.turns.left (load c.args.self.now) (load c.turns.self) c.in-Some.made (load c.turn.new.self) c.turns.invariant.made most made;
+      told = ended_then _ _ _ _ _ _ _ c.turns.invariant.told c.turn.ensures.told;
+      capacity = search rules;
+    }
+
+-- the budget was used up within a search
+pub returns-in-None-clause-made : goal.returns-in-None-clause-made
+returns-in-None-clause-made g c =
+    let spent : c.turns.left + load c.turn.new.self ≤ load c.turns.self = rw c.in-None.is at c.in_ok-made.ensures.spent in
+    made_all c.args.budget c.turns.left (load c.args.self.now) (load c.turns.self) (load c.turn.new.self) c.turns.invariant.made spent
+
+pub returns-in-None-clause-spent : goal.returns-in-None-clause-spent
+returns-in-None-clause-spent g c = λ _. (refl, rw c.in-None.is at c.in_ok-made.ensures.unfinished)
+
+pub returns-in-None-clause-enough : goal.returns-in-None-clause-enough
+returns-in-None-clause-enough g c = λ enough.
+    let spent : c.turns.left + load c.turn.new.self ≤ load c.turns.self = rw c.in-None.is at c.in_ok-made.ensures.spent in
+    let mid : IsMidSearch c.turn.new.self.running_go = rw c.in-None.is at c.in_ok-made.ensures.unfinished in
+    absurd (not_enough c.args.budget (load c.args.self.now) (load c.turn.new.self)
+    (made_all c.args.budget c.turns.left (load c.args.self.now) (load c.turns.self) (load c.turn.new.self) c.turns.invariant.made spent)
+    (mid_load c.turn.new.self.state c.turn.new.self.running_go (ahead c.turn.new.self.input []) mid) enough)
+
+pub returns-in-None-clause-due : goal.returns-in-None-clause-due
+returns-in-None-clause-due g c = λ x. c.turn.ensures.kept.due_is x ∙ c.turns.invariant.kept.due_is x
+
+pub returns-in-None-clause-after : goal.returns-in-None-clause-after
+returns-in-None-clause-after g c = λ x. c.turn.ensures.kept.after_is x ∙ c.turns.invariant.kept.after_is x
+
+-- nothing is pending any more
+pub overflow_sub-result : goal.overflow_sub-result
+overflow_sub-result g c = c.turns.invariant.within
+
+pub returns-clause-made : goal.returns-clause-made
+returns-clause-made g c = made_so_far c.args.budget c.turns.left (load c.args.self.now) (load c.turns.self) c.turns.invariant.within c.turns.invariant.made
+
+pub returns-clause-enough : goal.returns-clause-enough
+returns-clause-enough g c = λ _. sym c.pending.ensures ∙ c.turns-test.false
+
+pub returns-clause-due : goal.returns-clause-due
+returns-clause-due g c = c.turns.invariant.kept.due_is
+
+pub returns-clause-after : goal.returns-clause-after
+returns-clause-after g c = c.turns.invariant.kept.after_is
 
 pub returns-in-None-clause-grown : goal.returns-in-None-clause-grown
 returns-in-None-clause-grown g c = grows_then c.turns.invariant.kept.grown c.turn.ensures.kept.grown

@@ -1,0 +1,37 @@
+-- What a call does to the session of an id, where it is found and where it is not.
+use Rattle.std.proofs.Common.{◌≡◌, Option, Some, None, refl}
+use Rattle.std.specs.Prelude.{IsSome, OnSome}
+use Rattle.session_slots.specs.declared.id.SessionId.{SessionId}
+use Rattle.session_slots.specs.Slots.{find, with_session}
+use Rattle.shared_table.specs.Recent.{Table}
+use Rattle.usi_session.specs.Due.{SessionView}
+use Rattle.host_core.specs.declared.event.HostFault.TheVariants.{UnknownSession}
+use Rattle.host_core.specs.Events.{Outcome, Refused}
+use Rattle.host_core.specs.Steps.{HostState, Closed, IsClosed, OnSession}
+
+-- the session that was found answered, and was written back
+pub on_found : (goes : SessionView → Outcome → SessionView → Type 0) (old : HostState) (table : Table) (id : SessionId) (s after : SessionView) (o : Outcome)
+    → find old.slots id ≡ Some s → goes s o after
+    → OnSession goes old id (find old.slots id) o (record { table = table; slots = with_session old.slots id after })
+on_found goes old table id s after o e w = rw e (record { after = after; went = w; slots_are = refl })
+
+-- none was found
+pub on_none : (goes : SessionView → Outcome → SessionView → Type 0) (old : HostState) (id : SessionId)
+    → find old.slots id ≡ None → OnSession goes old id (find old.slots id) (Refused UnknownSession) old
+on_none goes old id e = rw e (record { refused = refl; same = refl })
+
+-- what holds where one is there
+pub on_some : {T : Type 0} (o : Option T) (P : Type 0) → IsSome o → OnSome o P → P
+on_some None P some h = absurd (cc)
+on_some (Some x) P some h = h
+
+-- the session that was found was closed
+pub closed_found : (old new : HostState) (id : SessionId) (o : Outcome) (found : Option SessionView)
+    → find old.slots id ≡ found → IsSome found → Closed old id o new → IsClosed old id (find old.slots id) o new
+closed_found old new id o None e some c = absurd (cc)
+closed_found old new id o (Some s) e some c = rw e c
+
+-- there was none to be closed
+pub closed_none : (old new : HostState) (id : SessionId) → find old.slots id ≡ None → new ≡ old
+    → IsClosed old id (find old.slots id) (Refused UnknownSession) new
+closed_none old new id e same = rw e (record { refused = refl; same = same })

@@ -1,0 +1,110 @@
+//! The options of a session: what they are set to, and how they are offered.
+
+ghost use Rattle.std.specs.Prelude.{◌≡◌, ◌++◌, decimal};
+ghost use Rattle.usi_texts.specs.Texts.{Writes};
+ghost use Rattle.usi_texts.specs.Options.{default_options, option_lines, eval_line, spin_name, spin_range, spin_line};
+
+use crate::text::write_parts;
+use itoa::Buffer;
+use shogi_eval::Eval;
+use std::alloc::{AllocError, Allocator};
+use usi_lines::{DEPTH_MAX, DEPTH_MIN, MULTI_PV_MAX, MULTI_PV_MIN};
+
+/// The depth of a session whose `Depth` was never set (own choice).
+pub const DEPTH_DEFAULT: u8 = 3;
+
+/// The number of best lines of a session whose `MultiPV` was never set (USI, option).
+pub const MULTI_PV_DEFAULT: u8 = 1;
+
+/// What the options are set to.
+#[derive(Clone, Copy, Debug)]
+pub struct Options {
+    /// `Depth`: the depth of a `go` that names none, in its range.
+    pub depth: u8,
+    /// `Eval`: by which evaluation a `go` searches.
+    pub eval: Eval,
+    /// `MultiPV`: how many best lines a `go` shows at most, in its range.
+    pub multi_pv: u8,
+}
+
+impl Options {
+    /// Each option at its default.
+    pub fn new() -> Options
+        ensures { result ≡ default_options }
+    {
+        Options {
+            depth: DEPTH_DEFAULT,
+            eval: Eval::Plain,
+            multi_pv: MULTI_PV_DEFAULT,
+        }
+    }
+}
+
+/// A word of an option's line, and its number.
+fn write_number<A: Allocator>(
+    out: &mut Vec<u8, A>,
+    word: &[u8],
+    number: u8,
+) -> Result<(), AllocError>
+    ensures { Writes result out.old out.new (word.now ++ decimal number) }
+{
+    let mut buffer = Buffer::new();
+    let digits = buffer.format(number).as_bytes();
+    write_parts(out, &[word, digits])
+}
+
+/// The name of an option that is a number.
+fn write_name<A: Allocator>(out: &mut Vec<u8, A>, name: &[u8]) -> Result<(), AllocError>
+    ensures { Writes result out.old out.new (spin_name name.now) }
+{
+    write_parts(out, &[b"option name ", name, b" type spin"])
+}
+
+/// The range of an option that is a number, to the end of its line.
+fn write_range<A: Allocator>(out: &mut Vec<u8, A>, least: u8, most: u8) -> Result<(), AllocError>
+    ensures { Writes result out.old out.new (spin_range least most) }
+{
+    write_number(out, b" min ", least)?;
+    write_number(out, b" max ", most)?;
+    out.extend_from_slice(b"\n")?;
+    Ok(())
+}
+
+/// Offers an option that is a number (USI, option).
+fn write_spin<A: Allocator>(
+    out: &mut Vec<u8, A>,
+    name: &[u8],
+    default: u8,
+    least: u8,
+    most: u8,
+) -> Result<(), AllocError>
+    ensures { Writes result out.old out.new (spin_line name.now default least most) }
+{
+    write_name(out, name)?;
+    write_number(out, b" default ", default)?;
+    write_range(out, least, most)?;
+    Ok(())
+}
+
+/// Offers the evaluations (USI, option).
+fn write_eval<A: Allocator>(out: &mut Vec<u8, A>) -> Result<(), AllocError>
+    ensures { Writes result out.old out.new eval_line }
+{
+    out.extend_from_slice(b"option name Eval type combo default Plain var Plain var Hand\n")
+}
+
+/// Offers the options: a row for each.
+pub fn write_options<A: Allocator>(out: &mut Vec<u8, A>) -> Result<(), AllocError>
+    ensures { Writes result out.old out.new option_lines }
+{
+    write_spin(out, b"Depth", DEPTH_DEFAULT, DEPTH_MIN, DEPTH_MAX)?;
+    write_eval(out)?;
+    write_spin(
+        out,
+        b"MultiPV",
+        MULTI_PV_DEFAULT,
+        MULTI_PV_MIN,
+        MULTI_PV_MAX,
+    )?;
+    Ok(())
+}
