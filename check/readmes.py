@@ -1,6 +1,6 @@
 #!/usr/bin/env python3
-"""Looks whether the README of each library crate shows its use as it stands in `crates/examples`, where
-it is proved and run: everything from the first `use` of a file on. With `--write` it puts it there. Then
+"""Looks whether the README of each library crate shows its uses as they stand in `crates/examples`, where
+they are proved and run: everything from the first `use` of a file on. With `--write` it puts it there. Then
 looks whether README.md names the toolchain as `rt version` does, the command that runs the program and the
 one that tests it, and whether each link of a page leads to a file and a heading that are there. Its last
 line is `N passed, M failed`."""
@@ -27,12 +27,14 @@ def read(path):
 
 
 def uses():
-    """Each library crate with the text of its use: its name stands in the first line of the file."""
+    """Each library crate with the texts of its uses, file by file: its name stands in the first line of each."""
+    found = {}
     for name in sorted(os.listdir(USES)):
         text = read(os.path.join(USES, name))
         of = re.match(r"//! A use of `(\w+)`\.\n", text)
         if of:
-            yield of.group(1), text[text.index("\nuse ") + 1 :]
+            found.setdefault(of.group(1), []).append(text[text.index("\nuse ") + 1 :])
+    return found.items()
 
 
 def pages():
@@ -61,19 +63,20 @@ def leads_nowhere(page, link):
 
 def main():
     passed = failed = 0
-    for crate, use in uses():
+    for crate, its in uses():
         path = os.path.join(CRATES, crate, "README.md")
         text = read(path)
-        wanted = BLOCK.sub(lambda _: f"```rust\n{use}```\n", text, count=1)
+        rest = iter(its)
+        wanted = BLOCK.sub(lambda _: f"```rust\n{next(rest)}```\n", text, count=len(its))
         if "--write" in sys.argv[1:] and text != wanted:
             with open(path, "w", encoding="utf-8") as page:
                 page.write(wanted)
             text = wanted
-        if text == wanted and BLOCK.search(text):
+        if text == wanted and len(BLOCK.findall(text)) >= len(its):
             passed += 1
         else:
             failed += 1
-            print(f"crates/{crate}/README.md does not show its use as crates/examples has it")
+            print(f"crates/{crate}/README.md does not show its uses as crates/examples has them")
     readme = read(os.path.join(TOP, "README.md"))
     makefile = read(os.path.join(TOP, "Makefile"))
     for goal in GOALS:

@@ -46,7 +46,7 @@ def wait_until(test, what):
 @contextlib.contextmanager
 def folder():
     """A folder for a socket, which others may enter."""
-    place = tempfile.mkdtemp(prefix="usi_serve.")
+    place = tempfile.mkdtemp(prefix="usi_host.")
     try:
         os.chmod(place, 0o755)
         yield place

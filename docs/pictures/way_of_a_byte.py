@@ -16,7 +16,7 @@ BOXES = {
     "clients": (660, 50, 280, OUTSIDE, "many clients", "a Unix socket"),
     "usi_stdio": (40, 170, 280, PROGRAM, "usi_stdio", "reads, feeds, works, writes, flushes"),
     "usi_replay": (350, 170, 280, PROGRAM, "usi_replay", "does what the lines of a script say"),
-    "socket_loop": (660, 170, 280, PROGRAM, "usi_serve, socket_loop", "a turn: accept, read, work, write"),
+    "socket_loop": (660, 170, 280, PROGRAM, "socket_loop", "a turn: accept, read, work, write"),
     "host_core": (505, 280, 280, MANY, "host_core, session_slots", "open sessions by ids never used again"),
     "usi_lines": (40, 390, 280, SESSION, "usi_lines, shogi_sfen", "bytes to lines, lines to commands"),
     "usi_session": (350, 390, 280, SESSION, "usi_session", "answers a command, queues the reply"),

@@ -1,15 +1,15 @@
-//! A use of `usi_serve`.
+//! A use of `socket_loop`.
 
 ghost use Rattle.std.specs.Prelude.{◌≡◌, [], Err};
 ghost use Rattle.wires.specs.declared.wire.WireFault.TheVariants.{Device};
 
 use host_core::Host;
-use socket_loop::Loop;
+use socket_loop::{Loop, Unseen, serve};
 use std::alloc::Allocator;
 use std::fs::Files;
 use std::hash::BuildHasher;
 use std::net::Net;
-use usi_serve::{MioWire, Unseen, serve};
+use stream_wire::MioWire;
 use wires::WireFault;
 
 /// Makes a socket at the path, and serves those who connect for so many turns.

@@ -11,8 +11,8 @@ use std::os::unix::net::UnixStream;
 use std::path::{Path, PathBuf};
 use std::test::Fail;
 use std::{env, fs, process};
+use stream_wire::MioWire;
 use test_support::{FailingAllocator, holds};
-use usi_serve::MioWire;
 use wires::{Wire, WireFault};
 
 type Memory = FailingAllocator<Global>;

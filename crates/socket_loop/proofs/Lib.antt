@@ -18,3 +18,9 @@ pub mod Loads
 pub mod Each
 mod Few
 pub mod Tallies
+pub mod Turns
+pub mod WholeLives
+pub mod Ends
+pub mod Waits
+pub mod Alone
+pub mod StatusTexts

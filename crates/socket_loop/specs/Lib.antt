@@ -5,3 +5,10 @@ pub mod Turns
 pub mod Tallies
 pub mod Calls
 pub mod Visits
+pub mod Serving
+pub mod Life
+pub mod Patience
+pub mod Promises
+pub mod Alone
+pub mod Status
+pub mod StatusLine

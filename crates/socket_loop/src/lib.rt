@@ -1,13 +1,23 @@
-//! A loop that serves the sessions of a host to connections.
+//! A loop that serves the sessions of a host to connections, turn after turn, and tells what it counts.
 #![tactic(auto)]
 
 mod connection;
+mod laws;
 mod monitor;
+mod serving;
+mod status;
+mod status_line;
+mod status_socket;
 mod tally;
 mod turn;
 mod visit;
 
 pub use connection::{Connection, Link};
+pub use laws::{answers_as_alone, isolation};
 pub use monitor::{Monitor, Unseen};
+pub use serving::serve;
+pub use status::{Limits, Status, Totals, status_of};
+pub use status_line::{LINE_MAX, write_line};
+pub use status_socket::StatusSocket;
 pub use tally::Tally;
 pub use turn::{Loop, Turn};

@@ -18,3 +18,12 @@ pub struct Unseen;
 impl<W, S: BuildHasher, A: Allocator + Copy> Monitor<W, S, A> for Unseen {
     fn see(&mut self, _turn: &Turn, _host: &Host<S, A>, _connections: &Loop<A>, _wire: &W) {}
 }
+
+/// A monitor, where there is one.
+impl<W, S: BuildHasher, A: Allocator + Copy, M: Monitor<W, S, A>> Monitor<W, S, A> for Option<M> {
+    fn see(&mut self, turn: &Turn, host: &Host<S, A>, connections: &Loop<A>, wire: &W) {
+        if let Some(monitor) = self {
+            monitor.see(turn, host, connections, wire);
+        }
+    }
+}

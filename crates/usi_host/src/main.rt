@@ -6,15 +6,14 @@ ghost use Rattle.session_slots.specs.declared.limits.TheConstants.{SESSIONS_MAX}
 ghost use Rattle.shared_table.specs.declared.table.TheConstants.{CAPACITY_MAX};
 
 use host_core::Host;
-use host_status::{Limits, StatusSocket};
-use socket_loop::{Loop, Monitor, Turn};
+use socket_loop::{Limits, Loop, StatusSocket, serve};
 use std::alloc::Global;
-use std::hash::{BuildHasher, RandomState};
+use std::hash::RandomState;
 use std::io;
 use std::process::ExitCode;
+use stream_wire::MioWire;
 use usi_arguments::{Job, asked, complaint, status, version_text};
 use usi_runs::{DONE, ServeFault, print_out, script, session, socket_fault, status_fault};
-use usi_serve::{MioWire, serve};
 use usi_stdio::Duplex;
 use wires::WireFault;
 
@@ -35,40 +34,18 @@ fn bound(rt: &HostRuntime, socket: &str) -> Result<MioWire<Global>, ServeFault> 
     }
 }
 
-/// Who is shown the turns: the status on a socket, where one is asked for.
-#[derive(Drop)]
-struct Watch {
-    status: Option<StatusSocket<Global>>,
-}
-
-impl<S: BuildHasher> Monitor<MioWire<Global>, S, Global> for Watch {
-    fn see(
-        &mut self,
-        turn: &Turn,
-        host: &Host<S, Global>,
-        connections: &Loop<Global>,
-        wire: &MioWire<Global>,
-    ) {
-        if let Some(status) = &mut self.status {
-            status.see(turn, host, connections, wire);
-        }
-    }
-}
-
 /// A socket for the status at the path, where there is one, watched by the wire of another socket.
 fn watched(
     rt: &HostRuntime,
     status: &Option<String>,
     limits: Limits,
     wire: &MioWire<Global>,
-) -> Result<Watch, ServeFault> {
+) -> Result<Option<StatusSocket<Global>>, ServeFault> {
     let Some(path) = status else {
-        return Ok(Watch { status: None });
+        return Ok(None);
     };
     match StatusSocket::bind(rt, rt.alloc(), path.as_str(), limits, wire) {
-        Ok(bound) => Ok(Watch {
-            status: Some(bound),
-        }),
+        Ok(bound) => Ok(Some(bound)),
         Err(WireFault::Device) => Err(status_fault(rt, path.as_str())),
         Err(WireFault::OutOfMemory) => Err(ServeFault::OutOfMemory),
     }

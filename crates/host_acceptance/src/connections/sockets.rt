@@ -10,8 +10,8 @@ use std::path::PathBuf;
 use std::process::Abort;
 use std::test::Fail;
 use std::{env, fs, process};
+use stream_wire::MioWire;
 use test_support::{holds, same};
-use usi_serve::MioWire;
 use wires::{Got, Wire, WireFault};
 
 /// A wire. What its contracts say stays within.

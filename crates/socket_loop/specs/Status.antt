@@ -1,0 +1,56 @@
+-- The numbers of a status (own choice).
+use Rattle.std.specs.Prelude.{ℕ, ◌+◌, ◌-◌, ◌^◌, length, min}
+use Rattle.host_core.specs.Steps.{HostState}
+use Rattle.socket_loop.specs.Links.{links_of}
+use Rattle.socket_loop.specs.Turns.{LoopState}
+use Rattle.socket_loop.specs.Tallies.{pending_count}
+use Rattle.socket_loop.specs.declared.tally.Tally.{Tally}
+use Rattle.stream_wire.specs.declared.wire.StreamWire.{StreamWire}
+use Rattle.socket_loop.specs.declared.status.Limits.{Limits}
+use Rattle.socket_loop.specs.declared.status.Totals.{Totals}
+use Rattle.socket_loop.specs.declared.status.Status.{Status}
+
+-- so many more; the sum stays at the greatest number once it is there
+abbrev pub plus : ℕ → ℕ → ℕ
+plus sum more = min (sum + more) (2 ^ 64 - 1)
+
+-- no turn yet
+abbrev pub no_totals : Totals
+no_totals = record {
+  turns = 0;
+  accepted = 0;
+  full = 0;
+  unopened = 0;
+  ended_reading = 0;
+  ended_writing = 0;
+  finished = 0;
+  refused_work = 0;
+}
+
+-- one more turn, of these numbers
+abbrev pub counted : Totals → Tally → Totals
+counted totals tally = record {
+  turns = plus totals.turns 1;
+  accepted = plus totals.accepted tally.accepted;
+  full = plus totals.full tally.full;
+  unopened = plus totals.unopened tally.unopened;
+  ended_reading = plus totals.ended_reading tally.ended_reading;
+  ended_writing = plus totals.ended_writing tally.ended_writing;
+  finished = plus totals.finished tally.finished;
+  refused_work = plus totals.refused_work tally.refused;
+}
+
+-- the numbers of a host, its connections and its wire
+abbrev pub status_from : {L A S : Type 0} → Limits → Totals → HostState → LoopState
+    → StreamWire L A S → Status
+status_from limits totals host connections wire = record {
+  limits = limits;
+  totals = totals;
+  used = length connections.held;
+  searching = pending_count host (links_of connections.held);
+  filled = length host.table.pairs;
+  refused_notes = host.table.refused;
+  received = wire.received;
+  sent = wire.sent;
+  faults = wire.failed;
+}

@@ -1,0 +1,55 @@
+-- The line of a status: one object of JSON, whose names are in this order (own choice).
+use Rattle.std.specs.Prelude.{ℕ, ◌-◌, ◌++◌, List, codes, decimal}
+use Rattle.socket_loop.specs.declared.status.Limits.{Limits}
+use Rattle.socket_loop.specs.declared.status.Totals.{Totals}
+use Rattle.socket_loop.specs.declared.status.Status.{Status}
+
+-- what the host was started with
+abbrev pub with_limits : Limits → List ℕ → List ℕ
+with_limits limits before =
+    before
+    ++ codes ",\"slots\":" ++ decimal limits.slots
+    ++ codes ",\"entries\":" ++ decimal limits.entries
+    ++ codes ",\"slice\":" ++ decimal limits.slice
+
+-- what it has now; those that wait are those that do not search
+abbrev pub with_loads : Status → List ℕ → List ℕ
+with_loads status before =
+    before
+    ++ codes ",\"used\":" ++ decimal status.used
+    ++ codes ",\"searching\":" ++ decimal status.searching
+    ++ codes ",\"waiting\":" ++ decimal (status.used - status.searching)
+    ++ codes ",\"filled\":" ++ decimal status.filled
+
+-- its turns, and who came
+abbrev pub with_arrivals : Totals → List ℕ → List ℕ
+with_arrivals totals before =
+    before
+    ++ codes ",\"turns\":" ++ decimal totals.turns
+    ++ codes ",\"accepted\":" ++ decimal totals.accepted
+    ++ codes ",\"full\":" ++ decimal totals.full
+    ++ codes ",\"unopened\":" ++ decimal totals.unopened
+
+-- who went, and what was refused to those who are there
+abbrev pub with_ends : Totals → List ℕ → List ℕ
+with_ends totals before =
+    before
+    ++ codes ",\"ended_reading\":" ++ decimal totals.ended_reading
+    ++ codes ",\"ended_writing\":" ++ decimal totals.ended_writing
+    ++ codes ",\"finished\":" ++ decimal totals.finished
+    ++ codes ",\"refused_work\":" ++ decimal totals.refused_work
+
+-- what was refused, what failed, and the bytes
+abbrev pub with_others : Status → List ℕ → List ℕ
+with_others status before =
+    before
+    ++ codes ",\"refused_notes\":" ++ decimal status.refused_notes
+    ++ codes ",\"faults\":" ++ decimal status.faults
+    ++ codes ",\"bytes_in\":" ++ decimal status.received
+    ++ codes ",\"bytes_out\":" ++ decimal status.sent
+
+abbrev pub status_line : Status → List ℕ
+status_line status =
+    with_others status (with_ends status.totals (with_arrivals status.totals (with_loads status
+    (with_limits status.limits (codes "{\"version\":\"0.1.0\"")))))
+    ++ codes "}\n"

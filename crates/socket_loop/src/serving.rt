@@ -1,0 +1,35 @@
+//! Turn after turn.
+
+ghost use Rattle.socket_loop.specs.Links.{links_of};
+ghost use Rattle.socket_loop.specs.Turns.{Fits};
+ghost use Rattle.socket_loop.specs.Promises.{Ran};
+
+use crate::monitor::Monitor;
+use crate::turn::Loop;
+use host_core::Host;
+use std::alloc::Allocator;
+use std::hash::BuildHasher;
+use wires::{Wire, WireFault};
+
+/// Takes so many turns, shows each to the monitor, and waits after each of them, the last one too:
+/// until something may be ready where the turn did not move, and not at all where it did. A wait that
+/// fails ends it, with its fault.
+/// Each connection of the loop is accepted from this wire and each session opened in this host.
+pub fn serve<W: Wire, S: BuildHasher, A: Allocator + Copy, M: Monitor<W, S, A>>(
+    host: &mut Host<S, A>,
+    links: &mut Loop<A>,
+    wire: &mut W,
+    monitor: &mut M,
+    turns: u64,
+) -> Result<(), WireFault>
+    requires fits { Fits (links_of links.old.held) (W.bound wire.old) host.old }
+    ensures all { Ran W.Wire turns result links.old host.old wire.old links.new host.new wire.new }
+    ensures fits { Fits (links_of links.new.held) (W.bound wire.new) host.new }
+{
+    for _ in 0..turns {
+        let turn = links.turn(host, wire);
+        monitor.see(&turn, host, links, wire);
+        wire.wait(!turn.moved)?;
+    }
+    Ok(())
+}

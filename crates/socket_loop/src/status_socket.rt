@@ -1,0 +1,115 @@
+//! The socket of a status.
+
+ghost use Rattle.std.specs.Prelude.{◌≡◌, [], Err, IfOk};
+ghost use Rattle.socket_loop.specs.Status.{counted, no_totals};
+ghost use Rattle.wires.specs.declared.wire.WireFault.TheVariants.{Device};
+
+use crate::monitor::Monitor;
+use crate::status::{Limits, Totals, status_of};
+use crate::status_line::{LINE_MAX, write_line};
+use crate::turn::{Loop, Turn};
+use host_core::Host;
+use mio::Registry;
+use mio::net::{UnixListener, UnixStream};
+use std::alloc::Allocator;
+use std::fs::Files;
+use std::hash::BuildHasher;
+use std::io::Write;
+use std::net::Net;
+use stream_wire::{MioWire, watch_again};
+use wires::WireFault;
+
+/// How many are answered after a turn.
+const ANSWERS: usize = 16;
+
+/// A Unix socket that tells the status of a host to whoever connects: one line, in one write that does
+/// not wait, and then the connection is closed, whatever was taken of it.
+#[derive(Drop)]
+pub struct StatusSocket<A: Allocator> {
+    listener: UnixListener,
+    registry: Registry,
+    line: Vec<u8, A>,
+    /// What the host was given.
+    pub limits: Limits,
+    /// What was counted so far.
+    pub totals: Totals,
+}
+
+/// Writes the line in one write, and closes the connection, whatever was taken.
+fn answer(stream: UnixStream, line: &[u8]) {
+    let mut client = stream;
+    let _taken = client.write(line);
+}
+
+/// Answers those who wait, one fewer than `ANSWERS`. Returns whether more may wait.
+fn answer_more(listener: &UnixListener, line: &[u8]) -> bool {
+    for _ in 1..ANSWERS {
+        let Ok((stream, _)) = listener.accept() else {
+            return false;
+        };
+        answer(stream, line);
+    }
+    true
+}
+
+impl<A: Allocator + Copy> StatusSocket<A> {
+    /// Makes a socket at the path, and has the waits of this wire end too where somebody connects to it.
+    /// `Device` where the system refuses it, as for a path that exists, and where the path is empty.
+    pub fn bind<R: Files + Net>(
+        rt: &R,
+        alloc: A,
+        path: &str,
+        limits: Limits,
+        wire: &MioWire<A>,
+    ) -> Result<StatusSocket<A>, WireFault>
+        ensures unnamed { path.now ≡ [] → result ≡ Err Device }
+        ensures limits { IfOk result (λ socket. socket.limits ≡ limits) }
+        ensures none { IfOk result (λ socket. socket.totals ≡ no_totals) }
+    {
+        if path.is_empty() {
+            return Err(WireFault::Device);
+        }
+        let line = Vec::with_capacity(alloc, LINE_MAX)?;
+        let Ok(mut listener) = UnixListener::bind(rt, path) else {
+            return Err(WireFault::Device);
+        };
+        let Ok(registry) = wire.listener.watch(&mut listener) else {
+            return Err(WireFault::Device);
+        };
+        Ok(StatusSocket {
+            listener,
+            registry,
+            line,
+            limits,
+            totals: Totals::NONE,
+        })
+    }
+
+    /// Makes the line of now. There is none where memory is refused.
+    fn tell<S: BuildHasher>(&mut self, host: &Host<S, A>, connections: &Loop<A>, wire: &MioWire<A>)
+        ensures limits { self.new.limits ≡ self.old.limits }
+        ensures totals { self.new.totals ≡ self.old.totals }
+    {
+        let status = status_of(self.limits, self.totals, host, connections, wire);
+        if write_line(&mut self.line, &status).is_err() {
+            self.line.clear();
+        }
+    }
+}
+
+impl<S: BuildHasher, A: Allocator + Copy> Monitor<MioWire<A>, S, A> for StatusSocket<A> {
+    fn see(&mut self, turn: &Turn, host: &Host<S, A>, connections: &Loop<A>, wire: &MioWire<A>)
+        ensures limits { self.new.limits ≡ self.old.limits }
+        ensures totals { self.new.totals ≡ counted self.old.totals turn.now.tally }
+    {
+        self.totals.count(&turn.tally);
+        let Ok((first, _)) = self.listener.accept() else {
+            return;
+        };
+        self.tell(host, connections, wire);
+        answer(first, self.line.as_slice());
+        if answer_more(&self.listener, self.line.as_slice()) {
+            let _watched = watch_again(&self.registry, &mut self.listener);
+        }
+    }
+}
