@@ -15,7 +15,6 @@ import shutil
 import signal
 import subprocess
 import sys
-import tempfile
 import time
 
 TOP = os.path.dirname(os.path.dirname(os.path.abspath(__file__)))
@@ -25,8 +24,6 @@ NAME, LIBRARY = "usi_host", "usi_library"
 QUIET = 20
 # How many crates are proved at a time, at most one a processor.
 AT_ONCE = 3
-# A file system in memory, and how many bytes it has free where a proof has its many small files there while it runs.
-MEMORY, ROOM = "/dev/shm", 8 << 30
 # What each crate takes of a processor in it, in seconds. What is left is told by these and by how fast it went so far.
 USUAL = {
     "shogi_core": 102,
@@ -92,14 +89,6 @@ def minutes(seconds):
 
 def tell(text):
     print(text, file=sys.stderr, flush=True)
-
-
-def place():
-    """The folder for what is written for a moment: in memory, where there is room and TMPDIR names no other."""
-    if "TMPDIR" in os.environ or not os.access(MEMORY, os.W_OK):
-        return None
-    free = os.statvfs(MEMORY)
-    return MEMORY if free.f_bavail * free.f_frsize >= ROOM else None
 
 
 def out(crate, *path):
@@ -168,9 +157,8 @@ def take(crate, its_sum):
 class Build:
     """The crates that are to be proved, and those that are being proved."""
 
-    def __init__(self, lines, used, crates, its_sums, room):
+    def __init__(self, lines, used, crates, its_sums):
         self.lines, self.used, self.crates, self.sums = lines, used, crates, its_sums
-        self.room = room
         self.kit = os.path.dirname(os.path.dirname(os.path.realpath(shutil.which("rt"))))
         self.processors = len(os.sched_getaffinity(0))
         said = subprocess.run([f"{self.kit}/bin/rattle", "build", "--help"], capture_output=True, check=False).stdout
@@ -213,7 +201,6 @@ class Build:
                 stdin=subprocess.DEVNULL,
                 stdout=log,
                 stderr=subprocess.STDOUT,
-                env={**os.environ, "TMPDIR": self.room},
                 start_new_session=True,
                 preexec_fn=None if is_first else lambda: os.nice(10),
             )
@@ -314,18 +301,17 @@ def main():
             for it in crates:
                 take(it, its_sums[it])
             return 0
-        with tempfile.TemporaryDirectory(prefix="usi_host.", dir=place(), ignore_cleanup_errors=True) as room:
-            build = Build(lines, used, crates, its_sums, room)
-            if build.new == len(crates):
-                tell(f"Proving and building; from nothing {build.expected()} on usual cores.")
-            elif build.new:
-                tell(f"{build.proved()} were proved before.")
-            for number in (signal.SIGINT, signal.SIGTERM, signal.SIGHUP):
-                signal.signal(number, build.stop)
-            try:
-                return build.whole()
-            finally:
-                build.kill()
+        build = Build(lines, used, crates, its_sums)
+        if build.new == len(crates):
+            tell(f"Proving and building; from nothing {build.expected()} on usual cores.")
+        elif build.new:
+            tell(f"{build.proved()} were proved before.")
+        for number in (signal.SIGINT, signal.SIGTERM, signal.SIGHUP):
+            signal.signal(number, build.stop)
+        try:
+            return build.whole()
+        finally:
+            build.kill()
 
 
 if __name__ == "__main__":

@@ -5,15 +5,9 @@
 # off, it tells what it cost, and shows again what failed. The last line counts all of it.
 set -uo pipefail
 cd "$(dirname "$0")/.."
-# What is written for a moment is in memory, where that has 12 GB free and TMPDIR names no other place.
-if [ -z "${TMPDIR-}" ] && [ "$(df --output=avail -B 1G /dev/shm | tail -n 1)" -ge 12 ] 2>/dev/null; then
-    TMPDIR=/dev/shm
-fi
-TMPDIR=$(mktemp -d "${TMPDIR:-/tmp}/usi_host.XXXXXX")
-export TMPDIR
-trap 'rm -rf "$TMPDIR"' EXIT
-log=$TMPDIR/log
+log=$(mktemp)
 check/costs.py $$ & costs=$!
+trap 'rm -f "$log"' EXIT
 
 status=0
 check/readmes.py | tee "$log" || status=1
