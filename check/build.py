@@ -2,7 +2,7 @@
 """check/build.py [--passed] [NAME..]: proves and builds these programs, or the library for C; without a NAME, usi_host.
 Each crate that they stand on is proved from nothing, by the command of the toolchain that `rt ci` calls as well, and
 again only where a file of it, or of a crate below it, is another than when it was proved. First comes the crate with
-the longest chain of others behind it, by all processors; two others are proved beside it, and give way to it.
+the longest chain of others behind it, by all processors; others are proved beside it, and give way to it.
 With --passed, right after `rt ci`, nothing is built: what that proved in this tree is taken as proved.
 Standard error tells which crates are proved, after how many seconds, and about how long is left, as fast as it
 went so far. What the toolchain says is kept in `out/build.log` of each crate, and shown where it fails."""
@@ -22,34 +22,36 @@ CRATES = os.path.join(TOP, "crates")
 NAME, LIBRARY = "usi_host", "usi_library"
 # How long nothing is told at most, in seconds.
 QUIET = 20
-# How many crates are proved at a time, at most one a processor.
+# A crate is begun only beside fewer than so many, at most one a processor, that have as much behind them.
 AT_ONCE = 3
+# Beside the first, a crate gives way by one step of `nice` for each so many usual seconds that less is behind it.
+STEP = 45
 # What each crate takes of a processor in it, in seconds. What is left is told by these and by how fast it went so far.
 USUAL = {
-    "shogi_core": 103,
-    "shogi_moves": 91,
-    "shogi_replies": 52,
-    "shogi_sfen": 52,
-    "shogi_eval": 26,
-    "minimax": 8,
-    "search_nodes": 82,
-    "last_ply": 52,
-    "shogi_search": 112,
-    "shared_table": 36,
-    "usi_lines": 32,
-    "usi_texts": 35,
-    "usi_session": 117,
-    "wires": 8,
-    "stream_wire": 96,
-    "session_slots": 16,
-    "host_core": 70,
-    "socket_loop": 88,
-    "usi_stdio": 26,
-    "usi_replay": 61,
-    "usi_library": 45,
-    "usi_arguments": 73,
-    "usi_runs": 16,
-    "usi_host": 65,
+    "shogi_core": 160,
+    "shogi_moves": 124,
+    "shogi_replies": 74,
+    "shogi_sfen": 72,
+    "shogi_eval": 35,
+    "minimax": 10,
+    "search_nodes": 118,
+    "last_ply": 76,
+    "shogi_search": 146,
+    "shared_table": 38,
+    "usi_lines": 44,
+    "usi_texts": 46,
+    "usi_session": 132,
+    "wires": 13,
+    "stream_wire": 122,
+    "session_slots": 29,
+    "host_core": 98,
+    "socket_loop": 162,
+    "usi_stdio": 33,
+    "usi_replay": 89,
+    "usi_library": 70,
+    "usi_arguments": 102,
+    "usi_runs": 20,
+    "usi_host": 98,
 }
 
 
@@ -154,6 +156,13 @@ def take(crate, its_sum):
         note(crate, its_sum)
 
 
+def apart(niceness):
+    """Makes this process the first of a group, which is ended as a whole, and nicer by so much. It gets no session:
+    Linux shares the processors among sessions first, however nice what is in them."""
+    os.setpgid(0, 0)
+    os.nice(niceness)
+
+
 class Build:
     """The crates that are to be proved, and those that are being proved."""
 
@@ -192,7 +201,10 @@ class Build:
         words += ["--toolchain", f"{kit}/toolchain", "--backend", "llvm"]
         return words + (["--crate-type", "staticlib", "-o", to] if crate == LIBRARY else ["-o", unlinked(crate)])
 
-    def begin(self, crate, is_first):
+    def begin(self, crate, first):
+        """Begins to prove the crate. It gives way to the first, the more so the less is behind it."""
+        is_first = crate == first
+        niceness = min(19, (self.behind[first] - self.behind[crate]) // STEP)
         os.makedirs(out(crate, "proved"), exist_ok=True)
         with open(out(crate, "build.log"), "wb") as log:
             running = subprocess.Popen(
@@ -201,22 +213,21 @@ class Build:
                 stdin=subprocess.DEVNULL,
                 stdout=log,
                 stderr=subprocess.STDOUT,
-                start_new_session=True,
-                preexec_fn=None if is_first else lambda: os.nice(10),
+                preexec_fn=lambda: apart(niceness),
             )
         self.running[crate] = running, is_first
 
     def begin_ready(self):
         """Begins the crate with the longest chain behind it, if it waits for none, and others beside it."""
+        at_once = min(AT_ONCE, self.processors)
         unproved = {*self.left, *self.running}
         beside = {it for it, (_, is_first) in self.running.items() if not is_first}
         first = max(unproved - beside, key=self.behind.get)
         for crate in sorted(self.left, key=self.behind.get, reverse=True):
-            # While the first waits for others, a place is kept for it.
-            most = min(AT_ONCE, self.processors) - (crate != first and first in self.left)
-            if unproved.isdisjoint(self.used[crate]) and len(self.running) < most:
+            ahead = sum(self.behind[it] >= self.behind[crate] for it in self.running)
+            if unproved.isdisjoint(self.used[crate]) and ahead < at_once and len(self.running) < 2 * at_once - 1:
                 self.left.remove(crate)
-                self.begin(crate, crate == first)
+                self.begin(crate, first)
 
     def link(self, crate):
         """Links a program; what went wrong."""
@@ -248,7 +259,7 @@ class Build:
 
     def expected(self):
         """About how long all of it takes on usual cores: no crate keeps all of them busy to its end."""
-        return minutes(1.3 * self.work / self.processors)
+        return minutes(1.15 * self.work / self.processors)
 
     def after(self):
         """How long it took so far, and about how long is left once a crate was proved."""
