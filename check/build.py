@@ -82,7 +82,7 @@ def below(used, names):
 
 def usual(crates):
     """What these crates take of a processor, in usual seconds."""
-    return sum(USUAL.get(it, 20) for it in crates)
+    return sum(USUAL.get(it, 30) for it in crates)
 
 
 def minutes(seconds):
