@@ -126,11 +126,12 @@ module _ {S A : Type 0} where
   quiet_kept None q = absurd q
   quiet_kept (Some p) q = q.1
 
-  pub quiet_asks : (calls : S → Option ℕ) (room : ℕ) (a : Option (Connection S A)) → IsQuiet a → OfHeld (AsksToGive calls room (Ok Nothing)) a a
+  pub quiet_asks : (calls : S → Option (List ℕ)) (room : ℕ) (a : Option (Connection S A)) → IsQuiet a → OfHeld (AsksToGive calls room (Ok Nothing)) a a
   quiet_asks calls room None q = absurd q
   quiet_asks calls room (Some p) q = record {
     called = λ may kept some. absurd (let t : p.may_give ≡ true = may in let f : p.may_give ≡ false = q.0 in cc);
     awake = λ may found. may;
+    takes = λ may. may;
   }
 
 -- nothing more is left to be given

@@ -8,26 +8,58 @@ use Rattle.stream_wire.specs.declared.listener.Ready.TheVariants.{Listener, Stre
 use Rattle.stream_wire.specs.declared.connection.Connection.{Connection}
 use Rattle.stream_wire.specs.Streams.{NamesListener}
 use Rattle.stream_wire.specs.Held.{AreAlike, HoldsAll, HoldsOthers, IsAlike, held}
-use Rattle.stream_wire.specs.Asking.{AreAwake, AreAwakeStill, IsAwake}
+use Rattle.stream_wire.specs.Asking.{AreAwake, AreAwakeStill, IsAwake, IsAwakeStill}
 
 module _ {S A : Type 0} where
   -- the first so many are awake
   abbrev pub AwakeTo : ℕ → List Ready → List (Option (Connection S A)) → Type 0
   AwakeTo n named places = (place number : ℕ) → place < n → slice_get named place ≡ Some (Stream number) → IsAwake (held places number)
 
+  -- one that was awake is awake still
+  awake_one : (a b : Option (Connection S A)) → IsAwakeStill a b → IsAwake a → IsAwake b
+  awake_one None b still awake = still
+  awake_one (Some p) None still awake = absurd still
+  awake_one (Some p) (Some q) still awake = (still.0 awake.0, still.1 awake.1)
+
+  -- one that is awake is awake still, where it was held or is new
+  still_as : (a : Option (Connection S A)) → IsAwakeStill a a
+  still_as None = tt
+  still_as (Some p) = ((λ e. e), (λ e. e))
+
   -- what holds the same is awake still
   pub still_same : (old new : List (Option (Connection S A))) → HoldsAll old new → AreAwakeStill old new
-  still_same old new same m awake = subst (λ x. IsAwake x) (sym (same m)) awake
+  still_same old new same m = subst (λ x. IsAwakeStill (held old m) x) (sym (same m)) (still_as (held old m))
 
-  -- where one is awake and the others are as they were
-  pub still_one : (old new : List (Option (Connection S A))) (number : ℕ) → HoldsOthers old new number → IsAwake (held new number) → AreAwakeStill old new
-  still_one old new number others awake m before = elim (cases_eq m number) [
-    | inl same ↦ subst (λ (k : ℕ). IsAwake (held new k)) (sym same) awake
-    | inr apart ↦ subst (λ x. IsAwake x) (sym (others m apart)) before
+  -- where one is awake still and the others are as they were
+  pub still_one : (old new : List (Option (Connection S A))) (number : ℕ) → HoldsOthers old new number → IsAwakeStill (held old number) (held new number) → AreAwakeStill old new
+  still_one old new number others one m = elim (cases_eq m number) [
+    | inl same ↦ subst (λ (k : ℕ). IsAwakeStill (held old k) (held new k)) (sym same) one
+    | inr apart ↦ subst (λ x. IsAwakeStill (held old m) x) (sym (others m apart)) (still_as (held old m))
   ]
 
+  -- one that is alike and awake, and one that is new and awake
+  still_woken : (a b : Option (Connection S A)) → IsAlike a b → IsAwake b → IsAwakeStill a b
+  still_woken None b alike awake = awake
+  still_woken (Some p) None alike awake = absurd alike
+  still_woken (Some p) (Some q) alike awake = ((λ e. awake.0), (λ e. awake.1))
+
+  pub still_wakes : (old new : List (Option (Connection S A))) (number : ℕ) → HoldsOthers old new number → AreAlike old new → IsAwake (held new number) → AreAwakeStill old new
+  still_wakes old new number others alike awake = still_one old new number others (still_woken (held old number) (held new number) (alike number) awake)
+
+  pub still_comes : (old new : List (Option (Connection S A))) (number : ℕ) → HoldsOthers old new number → held old number ≡ None → IsAwake (held new number) → AreAwakeStill old new
+  still_comes old new number others none awake = still_one old new number others (subst (λ x. IsAwakeStill x (held new number)) (sym none) awake)
+
+  still_step : (a b d : Option (Connection S A)) → IsAwakeStill a b → IsAwakeStill b d → IsAwakeStill a d
+  still_step None b d first second = awake_one b d second first
+  still_step (Some p) None d first second = absurd first
+  still_step (Some p) (Some q) None first second = absurd second
+  still_step (Some p) (Some q) (Some r) first second = ((λ e. second.0 (first.0 e)), (λ e. second.1 (first.1 e)))
+
+  pub still_then : (old mid new : List (Option (Connection S A))) → AreAwakeStill old mid → AreAwakeStill mid new → AreAwakeStill old new
+  still_then old mid new first second m = still_step (held old m) (held mid m) (held new m) (first m) (second m)
+
   pub awake_still : (named : List Ready) (old new : List (Option (Connection S A))) → AreAwakeStill old new → AreAwake named old → AreAwake named new
-  awake_still named old new still awake place number is = still number (awake place number is)
+  awake_still named old new still awake place number is = awake_one (held old number) (held new number) (still number) (awake place number is)
 
   -- the same of those that are named after a call
   pub awake_named : (named now : List Ready) (old new : List (Option (Connection S A))) → now ≡ named → AreAwakeStill old new → AreAwake named old → AreAwake now new
@@ -37,7 +69,7 @@ module _ {S A : Type 0} where
   pub awake_more : (n : ℕ) (named : List Ready) (found : Option Ready) (old new : List (Option (Connection S A))) → found ≡ slice_get named n → ((number : ℕ) → found ≡ Some (Stream number) → IsAwake (held new number)) → AreAwakeStill old new → AwakeTo n named old → AwakeTo (n + 1) named new
   awake_more n named found old new is one still awake place number lt e = elim (cases_eq place n) [
     | inl same ↦ one number (is ∙ (ap (λ (k : ℕ). slice_get named k) (sym same) ∙ e))
-    | inr apart ↦ still number (awake place number (let a : place ≢ n = apart in omega arith) e)
+    | inr apart ↦ awake_one (held old number) (held new number) (still number) (awake place number (let a : place ≢ n = apart in omega arith) e)
   ]
 
   -- what holds the same is alike

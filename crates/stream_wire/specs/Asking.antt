@@ -8,7 +8,7 @@ use Rattle.wires.specs.declared.wire.Got.{Got}
 use Rattle.wires.specs.declared.wire.Got.TheVariants.{Nothing}
 use Rattle.wires.specs.declared.wire.WireFault.{WireFault}
 use Rattle.wires.specs.declared.wire.WireFault.TheVariants.{OutOfMemory}
-use Rattle.stream_wire.specs.Streams.{Accept, Ask, IsCalledOnce, Look, NamesListener, Wait}
+use Rattle.stream_wire.specs.Streams.{Accept, Ask, Look, NamesListener, Wait}
 use Rattle.stream_wire.specs.Held.{has_kept, held}
 use Rattle.stream_wire.specs.declared.listener.Ready.{Ready}
 use Rattle.stream_wire.specs.declared.listener.Ready.TheVariants.{Stream}
@@ -73,29 +73,38 @@ module _ {S A : Type 0} where
   abbrev pub AreAwake : List Ready → List (Option (Connection S A)) → Type 0
   AreAwake named places = (place : ℕ) → IsNamedAwake (slice_get named place) places
 
-  -- each that was awake is awake still
+  -- it is held still, its next read asks the stream if it did before, and so does its next write; one that is new is awake
+  abbrev pub IsAwakeStill : Option (Connection S A) → Option (Connection S A) → Type 0
+  IsAwakeStill None new = IsAwake new
+  IsAwakeStill (Some old) None = ⊥
+  IsAwakeStill (Some old) (Some new) =
+      (old.may_give ≡ true → new.may_give ≡ true) × (old.may_take ≡ true → new.may_take ≡ true)
+
   abbrev pub AreAwakeStill : List (Option (Connection S A)) → List (Option (Connection S A))
       → Type 0
-  AreAwakeStill old new = (number : ℕ) → IsAwake (held old number) → IsAwake (held new number)
+  AreAwakeStill old new = (number : ℕ) → IsAwakeStill (held old number) (held new number)
 
   -- nothing is kept of it, and its stream has said that it has nothing
   abbrev pub IsQuiet : Option (Connection S A) → Type 0
   IsQuiet None = ⊥
   IsQuiet (Some connection) = (connection.may_give ≡ false) × (connection.kept ≡ [])
 
-  -- a read into so much room asked the stream once, where nothing was kept of one that may give bytes, but for want of
-  -- memory; and it may give more where the read found any, or failed
-  pub record AsksToGive (calls : S → Option ℕ) (room : ℕ) (result : Result Got WireFault)
+  -- a read into so much room asked the stream for so much, once, where nothing was kept of one that may give bytes, but for
+  -- want of memory; it may give more where the read found any, or failed, and may take what it might
+  pub record AsksToGive (calls : S → Option (List ℕ)) (room : ℕ) (result : Result Got WireFault)
       (old new : Connection S A) : Type 0 where
     pub called : old.may_give ≡ true → old.kept ≡ [] → 0 < room
-        → (result ≡ Err OutOfMemory) ⊎ IsCalledOnce (calls old.stream) (calls new.stream)
+        → (result ≡ Err OutOfMemory) ⊎ Asks (calls old.stream) (calls new.stream) (room ∷ [])
     pub awake : old.may_give ≡ true → result ≢ Ok Nothing → new.may_give ≡ true
+    pub takes : old.may_take ≡ true → new.may_take ≡ true
 
-  -- a write asked the stream once, where it may take bytes; and it may take more where it took any, or failed
-  pub record AsksToTake (calls : S → Option ℕ) (result : Result ℕ WireFault)
+  -- a write of so many bytes offered them to the stream once, where it may take some; it may take more where it took any,
+  -- or failed, and may give what it might
+  pub record AsksToTake (calls : S → Option (List ℕ)) (bytes : ℕ) (result : Result ℕ WireFault)
       (old new : Connection S A) : Type 0 where
-    pub called : old.may_take ≡ true → IsCalledOnce (calls old.stream) (calls new.stream)
+    pub called : old.may_take ≡ true → Asks (calls old.stream) (calls new.stream) (bytes ∷ [])
     pub awake : old.may_take ≡ true → result ≢ Ok 0 → new.may_take ≡ true
+    pub gives : old.may_give ≡ true → new.may_give ≡ true
 
   -- the same of what is held before and after
   abbrev pub OfHeld : (Connection S A → Connection S A → Type 0)
@@ -114,7 +123,7 @@ module _ {L A S : Type 0} where
       OfHeld Relates (held old.places.items number) (held new.places.items number)
 
   -- the stream of this number was asked so by a read into this buffer
-  abbrev pub AsksByRead : (S → Option ℕ) → ℕ → List ℕ → Result Got WireFault
+  abbrev pub AsksByRead : (S → Option (List ℕ)) → ℕ → List ℕ → Result Got WireFault
       → (old new : StreamWire L A S) → Type 0
   AsksByRead calls number buf result old new =
       OfNumber number (AsksToGive calls (length buf) result) old new

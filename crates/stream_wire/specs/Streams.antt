@@ -1,6 +1,6 @@
 -- What a listener tells of the connections that a wire does not hold, and what each of its calls does to that; and what it
 -- and its streams are asked for (own choice).
-use Rattle.std.specs.Prelude.{◌≡◌, ◌+◌, ⊤, ℕ, Bool, List, Option, None, Some, Result, Ok, Err, slice_get}
+use Rattle.std.specs.Prelude.{◌≡◌, ⊤, ℕ, Bool, List, Option, Some, Result, Ok, Err, slice_get}
 use Rattle.std.specs.Io.KnownBytes.{Keeps, ReadConsumes, WriteAppends, prepend_known}
 use Rattle.wires.specs.declared.wire.WireFault.{WireFault}
 use Rattle.wires.specs.Report.{Report, IsRaised, KeepsOthers, ReportsFailure, Stays}
@@ -18,11 +18,6 @@ pub data Ask : Type 0 where
 abbrev pub NamesListener : List Ready → Type 0
 NamesListener named = (place : ℕ) × (slice_get named place ≡ Some Listener)
 
--- a stream that tells how often it was called was called once
-abbrev pub IsCalledOnce : Option ℕ → Option ℕ → Type 0
-IsCalledOnce None new = ⊤
-IsCalledOnce (Some count) new = new ≡ Some (count + 1)
-
 -- all is told as it was, but for the bytes of this number
 pub record KeepsElse (old new : Report) (number : ℕ) : Type 0 where
   pub shut : Stays (old.is_shut number) (new.is_shut number)
@@ -39,12 +34,12 @@ abbrev pub Sends : {S E : Type 0} → (S → Option (List ℕ)) → (old new : S
     → Result ℕ E → List ℕ → Type 0
 Sends contents old new result buf = WriteAppends (contents old) (contents new) result buf
 
--- what streams tell: the bytes that they took and have left, and how often they were called
+-- what streams tell: the bytes that they took and have left, and how many bytes each call was about
 abbrev pub Streams : Type 0 → Type 0
 Streams S = record {
   contents : S → Option (List ℕ);
   remaining : S → Option (List ℕ);
-  calls : S → Option ℕ;
+  calls : S → Option (List ℕ);
 }
 
 module _ {S : Type 0} (streams : Streams S) where

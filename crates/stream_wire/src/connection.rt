@@ -8,7 +8,6 @@ ghost use Rattle.wires.specs.declared.wire.Got.TheVariants.{Nothing};
 ghost use Rattle.wires.specs.declared.wire.WireFault.TheVariants.{OutOfMemory};
 ghost use Rattle.stream_wire.specs.Asking.{AsksToGive, AsksToTake, GivesKept, IsAwake};
 ghost use Rattle.stream_wire.specs.Held.{HasGiven, HasTaken, unread_of, written_of};
-ghost use Rattle.stream_wire.specs.Streams.{IsCalledOnce};
 
 use crate::kept::Kept;
 use crate::listener::Duplex;
@@ -112,7 +111,7 @@ impl<S: Duplex, A: Allocator + Copy> Connection<S, A> {
         ensures unread { Keeps (unread_of S.remaining self.old) (unread_of S.remaining self.new) }
         ensures written { HasTaken S.contents self.old self.new (bytes_written result buf.now) }
         ensures kept { self.new.kept ≡ self.old.kept }
-        ensures asked { AsksToTake S.calls result self.old self.new }
+        ensures asked { AsksToTake S.calls (length buf.now) result self.old self.new }
     {
         if !self.may_take {
             return Ok(0);

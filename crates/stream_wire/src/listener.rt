@@ -5,7 +5,7 @@ ghost use Rattle.std.specs.Io.{ReadsAtMost, WritesAtMost};
 ghost use Rattle.std.specs.Io.KnownBytes.{Keeps};
 ghost use Rattle.wires.specs.Asked.{Asks};
 ghost use Rattle.wires.specs.Report.{Report, KeepsAll, nothing_reported};
-ghost use Rattle.stream_wire.specs.Streams.{Accept, Ask, HandsOut, HasBack, IsCalledOnce, IsToldFailed, IsToldShut, KeepsElse, Look, Receives, Sends, Wait};
+ghost use Rattle.stream_wire.specs.Streams.{Accept, Ask, HandsOut, HasBack, IsToldFailed, IsToldShut, KeepsElse, Look, Receives, Sends, Wait};
 ghost use Rattle.stream_wire.specs.declared.listener.Ready.{Ready};
 
 use std::io;
@@ -14,22 +14,23 @@ use std::time::Duration;
 
 /// A stream both ways, where a read leaves what was written, and a write what is to be read.
 pub trait Duplex: Read + Write + Drop {
-    /// How often it was asked to give or to take bytes. It may not tell.
-    ghost calls: { Self → Option ℕ } = { λ _. None };
+    /// For how many bytes it had room in each call of `receive`, and how many it was offered in each
+    /// of `send`, in their order. It may not tell.
+    ghost calls: { Self → Option (List ℕ) } = { λ _. None };
 
     /// A `read` of the stream.
     fn receive(&mut self, buf: &mut [u8]) -> io::Result<usize>
         ensures bound { ReadsAtMost result buf.new }
         ensures bytes { Receives Self.remaining self.old self.new result buf.new }
         ensures written { Keeps (Self.contents self.old) (Self.contents self.new) }
-        ensures called { IsCalledOnce (calls self.old) (calls self.new) };
+        ensures called { Asks (calls self.old) (calls self.new) (length buf.old ∷ []) };
 
     /// A `write` of the stream.
     fn send(&mut self, buf: &[u8]) -> io::Result<usize>
         ensures bound { WritesAtMost result buf.now }
         ensures bytes { Sends Self.contents self.old self.new result buf.now }
         ensures unread { Keeps (Self.remaining self.old) (Self.remaining self.new) }
-        ensures called { IsCalledOnce (calls self.old) (calls self.new) };
+        ensures called { Asks (calls self.old) (calls self.new) (length buf.now ∷ []) };
 }
 
 /// Who may be ready.

@@ -6,7 +6,7 @@ ghost use Rattle.wires.specs.Report.{GivesNumber, HasCause, HasRisen, IsWithin, 
 ghost use Rattle.wires.specs.declared.wire.Got.TheVariants.{Nothing};
 ghost use Rattle.wires.specs.declared.wire.WireFault.TheVariants.{Device};
 ghost use Rattle.stream_wire.specs.Asking.{AreAwake, AreAwakeStill, AsksByAccept, AsksByRead, AsksByWait, AsksNext, AsksToTake, GivesKept, IsNamedAwake, LeavesMore, OfNumber, OpensIfNamed, StaysOpen, WakesByWait};
-ghost use Rattle.stream_wire.specs.Held.{AreAlike, kept_of};
+ghost use Rattle.stream_wire.specs.Held.{AreAlike, HoldsOthers, kept_of};
 ghost use Rattle.stream_wire.specs.Reporting.{CountsRead, CountsWrite, KeepsReport, ReportsRead, ReportsShut, ReportsWrite};
 ghost use Rattle.stream_wire.specs.Streams.{Notes};
 ghost use Rattle.stream_wire.specs.declared.listener.Ready.TheVariants as who;
@@ -199,6 +199,7 @@ impl<L: Listener, A: Allocator + Copy> StreamWire<L, A> {
         ensures awake { OnOk result
             (AreAwake (L.named self.new.listener) self.new.places.items) }
         ensures named { OnOk result (OpensIfNamed L.named self.new) }
+        ensures still { AreAwakeStill self.old.places.items self.new.places.items }
         ensures opens { self.old.may_accept ≡ true → self.new.may_accept ≡ true }
         ensures next { self.new.next ≡ self.old.next }
         ensures more { self.new.has_more ≡ self.old.has_more }
@@ -284,6 +285,7 @@ impl<L: Listener, A: Allocator + Copy> StreamWire<L, A> {
         ensures first { GivesKept (kept_of self.old.places.items number) result buf.new }
         ensures asks { L.asked self.new.listener ≡ L.asked self.old.listener }
         ensures gives { AsksByRead L.Stream.calls number buf.old result self.old self.new }
+        ensures others { HoldsOthers self.old.places.items self.new.places.items number }
         ensures opens { self.new.may_accept ≡ self.old.may_accept }
         ensures more { LeavesMore number self.old self.new }
         ensures received { self.new.received ≡ self.old.received }
@@ -305,7 +307,9 @@ impl<L: Listener, A: Allocator + Copy> StreamWire<L, A> {
         ensures written { ReportsWrite ⟦<Self as Wire>⟧ self.old self.new number result buf.now }
         ensures cause { HasCause self.old.failed self.new.failed result }
         ensures asks { L.asked self.new.listener ≡ L.asked self.old.listener }
-        ensures takes { OfNumber number (AsksToTake L.Stream.calls result) self.old self.new }
+        ensures takes { OfNumber number
+            (AsksToTake L.Stream.calls (length buf.now) result) self.old self.new }
+        ensures others { HoldsOthers self.old.places.items self.new.places.items number }
         ensures opens { self.new.may_accept ≡ self.old.may_accept }
         ensures more { self.new.has_more ≡ self.old.has_more }
         ensures received { self.new.received ≡ self.old.received }
@@ -339,6 +343,7 @@ impl<L: Listener, A: Allocator + Copy> Wire for StreamWire<L, A> {
         ensures opens { StaysOpen result self.old.may_accept self.new.may_accept }
         ensures awake { OnOk result
             (AreAwake (L.named self.new.listener) self.new.places.items) }
+        ensures still { AreAwakeStill self.old.places.items self.new.places.items }
         ensures more { self.new.has_more ≡ self.old.has_more }
         ensures received { self.new.received ≡ self.old.received }
         ensures sent { self.new.sent ≡ self.old.sent }
@@ -362,6 +367,7 @@ impl<L: Listener, A: Allocator + Copy> Wire for StreamWire<L, A> {
         ensures first { GivesKept (kept_of self.old.places.items number) result buf.new }
         ensures asks { L.asked self.new.listener ≡ L.asked self.old.listener }
         ensures gives { AsksByRead L.Stream.calls number buf.old result self.old self.new }
+        ensures others { HoldsOthers self.old.places.items self.new.places.items number }
         ensures opens { self.new.may_accept ≡ self.old.may_accept }
         ensures more { LeavesMore number self.old self.new }
         ensures received { CountsRead self.old self.new result buf.new }
@@ -381,7 +387,9 @@ impl<L: Listener, A: Allocator + Copy> Wire for StreamWire<L, A> {
         ensures written { ReportsWrite ⟦<Self as Wire>⟧ self.old self.new number result buf.now }
         ensures cause { HasCause self.old.failed self.new.failed result }
         ensures asks { L.asked self.new.listener ≡ L.asked self.old.listener }
-        ensures takes { OfNumber number (AsksToTake L.Stream.calls result) self.old self.new }
+        ensures takes { OfNumber number
+            (AsksToTake L.Stream.calls (length buf.now) result) self.old self.new }
+        ensures others { HoldsOthers self.old.places.items self.new.places.items number }
         ensures opens { self.new.may_accept ≡ self.old.may_accept }
         ensures more { self.new.has_more ≡ self.old.has_more }
         ensures sent { CountsWrite self.old self.new result buf.now }
@@ -396,6 +404,7 @@ impl<L: Listener, A: Allocator + Copy> Wire for StreamWire<L, A> {
     fn shut(&mut self, number: u64)
         ensures bound { self.new.next ≡ self.old.next }
         ensures shut { ReportsShut ⟦<Self as Wire>⟧ self.old self.new number }
+        ensures others { HoldsOthers self.old.places.items self.new.places.items number }
         ensures faults { self.old.failed ≤ self.new.failed }
         ensures asks { L.asked self.new.listener ≡ L.asked self.old.listener }
         ensures opens { self.new.may_accept ≡ self.old.may_accept }
@@ -416,6 +425,7 @@ impl<L: Listener, A: Allocator + Copy> Wire for StreamWire<L, A> {
         ensures cause { HasCause self.old.failed self.new.failed result }
         ensures asks { AsksByWait L.asked idle self.old self.new }
         ensures awake { OnOk result (WakesByWait L.named idle self.old self.new) }
+        ensures still { AreAwakeStill self.old.places.items self.new.places.items }
         ensures opens { self.old.may_accept ≡ true → self.new.may_accept ≡ true }
         ensures more { self.new.has_more ≡ (self.old.has_more && not idle) }
         ensures received { self.new.received ≡ self.old.received }

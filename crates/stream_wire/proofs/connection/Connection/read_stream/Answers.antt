@@ -19,10 +19,11 @@ returns-then-is_empty-clause-asked g c = record {
     | then-is_empty-via-else-is_empty+then-not-self w ↦ (let t : c.args.self.now.may_give ≡ true = may in let f : c.args.self.now.may_give ≡ false = w.if-not-self.true in cc)
   ] in absurd none);
   awake = λ may found. may;
+  takes = λ may. may;
 }
 
 pub returns-in-Ok-eq0-clause-asked : goal.returns-in-Ok-eq0-clause-asked
-returns-in-Ok-eq0-clause-asked g c = record { called = λ may kept room. inr c.receive.ensures.called; awake = λ may found. may }
+returns-in-Ok-eq0-clause-asked g c = record { called = λ may kept room. inr c.receive.ensures.called; awake = λ may found. may; takes = λ may. may }
 
 -- bytes came
 pub within-requires-clause-empty : goal.within-requires-clause-empty
@@ -51,7 +52,7 @@ pub returns-then-not-is_empty-clause-written : goal.returns-then-not-is_empty-cl
 returns-then-not-is_empty-clause-written g c = c.receive.ensures.written
 
 pub returns-then-not-is_empty-clause-asked : goal.returns-then-not-is_empty-clause-asked
-returns-then-not-is_empty-clause-asked g c = record { called = λ may kept room. inr c.receive.ensures.called; awake = λ may found. may }
+returns-then-not-is_empty-clause-asked g c = record { called = λ may kept room. inr c.receive.ensures.called; awake = λ may found. may; takes = λ may. may }
 
 pub returns-else-not-is_empty-clause-within : goal.returns-else-not-is_empty-clause-within
 returns-else-not-is_empty-clause-within g c = line_within c.receive.new.buf c.split_at.result.0.now c.cut_line.result.0.now c.cut_line.result.1.now c.in-Ok.n c.split_at.ensures.front c.cut_line.ensures.whole c.in-Ok.n-test.1 c.in-Ok.ensures.bound.0 c.cut_line.ensures.shorter
@@ -70,7 +71,7 @@ pub returns-else-not-is_empty-clause-written : goal.returns-else-not-is_empty-cl
 returns-else-not-is_empty-clause-written g c = c.receive.ensures.written
 
 pub returns-else-not-is_empty-clause-asked : goal.returns-else-not-is_empty-clause-asked
-returns-else-not-is_empty-clause-asked g c = record { called = λ may kept room. inr c.receive.ensures.called; awake = λ may found. may }
+returns-else-not-is_empty-clause-asked g c = record { called = λ may kept room. inr c.receive.ensures.called; awake = λ may found. may; takes = λ may. may }
 
 -- none came
 pub returns-in-Err-clause-unread : goal.returns-in-Err-clause-unread
@@ -80,7 +81,7 @@ pub returns-in-Err-clause-written : goal.returns-in-Err-clause-written
 returns-in-Err-clause-written g c = c.receive.ensures.written
 
 pub returns-in-Err-clause-asked : goal.returns-in-Err-clause-asked
-returns-in-Err-clause-asked g c = record { called = λ may kept room. inr c.receive.ensures.called; awake = λ may found. absurd (found refl) }
+returns-in-Err-clause-asked g c = record { called = λ may kept room. inr c.receive.ensures.called; awake = λ may found. absurd (found refl); takes = λ may. may }
 
 pub returns-in-Err-2-clause-unread : goal.returns-in-Err-2-clause-unread
 returns-in-Err-2-clause-unread g c = gives_none g.S.Read.remaining c.args.self.now (record c.args.self.now { stream = c.receive.new.self }) refl c.in-Err-2.ensures.bytes
@@ -89,7 +90,7 @@ pub returns-in-Err-2-clause-written : goal.returns-in-Err-2-clause-written
 returns-in-Err-2-clause-written g c = c.receive.ensures.written
 
 pub returns-in-Err-2-clause-asked : goal.returns-in-Err-2-clause-asked
-returns-in-Err-2-clause-asked g c = record { called = λ may kept room. inr c.receive.ensures.called; awake = λ may found. may }
+returns-in-Err-2-clause-asked g c = record { called = λ may kept room. inr c.receive.ensures.called; awake = λ may found. may; takes = λ may. may }
 
 pub returns-clause-unread : goal.returns-clause-unread
 returns-clause-unread g c = gives_none g.S.Read.remaining c.args.self.now (record c.args.self.now { stream = c.receive.new.self }) refl c.in-Err-3.ensures.bytes
@@ -98,4 +99,4 @@ pub returns-clause-written : goal.returns-clause-written
 returns-clause-written g c = c.receive.ensures.written
 
 pub returns-clause-asked : goal.returns-clause-asked
-returns-clause-asked g c = record { called = λ may kept room. inr c.receive.ensures.called; awake = λ may found. may }
+returns-clause-asked g c = record { called = λ may kept room. inr c.receive.ensures.called; awake = λ may found. may; takes = λ may. may }

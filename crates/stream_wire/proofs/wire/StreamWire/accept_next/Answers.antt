@@ -5,7 +5,7 @@ use Rattle.stream_wire.specs.Streams.{Accept, KeepsElse}
 use Rattle.stream_wire.proofs.Asked.{asked_no_next}
 use Rattle.stream_wire.proofs.Outcomes.{cause_of_ok, not_below}
 use Rattle.stream_wire.proofs.Reports.{alike_keeps, comes}
-use Rattle.stream_wire.proofs.Waking.{same_alike, still_one, still_same}
+use Rattle.stream_wire.proofs.Waking.{same_alike, still_comes, still_same, still_then}
 use Rattle.stream_wire.proofs.wire.StreamWire.accept_next.Goals as goal
 
 -- the stream has the bytes that were told of its number
@@ -94,7 +94,7 @@ pub returns-in-Ok-clause-named : goal.returns-in-Ok-clause-named
 returns-in-Ok-clause-named g c = c.accept.ensures.named
 
 pub returns-in-Ok-clause-awake : goal.returns-in-Ok-clause-awake
-returns-in-Ok-clause-awake g c = λ number awake. still_one c.free_place.new.places.items c.put.new.places.items c.new.result.number c.put.ensures.others (rw c.put.ensures.held c.new.ensures.awake) number (still_same c.args.self.now.places.items c.free_place.new.places.items c.free_place.ensures.same number awake)
+returns-in-Ok-clause-awake g c = still_then c.args.self.now.places.items c.free_place.new.places.items c.put.new.places.items (still_same c.args.self.now.places.items c.free_place.new.places.items c.free_place.ensures.same) (still_comes c.free_place.new.places.items c.put.new.places.items c.new.result.number c.put.ensures.others c.put.ensures.none (rw c.put.ensures.held c.new.ensures.awake))
 
 -- nobody waits
 pub returns-in-Err-clause-cause : goal.returns-in-Err-clause-cause

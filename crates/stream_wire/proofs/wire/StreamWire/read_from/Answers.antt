@@ -27,6 +27,9 @@ returns-in_default-clause-first g c = λ some. absurd (some (none_kept (held c.a
 pub returns-in_default-clause-more : goal.returns-in_default-clause-more
 returns-in_default-clause-more g c = rw (c.answer.ensures.places, c.answer.ensures.more) (no_more c.args.self.now.has_more _ (none_kept (held c.take_out.new.places.items c.args.number) c.take_out.ensures.none))
 
+pub returns-in_default-clause-others : goal.returns-in_default-clause-others
+returns-in_default-clause-others g c = rw c.answer.ensures.places c.take_out.ensures.others
+
 -- the connection is put back into its place
 pub put-requires-clause-room : goal.put-requires-clause-room
 put-requires-clause-room g c = subst (λ (k : _). k % PLACES < vec_len c.take_out.new.places) (sym (c.read-got.ensures.number ∙ c.in-Some.ensures.number)) c.in-Some.ensures.room
@@ -56,3 +59,8 @@ returns-clause-line g c = rw c.answer-2.ensures.same c.read-got.ensures.line
 
 pub returns-clause-first : goal.returns-clause-first
 returns-clause-first g c = rw (c.answer-2.ensures.same, kept_held (held c.args.self.now.places.items c.args.number) c.in-Some.connection (sym c.take_out.ensures.out ∙ c.in-Some.is)) c.read-got.ensures.first
+
+pub returns-clause-others : goal.returns-clause-others
+returns-clause-others g c =
+    let same : c.read-got.new.self.number ≡ c.args.number = c.read-got.ensures.number ∙ c.in-Some.ensures.number in
+    rw c.answer-2.ensures.places (others_then c.args.self.now.places.items c.take_out.new.places.items c.put.new.places.items c.args.number c.read-got.new.self.number same c.take_out.ensures.others c.put.ensures.others)

@@ -1,6 +1,6 @@
 use Rattle.std.proofs.Common.{length, refl, ap, ◌∙◌}
 use Rattle.stream_wire.proofs.Outcomes.{cause_of_ok, not_below}
-use Rattle.stream_wire.proofs.Waking.{at_end, awake_all, awake_more, awake_none, named_all, named_more, named_none, same_alike, still_alike}
+use Rattle.stream_wire.proofs.Waking.{at_end, awake_all, awake_more, awake_none, named_all, named_more, named_none, same_alike, still_alike, still_same, still_then}
 use Rattle.stream_wire.proofs.wire.StreamWire.remember.Goals as goal
 
 -- one more is awake, or it is the listener
@@ -13,6 +13,7 @@ loop-place-preserved g c =
       opens = λ e. c.note.ensures.opens (c.loop-place.invariant.opens e);
       listener = c.note.ensures.listener ∙ c.loop-place.invariant.listener;
       alike = still_alike c.args.self.now.places.items c.loop-place.self.places.items c.note.new.self.places.items c.loop-place.invariant.alike c.note.ensures.alike;
+      still = still_then c.args.self.now.places.items c.loop-place.self.places.items c.note.new.self.places.items c.loop-place.invariant.still c.note.ensures.still;
       next = c.note.ensures.next ∙ c.loop-place.invariant.next;
       failed = c.note.ensures.failed ∙ c.loop-place.invariant.failed;
       more = c.note.ensures.more ∙ c.loop-place.invariant.more;
@@ -29,6 +30,7 @@ loop-place-init g c = record {
   opens = λ e. e;
   listener = refl;
   alike = same_alike c.args.self.now.places.items c.args.self.now.places.items (λ n. refl);
+  still = still_same c.args.self.now.places.items c.args.self.now.places.items (λ n. refl);
   next = refl;
   failed = refl;
   more = refl;
@@ -43,6 +45,9 @@ returns-clause-cause g c = rw c.loop-place.invariant.failed (cause_of_ok _ c.arg
 
 pub returns-clause-alike : goal.returns-clause-alike
 returns-clause-alike g c = c.loop-place.invariant.alike
+
+pub returns-clause-still : goal.returns-clause-still
+returns-clause-still g c = c.loop-place.invariant.still
 
 pub returns-clause-awake : goal.returns-clause-awake
 returns-clause-awake g c = awake_all c.loop-place.place (g.L.Listener.named c.loop-place.self.listener) c.loop-place.self.places.items (at_end c.loop-place.place c.found-place-end.result _ _ c.loop-place-test.false c.loop-place.auto.place-end c.found-place-end.ensures (ap (λ x. length (g.L.Listener.named x)) c.loop-place.invariant.listener)) c.loop-place.invariant.awake
@@ -59,6 +64,9 @@ returns-then-is_err-clause-cause g c = (c.fault.ensures.rises, λ e. c.fault.ens
 
 pub returns-then-is_err-clause-alike : goal.returns-then-is_err-clause-alike
 returns-then-is_err-clause-alike g c = rw c.fault.ensures.places (same_alike c.args.self.now.places.items c.args.self.now.places.items (λ n. refl))
+
+pub returns-then-is_err-clause-still : goal.returns-then-is_err-clause-still
+returns-then-is_err-clause-still g c = rw c.fault.ensures.places (still_same c.args.self.now.places.items c.args.self.now.places.items (λ n. refl))
 
 pub returns-then-is_err-clause-opens : goal.returns-then-is_err-clause-opens
 returns-then-is_err-clause-opens g c = λ may. c.fault.ensures.opens ∙ may

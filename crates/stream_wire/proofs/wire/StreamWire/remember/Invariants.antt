@@ -1,5 +1,6 @@
 use Rattle.std.proofs.Common.{◌≡◌, true}
 use Rattle.stream_wire.specs.Held.{AreAlike}
+use Rattle.stream_wire.specs.Asking.{AreAwakeStill}
 use Rattle.stream_wire.proofs.Waking.{AwakeTo, NamedTo}
 use Rattle.stream_wire.proofs.wire.StreamWire.remember.Given as goal
 
@@ -11,6 +12,7 @@ invariant-loop-place g l = record {
   opens : l.fn.self.may_accept ≡ true → l.self.may_accept ≡ true;
   listener : l.self.listener ≡ l.fn.self.listener;
   alike : AreAlike l.fn.self.places.items l.self.places.items;
+  still : AreAwakeStill l.fn.self.places.items l.self.places.items;
   next : l.self.next ≡ l.fn.self.next;
   failed : l.self.failed ≡ l.fn.self.failed;
   more : l.self.has_more ≡ l.fn.self.has_more;

@@ -21,6 +21,9 @@ returns-in_default-clause-asks g c = c.answer.ensures.asks
 pub returns-in_default-clause-takes : goal.returns-in_default-clause-takes
 returns-in_default-clause-takes g c = of_none _ (held c.args.self.now.places.items c.args.number) _ (sym c.take_out.ensures.out ∙ c.in_default.is)
 
+pub returns-in_default-clause-others : goal.returns-in_default-clause-others
+returns-in_default-clause-others g c = rw c.answer.ensures.places c.take_out.ensures.others
+
 -- the connection is put back into its place
 pub put-requires-clause-room : goal.put-requires-clause-room
 put-requires-clause-room g c = subst (λ (k : _). k % PLACES < vec_len c.take_out.new.places) (sym (c.write-taken.ensures.number ∙ c.in-Some.ensures.number)) c.in-Some.ensures.room
@@ -44,3 +47,8 @@ pub returns-clause-takes : goal.returns-clause-takes
 returns-clause-takes g c =
     let same : c.write-taken.new.self.number ≡ c.args.number = c.write-taken.ensures.number ∙ c.in-Some.ensures.number in
     rw (c.answer-2.ensures.same, c.answer-2.ensures.places) (of_held _ (held c.args.self.now.places.items c.args.number) (held c.put.new.places.items c.args.number) c.in-Some.connection c.write-taken.new.self (sym c.take_out.ensures.out ∙ c.in-Some.is) (held_as c.put.new.places.items c.args.number c.write-taken.new.self.number c.write-taken.new.self same c.put.ensures.held) c.write-taken.ensures.asked)
+
+pub returns-clause-others : goal.returns-clause-others
+returns-clause-others g c =
+    let same : c.write-taken.new.self.number ≡ c.args.number = c.write-taken.ensures.number ∙ c.in-Some.ensures.number in
+    rw c.answer-2.ensures.places (others_then c.args.self.now.places.items c.take_out.new.places.items c.put.new.places.items c.args.number c.write-taken.new.self.number same c.take_out.ensures.others c.put.ensures.others)

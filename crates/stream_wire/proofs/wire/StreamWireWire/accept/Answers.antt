@@ -1,10 +1,10 @@
-use Rattle.std.proofs.Common.{ap, ◌∙◌}
+use Rattle.std.proofs.Common.{refl, ap, ◌∙◌}
 use Rattle.wires.proofs.Reported.{kept_then}
 use Rattle.stream_wire.specs.Held.{reported}
 use Rattle.stream_wire.proofs.Asked.{asked_next, asked_nobody, asked_unmoved}
 use Rattle.stream_wire.proofs.Outcomes.{cause_of_ok, cause_then, on_ok, stays_open}
 use Rattle.stream_wire.proofs.Reports.{alike_keeps, looked, unmoved}
-use Rattle.stream_wire.proofs.Waking.{awake_named}
+use Rattle.stream_wire.proofs.Waking.{awake_named, still_same, still_then}
 use Rattle.stream_wire.proofs.wire.StreamWireWire.accept.Goals as goal
 
 -- a look leaves all that is reported, and so does what is accepted
@@ -33,6 +33,9 @@ returns-clause-opens g c = stays_open c.take_in.result c.args.self.now.may_accep
 pub returns-clause-awake : goal.returns-clause-awake
 returns-clause-awake g c = on_ok c.take_in.result _ (awake_named (g.L.Listener.named c.remember.new.self.listener) (g.L.Listener.named c.take_in.new.self.listener) c.remember.new.self.places.items c.take_in.new.self.places.items c.take_in.ensures.named c.take_in.ensures.awake c.in_ok-remember.ensures.awake)
 
+pub returns-clause-still : goal.returns-clause-still
+returns-clause-still g c = still_then c.args.self.now.places.items c.remember.new.self.places.items c.take_in.new.self.places.items c.remember.ensures.still c.take_in.ensures.awake
+
 pub take_in-requires : goal.take_in-requires
 take_in-requires g c = record { left = rw c.remember.ensures.next c.if-self.false }
 
@@ -51,11 +54,17 @@ returns-then-not-self-clause-asks g c = asked_nobody c.args.self.now.may_accept 
 pub returns-then-not-self-clause-awake : goal.returns-then-not-self-clause-awake
 returns-then-not-self-clause-awake g c = c.in_ok-remember.ensures.awake
 
+pub returns-then-not-self-clause-still : goal.returns-then-not-self-clause-still
+returns-then-not-self-clause-still g c = c.remember.ensures.still
+
 -- a look that failed
 pub returns-in_err-remember-clause-kept : goal.returns-in_err-remember-clause-kept
 returns-in_err-remember-clause-kept g c =
     let told = g.L.Listener.told in
     looked g.L.Stream.Read.remaining g.L.Stream.Write.contents (told c.args.self.now.listener) (told c.look-looked.new.self) (told c.remember.new.self.listener) c.args.self.now.places.items c.remember.new.self.places.items (ap told c.remember.ensures.listener) c.remember.ensures.alike c.look-looked.ensures.kept
+
+pub returns-in_err-remember-clause-still : goal.returns-in_err-remember-clause-still
+returns-in_err-remember-clause-still g c = c.remember.ensures.still
 
 -- no number is left
 pub returns-then-self-clause-kept : goal.returns-then-self-clause-kept
@@ -68,6 +77,9 @@ returns-then-self-clause-cause g c = (c.fault.ensures.rises, λ e. c.fault.ensur
 
 pub returns-then-self-clause-asks : goal.returns-then-self-clause-asks
 returns-then-self-clause-asks g c = asked_unmoved c.args.self.now.may_accept _ _ _ c.fault.result (ap g.L.Listener.asked c.fault.ensures.listener)
+
+pub returns-then-self-clause-still : goal.returns-then-self-clause-still
+returns-then-self-clause-still g c = rw c.fault.ensures.places (still_same c.args.self.now.places.items c.args.self.now.places.items (λ n. refl))
 
 pub returns-then-self-clause-opens : goal.returns-then-self-clause-opens
 returns-then-self-clause-opens g c = λ may. c.fault.ensures.opens ∙ may

@@ -1,3 +1,4 @@
+use Rattle.std.proofs.Common.{refl}
 use Rattle.stream_wire.specs.Asking.{IsQuiet}
 use Rattle.stream_wire.specs.Held.{held}
 use Rattle.stream_wire.proofs.Outcomes.{cause_of_ok, not_below}
@@ -27,6 +28,9 @@ returns-then-is_quiet-clause-more g c =
     let quiet : IsQuiet (held c.args.self.now.places.items c.args.number) = rw c.as_slice.ensures.value at c.is_quiet.ensures c.if-is_quiet.true in
     no_more c.args.self.now.has_more _ (quiet_kept (held c.args.self.now.places.items c.args.number) quiet)
 
+pub returns-then-is_quiet-clause-others : goal.returns-then-is_quiet-clause-others
+returns-then-is_quiet-clause-others g c = λ other apart. refl
+
 -- else it is asked
 pub given_by-requires : goal.given_by-requires
 given_by-requires g c = c.read_from-got.ensures.read.within
@@ -51,3 +55,6 @@ returns-clause-gives g c = c.read_from-got.ensures.gives
 
 pub returns-clause-more : goal.returns-clause-more
 returns-clause-more g c = c.read_from-got.ensures.more
+
+pub returns-clause-others : goal.returns-clause-others
+returns-clause-others g c = c.read_from-got.ensures.others

@@ -1,9 +1,10 @@
-use Rattle.std.proofs.Common.{◌≡◌, true, false, ap}
+use Rattle.std.proofs.Common.{◌≡◌, true, false, refl, ap}
 use Rattle.wires.proofs.Asked.{asks_none}
 use Rattle.wires.proofs.Reported.{kept_same}
 use Rattle.stream_wire.proofs.Asked.{more_goes, more_stays, waits_no_more, waits_not, waits_once}
 use Rattle.stream_wire.proofs.Outcomes.{cause_of_ok, not_below, on_ok_then}
 use Rattle.stream_wire.proofs.Reports.{looked}
+use Rattle.stream_wire.proofs.Waking.{still_same}
 use Rattle.stream_wire.proofs.wire.StreamWireWire.wait.Goals as goal
 
 pub returns-then-not-idle-clause-kept : goal.returns-then-not-idle-clause-kept
@@ -17,6 +18,9 @@ returns-then-not-idle-clause-asks g c = rw (waits_not c.args.idle c.args.self.no
 
 pub returns-then-not-idle-clause-awake : goal.returns-then-not-idle-clause-awake
 returns-then-not-idle-clause-awake g c = λ idle none. absurd (let t : c.args.idle ≡ true = idle in let f : c.args.idle ≡ false = c.if-not-idle.true in cc)
+
+pub returns-then-not-idle-clause-still : goal.returns-then-not-idle-clause-still
+returns-then-not-idle-clause-still g c = still_same c.args.self.now.places.items c.args.self.now.places.items (λ n. refl)
 
 pub returns-then-not-idle-clause-more : goal.returns-then-not-idle-clause-more
 returns-then-not-idle-clause-more g c = more_stays c.args.self.now.has_more c.args.idle c.if-not-idle.true
@@ -32,6 +36,9 @@ returns-then-self-clause-asks g c = rw (waits_no_more c.args.idle c.args.self.no
 
 pub returns-then-self-clause-awake : goal.returns-then-self-clause-awake
 returns-then-self-clause-awake g c = λ idle none. absurd (let t : c.args.self.now.has_more ≡ true = c.if-self.true in let f : c.args.self.now.has_more ≡ false = none in cc)
+
+pub returns-then-self-clause-still : goal.returns-then-self-clause-still
+returns-then-self-clause-still g c = still_same c.args.self.now.places.items c.args.self.now.places.items (λ n. refl)
 
 pub returns-then-self-clause-more : goal.returns-then-self-clause-more
 returns-then-self-clause-more g c = more_goes c.args.self.now.has_more c.args.idle c.if-not-idle.false
@@ -49,3 +56,6 @@ returns-clause-asks g c = rw (c.remember.ensures.listener, waits_once c.args.idl
 
 pub returns-clause-awake : goal.returns-clause-awake
 returns-clause-awake g c = on_ok_then c.remember.result _ _ (λ awake idle none. awake) c.remember.ensures.awake
+
+pub returns-clause-still : goal.returns-clause-still
+returns-clause-still g c = c.remember.ensures.still
