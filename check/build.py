@@ -262,11 +262,11 @@ class Build:
         return minutes(1.15 * self.work / self.processors)
 
     def after(self):
-        """How long it took so far, and about how long is left once a crate was proved."""
+        """How long it took so far, and about how long is left once a twentieth was proved."""
         now = time.time()
         rest = usual([*self.left, *self.running])
         text = f"after {now - self.start:.0f} s"
-        if self.work > rest > 0:
+        if 0 < rest < 0.95 * self.work:
             pace = (self.last - self.start) / (self.work - rest)
             text += f", {minutes(max(0.0, pace * rest - (now - self.last)))} left"
         return text
