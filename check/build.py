@@ -2,7 +2,7 @@
 """check/build.py [--passed] [NAME..]: proves and builds these programs, or the library for C; without a NAME, usi_host.
 Each crate that they stand on is proved from nothing, by the command of the toolchain that `rt ci` calls as well, and
 again only where a file of it, or of a crate below it, is another than when it was proved. First comes the crate with
-the longest chain of others behind it, by all processors; others are proved beside it, and give way to it.
+the longest chain of others behind it, by all processors; two others are proved beside it, and give way to it.
 With --passed, right after `rt ci`, nothing is built: what that proved in this tree is taken as proved.
 Standard error tells which crates are proved, after how many seconds, and about how long is left, as fast as it
 went so far. What the toolchain says is kept in `out/build.log` of each crate, and shown where it fails."""
@@ -22,10 +22,8 @@ CRATES = os.path.join(TOP, "crates")
 NAME, LIBRARY = "usi_host", "usi_library"
 # How long nothing is told at most, in seconds.
 QUIET = 20
-# A crate is begun only beside fewer than so many, at most one a processor, that have as much behind them.
+# How many crates are proved at a time, at most one a processor.
 AT_ONCE = 3
-# Beside the first, a crate gives way by one step of `nice` for each so many usual seconds that less is behind it.
-STEP = 45
 # What each crate takes of a processor in it, in seconds. What is left is told by these and by how fast it went so far.
 USUAL = {
     "shogi_core": 160,
@@ -156,13 +154,6 @@ def take(crate, its_sum):
         note(crate, its_sum)
 
 
-def apart(niceness):
-    """Makes this process the first of a group, which is ended as a whole, and nicer by so much. It gets no session:
-    Linux shares the processors among sessions first, however nice what is in them."""
-    os.setpgid(0, 0)
-    os.nice(niceness)
-
-
 class Build:
     """The crates that are to be proved, and those that are being proved."""
 
@@ -201,10 +192,7 @@ class Build:
         words += ["--toolchain", f"{kit}/toolchain", "--backend", "llvm"]
         return words + (["--crate-type", "staticlib", "-o", to] if crate == LIBRARY else ["-o", unlinked(crate)])
 
-    def begin(self, crate, first):
-        """Begins to prove the crate. It gives way to the first, the more so the less is behind it."""
-        is_first = crate == first
-        niceness = min(19, (self.behind[first] - self.behind[crate]) // STEP)
+    def begin(self, crate, is_first):
         os.makedirs(out(crate, "proved"), exist_ok=True)
         with open(out(crate, "build.log"), "wb") as log:
             running = subprocess.Popen(
@@ -213,21 +201,22 @@ class Build:
                 stdin=subprocess.DEVNULL,
                 stdout=log,
                 stderr=subprocess.STDOUT,
-                preexec_fn=lambda: apart(niceness),
+                start_new_session=True,
+                preexec_fn=None if is_first else lambda: os.nice(10),
             )
         self.running[crate] = running, is_first
 
     def begin_ready(self):
         """Begins the crate with the longest chain behind it, if it waits for none, and others beside it."""
-        at_once = min(AT_ONCE, self.processors)
         unproved = {*self.left, *self.running}
         beside = {it for it, (_, is_first) in self.running.items() if not is_first}
         first = max(unproved - beside, key=self.behind.get)
         for crate in sorted(self.left, key=self.behind.get, reverse=True):
-            ahead = sum(self.behind[it] >= self.behind[crate] for it in self.running)
-            if unproved.isdisjoint(self.used[crate]) and ahead < at_once and len(self.running) < 2 * at_once - 1:
+            # While the first waits for others, a place is kept for it.
+            most = min(AT_ONCE, self.processors) - (crate != first and first in self.left)
+            if unproved.isdisjoint(self.used[crate]) and len(self.running) < most:
                 self.left.remove(crate)
-                self.begin(crate, first)
+                self.begin(crate, crate == first)
 
     def link(self, crate):
         """Links a program; what went wrong."""
@@ -259,7 +248,7 @@ class Build:
 
     def expected(self):
         """About how long all of it takes on usual cores: no crate keeps all of them busy to its end."""
-        return minutes(1.15 * self.work / self.processors)
+        return minutes(1.25 * self.work / self.processors)
 
     def after(self):
         """How long it took so far, and about how long is left once a twentieth was proved."""
