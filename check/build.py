@@ -2,7 +2,7 @@
 """check/build.py [--passed] [NAME..]: proves and builds these programs, or the library for C; without a NAME, usi_host.
 Each crate that they stand on is proved from nothing, by the command of the toolchain that `rt ci` calls as well, and
 again only where a file of it, or of a crate below it, is another than when it was proved. First comes the crate with
-the longest chain of others behind it, by all processors; two others are proved beside it, and give way to it.
+the longest chain of others behind it, by all processors; two others are proved beside it, of less priority.
 With --passed, right after `rt ci`, nothing is built: what that proved in this tree is taken as proved.
 Standard error tells which crates are proved, after how many seconds, and about how long is left, as fast as it
 went so far. What the toolchain says is kept in `out/build.log` of each crate, and shown where it fails."""
@@ -24,6 +24,9 @@ NAME, LIBRARY = "usi_host", "usi_library"
 QUIET = 20
 # How many crates are proved at a time, at most one a processor.
 AT_ONCE = 3
+# What is begun only after another crate, though it doesn't stand on it: beside it the first ones, for which all others
+# wait, take twice as long.
+AFTER = {"usi_arguments": "shogi_search"}
 # What each crate takes of a processor in it, in seconds. What is left is told by these and by how fast it went so far.
 USUAL = {
     "shogi_core": 160,
@@ -214,7 +217,7 @@ class Build:
         for crate in sorted(self.left, key=self.behind.get, reverse=True):
             # While the first waits for others, a place is kept for it.
             most = min(AT_ONCE, self.processors) - (crate != first and first in self.left)
-            if unproved.isdisjoint(self.used[crate]) and len(self.running) < most:
+            if unproved.isdisjoint([*self.used[crate], AFTER.get(crate)]) and len(self.running) < most:
                 self.left.remove(crate)
                 self.begin(crate, crate == first)
 
