@@ -35,7 +35,7 @@ use Rattle.shogi_moves.proofs.Keeps.{is_safe_from_legal}
 use Rattle.shogi_moves.proofs.KeepsBoard.{IsSafeBoardMove, safe_board_move}
 use Rattle.shogi_moves.proofs.LegalLaws.{in_legal, legal_in, legal_code_below, is_legal_code_of, after_code_at, no_piece}
 use Rattle.shogi_eval.specs.declared.eval.Eval.{Eval}
-use Rattle.shogi_eval.specs.declared.eval.Eval.TheVariants.{Plain, Hand}
+use Rattle.shogi_eval.specs.declared.eval.Eval.TheVariants.{Plain, Hand, Exchange}
 use Rattle.shogi_eval.specs.declared.gain.TheConstants.{PROMOTION_GAIN_MAX}
 use Rattle.shogi_eval.specs.Material.{material_of, taken_gain, promotion_gain, drop_gain, value_of}
 use Rattle.shogi_eval.proofs.Gains.{material_after_board, material_after_drop}
@@ -137,6 +137,7 @@ enters_some p from reach squares rb n h set = enters p from reach rb n h (and_pa
 -- no drop gains
 drop_gain_most : (e : Eval) (kind : Kind) → drop_gain e kind ≤ℤ pos 0
 drop_gain_most Plain kind = omega (arith, ints)
+drop_gain_most Exchange kind = omega (arith, ints)
 drop_gain_most Hand kinds.Pawn = omega (arith, ints)
 drop_gain_most Hand kinds.Lance = omega (arith, ints)
 drop_gain_most Hand kinds.Knight = omega (arith, ints)

@@ -21,6 +21,7 @@ use Rattle.shogi_replies.specs.Replies.{IsAnswered}
 use Rattle.shogi_eval.specs.declared.eval.Eval.{Eval}
 use Rattle.shogi_eval.specs.declared.gain.TheConstants.{PROMOTION_GAIN_MAX}
 use Rattle.shogi_eval.specs.Evaluated.{Evaluated}
+use Rattle.shogi_eval.specs.Exchange.{left_by, settles}
 use Rattle.shogi_eval.specs.Material.{material_of, taken_gain}
 use Rattle.minimax.specs.Minimax.{negated, lost_value, IsTrueEntry}
 use Rattle.minimax.specs.declared.entry.Entry.{Entry}
@@ -70,7 +71,14 @@ base_of node = material_of node.position node.eval
 abbrev pub score_at : Shogi → Eval → ℕ → ℤ
 score_at p e code = negated (material_of (after_code p code) e)
 
+-- what it leaves: the same, once the other side has settled it under an evaluation that does so
+abbrev pub left_score : Shogi → Eval → ℕ → ℤ
+left_score p e code = negated (left_by p e code)
+
 -- the same of a node
+abbrev pub left_of : Evaluated → ℕ → ℤ
+left_of node = left_score node.position node.eval
+
 abbrev pub score_of : Evaluated → ℕ → ℤ
 score_of node = score_at node.position node.eval
 
@@ -299,3 +307,7 @@ NodeScoresAtMost node v = ScoresAtMost node.position node.eval v
 
 abbrev pub NodeScoresFromAtMost : Evaluated → ℤ → ℕ → Type 0
 NodeScoresFromAtMost node v from = ScoresFromAtMost node.position node.eval from v
+
+-- captures at the end of a line are not settled under its evaluation
+abbrev pub SettlesNone : Evaluated → Type 0
+SettlesNone node = settles node.eval ≡ false

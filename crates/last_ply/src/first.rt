@@ -172,7 +172,7 @@ impl Scene<'_> {
                 m.validity();
                 return Entry::Exact(MATE, Some(m));
             }
-            let score = self.score_with(&m);
+            let score = self.left_with(&m);
             if score > most {
                 most = score;
                 first = Some(m);

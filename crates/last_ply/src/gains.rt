@@ -1,23 +1,26 @@
 //! What the legal moves of a node score at most.
 
-ghost use Rattle.std.specs.Prelude.{◌≡◌, ◌<◌, ◌≤◌, ◌^◌, ◌+◌, ◌*◌, ◌≤ℤ◌, ◌<ℤ◌, ◌-ℤ◌, ◌+ℤ◌, pos, true, false, ℕ};
+ghost use Rattle.std.specs.Prelude.{◌≡◌, ◌<◌, ◌≤◌, ◌^◌, ◌+◌, ◌*◌, ◌≤ℤ◌, ◌<ℤ◌, ◌-ℤ◌, ◌+ℤ◌, ◌&&◌, not, pos, true, false, ℕ, Some};
 ghost use Rattle.shogi_core.specs.Codes.{code_of};
 ghost use Rattle.shogi_core.specs.Movement.{reaches};
+ghost use Rattle.shogi_moves.specs.After.{after_code};
 ghost use Rattle.shogi_moves.specs.Destinations.{is_own, AreEnterable, IsWithin};
 ghost use Rattle.shogi_moves.specs.Legal.{is_legal};
 ghost use Rattle.shogi_moves.specs.LegalMoves.{legal_codes};
 ghost use Rattle.shogi_moves.specs.Rising.{is_in};
 ghost use Rattle.shogi_eval.specs.declared.gain.TheConstants.{PROMOTION_GAIN_MAX};
 ghost use Rattle.shogi_eval.specs.declared.points.TheConstants.{PIECE_VALUE_MAX, POINTS_MAX};
-ghost use Rattle.last_ply.specs.LastPly.{base_of, is_legal_board_move, score_of, HasReachers, NodeHasScore, NodeScoresAmongAtMost, NodeScoresAtMost, NodeScoresFromAtMost, NodeScoresToAtMost, OnEach, Outside, ScoresTo, StillGainAtMost, TakesLittle};
+ghost use Rattle.shogi_eval.specs.Exchange.{best_settled, is_quiet, settles};
+ghost use Rattle.last_ply.specs.LastPly.{base_of, is_legal_board_move, left_of, score_of, HasReachers, NodeHasScore, NodeScoresAmongAtMost, NodeScoresAtMost, NodeScoresFromAtMost, NodeScoresToAtMost, OnEach, Outside, ScoresTo, StillGainAtMost, TakesLittle};
 ghost use Rattle.last_ply.specs.Scenes.{OthersCannotMove, OthersScoreAtMost, OthersTakeLittle};
 
 use crate::scene::Scene;
+use static_exchange::{best_settled, is_quiet};
 use shogi_core::bits::{lowest, without_lowest};
 use shogi_core::zones::{promoting_squares, squares_near_zone};
 use shogi_core::{Color, Move, Piece, Role, Square, Squares, aligned_squares, near_squares};
 use shogi_eval::{Eval, PROMOTION_GAIN_MAX, promotion_gain, taken_gain};
-use shogi_moves::{legal_destinations, takers};
+use shogi_moves::{apply, legal_destinations, takers};
 
 /// The most that the capture of a piece that does not slide gains, that of a gold.
 fn still_gain(e: Eval) -> u32
@@ -45,7 +48,44 @@ impl Scene<'_> {
         0 - self.node.score_after(m)
     }
 
-    /// The same, or the floor where that is no less.
+    /// Whether what the move leaves is settled.
+    fn is_settled_after(&self, m: &Move) -> bool
+        ensures { result ≡ (settles self.now.node.now.eval
+            && not (is_quiet self.now.node.now.position (Some m.now))) }
+    {
+        self.node.eval().settles() && !is_quiet(self.node.as_position(), m)
+    }
+
+    /// What the other side has after the legal move, once it has settled a square.
+    #[inline(never)]
+    fn settled_after(&self, m: &Move) -> i32
+        requires { is_legal self.now.node.now.position m.now ≡ true }
+        ensures value { result ≡ best_settled (after_code self.now.node.now.position (code_of m.now))
+            self.now.node.now.eval }
+        ensures least { (pos 0 -ℤ pos POINTS_MAX) ≤ℤ result }
+        ensures most { result ≤ℤ pos POINTS_MAX }
+    {
+        let next = apply(self.node.as_position(), *m);
+        best_settled(&next, self.node.eval())
+    }
+
+    /// What the legal move leaves: what it scores, once the other side has settled it under an
+    /// evaluation that does so.
+    pub fn left_with(&self, m: &Move) -> i32
+        requires { is_legal self.now.node.now.position m.now ≡ true }
+        ensures value { result ≡ left_of self.now.node.now (code_of m.now) }
+        ensures least { (pos 0 -ℤ pos POINTS_MAX) ≤ℤ result }
+        ensures most { result ≤ℤ pos POINTS_MAX }
+    {
+        m.validity();
+        if self.is_settled_after(m) {
+            0 - self.settled_after(m)
+        } else {
+            self.score_with(m)
+        }
+    }
+
+    /// The same as `score_with`, or the floor where that is no less.
     pub fn most_with(&self, m: &Move, floor: i32) -> i32
         requires { is_legal self.now.node.now.position m.now ≡ true }
         ensures least { floor ≤ℤ result }

@@ -6,3 +6,4 @@ pub mod MinimaxLaws
 pub mod Left
 pub mod Best
 pub mod Lines
+pub mod Settling

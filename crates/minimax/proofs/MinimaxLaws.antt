@@ -1,5 +1,5 @@
 -- Laws of the minimax value, of the best move and of the size of the tree.
-use Rattle.std.proofs.Common.{◌≡◌, ◌<◌, ◌≤◌, ◌+◌, ◌-◌, ℕ, zero, suc, ℤ, pos, ◌-ℤ◌, ◌≤ℤ◌, ◌<ℤ◌, List, [], ◌∷◌, true, Option, None, refl, ap, ◌∙◌, sym, arith, find}
+use Rattle.std.proofs.Common.{◌≡◌, ◌<◌, ◌≤◌, ◌+◌, ◌-◌, ℕ, zero, suc, ℤ, pos, ◌-ℤ◌, ◌≤ℤ◌, ◌<ℤ◌, List, [], ◌∷◌, true, false, Option, None, refl, ap, ◌∙◌, sym, arith, find}
 use Rattle.std.specs.List.{sum_by}
 use Rattle.std.specs.Ordering.{int_eq}
 use Rattle.std.proofs.lemmas.Int.{ints}
@@ -14,7 +14,9 @@ use Rattle.shogi_eval.specs.declared.points.TheConstants.{POINTS_MAX}
 use Rattle.shogi_eval.specs.Material.{material_of}
 use Rattle.shogi_eval.proofs.Bounds.{material_bounds}
 use Rattle.shogi_eval.specs.declared.eval.Eval.{Eval}
-use Rattle.minimax.specs.Minimax.{value, best, best_code, move_of_some, tree_size, worth, lost_value, negated, greatest_or, if_no_move_else, sum_of_tree_sizes}
+use Rattle.shogi_eval.specs.Exchange.{left_by, settles}
+use Rattle.minimax.proofs.Settling.{IsBounded, left_bounded, left_plain}
+use Rattle.minimax.specs.Minimax.{value, ended, best, best_code, move_of_some, tree_size, worth, lost_value, negated, greatest_or, if_no_move_else, sum_of_tree_sizes}
 use Rattle.minimax.proofs.Greatest.{greatest_or-above, greatest_or-least}
 use Rattle.minimax.proofs.Valid.{after_valid}
 use Rattle.minimax.specs.declared.bounds.TheConstants.{MATE}
@@ -39,7 +41,8 @@ best-code p eval d code e = ap move_of_some e
 
 pub value-suc : (p : Shogi) (eval : Eval) (d : ℕ) → value p eval (suc d) ≡ greatest_or (lost_value (suc d)) (worth p eval d) (legal_codes p)
 unfolding value
-value-suc p eval d = refl
+value-suc p eval zero = refl
+value-suc p eval (suc d) = refl
 
 pub best_code-suc : (p : Shogi) (eval : Eval) (d : ℕ) → best_code p eval (suc d) ≡ find (λ m. int_eq (worth p eval d m) (value p eval (suc d))) (legal_codes p)
 unfolding best_code
@@ -63,7 +66,7 @@ leaf_within [] v l h = record { least = omega (arith, ints); most = omega (arith
 leaf_within (m ∷ ms) v l h = record { least = omega (arith, ints); most = omega (arith, ints) }
 
 -- the worth of a move with d plies after it
-record WorthWithin (d : ℕ) (w : ℤ) : Type 0 where
+pub record WorthWithin (d : ℕ) (w : ℤ) : Type 0 where
   pub least : lost_value d ≤ℤ w
   pub most : w ≤ℤ (MATE +ℤ pos d)
 
@@ -79,9 +82,23 @@ greatest_within d f (m ∷ ms) h =
 negated_within : (d : ℕ) (v : ℤ) → Within d v → WorthWithin d (negated v)
 negated_within d v h = record { least = omega (arith, ints); most = omega (arith, ints) }
 
+-- a move that ends a line
+ended_within : (p : Shogi) (eval : Eval) (m : ℕ) → IsValid p → is_in m (legal_codes p) ≡ true → Within 0 (ended p eval m)
+ended_within p eval m v i =
+    let b : IsBounded (left_by p eval m) = left_bounded p eval m (after_valid p m v i) in
+    leaf_within (legal_codes (after_code p m)) (left_by p eval m) b.least b.most
+
+worth_within : (d : ℕ) (p : Shogi) (eval : Eval) (m : ℕ) → IsValid p → is_in m (legal_codes p) ≡ true → ((q : Shogi) → IsValid q → Within d (value q eval d)) → WorthWithin d (worth p eval d m)
+worth_within zero p eval m v i h = negated_within 0 _ (ended_within p eval m v i)
+worth_within (suc d) p eval m v i h = negated_within (suc d) _ (h (after_code p m) (after_valid p m v i))
+
 pub value_within : (d : ℕ) (p : Shogi) (eval : Eval) → IsValid p → Within d (value p eval d)
 value_within zero p eval v = rw value-leaf (leaf_within (legal_codes p) (material_of p eval) (material_bounds p eval v).0 (material_bounds p eval v).1)
-value_within (suc d) p eval v = rw value-suc (greatest_within d (worth p eval d) (legal_codes p) (λ m i. negated_within d _ (value_within d (after_code p m) eval (after_valid p m v i))))
+value_within (suc d) p eval v = rw value-suc (greatest_within d (worth p eval d) (legal_codes p) (λ m i. worth_within d p eval m v i (λ q w. value_within d q eval w)))
+
+-- of a legal move
+pub worth_bounds : (d : ℕ) (p : Shogi) (eval : Eval) (m : ℕ) → IsValid p → is_in m (legal_codes p) ≡ true → WorthWithin d (worth p eval d m)
+worth_bounds d p eval m v i = worth_within d p eval m v i (λ q w. value_within d q eval w)
 
 -- the same laws at a depth d of at least 1, whose children have depth d - 1
 pub value-above : (p : Shogi) (eval : Eval) (d : ℕ) → 0 < d → value p eval d ≡ greatest_or (lost_value d) (worth p eval (d - 1)) (legal_codes p)
@@ -120,9 +137,34 @@ pub tree_size-positive : (p : Shogi) (d : ℕ) → 1 ≤ tree_size p d
 tree_size-positive p zero = rw tree_size-leaf (omega arith)
 tree_size-positive p (suc d) = rw tree_size-suc (omega arith)
 
--- what a child's value says of its move
-pub worth_from : (p : Shogi) (eval : Eval) (d m : ℕ) (q : Shogi) (r : ℤ) → r ≡ value q eval d → q ≡ after_code p m → worth p eval d m ≡ pos 0 -ℤ r
-worth_from p eval d m q r e a = ap (λ (x : Shogi). pos 0 -ℤ value x eval d) (sym a) ∙ ap (λ (x : ℤ). pos 0 -ℤ x) (sym e)
+-- what a child's value says of its move, where it has plies left
+pub worth_from : (p : Shogi) (eval : Eval) (d m : ℕ) (q : Shogi) (r : ℤ) → 0 < d → r ≡ value q eval d → q ≡ after_code p m → worth p eval d m ≡ pos 0 -ℤ r
+worth_from p eval zero m q r h e a = absurd (omega arith)
+worth_from p eval (suc d) m q r h e a = ap (λ (x : Shogi). pos 0 -ℤ value x eval (suc d)) (sym a) ∙ ap (λ (x : ℤ). pos 0 -ℤ x) (sym e)
+
+pub worth_deep : (p : Shogi) (eval : Eval) (d m : ℕ) → 0 < d → worth p eval d m ≡ negated (value (after_code p m) eval d)
+worth_deep p eval zero m h = absurd (omega arith)
+worth_deep p eval (suc d) m h = refl
+
+-- and where it has none
+leaf_worth : (p : Shogi) (eval : Eval) (m : ℕ) (ms : List ℕ) → settles eval ≡ false → if_no_move_else (lost_value 0) (left_by p eval m) ms ≡ if_no_move_else (lost_value 0) (material_of (after_code p m) eval) ms
+leaf_worth p eval m ms h = ap (λ (v : ℤ). if_no_move_else (lost_value 0) v ms) (left_plain p eval m h)
+
+-- the same at any depth under an evaluation that settles nothing
+pub worth_plain : (p : Shogi) (eval : Eval) (d m : ℕ) → settles eval ≡ false → worth p eval d m ≡ negated (value (after_code p m) eval d)
+worth_plain p eval zero m h = ap negated (leaf_worth p eval m (legal_codes (after_code p m)) h ∙ sym (value-leaf (after_code p m) eval))
+worth_plain p eval (suc d) m h = refl
+
+-- a move is worth no more than its score, unless it mates; a side without a move is worth less than any
+pub ended_none : (p : Shogi) (eval : Eval) (m : ℕ) → legal_codes (after_code p m) ≡ [] → ended p eval m ≡ lost_value 0
+ended_none p eval m none = ap (if_no_move_else (lost_value 0) (left_by p eval m)) none
+
+ended_at : (p : Shogi) (eval : Eval) (m : ℕ) (ms : List ℕ) → legal_codes (after_code p m) ≡ ms → (ms ≡ [] → ⊥) → ended p eval m ≡ left_by p eval m
+ended_at p eval m [] e ne = absurd (ne refl)
+ended_at p eval m (c ∷ cs) e ne = ap (if_no_move_else (lost_value 0) (left_by p eval m)) e
+
+pub ended_some : (p : Shogi) (eval : Eval) (m : ℕ) → (legal_codes (after_code p m) ≡ [] → ⊥) → ended p eval m ≡ left_by p eval m
+ended_some p eval m ne = ended_at p eval m (legal_codes (after_code p m)) refl ne
 
 -- a move that is worth so much
 pub cut : (p : Shogi) (eval : Eval) (d m : ℕ) (v : ℤ) → 0 < d → is_in m (legal_codes p) ≡ true → v ≤ℤ worth p eval (d - 1) m → v ≤ℤ value p eval d

@@ -9,6 +9,7 @@ use Rattle.shogi_moves.specs.After.{after, after_code}
 use Rattle.shogi_moves.specs.LegalMoves.{legal_codes}
 use Rattle.shogi_eval.specs.declared.eval.Eval.{Eval}
 use Rattle.shogi_eval.specs.Material.{material_of}
+use Rattle.shogi_eval.specs.Exchange.{left_by}
 use Rattle.minimax.specs.declared.entry.Entry.{Entry}
 use Rattle.minimax.specs.declared.entry.Entry.TheVariants.{Exact, AtLeast, AtMost}
 use Rattle.minimax.specs.declared.bounds.TheConstants.{MATE}
@@ -38,16 +39,24 @@ abbrev pub if_no_move_else : ℤ → ℤ → List ℕ → ℤ
 if_no_move_else lost static_value [] = lost
 if_no_move_else lost static_value (code ∷ codes) = static_value
 
+-- the value of the position after the move that ends a line, for the side to move then
+abbrev pub ended : Shogi → Eval → ℕ → ℤ
+ended p e code =
+    if_no_move_else (lost_value 0) (left_by p e code) (legal_codes (after_code p code))
+
 -- the value of a position at a depth, for the side to move
 unfoldable pub value : Shogi → Eval → ℕ → ℤ
 value p e zero = if_no_move_else (lost_value 0) (material_of p e) (legal_codes p)
-value p e (suc d) =
-    greatest_or (lost_value (suc d)) (λ code. negated (value (after_code p code) e d))
+value p e (suc zero) =
+    greatest_or (lost_value 1) (λ code. negated (ended p e code)) (legal_codes p)
+value p e (suc (suc d)) =
+    greatest_or (lost_value (suc (suc d))) (λ code. negated (value (after_code p code) e (suc d)))
     (legal_codes p)
 
 -- what the move of a code is worth to its mover, with d plies after it
 abbrev pub worth : Shogi → Eval → ℕ → ℕ → ℤ
-worth p e d code = negated (value (after_code p code) e d)
+worth p e zero code = negated (ended p e code)
+worth p e (suc d) code = negated (value (after_code p code) e (suc d))
 
 -- the least code whose move is worth the position's value; none at depth 0, and where no move is legal
 unfoldable pub best_code : Shogi → Eval → ℕ → Option ℕ

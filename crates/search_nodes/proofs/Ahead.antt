@@ -28,12 +28,14 @@ use Rattle.shogi_eval.specs.declared.eval.Eval.{Eval}
 use Rattle.shogi_eval.specs.Material.{material_of, drop_gain, taken_gain, promotion_gain}
 use Rattle.shogi_eval.proofs.Gains.{material_after_board, material_after_drop}
 use Rattle.shogi_eval.proofs.Bounds.{material_bounds}
+use Rattle.shogi_eval.specs.Exchange.{settles, left_by, is_quiet}
+use Rattle.minimax.proofs.Settling.{IsBounded, left_bounded, left_quiet}
 use Rattle.shogi_eval.specs.Losses.{LosesAtMost}
 use Rattle.search_nodes.specs.Threats.{IsAttacked, TakesAfter}
-use Rattle.minimax.specs.Minimax.{value, worth, negated, if_no_move_else, lost_value, greatest_or}
+use Rattle.minimax.specs.Minimax.{value, worth, ended, negated, if_no_move_else, lost_value, greatest_or}
 use Rattle.minimax.specs.Window.{threshold}
 use Rattle.minimax.proofs.Greatest.{greatest_or-above}
-use Rattle.minimax.proofs.MinimaxLaws.{value-leaf, value-suc}
+use Rattle.minimax.proofs.MinimaxLaws.{value-leaf, value-suc, worth_plain}
 use Rattle.minimax.proofs.Valid.{after_valid, board_of, drop_of}
 
 -- a move changes nothing in the other side's hand, so after it no drop loses more
@@ -72,30 +74,31 @@ pub value_leaf_most : (r : Shogi) (e : Eval) → IsValid r → value r e 0 ≤�
 value_leaf_most r e v = rw value-leaf (leaf_most (legal_codes r) (material_of r e) (let b : _ = material_bounds r e v in omega (arith, ints, b.0)))
 
 -- a side is worth at depth 1 what a legal move leaves it, or more
-value_reply : (q : Shogi) (e : Eval) (code : ℕ) → IsValid q → is_in code (legal_codes q) ≡ true → negated (material_of (after_code q code) e) ≤ℤ value q e 1
-value_reply q e code v i =
+value_reply : (q : Shogi) (e : Eval) (plain : settles e ≡ false) (code : ℕ) → IsValid q → is_in code (legal_codes q) ≡ true → negated (material_of (after_code q code) e) ≤ℤ value q e 1
+value_reply q e plain code v i =
     let leaf : value (after_code q code) e 0 ≤ℤ material_of (after_code q code) e = value_leaf_most (after_code q code) e (after_valid q code v i) in
     let above : worth q e 0 code ≤ℤ greatest_or (lost_value 1) (worth q e 0) (legal_codes q) = greatest_or-above (lost_value 1) (worth q e 0) (legal_codes q) code i in
     let is_value : value q e 1 ≡ greatest_or (lost_value 1) (worth q e 0) (legal_codes q) = value-suc q e 0 in
-    omega (arith, ints, leaf, above, is_value)
+    let counted : worth q e 0 code ≡ negated (value (after_code q code) e 0) = worth_plain q e 0 code plain in
+    omega (arith, ints, leaf, above, is_value, counted)
 
 -- so where it has a legal move it is worth its material without that loss, or more
-value_least : (q : Shogi) (e : Eval) (loss : ℤ) (codes : List ℕ) → codes ≡ legal_codes q → IsValid q → pos 0 ≤ℤ loss → LosesAtMost q.hands q.side e loss → codes ≢ [] → (material_of q e -ℤ loss) ≤ℤ value q e 1
-value_least q e loss [] is v h l some = absurd (some refl)
-value_least q e loss (c ∷ cs) is v h l some =
+value_least : (q : Shogi) (e : Eval) (plain : settles e ≡ false) (loss : ℤ) (codes : List ℕ) → codes ≡ legal_codes q → IsValid q → pos 0 ≤ℤ loss → LosesAtMost q.hands q.side e loss → codes ≢ [] → (material_of q e -ℤ loss) ≤ℤ value q e 1
+value_least q e plain loss [] is v h l some = absurd (some refl)
+value_least q e plain loss (c ∷ cs) is v h l some =
     let i : is_in c (legal_codes q) ≡ true = subst (λ (xs : List ℕ). is_in c xs ≡ true) is (or_left _ _ (eq-eqb c c refl)) in
     let left : material_of (after_code q c) e ≤ℤ negated (material_of q e -ℤ loss) = reply_left q e loss c v h l i in
-    let worth_so : negated (material_of (after_code q c) e) ≤ℤ value q e 1 = value_reply q e c v i in
+    let worth_so : negated (material_of (after_code q c) e) ≤ℤ value q e 1 = value_reply q e plain c v i in
     omega (arith, ints, left, worth_so)
 
 -- and where it may take a piece, its material and what that gains, or more
-value_taking : (q : Shogi) (e : Eval) (a t : ℕ) (promote : Bool) (cell : Option Piece) → IsValid q → a < 81 → t < 81 → MayTake q a t promote cell → (material_of q e +ℤ pos (taken_gain e cell + promotion_gain promote (piece_at q.cells a))) ≤ℤ value q e 1
-value_taking q e a t promote cell v ha ht may =
+value_taking : (q : Shogi) (e : Eval) (plain : settles e ≡ false) (a t : ℕ) (promote : Bool) (cell : Option Piece) → IsValid q → a < 81 → t < 81 → MayTake q a t promote cell → (material_of q e +ℤ pos (taken_gain e cell + promotion_gain promote (piece_at q.cells a))) ≤ℤ value q e 1
+value_taking q e plain a t promote cell v ha ht may =
     let back : move_of (code_of (Board a t promote)) ≡ Some (Board a t promote) = move_of-board a t promote ha ht in
     let law : material_of (after q (Board a t promote)) e ≡ pos 0 -ℤ (material_of q e +ℤ pos (taken_gain e (piece_at q.cells t) + promotion_gain promote (piece_at q.cells a))) = material_after_board q e a t promote v ha ht may.legal in
     let gain : taken_gain e (piece_at q.cells t) ≡ taken_gain e cell = ap (taken_gain e) may.stands in
     let made : material_of (after_code q (code_of (Board a t promote))) e ≡ material_of (after q (Board a t promote)) e = ap (λ (r : Shogi). material_of r e) (after_code_of q (Board a t promote) back) in
-    let worth_so : negated (material_of (after_code q (code_of (Board a t promote))) e) ≤ℤ value q e 1 = value_reply q e (code_of (Board a t promote)) v (legal_to_listed q (Board a t promote) back may.legal) in
+    let worth_so : negated (material_of (after_code q (code_of (Board a t promote))) e) ≤ℤ value q e 1 = value_reply q e plain (code_of (Board a t promote)) v (legal_to_listed q (Board a t promote) back may.legal) in
     omega (arith, ints, law, gain, made, worth_so)
 
 -- a legal move leaves a valid position
@@ -116,9 +119,9 @@ attacker_off p (Drop kind to) a t leaves same = leaves.attacker_stays (sym same)
 
 -- a threat that stands after the move gains what it did
 pub threat_gain : (p : Shogi) (e : Eval) (m : Move) (a t gain : ℕ) (promote : Bool) → IsValid p → move_of (code_of m) ≡ Some m → is_legal p m ≡ true → IsThreat p a t promote → gain ≡ taken_gain e (piece_at p.cells t) + promotion_gain promote (piece_at p.cells a) → LeavesThreat p a t m → TakesAfter p e m gain
-threat_gain p e m a t gain promote v back legal threat is leaves = λ keeps retakes.
+threat_gain p e m a t gain promote v back legal threat is leaves = λ plain keeps retakes.
     let valid : IsValid (after p m) = valid_after p m v back (legal_to_listed p m back legal) in
-    let least : (material_of (after p m) e +ℤ pos (taken_gain e (piece_at p.cells t) + promotion_gain promote (piece_at (after p m).cells a))) ≤ℤ value (after p m) e 1 = value_taking (after p m) e a t promote (piece_at p.cells t) valid threat.attack.attacker.on_board threat.attack.on_board (keeps a t promote threat leaves) in
+    let least : (material_of (after p m) e +ℤ pos (taken_gain e (piece_at p.cells t) + promotion_gain promote (piece_at (after p m).cells a))) ≤ℤ value (after p m) e 1 = value_taking (after p m) e plain a t promote (piece_at p.cells t) valid threat.attack.attacker.on_board threat.attack.on_board (keeps a t promote threat leaves) in
     let same : promotion_gain promote (piece_at (after p m).cells a) ≡ promotion_gain promote (piece_at p.cells a) = ap (promotion_gain promote) (kept_at p m a legal threat.attack.attacker.theirs (attacker_off p m a t leaves)) in
     omega (arith, ints, least, same, is)
 
@@ -127,10 +130,10 @@ unpromoted None = refl
 unpromoted (Some piece) = refl
 
 -- a capture of what it puts on its square gains that
-pub taken_left : (p : Shogi) (e : Eval) (m : Move) → IsValid p → move_of (code_of m) ≡ Some m → is_legal p m ≡ true → IsTaken p m → (material_of (after p m) e +ℤ pos (taken_gain e (put_by p m))) ≤ℤ value (after p m) e 1
-taken_left p e m v back legal taken =
+pub taken_left : (p : Shogi) (e : Eval) (plain : settles e ≡ false) (m : Move) → IsValid p → move_of (code_of m) ≡ Some m → is_legal p m ≡ true → IsTaken p m → (material_of (after p m) e +ℤ pos (taken_gain e (put_by p m))) ≤ℤ value (after p m) e 1
+taken_left p e plain m v back legal taken =
     let valid : IsValid (after p m) = valid_after p m v back (legal_to_listed p m back legal) in
-    let least : (material_of (after p m) e +ℤ pos (taken_gain e (put_by p m) + promotion_gain false (piece_at (after p m).cells taken.taker))) ≤ℤ value (after p m) e 1 = value_taking (after p m) e taken.taker (end_of m) false (put_by p m) valid taken.on_board.0 taken.on_board.1 taken.takes in
+    let least : (material_of (after p m) e +ℤ pos (taken_gain e (put_by p m) + promotion_gain false (piece_at (after p m).cells taken.taker))) ≤ℤ value (after p m) e 1 = value_taking (after p m) e plain taken.taker (end_of m) false (put_by p m) valid taken.on_board.0 taken.on_board.1 taken.takes in
     let none : promotion_gain false (piece_at (after p m).cells taken.taker) ≡ 0 = unpromoted (piece_at (after p m).cells taken.taker) in
     omega (arith, ints, least, none)
 
@@ -141,7 +144,7 @@ retaken p m to ends retakes attacked =
     record { taker = attacked.0; on_board = (attack.attacker.on_board, attack.on_board); takes = retakes attacked.0 false attack }
 
 pub retake_gain : (p : Shogi) (e : Eval) (m : Move) (to gain : ℕ) → IsValid p → move_of (code_of m) ≡ Some m → is_legal p m ≡ true → end_of m ≡ to → IsAttacked p to → gain ≡ taken_gain e (put_by p m) → TakesAfter p e m gain
-retake_gain p e m to gain v back legal ends attacked is = λ keeps retakes. omega (arith, ints, taken_left p e m v back legal (retaken p m to ends retakes attacked), is)
+retake_gain p e m to gain v back legal ends attacked is = λ plain keeps retakes. omega (arith, ints, taken_left p e plain m v back legal (retaken p m to ends retakes attacked), is)
 
 -- ---- what a move is worth at most two plies before the leaves
 
@@ -152,12 +155,12 @@ worth_below p e m least back h =
     omega (arith, ints, h, same)
 
 -- by its material, less what a reply may lose
-pub material_left : (p : Shogi) (e : Eval) (loss : ℤ) (m : Move) → IsValid p → move_of (code_of m) ≡ Some m → is_legal p m ≡ true → pos 0 ≤ℤ loss → LosesAtMost p.hands (opponent_of p.side) e loss → legal_codes (after p m) ≢ [] → (material_of (after p m) e -ℤ loss) ≤ℤ value (after p m) e 1
-material_left p e loss m v back legal h l some = value_least (after p m) e loss (legal_codes (after p m)) refl (valid_after p m v back (legal_to_listed p m back legal)) h (loses_after p e loss m l) some
+pub material_left : (p : Shogi) (e : Eval) (plain : settles e ≡ false) (loss : ℤ) (m : Move) → IsValid p → move_of (code_of m) ≡ Some m → is_legal p m ≡ true → pos 0 ≤ℤ loss → LosesAtMost p.hands (opponent_of p.side) e loss → legal_codes (after p m) ≢ [] → (material_of (after p m) e -ℤ loss) ≤ℤ value (after p m) e 1
+material_left p e plain loss m v back legal h l some = value_least (after p m) e plain loss (legal_codes (after p m)) refl (valid_after p m v back (legal_to_listed p m back legal)) h (loses_after p e loss m l) some
 
 -- by a threat that stands
-pub threat_left : (p : Shogi) (e : Eval) (m : Move) (gain : ℕ) → KeepsThreats p m → MayRetake p m → TakesAfter p e m gain → (material_of (after p m) e -ℤ negated (pos gain)) ≤ℤ value (after p m) e 1
-threat_left p e m gain keeps retakes takes = omega (arith, ints, takes keeps retakes)
+pub threat_left : (p : Shogi) (e : Eval) (plain : settles e ≡ false) (m : Move) (gain : ℕ) → KeepsThreats p m → MayRetake p m → TakesAfter p e m gain → (material_of (after p m) e -ℤ negated (pos gain)) ≤ℤ value (after p m) e 1
+threat_left p e plain m gain keeps retakes takes = omega (arith, ints, takes plain keeps retakes)
 
 -- so the move is worth no more than that leaves
 pub worth_leaving : (p : Shogi) (e : Eval) (d : ℕ) (loss : ℤ) (m : Move) → move_of (code_of m) ≡ Some m → d ≡ 2 → (material_of (after p m) e -ℤ loss) ≤ℤ value (after p m) e 1 → worth p e (d - 1) (code_of m) ≤ℤ negated (material_of (after p m) e -ℤ loss)
@@ -166,8 +169,8 @@ worth_leaving p e d loss m back last least =
     subst (λ (n : ℕ). worth p e n (code_of m) ≤ℤ negated (material_of (after p m) e -ℤ loss)) (sym one) (worth_below p e m (material_of (after p m) e -ℤ loss) back least)
 
 -- the same at a node of depth 2
-pub worth_ahead : (p : Shogi) (e : Eval) (d : ℕ) (loss : ℤ) (m : Move) → IsValid p → move_of (code_of m) ≡ Some m → is_legal p m ≡ true → d ≡ 2 → pos 0 ≤ℤ loss → LosesAtMost p.hands (opponent_of p.side) e loss → legal_codes (after p m) ≢ [] → worth p e (d - 1) (code_of m) ≤ℤ negated (material_of (after p m) e -ℤ loss)
-worth_ahead p e d loss m v back legal last h l some = worth_leaving p e d loss m back last (material_left p e loss m v back legal h l some)
+pub worth_ahead : (p : Shogi) (e : Eval) (plain : settles e ≡ false) (d : ℕ) (loss : ℤ) (m : Move) → IsValid p → move_of (code_of m) ≡ Some m → is_legal p m ≡ true → d ≡ 2 → pos 0 ≤ℤ loss → LosesAtMost p.hands (opponent_of p.side) e loss → legal_codes (after p m) ≢ [] → worth p e (d - 1) (code_of m) ≤ℤ negated (material_of (after p m) e -ℤ loss)
+worth_ahead p e plain d loss m v back legal last h l some = worth_leaving p e d loss m back last (material_left p e plain loss m v back legal h l some)
 
 -- the same where it takes so much then
 pub worth_under_threat : (p : Shogi) (e : Eval) (d gain : ℕ) (m : Move) → move_of (code_of m) ≡ Some m → d ≡ 2 → (material_of (after p m) e +ℤ pos gain) ≤ℤ value (after p m) e 1 → worth p e (d - 1) (code_of m) ≤ℤ negated (material_of (after p m) e +ℤ pos gain)
@@ -183,3 +186,21 @@ still_below p p' e e' d d' v v' b b' m ps es ds vs bs h =
     (subst (λ (x : ℕ). worth p e (x - 1) m ≤ℤ threshold v' b' m) (sym ds)
     (subst (λ (x : ℤ). worth p e (d - 1) m ≤ℤ threshold x b' m) (sym vs)
     (subst (λ (x : Option ℕ). worth p e (d - 1) m ≤ℤ threshold v x m) (sym bs) h))))
+
+-- ---- a quiet reply, whatever the evaluation settles
+
+-- a side is worth at depth 1 what a quiet legal move leaves it, or more
+pub value_quiet : (q : Shogi) (e : Eval) (code : ℕ) → IsValid q → is_in code (legal_codes q) ≡ true → is_quiet q (move_of code) ≡ true → negated (material_of (after_code q code) e) ≤ℤ value q e 1
+value_quiet q e code v i quiet =
+    let held : left_by q e code ≡ material_of (after_code q code) e = left_quiet q e code quiet in
+    let leaf : ended q e code ≤ℤ left_by q e code = leaf_most (legal_codes (after_code q code)) (left_by q e code) (let b : IsBounded (left_by q e code) = left_bounded q e code (after_valid q code v i) in omega (arith, ints, b.least)) in
+    let above : worth q e 0 code ≤ℤ greatest_or (lost_value 1) (worth q e 0) (legal_codes q) = greatest_or-above (lost_value 1) (worth q e 0) (legal_codes q) code i in
+    let is_value : value q e 1 ≡ greatest_or (lost_value 1) (worth q e 0) (legal_codes q) = value-suc q e 0 in
+    omega (arith, ints, held, leaf, above, is_value)
+
+-- so where a quiet move is legal it is worth its material without what a drop loses, or more
+pub value_least_quiet : (q : Shogi) (e : Eval) (loss : ℤ) (code : ℕ) → IsValid q → pos 0 ≤ℤ loss → LosesAtMost q.hands q.side e loss → is_in code (legal_codes q) ≡ true → is_quiet q (move_of code) ≡ true → (material_of q e -ℤ loss) ≤ℤ value q e 1
+value_least_quiet q e loss code v h l i quiet =
+    let left : material_of (after_code q code) e ≤ℤ negated (material_of q e -ℤ loss) = reply_left q e loss code v h l i in
+    let worth_so : negated (material_of (after_code q code) e) ≤ℤ value q e 1 = value_quiet q e code v i quiet in
+    omega (arith, ints, left, worth_so)

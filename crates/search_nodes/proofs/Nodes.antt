@@ -20,7 +20,7 @@ use Rattle.search_nodes.specs.Order.{todo, IsKept}
 use Rattle.search_nodes.specs.declared.frame.Waiting.{Waiting}
 use Rattle.search_nodes.specs.declared.frame.Waiting.TheVariants.{Next, Asked, Cut}
 use Rattle.search_nodes.specs.Visits.{moves_at, IsAsked, IsCurrent, WhereCurrent, IsOver, IsKnownWhile}
-use Rattle.minimax.proofs.MinimaxLaws.{tree_size-above, tree_size-leaf, value_within, Within}
+use Rattle.minimax.proofs.MinimaxLaws.{tree_size-above, tree_size-leaf, worth_bounds, WorthWithin}
 use Rattle.search_nodes.proofs.OrderLaws.{IsWhole, whole, whole_covered}
 use Rattle.minimax.proofs.Cover.{IsCovered-start}
 use Rattle.minimax.proofs.Valid.{after_valid}
@@ -124,7 +124,7 @@ threshold_falls_one best_value b m t = grind (arith, ints, nat_tests)
 pub threshold_least : (p : Shogi) (eval : Eval) (d : ℕ) (alpha best_value : ℤ) (rest : List ℕ) (b : Option ℕ) (m : ℕ) → IsValid p → d ≤ SEARCH_DEPTH_MAX → negated INFINITY ≤ℤ alpha → IsCovered (worth p eval (d - 1)) (legal_codes p) rest alpha best_value b → (negated INFINITY ≤ℤ best_value) × (negated INFINITY ≤ℤ threshold best_value b m)
 threshold_least p eval d alpha best_value rest None m ok h l c = let e : best_value ≡ alpha = c.reached in (omega (arith, ints), omega (arith, ints))
 threshold_least p eval d alpha best_value rest (Some b) m ok h l c =
-    let w : Within (d - 1) (value (after_code p b) eval (d - 1)) = value_within (d - 1) (after_code p b) eval (after_valid p b ok c.reached.0) in
+    let w : WorthWithin (d - 1) (worth p eval (d - 1) b) = worth_bounds (d - 1) p eval b ok c.reached.0 in
     let e : worth p eval (d - 1) b ≡ best_value = c.reached.1 in
     let t : negated INFINITY <ℤ best_value = omega (arith, ints) in
     (omega (arith, ints), threshold_falls_one best_value b m t)

@@ -35,6 +35,7 @@ use Rattle.search_nodes.specs.Changes.{IsSame, KeepsMoves, PrunesRow, left_of_fr
 use Rattle.search_nodes.specs.Threats.{AreSpared, AreThreatsIn, IsAttacked, IsThreatIn, TakesAfter}
 use Rattle.search_nodes.specs.Visits.{IsKnownWhile, moves_at}
 use Rattle.minimax.proofs.MinimaxLaws.{sum_of_tree_sizes-next}
+use Rattle.shogi_eval.specs.Exchange.{settles}
 use Rattle.search_nodes.proofs.Ahead.{material_left, retake_gain, threat_gain, threat_left}
 use Rattle.search_nodes.proofs.Passing.{left_kept}
 use Rattle.search_nodes.proofs.Passed.{IsDropAt, IsWithin, drop_at, drop_worth, drops_covered, known_next, next_known, quiets_covered, threshold_within}
@@ -54,52 +55,52 @@ pub drops_known : (f : Frame) (kind : Kind) (squares escapes first : ℕ) (picke
 drops_known f kind squares escapes first picker next lost passed = next_known _ _ _ _ _ _ _ _ _ next (drops_covered f kind squares escapes first _ _ lost passed (known_next _ _ _ _ _ _ _ _ _ next f.known))
 
 -- moves that leave a reply leave the other side its material, less what a reply may lose
-pub material_leaves : (f : Frame) (loss : ℤ) (pieces squares escapes : ℕ) → pos 0 ≤ℤ loss → RepliesLoseAtMost f loss → MovesLeave f loss pieces squares escapes
-material_leaves f loss pieces squares escapes least loses = λ from to promote hf ht piece set legal certain. material_left f.node.position f.node.eval loss (Board from to promote) f.valid (move_of-board from to promote hf ht) legal least loses (certain.0 legal)
+pub material_leaves : (f : Frame) (plain : settles f.node.eval ≡ false) (loss : ℤ) (pieces squares escapes : ℕ) → pos 0 ≤ℤ loss → RepliesLoseAtMost f loss → MovesLeave f loss pieces squares escapes
+material_leaves f plain loss pieces squares escapes least loses = λ from to promote hf ht piece set legal certain. material_left f.node.position f.node.eval plain loss (Board from to promote) f.valid (move_of-board from to promote hf ht) legal least loses (certain.0 legal)
 
 -- so drops that do not suffice by that are lost
-pub material_drops : (f : Frame) (kind : Kind) (squares escapes first : ℕ) (loss : ℤ) → f.depth ≡ 2 → pos 0 ≤ℤ loss → RepliesLoseAtMost f loss → FallsShort f kind first loss → DropsAreLost f kind squares escapes first
-material_drops f kind squares escapes first loss last least loses short = λ code is.
+pub material_drops : (f : Frame) (plain : settles f.node.eval ≡ false) (kind : Kind) (squares escapes first : ℕ) (loss : ℤ) → f.depth ≡ 2 → pos 0 ≤ℤ loss → RepliesLoseAtMost f loss → FallsShort f kind first loss → DropsAreLost f kind squares escapes first
+material_drops f plain kind squares escapes first loss last least loses short = λ code is.
     let at : _ = drop_at f.node.position kind squares escapes first code is in
-    drop_worth f kind squares escapes first code _ loss last short is.above at (material_left f.node.position f.node.eval loss (Drop kind (code - FIRST_DROP - kind_number kind * 81)) f.valid (move_of-drop kind (code - FIRST_DROP - kind_number kind * 81) at.fits) at.legal least loses (at.certain.0 at.legal))
+    drop_worth f kind squares escapes first code _ loss last short is.above at (material_left f.node.position f.node.eval plain loss (Drop kind (code - FIRST_DROP - kind_number kind * 81)) f.valid (move_of-drop kind (code - FIRST_DROP - kind_number kind * 81) at.fits) at.legal least loses (at.certain.0 at.legal))
 
 -- moves that let a threat be and give no check leave it its material and what that gains
-pub threat_leaves : (f : Frame) (threat : Threat) (loss : ℤ) (pieces aside : ℕ) → IsThreatIn f.node.position f.node.eval threat → loss ≡ pos 0 -ℤ pos threat.gain → ((n : ℕ) → has_bit pieces n ≡ true → n ≢ threat.target) → AreSpared threat true aside → MovesLeave f loss pieces aside 0
-threat_leaves f threat loss pieces aside is gains others spared = λ from to promote hf ht piece set legal certain.
+pub threat_leaves : (f : Frame) (plain : settles f.node.eval ≡ false) (threat : Threat) (loss : ℤ) (pieces aside : ℕ) → IsThreatIn f.node.position f.node.eval threat → loss ≡ pos 0 -ℤ pos threat.gain → ((n : ℕ) → has_bit pieces n ≡ true → n ≢ threat.target) → AreSpared threat true aside → MovesLeave f loss pieces aside 0
+threat_leaves f plain threat loss pieces aside is gains others spared = λ from to promote hf ht piece set legal certain.
     let shut : in_check (after f.node.position (Board from to promote)).cells (opponent_of f.node.position.side) ≡ false = certain.1 refl legal in
     let takes : TakesAfter f.node.position f.node.eval (Board from to promote) threat.gain = threat_gain f.node.position f.node.eval (Board from to promote) threat.from threat.target threat.gain threat.promote f.valid (move_of-board from to promote hf ht) legal is.gains.is_threat is.gains.gain_is
     (others from piece, spared to _ ht set (λ _. refl) f.node.position f.node.eval (Board from to promote) is refl refl) in
-    let least : _ = threat_left f.node.position f.node.eval (Board from to promote) threat.gain (threat_board f.node.position from to promote f.valid hf ht legal shut) (retake_unchecked f.node.position from to promote f.valid hf ht legal shut) takes in
+    let least : _ = threat_left f.node.position f.node.eval plain (Board from to promote) threat.gain (threat_board f.node.position from to promote f.valid hf ht legal shut) (retake_unchecked f.node.position from to promote f.valid hf ht legal shut) takes in
     subst (λ (x : ℤ). LeavesAtLeast f x (Board from to promote)) (sym gains) least
 
 -- and so do such drops
-pub drop_spared : (f : Frame) (threat : Threat) (loss : ℤ) (kind : Kind) (sliding : Bool) (aside squares c to : ℕ) → IsThreatIn f.node.position f.node.eval threat → loss ≡ pos 0 -ℤ pos threat.gain → AreSpared threat sliding aside → (is_slider (dropped f.node.position.side kind) ≡ true → sliding ≡ true) → has_bit aside to ≡ true → IsDropAt f.node.position kind squares 0 c to
+pub drop_spared : (f : Frame) (plain : settles f.node.eval ≡ false) (threat : Threat) (loss : ℤ) (kind : Kind) (sliding : Bool) (aside squares c to : ℕ) → IsThreatIn f.node.position f.node.eval threat → loss ≡ pos 0 -ℤ pos threat.gain → AreSpared threat sliding aside → (is_slider (dropped f.node.position.side kind) ≡ true → sliding ≡ true) → has_bit aside to ≡ true → IsDropAt f.node.position kind squares 0 c to
     → LeavesAtLeast f loss (Drop kind to)
-drop_spared f threat loss kind sliding aside squares c to is gains spared slides set at =
+drop_spared f plain threat loss kind sliding aside squares c to is gains spared slides set at =
     let shut : in_check (after f.node.position (Drop kind to)).cells (opponent_of f.node.position.side) ≡ false = at.certain.1 refl at.legal in
     let takes : TakesAfter f.node.position f.node.eval (Drop kind to) threat.gain = threat_gain f.node.position f.node.eval (Drop kind to) threat.from threat.target threat.gain threat.promote f.valid (move_of-drop kind to at.fits) at.legal is.gains.is_threat is.gains.gain_is
     (spared to _ at.fits set slides f.node.position f.node.eval (Drop kind to) is refl refl) in
-    let least : _ = threat_left f.node.position f.node.eval (Drop kind to) threat.gain (threat_drop f.node.position kind to f.valid at.fits shut) (retake_drop f.node.position kind to f.valid at.fits) takes in
+    let least : _ = threat_left f.node.position f.node.eval plain (Drop kind to) threat.gain (threat_drop f.node.position kind to f.valid at.fits shut) (retake_drop f.node.position kind to f.valid at.fits) takes in
     subst (λ (x : ℤ). LeavesAtLeast f x (Drop kind to)) (sym gains) least
 
 -- a drop that gives no check is taken where such a piece attacks its square
-pub drop_retaken : (f : Frame) (loss : ℤ) (kind : Kind) (gain squares c to : ℕ) → gain ≡ taken_gain f.node.eval (dropped f.node.position.side kind) → loss ≡ pos 0 -ℤ pos gain → ∥ IsAttacked f.node.position to ∥₁ → IsDropAt f.node.position kind squares 0 c to → LeavesAtLeast f loss (Drop kind to)
-drop_retaken f loss kind gain squares c to value gains attacked at =
+pub drop_retaken : (f : Frame) (plain : settles f.node.eval ≡ false) (loss : ℤ) (kind : Kind) (gain squares c to : ℕ) → gain ≡ taken_gain f.node.eval (dropped f.node.position.side kind) → loss ≡ pos 0 -ℤ pos gain → ∥ IsAttacked f.node.position to ∥₁ → IsDropAt f.node.position kind squares 0 c to → LeavesAtLeast f loss (Drop kind to)
+drop_retaken f plain loss kind gain squares c to value gains attacked at =
     let shut : in_check (after f.node.position (Drop kind to)).cells (opponent_of f.node.position.side) ≡ false = at.certain.1 refl at.legal in
-    let takes : TakesAfter f.node.position f.node.eval (Drop kind to) gain = λ keeps retakes. ∥∥₁_elim attacked (Prim.hlevel props) (λ here. retake_gain f.node.position f.node.eval (Drop kind to) to gain f.valid (move_of-drop kind to at.fits) at.legal refl here value keeps retakes) in
-    let least : _ = threat_left f.node.position f.node.eval (Drop kind to) gain (threat_drop f.node.position kind to f.valid at.fits shut) (retake_drop f.node.position kind to f.valid at.fits) takes in
+    let takes : TakesAfter f.node.position f.node.eval (Drop kind to) gain = λ plain keeps retakes. ∥∥₁_elim attacked (Prim.hlevel props) (λ here. retake_gain f.node.position f.node.eval (Drop kind to) to gain f.valid (move_of-drop kind to at.fits) at.legal refl here value plain keeps retakes) in
+    let least : _ = threat_left f.node.position f.node.eval plain (Drop kind to) gain (threat_drop f.node.position kind to f.valid at.fits shut) (retake_drop f.node.position kind to f.valid at.fits) takes in
     subst (λ (x : ℤ). LeavesAtLeast f x (Drop kind to)) (sym gains) least
 
 -- so such drops are lost that do not suffice by it
-pub spared_drops : (f : Frame) (threat : Threat) (loss : ℤ) (kind : Kind) (sliding : Bool) (aside first : ℕ) → f.depth ≡ 2 → IsThreatIn f.node.position f.node.eval threat → loss ≡ pos 0 -ℤ pos threat.gain → AreSpared threat sliding aside → (is_slider (dropped f.node.position.side kind) ≡ true → sliding ≡ true) → FallsShort f kind first loss → DropsAreLost f kind aside 0 first
-spared_drops f threat loss kind sliding aside first last is gains spared slides short = λ code certain.
+pub spared_drops : (f : Frame) (plain : settles f.node.eval ≡ false) (threat : Threat) (loss : ℤ) (kind : Kind) (sliding : Bool) (aside first : ℕ) → f.depth ≡ 2 → IsThreatIn f.node.position f.node.eval threat → loss ≡ pos 0 -ℤ pos threat.gain → AreSpared threat sliding aside → (is_slider (dropped f.node.position.side kind) ≡ true → sliding ≡ true) → FallsShort f kind first loss → DropsAreLost f kind aside 0 first
+spared_drops f plain threat loss kind sliding aside first last is gains spared slides short = λ code certain.
     let at : _ = drop_at f.node.position kind aside 0 first code certain in
-    drop_worth f kind aside 0 first code _ loss last short certain.above at (drop_spared f threat loss kind sliding aside aside code _ is gains spared slides at.set at)
+    drop_worth f kind aside 0 first code _ loss last short certain.above at (drop_spared f plain threat loss kind sliding aside aside code _ is gains spared slides at.set at)
 
-pub taken_drops : (f : Frame) (threats : Threats) (loss : ℤ) (kind : Kind) (gain first : ℕ) → f.depth ≡ 2 → AreThreatsIn f.node.position f.node.eval threats → gain ≡ taken_gain f.node.eval (dropped f.node.position.side kind) → loss ≡ pos 0 -ℤ pos gain → FallsShort f kind first loss → DropsAreLost f kind threats.takes.bits 0 first
-taken_drops f threats loss kind gain first last are value gains short = λ code certain.
+pub taken_drops : (f : Frame) (plain : settles f.node.eval ≡ false) (threats : Threats) (loss : ℤ) (kind : Kind) (gain first : ℕ) → f.depth ≡ 2 → AreThreatsIn f.node.position f.node.eval threats → gain ≡ taken_gain f.node.eval (dropped f.node.position.side kind) → loss ≡ pos 0 -ℤ pos gain → FallsShort f kind first loss → DropsAreLost f kind threats.takes.bits 0 first
+taken_drops f plain threats loss kind gain first last are value gains short = λ code certain.
     let at : _ = drop_at f.node.position kind threats.takes.bits 0 first code certain in
-    drop_worth f kind threats.takes.bits 0 first code _ loss last short certain.above at (drop_retaken f loss kind gain threats.takes.bits code _ value gains (are.takes _ at.fits at.set) at)
+    drop_worth f kind threats.takes.bits 0 first code _ loss last short certain.above at (drop_retaken f plain loss kind gain threats.takes.bits code _ value gains (are.takes _ at.fits at.set) at)
 
 pub no_drops : (f : Frame) (kind : Kind) (escapes first : ℕ) → DropsAreLost f kind 0 escapes first
 no_drops f kind escapes first = λ code certain. absurd (both_ways (has_bit 0 (code - FIRST_DROP - kind_number kind * 81)) (has_bit-none (code - FIRST_DROP - kind_number kind * 81)) certain.among)

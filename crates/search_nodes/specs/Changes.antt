@@ -1,5 +1,5 @@
 -- What a call changes of a node on the stack, and what is left of it (own choice).
-use Rattle.std.specs.Prelude.{◌≡◌, ◌≤◌, ℕ, ◌+◌, ◌*◌, ◌-◌, ℤ, [], IfNone, Option, MatchOption}
+use Rattle.std.specs.Prelude.{◌≡◌, ◌<◌, ◌≤◌, ℕ, ◌+◌, ◌*◌, ◌-◌, ℤ, [], IfNone, Option, MatchOption}
 use Rattle.shogi_core.specs.declared.moves.Move.{Move}
 use Rattle.shogi_core.specs.Position.{Shogi}
 use Rattle.shogi_eval.specs.declared.eval.Eval.{Eval}
@@ -11,13 +11,14 @@ use Rattle.minimax.specs.Minimax.{sum_of_tree_sizes, tree_size}
 use Rattle.search_nodes.specs.Order.{todo}
 use Rattle.search_nodes.specs.Visits.{IsFree}
 
--- a frame stands for a position under an evaluation at a depth, under a window
+-- a frame stands for a position under an evaluation at a depth of at least 2, under a window
 pub record IsAt (p : Shogi) (e : Eval) (d : ℕ) (alpha beta : ℤ) (frame : Frame) : Type 0 where
   pub position : frame.node.position ≡ p
   pub eval : frame.node.eval ≡ e
   pub depth : frame.depth ≡ d
   pub alpha_is : frame.alpha ≡ alpha
   pub beta_is : frame.beta ≡ beta
+  pub deep : 1 < frame.depth
 
 -- one frame has the place of another
 abbrev pub IsSame : Frame → Frame → Type 0

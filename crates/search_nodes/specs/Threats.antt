@@ -15,6 +15,7 @@ use Rattle.shogi_replies.specs.Replies.{is_aligned_with_king}
 use Rattle.shogi_replies.specs.Threats.{IsAttack, IsThreat, EndsAside, KeepsThreats, LeavesThreat, MayRetake, end_of, put_by}
 use Rattle.shogi_eval.specs.declared.eval.Eval.{Eval}
 use Rattle.shogi_eval.specs.Material.{material_of, promotion_gain, taken_gain}
+use Rattle.shogi_eval.specs.Exchange.{settles}
 use Rattle.minimax.specs.Minimax.{value}
 use Rattle.search_nodes.specs.declared.threat.Prize.{Prize}
 use Rattle.search_nodes.specs.declared.threat.Prizes.{Prizes}
@@ -105,7 +106,7 @@ abbrev pub AreSpared : Threat → Bool → ℕ → Type 0
 AreSpared threat slides squares = (n : ℕ) (put : Option Piece) → n < 81 → has_bit squares n ≡ true
     → (is_slider put ≡ true → slides ≡ true) → IsSparedAt threat put n
 
--- if the other side may carry out its threats after the move, it is worth at least its material and this then, with one ply left
+-- if the other side may carry out its threats after the move and nothing is settled, it is worth at least its material and this then, with one ply left
 abbrev pub TakesAfter : Shogi → Eval → Move → ℕ → Type 0
-TakesAfter p e m gain = KeepsThreats p m → MayRetake p m
+TakesAfter p e m gain = settles e ≡ false → KeepsThreats p m → MayRetake p m
     → (material_of (after p m) e +ℤ pos gain) ≤ℤ value (after p m) e 1

@@ -114,6 +114,7 @@ impl Frame {
     /// of its place stay.
     pub fn enter(&mut self, node: &Node, depth: u8, alpha: i32, beta: i32, firsts: Firsts)
         requires shallow { depth ≤ SEARCH_DEPTH_MAX }
+        requires deep { 1 < depth }
         requires least { negated INFINITY ≤ℤ alpha }
         requires open { alpha <ℤ beta }
         requires most { beta ≤ℤ INFINITY }
@@ -234,6 +235,7 @@ impl Frame {
     /// Takes in what is known of the current move.
     #[inline(always)]
     pub fn back_up(&mut self, current: &Move, entry: &Entry)
+        requires deep { 1 < self.old.depth }
         requires current { IsCurrent self.old.waiting current.now }
         requires truth { IsTrueAfter self.old current.now entry.now }
         requires cutoff { IsCutoffAfter self.old current.now entry.now }

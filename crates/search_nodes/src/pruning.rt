@@ -2,6 +2,7 @@
 
 ghost use Rattle.std.specs.Prelude.{◌≡◌, ◌≤ℤ◌, ◌-ℤ◌, pos, true, false};
 ghost use Rattle.shogi_moves.specs.Escapes.{AreEscapes};
+ghost use Rattle.shogi_eval.specs.Exchange.{settles};
 ghost use Rattle.search_nodes.specs.Frames.{PromotesWithin};
 
 use crate::frame::{Frame, Waiting};
@@ -119,6 +120,7 @@ impl Frame {
     fn most_after(&self, current: &Move) -> i32
         requires current { IsCurrent self.now.waiting current.now }
         requires last { self.now.depth ≡ 2 }
+        requires plain { settles self.now.node.eval ≡ false }
         ensures most { HasReply self.now current.now → IsWorthAtMost self.now current.now result }
     {
         current.validity();
@@ -159,6 +161,7 @@ impl Frame {
     fn loses(&self, current: &Move) -> bool
         requires current { IsCurrent self.now.waiting current.now }
         requires last { self.now.depth ≡ 2 }
+        requires plain { settles self.now.node.eval ≡ false }
         ensures { result ≡ true → IsLostWhere self.now current.now }
     {
         let Some(threats) = &self.threats else {
@@ -209,6 +212,7 @@ impl Frame {
     fn loses_piece(&self, current: &Move) -> bool
         requires current { IsCurrent self.now.waiting current.now }
         requires last { self.now.depth ≡ 2 }
+        requires plain { settles self.now.node.eval ≡ false }
         ensures { result ≡ true → IsLostIfTaken self.now current.now }
     {
         current.validity();
@@ -221,6 +225,7 @@ impl Frame {
     fn is_lost_piece(&self, current: &Move) -> bool
         requires current { IsCurrent self.now.waiting current.now }
         requires last { self.now.depth ≡ 2 }
+        requires plain { settles self.now.node.eval ≡ false }
         ensures { result ≡ true → IsLost self.now current.now }
     {
         self.loses_piece(current) && self.is_retaken(current)
@@ -231,6 +236,7 @@ impl Frame {
     fn prune_under_threat(&mut self, current: &Move) -> bool
         requires asked { self.old.waiting ≡ Waiting.Asked current.now }
         requires last { self.old.depth ≡ 2 }
+        requires plain { settles self.old.node.eval ≡ false }
         ensures next { result ≡ true → self.new.waiting ≡ Waiting.Next }
         ensures asked { result ≡ false → self.new.waiting ≡ self.old.waiting }
         ensures picker { self.new.picker ≡ self.old.picker }
@@ -263,6 +269,7 @@ impl Frame {
     fn prune(&mut self, current: &Move) -> bool
         requires asked { self.old.waiting ≡ Waiting.Asked current.now }
         requires last { self.old.depth ≡ 2 }
+        requires plain { settles self.old.node.eval ≡ false }
         ensures next { result ≡ true → self.new.waiting ≡ Waiting.Next }
         ensures asked { result ≡ false → self.new.waiting ≡ self.old.waiting }
         ensures picker { self.new.picker ≡ self.old.picker }
@@ -292,6 +299,7 @@ impl Frame {
     ) -> bool
         requires next { self.old.waiting ≡ Waiting.Next }
         requires last { self.old.depth ≡ 2 }
+        requires plain { settles self.old.node.eval ≡ false }
         requires at { IsAtQuiets self.old.picker code }
         requires escapes { AreEscapes self.old.node.position escapes.bits }
         requires leave { MovesLeave self.old loss pieces.bits squares.bits escapes.bits }
@@ -322,6 +330,7 @@ impl Frame {
     fn prune_spared(&mut self, code: u16, threat: &Threat)
         requires next { self.old.waiting ≡ Waiting.Next }
         requires last { self.old.depth ≡ 2 }
+        requires plain { settles self.old.node.eval ≡ false }
         requires at { IsAtQuiets self.old.picker code }
         requires threat { IsThreatIn self.old.node.position self.old.node.eval threat.now }
         ensures { PrunesRow self.old self.new }
@@ -337,6 +346,7 @@ impl Frame {
     fn prune_quiets(&mut self)
         requires next { self.old.waiting ≡ Waiting.Next }
         requires last { self.old.depth ≡ 2 }
+        requires plain { settles self.old.node.eval ≡ false }
         ensures { PrunesRow self.old self.new }
     {
         let Some(code) = self.picker.quiets() else {
@@ -358,6 +368,7 @@ impl Frame {
     fn falls_short(&self, kind: Kind, code: u16, loss: i32) -> bool
         requires next { self.now.waiting ≡ Waiting.Next }
         requires last { self.now.depth ≡ 2 }
+        requires plain { settles self.now.node.eval ≡ false }
         requires least { (pos 0 -ℤ pos 4000) ≤ℤ loss }
         requires most { loss ≤ℤ pos 100 }
         ensures { result ≡ true → FallsShort self.now kind code loss }
@@ -372,6 +383,7 @@ impl Frame {
     fn taken_squares(&self, threats: &Threats, kind: Kind, code: u16) -> Squares
         requires next { self.now.waiting ≡ Waiting.Next }
         requires last { self.now.depth ≡ 2 }
+        requires plain { settles self.now.node.eval ≡ false }
         requires threats { AreThreatsIn self.now.node.position self.now.node.eval threats.now }
         ensures { DropsAreLost self.now kind result.bits 0 code }
     {
@@ -388,6 +400,7 @@ impl Frame {
     fn spared_squares(&self, threat: &Threat, kind: Kind, code: u16) -> Squares
         requires next { self.now.waiting ≡ Waiting.Next }
         requires last { self.now.depth ≡ 2 }
+        requires plain { settles self.now.node.eval ≡ false }
         requires threat { IsThreatIn self.now.node.position self.now.node.eval threat.now }
         ensures { DropsAreLost self.now kind result.bits 0 code }
     {
@@ -402,6 +415,7 @@ impl Frame {
     fn lost_squares(&self, threats: &Threats, kind: Kind, code: u16) -> Squares
         requires next { self.now.waiting ≡ Waiting.Next }
         requires last { self.now.depth ≡ 2 }
+        requires plain { settles self.now.node.eval ≡ false }
         requires threats { AreThreatsIn self.now.node.position self.now.node.eval threats.now }
         ensures { DropsAreLost self.now kind result.bits 0 code }
     {
@@ -433,6 +447,7 @@ impl Frame {
     fn prune_kind(&mut self) -> bool
         requires next { self.old.waiting ≡ Waiting.Next }
         requires last { self.old.depth ≡ 2 }
+        requires plain { settles self.old.node.eval ≡ false }
         ensures { PrunesRow self.old self.new }
     {
         let Some((kind, code)) = self.picker.drops() else {
@@ -454,6 +469,7 @@ impl Frame {
     fn prune_drops(&mut self)
         requires next { self.old.waiting ≡ Waiting.Next }
         requires last { self.old.depth ≡ 2 }
+        requires plain { settles self.old.node.eval ≡ false }
         ensures { PrunesRow self.old self.new }
     {
         'kinds: for _ in 0..7u8 {
@@ -486,6 +502,7 @@ impl Frame {
     fn prune_rows(&mut self)
         requires next { self.old.waiting ≡ Waiting.Next }
         requires last { self.old.depth ≡ 2 }
+        requires plain { settles self.old.node.eval ≡ false }
         ensures { PrunesRow self.old self.new }
     {
         if !self.has_move || self.picker.is_checked(self.node.as_position()) {
@@ -504,6 +521,7 @@ impl Frame {
     fn worthy_move(&mut self) -> Option<Move>
         requires next { self.old.waiting ≡ Waiting.Next }
         requires last { self.old.depth ≡ 2 }
+        requires plain { settles self.old.node.eval ≡ false }
         ensures { AsksFor result self.old self.new }
     {
         self.prune_rows();
@@ -523,7 +541,7 @@ impl Frame {
         requires next { self.old.waiting ≡ Waiting.Next }
         ensures { AsksFor result self.old self.new }
     {
-        if self.depth == 2 {
+        if self.depth == 2 && !self.node.eval().settles() {
             return self.worthy_move();
         }
         self.pick_move()

@@ -26,7 +26,7 @@ use Rattle.shogi_core.specs.Words.{board_words, cell_number, cells_word, number_
 use Rattle.shogi_core.proofs.Faults.{faultless_from}
 use Rattle.shogi_core.proofs.WordLaws.{AreDigits, cells_are_digits}
 use Rattle.shogi_eval.specs.declared.eval.Eval.{Eval}
-use Rattle.shogi_eval.specs.declared.eval.Eval.TheVariants.{Plain, Hand}
+use Rattle.shogi_eval.specs.declared.eval.Eval.TheVariants.{Plain, Hand, Exchange}
 use Rattle.shared_table.specs.Keys.{eval_number, is_same_key, key_of}
 use Rattle.shared_table.specs.KeyLaws.{key_same}
 use Rattle.shared_table.specs.Packed.{AreWords, cell_of_number, cells_in, counts_of, depth_in, digits_in_base_32, eval_of_number, eval_in, key_in, position_in, side_of_number, words_of}
@@ -121,18 +121,20 @@ side_fits : (side : Color) → color_number side < 2
 side_fits Black = omega arith
 side_fits White = omega arith
 
-eval_fits : (eval : Eval) → eval_number eval < 2
+eval_fits : (eval : Eval) → eval_number eval < 3
 eval_fits Plain = omega arith
 eval_fits Hand = omega arith
+eval_fits Exchange = omega arith
 
-eval_back : (side : Color) (eval : Eval) (depth : ℕ) → eval_of_number ((color_number side + 2 * (eval_number eval + 2 * depth)) / 2 % 2) ≡ eval
+eval_back : (side : Color) (eval : Eval) (depth : ℕ) → eval_of_number ((color_number side + 2 * (eval_number eval + 3 * depth)) / 2 % 3) ≡ eval
 eval_back side eval depth = go eval refl
   where
-    go : (e : Eval) → eval ≡ e → eval_of_number ((color_number side + 2 * (eval_number e + 2 * depth)) / 2 % 2) ≡ e
-    go Plain is = let e : (color_number side + 2 * (0 + 2 * depth)) / 2 % 2 ≡ 0 = omega (arith, side_fits side) in rw e refl
-    go Hand is = let e : (color_number side + 2 * (1 + 2 * depth)) / 2 % 2 ≡ 1 = omega (arith, side_fits side) in rw e refl
+    go : (e : Eval) → eval ≡ e → eval_of_number ((color_number side + 2 * (eval_number e + 3 * depth)) / 2 % 3) ≡ e
+    go Plain is = let e : (color_number side + 2 * (0 + 3 * depth)) / 2 % 3 ≡ 0 = omega (arith, side_fits side) in rw e refl
+    go Hand is = let e : (color_number side + 2 * (1 + 3 * depth)) / 2 % 3 ≡ 1 = omega (arith, side_fits side) in rw e refl
+    go Exchange is = let e : (color_number side + 2 * (2 + 3 * depth)) / 2 % 3 ≡ 2 = omega (arith, side_fits side) in rw e refl
 
-depth_back : (side : Color) (eval : Eval) (depth : ℕ) → (color_number side + 2 * (eval_number eval + 2 * depth)) / 4 ≡ depth
+depth_back : (side : Color) (eval : Eval) (depth : ℕ) → (color_number side + 2 * (eval_number eval + 3 * depth)) / 6 ≡ depth
 depth_back side eval depth = omega (arith, side_fits side, eval_fits eval)
 
 -- the parts of a board are the board
@@ -181,7 +183,7 @@ pub position_back : (p : Shogi) (eval : Eval) (depth : ℕ) → IsValid p → po
 unfolding position_in words_of
 position_back p eval depth valid = same_parts (board_back p.cells valid.cells_fit)
     (ap₂ (λ (x y : List ℕ). x ++ y) (counts_back p Black valid) (counts_back p White valid) ∙ hands_back p.hands valid.hands_fit)
-    (side_back p.side (eval_number eval + 2 * depth))
+    (side_back p.side (eval_number eval + 3 * depth))
 
 eval_in_back : (p : Shogi) (eval : Eval) (depth : ℕ) → eval_in (words_of (key_of p eval depth)) ≡ eval
 unfolding words_of
@@ -220,7 +222,7 @@ words_test a b v w = same_from_decides _ _ (words_decide a b v w) (key_same (key
 -- the words, one by one
 pub words_made : (p : Shogi) (eval : Eval) (depth : ℕ) (board : List ℕ) (hands : HandCounts) (side : Color) → board ≡ board_words p.cells → hands ≡ p.hands → side ≡ p.side
     → (a b c : ℕ) → a ≡ number_in_base_32 (counts_of hands Black) → b ≡ number_in_base_32 (counts_of hands White)
-    → c ≡ color_number side + 2 * (eval_number eval + 2 * depth)
+    → c ≡ color_number side + 2 * (eval_number eval + 3 * depth)
     → slice_index board 0 ∷ slice_index board 1 ∷ slice_index board 2 ∷ slice_index board 3 ∷ slice_index board 4 ∷ slice_index board 5 ∷ slice_index board 6
     ∷ a ∷ b ∷ c ∷ [] ≡ words_of (key_of p eval depth)
 unfolding words_of

@@ -6,7 +6,7 @@ use Rattle.std.proofs.lemmas.Bool.Decides.{Decides-eqb}
 use Rattle.shogi_core.specs.Position.{Shogi}
 use Rattle.shogi_core.proofs.SameLaws.{both_decide, position_same}
 use Rattle.shogi_eval.specs.declared.eval.Eval.{Eval}
-use Rattle.shogi_eval.specs.declared.eval.Eval.TheVariants.{Plain, Hand}
+use Rattle.shogi_eval.specs.declared.eval.Eval.TheVariants.{Plain, Hand, Exchange}
 use Rattle.shared_table.specs.Keys.{Key, eval_number, is_same_key, key_of}
 
 -- evaluations are equal where their numbers are
@@ -15,6 +15,11 @@ eval_same Plain Plain = ((λ _. refl), (λ _. refl))
 eval_same Plain Hand = ((λ e. cc), (λ e. cc))
 eval_same Hand Plain = ((λ e. cc), (λ e. cc))
 eval_same Hand Hand = ((λ _. refl), (λ _. refl))
+eval_same Plain Exchange = ((λ e. cc), (λ e. cc))
+eval_same Hand Exchange = ((λ e. cc), (λ e. cc))
+eval_same Exchange Plain = ((λ e. cc), (λ e. cc))
+eval_same Exchange Hand = ((λ e. cc), (λ e. cc))
+eval_same Exchange Exchange = ((λ _. refl), (λ _. refl))
 
 -- the test of keys decides equality
 pub key_same : (a b : Key) → Decides (is_same_key a b) (a ≡ b)

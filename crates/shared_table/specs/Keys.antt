@@ -3,7 +3,7 @@ use Rattle.std.specs.Prelude.{◌==◌, ◌&&◌, ℕ, Bool}
 use Rattle.shogi_core.specs.Position.{Shogi}
 use Rattle.shogi_core.specs.Same.{is_same_position}
 use Rattle.shogi_eval.specs.declared.eval.Eval.{Eval}
-use Rattle.shogi_eval.specs.declared.eval.Eval.TheVariants.{Plain, Hand}
+use Rattle.shogi_eval.specs.declared.eval.Eval.TheVariants.{Plain, Hand, Exchange}
 
 -- what a key says: the position, the evaluation and the depth
 pub record Key : Type 0 where
@@ -11,10 +11,11 @@ pub record Key : Type 0 where
   pub eval : Eval
   pub depth : ℕ
 
--- 0 for the plain evaluation and 1 for the one of hands
+-- 0 for the plain evaluation, 1 for the one of hands and 2 for that which settles captures
 abbrev pub eval_number : Eval → ℕ
 eval_number Plain = 0
 eval_number Hand = 1
+eval_number Exchange = 2
 
 -- the keys have the same depth, the same evaluation and the same position
 unfoldable pub is_same_key : Key → Key → Bool

@@ -1,5 +1,5 @@
 -- The words of a key (own choice): ten numbers that say what stands on the squares, what is held, whose turn it is, the evaluation and the depth.
-use Rattle.std.specs.Prelude.{ℕ, ◌+◌, ◌*◌, ◌^◌, ◌/◌, ◌%◌, ◌<◌, ◌≡◌, zero, suc, List, [], ◌∷◌, ◌++◌, map, take, slice_index, slice_index_or, Option, None}
+use Rattle.std.specs.Prelude.{◌==◌, cond, ℕ, ◌+◌, ◌*◌, ◌^◌, ◌/◌, ◌%◌, ◌<◌, ◌≡◌, zero, suc, List, [], ◌∷◌, ◌++◌, map, take, slice_index, slice_index_or, Option, None}
 use Rattle.std.specs.Hash as fed
 use Rattle.shogi_core.specs.declared.piece.Color.{Color}
 use Rattle.shogi_core.specs.declared.piece.Color.TheVariants.{Black, White}
@@ -12,7 +12,7 @@ use Rattle.shogi_core.specs.Steps.{color_number}
 use Rattle.shogi_core.specs.Validity.{IsValid}
 use Rattle.shogi_core.specs.Words.{board_words, number_in_base_32}
 use Rattle.shogi_eval.specs.declared.eval.Eval.{Eval}
-use Rattle.shogi_eval.specs.declared.eval.Eval.TheVariants.{Plain, Hand}
+use Rattle.shogi_eval.specs.declared.eval.Eval.TheVariants.{Plain, Hand, Exchange}
 use Rattle.shared_table.specs.declared.packing.TheConstants.{CELLS}
 use Rattle.shared_table.specs.Keys.{Key, eval_number}
 
@@ -26,7 +26,7 @@ words_of key =
     board_words key.position.cells
     ++ number_in_base_32 (counts_of key.position.hands Black)
     ∷ number_in_base_32 (counts_of key.position.hands White)
-    ∷ (color_number key.position.side + 2 * (eval_number key.eval + 2 * key.depth))
+    ∷ (color_number key.position.side + 2 * (eval_number key.eval + 3 * key.depth))
     ∷ []
 
 -- so many of the lowest digits of a number in base 32
@@ -66,16 +66,15 @@ position_in words = record {
 
 -- the evaluation of a number
 abbrev pub eval_of_number : ℕ → Eval
-eval_of_number zero = Plain
-eval_of_number (suc n) = Hand
+eval_of_number n = cond (n == 0) Plain (cond (n == 1) Hand Exchange)
 
 -- the evaluation that they say
 abbrev pub eval_in : List ℕ → Eval
-eval_in words = eval_of_number (slice_index words 9 / 2 % 2)
+eval_in words = eval_of_number (slice_index words 9 / 2 % 3)
 
 -- the depth that they say
 abbrev pub depth_in : List ℕ → ℕ
-depth_in words = slice_index words 9 / 4
+depth_in words = slice_index words 9 / 6
 
 -- the key that they say
 abbrev pub key_in : List ℕ → Key

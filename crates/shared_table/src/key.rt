@@ -63,7 +63,7 @@ impl TableKey {
     pub fn depth(&self) -> u8
         ensures { result ≡ self.now.depth }
     {
-        (self.words[9] / 4) as u8
+        (self.words[9] / 6) as u8
     }
 
     /// The position.
@@ -87,10 +87,13 @@ impl TableKey {
     pub fn eval(&self) -> Eval
         ensures { result ≡ self.now.eval }
     {
-        if self.words[9] / 2 % 2 == 0 {
+        let number = self.words[9] / 2 % 3;
+        if number == 0 {
             Eval::Plain
-        } else {
+        } else if number == 1 {
             Eval::Hand
+        } else {
+            Eval::Exchange
         }
     }
 

@@ -152,7 +152,7 @@ pub fn hand_word(hands: Hands, color: Color) -> u64
 
 /// The word of the side to move, the evaluation and the depth.
 pub fn last_word(side: Color, eval: Eval, depth: u8) -> u64
-    ensures { result ≡ color_number side + 2 * (eval_number eval + 2 * depth) }
+    ensures { result ≡ color_number side + 2 * (eval_number eval + 3 * depth) }
 {
     let side = match side {
         Color::Black => 0,
@@ -161,8 +161,9 @@ pub fn last_word(side: Color, eval: Eval, depth: u8) -> u64
     let eval = match eval {
         Eval::Plain => 0,
         Eval::Hand => 1,
+        Eval::Exchange => 2,
     };
-    side + 2 * (eval + 2 * depth as u64)
+    side + 2 * (eval + 3 * depth as u64)
 }
 
 /// What the number stands for.

@@ -18,7 +18,7 @@ use Rattle.shogi_core.specs.Validity.{IsValid, count_of}
 use Rattle.shogi_core.proofs.Faultless.{IsFaultless}
 use Rattle.shogi_core.proofs.Faults.{faultless_from}
 use Rattle.shogi_eval.specs.declared.eval.Eval.{Eval}
-use Rattle.shogi_eval.specs.declared.eval.Eval.TheVariants.{Plain, Hand}
+use Rattle.shogi_eval.specs.declared.eval.Eval.TheVariants.{Plain, Hand, Exchange}
 use Rattle.shogi_eval.specs.Material.{points_at, points_on_board, points_in_hand, points_of, material_of}
 
 -- one where the cell holds a piece of the kind
@@ -53,6 +53,7 @@ board_within color (cell ∷ cells) =
 hand_within : (hands : HandCounts) (e : Eval) (color : Color) → points_in_hand hands e color ≤ most (λ kind. count_in_hand hands color kind)
 hand_within hands Plain color = omega arith
 hand_within hands Hand color = omega arith
+hand_within hands Exchange color = omega arith
 
 -- a side holds no more of a kind than both do
 side_within : (cells : Cells) (hands : HandCounts) (color : Color) (kind : Kind) → count_by (is_of_kind kind) cells + count_in_hand hands color kind ≤ count_of kind cells hands

@@ -25,7 +25,7 @@ use Rattle.shogi_moves.proofs.Keeps.{is_safe_from_legal}
 use Rattle.shogi_moves.proofs.KeepsBoard.{IsSafeBoardMove, safe_board_move}
 use Rattle.shogi_moves.proofs.KeepsDrop.{IsSafeDrop, safe_drop}
 use Rattle.shogi_eval.specs.declared.eval.Eval.{Eval}
-use Rattle.shogi_eval.specs.declared.eval.Eval.TheVariants.{Plain, Hand}
+use Rattle.shogi_eval.specs.declared.eval.Eval.TheVariants.{Plain, Hand, Exchange}
 use Rattle.shogi_eval.specs.Material.{points_at, points_in_hand, points_of, material_of, value_of, value_in_hand, value_of_captured, taken_gain, promotion_gain, drop_gain}
 
 -- what a move gains for its side
@@ -73,6 +73,20 @@ in_hand_set hands Hand White kinds.Silver n len = grind (arith, common_steps, ge
 in_hand_set hands Hand White kinds.Gold n len = grind (arith, common_steps, get_or-set_same, get_or-set_other)
 in_hand_set hands Hand White kinds.Bishop n len = grind (arith, common_steps, get_or-set_same, get_or-set_other)
 in_hand_set hands Hand White kinds.Rook n len = grind (arith, common_steps, get_or-set_same, get_or-set_other)
+in_hand_set hands Exchange Black kinds.Pawn n len = grind (arith, common_steps, get_or-set_same, get_or-set_other)
+in_hand_set hands Exchange Black kinds.Lance n len = grind (arith, common_steps, get_or-set_same, get_or-set_other)
+in_hand_set hands Exchange Black kinds.Knight n len = grind (arith, common_steps, get_or-set_same, get_or-set_other)
+in_hand_set hands Exchange Black kinds.Silver n len = grind (arith, common_steps, get_or-set_same, get_or-set_other)
+in_hand_set hands Exchange Black kinds.Gold n len = grind (arith, common_steps, get_or-set_same, get_or-set_other)
+in_hand_set hands Exchange Black kinds.Bishop n len = grind (arith, common_steps, get_or-set_same, get_or-set_other)
+in_hand_set hands Exchange Black kinds.Rook n len = grind (arith, common_steps, get_or-set_same, get_or-set_other)
+in_hand_set hands Exchange White kinds.Pawn n len = grind (arith, common_steps, get_or-set_same, get_or-set_other)
+in_hand_set hands Exchange White kinds.Lance n len = grind (arith, common_steps, get_or-set_same, get_or-set_other)
+in_hand_set hands Exchange White kinds.Knight n len = grind (arith, common_steps, get_or-set_same, get_or-set_other)
+in_hand_set hands Exchange White kinds.Silver n len = grind (arith, common_steps, get_or-set_same, get_or-set_other)
+in_hand_set hands Exchange White kinds.Gold n len = grind (arith, common_steps, get_or-set_same, get_or-set_other)
+in_hand_set hands Exchange White kinds.Bishop n len = grind (arith, common_steps, get_or-set_same, get_or-set_other)
+in_hand_set hands Exchange White kinds.Rook n len = grind (arith, common_steps, get_or-set_same, get_or-set_other)
 
 in_hand_other : (hands : HandCounts) (eval : Eval) (side : Color) (kind : Kind) (n : ℕ) → points_in_hand (slice_set hands (place_of side kind) n) eval (opponent_of side) ≡ points_in_hand hands eval (opponent_of side)
 in_hand_other hands eval Black kinds.Pawn n = grind (arith, common_steps, get_or-set_other)

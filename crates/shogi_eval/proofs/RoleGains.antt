@@ -4,7 +4,7 @@ use Rattle.shogi_core.specs.declared.piece.Role.{Role}
 use Rattle.shogi_core.specs.declared.piece.Role.TheVariants.{King, Pawn, Lance, Knight, Silver, Gold, Bishop, Rook, PromotedPawn, PromotedLance, PromotedKnight, PromotedSilver, Horse, Dragon}
 use Rattle.shogi_core.specs.Pieces.{kind_of, promoted}
 use Rattle.shogi_core.specs.Same.{role_number}
-use Rattle.shogi_eval.specs.declared.eval.Eval.TheVariants.{Plain, Hand}
+use Rattle.shogi_eval.specs.declared.eval.Eval.TheVariants.{Plain, Hand, Exchange}
 use Rattle.shogi_eval.specs.declared.gain.TheConstants.{PLAIN_GAINS, HAND_GAINS, PROMOTION_GAIN_MAX, PROMOTION_GAINS}
 use Rattle.shogi_eval.specs.declared.points.TheConstants.{PIECE_VALUE_MAX}
 use Rattle.shogi_eval.specs.Material.{value_of, value_of_captured}
@@ -24,6 +24,22 @@ plain_gain PromotedKnight = refl
 plain_gain PromotedSilver = refl
 plain_gain Horse = refl
 plain_gain Dragon = refl
+
+pub exchange_gain : (role : Role) → get_or PLAIN_GAINS (role_number role) 0 ≡ value_of role + value_of_captured Exchange (kind_of role)
+exchange_gain King = refl
+exchange_gain Pawn = refl
+exchange_gain Lance = refl
+exchange_gain Knight = refl
+exchange_gain Silver = refl
+exchange_gain Gold = refl
+exchange_gain Bishop = refl
+exchange_gain Rook = refl
+exchange_gain PromotedPawn = refl
+exchange_gain PromotedLance = refl
+exchange_gain PromotedKnight = refl
+exchange_gain PromotedSilver = refl
+exchange_gain Horse = refl
+exchange_gain Dragon = refl
 
 pub plain_range : (role : Role) → get_or PLAIN_GAINS (role_number role) 0 ≤ 2 * PIECE_VALUE_MAX
 plain_range King = omega arith
@@ -105,4 +121,4 @@ promotion_range PromotedSilver = omega arith
 promotion_range Horse = omega arith
 promotion_range Dragon = omega arith
 
-pub ruleset gains = (plain_gain, plain_range, hand_gain, hand_range, promotion_gain, promotion_range)
+pub ruleset gains = (plain_gain, exchange_gain, plain_range, hand_gain, hand_range, promotion_gain, promotion_range)

@@ -7,13 +7,14 @@ use Rattle.shogi_core.specs.Position.{Shogi}
 use Rattle.shogi_moves.specs.After.{after}
 use Rattle.shogi_moves.specs.Legal.{is_legal}
 use Rattle.shogi_eval.specs.declared.eval.Eval.{Eval}
-use Rattle.shogi_eval.specs.declared.eval.Eval.TheVariants.{Plain, Hand}
+use Rattle.shogi_eval.specs.declared.eval.Eval.TheVariants.{Plain, Hand, Exchange}
 use Rattle.shogi_eval.specs.Material.{material_of}
 
 -- two evaluations are the same
 abbrev pub is_same_eval : Eval → Eval → Bool
 is_same_eval Plain Plain = true
 is_same_eval Hand Hand = true
+is_same_eval Exchange Exchange = true
 is_same_eval _ _ = false
 
 pub record Evaluated : Type 0 where

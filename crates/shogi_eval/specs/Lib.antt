@@ -1,3 +1,4 @@
 pub mod Material
 pub mod Evaluated
 pub mod Losses
+pub mod Exchange

@@ -10,7 +10,7 @@ use Rattle.shogi_core.specs.Movement.{Cells}
 use Rattle.shogi_core.specs.Pieces.{all_kinds, opponent_of, is_same_color, role_of, kind_of, promoted}
 use Rattle.shogi_core.specs.Position.{Shogi, HandCounts, count_in_hand}
 use Rattle.shogi_eval.specs.declared.eval.Eval.{Eval}
-use Rattle.shogi_eval.specs.declared.eval.Eval.TheVariants.{Plain, Hand}
+use Rattle.shogi_eval.specs.declared.eval.Eval.TheVariants.{Plain, Hand, Exchange}
 
 -- what a piece on the board is worth
 abbrev pub value_of : Role → ℕ
@@ -32,6 +32,7 @@ value_of Dragon = 1300
 -- what a piece in hand is worth: what it is on the board, or a tenth more
 abbrev pub value_in_hand : Eval → Kind → ℕ
 value_in_hand Plain kind = value_of (role_of kind)
+value_in_hand Exchange kind = value_of (role_of kind)
 value_in_hand Hand kinds.Pawn = 110
 value_in_hand Hand kinds.Lance = 330
 value_in_hand Hand kinds.Knight = 440

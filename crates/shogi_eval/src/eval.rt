@@ -2,6 +2,7 @@
 
 ghost use Rattle.std.specs.Prelude.{◌≡◌, ◌↔◌, IsTrue};
 ghost use Rattle.shogi_eval.specs.Evaluated.{is_same_eval};
+ghost use Rattle.shogi_eval.specs.Exchange.{settles};
 
 /// The values that material is summed by (own choice).
 #[derive(Clone, Copy, Debug, PartialEq, Eq, Hash)]
@@ -10,9 +11,22 @@ pub enum Eval {
     Plain,
     /// A piece in hand is worth a tenth more.
     Hand,
+    /// As `Plain`, but a capture or a promotion at the end of a line is answered by the best exchange
+    /// on one square.
+    Exchange,
 }
 
 impl Eval {
+    /// Whether captures and promotions at the end of a line are settled.
+    pub fn settles(self) -> bool
+        ensures { result ≡ settles self }
+    {
+        match self {
+            Eval::Plain | Eval::Hand => false,
+            Eval::Exchange => true,
+        }
+    }
+
     /// Whether the two are one evaluation.
     pub fn is_same(self, other: Eval) -> bool
         ensures value { result ≡ is_same_eval self other }
@@ -21,6 +35,7 @@ impl Eval {
         match (self, other) {
             (Eval::Plain, Eval::Plain) => true,
             (Eval::Hand, Eval::Hand) => true,
+            (Eval::Exchange, Eval::Exchange) => true,
             _ => false,
         }
     }

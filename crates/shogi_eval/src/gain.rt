@@ -34,7 +34,7 @@ pub fn taken_gain(e: Eval, cell: Option<Piece>) -> u32
 {
     let Some(piece) = cell else { return 0 };
     match e {
-        Eval::Plain => PLAIN_GAINS[piece.role as usize],
+        Eval::Plain | Eval::Exchange => PLAIN_GAINS[piece.role as usize],
         Eval::Hand => HAND_GAINS[piece.role as usize],
     }
 }
@@ -64,7 +64,7 @@ pub fn drop_gain(e: Eval, kind: Kind) -> i32
     ensures most { result ≤ℤ pos PIECE_VALUE_MAX }
 {
     match e {
-        Eval::Plain => 0,
+        Eval::Plain | Eval::Exchange => 0,
         Eval::Hand => value_of(Role::from(kind)) as i32 - value_in_hand(e, kind) as i32,
     }
 }

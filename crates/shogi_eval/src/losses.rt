@@ -47,7 +47,7 @@ pub fn loss_of_drops(p: &Position, side: Color, e: Eval) -> i32
     ensures most { result ≤ℤ pos 100 }
 {
     match e {
-        Eval::Plain => 0,
+        Eval::Plain | Eval::Exchange => 0,
         Eval::Hand => loss_of_hand(p, side) as i32,
     }
 }

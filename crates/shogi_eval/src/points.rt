@@ -40,7 +40,7 @@ pub fn value_in_hand(e: Eval, kind: Kind) -> u32
     ensures range { result ≤ PIECE_VALUE_MAX }
 {
     match e {
-        Eval::Plain => value_of(Role::from(kind)),
+        Eval::Plain | Eval::Exchange => value_of(Role::from(kind)),
         Eval::Hand => match kind {
             Kind::Pawn => 110,
             Kind::Lance => 330,

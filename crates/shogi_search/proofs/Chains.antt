@@ -34,7 +34,7 @@ where_asked : (w : Waiting) (P : Move → Type 0) (m : Move) → w ≡ Asked m �
 where_asked w P m e h = subst (λ (x : Waiting). WhereAsked x P) (sym e) h
 
 pub chain_same : (p : Shogi) (eval : Eval) (d : ℕ) (alpha beta : ℤ) (fs : List Frame) (f g : Frame) → IsChain p eval d alpha beta fs f → IsSame f g → IsChain p eval d alpha beta fs g
-chain_same p eval d alpha beta [] f g c s = record { position = ap (λ (n : Evaluated). n.position) s.0 ∙ c.position; eval = ap (λ (n : Evaluated). n.eval) s.0 ∙ c.eval; depth = s.1.0 ∙ c.depth; alpha_is = s.1.1.0 ∙ c.alpha_is; beta_is = s.1.1.1 ∙ c.beta_is }
+chain_same p eval d alpha beta [] f g c s = record { position = ap (λ (n : Evaluated). n.position) s.0 ∙ c.position; eval = ap (λ (n : Evaluated). n.eval) s.0 ∙ c.eval; depth = s.1.0 ∙ c.depth; alpha_is = s.1.1.0 ∙ c.alpha_is; beta_is = s.1.1.1 ∙ c.beta_is; deep = subst (λ (x : ℕ). 1 < x) (sym s.1.0) c.deep }
 chain_same p eval d alpha beta (h ∷ fs) f g c s = (c.0, (c.1.0, where_map h.waiting _ _ (λ m k. chain_same (after_code p (code_of m)) eval (d - 1) (negated beta) (negated (threshold h.best_value (code_at h.best_move) (code_of m))) fs f g k s) c.1.1))
 
 pub chain_push : (p : Shogi) (eval : Eval) (d : ℕ) (alpha beta : ℤ) (fs : List Frame) (f q : Frame) (m : Move) → IsChain p eval d alpha beta fs f → IsChild f q m → IsChain p eval d alpha beta (fs ++ f ∷ []) q
@@ -53,6 +53,7 @@ chain_push p eval d alpha beta [] f q m c k = (
           depth = k.at_child.depth ∙ ap (λ (x : ℕ). x - 1) c.depth;
           alpha_is = k.at_child.alpha_is ∙ ap negated c.beta_is;
           beta_is = k.at_child.beta_is;
+          deep = k.at_child.deep;
         }),
   ),
 )
@@ -90,6 +91,7 @@ chain_pop p eval d alpha beta [] f q c =
           depth = a.has.depth ∙ ap (λ (x : ℕ). x - 1) (sym c.0.depth);
           alpha_is = a.has.alpha_is ∙ ap negated (sym c.0.beta_is);
           beta_is = a.has.beta_is;
+          deep = a.has.deep;
         };
       };
     }
@@ -103,6 +105,13 @@ popped p eval d alpha beta all fs f q e c = chain_pop p eval d alpha beta fs f q
 
 pub pushed : (p : Shogi) (eval : Eval) (d : ℕ) (alpha beta : ℤ) (all fs : List Frame) (f q : Frame) (m : Move) → all ≡ fs ++ f ∷ [] → IsChain p eval d alpha beta fs f → IsChild f q m → IsChain p eval d alpha beta all q
 pushed p eval d alpha beta all fs f q m e c k = subst (λ (xs : List Frame). IsChain p eval d alpha beta xs q) (sym e) (chain_push p eval d alpha beta fs f q m c k)
+
+-- the last node of a chain has two plies left or more
+pub chain_deep : (p : Shogi) (eval : Eval) (d : ℕ) (alpha beta : ℤ) (fs : List Frame) (f : Frame) → IsChain p eval d alpha beta fs f → 1 < f.depth
+chain_deep p eval d alpha beta [] f c = c.deep
+chain_deep p eval d alpha beta (h ∷ fs) f c =
+    let a : Asks h.waiting (λ (m : Move). IsChain (after_code p (code_of m)) eval (d - 1) (negated beta) (negated (threshold h.best_value (code_at h.best_move) (code_of m))) fs f) = asks h.waiting _ c.1.1 in
+    chain_deep (after_code p (code_of a.current)) eval (d - 1) (negated beta) (negated (threshold h.best_value (code_at h.best_move) (code_of a.current))) fs f a.has
 
 -- the stack is no higher than the root's depth
 pub chain_height : (p : Shogi) (eval : Eval) (d : ℕ) (alpha beta : ℤ) (fs : List Frame) (f : Frame) → IsChain p eval d alpha beta fs f → length fs + f.depth ≡ d

@@ -42,6 +42,7 @@ ends_at p e d alpha beta bound f g at same ends = record {
   depth = same.1.0 ∙ at.depth;
   alpha_is = same.1.1.0 ∙ at.alpha_is;
   beta_is = ends;
+  deep = subst (λ (x : ℕ). 1 < x) (sym same.1.0) at.deep;
 }
 
 stack_ending : (s : Stack) (i : ℕ) (f g : Frame) (bound : ℤ) → i ≡ 0 → i < length s.frames → IsStack s → IsAt s.root s.eval s.depth (negated INFINITY) s.bound f → KeepsAsked f g → g.beta ≡ bound → bound ≤ℤ s.beta → IsStack (with_frame (with_bound s bound) i g)
@@ -140,7 +141,7 @@ pub child_widened : (s : Stack) (m : Move) (f g : Frame) (bound : ℤ) → IsRoo
 child_widened s m f g bound r same =
     of_top s r.top (λ (child : Frame). OnTop (with_frame (with_bound s bound) (s.height - 1) g) (IsChildAfter child m)) r.is
     (on_with (with_bound s bound) (s.height - 1) g (IsChildAfter r.top m) (omega (arith, slice_get_within s.frames s.height r.top r.is)) (
-      subst (λ (n : ℕ). 0 < n) (sym same.1.0) r.child.deep,
+      (let low : 1 < r.top.depth = r.child.at_child.deep in let next : r.top.depth ≡ f.depth - 1 = r.child.at_child.depth in let stays : g.depth ≡ f.depth = same.1.0 in omega (arith, low, next, stays)),
       (
         r.child.at_child.position ∙ ap (λ (x : Evaluated). after_code x.position (code_of m)) (sym same.0),
         (

@@ -27,7 +27,7 @@ use Rattle.search_nodes.specs.Visits.{IsOver, IsFree}
 use Rattle.search_nodes.proofs.Nodes.{waits}
 use Rattle.shogi_search.proofs.Entries.{same_window, same_truth}
 use Rattle.search_nodes.proofs.Passing.{left_kept}
-use Rattle.shogi_search.proofs.Chains.{IsChild, IsPopped, popped, chain_same, chain_height, same_asked, left_above, pushed}
+use Rattle.shogi_search.proofs.Chains.{chain_deep, IsChild, IsPopped, popped, chain_same, chain_height, same_asked, left_above, pushed}
 use Rattle.minimax.specs.declared.bounds.TheConstants.{SEARCH_DEPTH_MAX, INFINITY}
 
 -- this frame is on top of the stack
@@ -154,6 +154,13 @@ below s d k h fits =
 
 pub asked_below : (s : Stack) (d : Frame) → IsStack s → 0 < s.height → s.height < length s.frames → ((m : Move) → (get_or s.frames (s.height - 1) d).waiting ≡ Asked m → ⊥) → ⊥
 asked_below s d k h fits none = let r : IsBelow s (get_or s.frames (s.height - 1) d) = below s d k h fits in none r.popped.by r.popped.child.asks
+
+-- the node on top has two plies left or more, and so has the one below it
+pub top_deep : (s : Stack) (f : Frame) → IsTop s f → IsStack s → 1 < f.depth
+top_deep s f is k = chain_deep _ _ _ _ _ (parents_of s) f (on_top s f _ is k.chain)
+
+pub below_deep : (s : Stack) (d : Frame) → IsStack s → 0 < s.height → s.height < length s.frames → 1 < (get_or s.frames (s.height - 1) d).depth
+below_deep s d k h fits = chain_deep _ _ _ _ _ _ _ (below s d k h fits).popped.chain
 
 -- what is known of the node on top is known of the child that the one below it has asked for
 pub truth_below : (s : Stack) (d : Frame) (m : Move) (entry : Entry) → IsStack s → 0 < s.height → s.height < length s.frames → (get_or s.frames (s.height - 1) d).waiting ≡ Asked m → OnTop s (λ top. IsTrueEntry top.node.position top.node.eval top.depth entry) → IsTrueEntry (after_code (get_or s.frames (s.height - 1) d).node.position (code_of m)) (get_or s.frames (s.height - 1) d).node.eval ((get_or s.frames (s.height - 1) d).depth - 1) entry

@@ -60,7 +60,7 @@ IsPositionAfter s m p = OnTop s (λ top. p ≡ position_after top m)
 -- one frame stands for the position after the move of the other one, one ply less deep
 abbrev pub IsChildAfter : Frame → Move → Frame → Type 0
 IsChildAfter child m f =
-    (0 < f.depth)
+    (2 < f.depth)
     × ((child.node.position ≡ position_after f m)
     × ((child.node.eval ≡ f.node.eval) × (child.depth ≡ f.depth - 1)))
 

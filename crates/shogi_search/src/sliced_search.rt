@@ -179,6 +179,7 @@ impl Search {
     fn enter_root<M: Memo>(&mut self, memo: &mut M)
         requires fresh { self.old.started ≡ false }
         requires open { self.old.found ≡ None }
+        requires deep { 2 ≤ self.old.depth }
         ensures begun { self.new.started ≡ true }
         ensures found { self.new.found ≡ None }
         ensures same { KeepsQuestion self.old self.new }

@@ -203,7 +203,7 @@ impl Stack {
         requires stack { IsStack self.old }
         requires asked { OnTop self.old (λ top. top.waiting ≡ Waiting.Asked current.now) }
         requires room { self.old.height + 1 < SEARCH_DEPTH_MAX }
-        requires deep { OnTop self.old (λ top. 0 < top.depth) }
+        requires deep { OnTop self.old (λ top. 2 < top.depth) }
         requires position { IsPositionAfter self.old current.now node.now.position }
         requires eval { OnTop self.old (λ top. node.now.eval ≡ top.node.eval) }
         ensures stack { IsStack self.new }

@@ -42,6 +42,7 @@ returns-clause-place c =
       depth = refl;
       alpha_is = to_z-of_z w32 c.args.alpha alpha;
       beta_is = to_z-of_z w32 c.args.beta beta;
+      deep = c.requires.deep;
     }
 
 pub returns-clause-waiting : goal.returns-clause-waiting

@@ -48,6 +48,6 @@ returns c = λ loses keeps retakes.
     let takes : TakesAfter c.args.self.now.node.position c.args.self.now.node.eval c.args.current.now c.gain_after-gain.result =
     subst (λ (e : Eval). TakesAfter c.args.self.now.node.position e c.args.current.now c.gain_after-gain.result) c.eval.ensures
     (subst (λ (q : Shogi). TakesAfter q c.eval.result c.args.current.now c.gain_after-gain.result) c.as_position-p.ensures (c.gain_after-gain.ensures.gain (omega (arith, c.if-gain-eq0.false)))) in
-    let most : worth c.args.self.now.node.position c.args.self.now.node.eval (c.args.self.now.depth - 1) (code_of c.args.current.now) ≤ℤ negated (material_of (after c.args.self.now.node.position c.args.current.now) c.args.self.now.node.eval +ℤ pos c.gain_after-gain.result) = worth_under_threat c.args.self.now.node.position c.args.self.now.node.eval c.args.self.now.depth c.gain_after-gain.result c.args.current.now c.validity.ensures.back c.requires.last (takes keeps retakes) in
+    let most : worth c.args.self.now.node.position c.args.self.now.node.eval (c.args.self.now.depth - 1) (code_of c.args.current.now) ≤ℤ negated (material_of (after c.args.self.now.node.position c.args.current.now) c.args.self.now.node.eval +ℤ pos c.gain_after-gain.result) = worth_under_threat c.args.self.now.node.position c.args.self.now.node.eval c.args.self.now.depth c.gain_after-gain.result c.args.current.now c.validity.ensures.back c.requires.last (takes c.requires.plain keeps retakes) in
     let fits : FitsSigned w32 c.threshold.result = search rules in
     omega (arith, ints, most, b.0, b.1, c.score_after.ensures, c.gain_after-gain.ensures.fits, c.threshold.ensures.threshold, loses)

@@ -44,7 +44,7 @@ returns c = λ loses taken.
     let gain : c.taken_gain-gain.result ≡ taken_gain c.args.self.now.node.eval (put_by c.args.self.now.node.position c.args.current.now) =
     c.taken_gain-gain.ensures.value ∙ (ap (λ (e : Eval). taken_gain e c.put_by-put.result) c.eval.ensures ∙ ap (taken_gain c.args.self.now.node.eval) (c.put_by-put.ensures ∙ ap (λ (q : Shogi). put_by q c.args.current.now) c.as_position.ensures)) in
     let least : (material_of (after c.args.self.now.node.position c.args.current.now) c.args.self.now.node.eval +ℤ pos (taken_gain c.args.self.now.node.eval (put_by c.args.self.now.node.position c.args.current.now))) ≤ℤ value (after c.args.self.now.node.position c.args.current.now) c.args.self.now.node.eval 1 =
-    ∥∥₁_elim taken (Prim.hlevel props) (λ one. taken_left c.args.self.now.node.position c.args.self.now.node.eval c.args.current.now c.args.self.now.valid c.validity.ensures.back (listed_to_legal _ _ c.validity.ensures.back w.is_listed) one) in
+    ∥∥₁_elim taken (Prim.hlevel props) (λ one. taken_left c.args.self.now.node.position c.args.self.now.node.eval c.requires.plain c.args.current.now c.args.self.now.valid c.validity.ensures.back (listed_to_legal _ _ c.validity.ensures.back w.is_listed) one) in
     let most : worth c.args.self.now.node.position c.args.self.now.node.eval (c.args.self.now.depth - 1) (code_of c.args.current.now) ≤ℤ negated (material_of (after c.args.self.now.node.position c.args.current.now) c.args.self.now.node.eval +ℤ pos (taken_gain c.args.self.now.node.eval (put_by c.args.self.now.node.position c.args.current.now))) = worth_under_threat c.args.self.now.node.position c.args.self.now.node.eval c.args.self.now.depth (taken_gain c.args.self.now.node.eval (put_by c.args.self.now.node.position c.args.current.now)) c.args.current.now c.validity.ensures.back c.requires.last least in
     let fits : FitsSigned w32 c.threshold.result = search rules in
     omega (arith, ints, most, gain, b.0, b.1, c.score_after.ensures, c.taken_gain-gain.ensures.range, c.threshold.ensures.threshold, loses)

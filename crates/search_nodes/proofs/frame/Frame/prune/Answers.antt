@@ -62,3 +62,9 @@ returns-clause-picker c = c.fail_low.ensures.ended.1.0 ∙ c.has_reply.ensures.k
 
 pub returns-clause-same : goal.returns-clause-same
 returns-clause-same c = same_again c.args.self.now c.has_reply.new.self c.fail_low.new.self c.has_reply.ensures.kept.0 c.fail_low.ensures.ended.0
+
+pub most_after-requires-clause-plain : goal.most_after-requires-clause-plain
+most_after-requires-clause-plain c = c.requires.plain
+
+pub prune_under_threat-requires-clause-plain : goal.prune_under_threat-requires-clause-plain
+prune_under_threat-requires-clause-plain c = c.requires.plain

@@ -18,7 +18,7 @@ pub prune_row-requires-clause-most : goal.prune_row-requires-clause-most
 prune_row-requires-clause-most c = omega (arith, ints, c.requires.threat.gains.gain_fits)
 
 pub prune_row-requires-clause-leave : goal.prune_row-requires-clause-leave
-prune_row-requires-clause-leave c = subst (MovesLeave c.args.self.now _ c.except-pieces.result.bits c.squares_aside-aside.result.bits) (sym c.none.ensures) (threat_leaves c.args.self.now c.args.threat.now _ c.except-pieces.result.bits c.squares_aside-aside.result.bits c.requires.threat (omega (arith, ints, c.requires.threat.gains.gain_fits))
+prune_row-requires-clause-leave c = subst (MovesLeave c.args.self.now _ c.except-pieces.result.bits c.squares_aside-aside.result.bits) (sym c.none.ensures) (threat_leaves c.args.self.now c.requires.plain c.args.threat.now _ c.except-pieces.result.bits c.squares_aside-aside.result.bits c.requires.threat (omega (arith, ints, c.requires.threat.gains.gain_fits))
     (λ n set same. (
     let parts : (has_bit c.all.result.bits n ≡ true) × (not (n == c.args.threat.now.target) ≡ true) = and_parts _ _ (sym (c.except-pieces.ensures n) ∙ set) in
     both_ways _ (ap not (eq-eqb n c.args.threat.now.target same)) parts.1))

@@ -2,6 +2,7 @@ use Rattle.std.proofs.Common.{◌≡◌, ◌≤ℤ◌, ◌∙◌, refl, sym, ap,
 use Rattle.std.proofs.lemmas.Bool.{both_ways}
 use Rattle.shogi_core.specs.declared.moves.Move.{Move}
 use Rattle.shogi_core.specs.Position.{Shogi}
+use Rattle.shogi_eval.specs.Exchange.{settles}
 use Rattle.search_nodes.specs.Frames.{worth_of, threshold_of}
 use Rattle.shogi_moves.specs.Legal.{is_legal}
 use Rattle.shogi_replies.specs.Threats.{KeepsThreats, MayRetake}
@@ -148,3 +149,9 @@ invariant_of-self-2 c =
       escaping = f.escaping;
       threatened = f.threatened;
     }
+
+pub is_lost_piece-requires-clause-plain : goal.is_lost_piece-requires-clause-plain
+is_lost_piece-requires-clause-plain c = ap (λ (n : Evaluated). settles n.eval) c.look_ahead.ensures.0.0 ∙ (ap (λ (n : Evaluated). settles n.eval) c.look_for_threats.ensures.0.0 ∙ c.requires.plain)
+
+pub loses-requires-clause-plain : goal.loses-requires-clause-plain
+loses-requires-clause-plain c = ap (λ (n : Evaluated). settles n.eval) c.look_ahead.ensures.0.0 ∙ (ap (λ (n : Evaluated). settles n.eval) c.look_for_threats.ensures.0.0 ∙ c.requires.plain)

@@ -12,7 +12,7 @@ falls_short-requires-clause-most c = omega (arith, ints, c.requires.threat.gains
 
 pub returns-then-falls_short : goal.returns-then-falls_short
 returns-then-falls_short c =
-    spared_drops c.args.self.now c.args.threat.now _ c.args.kind c.slides.result c.squares_aside.result.bits c.args.code c.requires.last c.requires.threat (omega (arith, ints, c.requires.threat.gains.gain_fits)) c.squares_aside.ensures
+    spared_drops c.args.self.now c.requires.plain c.args.threat.now _ c.args.kind c.slides.result c.squares_aside.result.bits c.args.code c.requires.last c.requires.threat (omega (arith, ints, c.requires.threat.gains.gain_fits)) c.squares_aside.ensures
     (λ e. c.slides.ensures ∙ (ap is_slider c.dropped-put.ensures ∙ e)) (c.falls_short.ensures c.if-falls_short.true)
 
 pub returns : goal.returns

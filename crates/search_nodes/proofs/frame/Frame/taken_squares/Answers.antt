@@ -10,7 +10,7 @@ use Rattle.search_nodes.proofs.frame.Frame.taken_squares.Goals as goal
 
 pub returns-then-falls_short : goal.returns-then-falls_short
 returns-then-falls_short c =
-    taken_drops c.args.self.now c.args.threats.now _ c.args.kind c.taken_gain-gain.result c.args.code c.requires.last c.requires.threats
+    taken_drops c.args.self.now c.requires.plain c.args.threats.now _ c.args.kind c.taken_gain-gain.result c.args.code c.requires.last c.requires.threats
     (c.taken_gain-gain.ensures.value ∙ (ap (λ (e : Eval). taken_gain e c.dropped-put.result) c.eval.ensures ∙ ap (taken_gain c.args.self.now.node.eval) (c.dropped-put.ensures ∙ ap (λ (s : Color). dropped s c.args.kind) (c.side.ensures ∙ ap (λ (p : Shogi). p.side) c.as_position.ensures)))) (omega (arith, ints, c.taken_gain-gain.ensures.range)) (c.falls_short.ensures c.if-falls_short.true)
 
 pub returns : goal.returns

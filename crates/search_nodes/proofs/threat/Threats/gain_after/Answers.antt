@@ -20,8 +20,8 @@ use Rattle.search_nodes.proofs.threat.Threats.gain_after.Goals as goal
 use Rattle.search_nodes.proofs.threat.Threats.gain_after.Goals.{then-has, else-has}
 
 retaken : (threats : Threats) (p : Shogi) (e : Eval) (m : Move) (to : ℕ) {gain : ℕ} → AreThreatsIn p e threats → IsValid p → move_of (code_of m) ≡ Some m → is_legal p m ≡ true → end_of m ≡ to → to < 81 → (0 < gain → (has_bit threats.takes.bits to ≡ true) × (gain ≡ taken_gain e (put_by p m))) → 0 < gain → TakesAfter p e m gain
-retaken threats p e m to {gain} are v back legal ends h parts some = λ keeps retakes.
-    ∥∥₁_elim (are.takes to h ((parts some).0)) (Prim.hlevel props) (λ attacked. retake_gain p e m to gain v back legal ends attacked ((parts some).1) keeps retakes)
+retaken threats p e m to {gain} are v back legal ends h parts some = λ plain keeps retakes.
+    ∥∥₁_elim (are.takes to h ((parts some).0)) (Prim.hlevel props) (λ attacked. retake_gain p e m to gain v back legal ends attacked ((parts some).1) plain keeps retakes)
 
 -- a threat that is left takes what it gains
 left : (threat : Option Threat) (p : Shogi) (e : Eval) (m : Move) (put : Option Piece) (gain : ℕ) → ForSome threat (IsThreatIn p e) → IsValid p → move_of (code_of m) ≡ Some m → is_legal p m ≡ true → put_by p m ≡ put → GainsAfter threat put m gain → TakesAfter p e m gain × (gain ≤ 4000)

@@ -47,6 +47,7 @@ root_at s f node beta p e at = record {
   depth = at.depth;
   alpha_is = at.alpha_is;
   beta_is = at.beta_is;
+  deep = at.deep;
 }
 
 counted_as : (p : Shogi) (d : ℕ) (f : Frame) {q : Shogi} → q ≡ p → IsWithinTree q d f.picker → IsWithinTree p d f.picker

@@ -15,7 +15,7 @@ use Rattle.minimax.proofs.Valid.{after_valid}
 use Rattle.shogi_core.specs.Codes.{code_of}
 use Rattle.shogi_search.specs.declared.stack.Stack.{Stack}
 use Rattle.search_nodes.proofs.Nodes.{asked, is_asked, waits}
-use Rattle.shogi_search.proofs.Places.{IsTop, one_top, read_top, on_map, on_top, on_with, changed, room, left_visited}
+use Rattle.shogi_search.proofs.Places.{top_deep, IsTop, one_top, read_top, on_map, on_top, on_with, changed, room, left_visited}
 use Rattle.shogi_search.proofs.NarrowRoots.{uses_after}
 use Rattle.shogi_search.proofs.CallLaws.{asks_in_step, asks_and_asks, asks_none}
 use Rattle.shogi_search.proofs.stack.Stack.enter_child.Goals as goal
@@ -112,7 +112,7 @@ push-requires-clause-deep g c =
     let f : Frame = get_or c.args.self.now.frames c.args.self.now.height c.index-self-self.result in
     let is : IsTop c.args.self.now f = read_top c.args.self.now c.index-self-self.result (omega (arith, c.requires.stack.height_fits)) in
     let deep : 2 ≤ f.depth - 1 = c.in_default-answer_of.ensures.deep in
-    on_map c.narrow.new.self (λ new. KeepsAsked f new) (λ top. 0 < top.depth) (λ new k. subst (λ (n : ℕ). 0 < n) (sym k.1.0) (omega (arith, deep))) (topmost c.args.self.now c.index-self-self.result c.narrow.new.self is c.narrow.ensures.top)
+    on_map c.narrow.new.self (λ new. KeepsAsked f new) (λ top. 2 < top.depth) (λ new k. subst (λ (n : ℕ). 2 < n) (sym k.1.0) (omega (arith, deep))) (topmost c.args.self.now c.index-self-self.result c.narrow.new.self is c.narrow.ensures.top)
 
 pub push-requires-clause-position : goal.push-requires-clause-position
 push-requires-clause-position g c =
@@ -198,3 +198,13 @@ returns-clause-free g c = c.push.ensures.free
 
 pub returns-clause-whole : goal.returns-clause-whole
 returns-clause-whole g c = λ root. absurd (omega (arith, root, c.push.ensures.height))
+
+pub back_up-requires-clause-deep : goal.back_up-requires-clause-deep
+back_up-requires-clause-deep g c =
+    let f : Frame = get_or c.args.self.now.frames c.args.self.now.height c.index-self-self-in-Some.result in
+    top_deep c.args.self.now f (read_top c.args.self.now c.index-self-self-in-Some.result (omega (arith, c.requires.stack.height_fits))) c.requires.stack
+
+pub back_up-requires-in-Some-answer_of-clause-deep : goal.back_up-requires-in-Some-answer_of-clause-deep
+back_up-requires-in-Some-answer_of-clause-deep g c =
+    let f : Frame = get_or c.args.self.now.frames c.args.self.now.height c.index-self-self-in-Some-answer_of.result in
+    top_deep c.args.self.now f (read_top c.args.self.now c.index-self-self-in-Some-answer_of.result (omega (arith, c.requires.stack.height_fits))) c.requires.stack

@@ -14,7 +14,7 @@ use Rattle.shogi_search.proofs.Again.{left_stays}
 use Rattle.shogi_search.proofs.CallLaws.{asks_none, at_most}
 use Rattle.search_nodes.proofs.Passing.{left_kept}
 use Rattle.shogi_search.proofs.Entries.{same_truth, same_window}
-use Rattle.shogi_search.proofs.Places.{HasTop, IsTop, has_top, changed, left_changed, left_in, on_map, on_top, on_with, one_top, read_top}
+use Rattle.shogi_search.proofs.Places.{top_deep, HasTop, IsTop, has_top, changed, left_changed, left_in, on_map, on_top, on_with, one_top, read_top}
 use Rattle.shogi_search.proofs.stack.Stack.leave_narrow.Goals as goal
 
 pub back_up-requires-clause-cutoff : goal.back_up-requires-clause-cutoff
@@ -99,7 +99,7 @@ push-requires-clause-deep g c =
     let child : Frame = get_or s.frames s.height c.index-self-self.result in
     let is : IsTop s child = read_top s c.index-self-self.result (omega (arith, c.requires.stack.height_fits)) in
     let at : OnTop n (IsChildAfter child c.widen-current.result) = on_top s child (λ (top : Frame). OnTop n (IsChildAfter top c.widen-current.result)) is c.widen-current.ensures.child in
-    on_map n (IsChildAfter child c.widen-current.result) (λ (top : Frame). 0 < top.depth) (λ top k. k.0) at
+    on_map n (IsChildAfter child c.widen-current.result) (λ (top : Frame). 2 < top.depth) (λ top k. k.0) at
 
 pub returns-clause-left : goal.returns-clause-left
 returns-clause-left g c =
@@ -128,3 +128,9 @@ returns-then-is_cutoff-clause-height g c = omega (arith, c.widen-current.ensures
 
 pub returns-clause-height : goal.returns-clause-height
 returns-clause-height g c = omega (arith, c.push.ensures.height, c.widen-current.ensures.root)
+
+pub back_up-requires-clause-deep : goal.back_up-requires-clause-deep
+back_up-requires-clause-deep g c =
+    let n : Stack = c.widen-current.new.self in
+    let f : Frame = get_or n.frames n.height c.index-self-self-then-is_cutoff.result in
+    top_deep n f (read_top n c.index-self-self-then-is_cutoff.result (omega (arith, c.widen-current.ensures.root))) c.widen-current.ensures.stack

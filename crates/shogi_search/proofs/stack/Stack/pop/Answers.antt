@@ -11,7 +11,7 @@ use Rattle.shogi_search.specs.declared.stack.Stack.{Stack}
 use Rattle.shogi_search.proofs.Entries.{same_truth, same_window}
 use Rattle.shogi_search.proofs.NarrowRoots.{first_at}
 use Rattle.search_nodes.specs.declared.frame.Frame.{Frame}
-use Rattle.shogi_search.proofs.Places.{HasTop, has_top, on_top, asked_below, truth_below, cutoff_below, stack_popped, left_popped, on_with}
+use Rattle.shogi_search.proofs.Places.{below_deep, HasTop, has_top, on_top, asked_below, truth_below, cutoff_below, stack_popped, left_popped, on_with}
 use Rattle.shogi_search.proofs.CallLaws.{asks_nothing, at_most}
 use Rattle.shogi_search.proofs.stack.Stack.pop.Goals as goal
 use Rattle.shogi_search.proofs.stack.Stack.pop.Goals.{else-self-eq1-via-then-self-eq1+else-self, else-self-eq1-via-else-self-eq1}
@@ -82,3 +82,6 @@ returns-clause-whole g c = λ zero.
       | else-self-eq1-via-then-self-eq1+else-self w ↦ omega (arith, ints, to_z-of_z w32 s.bound low, to_z-of_z w32 s.beta high, w.if-self.false, c.requires.stack.within)
       | else-self-eq1-via-else-self-eq1 w ↦ absurd {A = s.bound ≡ s.beta} (omega (arith, zero, c.if-self-eq0.false, w.if-self-eq1.false))
     ]
+
+pub back_up-requires-clause-deep : goal.back_up-requires-clause-deep
+back_up-requires-clause-deep g c = below_deep c.args.self.now _ c.requires.stack (omega (arith, c.if-self-eq0.false)) (omega (arith, c.requires.stack.height_fits))

@@ -20,12 +20,14 @@ returns-clause-stack g c =
     let m : Move = c.args.current.now in
     let f : Frame = get_or s.frames s.height c.index-self-self.result in
     let is : IsTop s f = read_top s c.index-self-self.result (omega (arith, c.requires.room)) in
-    let deep : 0 < f.depth = on_top s f (λ (top : Frame). 0 < top.depth) is c.requires.deep in
+    let over : 2 < f.depth = on_top s f (λ (top : Frame). 2 < top.depth) is c.requires.deep in
+    let deep : 0 < f.depth = omega (arith, over) in
     let there : c.args.node.now.position ≡ position_after f m = on_top s f (λ (top : Frame). c.args.node.now.position ≡ position_after top m) is c.requires.position in
     let window : IsAt (position_after f m) f.node.eval (f.depth - 1) (negated f.beta) (negated (threshold_of f m)) c.enter.new.self = record {
       position = c.enter.ensures.place.position ∙ there;
       eval = c.enter.ensures.place.eval ∙ on_top s f (λ (top : Frame). c.args.node.now.eval ≡ top.node.eval) is c.requires.eval;
       depth = c.enter.ensures.place.depth;
+      deep = c.enter.ensures.place.deep;
       alpha_is = omega (arith, ints, c.enter.ensures.place.alpha_is, c.window-alpha.ensures.alpha, c.window-alpha.ensures.least, c.window-alpha.ensures.«open», c.window-alpha.ensures.most);
       beta_is = omega (arith, ints, c.enter.ensures.place.beta_is, c.window-alpha.ensures.beta, c.window-alpha.ensures.least, c.window-alpha.ensures.«open», c.window-alpha.ensures.most);
     } in
@@ -42,12 +44,14 @@ returns-clause-left g c =
     let m : Move = c.args.current.now in
     let f : Frame = get_or s.frames s.height c.index-self-self.result in
     let is : IsTop s f = read_top s c.index-self-self.result (omega (arith, c.requires.room)) in
-    let deep : 0 < f.depth = on_top s f (λ (top : Frame). 0 < top.depth) is c.requires.deep in
+    let over : 2 < f.depth = on_top s f (λ (top : Frame). 2 < top.depth) is c.requires.deep in
+    let deep : 0 < f.depth = omega (arith, over) in
     let there : c.args.node.now.position ≡ position_after f m = on_top s f (λ (top : Frame). c.args.node.now.position ≡ position_after top m) is c.requires.position in
     let window : IsAt (position_after f m) f.node.eval (f.depth - 1) (negated f.beta) (negated (threshold_of f m)) c.enter.new.self = record {
       position = c.enter.ensures.place.position ∙ there;
       eval = c.enter.ensures.place.eval ∙ on_top s f (λ (top : Frame). c.args.node.now.eval ≡ top.node.eval) is c.requires.eval;
       depth = c.enter.ensures.place.depth;
+      deep = c.enter.ensures.place.deep;
       alpha_is = omega (arith, ints, c.enter.ensures.place.alpha_is, c.window-alpha.ensures.alpha, c.window-alpha.ensures.least, c.window-alpha.ensures.«open», c.window-alpha.ensures.most);
       beta_is = omega (arith, ints, c.enter.ensures.place.beta_is, c.window-alpha.ensures.beta, c.window-alpha.ensures.least, c.window-alpha.ensures.«open», c.window-alpha.ensures.most);
     } in
@@ -60,12 +64,14 @@ returns-clause-once g c = λ whole.
     let m : Move = c.args.current.now in
     let f : Frame = get_or s.frames s.height c.index-self-self.result in
     let is : IsTop s f = read_top s c.index-self-self.result (omega (arith, c.requires.room)) in
-    let deep : 0 < f.depth = on_top s f (λ (top : Frame). 0 < top.depth) is c.requires.deep in
+    let over : 2 < f.depth = on_top s f (λ (top : Frame). 2 < top.depth) is c.requires.deep in
+    let deep : 0 < f.depth = omega (arith, over) in
     let there : c.args.node.now.position ≡ position_after f m = on_top s f (λ (top : Frame). c.args.node.now.position ≡ position_after top m) is c.requires.position in
     let window : IsAt (position_after f m) f.node.eval (f.depth - 1) (negated f.beta) (negated (threshold_of f m)) c.enter.new.self = record {
       position = c.enter.ensures.place.position ∙ there;
       eval = c.enter.ensures.place.eval ∙ on_top s f (λ (top : Frame). c.args.node.now.eval ≡ top.node.eval) is c.requires.eval;
       depth = c.enter.ensures.place.depth;
+      deep = c.enter.ensures.place.deep;
       alpha_is = omega (arith, ints, c.enter.ensures.place.alpha_is, c.window-alpha.ensures.alpha, c.window-alpha.ensures.least, c.window-alpha.ensures.«open», c.window-alpha.ensures.most);
       beta_is = omega (arith, ints, c.enter.ensures.place.beta_is, c.window-alpha.ensures.beta, c.window-alpha.ensures.least, c.window-alpha.ensures.«open», c.window-alpha.ensures.most);
     } in
@@ -84,7 +90,8 @@ overflow_sub-depth g c =
     let s : Stack = c.args.self.now in
     let f : Frame = get_or s.frames s.height c.index-self-self.result in
     let is : IsTop s f = read_top s c.index-self-self.result (omega (arith, c.requires.room)) in
-    let deep : 0 < f.depth = on_top s f (λ (top : Frame). 0 < top.depth) is c.requires.deep in
+    let over : 2 < f.depth = on_top s f (λ (top : Frame). 2 < top.depth) is c.requires.deep in
+    let deep : 0 < f.depth = omega (arith, over) in
     omega (arith, deep)
 
 pub enter-requires-clause-shallow : goal.enter-requires-clause-shallow
