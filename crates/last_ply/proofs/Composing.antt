@@ -1,5 +1,5 @@
 -- What the scores of moves and the mates among them make of a node with one ply left.
-use Rattle.std.proofs.Common.{◌≡◌, ◌≢◌, ◌<◌, ◌⊎◌, ℕ, ℤ, pos, ◌-ℤ◌, ◌≤ℤ◌, List, [], ◌∷◌, true, false, Some, refl, ap, ◌∙◌, sym, subst, arith, inl, inr}
+use Rattle.std.proofs.Common.{◌≡◌, ◌≢◌, ◌<◌, ◌⊎◌, ℕ, ℤ, pos, ◌-ℤ◌, ◌≤ℤ◌, List, [], ◌∷◌, true, Some, refl, ap, ◌∙◌, sym, subst, arith, inl, inr}
 use Rattle.std.proofs.lemmas.Int.{ints}
 use Rattle.std.specs.Prelude.{◌==◌}
 use Rattle.std.proofs.lemmas.Bool.{cases_lt, lt-ltb, le-ltb, or_left, eq-eqb}
@@ -16,15 +16,15 @@ use Rattle.shogi_eval.specs.declared.points.TheConstants.{POINTS_MAX}
 use Rattle.shogi_eval.specs.Material.{material_of}
 use Rattle.shogi_eval.proofs.Bounds.{material_bounds}
 use Rattle.minimax.specs.declared.bounds.TheConstants.{MATE}
-use Rattle.shogi_eval.specs.Exchange.{left_by, settles}
+use Rattle.shogi_eval.specs.Exchange.{left_by}
 use Rattle.minimax.specs.Minimax.{value, worth, ended, lost_value, greatest_or}
-use Rattle.minimax.proofs.Settling.{left_least, left_plain}
+use Rattle.minimax.proofs.Settling.{IsBounded, left_bounded}
 use Rattle.minimax.specs.Window.{IsCovered, threshold}
 use Rattle.minimax.proofs.MinimaxLaws.{value-above, ended_some, ended_none, cut}
 use Rattle.minimax.proofs.Greatest.{greatest_or-least}
 use Rattle.minimax.proofs.Left.{IsFound, found_best, left_lost}
 use Rattle.minimax.proofs.Valid.{after_valid}
-use Rattle.last_ply.specs.LastPly.{score_at, left_score, LeavesNone, LeavesSome, HasScore, ScoresAtMost, HasMate, HasNoMate, IsLeast, IsNoLoss, IsFirstMate}
+use Rattle.last_ply.specs.LastPly.{score_at, raw_score, LeavesNone, LeavesSome, HasScore, ScoresAtMost, HasMate, HasNoMate, IsLeast, IsNoLoss, IsFirstMate}
 
 -- a list is empty or not
 pub some_or_none : (xs : List ℕ) → (xs ≡ []) ⊎ (xs ≢ [])
@@ -34,35 +34,33 @@ some_or_none (x ∷ xs) = inr (λ e. cc)
 pub none_left : (q : Shogi) → ((legal_codes q ≢ []) → ⊥) → legal_codes q ≡ []
 none_left q not_some = elim (some_or_none (legal_codes q)) [ inl none ↦ none | inr some ↦ absurd (not_some some) ]
 
--- what a move is worth at depth 1: what it leaves, or a mate
-pub worth_left : (p : Shogi) (e : Eval) (n : ℕ) → LeavesSome p n → worth p e 0 n ≡ left_score p e n
-worth_left p e n s = ap (λ (v : ℤ). pos 0 -ℤ v) (ended_some p e n s)
-
--- its score, where nothing is settled, and never more
-pub worth_some : (p : Shogi) (e : Eval) (n : ℕ) → settles e ≡ false → LeavesSome p n → worth p e 0 n ≡ score_at p e n
-worth_some p e n plain s = worth_left p e n s ∙ ap (λ (v : ℤ). pos 0 -ℤ v) (left_plain p e n plain)
-
-pub worth_most : (p : Shogi) (e : Eval) (n : ℕ) → LeavesSome p n → worth p e 0 n ≤ℤ score_at p e n
-worth_most p e n s =
-    let is : worth p e 0 n ≡ left_score p e n = worth_left p e n s in
-    let least : material_of (after_code p n) e ≤ℤ left_by p e n = left_least p e n in
-    omega (arith, ints, is, least)
+-- what a move is worth at depth 1: its score, or a mate
+pub worth_some : (p : Shogi) (e : Eval) (n : ℕ) → LeavesSome p n → worth p e 0 n ≡ score_at p e n
+worth_some p e n s = ap (λ (v : ℤ). pos 0 -ℤ v) (ended_some p e n s)
 
 pub worth_none : (p : Shogi) (e : Eval) (n : ℕ) → LeavesNone p n → worth p e 0 n ≡ MATE
 worth_none p e n none =
     let v : ended p e n ≡ lost_value 0 = ended_none p e n none in
     omega (arith, ints, v)
 
--- what a legal move scores lies within the bounds of material
+-- what a legal move scores lies within the bounds of material, settled or not
 pub score_bounds : (p : Shogi) (e : Eval) (n : ℕ) → IsValid p → is_in n (legal_codes p) ≡ true → ((pos 0 -ℤ pos POINTS_MAX) ≤ℤ score_at p e n) × (score_at p e n ≤ℤ pos POINTS_MAX)
 score_bounds p e n ok i =
+    let b : IsBounded (left_by p e n) = left_bounded p e n (after_valid p n ok i) in
+    let low : (pos 0 -ℤ pos POINTS_MAX) ≤ℤ left_by p e n = b.least in
+    let high : left_by p e n ≤ℤ pos POINTS_MAX = b.most in
+    (omega (arith, ints, low, high), omega (arith, ints, low, high))
+
+pub raw_bounds : (p : Shogi) (e : Eval) (n : ℕ) → IsValid p → is_in n (legal_codes p) ≡ true → ((pos 0 -ℤ pos POINTS_MAX) ≤ℤ raw_score p e n) × (raw_score p e n ≤ℤ pos POINTS_MAX)
+raw_bounds p e n ok i =
     let b : ((pos 0 -ℤ pos POINTS_MAX) ≤ℤ material_of (after_code p n) e) × (material_of (after_code p n) e ≤ℤ pos POINTS_MAX) = material_bounds (after_code p n) e (after_valid p n ok i) in
     let low : (pos 0 -ℤ pos POINTS_MAX) ≤ℤ material_of (after_code p n) e = b.0 in
     let high : material_of (after_code p n) e ≤ℤ pos POINTS_MAX = b.1 in
     (omega (arith, ints), omega (arith, ints))
 
--- a legal move scores less than a mate, and is worth no more than that
+-- a legal move scores less than a mate, and no more than it is worth
 pub record IsScored (p : Shogi) (e : Eval) (n : ℕ) : Type 0 where
+  pub worth_is : score_at p e n ≤ℤ worth p e 0 n
   pub small : score_at p e n ≤ℤ pos POINTS_MAX
   pub most : worth p e 0 n ≤ℤ MATE
 
@@ -71,24 +69,16 @@ scored p e n ok i =
     let b : ((pos 0 -ℤ pos POINTS_MAX) ≤ℤ score_at p e n) × (score_at p e n ≤ℤ pos POINTS_MAX) = score_bounds p e n ok i in
     let high : score_at p e n ≤ℤ pos POINTS_MAX = b.1 in
     elim (some_or_none (legal_codes (after_code p n))) [
-      | inl none ↦ (let q : worth p e 0 n ≡ MATE = worth_none p e n none in record { small = high; most = omega (arith, ints, q) })
-      | inr some ↦ (let q : worth p e 0 n ≤ℤ score_at p e n = worth_most p e n some in record { small = high; most = omega (arith, ints, q, high) })
-    ]
-
--- and no less, where nothing is settled
-pub worth_least : (p : Shogi) (e : Eval) (n : ℕ) → settles e ≡ false → IsValid p → is_in n (legal_codes p) ≡ true → score_at p e n ≤ℤ worth p e 0 n
-worth_least p e n plain ok i =
-    let high : score_at p e n ≤ℤ pos POINTS_MAX = (scored p e n ok i).small in
-    elim (some_or_none (legal_codes (after_code p n))) [
-      | inl none ↦ (let q : worth p e 0 n ≡ MATE = worth_none p e n none in omega (arith, ints, q, high))
-      | inr some ↦ (let q : worth p e 0 n ≡ score_at p e n = worth_some p e n plain some in omega (arith, ints, q))
+      | inl none ↦ (let q : worth p e 0 n ≡ MATE = worth_none p e n none in record { worth_is = omega (arith, ints, q, high); small = high; most = omega (arith, ints, q) })
+      | inr some ↦ (let q : worth p e 0 n ≡ score_at p e n = worth_some p e n some in record { worth_is = omega (arith, ints, q); small = high; most = omega (arith, ints, q, high) })
     ]
 
 -- a score that is reached bounds the value from below, whatever the other side may do
-pub at_least : (p : Shogi) (e : Eval) (v : ℤ) → settles e ≡ false → IsValid p → HasScore p e v → v ≤ℤ value p e 1
-at_least p e v plain ok h =
+pub at_least : (p : Shogi) (e : Eval) (v : ℤ) → IsValid p → HasScore p e v → v ≤ℤ value p e 1
+at_least p e v ok h =
+    let s : IsScored p e h.code = scored p e h.code ok h.listed in
     let l : v ≤ℤ score_at p e h.code = h.at_least in
-    let m : score_at p e h.code ≤ℤ worth p e 0 h.code = worth_least p e h.code plain ok h.listed in
+    let m : score_at p e h.code ≤ℤ worth p e 0 h.code = s.worth_is in
     cut p e 1 h.code v (omega arith) h.listed (omega (arith, ints))
 
 -- so does a mate
@@ -115,7 +105,7 @@ at_most_mate p e ok = worth_at_most p e MATE (λ n i. (scored p e n ok i).most) 
 
 -- without a mate, what no move scores more than bounds the value from above
 pub at_most : (p : Shogi) (e : Eval) (v : ℤ) → HasNoMate p → ScoresAtMost p e v → IsNoLoss p v → value p e 1 ≤ℤ v
-at_most p e v quiet most lost = worth_at_most p e v (λ n i. let q : worth p e 0 n ≤ℤ score_at p e n = worth_most p e n (quiet n i) in let l : score_at p e n ≤ℤ v = most n i in omega (arith, ints)) lost
+at_most p e v quiet most lost = worth_at_most p e v (λ n i. let q : worth p e 0 n ≡ score_at p e n = worth_some p e n (quiet n i) in let l : score_at p e n ≤ℤ v = most n i in omega (arith, ints)) lost
 
 -- a move that is not the first of those that are worth v, where none is worth more
 before : (v w : ℤ) (b n : ℕ) → w ≤ℤ v → (n < b → w ≡ v → ⊥) → w ≤ℤ threshold v (Some b) n
@@ -144,16 +134,12 @@ mate_found p e m ok back l =
     mates : (n : ℕ) → is_in n (legal_codes p) ≡ true → worth p e 0 n ≡ MATE → LeavesNone p n
     mates n i q = elim (some_or_none (legal_codes (after_code p n))) [
       | inl none ↦ none
-      | inr some ↦ (let w : worth p e 0 n ≤ℤ score_at p e n = worth_most p e n some in let s : score_at p e n ≤ℤ pos POINTS_MAX = (scored p e n ok i).small in absurd (omega (arith, ints)))
+      | inr some ↦ (let w : worth p e 0 n ≡ score_at p e n = worth_some p e n some in let s : score_at p e n ≤ℤ pos POINTS_MAX = (scored p e n ok i).small in absurd (omega (arith, ints)))
     ]
 
--- and where no move mates, and this one is the first that leaves the most, however that is counted
-pub first_found : (p : Shogi) (e : Eval) (f : ℕ → ℤ) (v : ℤ) (m : Move) → move_of (code_of m) ≡ Some m → HasNoMate p → ((n : ℕ) → LeavesSome p n → worth p e 0 n ≡ f n) → ((n : ℕ) → is_in n (legal_codes p) ≡ true → f n ≤ℤ v) → IsLeast p (λ n. f n ≡ v) (code_of m) → IsFound p e 1 v (Some m)
-first_found p e f v m back quiet counts most l =
-    let same : (n : ℕ) → is_in n (legal_codes p) ≡ true → worth p e 0 n ≡ f n = λ n i. counts n (quiet n i) in
+-- and where no move mates, and this one is the first that scores the most
+pub score_found : (p : Shogi) (e : Eval) (v : ℤ) (m : Move) → IsValid p → move_of (code_of m) ≡ Some m → HasNoMate p → ScoresAtMost p e v → IsLeast p (λ n. score_at p e n ≡ v) (code_of m) → IsFound p e 1 v (Some m)
+score_found p e v m ok back quiet most l =
+    let same : (n : ℕ) → is_in n (legal_codes p) ≡ true → worth p e 0 n ≡ score_at p e n = λ n i. worth_some p e n (quiet n i) in
     found_best p e 1 v v [] m (Some m) (omega arith) (legal_rising p 0) back refl refl
     (covered p e v (code_of m) l.listed (same (code_of m) l.listed ∙ l.met) (λ n i. subst (λ (x : ℤ). x ≤ℤ v) (sym (same n i)) (most n i)) (λ n i lt q. l.least n i lt (sym (same n i) ∙ q)))
-
--- the first that scores the most, where nothing is settled
-pub score_found : (p : Shogi) (e : Eval) (v : ℤ) (m : Move) → settles e ≡ false → move_of (code_of m) ≡ Some m → HasNoMate p → ScoresAtMost p e v → IsLeast p (λ n. score_at p e n ≡ v) (code_of m) → IsFound p e 1 v (Some m)
-score_found p e v m plain back quiet most l = first_found p e (score_at p e) v m back quiet (λ n some. worth_some p e n plain some) most l

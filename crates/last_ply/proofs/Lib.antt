@@ -2,6 +2,7 @@ pub mod Answering
 pub mod Composing
 pub mod Squares
 pub mod Scores
+pub mod Settled
 pub mod Passing
 pub mod MateLaws
 pub mod OneWalk

@@ -1,6 +1,6 @@
 -- What the moves of a piece score.
 use Rattle.std.proofs.Common.{◌≡◌, ◌<◌, ◌≤◌, ◌+◌, ◌-◌, ◌/◌, ◌%◌, ℕ, ℤ, pos, ◌-ℤ◌, ◌+ℤ◌, ◌≤ℤ◌, Bool, true, false, not, Option, Some, None, bit_and, bit_or, refl, sym, ap, ◌∙◌, subst, arith, inl, inr}
-use Rattle.std.specs.Prelude.{◌&&◌, ◌||◌, ◌==◌}
+use Rattle.std.specs.Prelude.{◌&&◌, ◌||◌, ◌==◌, is_none}
 use Rattle.std.proofs.lemmas.Int.{ints}
 use Rattle.std.proofs.lemmas.Bool.{and_parts, and_from, both_ways, cases_Bool, cases_lt, cases_eq, true_from_ne_false, false_from_ne_true, or_parts, not-true}
 use Rattle.shogi_core.specs.declared.moves.TheConstants.{FIRST_DROP, MOVE_CODE_COUNT}
@@ -37,14 +37,20 @@ use Rattle.shogi_moves.proofs.LegalLaws.{in_legal, legal_in, legal_code_below, i
 use Rattle.shogi_eval.specs.declared.eval.Eval.{Eval}
 use Rattle.shogi_eval.specs.declared.eval.Eval.TheVariants.{Plain, Hand, Exchange}
 use Rattle.shogi_eval.specs.declared.gain.TheConstants.{PROMOTION_GAIN_MAX}
+use Rattle.shogi_eval.specs.Exchange.{is_quiet, left_by}
 use Rattle.shogi_eval.specs.Material.{material_of, taken_gain, promotion_gain, drop_gain, value_of}
 use Rattle.shogi_eval.proofs.Gains.{material_after_board, material_after_drop}
+use Rattle.minimax.proofs.Settling.{left_least, left_quiet}
 use Rattle.last_ply.proofs.Squares.{left_clear}
-use Rattle.last_ply.specs.LastPly.{is_legal_board_move, score_at, HasScore, IsReach, ScoresAtMost, ScoresFromAtMost, ScoresAmongAtMost, OnOwn}
+use Rattle.last_ply.specs.LastPly.{is_legal_board_move, score_at, raw_score, HasScore, IsReach, ScoresAtMost, ScoresFromAtMost, ScoresAmongAtMost, OnOwn}
 
--- what the move on the board of a code scores
+-- what is settled scores no more than it does unsettled
+pub score_most : (p : Shogi) (e : Eval) (code : ℕ) → score_at p e code ≤ℤ raw_score p e code
+score_most p e code = let least : material_of (after_code p code) e ≤ℤ left_by p e code = left_least p e code in omega (arith, ints, least)
+
+-- what the move on the board of a code scores with nothing settled
 pub score_board : (p : Shogi) (e : Eval) (from to : ℕ) (promote : Bool) → IsValid p → from < 81 → to < 81 → is_legal_board_move p from to promote ≡ true
-    → score_at p e (code_of (Board from to promote)) ≡ (material_of p e +ℤ pos (taken_gain e (piece_at p.cells to) + promotion_gain promote (piece_at p.cells from)))
+    → raw_score p e (code_of (Board from to promote)) ≡ (material_of p e +ℤ pos (taken_gain e (piece_at p.cells to) + promotion_gain promote (piece_at p.cells from)))
 score_board p e from to promote v hf ht l =
     let back : move_of (code_of (Board from to promote)) ≡ Some (Board from to promote) = move_of-board from to promote hf ht in
     let legal : is_legal p (Board from to promote) ≡ true = sym (is_legal_code_of p (code_of (Board from to promote)) (Board from to promote) back) ∙ l in
@@ -77,7 +83,9 @@ score_quiet p e from to v hf ht l free =
     let taken : taken_gain e (piece_at p.cells to) ≡ 0 = ap (taken_gain e) none in
     let promotion : promotion_gain false (piece_at p.cells from) ≡ 0 = plain_gain (piece_at p.cells from) in
     let law : _ = score_board p e from to false v hf ht l in
-    omega (arith, ints, law, taken, promotion)
+    let quiet : is_quiet p (move_of (code_of (Board from to false))) ≡ true = ap (is_quiet p) back ∙ ap is_none none in
+    let left : left_by p e (code_of (Board from to false)) ≡ material_of (after_code p (code_of (Board from to false))) e = left_quiet p e (code_of (Board from to false)) quiet in
+    omega (arith, ints, law, taken, promotion, left)
 
 -- what a legal move on the board obeys
 pub legal_parts : (p : Shogi) (from n : ℕ) (promote : Bool) → from < 81 → n < 81 → is_legal_board_move p from n promote ≡ true → (reaches p.cells from n ≡ true) × (is_own p n ≡ false) × ((not promote || may_promote (piece_at p.cells from) from n) ≡ true)
@@ -153,7 +161,8 @@ score_drop p e kind to code v ht back l =
     let law : material_of (after p (Drop kind to)) e ≡ pos 0 -ℤ (material_of p e +ℤ drop_gain e kind) = material_after_drop p e kind to v ht legal in
     let at : material_of (after_code p code) e ≡ material_of (after p (Drop kind to)) e = ap (λ (q : Shogi). material_of q e) (after_code_at p code (Drop kind to) back) in
     let most : drop_gain e kind ≤ℤ pos 0 = drop_gain_most e kind in
-    omega (arith, ints, law, at)
+    let raw : score_at p e code ≤ℤ raw_score p e code = score_most p e code in
+    omega (arith, ints, law, at, raw)
 
 -- what holds of the legal moves of each piece and of the drops of each kind holds of all legal moves
 pub by_moves : (p : Shogi) (fact : ℕ → Type 0) → OnOwn p (λ from. (n : ℕ) (promote : Bool) → n < 81 → is_legal_board_move p from n promote ≡ true → fact (code_of (Board from n promote)))
@@ -189,11 +198,11 @@ one_more_piece p e left next k old new kept bits all up same here n h own out = 
   | inr other ↦ weaker p e n old kept (all n h own (left_clear left next k n bits other out)) (omega (arith, ints))
 ]
 
--- a legal move on the board scores no less than the node has
-pub board_score : (p : Shogi) (e : Eval) (from to : ℕ) (promote : Bool) → IsValid p → from < 81 → to < 81 → is_legal_board_move p from to promote ≡ true → HasScore p e (material_of p e)
-board_score p e from to promote v hf ht l =
-    let law : _ = score_board p e from to promote v hf ht l in
-    record { code = code_of (Board from to promote); listed = in_legal p 0 (code_of (Board from to promote)) (omega arith) l; at_least = omega (arith, ints, law) }
+-- with one that takes nothing and does not promote, some move scores what the node has
+pub quiet_score : (p : Shogi) (e : Eval) (from to : ℕ) → IsValid p → from < 81 → to < 81 → is_legal_board_move p from to false ≡ true → is_piece_of (opponent_of p.side) (piece_at p.cells to) ≡ false → HasScore p e (material_of p e)
+quiet_score p e from to v hf ht l free =
+    let law : _ = score_quiet p e from to v hf ht l free in
+    record { code = code_of (Board from to false); listed = in_legal p 0 (code_of (Board from to false)) (omega arith) l; at_least = omega (arith, ints, law) }
 
 -- a piece that takes nothing and cannot promote scores what the node has
 pub quiet_piece : (p : Shogi) (e : Eval) (from : ℕ) → IsValid p → from < 81 → ((t : ℕ) → t < 81 → (reaches p.cells from t && is_destination true p.side (piece_at p.cells t)) ≡ false) → ((t : ℕ) → t < 81 → reaches p.cells from t ≡ true → may_promote (piece_at p.cells from) from t ≡ false) → ScoresFromAtMost p e from (material_of p e)
@@ -243,11 +252,12 @@ pub poor_piece : (p : Shogi) (e : Eval) (from : ℕ) (v : ℤ) → IsValid p →
     → ScoresFromAtMost p e from v
 poor_piece p e from v ok hf room takes n promote h l =
     let law : _ = score_board p e from n promote ok hf h l in
+    let raw : score_at p e (code_of (Board from n promote)) ≤ℤ raw_score p e (code_of (Board from n promote)) = score_most p e (code_of (Board from n promote)) in
     let parts = legal_parts p from n promote hf h l in
     let promotion : promotion_gain promote (piece_at p.cells from) ≤ PROMOTION_GAIN_MAX = promotion_most promote (piece_at p.cells from) in
     elim (cases_Bool (is_piece_of (opponent_of p.side) (piece_at p.cells n))) [
-      | inl there ↦ (let t : _ = takes n h parts.0 there in omega (arith, ints, law, t, promotion))
-      | inr free ↦ (let taken : taken_gain e (piece_at p.cells n) ≡ 0 = ap (taken_gain e) (nobody p.side (piece_at p.cells n) parts.1 free) in omega (arith, ints, law, taken, promotion, room))
+      | inl there ↦ (let t : _ = takes n h parts.0 there in omega (arith, ints, law, raw, t, promotion))
+      | inr free ↦ (let taken : taken_gain e (piece_at p.cells n) ≡ 0 = ap (taken_gain e) (nobody p.side (piece_at p.cells n) parts.1 free) in omega (arith, ints, law, raw, taken, promotion, room))
     ]
 
 -- what reaches a square stands near it, or slides and is on a line with it

@@ -21,7 +21,7 @@ use Rattle.shogi_replies.specs.Replies.{IsAnswered}
 use Rattle.shogi_eval.specs.declared.eval.Eval.{Eval}
 use Rattle.shogi_eval.specs.declared.gain.TheConstants.{PROMOTION_GAIN_MAX}
 use Rattle.shogi_eval.specs.Evaluated.{Evaluated}
-use Rattle.shogi_eval.specs.Exchange.{left_by, settles}
+use Rattle.shogi_eval.specs.Exchange.{left_by}
 use Rattle.shogi_eval.specs.Material.{material_of, taken_gain}
 use Rattle.minimax.specs.Minimax.{negated, lost_value, IsTrueEntry}
 use Rattle.minimax.specs.declared.entry.Entry.{Entry}
@@ -67,20 +67,20 @@ OnOwn p fact = (n : ℕ) → n < 81 → is_own p n ≡ true → fact n
 abbrev pub base_of : Evaluated → ℤ
 base_of node = material_of node.position node.eval
 
--- what the move of a code scores: the material after it, for its mover
+-- what the move of a code scores: what its mover has left, once the other side has settled it under an evaluation that does so
 abbrev pub score_at : Shogi → Eval → ℕ → ℤ
-score_at p e code = negated (material_of (after_code p code) e)
+score_at p e code = negated (left_by p e code)
 
--- what it leaves: the same, once the other side has settled it under an evaluation that does so
-abbrev pub left_score : Shogi → Eval → ℕ → ℤ
-left_score p e code = negated (left_by p e code)
+-- what it scores if nothing is settled: the material after it, for its mover
+abbrev pub raw_score : Shogi → Eval → ℕ → ℤ
+raw_score p e code = negated (material_of (after_code p code) e)
 
 -- the same of a node
-abbrev pub left_of : Evaluated → ℕ → ℤ
-left_of node = left_score node.position node.eval
-
 abbrev pub score_of : Evaluated → ℕ → ℤ
 score_of node = score_at node.position node.eval
+
+abbrev pub raw_of : Evaluated → ℕ → ℤ
+raw_of node = raw_score node.position node.eval
 
 -- the other side has no legal move after the move of the code
 abbrev pub LeavesNone : Shogi → ℕ → Type 0
@@ -157,10 +157,10 @@ NoneGains node v = base_of node <ℤ v → NoneScores node v
 abbrev pub BoardMoveScores : Evaluated → ℤ → ℕ → ℕ → Bool → Type 0
 BoardMoveScores node v from to promote = Scores node v (code_of (Board from to promote))
 
--- if the move of what stands on the square to another one is legal, it scores this
-abbrev pub ScoresTo : Evaluated → ℤ → ℕ → ℕ → Bool → Type 0
-ScoresTo node v from to promote = is_legal_board_move node.position from to promote ≡ true
-    → Scores node v (code_of (Board from to promote))
+-- if the move of what stands on the square to another one is legal, it scores this with nothing settled
+abbrev pub RawScoresTo : Evaluated → ℤ → ℕ → ℕ → Bool → Type 0
+RawScoresTo node v from to promote = is_legal_board_move node.position from to promote ≡ true
+    → raw_of node (code_of (Board from to promote)) ≡ v
 
 -- if it is legal, it scores something else
 abbrev pub ScoresElse : Evaluated → ℤ → ℕ → ℕ → Bool → Type 0
@@ -307,7 +307,3 @@ NodeScoresAtMost node v = ScoresAtMost node.position node.eval v
 
 abbrev pub NodeScoresFromAtMost : Evaluated → ℤ → ℕ → Type 0
 NodeScoresFromAtMost node v from = ScoresFromAtMost node.position node.eval from v
-
--- captures at the end of a line are not settled under its evaluation
-abbrev pub SettlesNone : Evaluated → Type 0
-SettlesNone node = settles node.eval ≡ false

@@ -1,10 +1,10 @@
 //! What is known of a node with one ply left, within a window.
 
-ghost use Rattle.std.specs.Prelude.{◌≡◌, ◌<◌, ◌^◌, ◌≤ℤ◌, ◌<ℤ◌, ℤ, IfSome, IsNone, true};
+ghost use Rattle.std.specs.Prelude.{◌≡◌, ◌<◌, ◌^◌, ◌≤ℤ◌, ◌<ℤ◌, IfSome, IsNone, true, false};
 ghost use Rattle.minimax.specs.Entries.{IsCutoff};
 ghost use Rattle.minimax.specs.Minimax.{negated, IsTrueEntry};
 ghost use Rattle.minimax.specs.declared.bounds.TheConstants.{INFINITY};
-ghost use Rattle.last_ply.specs.LastPly.{AreLegalEnds, base_of, HasNoMate, IsNoLoss, IsTrueOf, NodeHasScore, NodeScoresAtMost, SettlesNone};
+ghost use Rattle.last_ply.specs.LastPly.{AreLegalEnds, base_of, HasNoMate, IsNoLoss, IsTrueOf, NodeHasScore, NodeScoresAtMost};
 
 use crate::scene::Scene;
 use minimax::{Entry, MATE};
@@ -14,22 +14,24 @@ use shogi_eval::Node;
 use shogi_moves::has_legal;
 
 impl Scene<'_> {
-    /// Whether there is one of the legal ends, to which a move scores no less than the node has.
-    fn has_end(&self, from: Square, promote: bool, ends: Squares) -> bool
-        requires { AreLegalEnds self.now.node.now.position from promote ends.bits }
+    /// Whether one of the legal ends is one where nothing is taken, so that the move there, without
+    /// promotion, scores what the node has.
+    fn has_quiet_end(&self, from: Square, ends: Squares) -> bool
+        requires { AreLegalEnds self.now.node.now.position from false ends.bits }
         ensures { result ≡ true → NodeHasScore self.now.node.now
             (base_of self.now.node.now) }
     {
-        let _ = promote;
         from.validity();
-        if ends.is_empty() {
+        let quiet = ends.without(self.foe);
+        if quiet.is_empty() {
             return false;
         }
-        let _to = lowest(ends.bits);
+        let _to = lowest(quiet.bits);
         true
     }
 
-    /// Whether a piece on the board has a legal move, which then scores no less than the node has.
+    /// Whether a piece on the board has a legal move that takes nothing and does not promote: it
+    /// scores what the node has.
     fn has_board_move(&self) -> bool
         ensures { result ≡ true → NodeHasScore self.now.node.now
             (base_of self.now.node.now) }
@@ -38,8 +40,7 @@ impl Scene<'_> {
         while left != 0 {
             let square = lowest(left);
             let from = Square::of_index(square);
-            let ends = self.destinations(from);
-            if self.has_end(from, false, ends.plain) || self.has_end(from, true, ends.promoting) {
+            if self.has_quiet_end(from, self.destinations(from).plain) {
                 return true;
             }
             left = without_lowest(left, square);
@@ -73,7 +74,6 @@ impl Scene<'_> {
 
     /// What is known where no legal move does, and none scores more than this.
     fn score_entry(&self, most: i32, alpha: i32, beta: i32) -> Entry
-        requires plain { SettlesNone self.now.node.now }
         requires quiet { HasNoMate self.now.node.now.position }
         requires all { NodeScoresAtMost self.now.node.now most }
         requires some { alpha <ℤ most → NodeHasScore self.now.node.now most }
@@ -95,7 +95,6 @@ impl Scene<'_> {
 
     /// What is known where no legal move scores more than this, unless that is enough.
     fn settled(&self, most: i32, alpha: i32, beta: i32) -> Entry
-        requires plain { SettlesNone self.now.node.now }
         requires all { most <ℤ beta → NodeScoresAtMost self.now.node.now most }
         requires some { alpha <ℤ most → NodeHasScore self.now.node.now most }
         requires lost { IsNoLoss self.now.node.now.position most }
@@ -114,7 +113,6 @@ impl Scene<'_> {
 
     /// The same where perhaps only drops are legal, of which all may score less than the node has.
     fn by_all_moves(&self, alpha: i32, beta: i32) -> Entry
-        requires plain { SettlesNone self.now.node.now }
         requires open { alpha <ℤ beta }
         ensures truth { IsTrueOf self.now.node.now result }
         ensures cutoff { IsCutoff alpha beta result }
@@ -127,7 +125,6 @@ impl Scene<'_> {
 
     /// What is known where the node has more than the window's lower end.
     fn above(&self, base: i32, alpha: i32, beta: i32) -> Entry
-        requires plain { SettlesNone self.now.node.now }
         requires base { base ≡ base_of self.now.node.now }
         requires above { alpha <ℤ base }
         requires open { alpha <ℤ beta }
@@ -147,28 +144,6 @@ impl Scene<'_> {
 
 /// What is known of a node with one ply left: enough for the window.
 pub fn last_ply(node: &Node, alpha: i32, beta: i32) -> Entry
-    requires open { alpha <ℤ beta }
-    ensures truth { IsTrueEntry node.now.position node.now.eval 1 result }
-    ensures cutoff { IsCutoff alpha beta result }
-{
-    if node.eval().settles() {
-        return by_walk(node);
-    }
-    plain_last_ply(node, alpha, beta)
-}
-
-/// The same, whatever the evaluation settles, by all moves.
-fn by_walk(node: &Node) -> Entry
-    ensures truth { IsTrueEntry node.now.position node.now.eval 1 result }
-    ensures cutoff { (alpha beta : ℤ) → IsCutoff alpha beta result }
-{
-    let scene = Scene::of(node);
-    scene.by_one_walk()
-}
-
-/// The same, where nothing is settled at the end of a line.
-fn plain_last_ply(node: &Node, alpha: i32, beta: i32) -> Entry
-    requires plain { SettlesNone node.now }
     requires open { alpha <ℤ beta }
     ensures truth { IsTrueEntry node.now.position node.now.eval 1 result }
     ensures cutoff { IsCutoff alpha beta result }

@@ -4,8 +4,9 @@ ghost use Rattle.std.specs.Prelude.{◌≡◌, ◌<◌, ◌^◌, ◌≤ℤ◌, �
 ghost use Rattle.shogi_core.specs.Codes.{code_of};
 ghost use Rattle.shogi_core.specs.Movement.{reaches};
 ghost use Rattle.shogi_moves.specs.Destinations.{is_own, AreEnterable, IsWithin};
+ghost use Rattle.shogi_moves.specs.Legal.{is_legal};
 ghost use Rattle.minimax.specs.Entries.{IsCutoff};
-ghost use Rattle.last_ply.specs.LastPly.{base_of, BoardMoveScores, HasNoMate, IsFirstFrom, IsFirstMate, IsFirstToScore, IsLegalTo, NoneGains, NoneScores, NoneScoresFrom, OtherEndsScoreElse, ScoresElse, NodeHasScore, NodeScoresAtMost, IsTrueOf};
+ghost use Rattle.last_ply.specs.LastPly.{base_of, BoardMoveScores, HasNoMate, IsFirstFrom, IsFirstMate, IsFirstToScore, IsLegalTo, NoneGains, NoneScores, NoneScoresFrom, OtherEndsScoreElse, Scores, ScoresElse, NodeHasScore, NodeScoresAtMost, IsTrueOf};
 ghost use Rattle.last_ply.specs.Scenes.{OthersScoreElse};
 
 use crate::mates::Outlook;
@@ -42,7 +43,16 @@ impl Scene<'_> {
         ensures scores { result ≡ true → BoardMoveScores self.now.node.now score from to promote }
         ensures other { result ≡ false → ScoresElse self.now.node.now score from to promote }
     {
-        self.score_to(from, to, promote) == score && self.is_end(from, to, promote)
+        from.validity();
+        to.validity();
+        let raw = self.raw_to(from, to, promote);
+        if raw < score {
+            return false;
+        }
+        if !self.is_end(from, to, promote) {
+            return false;
+        }
+        self.scores(Move::Board { from, to, promote }, raw, score)
     }
 
     /// The squares at which a legal move of one of the side's pieces may score this, no less than the
@@ -121,6 +131,16 @@ impl Scene<'_> {
         None
     }
 
+    /// Whether the legal move scores this.
+    fn has_score(&self, m: &Move, score: i32) -> bool
+        requires { is_legal self.now.node.now.position m.now ≡ true }
+        ensures scores { result ≡ true → Scores self.now.node.now score (code_of m.now) }
+        ensures other { result ≡ false → Scores self.now.node.now score (code_of m.now) → ⊥ }
+    {
+        let raw = self.raw_with(m);
+        raw >= score && self.scores(*m, raw, score)
+    }
+
     /// The legal move of least code that scores this.
     pub fn first_with(&self, score: i32) -> Option<Move>
         ensures some { IfSome result (λ m. IsFirstToScore self.now.node.now score (code_of m)) }
@@ -135,7 +155,7 @@ impl Scene<'_> {
         }
         let mut walk = Walk::new(self.node.as_position());
         'moves: while let Some(m) = walk.next() {
-            if self.score_with(&m) == score {
+            if self.has_score(&m, score) {
                 return Some(m);
             }
         }
@@ -172,7 +192,7 @@ impl Scene<'_> {
                 m.validity();
                 return Entry::Exact(MATE, Some(m));
             }
-            let score = self.left_with(&m);
+            let score = self.most_with(&m, most);
             if score > most {
                 most = score;
                 first = Some(m);

@@ -1,26 +1,25 @@
 //! What the legal moves of a node score at most.
 
-ghost use Rattle.std.specs.Prelude.{◌≡◌, ◌<◌, ◌≤◌, ◌^◌, ◌+◌, ◌*◌, ◌≤ℤ◌, ◌<ℤ◌, ◌-ℤ◌, ◌+ℤ◌, ◌&&◌, not, pos, true, false, ℕ, Some};
+ghost use Rattle.std.specs.Prelude.{◌≡◌, ◌<◌, ◌≤◌, ◌^◌, ◌+◌, ◌*◌, ◌≤ℤ◌, ◌<ℤ◌, ◌-ℤ◌, ◌+ℤ◌, pos, true, false, ℕ};
 ghost use Rattle.shogi_core.specs.Codes.{code_of};
 ghost use Rattle.shogi_core.specs.Movement.{reaches};
-ghost use Rattle.shogi_moves.specs.After.{after_code};
 ghost use Rattle.shogi_moves.specs.Destinations.{is_own, AreEnterable, IsWithin};
 ghost use Rattle.shogi_moves.specs.Legal.{is_legal};
 ghost use Rattle.shogi_moves.specs.LegalMoves.{legal_codes};
 ghost use Rattle.shogi_moves.specs.Rising.{is_in};
 ghost use Rattle.shogi_eval.specs.declared.gain.TheConstants.{PROMOTION_GAIN_MAX};
 ghost use Rattle.shogi_eval.specs.declared.points.TheConstants.{PIECE_VALUE_MAX, POINTS_MAX};
-ghost use Rattle.shogi_eval.specs.Exchange.{best_settled, is_quiet, settles};
-ghost use Rattle.last_ply.specs.LastPly.{base_of, is_legal_board_move, left_of, score_of, HasReachers, NodeHasScore, NodeScoresAmongAtMost, NodeScoresAtMost, NodeScoresFromAtMost, NodeScoresToAtMost, OnEach, Outside, ScoresTo, StillGainAtMost, TakesLittle};
+ghost use Rattle.shogi_eval.specs.Exchange.{settles};
+ghost use Rattle.last_ply.specs.LastPly.{base_of, is_legal_board_move, raw_of, score_of, Scores, HasReachers, NodeHasScore, NodeScoresAmongAtMost, NodeScoresAtMost, NodeScoresFromAtMost, NodeScoresToAtMost, OnEach, Outside, RawScoresTo, StillGainAtMost, TakesLittle};
 ghost use Rattle.last_ply.specs.Scenes.{OthersCannotMove, OthersScoreAtMost, OthersTakeLittle};
 
 use crate::scene::Scene;
-use static_exchange::{best_settled, is_quiet};
+use static_exchange::reprisal;
 use shogi_core::bits::{lowest, without_lowest};
 use shogi_core::zones::{promoting_squares, squares_near_zone};
 use shogi_core::{Color, Move, Piece, Role, Square, Squares, aligned_squares, near_squares};
 use shogi_eval::{Eval, PROMOTION_GAIN_MAX, promotion_gain, taken_gain};
-use shogi_moves::{apply, legal_destinations, takers};
+use shogi_moves::{legal_destinations, takers};
 
 /// The most that the capture of a piece that does not slide gains, that of a gold.
 fn still_gain(e: Eval) -> u32
@@ -36,10 +35,10 @@ fn still_gain(e: Eval) -> u32
 }
 
 impl Scene<'_> {
-    /// What the legal move scores.
-    pub fn score_with(&self, m: &Move) -> i32
+    /// What the legal move scores with nothing settled.
+    pub fn raw_with(&self, m: &Move) -> i32
         requires { is_legal self.now.node.now.position m.now ≡ true }
-        ensures value { result ≡ score_of self.now.node.now (code_of m.now) }
+        ensures value { result ≡ raw_of self.now.node.now (code_of m.now) }
         ensures listed { is_in (code_of m.now) (legal_codes self.now.node.now.position) ≡ true }
         ensures least { (pos 0 -ℤ pos POINTS_MAX) ≤ℤ result }
         ensures most { result ≤ℤ pos POINTS_MAX }
@@ -48,57 +47,98 @@ impl Scene<'_> {
         0 - self.node.score_after(m)
     }
 
-    /// Whether what the move leaves is settled.
-    fn is_settled_after(&self, m: &Move) -> bool
-        ensures { result ≡ (settles self.now.node.now.eval
-            && not (is_quiet self.now.node.now.position (Some m.now))) }
-    {
-        self.node.eval().settles() && !is_quiet(self.node.as_position(), m)
-    }
-
-    /// What the other side has after the legal move, once it has settled a square.
+    /// What the legal move scores once it is settled, if that is more than the floor, or the floor;
+    /// with nothing settled it scores more than that.
     #[inline(never)]
-    fn settled_after(&self, m: &Move) -> i32
-        requires { is_legal self.now.node.now.position m.now ≡ true }
-        ensures value { result ≡ best_settled (after_code self.now.node.now.position (code_of m.now))
-            self.now.node.now.eval }
-        ensures least { (pos 0 -ℤ pos POINTS_MAX) ≤ℤ result }
-        ensures most { result ≤ℤ pos POINTS_MAX }
-    {
-        let next = apply(self.node.as_position(), *m);
-        best_settled(&next, self.node.eval())
-    }
-
-    /// What the legal move leaves: what it scores, once the other side has settled it under an
-    /// evaluation that does so.
-    pub fn left_with(&self, m: &Move) -> i32
-        requires { is_legal self.now.node.now.position m.now ≡ true }
-        ensures value { result ≡ left_of self.now.node.now (code_of m.now) }
-        ensures least { (pos 0 -ℤ pos POINTS_MAX) ≤ℤ result }
-        ensures most { result ≤ℤ pos POINTS_MAX }
+    fn settled_above(&self, m: Move, raw: i32, floor: i32) -> i32
+        requires settles { settles self.now.node.now.eval ≡ true }
+        requires legal { is_legal self.now.node.now.position m ≡ true }
+        requires raw { raw ≡ raw_of self.now.node.now (code_of m) }
+        requires above { floor <ℤ raw }
+        ensures least { floor ≤ℤ result }
+        ensures at { score_of self.now.node.now (code_of m) ≤ℤ result }
+        ensures exact { floor <ℤ result → result ≡ score_of self.now.node.now (code_of m) }
     {
         m.validity();
-        if self.is_settled_after(m) {
-            0 - self.settled_after(m)
+        let enough = raw.abs_diff(floor);
+        let lost = reprisal(self.node.as_position(), m, enough);
+        if lost < enough {
+            raw - lost as i32
         } else {
-            self.score_with(m)
+            floor
         }
     }
 
-    /// The same as `score_with`, or the floor where that is no less.
+    /// What the legal move scores, if that is more than the floor, or the floor; with nothing
+    /// settled it scores more than that.
+    #[inline(always)]
+    pub fn score_above(&self, m: Move, raw: i32, floor: i32) -> i32
+        requires legal { is_legal self.now.node.now.position m ≡ true }
+        requires raw { raw ≡ raw_of self.now.node.now (code_of m) }
+        requires above { floor <ℤ raw }
+        ensures least { floor ≤ℤ result }
+        ensures at { score_of self.now.node.now (code_of m) ≤ℤ result }
+        ensures exact { floor <ℤ result → result ≡ score_of self.now.node.now (code_of m) }
+    {
+        if self.node.eval().settles() {
+            self.settled_above(m, raw, floor)
+        } else {
+            raw
+        }
+    }
+
+    /// Whether the legal move scores this, which is no more than with nothing settled, under an
+    /// evaluation that settles.
+    #[inline(never)]
+    fn settles_at(&self, m: Move, raw: i32, score: i32) -> bool
+        requires settles { settles self.now.node.now.eval ≡ true }
+        requires legal { is_legal self.now.node.now.position m ≡ true }
+        requires raw { raw ≡ raw_of self.now.node.now (code_of m) }
+        requires below { score ≤ℤ raw }
+        ensures scores { result ≡ true → Scores self.now.node.now score (code_of m) }
+        ensures other { result ≡ false → Scores self.now.node.now score (code_of m) → ⊥ }
+    {
+        m.validity();
+        let lost = raw.abs_diff(score);
+        reprisal(self.node.as_position(), m, lost + 1) == lost
+    }
+
+    /// Whether the legal move scores this, which is no more than with nothing settled.
+    #[inline(always)]
+    pub fn scores(&self, m: Move, raw: i32, score: i32) -> bool
+        requires legal { is_legal self.now.node.now.position m ≡ true }
+        requires raw { raw ≡ raw_of self.now.node.now (code_of m) }
+        requires below { score ≤ℤ raw }
+        ensures scores { result ≡ true → Scores self.now.node.now score (code_of m) }
+        ensures other { result ≡ false → Scores self.now.node.now score (code_of m) → ⊥ }
+    {
+        if self.node.eval().settles() {
+            self.settles_at(m, raw, score)
+        } else {
+            raw == score
+        }
+    }
+
+    /// What the legal move scores, or the floor where that is no less.
     pub fn most_with(&self, m: &Move, floor: i32) -> i32
         requires { is_legal self.now.node.now.position m.now ≡ true }
         ensures least { floor ≤ℤ result }
         ensures at { score_of self.now.node.now (code_of m.now) ≤ℤ result }
+        ensures exact { floor <ℤ result → result ≡ score_of self.now.node.now (code_of m.now) }
+        ensures range { (pos 0 -ℤ pos POINTS_MAX) ≤ℤ result }
         ensures some { floor <ℤ result → NodeHasScore self.now.node.now result }
     {
-        let score = self.score_with(m);
-        if score > floor { score } else { floor }
+        let raw = self.raw_with(m);
+        if raw > floor {
+            self.score_above(*m, raw, floor)
+        } else {
+            floor
+        }
     }
 
-    /// What the move scores where it is legal.
-    pub fn score_to(&self, from: Square, to: Square, promote: bool) -> i32
-        ensures { ScoresTo self.now.node.now result from to promote }
+    /// What the move scores with nothing settled, where it is legal.
+    pub fn raw_to(&self, from: Square, to: Square, promote: bool) -> i32
+        ensures { RawScoresTo self.now.node.now result from to promote }
     {
         from.validity();
         to.validity();
@@ -135,11 +175,16 @@ impl Scene<'_> {
         ensures at { NodeScoresToAtMost self.now.node.now result from to promote }
         ensures some { floor <ℤ result → NodeHasScore self.now.node.now result }
     {
-        let score = self.score_to(from, to, promote);
-        if score <= floor || !self.is_end(from, to, promote) {
+        from.validity();
+        to.validity();
+        let raw = self.raw_to(from, to, promote);
+        if raw <= floor {
             return floor;
         }
-        score
+        if !self.is_end(from, to, promote) {
+            return floor;
+        }
+        self.score_above(Move::Board { from, to, promote }, raw, floor)
     }
 
     /// The most that a legal move of one of the side's pieces to these squares, which it reaches,

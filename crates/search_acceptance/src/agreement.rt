@@ -37,7 +37,7 @@ fn assert_agrees(
     again.steps == 0
 }
 
-// Walks through a game up to its mate, and searches each position under both evaluations at depths 0
+// Walks through a game up to its mate, and searches each position under each evaluation at depths 0
 // to 2, and at 3 where two plies have few paths. The memo is the same all along; it keeps some roots
 // and forgets others.
 fn walk(rt: &impl Abort, moves: &[&str]) {
@@ -47,7 +47,7 @@ fn walk(rt: &impl Abort, moves: &[&str]) {
     for (at, text) in moves.iter().enumerate() {
         for depth in 0..4u8 {
             if has_few(&p, depth.saturating_sub(1), 1500) {
-                for e in [Eval::Plain, Eval::Hand] {
+                for e in [Eval::Plain, Eval::Hand, Eval::Exchange] {
                     if assert_agrees(rt, &p, e, at, depth, &mut memo) {
                         known = true;
                     } else {
@@ -82,7 +82,7 @@ fn assert_wide(rt: &impl Abort, sfen: &str, moves: u64) -> Result<(), Fail> {
     let p = position(sfen)?;
     same!(*rt; perft(&p, 1), Some(moves));
     for depth in 1..3u8 {
-        for e in [Eval::Plain, Eval::Hand] {
+        for e in [Eval::Plain, Eval::Hand, Eval::Exchange] {
             assert_agrees(rt, &p, e, 0, depth, &mut Forgetful::new());
         }
     }

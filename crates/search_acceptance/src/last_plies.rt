@@ -51,9 +51,9 @@ fn assert_known(rt: &impl Abort, p: &Position, e: Eval) {
     }
 }
 
-// The same under both evaluations, after each move too.
+// The same under each evaluation, after each move too.
 fn assert_known_around(rt: &impl Abort, alloc: Global, p: &Position) -> Result<(), Fail> {
-    for e in [Eval::Plain, Eval::Hand] {
+    for e in [Eval::Plain, Eval::Hand, Eval::Exchange] {
         assert_known(rt, p, e);
         for branch in branches_of(alloc, p, [None; 6])?.as_slice() {
             assert_known(rt, &branch.position, e);
@@ -117,7 +117,7 @@ fn places_of_their_own(rt: HostRuntime) -> Result<(), Fail> {
 #[test]
 fn most_moves_at_once(rt: HostRuntime) -> Result<(), Fail> {
     let p = position("R8/2K1S1SSk/4B4/9/9/9/9/9/1L1L1L3 b RBGSNLP3g3n17p")?;
-    for e in [Eval::Plain, Eval::Hand] {
+    for e in [Eval::Plain, Eval::Hand, Eval::Exchange] {
         assert_known(&rt, &p, e);
     }
     Ok(())

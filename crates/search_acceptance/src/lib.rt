@@ -13,6 +13,8 @@ mod counted;
 #[cfg(test)]
 mod counts;
 #[cfg(test)]
+mod exchanges;
+#[cfg(test)]
 mod forgetful;
 #[cfg(test)]
 mod hash_moves;
@@ -34,6 +36,8 @@ mod ranks;
 mod recorder;
 #[cfg(test)]
 mod searches;
+#[cfg(test)]
+mod settled_rows;
 #[cfg(test)]
 mod table_rows;
 #[cfg(test)]

@@ -1,5 +1,6 @@
 //! The search written plainly, to count with: it calls itself, and remembers in a list.
 
+use crate::exchanges::left_after;
 use shogi_core::{Board, Color, KINDS, Move, Piece, Position, Role, Square};
 use shogi_eval::{Eval, drop_gain, material, taken_gain};
 use shogi_moves::{Walk, apply, has_legal};
@@ -495,6 +496,15 @@ pub fn branches_of(
 /// The value at depth 0.
 fn leaf(p: &Position, e: Eval) -> i32 {
     if has_legal(p) { material(p, e) } else { -MATE }
+}
+
+/// The value after the move that ends a line.
+fn ended(p: &Position, m: &Move, next: &Position, e: Eval) -> i32 {
+    if has_legal(next) {
+        left_after(p, m, next, e)
+    } else {
+        -MATE
+    }
 }
 
 /// What a move has to be worth more than: one less for a lesser code than that of the best one.
@@ -1060,7 +1070,11 @@ pub fn minimax(p: &Position, e: Eval, depth: u8) -> Found {
     let mut walk = Walk::new(p);
     'moves: while let Some(m) = walk.next() {
         let tried = m;
-        let below = minimax(&apply(p, tried), e, depth - 1);
+        let next = apply(p, tried);
+        let mut below = minimax(&next, e, depth - 1);
+        if depth == 1 {
+            below.value = ended(p, &m, &next, e);
+        }
         let worth = below.value.saturating_neg();
         found.steps = found.steps.saturating_add(below.steps);
         if found.best.is_none() || worth > found.value {

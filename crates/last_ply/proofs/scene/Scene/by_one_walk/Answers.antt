@@ -3,7 +3,7 @@ use Rattle.std.proofs.lemmas.Int.{ints}
 use Rattle.shogi_core.specs.Codes.{code_of}
 use Rattle.shogi_moves.specs.LegalMoves.{legal_codes}
 use Rattle.last_ply.specs.LastPly.{LeavesNone}
-use Rattle.last_ply.proofs.Composing.{mate_found, worth_left}
+use Rattle.last_ply.proofs.Composing.{mate_found}
 use Rattle.last_ply.proofs.OneWalk.{walked_none, walked_raised, walked_on, walked_lost, walked_best}
 use Rattle.last_ply.proofs.Passing.{found_least}
 use Rattle.last_ply.proofs.scene.Scene.by_one_walk.Goals as goal
@@ -24,21 +24,21 @@ returns-then-mates_past-clause-truth c =
 pub moves-preserved-then-score-most : goal.moves-preserved-then-score-most
 moves-preserved-then-score-most c = record {
   position = c.in-Some.ensures.position ∙ c.moves.invariant.position;
-  walked = walked_raised _ _ c.moves.walk.codes c.next.new.self.codes c.in-Some.m _ c.left_with-score.result _ _ _ c.moves.invariant.walked c.in-Some.ensures.next (rw c.of-outlook.ensures at (c.if-mates_past.ensures.none refl)) c.left_with-score.ensures.value (omega (arith, ints, c.if-score-most.true)) (omega (arith, ints)) refl;
+  walked = walked_raised _ _ c.moves.walk.codes c.next.new.self.codes c.in-Some.m _ c.most_with-score.result _ _ _ c.moves.invariant.walked c.in-Some.ensures.next (rw c.of-outlook.ensures at (c.if-mates_past.ensures.none refl)) (c.most_with-score.ensures.exact (omega (arith, ints, c.if-score-most.true))) (omega (arith, ints, c.if-score-most.true)) (omega (arith, ints)) refl;
 }
 
 pub moves-preserved : goal.moves-preserved
 moves-preserved c = record {
   position = c.in-Some.ensures.position ∙ c.moves.invariant.position;
-  walked = walked_on _ _ c.moves.walk.codes c.next.new.self.codes c.in-Some.m _ c.left_with-score.result _ c.moves.invariant.walked c.in-Some.ensures.next (rw c.of-outlook.ensures at (c.if-mates_past.ensures.none refl)) c.left_with-score.ensures.value c.left_with-score.ensures.least (omega (arith, ints, c.if-score-most.false));
+  walked = walked_on _ _ c.moves.walk.codes c.next.new.self.codes c.in-Some.m _ _ c.moves.invariant.walked c.in-Some.ensures.next (rw c.of-outlook.ensures at (c.if-mates_past.ensures.none refl)) (omega (arith, ints, c.most_with-score.ensures.at, c.if-score-most.false)) (omega (arith, ints, c.most_with-score.ensures.range, c.if-score-most.false));
 }
 
 pub returns-in-None-clause-truth : goal.returns-in-None-clause-truth
 returns-in-None-clause-truth c =
-    let f : _ = walked_lost _ _ _ c.moves.walk.codes _ _ c.moves.invariant.walked c.in_default.ensures.next.0 c.in-None.is in
+    let f : _ = walked_lost _ _ c.moves.walk.codes _ _ c.moves.invariant.walked c.in_default.ensures.next.0 c.in-None.is in
     (f.value_is, f.best_is)
 
 pub returns-in-Some-first-clause-truth : goal.returns-in-Some-first-clause-truth
 returns-in-Some-first-clause-truth c =
-    let f : _ = walked_best _ _ _ c.moves.walk.codes _ _ c.in-Some-first.m (λ n s. worth_left _ _ n s) c.validity-in-Some-first.ensures.back c.moves.invariant.walked c.in_default.ensures.next.0 c.in-Some-first.is in
+    let f : _ = walked_best _ _ c.moves.walk.codes _ _ c.in-Some-first.m c.args.self.now.valid c.validity-in-Some-first.ensures.back c.moves.invariant.walked c.in_default.ensures.next.0 c.in-Some-first.is in
     (f.value_is, f.best_is)

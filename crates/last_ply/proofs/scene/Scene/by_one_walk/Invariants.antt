@@ -1,12 +1,11 @@
 use Rattle.std.proofs.Common.{◌≡◌, length}
-use Rattle.last_ply.specs.LastPly.{left_of}
 use Rattle.last_ply.proofs.OneWalk.{Walked}
 use Rattle.last_ply.proofs.scene.Scene.by_one_walk.Given as goal
 
 abbrev pub invariant-moves : goal.invariant-moves
 invariant-moves l = record {
   position : l.walk.position ≡ l.self.node.now.position;
-  walked : Walked l.self.node.now.position (left_of l.self.node.now) l.walk.codes l.most l.first;
+  walked : Walked l.self.node.now.position l.self.node.now.eval l.walk.codes l.most l.first;
 }
 
 abbrev pub decreases-moves : goal.decreases-moves

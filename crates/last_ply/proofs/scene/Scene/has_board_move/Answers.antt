@@ -10,8 +10,8 @@ loop-left-init c = record {
   fits = c.movable-left.result.fits;
 }
 
-pub destinations-ends-requires : goal.destinations-ends-requires
-destinations-ends-requires c = subst (λ (k : ℕ). is_own c.args.self.now.node.now.position k ≡ true) (sym c.of_index-from.ensures) (c.loop-left.invariant.within _ c.lowest-square.ensures.range c.lowest-square.ensures.set)
+pub destinations-requires : goal.destinations-requires
+destinations-requires c = subst (λ (k : ℕ). is_own c.args.self.now.node.now.position k ≡ true) (sym c.of_index-from.ensures) (c.loop-left.invariant.within _ c.lowest-square.ensures.range c.lowest-square.ensures.set)
 
 pub loop-left-preserved : goal.loop-left-preserved
 loop-left-preserved c = record {

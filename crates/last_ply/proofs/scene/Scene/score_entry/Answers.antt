@@ -13,5 +13,5 @@ returns-then-most-alpha-clause-truth c =
 pub returns-clause-truth : goal.returns-clause-truth
 returns-clause-truth c =
     let all = subst (ScoresAtMost c.args.self.now.node.now.position c.args.self.now.node.now.eval) (sym (to_z-of_z w32 c.args.most c.ranges.most)) c.requires.all in
-    let f : _ = score_found c.args.self.now.node.now.position c.args.self.now.node.now.eval _ c.in-Some.m c.requires.plain c.validity.ensures.back c.requires.quiet all c.in-Some.ensures.some in
+    let f : _ = score_found c.args.self.now.node.now.position c.args.self.now.node.now.eval _ c.in-Some.m c.args.self.now.valid c.validity.ensures.back c.requires.quiet all c.in-Some.ensures.some in
     (f.value_is, f.best_is)

@@ -1,7 +1,7 @@
 use Rattle.std.proofs.Common.{arith}
 use Rattle.std.proofs.lemmas.Int.{ints}
 use Rattle.last_ply.proofs.Scores.{score_board}
-use Rattle.last_ply.proofs.scene.Scene.score_to.Goals as goal
+use Rattle.last_ply.proofs.scene.Scene.raw_to.Goals as goal
 
 pub returns : goal.returns
 returns c = λ legal.

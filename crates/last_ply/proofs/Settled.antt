@@ -1,0 +1,62 @@
+-- What a move scores once it is settled, by what the other side wins.
+use Rattle.std.proofs.Common.{◌≡◌, ◌<◌, ◌≤◌, ℕ, ℤ, pos, negsuc, ◌-ℤ◌, ◌≤ℤ◌, ◌<ℤ◌, Bool, true, false, Some, FitsSigned, w32, to_z, of_z, refl, sym, ap, ◌∙◌, arith}
+use Rattle.std.specs.Prelude.{unsigned_abs}
+use Rattle.std.proofs.lemmas.Int.{ints, to_z-of_z}
+use Rattle.shogi_core.specs.declared.moves.Move.{Move}
+use Rattle.shogi_core.specs.declared.moves.Move.TheVariants.{Board}
+use Rattle.shogi_core.specs.Codes.{code_of, move_of}
+use Rattle.shogi_core.specs.Position.{Shogi}
+use Rattle.shogi_core.specs.Validity.{IsValid}
+use Rattle.shogi_core.proofs.CodesBack.{move_of-board}
+use Rattle.shogi_moves.specs.Legal.{is_legal}
+use Rattle.shogi_moves.proofs.LegalLaws.{is_legal_code_of, legal_to_listed}
+use Rattle.shogi_eval.specs.declared.eval.Eval.{Eval}
+use Rattle.shogi_eval.specs.declared.eval.Eval.TheVariants.{Plain, Hand, Exchange}
+use Rattle.shogi_eval.specs.declared.points.TheConstants.{POINTS_MAX}
+use Rattle.shogi_eval.specs.Exchange.{settles}
+use Rattle.minimax.proofs.Settling.{left_plain}
+use Rattle.static_exchange.specs.Reprisals.{IsReprisal, IsEnough}
+use Rattle.last_ply.specs.LastPly.{is_legal_board_move, score_at, raw_score}
+use Rattle.last_ply.proofs.Composing.{score_bounds, raw_bounds}
+
+-- how far a number is above another one
+pub apart : (z : ℤ) (n : ℕ) → n ≡ unsigned_abs z → pos 0 ≤ℤ z → pos n ≡ z
+apart (pos k) n is above = ap pos is
+apart (negsuc k) n is above = absurd (omega (arith, ints, above))
+
+-- the same of numbers as they are passed
+pub apart_held : (a b : ℤ) (n : ℕ) → FitsSigned w32 a → FitsSigned w32 b → n ≡ unsigned_abs (to_z w32 (of_z w32 a) -ℤ to_z w32 (of_z w32 b)) → b ≤ℤ a → pos n ≡ (a -ℤ b)
+apart_held a b n fa fb is up =
+    let first : unsigned_abs (to_z w32 (of_z w32 a) -ℤ to_z w32 (of_z w32 b)) ≡ unsigned_abs (a -ℤ to_z w32 (of_z w32 b)) = ap (λ (x : ℤ). unsigned_abs (x -ℤ to_z w32 (of_z w32 b))) (to_z-of_z w32 a fa) in
+    let second : unsigned_abs (a -ℤ to_z w32 (of_z w32 b)) ≡ unsigned_abs (a -ℤ b) = ap (λ (x : ℤ). unsigned_abs (a -ℤ x)) (to_z-of_z w32 b fb) in
+    apart (a -ℤ b) n (is ∙ first ∙ second) (omega (arith, ints, up))
+
+-- where nothing is settled, it scores what it scores unsettled
+pub score_plain : (p : Shogi) (e : Eval) (code : ℕ) → settles e ≡ false → score_at p e code ≡ raw_score p e code
+score_plain p e code plain = ap (λ (v : ℤ). pos 0 -ℤ v) (left_plain p e code plain)
+
+-- elsewhere less what the other side wins
+pub score_won : (p : Shogi) (e : Eval) (code won : ℕ) → settles e ≡ true → IsReprisal p code won → score_at p e code ≡ raw_score p e code -ℤ pos won
+score_won p Plain code won s w = absurd (cc)
+score_won p Hand code won s w = absurd (cc)
+score_won p Exchange code won s w = omega (arith, ints, w)
+
+pub score_enough : (p : Shogi) (e : Eval) (code won : ℕ) → settles e ≡ true → IsEnough p code won → score_at p e code ≤ℤ (raw_score p e code -ℤ pos won)
+score_enough p Plain code won s w = absurd (cc)
+score_enough p Hand code won s w = absurd (cc)
+score_enough p Exchange code won s w = omega (arith, ints, w)
+
+-- the move on the board of a legal code is legal
+pub legal_to : (p : Shogi) (from to : ℕ) (promote : Bool) → from < 81 → to < 81 → is_legal_board_move p from to promote ≡ true → is_legal p (Board from to promote) ≡ true
+legal_to p from to promote hf ht l = sym (is_legal_code_of p (code_of (Board from to promote)) (Board from to promote) (move_of-board from to promote hf ht)) ∙ l
+
+-- what a legal move scores lies within the bounds of material, settled or not
+pub record IsWithin (p : Shogi) (e : Eval) (m : Move) : Type 0 where
+  pub least : (pos 0 -ℤ pos POINTS_MAX) ≤ℤ score_at p e (code_of m)
+  pub most : raw_score p e (code_of m) ≤ℤ pos POINTS_MAX
+
+pub within : (p : Shogi) (e : Eval) (m : Move) → IsValid p → move_of (code_of m) ≡ Some m → is_legal p m ≡ true → IsWithin p e m
+within p e m v back legal = record {
+  least = (score_bounds p e (code_of m) v (legal_to_listed p m back legal)).0;
+  most = (raw_bounds p e (code_of m) v (legal_to_listed p m back legal)).1;
+}
