@@ -24,5 +24,7 @@ pub fn last_worth(p: &Position, e: Eval, m: Move) -> i32
     if !has_legal(&apply(p, m)) {
         return MATE;
     }
-    Scene::of(&Node::of(*p, e)).left_with(&m)
+    let node = Node::of(*p, e);
+    let scene = Scene::of(&node);
+    scene.left_with(&m)
 }
