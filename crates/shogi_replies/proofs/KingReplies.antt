@@ -40,7 +40,7 @@ use Rattle.shogi_moves.proofs.EscapeLaws.{king_reach, crowned}
 use Rattle.shogi_replies.proofs.EscapeLaws.{escaped_covered}
 use Rattle.shogi_moves.proofs.KingLaws.{king_own, unreached}
 use Rattle.shogi_moves.proofs.MovedPieces.{opponent_twice}
-use Rattle.shogi_replies.proofs.ReplyLaws.{legal_own, right_step}
+use Rattle.shogi_replies.proofs.ReplyLaws.{king_lives, legal_own, reply_by, right_step}
 
 -- ---- the king goes away
 
@@ -89,20 +89,6 @@ covered_board p from to steps promote piece v hf ht legal moved still none bits 
     ]
 
 -- ---- the king takes
-
--- it moves on from everywhere
-king_lives : (side : Color) (cell : Option Piece) (t : ℕ) → is_king side cell ≡ true → is_immobile t cell ≡ false
-king_lives side None t e = refl
-king_lives side (Some piece) t e = go piece.color piece.role (and_parts (is_same_color side piece.color) (is_king_role piece.role) e).1
-  where
-    go : (color : Color) (role : Role) → is_king_role role ≡ true → is_immobile_role color role (t % 9) ≡ false
-    go Black King h = refl
-    go White King h = refl
-    go color _ h = absurd (cc)
-
--- so where it may take, the side has a legal move
-reply_by : (q : Shogi) (k to : ℕ) → k < 81 → to < 81 → is_legal q (Board k to false) ≡ true → legal_codes q ≢ []
-reply_by q k to hk ht legal = some_legal q (code_of (Board k to false)) (is_legal_code_of q (code_of (Board k to false)) (Board k to false) (move_of-board k to false hk ht) ∙ legal)
 
 pub taken_reply : (p : Shogi) (m : Move) → IsTaken p m → legal_codes (after p m) ≢ []
 taken_reply p m taken = reply_by (after p m) taken.taker (end_of m) taken.on_board.0 taken.on_board.1 taken.takes.legal

@@ -151,7 +151,19 @@ invariant_of-self-2 c =
     }
 
 pub is_lost_piece-requires-clause-plain : goal.is_lost_piece-requires-clause-plain
-is_lost_piece-requires-clause-plain c = ap (λ (n : Evaluated). settles n.eval) c.look_ahead.ensures.0.0 ∙ (ap (λ (n : Evaluated). settles n.eval) c.look_for_threats.ensures.0.0 ∙ c.requires.plain)
+is_lost_piece-requires-clause-plain c = ap (λ (n : Evaluated). settles n.eval) c.look_ahead.ensures.0.0 ∙ (ap (λ (n : Evaluated). settles n.eval) c.look_for_threats.ensures.0.0 ∙ (sym (c.settles.ensures ∙ ap settles c.eval.ensures) ∙ c.if-settles.false))
 
 pub loses-requires-clause-plain : goal.loses-requires-clause-plain
-loses-requires-clause-plain c = ap (λ (n : Evaluated). settles n.eval) c.look_ahead.ensures.0.0 ∙ (ap (λ (n : Evaluated). settles n.eval) c.look_for_threats.ensures.0.0 ∙ c.requires.plain)
+loses-requires-clause-plain c = ap (λ (n : Evaluated). settles n.eval) c.look_ahead.ensures.0.0 ∙ (ap (λ (n : Evaluated). settles n.eval) c.look_for_threats.ensures.0.0 ∙ (sym (c.settles.ensures ∙ ap settles c.eval.ensures) ∙ c.if-settles.false))
+
+pub returns-then-settles-clause-next : goal.returns-then-settles-clause-next
+returns-then-settles-clause-next c = λ e. absurd (both_ways false refl e)
+
+pub returns-then-settles-clause-asked : goal.returns-then-settles-clause-asked
+returns-then-settles-clause-asked c = λ e. refl
+
+pub returns-then-settles-clause-picker : goal.returns-then-settles-clause-picker
+returns-then-settles-clause-picker c = refl
+
+pub returns-then-settles-clause-same : goal.returns-then-settles-clause-same
+returns-then-settles-clause-same c = (refl, (refl, (refl, refl)))
