@@ -1,28 +1,23 @@
 -- A king that is given check goes away where what moves uncovers nothing, or takes what moved.
-use Rattle.std.proofs.Common.{◌≡◌, ◌≢◌, ◌^◌, ◌%◌, ℕ, ◌<◌, Bool, true, false, not, refl, Option, Some, None, [], sym, ap, subst, ◌∙◌, arith, inl, inr, set, length, length-set, get_or-set_same, get_or-set_other, bit_and}
+use Rattle.std.proofs.Common.{◌≡◌, ◌≢◌, ◌^◌, ℕ, ◌<◌, Bool, true, false, not, Option, Some, None, [], sym, ap, subst, ◌∙◌, arith, inl, inr, set, length, length-set, get_or-set_same, get_or-set_other, bit_and}
 use Rattle.std.specs.Prelude.{is_none}
 use Rattle.std.specs.Int.{trailing_zeros, w128}
-use Rattle.std.proofs.lemmas.Bool.{cases_eq, false_from_ne_true, both_ways, or_cases, and_parts, and_from}
+use Rattle.std.proofs.lemmas.Bool.{cases_eq, false_from_ne_true, both_ways, or_cases, and_from}
 use Rattle.std.proofs.lemmas.List.{set-set}
 use Rattle.shogi_core.specs.declared.moves.Move.{Move}
 use Rattle.shogi_core.specs.declared.moves.Move.TheVariants.{Board, Drop}
 use Rattle.shogi_core.specs.declared.piece.Color.{Color}
-use Rattle.shogi_core.specs.declared.piece.Color.TheVariants.{Black, White}
 use Rattle.shogi_core.specs.declared.piece.Kind.{Kind}
 use Rattle.shogi_core.specs.declared.piece.Piece.{Piece}
-use Rattle.shogi_core.specs.declared.piece.Role.{Role}
-use Rattle.shogi_core.specs.declared.piece.Role.TheVariants.{King}
-use Rattle.shogi_core.specs.Codes.{code_of}
 use Rattle.shogi_core.specs.Attack.{is_attacked, is_sniper}
 use Rattle.shogi_core.specs.Bits.{has_bit}
-use Rattle.shogi_core.specs.Cell.{is_piece_of, is_king, is_king_role, is_immobile, is_immobile_role, is_slider, is_sliding_role, HasNoOtherKing}
+use Rattle.shogi_core.specs.Cell.{is_piece_of, is_king, is_slider, is_sliding_role, HasNoOtherKing}
 use Rattle.shogi_core.specs.Lines.{are_aligned}
 use Rattle.shogi_core.specs.Movement.{Cells, piece_at, reaches, cell_reaches, has_step, has_slide, slides, for_side}
-use Rattle.shogi_core.specs.Pieces.{is_same_color, opponent_of}
+use Rattle.shogi_core.specs.Pieces.{opponent_of}
 use Rattle.shogi_core.specs.Position.{Shogi, HandCounts}
 use Rattle.shogi_core.specs.Validity.{IsValid}
 use Rattle.shogi_core.proofs.BitLaws.{has_bit-none}
-use Rattle.shogi_core.proofs.CodesBack.{move_of-board}
 use Rattle.shogi_core.proofs.LineBits.{lowest_set}
 use Rattle.shogi_core.proofs.SeenLaws.{slides_role, sniper_bits}
 use Rattle.shogi_core.proofs.Uncovered.{attacked_was_but}
@@ -34,8 +29,6 @@ use Rattle.shogi_moves.specs.Legal.{is_legal}
 use Rattle.shogi_moves.specs.LegalMoves.{legal_codes}
 use Rattle.shogi_moves.proofs.CheckInfoLaws.{look, other_side, own_some, is_piece_of-piece_moved, dropped_of, king_set}
 use Rattle.shogi_moves.proofs.DestinationLaws.{legal_board}
-use Rattle.shogi_moves.proofs.ExistenceLaws.{some_legal}
-use Rattle.shogi_moves.proofs.LegalLaws.{is_legal_code_of}
 use Rattle.shogi_moves.proofs.EscapeLaws.{king_reach, crowned}
 use Rattle.shogi_replies.proofs.EscapeLaws.{escaped_covered}
 use Rattle.shogi_moves.proofs.KingLaws.{king_own, unreached}

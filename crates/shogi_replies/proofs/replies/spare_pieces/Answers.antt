@@ -1,10 +1,8 @@
-use Rattle.std.proofs.Common.{arith, ap, subst, sym, ◌≡◌, ◌<◌, ◌∙◌, ◌-◌, ◌^◌, ℕ}
-use Rattle.std.specs.Prelude.{bit_or}
-use Rattle.std.proofs.lemmas.Bool.{both_ways, eq-eqb, not-true, eqb-true}
+use Rattle.std.proofs.Common.{arith, sym, ◌∙◌}
+use Rattle.std.proofs.lemmas.Bool.{both_ways, eq-eqb}
 use Rattle.shogi_core.specs.Bits.{has_bit}
 use Rattle.shogi_core.proofs.BitLaws.{has_bit-none}
-use Rattle.shogi_core.proofs.LineBits.{and_fits}
-use Rattle.shogi_replies.proofs.ReplyLaws.{IsSifted, sifted_first, sifted_found, sifted_dropped, sifted_done}
+use Rattle.shogi_replies.proofs.ReplyLaws.{sifted_first, sifted_found, sifted_dropped, sifted_done}
 use Rattle.shogi_replies.proofs.replies.spare_pieces.Goals.{then-is_empty, else-is_empty+then-found-lt2-2, else-is_empty+else-found-lt2-2}
 use Rattle.shogi_replies.proofs.replies.spare_pieces.Goals as goal
 

@@ -118,7 +118,7 @@ returns-clause-same c =
 
 pub invariant_of-self : goal.invariant_of-self
 invariant_of-self c =
-    let f : Frame = c.look_for_threats.new.self in
+    let f : Frame = c.args.self.now in
     record {
       valid = f.valid;
       shallow = f.shallow;
@@ -135,6 +135,23 @@ invariant_of-self c =
 
 pub invariant_of-self-2 : goal.invariant_of-self-2
 invariant_of-self-2 c =
+    let f : Frame = c.look_for_threats.new.self in
+    record {
+      valid = f.valid;
+      shallow = f.shallow;
+      least = f.least;
+      «open» = f.open;
+      most = f.most;
+      known = f.known;
+      moves = f.moves;
+      kept = f.kept;
+      replied = f.replied;
+      escaping = f.escaping;
+      threatened = f.threatened;
+    }
+
+pub invariant_of-self-3 : goal.invariant_of-self-3
+invariant_of-self-3 c =
     let f : Frame = c.look_ahead.new.self in
     record {
       valid = f.valid;
