@@ -1,12 +1,31 @@
--- What the other side wins by its best exchange after a move that ends a line.
-use Rattle.std.specs.Prelude.{◌≡◌, ℕ, pos, ◌+ℤ◌, ◌≤ℤ◌}
+-- What is won by exchanges, and what the other side wins after a move that ends a line.
+use Rattle.std.specs.Prelude.{◌≡◌, ◌<◌, ℕ, pos, ◌+ℤ◌, ◌-ℤ◌, ◌≤ℤ◌, false}
+use Rattle.shogi_core.specs.Bits.{has_bit}
 use Rattle.shogi_core.specs.Position.{Shogi}
 use Rattle.shogi_moves.specs.After.{after_code}
 use Rattle.shogi_eval.specs.declared.eval.Eval.TheVariants.{Exchange}
-use Rattle.shogi_eval.specs.Exchange.{left_by, best_settled}
+use Rattle.shogi_eval.specs.Exchange.{best_settled, captures_max, left_by, settled}
 use Rattle.shogi_eval.specs.Material.{material_of}
 
--- the side to move wins exactly so much by its best exchange on one square
+-- the move of a code gains its side so much
+abbrev pub IsGain : Shogi → ℕ → ℕ → Type 0
+IsGain p code gain =
+    material_of (after_code p code) Exchange ≡ pos 0 -ℤ (material_of p Exchange +ℤ pos gain)
+
+-- the side to move wins exactly so much once the square is settled, by so many captures at most
+abbrev pub IsWonOn : Shogi → ℕ → ℕ → ℕ → Type 0
+IsWonOn p s n won = settled p Exchange s n ≡ material_of p Exchange +ℤ pos won
+
+-- it wins no more there
+abbrev pub WinsAtMostOn : Shogi → ℕ → ℕ → ℕ → Type 0
+WinsAtMostOn p s n won = settled p Exchange s n ≤ℤ (material_of p Exchange +ℤ pos won)
+
+-- it wins no more on other squares than these
+abbrev pub WinsAtMostOff : Shogi → ℕ → ℕ → Type 0
+WinsAtMostOff p squares won = (s : ℕ) → s < 81 → has_bit squares s ≡ false
+    → WinsAtMostOn p s captures_max won
+
+-- it wins exactly so much by its best exchange on one square
 abbrev pub IsWon : Shogi → ℕ → Type 0
 IsWon p won = best_settled p Exchange ≡ material_of p Exchange +ℤ pos won
 

@@ -3,27 +3,12 @@
 ghost use Rattle.std.specs.Prelude.{◌≡◌, ◌≤◌, ◌<◌, true};
 ghost use Rattle.shogi_core.specs.Codes.{code_of};
 ghost use Rattle.shogi_moves.specs.Legal.{is_legal};
-ghost use Rattle.static_exchange.specs.Reprisals.{IsReprisal, IsEnough, IsWon, IsWonAtLeast};
+ghost use Rattle.static_exchange.specs.Reprisals.{IsReprisal, IsEnough};
 
-use crate::settle::{best_settled, is_quiet};
+use crate::exchanges::best_won;
+use crate::settle::is_quiet;
 use shogi_core::{Move, Position};
-use shogi_eval::{Eval, material};
 use shogi_moves::apply;
-
-/// What the side to move wins, in points, by its best exchange on one square: exactly where that is
-/// less than `enough`, and else a number from `enough` on.
-fn best_won(p: &Position, enough: u32) -> u32
-    ensures below { result < enough → IsWon p.now result }
-    ensures enough { enough ≤ result → IsWonAtLeast p.now enough }
-{
-    let _ = enough;
-    let best = best_settled(p, Eval::Exchange);
-    let has = material(p, Eval::Exchange);
-    if best <= has {
-        return 0;
-    }
-    (best - has) as u32
-}
 
 /// What the other side wins, in points under `Eval::Exchange`, by its best exchange on one square
 /// after the legal move, and 0 after a quiet one: exactly where it is less than `enough`, and else
