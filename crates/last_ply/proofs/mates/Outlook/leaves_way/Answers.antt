@@ -1,4 +1,3 @@
-use Rattle.shogi_replies.proofs.ReplyLaws.{answered}
 use Rattle.last_ply.proofs.mates.Outlook.leaves_way.Goals as goal
 
 pub leaves_escape-requires : goal.leaves_escape-requires
