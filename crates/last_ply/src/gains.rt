@@ -14,12 +14,12 @@ ghost use Rattle.last_ply.specs.LastPly.{base_of, is_legal_board_move, raw_of, s
 ghost use Rattle.last_ply.specs.Scenes.{OthersCannotMove, OthersScoreAtMost, OthersTakeLittle};
 
 use crate::scene::Scene;
-use static_exchange::reprisal;
 use shogi_core::bits::{lowest, without_lowest};
 use shogi_core::zones::{promoting_squares, squares_near_zone};
 use shogi_core::{Color, Move, Piece, Role, Square, Squares, aligned_squares, near_squares};
 use shogi_eval::{Eval, PROMOTION_GAIN_MAX, promotion_gain, taken_gain};
 use shogi_moves::{legal_destinations, takers};
+use static_exchange::reprisal;
 
 /// The most that the capture of a piece that does not slide gains, that of a gold.
 fn still_gain(e: Eval) -> u32
