@@ -7,8 +7,16 @@ ghost use Rattle.static_exchange.specs.Reprisals.{IsReprisal, IsEnough};
 
 use crate::exchanges::best_won;
 use crate::settle::is_quiet;
-use shogi_core::{Move, Position};
+use shogi_core::{Move, Position, Square};
 use shogi_moves::apply;
+
+/// The square on which the move ends.
+fn end_of(m: &Move) -> Square {
+    match m {
+        Move::Board { to, .. } => *to,
+        Move::Drop { to, .. } => *to,
+    }
+}
 
 /// What the other side wins, in points under `Eval::Exchange`, by its best exchange on one square
 /// after the legal move, and 0 after a quiet one: exactly where it is less than `enough`, and else
@@ -22,5 +30,6 @@ pub fn reprisal(p: &Position, m: Move, enough: u32) -> u32
     if is_quiet(p, &m) {
         return 0;
     }
-    best_won(&apply(p, m), enough)
+    let last = end_of(&m);
+    best_won(&apply(p, m), last, enough)
 }
