@@ -15,7 +15,7 @@ use Rattle.usi_session.specs.declared.state.State.{State}
 use Rattle.usi_texts.specs.Setup.{offers}
 use Rattle.usi_texts.proofs.SetupLaws.{in_order}
 use Rattle.shogi_eval.specs.declared.eval.Eval.{Eval}
-use Rattle.usi_session.specs.Answer.{Answer, answer, answer_with, allowed_depth, depth_of_go, set_options, answer_ponderhit, answer_ponderhit_held, answer_position, answer_stop, bestmove_at, write_or_hold}
+use Rattle.usi_session.specs.Answer.{Answer, answer, answer_with, allowed_depth, answer_eval, depth_of_go, set_options, answer_ponderhit, answer_ponderhit_held, answer_position, answer_stop, bestmove_at, write_or_hold}
 use Rattle.usi_session.specs.GoInfos.{go_infos}
 use Rattle.usi_session.specs.RunningGo.{IsBegun}
 use Rattle.usi_session.proofs.answer.answer.Goals.{in-Usi+in_ok-write_usi-in-Usi, in-IsReady+in_ok-extend_from_slice-in-IsReady, in-SetDepth, in-SetEval, in-SetLines, in-NewGame, in-Startpos+in_ok-answer_position-in-Startpos, in-Sfen+in_ok-answer_position-in-Sfen, in-BadPosition+in_ok-write_bad_position-in-BadPosition, in-GoMate+in_ok-write_mate_not_implemented-in-GoMate, in-Stop+in_ok-answer_stop-in-Stop, in-PonderHit+in_ok-answer_ponderhit-in-PonderHit, in-GameOver, in-Quit, in-Other}
@@ -52,6 +52,11 @@ go_keeps s infos held UntilHit = refl
 eval_says : (s : State) (eval : Eval) (offered : Bool) → (cond offered (set_options s (record s.options { eval = eval })) (answer_with s [])).bytes ≡ []
 eval_says s eval true = refl
 eval_says s eval false = refl
+
+says_nothing : (s : State) (eval : Eval) (before after : List ℕ) (state : State) → after ≡ before → state ≡ (answer_eval s eval).state → IsBegun (answer_eval s eval) 0 [] before after state None
+says_nothing s eval before after state same is =
+    let none : before ++ (answer_eval s eval).bytes ≡ before = ap (λ (said : List ℕ). before ++ said) (eval_says s eval (offers s.setup eval)) ∙ append-nil before in
+    at_once (answer_eval s eval) before after state (same ∙ sym none) is
 
 eval_keeps : (s : State) (eval : Eval) (offered : Bool) → AreInRange s.options → AreInRange (cond offered (set_options s (record s.options { eval = eval })) (answer_with s [])).state.options
 eval_keeps s eval true h = record { depth_fits = h.depth_fits; multi_pv_fits = h.multi_pv_fits }
@@ -92,19 +97,19 @@ go_allowed s depth hold h r = allowed s (unwrap_or depth s.options.depth) (go_de
 pub answer_go-requires-clause-least : goal.answer_go-requires-clause-least
 answer_go-requires-clause-least g c =
     let range : IsInRange (Go c.in-Go.depth c.in-Go.hold) = rw c.in-Go.is at c.requires.range in
-    rw c.depth_of_go.ensures (go_allowed c.args.state.now c.in-Go.depth c.in-Go.hold c.requires.options range).least
+    rw c.depth_of_go-depth.ensures (go_allowed c.args.state.now c.in-Go.depth c.in-Go.hold c.requires.options range).least
 
 pub answer_go-requires-clause-most : goal.answer_go-requires-clause-most
 answer_go-requires-clause-most g c =
     let range : IsInRange (Go c.in-Go.depth c.in-Go.hold) = rw c.in-Go.is at c.requires.range in
-    rw c.depth_of_go.ensures (go_allowed c.args.state.now c.in-Go.depth c.in-Go.hold c.requires.options range).most
+    rw c.depth_of_go-depth.ensures (go_allowed c.args.state.now c.in-Go.depth c.in-Go.hold c.requires.options range).most
 
 pub returns-clause-begun : goal.returns-clause-begun
 returns-clause-begun g c = elim c.match-command.branch [
   | in-Usi+in_ok-write_usi-in-Usi w ↦ rw w.in-Usi.is (at_once _ _ _ _ (search rules) (search rules))
   | in-IsReady+in_ok-extend_from_slice-in-IsReady w ↦ rw w.in-IsReady.is (at_once _ _ _ _ (search rules) (search rules))
   | in-SetDepth w ↦ rw w.in-SetDepth.is (at_once _ _ _ _ (search rules) (search rules))
-  | in-SetEval w ↦ rw w.in-SetEval.is (at_once _ _ _ _ (sym (ap (λ (said : List ℕ). c.args.out.now.items ++ said) (eval_says c.args.state.now w.in-SetEval.eval (offers c.args.state.now.setup w.in-SetEval.eval)) ∙ append-nil c.args.out.now.items)) (search rules))
+  | in-SetEval w ↦ rw w.in-SetEval.is (says_nothing c.args.state.now w.in-SetEval.eval _ _ _ (search rules) (search rules))
   | in-SetLines w ↦ rw w.in-SetLines.is (at_once _ _ _ _ (search rules) (search rules))
   | in-NewGame w ↦ rw w.in-NewGame.is (at_once _ _ _ _ (search rules) (search rules))
   | in-Startpos+in_ok-answer_position-in-Startpos w ↦ rw w.in-Startpos.is (at_once _ _ _ _ (search rules) (search rules))

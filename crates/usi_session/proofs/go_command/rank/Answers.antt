@@ -11,8 +11,8 @@ use Rattle.usi_session.specs.Walked.{is_settled}
 use Rattle.usi_session.proofs.NextSearch.{child_legal, child_window, child_worth, gone, ranked_up_to}
 use Rattle.usi_session.proofs.go_command.rank.Goals as goal
 
-pub last_worth-requires : goal.last_worth-requires
-last_worth-requires c = child_legal c.args.question.now c.args.depths_done c.args.root_move c.args.ranks.now c.validity.ensures.back c.requires.ranked
+pub last_worth-worth-requires : goal.last_worth-worth-requires
+last_worth-worth-requires c = child_legal c.args.question.now c.args.depths_done c.args.root_move c.args.ranks.now c.validity.ensures.back c.requires.ranked
 
 pub offer-requires : goal.offer-requires
 offer-requires c = gone_fresh _ _ _ _ _ _ (gone _ _ _ _ c.requires.ranked.ranked) c.requires.ranked.next
@@ -31,8 +31,8 @@ child_beta-requires-clause-least c = (child_window c.args.question.now c.args.de
 pub child_beta-requires-clause-most : goal.child_beta-requires-clause-most
 child_beta-requires-clause-most c = (child_window c.args.question.now c.args.depths_done c.args.root_move c.args.ranks.now c.validity-2.ensures c.requires.question c.requires.more c.requires.ranked).1
 
-pub offer-2-requires : goal.offer-2-requires
-offer-2-requires c = gone_fresh _ _ _ _ _ _ (gone _ _ _ _ c.requires.ranked.ranked) c.requires.ranked.next
+pub offer-requires-then-found-child_beta : goal.offer-requires-then-found-child_beta
+offer-requires-then-found-child_beta c = gone_fresh _ _ _ _ _ _ (gone _ _ _ _ c.requires.ranked.ranked) c.requires.ranked.next
 
 pub returns-then-found-child_beta : goal.returns-then-found-child_beta
 returns-then-found-child_beta c =
@@ -44,9 +44,9 @@ returns-then-found-child_beta c =
     let v : c.args.found.now.value ≡ value (after q.position c.args.root_move) q.eval c.args.depths_done = c.requires.below.value_is low in
     let w : f (code_of c.args.root_move) ≡ negated c.args.found.now.value =
     child_worth q c.args.depths_done (code_of c.args.root_move) plain ∙ sym (ap negated (v ∙ ap (λ (p : Shogi). value p q.eval c.args.depths_done) at)) in
-    ranked_up_to q c.args.depths_done (Some c.args.root_move) c.offer-2.new.self
-    (gone_on q.position f c.requires.ranked.passed c.args.ranks.now c.offer-2.new.self c.args.root_move (gone _ _ _ _ c.requires.ranked.ranked) c.requires.ranked.next (λ codes t i. c.offer-2.ensures.top f codes t i (omega (arith, ints))))
-    (c.offer-2.ensures.lines ∙ c.requires.ranked.ranked.most)
+    ranked_up_to q c.args.depths_done (Some c.args.root_move) c.offer-then-found-child_beta.new.self
+    (gone_on q.position f c.requires.ranked.passed c.args.ranks.now c.offer-then-found-child_beta.new.self c.args.root_move (gone _ _ _ _ c.requires.ranked.ranked) c.requires.ranked.next (λ codes t i. c.offer-then-found-child_beta.ensures.top f codes t i (omega (arith, ints))))
+    (c.offer-then-found-child_beta.ensures.lines ∙ c.requires.ranked.ranked.most)
 
 pub returns-else-found-child_beta : goal.returns-else-found-child_beta
 returns-else-found-child_beta c =
