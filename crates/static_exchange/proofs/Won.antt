@@ -1,31 +1,38 @@
 -- What is won by an exchange on one square, and on the best of them.
-use Rattle.std.proofs.Common.{◌≡◌, ◌≢◌, ◌<◌, ◌≤◌, ◌+◌, ◌-◌, ℕ, zero, suc, ℤ, pos, ◌+ℤ◌, ◌-ℤ◌, ◌≤ℤ◌, Bool, true, false, cond, not, Option, Some, None, refl, sym, ap, ◌∙◌, subst, arith, inl, inr}
+use Rattle.std.proofs.Common.{◌≡◌, ◌<◌, ◌≤◌, ◌+◌, ◌-◌, ℕ, zero, suc, set, get_or-set_same, length-set, ℤ, pos, ◌+ℤ◌, ◌-ℤ◌, ◌≤ℤ◌, Bool, true, false, not, Option, Some, None, refl, sym, ap, ◌∙◌, subst, arith, inl, inr}
 use Rattle.std.specs.Prelude.{◌&&◌, ◌==◌}
 use Rattle.std.specs.Int.{int_max}
-use Rattle.std.proofs.lemmas.Bool.{and_from, both_ways, cases_eq, cases_lt, false_from_ne_true, ne_eqb}
+use Rattle.std.proofs.lemmas.Bool.{both_ways, cases_eq, cases_lt, false_from_ne_true}
 use Rattle.std.proofs.lemmas.Int.{ints, clamps}
-use Rattle.shogi_core.specs.declared.moves.Move.{Move}
 use Rattle.shogi_core.specs.declared.moves.Move.TheVariants.{Board}
 use Rattle.shogi_core.specs.declared.piece.Piece.{Piece}
-use Rattle.shogi_core.specs.declared.piece.Role.{Role}
 use Rattle.shogi_core.specs.Bits.{has_bit}
-use Rattle.shogi_core.specs.Codes.{code_of, move_of}
 use Rattle.shogi_core.specs.Movement.{piece_at}
-use Rattle.shogi_core.specs.Pieces.{promoted}
+use Rattle.shogi_core.specs.Attack.{is_attacked, is_attacked_from}
+use Rattle.shogi_core.specs.Pieces.{opponent_of}
 use Rattle.shogi_core.specs.Position.{Shogi}
 use Rattle.shogi_core.specs.Validity.{IsValid}
-use Rattle.shogi_moves.specs.After.{after, after_code}
-use Rattle.shogi_moves.proofs.LegalLaws.{after_code_at, after_code_of}
+use Rattle.shogi_core.proofs.Below.{some_below_at}
+use Rattle.shogi_core.proofs.CodesBack.{move_of-board}
+use Rattle.shogi_moves.specs.After.{after, after_code, piece_moved}
+use Rattle.shogi_moves.proofs.LegalLaws.{after_code_at, after_code_of, legal_to_listed}
+use Rattle.shogi_moves.proofs.SeenAfter.{moved}
 use Rattle.shogi_eval.specs.declared.eval.Eval.TheVariants.{Exchange}
 use Rattle.shogi_eval.specs.declared.gain.TheConstants.{PROMOTION_GAIN_MAX}
-use Rattle.shogi_eval.specs.Exchange.{best_settled, captures_max, most_settled, settled, stand_or_take, taker}
-use Rattle.shogi_eval.specs.Material.{material_of, promotion_gain, taken_gain, value_of}
+use Rattle.shogi_eval.specs.Exchange.{best_settled, captures_max, most_settled, settled, taker}
+use Rattle.shogi_eval.specs.Material.{material_of, promotion_gain, taken_gain}
 use Rattle.shogi_eval.proofs.Gains.{material_after_board}
 use Rattle.shogi_eval.proofs.RoleGains as roles
 use Rattle.minimax.proofs.Settling.{best_least, settled_least}
-use Rattle.static_exchange.specs.Reprisals.{IsGain, IsWon, IsWonAtLeast, IsWonOn, WinsAtMostOn}
-use Rattle.static_exchange.proofs.Cheapest.{TakesFrom, taker_takes}
-use Rattle.static_exchange.proofs.Takings.{settled_stands, settled_takes, settled_zero, most_settled-first, most_settled-next}
+use Rattle.minimax.proofs.Valid.{after_valid}
+use Rattle.static_exchange.specs.Reprisals.{IsGain, IsWon, IsWonAtLeast, IsWonOn, WinsAtLeastOn, WinsAtMostOn, WinsAtMostOff}
+use Rattle.static_exchange.specs.Takers.{is_taker, promotes, taking, taking_code, NoneTakenOff, TakesFirst}
+use Rattle.static_exchange.proofs.Cheapest.{TakesFrom, left_or_passed, reaching, taker_none, taker_takes}
+use Rattle.static_exchange.proofs.Takings.{settled_stands, settled_takes, settled_zero}
+
+-- what is won there is no more
+pub wins_so_much : (p : Shogi) (s n won : ℕ) → IsWonOn p s n won → WinsAtMostOn p s n won
+wins_so_much p s n won is = omega (arith, ints, is)
 
 -- where nothing takes, nothing is won
 pub won_stands : (p : Shogi) (s n : ℕ) → None ≡ taker p s → IsWonOn p s n 0
@@ -44,6 +51,48 @@ won_takes p q s n code gain back h is at g b =
     larger (material_of p Exchange) (material_of q Exchange) (settled q Exchange s (n - 1)) (settled p Exchange s n) gain back
     (ap (λ (r : Shogi). material_of r Exchange) at ∙ g) b
     (settled_takes p q Exchange s n code (settled q Exchange s (n - 1)) h is at refl)
+
+upper : (has next after won : ℤ) (gain back : ℕ) → next ≡ (pos 0 -ℤ (has +ℤ pos gain)) → (next +ℤ pos back) ≤ℤ after → won ≡ int_max has (pos 0 -ℤ after) → won ≤ℤ (has +ℤ pos (gain - back))
+upper has next after won gain back n a w = omega (arith, ints, clamps, n, a, w)
+
+lower : (has next after won : ℤ) (gain back : ℕ) → next ≡ (pos 0 -ℤ (has +ℤ pos gain)) → after ≤ℤ (next +ℤ pos back) → won ≡ int_max has (pos 0 -ℤ after) → (has +ℤ pos (gain - back)) ≤ℤ won
+lower has next after won gain back n a w = omega (arith, ints, clamps, n, a, w)
+
+-- and by bounds of that
+pub won_upper : (p q : Shogi) (s n code gain back : ℕ) → 0 < n → Some code ≡ taker p s → q ≡ after_code p code → IsGain p code gain → WinsAtLeastOn q s (n - 1) back → WinsAtMostOn p s n (gain - back)
+won_upper p q s n code gain back h is at g b =
+    upper (material_of p Exchange) (material_of q Exchange) (settled q Exchange s (n - 1)) (settled p Exchange s n) gain back
+    (ap (λ (r : Shogi). material_of r Exchange) at ∙ g) b
+    (settled_takes p q Exchange s n code (settled q Exchange s (n - 1)) h is at refl)
+
+pub won_lower : (p q : Shogi) (s n code gain back : ℕ) → 0 < n → Some code ≡ taker p s → q ≡ after_code p code → IsGain p code gain → WinsAtMostOn q s (n - 1) back → WinsAtLeastOn p s n (gain - back)
+won_lower p q s n code gain back h is at g b =
+    lower (material_of p Exchange) (material_of q Exchange) (settled q Exchange s (n - 1)) (settled p Exchange s n) gain back
+    (ap (λ (r : Shogi). material_of r Exchange) at ∙ g) b
+    (settled_takes p q Exchange s n code (settled q Exchange s (n - 1)) h is at refl)
+
+-- nothing at least is won back
+pub none_least : (q : Shogi) (s n : ℕ) → WinsAtLeastOn q s n 0
+none_least q s n = let least : material_of q Exchange ≤ℤ settled q Exchange s n = settled_least q Exchange s n in omega (arith, ints, least)
+
+-- so no more than the capture gains
+pub won_gain : (p : Shogi) (s n code gain : ℕ) → 0 < n → Some code ≡ taker p s → IsGain p code gain → WinsAtMostOn p s n gain
+won_gain p s n code gain h is g =
+    let whole : gain - 0 ≡ gain = omega arith in
+    subst (WinsAtMostOn p s n) whole (won_upper p (after_code p code) s n code gain 0 h is refl g (none_least (after_code p code) s (n - 1)))
+
+-- and that, where nothing is taken back
+pub won_whole : (p : Shogi) (s n code gain : ℕ) → 0 < n → Some code ≡ taker p s → IsGain p code gain → None ≡ taker (after_code p code) s → WinsAtLeastOn p s n gain
+won_whole p s n code gain h is g none =
+    let whole : gain - 0 ≡ gain = omega arith in
+    subst (WinsAtLeastOn p s n) whole (won_lower p (after_code p code) s n code gain 0 h is refl g (wins_so_much (after_code p code) s (n - 1) 0 (won_stands (after_code p code) s (n - 1) none)))
+
+-- a number is one from below, if it is more than a floor that depends on it
+pub recursed : (q : Shogi) (s n gain enough back : ℕ) → (gain - enough < back → WinsAtLeastOn q s n back) → gain - back < enough → WinsAtLeastOn q s n back
+recursed q s n gain enough back least below = elim (cases_lt (gain - enough) back) [
+  | inl low ↦ least low
+  | inr high ↦ (let none : back ≡ 0 = omega arith in subst (WinsAtLeastOn q s n) (sym none) (none_least q s n))
+]
 
 -- what a promotion gains at most
 promotion_most : (promote : Bool) (cell : Option Piece) → promotion_gain promote cell ≤ PROMOTION_GAIN_MAX
@@ -96,8 +145,8 @@ most_at_most p n (suc k) v h =
     omega (arith, ints, clamps, here, rest)
 
 -- what is won on one square is won at least
-pub won_at_least : (p : Shogi) (s won : ℕ) → s < 81 → IsWonOn p s captures_max won → IsWonAtLeast p won
-won_at_least p s won h is = let least : settled p Exchange s captures_max ≤ℤ best_settled p Exchange = most_least p captures_max s 80 (omega arith) in omega (arith, ints, least, is)
+pub won_so_much : (p : Shogi) (s won : ℕ) → s < 81 → WinsAtLeastOn p s captures_max won → IsWonAtLeast p won
+won_so_much p s won h is = let least : settled p Exchange s captures_max ≤ℤ best_settled p Exchange = most_least p captures_max s 80 (omega arith) in omega (arith, ints, least, is)
 
 -- nothing at least
 pub wins_nothing : (p : Shogi) → IsWonAtLeast p 0
@@ -115,13 +164,49 @@ won_exactly p won least most =
 pub wins_more : (p : Shogi) (s n less more : ℕ) → less ≤ more → WinsAtMostOn p s n less → WinsAtMostOn p s n more
 wins_more p s n less more h l = omega (arith, ints, h, l)
 
-pub wins_so_much : (p : Shogi) (s n won : ℕ) → IsWonOn p s n won → WinsAtMostOn p s n won
-wins_so_much p s n won is = omega (arith, ints, is)
+-- ---- the first capture
 
--- one more square is gone through
-pub one_square : (p : Shogi) (left next k old new : ℕ) → ((i : ℕ) → has_bit next i ≡ (has_bit left i && not (i == k))) → old ≤ new → WinsAtMostOn p k captures_max new
-    → ((s : ℕ) → s < 81 → has_bit left s ≡ false → WinsAtMostOn p s captures_max old) → (s : ℕ) → s < 81 → has_bit next s ≡ false → WinsAtMostOn p s captures_max new
-one_square p left next k old new bits up here all s h out = elim (cases_eq s k) [
+-- what it gains
+pub gain_first : (p : Shogi) (s from : ℕ) → IsValid p → s < 81 → TakesFirst p s from → IsGain p (taking_code p s from) (taken_gain Exchange (piece_at p.cells s) + promotion_gain (promotes p s from) (piece_at p.cells from))
+gain_first p s from v hs t =
+    ap (λ (q : Shogi). material_of q Exchange) (after_code_of p (taking p s from) (move_of-board from s (promotes p s from) t.here hs))
+    ∙ material_after_board p Exchange from s (promotes p s from) v t.here hs t.legal
+
+-- it leaves a valid position
+after_first : (p : Shogi) (s from : ℕ) → IsValid p → s < 81 → TakesFirst p s from → IsValid (after_code p (taking_code p s from))
+after_first p s from v hs t = after_valid p (taking_code p s from) v (legal_to_listed p (taking p s from) (move_of-board from s (promotes p s from) t.here hs) t.legal)
+
+-- with the piece on the square
+stands_there : (p : Shogi) (s from : ℕ) → IsValid p → s < 81 → from < 81 → piece_at (after_code p (taking_code p s from)).cells s ≡ piece_moved (promotes p s from) (piece_at p.cells from)
+stands_there p s from v hs hf =
+    ap (λ (q : Shogi). piece_at q.cells s) (after_code_of p (taking p s from) (move_of-board from s (promotes p s from) hf hs))
+    ∙ get_or-set_same (set p.cells from None) s (piece_moved (promotes p s from) (piece_at p.cells from)) None (omega (arith, v.cells_fit, length-set p.cells from None))
+
+-- for which no more than so much is won back
+pub back_first : (p : Shogi) (s from n : ℕ) → IsValid p → s < 81 → TakesFirst p s from → WinsAtMostOn (after_code p (taking_code p s from)) s n (taken_gain Exchange (piece_moved (promotes p s from) (piece_at p.cells from)) + PROMOTION_GAIN_MAX)
+back_first p s from n v hs t =
+    subst (λ (cell : Option Piece). WinsAtMostOn (after_code p (taking_code p s from)) s n (taken_gain Exchange cell + PROMOTION_GAIN_MAX)) (stands_there p s from v hs t.here)
+    (won_most (after_code p (taking_code p s from)) s n (after_first p s from v hs t) hs)
+
+-- and nothing where the other side does not reach it
+pub untaken_back : (p : Shogi) (s from : ℕ) → IsValid p → s < 81 → TakesFirst p s from → is_attacked (moved p from s (promotes p s from)) (opponent_of p.side) s ≡ false → None ≡ taker (after_code p (taking_code p s from)) s
+untaken_back p s from v hs t off =
+    let at : after_code p (taking_code p s from) ≡ after p (taking p s from) = after_code_of p (taking p s from) (move_of-board from s (promotes p s from) t.here hs) in
+    subst (λ (q : Shogi). None ≡ taker q s) (sym at)
+    (taker_none (after p (taking p s from)) s (subst IsValid at (after_first p s from v hs t)) hs (λ n h some. false_from_ne_true (is_taker (after p (taking p s from)) s n) (λ l.
+    both_ways (is_attacked (moved p from s (promotes p s from)) (opponent_of p.side) s) off
+    (some_below_at 81 (is_attacked_from (moved p from s (promotes p s from)) (opponent_of p.side) s) n h (reaching (after p (taking p s from)) s n l)))))
+
+-- ---- the squares but for that of the last move
+
+pub begins_off : (p : Shogi) (squares next last floor : ℕ) → NoneTakenOff p squares → ((i : ℕ) → has_bit next i ≡ (has_bit squares i && not (i == last))) → WinsAtMostOn p last captures_max floor → WinsAtMostOff p next floor
+begins_off p squares next last floor none bits there s h out = elim (left_or_passed squares next last s bits out) [
+  | inl same ↦ subst (λ (x : ℕ). WinsAtMostOn p x captures_max floor) (sym same) there
+  | inr off ↦ wins_more p s captures_max 0 floor (omega arith) (wins_so_much p s captures_max 0 (won_stands p s captures_max (none s h off)))
+]
+
+pub one_square : (p : Shogi) (left next k old new : ℕ) → ((i : ℕ) → has_bit next i ≡ (has_bit left i && not (i == k))) → old ≤ new → WinsAtMostOn p k captures_max new → WinsAtMostOff p left old → WinsAtMostOff p next new
+one_square p left next k old new bits up here all s h out = elim (left_or_passed left next k s bits out) [
   | inl same ↦ subst (λ (x : ℕ). WinsAtMostOn p x captures_max new) (sym same) here
-  | inr other ↦ wins_more p s captures_max old new up (all s h (false_from_ne_true (has_bit left s) (λ still. both_ways (has_bit next s) out (bits s ∙ and_from _ _ still (ap not (ne_eqb s k other))))))
+  | inr off ↦ wins_more p s captures_max old new up (all s h off)
 ]

@@ -20,6 +20,10 @@ IsWonOn p s n won = settled p Exchange s n ≡ material_of p Exchange +ℤ pos w
 abbrev pub WinsAtMostOn : Shogi → ℕ → ℕ → ℕ → Type 0
 WinsAtMostOn p s n won = settled p Exchange s n ≤ℤ (material_of p Exchange +ℤ pos won)
 
+-- it wins no less there
+abbrev pub WinsAtLeastOn : Shogi → ℕ → ℕ → ℕ → Type 0
+WinsAtLeastOn p s n won = (material_of p Exchange +ℤ pos won) ≤ℤ settled p Exchange s n
+
 -- it wins no more on other squares than these
 abbrev pub WinsAtMostOff : Shogi → ℕ → ℕ → Type 0
 WinsAtMostOff p squares won = (s : ℕ) → s < 81 → has_bit squares s ≡ false

@@ -1,13 +1,13 @@
 //! What takes on a square: the cheapest piece that legally can.
 
-ghost use Rattle.std.specs.Prelude.{◌≡◌, ◌≢◌, ◌<◌, ◌≤◌, ◌^◌, ◌&&◌, ◌*◌, ◌+◌, ℕ, true, false, Some, None, IfSome};
+ghost use Rattle.std.specs.Prelude.{◌≡◌, ◌≢◌, ◌<◌, ◌≤◌, ◌^◌, ◌&&◌, ◌*◌, ◌+◌, ℕ, true, false, Some, None, IfSome, IsNone};
 ghost use Rattle.shogi_core.specs.Bits.{HasBits, has_bit};
 ghost use Rattle.shogi_core.specs.Codes.{code_of};
 ghost use Rattle.shogi_core.specs.Movement.{reaches};
 ghost use Rattle.shogi_moves.specs.Destinations.{is_own};
 ghost use Rattle.shogi_moves.specs.Legal.{is_legal};
 ghost use Rattle.shogi_eval.specs.Exchange.{price_of, price_with, taker};
-ghost use Rattle.static_exchange.specs.Takers.{code_in, rank_on, taking, IsFirst, IsLegalIn, NoneTakenOff, OthersTakeNot};
+ghost use Rattle.static_exchange.specs.Takers.{code_in, rank_on, taking, IsFirst, IsLegalIn, NoneTakenOff, OthersTakeNot, TakesFirst};
 
 use shogi_core::bits::{cleared, lowest, without_lowest};
 use shogi_core::zones::may_promote;
@@ -63,7 +63,7 @@ fn rank_on(p: &Position, square: Square, from: Square) -> u32
 }
 
 /// The move of what stands on the one square to the other, which promotes if it may.
-fn taking(p: &Position, square: Square, from: Square) -> Move
+pub fn taking(p: &Position, square: Square, from: Square) -> Move
     ensures { result ≡ taking p.now square from }
 {
     let promote = may_promote(p.at(from), from, square);
@@ -108,11 +108,10 @@ fn first_of(p: &Position, square: Square, pieces: u128) -> usize
     first
 }
 
-/// The legal move that takes on the square with the cheapest piece, promoting where it may, the one
-/// of least code where several do.
-pub fn taker(p: &Position, square: Square) -> Option<Move>
-    ensures code { code_in result ≡ taker p.now square }
-    ensures legal { IsLegalIn p.now result }
+/// The square of the cheapest piece that legally takes on the square, the least where several do.
+pub fn first_taker(p: &Position, square: Square) -> Option<Square>
+    ensures none { IsNone result → None ≡ taker p.now square }
+    ensures first { IfSome result (TakesFirst p.now square) }
 {
     p.validity();
     square.validity();
@@ -124,11 +123,23 @@ pub fn taker(p: &Position, square: Square) -> Option<Move>
         let index = first_of(p, square, left);
         let from = Square::of_index(index);
         if is_legal(p, taking(p, square, from)) {
-            return Some(taking(p, square, from));
+            return Some(from);
         }
         left = cleared(left, index);
     }
     None
+}
+
+/// The legal move that takes on the square with the cheapest piece, promoting where it may, the one
+/// of least code where several do.
+pub fn taker(p: &Position, square: Square) -> Option<Move>
+    ensures code { code_in result ≡ taker p.now square }
+    ensures legal { IsLegalIn p.now result }
+{
+    match first_taker(p, square) {
+        None => None,
+        Some(from) => Some(taking(p, square, from)),
+    }
 }
 
 /// Squares outside which the side to move takes nothing.

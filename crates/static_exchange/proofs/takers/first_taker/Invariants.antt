@@ -1,6 +1,6 @@
-use Rattle.std.proofs.Common.{◌≡◌, ◌<◌, ◌^◌}
+use Rattle.std.proofs.Common.{◌<◌, ◌^◌}
 use Rattle.static_exchange.specs.Takers.{OthersTakeNot}
-use Rattle.static_exchange.proofs.takers.taker.Given as goal
+use Rattle.static_exchange.proofs.takers.first_taker.Given as goal
 
 abbrev pub invariant-pieces : goal.invariant-pieces
 invariant-pieces l = record {
