@@ -1,14 +1,24 @@
 //! What the other side wins after a move that ends a line.
 
-ghost use Rattle.std.specs.Prelude.{◌≡◌, ◌≤◌, ◌<◌, true};
+ghost use Rattle.std.specs.Prelude.{◌≡◌, ◌≤◌, ◌<◌, Some, true};
 ghost use Rattle.shogi_core.specs.Codes.{code_of};
 ghost use Rattle.shogi_moves.specs.Legal.{is_legal};
+ghost use Rattle.shogi_eval.specs.Exchange.{is_quiet};
 ghost use Rattle.static_exchange.specs.Reprisals.{IsReprisal, IsEnough};
 
 use crate::exchanges::best_won;
-use crate::settle::is_quiet;
 use shogi_core::{Move, Position, Square};
 use shogi_moves::apply;
+
+/// Whether the move takes nothing and does not promote.
+pub fn is_quiet(p: &Position, m: &Move) -> bool
+    ensures { result ≡ is_quiet p.now (Some m.now) }
+{
+    match m {
+        Move::Board { to, promote, .. } => !*promote && p.at(*to).is_none(),
+        Move::Drop { .. } => true,
+    }
+}
 
 /// The square on which the move ends.
 fn end_of(m: &Move) -> Square {

@@ -1,7 +1,7 @@
 use Rattle.std.proofs.Common.{ℕ, arith, ap, ◌∙◌}
 use Rattle.shogi_core.specs.Bits.{has_bit}
 use Rattle.shogi_core.proofs.BitLaws.{has_bit-none}
-use Rattle.static_exchange.proofs.Won.{begins_off, one_square, won_exactly, won_less}
+use Rattle.static_exchange.proofs.Won.{begins_off, won_exactly}
 use Rattle.static_exchange.proofs.exchanges.won_elsewhere.Goals as goal
 
 pub squares-init : goal.squares-init

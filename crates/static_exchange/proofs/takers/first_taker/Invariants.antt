@@ -1,4 +1,4 @@
-use Rattle.std.proofs.Common.{◌≡◌, ◌<◌, ◌^◌}
+use Rattle.std.proofs.Common.{◌<◌, ◌^◌}
 use Rattle.static_exchange.specs.Takers.{OthersTakeNot}
 use Rattle.static_exchange.proofs.takers.first_taker.Given as goal
 
