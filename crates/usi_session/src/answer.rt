@@ -130,10 +130,14 @@ pub fn answer<A: Allocator + Copy>(
     ensures options { OnOk result (AreInRange state.new.options) }
 {
     match command {
-        Command::Usi => write_usi(out)?,
+        Command::Usi => write_usi(out, &state.setup)?,
         Command::IsReady => out.extend_from_slice(b"readyok\n")?,
-        Command::SetDepth(depth) => state.options.depth = depth,
-        Command::SetEval(eval) => state.options.eval = eval,
+        Command::SetDepth(depth) => state.options.depth = depth.min(state.setup.max_depth),
+        Command::SetEval(eval) => {
+            if state.setup.offers(eval) {
+                state.options.eval = eval;
+            }
+        }
         Command::SetLines(multi_pv) => state.options.multi_pv = multi_pv,
         Command::NewGame => {
             state.position = Position::start();
@@ -143,7 +147,7 @@ pub fn answer<A: Allocator + Copy>(
         Command::Sfen(text) => answer_position(out, state, position_of_sfen(text))?,
         Command::BadPosition => write_bad_position(out, 0)?,
         Command::Go { depth, hold } => {
-            let depth = depth.unwrap_or(state.options.depth);
+            let depth = depth.unwrap_or(state.options.depth).min(state.setup.max_depth);
             return answer_go(alloc, out, state, depth, hold);
         }
         Command::GoMate => {
