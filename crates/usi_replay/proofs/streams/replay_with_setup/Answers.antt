@@ -1,5 +1,5 @@
 use Rattle.usi_replay.proofs.Reading.{flushes_said, replays, leaves_write, leaves_read, leaves_answer, passed_on}
-use Rattle.usi_replay.proofs.streams.replay.Goals as goal
+use Rattle.usi_replay.proofs.streams.replay_with_setup.Goals as goal
 
 -- the script was not read
 pub returns-in_err-script-clause-err : goal.returns-in_err-script-clause-err
