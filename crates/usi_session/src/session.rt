@@ -135,6 +135,7 @@ impl<A: Allocator + Copy> Session<A> {
 
     /// A session at its start: the opening position, each option as the setup has it, nothing held.
     /// It takes no memory.
+    #[tactic(auto, using(usi_texts::proofs::SetupLaws::setup_in_range))]
     pub fn with_setup(alloc: A, setup: Setup) -> Session<A>
         ensures initial { result ≡ new_session_under setup }
         ensures due { (x : List ℕ) → due result x ≡ replies_under setup x }
