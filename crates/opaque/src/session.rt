@@ -4,6 +4,7 @@ use shogi_search::Memo;
 use std::alloc::{AllocError, Allocator};
 use std::marker::Model;
 use usi_session::{CHUNK_MAX, Session};
+use usi_texts::Setup;
 
 /// A session. What its contracts say stays within.
 #[derive(Drop)]
@@ -21,6 +22,12 @@ impl<A: Allocator + Copy> OpaqueSession<A> {
     pub fn new(alloc: A) -> OpaqueSession<A> {
         OpaqueSession {
             session: Session::new(alloc),
+        }
+    }
+
+    pub fn with_setup(alloc: A, setup: Setup) -> OpaqueSession<A> {
+        OpaqueSession {
+            session: Session::with_setup(alloc, setup),
         }
     }
 
