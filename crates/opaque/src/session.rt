@@ -1,5 +1,6 @@
 //! A session.
 
+use shogi_eval::Eval;
 use shogi_search::Memo;
 use std::alloc::{AllocError, Allocator};
 use std::marker::Model;
@@ -28,6 +29,20 @@ impl<A: Allocator + Copy> OpaqueSession<A> {
     pub fn with_setup(alloc: A, setup: Setup) -> OpaqueSession<A> {
         OpaqueSession {
             session: Session::with_setup(alloc, setup),
+        }
+    }
+
+    /// Under a setup of these, where they are one.
+    pub fn under(
+        alloc: A,
+        depth: u8,
+        max_depth: u8,
+        multi_pv: u8,
+        eval: Eval,
+    ) -> Result<OpaqueSession<A>, &'static str> {
+        match Setup::of(depth, max_depth, multi_pv, eval) {
+            Ok(setup) => Ok(OpaqueSession::with_setup(alloc, setup)),
+            Err(_) => Err("the numbers of a setup"),
         }
     }
 

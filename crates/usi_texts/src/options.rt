@@ -123,12 +123,6 @@ pub fn write_options<A: Allocator>(out: &mut Vec<u8, A>, setup: &Setup) -> Resul
 {
     write_spin(out, b"Depth", setup.depth, DEPTH_MIN, setup.max_depth)?;
     write_eval(out, setup)?;
-    write_spin(
-        out,
-        b"MultiPV",
-        setup.multi_pv,
-        MULTI_PV_MIN,
-        MULTI_PV_MAX,
-    )?;
+    write_spin(out, b"MultiPV", setup.multi_pv, MULTI_PV_MIN, MULTI_PV_MAX)?;
     Ok(())
 }
