@@ -1,2 +1,1 @@
 pub mod Pointers
-pub mod Setups

@@ -15,18 +15,18 @@ use Rattle.usi_replay.proofs.Transcripts.{transcripts_get, transcripts_len}
 use Rattle.usi_lines.specs.declared.line.TheConstants.{LINE_FEED}
 
 -- what is written for what is kept is what is to be written for its `+` line
-answer_is : {setup : Setup} (h : HostState) (id : Option SessionId) (used refused : Bool) (text made : List ℕ) → HasMade setup h id used refused text made → (cond used id None ≢ None → made ≡ replies_under setup text) → cond (is_some id) made (codes "refused 1\n") ≡ cond refused (codes "refused 1\n") (replies_under setup text)
-answer_is {setup} h None used refused text made m all = rw m refl
-answer_is {setup} h (Some id) true refused text made m all = rw m.0 (all (λ e. cc))
-answer_is {setup} h (Some id) false refused text made m all = rw m.0 m.1
+answer_is : (setup : Setup) (h : HostState) (id : Option SessionId) (used refused : Bool) (text made : List ℕ) → HasMade setup h id used refused text made → (cond used id None ≢ None → made ≡ replies_under setup text) → cond (is_some id) made (codes "refused 1\n") ≡ cond refused (codes "refused 1\n") (replies_under setup text)
+answer_is setup h None used refused text made m all = rw m refl
+answer_is setup h (Some id) true refused text made m all = rw m.0 (all (λ e. cc))
+answer_is setup h (Some id) false refused text made m all = rw m.0 m.1
 
 pub section_is : {setup : Setup} (h : HostState) (o : Opening) (e : Transcript) → IsTranscriptOf setup h o e → (open_id e ≢ None → HasAllReplies setup o e) → transcript_section e ≡ section setup o
-section_is {setup} h o e i all = ap (λ n. codes "== " ++ (n ∷ LINE_FEED ∷ cond (is_some e.id) e.made (codes "refused 1\n"))) i.name_is ∙ ap (λ xs. codes "== " ++ (o.name ∷ LINE_FEED ∷ xs)) (answer_is h e.id e.in_use o.refused o.text e.made i.made_is all)
+section_is {setup} h o e i all = ap (λ n. codes "== " ++ (n ∷ LINE_FEED ∷ cond (is_some e.id) e.made (codes "refused 1\n"))) i.name_is ∙ ap (λ xs. codes "== " ++ (o.name ∷ LINE_FEED ∷ xs)) (answer_is setup h e.id e.in_use o.refused o.text e.made i.made_is all)
 
-output_from : {setup : Setup} (os : List Opening) (i : ℕ) → i < length os → output setup (drop i os) ≡ section setup (get_or os i no_opening) ++ output setup (drop (i + 1) os)
-output_from {setup} [] i lt = absurd (omega arith)
-output_from {setup} (o ∷ os) zero lt = refl
-output_from {setup} (o ∷ os) (suc i) lt = (let e : suc i + 1 ≡ suc (i + 1) = omega arith in rw e (output_from os i (omega arith)))
+output_from : (setup : Setup) (os : List Opening) (i : ℕ) → i < length os → output setup (drop i os) ≡ section setup (get_or os i no_opening) ++ output setup (drop (i + 1) os)
+output_from setup [] i lt = absurd (omega arith)
+output_from setup (o ∷ os) zero lt = refl
+output_from setup (o ∷ os) (suc i) lt = (let e : suc i + 1 ≡ suc (i + 1) = omega arith in rw e (output_from setup os i (omega arith)))
 
 -- the output so far, and what is left of it
 abbrev pub WritesTo : HostState → List Transcript → HostState → List Transcript → ℕ → List ℕ → Type 0
@@ -39,20 +39,20 @@ pub writes_next : (old mid new : HostState) (es fs gs : List Transcript) (i : �
 writes_next old mid new es fs gs i out more x w played all lt item e setup slots os p =
     let q = w setup slots os p in
     let r : IsPlayback setup slots new os gs = played setup slots os q.0 in
-    let n : length os ≡ length gs = transcripts_len new 0 os gs r.transcripts in
-    let s : transcript_section (get_or gs i no_transcript) ≡ section setup (get_or os i no_opening) = section_is new (get_or os i no_opening) (get_or gs i no_transcript) (transcripts_get new 0 os gs i r.transcripts lt) (all setup slots os q.0) in
-    (r, ap (λ xs. xs ++ output setup (drop (i + 1) os)) (e ∙ ap (λ xs. out ++ xs) (ap transcript_section (sym item) ∙ s)) ∙ (append_assoc out (section setup (get_or os i no_opening)) (output setup (drop (i + 1) os)) ∙ (ap (λ xs. out ++ xs) (sym (output_from os i (omega arith))) ∙ q.1)))
+    let n : length os ≡ length gs = transcripts_len setup new 0 os gs r.transcripts in
+    let s : transcript_section (get_or gs i no_transcript) ≡ section setup (get_or os i no_opening) = section_is new (get_or os i no_opening) (get_or gs i no_transcript) (transcripts_get setup new 0 os gs i r.transcripts lt) (all setup slots os q.0) in
+    (r, ap (λ xs. xs ++ output setup (drop (i + 1) os)) (e ∙ ap (λ xs. out ++ xs) (ap transcript_section (sym item) ∙ s)) ∙ (append_assoc out (section setup (get_or os i no_opening)) (output setup (drop (i + 1) os)) ∙ (ap (λ xs. out ++ xs) (sym (output_from setup os i (omega arith))) ∙ q.1)))
 
 pub writes_end : (old now : HostState) (es fs : List Transcript) (i : ℕ) (out : List ℕ) → WritesTo old es now fs i out → length fs ≤ i → (setup : Setup) (slots : ℕ) (os : List Opening) → IsPlayback setup slots old os es → out ≡ output setup os
 writes_end old now es fs i out w le setup slots os p =
     let q = w setup slots os p in
-    let n : length os ≡ length fs = transcripts_len now 0 os fs q.0.transcripts in
+    let n : length os ≡ length fs = transcripts_len setup now 0 os fs q.0.transcripts in
     sym (append-nil out) ∙ (ap (λ (rest : List Opening). out ++ output rest) (sym (drop_all i os (omega arith))) ∙ q.1)
 
 -- a script before its first line
-pub read_start : {setup : Setup} (slots entries : ℕ) (bytes : List ℕ) (h : HostState) → h ≡ new_host_under setup slots entries → IsReadTo setup slots h [] bytes 0 bytes
+pub read_start : (setup : Setup) (slots entries : ℕ) (bytes : List ℕ) (h : HostState) → h ≡ new_host_under setup slots entries → IsReadTo setup slots h [] bytes 0 bytes
 unfolding AreTranscripts
-read_start {setup} slots entries bytes h e = record {
+read_start setup slots entries bytes h e = record {
   openings = [];
   play = rw e (record { transcripts = omega arith; count_is = refl; max_is = refl; setup_is = refl; few = omega arith });
   comes = refl;

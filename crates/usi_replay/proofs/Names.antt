@@ -54,12 +54,12 @@ none_by false name by o os e es f u le more =
       none = ap (λ (b : Bool). change_into b by o os (change name by os)) v ∙ ap (change_into false by o os) r.none;
     }
 
-pub none_under : {setup : Setup} (h : HostState) (low name : ℕ) (by : Opening → Opening) (os : List Opening) (es : List Transcript) → AreTranscripts setup h low os es → length es ≤ position_or_len (is_transcript_under name) es → NoneUnder name by os
+pub none_under : (setup : Setup) (h : HostState) (low name : ℕ) (by : Opening → Opening) (os : List Opening) (es : List Transcript) → AreTranscripts setup h low os es → length es ≤ position_or_len (is_transcript_under name) es → NoneUnder name by os
 unfolding AreTranscripts
-none_under {setup} h low name by [] [] t le = record { unused = refl; none = refl }
-none_under {setup} h low name by [] (e ∷ es) t le = absurd t
-none_under {setup} h low name by (o ∷ os) [] t le = absurd t
-none_under {setup} h low name by (o ∷ os) (e ∷ es) t le = none_by (is_transcript_under name e) name by o os e es refl (under_same h o e name t.0) le (λ l. none_under h (floor_after low e.id) name by os es t.2 l)
+none_under setup h low name by [] [] t le = record { unused = refl; none = refl }
+none_under setup h low name by [] (e ∷ es) t le = absurd t
+none_under setup h low name by (o ∷ os) [] t le = absurd t
+none_under setup h low name by (o ∷ os) (e ∷ es) t le = none_by (is_transcript_under name e) name by o os e es refl (under_same h o e name t.0) le (λ l. none_under setup h (floor_after low e.id) name by os es t.2 l)
 
 -- one is
 pub record OneUnder (name : ℕ) (by : Opening → Opening) (os : List Opening) (i : ℕ) : Type 0 where
@@ -81,12 +81,12 @@ one_by false name by o os e es (suc i) f u p more =
       changed = ap (λ (b : Bool). change_into b by o os (change name by os)) v ∙ ap (change_into false by o os) r.changed;
     }
 
-pub one_under : {setup : Setup} (h : HostState) (low name : ℕ) (by : Opening → Opening) (os : List Opening) (es : List Transcript) (i : ℕ) → AreTranscripts setup h low os es → i ≡ position_or_len (is_transcript_under name) es → i < length es → OneUnder name by os i
+pub one_under : (setup : Setup) (h : HostState) (low name : ℕ) (by : Opening → Opening) (os : List Opening) (es : List Transcript) (i : ℕ) → AreTranscripts setup h low os es → i ≡ position_or_len (is_transcript_under name) es → i < length es → OneUnder name by os i
 unfolding AreTranscripts
-one_under {setup} h low name by [] [] i t e lt = absurd (omega arith)
-one_under {setup} h low name by [] (k ∷ es) i t e lt = absurd t
-one_under {setup} h low name by (o ∷ os) [] i t e lt = absurd t
-one_under {setup} h low name by (o ∷ os) (k ∷ es) i t e lt = one_by (is_transcript_under name k) name by o os k es i refl (under_same h o k name t.0) e (λ j f q. one_under h (floor_after low k.id) name by os es j t.2 q (omega arith))
+one_under setup h low name by [] [] i t e lt = absurd (omega arith)
+one_under setup h low name by [] (k ∷ es) i t e lt = absurd t
+one_under setup h low name by (o ∷ os) [] i t e lt = absurd t
+one_under setup h low name by (o ∷ os) (k ∷ es) i t e lt = one_by (is_transcript_under name k) name by o os k es i refl (under_same h o k name t.0) e (λ j f q. one_under setup h (floor_after low k.id) name by os es j t.2 q (omega arith))
 
 -- a name opens
 refused_by : (slots held : ℕ) → slots ≤ held → nat_le slots held ≡ true
@@ -139,13 +139,13 @@ opened_played old mid es name (Some at) o room setup slots os p =
     }
 
 -- a name is closed_opening
-found_open : {setup : Setup} (f : Option SessionView) (made text : List ℕ) → Owes setup f made text → f ≡ None → ⊥
-found_open {setup} None made text o e = o
-found_open {setup} (Some s) made text o e = (cc)
+found_open : (setup : Setup) (f : Option SessionView) (made text : List ℕ) → Owes setup f made text → f ≡ None → ⊥
+found_open setup None made text o e = o
+found_open setup (Some s) made text o e = (cc)
 
-closed_of : {setup : Setup} (old new : HostState) (at : SessionId) (found : Option SessionView) (made text : List ℕ) (o : Outcome) → Owes setup found made text → IsClosed old at found o new → Closed old at o new
-closed_of {setup} old new at None made text o w c = absurd w
-closed_of {setup} old new at (Some s) made text o w c = c
+closed_of : (setup : Setup) (old new : HostState) (at : SessionId) (found : Option SessionView) (made text : List ℕ) (o : Outcome) → Owes setup found made text → IsClosed old at found o new → Closed old at o new
+closed_of setup old new at None made text o w c = absurd w
+closed_of setup old new at (Some s) made text o w c = c
 
 held_not : (o : Opening) → o.refused ≡ true → has_session o ≡ false
 held_not o e = ap (λ (b : Bool). o.in_use && not b) e ∙ and_false o.in_use where
@@ -156,10 +156,10 @@ held_not o e = ap (λ (b : Bool). o.in_use && not b) e ∙ and_false o.in_use wh
 pub freed_live : (old new : HostState) (at : SessionId) (es : List Transcript) (i : ℕ) (setup : Setup) (slots : ℕ) (os : List Opening) → i < length es → open_id (get_or es i no_transcript) ≡ Some at → IsClosedAs old (Some at) new → HasAllReplies setup (get_or os i no_opening) (get_or es i no_transcript) → IsPlayback setup slots old os es → IsPlayback setup slots new (set os i (closed_opening (get_or os i no_opening))) (set es i (record (get_or es i no_transcript) { in_use = false }))
 freed_live old new at es i setup slots os lt l closed all p =
     let li : HasOpenId (get_or es i no_transcript) at = has_open_id (get_or es i no_transcript) at l in
-    let of : IsTranscriptOf setup old (get_or os i no_opening) (get_or es i no_transcript) = transcripts_get old 0 os es i p.transcripts lt in
+    let of : IsTranscriptOf setup old (get_or os i no_opening) (get_or es i no_transcript) = transcripts_get setup old 0 os es i p.transcripts lt in
     let m = made_live old (get_or os i no_opening) (get_or es i no_transcript) at li of in
-    let c : Closed old at closed.0 new = closed_of old new at (find old.slots at) (get_or es i no_transcript).made (get_or os i no_opening).text closed.0 m.1 closed.1 in
-    let n : length os ≡ length es = transcripts_len old 0 os es p.transcripts in
+    let c : Closed old at closed.0 new = closed_of setup old new at (find old.slots at) (get_or es i no_transcript).made (get_or os i no_opening).text closed.0 m.1 closed.1 in
+    let n : length os ≡ length es = transcripts_len setup old 0 os es p.transcripts in
     let used : (get_or os i no_opening).in_use ≡ true = sym of.used_is ∙ li.used in
     let held : has_session (get_or os i no_opening) ≡ true = rw (used, m.0) refl in
     let fewer = held_freed os i (closed_opening (get_or os i no_opening)) (omega arith) refl held in
@@ -177,11 +177,11 @@ freed_live old new at es i setup slots os lt l closed all p =
 pub freed_refused : (h : HostState) (es : List Transcript) (i : ℕ) (setup : Setup) (slots : ℕ) (os : List Opening) → i < length es → (get_or es i no_transcript).in_use ≡ true → open_id (get_or es i no_transcript) ≡ None → IsPlayback setup slots h os es → IsPlayback setup slots h (set os i (closed_opening (get_or os i no_opening))) (set es i (record (get_or es i no_transcript) { in_use = false }))
 freed_refused h es i setup slots os lt used l p =
     let none : (get_or es i no_transcript).id ≡ None = id_none (get_or es i no_transcript).in_use (get_or es i no_transcript).id used l in
-    let of : IsTranscriptOf setup h (get_or os i no_opening) (get_or es i no_transcript) = transcripts_get h 0 os es i p.transcripts lt in
-    let refused : (get_or os i no_opening).refused ≡ true = none_made h (get_or es i no_transcript).id _ _ _ _ none of.made_is in
-    let n : length os ≡ length es = transcripts_len h 0 os es p.transcripts in
+    let of : IsTranscriptOf setup h (get_or os i no_opening) (get_or es i no_transcript) = transcripts_get setup h 0 os es i p.transcripts lt in
+    let refused : (get_or os i no_opening).refused ≡ true = none_made setup h (get_or es i no_transcript).id _ _ _ _ none of.made_is in
+    let n : length os ≡ length es = transcripts_len setup h 0 os es p.transcripts in
     record {
-      transcripts = transcripts_text h 0 os es i (closed_opening (get_or os i no_opening)) (record (get_or es i no_transcript) { in_use = false }) p.transcripts lt refl (record { name_is = of.name_is; used_is = refl; made_is = made_none h (get_or es i no_transcript).id _ _ _ _ none refused });
+      transcripts = transcripts_text h 0 os es i (closed_opening (get_or os i no_opening)) (record (get_or es i no_transcript) { in_use = false }) p.transcripts lt refl (record { name_is = of.name_is; used_is = refl; made_is = made_none setup h (get_or es i no_transcript).id _ _ _ _ none refused });
       count_is = p.count_is ∙ sym (held_set os i (closed_opening (get_or os i no_opening)) (omega arith) (sym (held_not (get_or os i no_opening) refused)));
       max_is = p.max_is;
       setup_is = p.setup_is;

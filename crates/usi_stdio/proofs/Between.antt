@@ -70,8 +70,8 @@ stops_between {setup} before now s reads b =
     rw (append-nil b.read) at all
 
 -- calls that are a dialogue up to this state, at which the run ends
-talks_at : {setup : Setup} (old new : Option (List Call)) (calls : List Call) (t : Talk) (result : Result (Unit {0}) StdioFault) → Makes old new calls → IsDialogue setup no_call calls → after_calls no_call calls ≡ t → IsFront setup t → EndsAs setup t result → Talks setup old new result
-talks_at {setup} old new calls t result called dialogue stands front ended = record {
+talks_at : (setup : Setup) (old new : Option (List Call)) (calls : List Call) (t : Talk) (result : Result (Unit {0}) StdioFault) → Makes old new calls → IsDialogue setup no_call calls → after_calls no_call calls ≡ t → IsFront setup t → EndsAs setup t result → Talks setup old new result
+talks_at setup old new calls t result called dialogue stands front ended = record {
   calls = calls;
   called = called;
   dialogue = dialogue;
@@ -80,10 +80,10 @@ talks_at {setup} old new calls t result called dialogue stands front ended = rec
 }
 
 -- a fault that the last call asked for
-ends_by : {setup : Setup} (t : Talk) (fault : StdioFault) → t.outcome ≡ asked_by fault → EndsAs setup t (Err fault)
-ends_by {setup} t OutOfMemory e = e
-ends_by {setup} t ReadFailed e = inl e
-ends_by {setup} t WriteFailed e = e
+ends_by : (setup : Setup) (t : Talk) (fault : StdioFault) → t.outcome ≡ asked_by fault → EndsAs setup t (Err fault)
+ends_by setup t OutOfMemory e = e
+ends_by setup t ReadFailed e = inl e
+ends_by setup t WriteFailed e = e
 
 -- nothing was read or written
 pub left_start : (setup : Setup) (r : Report) → IsLeft setup r r
@@ -95,8 +95,8 @@ left_start setup r = record {
 }
 
 -- before the first read
-pub between_start : {setup : Setup} (r : Report) (s : SessionView) → s ≡ new_session_under setup → ((x : List ℕ) → due s x ≡ replies_under setup x) → ((x : List ℕ) → state_due s x ≡ state_from (initial_state_under setup) (lines x)) → IsBetween setup r r s 0
-between_start {setup} r s new owed left = record {
+pub between_start : (setup : Setup) (r : Report) (s : SessionView) → s ≡ new_session_under setup → ((x : List ℕ) → due s x ≡ replies_under setup x) → ((x : List ℕ) → state_due s x ≡ state_from (initial_state_under setup) (lines x)) → IsBetween setup r r s 0
+between_start setup r s new owed left = record {
   read = [];
   consumed = Consumes-nil r.unread;
   made = [];
@@ -153,7 +153,7 @@ left_failed {setup} before mid now s reads buf error b r = left_between before m
 
 pub talks_failed : {setup : Setup} {E : Type 0} (before mid now : Report) (s : SessionView) (reads : ℕ) (buf : List ℕ) (error : E) → IsBetween setup before mid s reads → Reads mid now (Err error) buf → Talks setup before.calls now.calls (Err ReadFailed)
 talks_failed {setup} before mid now s reads buf error b r =
-    talks_at before.calls now.calls (b.calls ++ (FailedRead ∷ [])) (record (quiet b.read reads b.made) { outcome = Some (Err ReadFailed) }) (Err ReadFailed) (called_then before.calls mid.calls now.calls b.calls (FailedRead ∷ []) b.called r.called) (dialogue_call setup no_call b.calls FailedRead b.dialogue (ap (λ (t : Talk). t.outcome) b.stands) (rw b.stands (may_read before mid s reads b []))) (after_one no_call b.calls FailedRead ∙ ap (λ t. after_call t FailedRead) b.stands) (front_between before mid s reads b (Some (Err ReadFailed))) (inl refl)
+    talks_at setup before.calls now.calls (b.calls ++ (FailedRead ∷ [])) (record (quiet b.read reads b.made) { outcome = Some (Err ReadFailed) }) (Err ReadFailed) (called_then before.calls mid.calls now.calls b.calls (FailedRead ∷ []) b.called r.called) (dialogue_call setup no_call b.calls FailedRead b.dialogue (ap (λ (t : Talk). t.outcome) b.stands) (rw b.stands (may_read before mid s reads b []))) (after_one no_call b.calls FailedRead ∙ ap (λ t. after_call t FailedRead) b.stands) (front_between before mid s reads b (Some (Err ReadFailed))) (inl refl)
 
 -- no further read is tried
 pub left_many : {setup : Setup} (before mid : Report) (s : SessionView) (reads : ℕ) → IsBetween setup before mid s reads → IsLeft setup before mid
@@ -166,7 +166,7 @@ left_many {setup} before mid s reads b = record {
 
 pub talks_many : {setup : Setup} (before mid : Report) (s : SessionView) (reads : ℕ) → IsBetween setup before mid s reads → reads ≡ 2 ^ 64 - 1 → Talks setup before.calls mid.calls (Err ReadFailed)
 talks_many {setup} before mid s reads b all =
-    talks_at before.calls mid.calls b.calls (quiet b.read reads b.made) (Err ReadFailed) b.called b.dialogue b.stands (front_between before mid s reads b None) (inr (refl, all))
+    talks_at setup before.calls mid.calls b.calls (quiet b.read reads b.made) (Err ReadFailed) b.called b.dialogue b.stands (front_between before mid s reads b None) (inr (refl, all))
 
 -- the input ended
 pub served_at_end : {setup : Setup} (before now : Report) (s : SessionView) (reads : ℕ) (none : List ℕ) → IsRead setup before now s reads none → none ≡ [] → IsAtEnd now.unread → IsServed setup before now
@@ -184,7 +184,7 @@ pub talks_at_end : {setup : Setup} (before now : Report) (s : SessionView) (read
 talks_at_end {setup} before now s reads none done r e =
     let same : r.b.read ++ none ≡ r.b.read = ap (λ xs. r.b.read ++ xs) e ∙ append-nil r.b.read in
     let written : r.b.made ≡ replies_under setup (r.b.read ++ none) = all_written before r.old s reads r.b ∙ ap (replies_under setup) (sym same) in
-    talks_at before.calls now.calls r.calls _ (Ok done) r.called r.dialogue r.stands ([], sym written ∙ sym (append-nil r.b.made)) ((written, refl), inl (ap asked_by_read e))
+    talks_at setup before.calls now.calls r.calls _ (Ok done) r.called r.dialogue r.stands ([], sym written ∙ sym (append-nil r.b.made)) ((written, refl), inl (ap asked_by_read e))
 
 -- what is owed and left once a chunk was answered
 worked : {setup : Setup} (before now new : Report) (s t : SessionView) (reads : ℕ) (chunk : List ℕ) (r : IsRead setup before now s reads chunk) (w : Answers s t chunk now new) (x : List ℕ) → (r.b.made ++ w.made) ++ due t x ≡ replies_under setup ((r.b.read ++ chunk) ++ x)
@@ -248,7 +248,7 @@ served_over {setup} before now new s t reads chunk r w over most =
 pub talks_over : {setup : Setup} (before now new : Report) (s t : SessionView) (reads : ℕ) (chunk : List ℕ) (done : Unit {0}) → IsRead setup before now s reads chunk → 0 < length chunk → Answers s t chunk now new → t.state.is_over ≡ true → Talks setup before.calls new.calls (Ok done)
 talks_over {setup} before now new s t reads chunk done r some w over =
     let all : r.b.made ++ w.made ≡ replies_under setup (r.b.read ++ chunk) = all_said before now new s t reads chunk r w over in
-    talks_at before.calls new.calls (r.calls ++ w.written.calls) _ (Ok done) (called_then before.calls now.calls new.calls r.calls w.written.calls r.called w.written.called) (said_dialogue before now new s reads chunk w.made _ _ r some w.written) (said_stands before now new s reads chunk w.made _ _ r some w.written) ([], sym all ∙ sym (append-nil (r.b.made ++ w.made))) ((all, refl), inr (refl, is_over before now new s t reads chunk r w over))
+    talks_at setup before.calls new.calls (r.calls ++ w.written.calls) _ (Ok done) (called_then before.calls now.calls new.calls r.calls w.written.calls r.called w.written.called) (said_dialogue before now new s reads chunk w.made _ _ r some w.written) (said_stands before now new s reads chunk w.made _ _ r some w.written) ([], sym all ∙ sym (append-nil (r.b.made ++ w.made))) ((all, refl), inr (refl, is_over before now new s t reads chunk r w over))
 
 -- a fault while a chunk was answered
 split_left : {setup : Setup} (before now : Report) (s : SessionView) (reads : ℕ) (chunk done left : List ℕ) (r : IsRead setup before now s reads chunk) → due s chunk ≡ done ++ left → replies_under setup (r.b.read ++ chunk) ≡ (r.b.made ++ done) ++ left
@@ -273,7 +273,7 @@ left_chunk {setup} before now new s reads chunk fault r (left, w) most = record 
 pub talks_chunk : {setup : Setup} (before now new : Report) (s : SessionView) (reads : ℕ) (chunk : List ℕ) (fault : StdioFault) → IsRead setup before now s reads chunk → 0 < length chunk → SaysPrefix now new (due s chunk) fault → Talks setup before.calls new.calls (Err fault)
 talks_chunk {setup} before now new s reads chunk fault r some (left, w) =
     let t : Talk = record { read = r.b.read ++ chunk; reads = reads + 1; written = r.b.made ++ w.done; is_flushed = w.is_flushed; outcome = asked_by fault } in
-    talks_at before.calls new.calls (r.calls ++ w.said.calls) t (Err fault) (called_then before.calls now.calls new.calls r.calls w.said.calls r.called w.said.called) (said_dialogue before now new s reads chunk w.done _ _ r some w.said) (said_stands before now new s reads chunk w.done _ _ r some w.said) (left, split_left before now s reads chunk w.done left r w.split) (ends_by t fault refl)
+    talks_at setup before.calls new.calls (r.calls ++ w.said.calls) t (Err fault) (called_then before.calls now.calls new.calls r.calls w.said.calls r.called w.said.called) (said_dialogue before now new s reads chunk w.done _ _ r some w.said) (said_stands before now new s reads chunk w.done _ _ r some w.said) (left, split_left before now s reads chunk w.done left r w.split) (ends_by setup t fault refl)
 
 -- the result of a run that passes a fault on
 pub talks_passed : {setup : Setup} (old new : Option (List Call)) (given : Result (Unit {0}) StdioFault) (fault : StdioFault) → IsErrAnd given (λ e. e ≡ fault) → Talks setup old new (Err fault) → Talks setup old new given
