@@ -4,7 +4,8 @@ use shogi_eval::Eval;
 use shogi_search::Memo;
 use std::alloc::{AllocError, Allocator};
 use std::marker::Model;
-use usi_session::{CHUNK_MAX, Session, Setup};
+use usi_session::{CHUNK_MAX, Session};
+use usi_texts::Setup;
 
 /// A session. What its contracts say stays within.
 #[derive(Drop)]
@@ -25,6 +26,12 @@ impl<A: Allocator + Copy> OpaqueSession<A> {
         }
     }
 
+    pub fn with_setup(alloc: A, setup: Setup) -> OpaqueSession<A> {
+        OpaqueSession {
+            session: Session::with_setup(alloc, setup),
+        }
+    }
+
     /// Under a setup of these, where they are one.
     pub fn under(
         alloc: A,
@@ -34,9 +41,7 @@ impl<A: Allocator + Copy> OpaqueSession<A> {
         eval: Eval,
     ) -> Result<OpaqueSession<A>, &'static str> {
         match Setup::of(depth, max_depth, multi_pv, eval) {
-            Ok(setup) => Ok(OpaqueSession {
-                session: Session::with_setup(alloc, setup),
-            }),
+            Ok(setup) => Ok(OpaqueSession::with_setup(alloc, setup)),
             Err(_) => Err("the numbers of a setup"),
         }
     }
