@@ -48,6 +48,21 @@ void __wrap_free(void *block) {
     __real_free(block);
 }
 
+/* What is written to a session under a setup, and what it answers: no search is deeper than 2. */
+static const char SETUP_SCRIPT[] = "usi\ngo\ngo depth 3\nquit\n";
+static const char SETUP_REPLY[] =
+    "id name Shared Shogi Host\n"
+    "id author Shared Shogi Host Team\n"
+    "option name Depth type spin default 1 min 1 max 2\n"
+    "option name Eval type combo default Exchange var Plain var Hand var Exchange\n"
+    "option name MultiPV type spin default 1 min 1 max 8\n"
+    "usiok\n"
+    "info depth 1 score cp 0 pv 1g1f\n"
+    "bestmove 1g1f\n"
+    "info depth 1 score cp 0 pv 1g1f\n"
+    "info depth 2 score cp 0 pv 1g1f 1a1b\n"
+    "bestmove 1g1f ponder 1a1b\n";
+
 static void want_nothing(struct usi_session *session) {
     struct usi_look look = usi_look(session);
     WANT("is_open", look.is_open, false);
@@ -95,6 +110,52 @@ static void try_refusals(void) {
     WANT("reply", memcmp(chunk, "readyok\n ", 9), 0);
     WANT("close", usi_close(&session), USI_OK);
     want_nothing(&session);
+    WANT("blocks", blocks, 0);
+}
+
+/* The numbers of a setup that are refused, each with all that comes after it in the order of refusals. */
+static void try_wrong_setups(void) {
+    struct usi_session session = USI_SESSION_CLOSED;
+    static const struct { uint32_t depth, max_depth, lines, eval, status; } rows[] = {
+        {0, 0, 0, 3, USI_UNKNOWN_EVAL},
+        {3, 16, 1, UINT32_MAX, USI_UNKNOWN_EVAL},
+        {0, 0, 0, USI_EVAL_PLAIN, USI_DEPTH_OUT_OF_RANGE},
+        {USI_DEPTH_MAX + 1, 16, 1, USI_EVAL_HAND, USI_DEPTH_OUT_OF_RANGE},
+        {257, 16, 1, USI_EVAL_PLAIN, USI_DEPTH_OUT_OF_RANGE},
+        {16, 0, 0, USI_EVAL_PLAIN, USI_MAX_DEPTH_OUT_OF_RANGE},
+        {1, USI_DEPTH_MAX + 1, 1, USI_EVAL_PLAIN, USI_MAX_DEPTH_OUT_OF_RANGE},
+        {1, UINT32_MAX, 1, USI_EVAL_EXCHANGE, USI_MAX_DEPTH_OUT_OF_RANGE},
+        {16, 1, 0, USI_EVAL_PLAIN, USI_LINES_OUT_OF_RANGE},
+        {16, 1, USI_LINES_MAX + 1, USI_EVAL_PLAIN, USI_LINES_OUT_OF_RANGE},
+        {1, 1, 264, USI_EVAL_PLAIN, USI_LINES_OUT_OF_RANGE},
+        {2, 1, 1, USI_EVAL_PLAIN, USI_DEPTH_ABOVE_MAX},
+        {16, 15, 8, USI_EVAL_EXCHANGE, USI_DEPTH_ABOVE_MAX},
+    };
+    for (int open = 0; open < 2; open++) {
+        for (size_t i = 0; i < sizeof rows / sizeof *rows; i++) {
+            uint32_t depth = rows[i].depth, most = rows[i].max_depth, lines = rows[i].lines, eval = rows[i].eval;
+            WANT("setup", usi_open_with_setup(&session, 1, depth, most, lines, eval), rows[i].status);
+            WANT("no entry", usi_open_with_setup(&session, 0, depth, most, lines, eval), USI_OUT_OF_RANGE);
+            WANT("is_open", usi_look(&session).is_open, open);
+        }
+        if (open) break;
+        WANT("open", usi_open_with_setup(&session, USI_ENTRIES_MAX, 16, 16, 8, USI_EVAL_HAND), USI_OK);
+    }
+    WANT("again", usi_open_with_setup(&session, 1, 1, 1, 1, USI_EVAL_PLAIN), USI_IS_OPEN);
+    WANT("close", usi_close(&session), USI_OK);
+    WANT("blocks", blocks, 0);
+}
+
+static void try_setup(void) {
+    struct usi_session session = USI_SESSION_CLOSED;
+    char reply[sizeof SETUP_REPLY + 100];
+    WANT("open", usi_open_with_setup(&session, 4096, 1, 2, 1, USI_EVAL_EXCHANGE), USI_OK);
+    WANT("feed", usi_feed(&session, SETUP_SCRIPT, strlen(SETUP_SCRIPT)), USI_OK);
+    while (usi_look(&session).is_pending) WANT("work", usi_work(&session, 1000).status, USI_OK);
+    struct usi_answer taken = usi_take(&session, reply, sizeof reply);
+    WANT("length", taken.count, strlen(SETUP_REPLY));
+    WANT("reply", memcmp(reply, SETUP_REPLY, taken.count), 0);
+    WANT("close", usi_close(&session), USI_OK);
     WANT("blocks", blocks, 0);
 }
 
@@ -157,6 +218,8 @@ static void try_memory(void) {
 int main(void) {
     try_closed();
     try_refusals();
+    try_wrong_setups();
+    try_setup();
     try_script(1, 1);
     try_script(UINT64_MAX, 50);
     try_memory();

@@ -14,7 +14,22 @@ OUT = os.path.join(TOP, "crates", "usi_library", "out")
 sys.path.insert(0, LIBRARY)
 sys.dont_write_bytecode = True
 
-from usi_library import CLOSED, NOT_WANTED, OUT_OF_RANGE, TOO_LONG, Refused, Session, load  # noqa: E402
+from usi_library import (  # noqa: E402
+    CLOSED,
+    DEPTH_ABOVE_MAX,
+    DEPTH_OUT_OF_RANGE,
+    HAND,
+    LINES_OUT_OF_RANGE,
+    MAX_DEPTH_OUT_OF_RANGE,
+    NOT_WANTED,
+    OUT_OF_RANGE,
+    TOO_LONG,
+    UNKNOWN_EVAL,
+    Refused,
+    Session,
+    Setup,
+    load,
+)
 
 SCRIPT = b"position startpos\ngo depth 3\nquit\n"
 LOADED = load(os.path.join(OUT, "libusi.so"))
@@ -65,6 +80,22 @@ def sessions_of_python():
         want(said[1], DEPTH_THREE, "the other session")
 
 
+def setups_of_python():
+    """A session of depth 1 at most, which begins with Hand."""
+    with Session(LOADED, setup=Setup(depth=1, max_depth=1, lines=2, eval=HAND)) as session:
+        lines = b"usi\nsetoption name Depth value 9\nsetoption name MultiPV value 1\ngo depth 5\ngo\n"
+        said = b"".join(session.answers(lines))
+    wanted = (
+        b"id name Shared Shogi Host\nid author Shared Shogi Host Team\n"
+        b"option name Depth type spin default 1 min 1 max 1\n"
+        b"option name Eval type combo default Hand var Plain var Hand\n"
+        b"option name MultiPV type spin default 2 min 1 max 8\n"
+        b"usiok\n"
+    )
+    wanted += 2 * b"info depth 1 score cp 0 pv 1g1f\nbestmove 1g1f\n"
+    want(said, wanted, "what a session under a setup says")
+
+
 def refusals_of_python():
     def status_of(call, *words):
         try:
@@ -75,6 +106,15 @@ def refusals_of_python():
 
     for entries in (0, 1_000_001, -1):
         want(status_of(Session, LOADED, entries), OUT_OF_RANGE, f"{entries} entries")
+    for setup, status in [
+        (Setup(eval=3), UNKNOWN_EVAL),
+        (Setup(depth=0), DEPTH_OUT_OF_RANGE),
+        (Setup(depth=(1 << 32) + 3), DEPTH_OUT_OF_RANGE),
+        (Setup(max_depth=-1), MAX_DEPTH_OUT_OF_RANGE),
+        (Setup(lines=9), LINES_OUT_OF_RANGE),
+        (Setup(max_depth=2), DEPTH_ABOVE_MAX),
+    ]:
+        want(status_of(Session, LOADED, 1, setup), status, f"{setup}")
     session = Session(LOADED)
     want(status_of(session.feed, b" " * 4097), TOO_LONG, "4,097 bytes")
     session.feed(b"isready\n")
@@ -87,5 +127,12 @@ def refusals_of_python():
 
 if __name__ == "__main__":
     sys.exit(
-        run_all("library", [calls_of_c, engine_in_c, script_of_python, sessions_of_python, refusals_of_python])
+        run_all("library", [
+                calls_of_c,
+                engine_in_c,
+                script_of_python,
+                sessions_of_python,
+                setups_of_python,
+                refusals_of_python,
+            ])
     )

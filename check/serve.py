@@ -960,6 +960,33 @@ def a_status_counts_what_happened():
         second.close()
 
 
+def a_status_shows_the_setup():
+    with told() as running:
+        picked(running, depth=3, max_depth=16, lines=1, eval="plain")
+    for word in ("plain", "hand", "exchange"):
+        words = ("--depth", "2", "--max-depth", "5", "--lines", "8", "--eval", word)
+        with told(*words) as running, running.connect() as client:
+            picked(running, depth=2, max_depth=5, lines=8, eval=word)
+            # What a session sets for itself is not told.
+            client.sendall(b"setoption name Depth value 4\nsetoption name MultiPV value 1\nisready\n")
+            want(exactly(client, 8), b"readyok\n", "a client")
+            picked(running, depth=2, max_depth=5, lines=8, eval=word)
+
+
+def a_session_begins_under_the_setup():
+    words = ("--depth", "1", "--max-depth", "2", "--eval", "exchange")
+    with host(*words) as running:
+        lines = b"usi\ngo\ngo depth 3\nquit\n"
+        offered = USI.replace(b"default 3 min 1 max 16", b"default 1 min 1 max 2")
+        exchange = b"default Exchange var Plain var Hand var Exchange"
+        offered = offered.replace(b"default Plain var Plain var Hand", exchange)
+        first = b"info depth 1 score cp 0 pv 1g1f\n"
+        second = b"info depth 2 score cp 0 pv 1g1f 1a1b\n"
+        answer = offered + first + b"bestmove 1g1f\n" + first + second + b"bestmove 1g1f ponder 1a1b\n"
+        for _ in range(2):
+            want(running.ask(lines), answer, "a client")
+
+
 def bytes_are_counted():
     lines = b"usi\nisready\ngo depth 1\nquit\n"
     answer = on_standard_input(lines)
@@ -1121,6 +1148,8 @@ CHECKS = (
     a_socket_that_was_left_is_told_from_a_live_one,
     want_of_memory_is_told,
     a_status_counts_what_happened,
+    a_status_shows_the_setup,
+    a_session_begins_under_the_setup,
     bytes_are_counted,
     sixty_four_status_clients_at_once,
     hostile_status_clients,

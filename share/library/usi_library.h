@@ -39,20 +39,32 @@ extern "C" {
 #define USI_NOT_NULL
 #endif
 
-/* What a call answers. Where it is not USI_OK, nothing was changed, but by usi_work. */
+/* What a call answers. Where it is not USI_OK, nothing was changed, but by usi_work. Those of an open come
+ * in this order: USI_OUT_OF_RANGE, USI_UNKNOWN_EVAL to USI_DEPTH_ABOVE_MAX, USI_IS_OPEN, USI_OUT_OF_MEMORY. */
 enum usi_status {
     USI_OK = 0,
     USI_CLOSED = 1,        /* the session is closed */
-    USI_IS_OPEN = 2,       /* usi_open: it is open already */
-    USI_OUT_OF_RANGE = 3,  /* usi_open: a table has 1 to 1,000,000 entries */
+    USI_IS_OPEN = 2,       /* an open: it is open already */
+    USI_OUT_OF_RANGE = 3,  /* an open: a table has 1 to 1,000,000 entries */
     USI_OUT_OF_MEMORY = 4, /* memory was refused; after usi_work, the next call continues */
     USI_TOO_LONG = 5,      /* usi_feed: more than 4,096 bytes at once */
-    USI_NOT_WANTED = 6     /* usi_feed: look says that no input is wanted */
+    USI_NOT_WANTED = 6,    /* usi_feed: look says that no input is wanted */
+    /* usi_open_with_setup alone */
+    USI_UNKNOWN_EVAL = 7,           /* there is no such evaluation */
+    USI_DEPTH_OUT_OF_RANGE = 8,     /* depth is from 1 to USI_DEPTH_MAX */
+    USI_MAX_DEPTH_OUT_OF_RANGE = 9, /* max_depth is from 1 to USI_DEPTH_MAX */
+    USI_LINES_OUT_OF_RANGE = 10,    /* lines is from 1 to USI_LINES_MAX */
+    USI_DEPTH_ABOVE_MAX = 11        /* depth is above max_depth */
 };
 
-/* The most bytes of one usi_feed, and the most entries of a table. */
+/* The evaluations of usi_open_with_setup. */
+enum usi_eval { USI_EVAL_PLAIN = 0, USI_EVAL_HAND = 1, USI_EVAL_EXCHANGE = 2 };
+
+/* The most bytes of one usi_feed, the most entries of a table, the greatest depth, and the most best lines. */
 #define USI_CHUNK_MAX 4096
 #define USI_ENTRIES_MAX 1000000
+#define USI_DEPTH_MAX 16
+#define USI_LINES_MAX 8
 
 /* A session, open or closed. Its fields are for the library alone. */
 struct usi_session {
@@ -78,6 +90,13 @@ struct usi_look {
 /* Opens a closed session over an empty table: the opening position, each option at its default. A table
  * takes about 35 bytes an entry at once, and 112 more for each position that it keeps. */
 uint32_t usi_open(struct usi_session *session, size_t entries) USI_NOT_NULL;
+
+/* The same under a setup, which the session keeps: `depth`, `lines` and `eval`, one of enum usi_eval, are
+ * where its options Depth, MultiPV and Eval begin. The option Depth and `go depth` are held to `max_depth`.
+ * The evaluation Exchange is offered where the session begins with it. usi_open is this call with 3,
+ * USI_DEPTH_MAX, 1 and USI_EVAL_PLAIN. */
+uint32_t usi_open_with_setup(struct usi_session *session, size_t entries, uint32_t depth, uint32_t max_depth,
+                             uint32_t lines, uint32_t eval) USI_NOT_NULL;
 
 /* Gives the memory of a session back. What was queued is gone. */
 uint32_t usi_close(struct usi_session *session) USI_NOT_NULL;

@@ -7,8 +7,11 @@ what is written to it:
 
 import ctypes
 import sys
+from typing import NamedTuple
 
 OK, CLOSED, IS_OPEN, OUT_OF_RANGE, OUT_OF_MEMORY, TOO_LONG, NOT_WANTED = range(7)
+UNKNOWN_EVAL, DEPTH_OUT_OF_RANGE, MAX_DEPTH_OUT_OF_RANGE, LINES_OUT_OF_RANGE, DEPTH_ABOVE_MAX = range(7, 12)
+PLAIN, HAND, EXCHANGE = range(3)
 CHUNK_MAX = 4096
 WHY = {
     CLOSED: "the session is closed",
@@ -17,7 +20,21 @@ WHY = {
     OUT_OF_MEMORY: "memory was refused",
     TOO_LONG: f"more than {CHUNK_MAX} bytes at once",
     NOT_WANTED: "no input is wanted now",
+    UNKNOWN_EVAL: "an evaluation is PLAIN, HAND or EXCHANGE",
+    DEPTH_OUT_OF_RANGE: "a depth is from 1 to 16",
+    MAX_DEPTH_OUT_OF_RANGE: "a greatest depth is from 1 to 16",
+    LINES_OUT_OF_RANGE: "best lines are from 1 to 8",
+    DEPTH_ABOVE_MAX: "the depth is above the greatest depth",
 }
+
+
+class Setup(NamedTuple):
+    """Where the options of a session begin, and the greatest depth of its searches."""
+
+    depth: int = 3
+    max_depth: int = 16
+    lines: int = 1
+    eval: int = PLAIN
 
 
 class _Session(ctypes.Structure):
@@ -52,8 +69,10 @@ def load(path):
     """The library at the path, with its calls declared."""
     library = ctypes.CDLL(path)
     at, text, size = ctypes.POINTER(_Session), ctypes.c_char_p, ctypes.c_size_t
+    number = ctypes.c_uint32
     for name, takes, gives in [
         ("usi_open", [at, size], ctypes.c_uint32),
+        ("usi_open_with_setup", [at, size, number, number, number, number], ctypes.c_uint32),
         ("usi_close", [at], ctypes.c_uint32),
         ("usi_feed", [at, text, size], ctypes.c_uint32),
         ("usi_work", [at, ctypes.c_uint64], _Answer),
@@ -68,13 +87,15 @@ def load(path):
 class Session:
     """A session, used on the thread that made it. `with` closes it."""
 
-    def __init__(self, library, entries=4096):
+    def __init__(self, library, entries=4096, setup=Setup()):
         self._library = library
         self._session = _Session()
         self._buffer = ctypes.create_string_buffer(CHUNK_MAX)
         if not 1 <= entries <= 1_000_000:
             raise Refused(OUT_OF_RANGE)
-        self._done(library.usi_open(self._session, entries))
+        # ctypes would cut a number that is too large
+        numbers = [number if 0 <= number < 1 << 32 else (1 << 32) - 1 for number in setup]
+        self._done(library.usi_open_with_setup(self._session, entries, *numbers))
 
     def __enter__(self):
         return self

@@ -1,6 +1,7 @@
 //! A use of `usi_replay`.
 
 ghost use Rattle.std.specs.Prelude.{OnOk};
+ghost use Rattle.usi_texts.specs.Setup.{default_setup};
 ghost use Rattle.usi_replay.specs.Replayed.{Replays};
 
 use std::alloc::Allocator;
@@ -12,7 +13,8 @@ pub fn replay_script<A: Allocator + Copy, T: FrontEnd>(
     alloc: A,
     front_end: &mut T,
 ) -> Result<(), ReplayFault>
-    ensures { OnOk result (Replays 64 (T.report front_end.old) (T.report front_end.new)) }
+    ensures { OnOk result
+        (Replays default_setup 64 (T.report front_end.old) (T.report front_end.new)) }
 {
     let (slots, entries, slice) = (64, 4096, 500);
     replay(alloc, front_end, slots, entries, slice)

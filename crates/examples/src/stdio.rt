@@ -1,6 +1,7 @@
 //! A use of `usi_stdio`.
 
 ghost use Rattle.std.specs.Prelude.{OnOk};
+ghost use Rattle.usi_texts.specs.Setup.{default_setup};
 ghost use Rattle.usi_stdio.specs.Stdio.{IsServed};
 
 use std::alloc::Allocator;
@@ -11,7 +12,8 @@ pub fn answer_all<A: Allocator + Copy, T: FrontEnd>(
     alloc: A,
     front_end: &mut T,
 ) -> Result<(), StdioFault>
-    ensures { OnOk result (IsServed (T.report front_end.old) (T.report front_end.new)) }
+    ensures { OnOk result
+        (IsServed default_setup (T.report front_end.old) (T.report front_end.new)) }
 {
     stdio(alloc, front_end, 4096)
 }

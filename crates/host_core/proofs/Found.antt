@@ -12,8 +12,8 @@ use Rattle.host_core.specs.Steps.{HostState, Closed, IsClosed, OnSession}
 -- the session that was found answered, and was written back
 pub on_found : (goes : SessionView → Outcome → SessionView → Type 0) (old : HostState) (table : Table) (id : SessionId) (s after : SessionView) (o : Outcome)
     → find old.slots id ≡ Some s → goes s o after
-    → OnSession goes old id (find old.slots id) o (record { table = table; slots = with_session old.slots id after })
-on_found goes old table id s after o e w = rw e (record { after = after; went = w; slots_are = refl })
+    → OnSession goes old id (find old.slots id) o (record { setup = old.setup; table = table; slots = with_session old.slots id after })
+on_found goes old table id s after o e w = rw e (record { after = after; went = w; slots_are = refl; setup_is = refl })
 
 -- none was found
 pub on_none : (goes : SessionView → Outcome → SessionView → Type 0) (old : HostState) (id : SessionId)

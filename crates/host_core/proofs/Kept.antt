@@ -42,11 +42,11 @@ keeps_others old new (Work at budget) o p id n = on_others (Works budget) old ne
 keeps_others old new (Take at m) o p id n = on_others (Takes m) old new at o (find old.slots at) refl p.0 id (other_id at id n)
 keeps_others old new (Close at) o p id n = close_others old new at o (find old.slots at) p id (other_id at id n)
 
-same_host : (old new : HostState) → new.table ≡ old.table → new.slots ≡ old.slots → new ≡ old
-same_host old new e f = λ k. record { table = e k; slots = f k }
+same_host : (old new : HostState) → new.setup ≡ old.setup → new.table ≡ old.table → new.slots ≡ old.slots → new ≡ old
+same_host old new s e f = λ k. record { setup = s k; table = e k; slots = f k }
 
 same_slots : (goes : SessionView → Outcome → SessionView → Type 0) (old new : HostState) (at : SessionId) (s : SessionView) (o : Outcome) → find old.slots at ≡ Some s → (c : Changed goes old at s o new) → c.after ≡ s → new.table ≡ old.table → new ≡ old
-same_slots goes old new at s o e c a t = same_host old new t (c.slots_are ∙ (ap (λ (x : SessionView). with_session old.slots at x) a ∙ with_session-same old.slots at s e))
+same_slots goes old new at s o e c a t = same_host old new c.setup_is t (c.slots_are ∙ (ap (λ (x : SessionView). with_session old.slots at x) a ∙ with_session-same old.slots at s e))
 
 open_refused : (old new : HostState) (fault : HostFault) → IsOpened old (Refused fault) new → new ≡ old
 open_refused old new Full p = p.1
@@ -125,3 +125,32 @@ pub keeps_capacity : (old new : HostState) (steps : List Step) → IsRun old ste
 unfolding IsRun
 keeps_capacity old new [] r = ap (λ h. h.table.capacity) r
 keeps_capacity old new (step ∷ rest) r = keeps_capacity r.0 new rest r.2 ∙ step_capacity old r.0 step.event step.outcome r.1.stepped
+
+open_setup : (old new : HostState) (o : Outcome) → IsOpened old o new → new.setup ≡ old.setup
+open_setup old new (Opened id) p = p.setup_is
+open_setup old new (Refused fault) p = ap (λ (h : HostState). h.setup) (open_refused old new fault p)
+open_setup old new Done p = absurd p
+open_setup old new (Worked steps) p = absurd p
+open_setup old new (Gave bytes) p = absurd p
+
+on_setup : (goes : SessionView → Outcome → SessionView → Type 0) (old new : HostState) (at : SessionId) (o : Outcome) (found : Option SessionView) → OnSession goes old at found o new → new.setup ≡ old.setup
+on_setup goes old new at o None u = ap (λ (h : HostState). h.setup) u.same
+on_setup goes old new at o (Some s) c = c.setup_is
+
+close_setup : (old new : HostState) (at : SessionId) (o : Outcome) (found : Option SessionView) → IsClosed old at found o new → new.setup ≡ old.setup
+close_setup old new at o None u = ap (λ (h : HostState). h.setup) u.same
+close_setup old new at o (Some s) c = c.setup_is
+
+-- no event changes the setup
+pub step_setup : (old new : HostState) (event : Event) (o : Outcome) → Stepped old event o new → new.setup ≡ old.setup
+step_setup old new Open o p = open_setup old new o p
+step_setup old new (Feed at chunk) o p = on_setup (Feeds chunk) old new at o (find old.slots at) p.0
+step_setup old new (Work at budget) o p = on_setup (Works budget) old new at o (find old.slots at) p.0
+step_setup old new (Take at m) o p = on_setup (Takes m) old new at o (find old.slots at) p.0
+step_setup old new (Close at) o p = close_setup old new at o (find old.slots at) p
+
+-- nor does a run
+pub keeps_setup : (old new : HostState) (steps : List Step) → IsRun old steps new → new.setup ≡ old.setup
+unfolding IsRun
+keeps_setup old new [] r = ap (λ (h : HostState). h.setup) r
+keeps_setup old new (step ∷ rest) r = keeps_setup r.0 new rest r.2 ∙ step_setup old r.0 step.event step.outcome r.1.stepped

@@ -6,8 +6,9 @@ use Rattle.std.proofs.lemmas.List.{get_or-set_other}
 use Rattle.session_slots.specs.declared.id.SessionId.{SessionId}
 use Rattle.session_slots.specs.Slots.{OpenSessions, Opens, OthersKept, find, with_session}
 use Rattle.session_slots.proofs.Finds.{find-with_session, find-with_session-other}
-use Rattle.usi_session.specs.Due.{SessionView, new_session, wants_input}
-use Rattle.usi_session.proofs.Settled.{new_wants}
+use Rattle.usi_texts.specs.declared.setup.Setup.{Setup}
+use Rattle.usi_session.specs.Due.{SessionView, new_session_under, wants_input}
+use Rattle.usi_session.proofs.Settled.{new_wants_under}
 use Rattle.std.specs.Borrow.{Bor}
 use Rattle.host_core.specs.ById.{IsQueue, is_still_of, is_over_of, pending_of, wants_input_of}
 use Rattle.host_core.specs.Made.{is_same_id}
@@ -74,15 +75,15 @@ still_written noted old at t after e still =
     still_after noted old (with_session old at after) at (Some after) (find-with_session old at t after e) still (λ other differs. find-with_session-other old at other t after e differs)
 
 -- a new session is still
-new_noted : (at : SessionId) → note_of at (Some new_session) ≡ Some at.generation
-new_noted at = ap (λ b. cond (b && true) (Some at.generation) None) new_wants
+new_noted : (setup : Setup) (at : SessionId) → note_of at (Some (new_session_under setup)) ≡ Some at.generation
+new_noted setup at = ap (λ b. cond (b && true) (Some at.generation) None) (new_wants_under setup)
 
 -- after a session was opened
-pub still_opened : (noted : List (Option ℕ)) (old new : OpenSessions SessionView) (at : SessionId) → AreStill noted old → Opens old new at new_session
+pub still_opened : (setup : Setup) (noted : List (Option ℕ)) (old new : OpenSessions SessionView) (at : SessionId) → AreStill noted old → Opens old new at (new_session_under setup)
     → AreStill (set noted at.slot (Some at.generation)) new
-still_opened noted old new at still o =
-    let s : AreStill (set noted at.slot (note_of at (Some new_session))) new = still_after noted old new at (Some new_session) o.now still o.others in
-    rw (new_noted at) at s
+still_opened setup noted old new at still o =
+    let s : AreStill (set noted at.slot (note_of at (Some (new_session_under setup)))) new = still_after noted old new at (Some (new_session_under setup)) o.now still o.others in
+    rw (new_noted setup at) at s
 
 -- a session that is still is open, and nothing of it is pending
 is_open : (found : Option SessionView) → is_still_of found ≡ true → IsSome found

@@ -1,9 +1,9 @@
--- What is promised of a run, session by session: each gets what an engine of its own would answer (own choice).
+-- What is promised of a run, session by session: each gets what an engine of its own would answer under the setup of the host, which no step changes (own choice).
 use Rattle.std.specs.Prelude.{◌≡◌, ⊤, ℕ, List, ◌++◌, Bool, true, false, Option, Some, None}
 use Rattle.session_slots.specs.declared.id.SessionId.{SessionId}
 use Rattle.session_slots.specs.Slots.{find}
 use Rattle.usi_session.specs.Due.{SessionView, due, state_due, is_pending}
-use Rattle.usi_session.specs.WholeStream.{replies, is_over_after}
+use Rattle.usi_session.specs.WholeStream.{replies_under, is_over_after_under}
 use Rattle.host_core.specs.Made.{Step, own, taken, is_opened, made}
 use Rattle.host_core.specs.Steps.{HostState}
 use Rattle.host_core.specs.Runs.{IsRun}
@@ -22,17 +22,17 @@ IsSettled (Some t) = is_pending t ≡ false
 abbrev pub made_by : SessionId → List Step → HostState → List ℕ
 made_by id steps end = made id steps (queued_of (find end.slots id))
 
--- the bytes made for a session that the run opened are a prefix of the replies to its own bytes
+-- the bytes made for a session that the run opened are a prefix of the replies to its own bytes, under the setup
 abbrev pub PrefixOfReplies : List Step → HostState → Type 0
 PrefixOfReplies steps end =
     (id : SessionId) → is_opened id steps ≡ true
-    → IsPrefixOf (made_by id steps end) (replies (own id steps))
+    → IsPrefixOf (made_by id steps end) (replies_under end.setup (own id steps))
 
--- the bytes made for a session that the run opened are all of the replies to its own bytes, where it is open at the end with nothing pending
+-- the bytes made for a session that the run opened are all of the replies to its own bytes, under the setup, where it is open at the end with nothing pending
 abbrev pub AllReplies : List Step → HostState → Type 0
 AllReplies steps end =
     (id : SessionId) → is_opened id steps ≡ true → IsSettled (find end.slots id)
-    → made_by id steps end ≡ replies (own id steps)
+    → made_by id steps end ≡ replies_under end.setup (own id steps)
 
 -- of what was owed to its own bytes, a session was taken these: what it owes now is the rest, for any further bytes; where it is closed, they are a prefix
 abbrev pub EndsFrom : (List ℕ → List ℕ) → List ℕ → List ℕ → Option SessionView → Type 0
@@ -58,13 +58,13 @@ OverFrom ends own (Some t) = (x : List ℕ) → is_over_due t x ≡ ends (own ++
 abbrev pub EndsByOwn : List Step → HostState → Type 0
 EndsByOwn steps end =
     (id : SessionId) → is_opened id steps ≡ true
-    → OverFrom is_over_after (own id steps) (find end.slots id)
+    → OverFrom (is_over_after_under end.setup) (own id steps) (find end.slots id)
 
 -- with nothing pending it is over exactly where its own bytes end it: after `quit` or a line that is too long, and not before
 abbrev pub OverByOwn : List Step → HostState → Type 0
 OverByOwn steps end =
     (id : SessionId) → is_opened id steps ≡ true → IsSettled (find end.slots id)
-    → is_over_of (find end.slots id) ≡ is_over_after (own id steps)
+    → is_over_of (find end.slots id) ≡ is_over_after_under end.setup (own id steps)
 
 -- a session that was open before ends as it was to end
 abbrev pub EndsOn : HostState → List Step → HostState → Type 0
@@ -72,11 +72,12 @@ EndsOn old steps end =
     (id : SessionId) (s : SessionView) → find old.slots id ≡ Some s
     → OverFrom (is_over_due s) (own id steps) (find end.slots id)
 
--- two runs that agree on the own bytes of a session which each of them opened make the same bytes for it, where both end with it open and nothing pending; all else may differ
+-- two runs under one setup that agree on the own bytes of a session which each of them opened make the same bytes for it, where both end with it open and nothing pending; all else may differ
 abbrev pub IsolatesSessions : Type 0
 IsolatesSessions =
     (old new other_old other_new : HostState) (steps other_steps : List Step) (id other : SessionId)
     → IsRun old steps new → IsRun other_old other_steps other_new
+    → new.setup ≡ other_new.setup
     → is_opened id steps ≡ true → is_opened other other_steps ≡ true
     → IsSettled (find new.slots id) → IsSettled (find other_new.slots other)
     → own id steps ≡ own other other_steps

@@ -4,23 +4,31 @@ use Rattle.session_slots.specs.declared.id.SessionId.{SessionId}
 use Rattle.session_slots.specs.Slots.{OpenSessions, find, with_session, count, Opens, OthersKept, IsFull}
 use Rattle.shared_table.specs.Recent.{Table, new_table}
 use Rattle.shared_table.specs.Uses.{IsUsed}
-use Rattle.usi_session.specs.Due.{SessionView, EndsSearches, new_session}
+use Rattle.usi_texts.specs.Setup.{default_setup}
+use Rattle.usi_texts.specs.declared.setup.Setup.{Setup}
+use Rattle.usi_session.specs.Due.{SessionView, EndsSearches, new_session_under}
 use Rattle.host_core.specs.declared.event.HostFault.TheVariants.{Full, OutOfMemory, UnknownSession}
 use Rattle.host_core.specs.Events.{Event, Open, Feed, Work, Take, Close, Outcome, Opened, Done, Refused}
 use Rattle.host_core.specs.ById.{pending_of}
 use Rattle.host_core.specs.Sessions.{Feeds, Works, Takes}
 
--- the table that all sessions share, and the open sessions
+-- what the operator decided for all sessions, the table that they share, and those that are open
 pub record HostState : Type 0 where
+  pub setup : Setup
   pub table : Table
   pub slots : OpenSessions SessionView
 
--- no session was opened yet, and the table is empty
-abbrev pub new_host : ℕ → ℕ → HostState
-new_host max entries = record {
+-- under a setup; no session was opened yet, and the table is empty
+abbrev pub new_host_under : Setup → ℕ → ℕ → HostState
+new_host_under setup max entries = record {
+  setup = setup;
   table = new_table entries;
   slots = record { max = max; next = 0; slots = [] };
 }
+
+-- the same under the default setup
+abbrev pub new_host : ℕ → ℕ → HostState
+new_host max entries = new_host_under default_setup max entries
 
 -- no session is open under the id
 pub record Unknown (old : HostState) (outcome : Outcome) (new : HostState) : Type 0 where
@@ -33,6 +41,7 @@ pub record Changed (goes : SessionView → Outcome → SessionView → Type 0) (
   pub after : SessionView
   pub went : goes session outcome after
   pub slots_are : new.slots ≡ with_session old.slots id after
+  pub setup_is : new.setup ≡ old.setup
 
 -- the session of the id answers, where it is open
 abbrev pub OnSession : (SessionView → Outcome → SessionView → Type 0) → HostState → SessionId
@@ -40,11 +49,12 @@ abbrev pub OnSession : (SessionView → Outcome → SessionView → Type 0) → 
 OnSession goes old id None outcome new = Unknown old outcome new
 OnSession goes old id (Some session) outcome new = Changed goes old id session outcome new
 
--- a session was opened where there was room
+-- a session was opened where there was room, and begins under the setup of the host
 pub record OpenedAs (old : HostState) (id : SessionId) (new : HostState) : Type 0 where
   pub room : IsFull old.slots → ⊥
-  pub opens : Opens old.slots new.slots id new_session
+  pub opens : Opens old.slots new.slots id (new_session_under old.setup)
   pub table_is : new.table ≡ old.table
+  pub setup_is : new.setup ≡ old.setup
 
 -- `Full` exactly where there is no room; `OutOfMemory` only where there is
 abbrev pub IsOpened : HostState → Outcome → HostState → Type 0
@@ -63,6 +73,7 @@ pub record Closed (old : HostState) (id : SessionId) (outcome : Outcome)
   pub next_is : new.slots.next ≡ old.slots.next
   pub count_is : count new.slots + 1 ≡ count old.slots
   pub table_is : new.table ≡ old.table
+  pub setup_is : new.setup ≡ old.setup
 
 abbrev pub IsClosed : HostState → SessionId → Option SessionView → Outcome → HostState → Type 0
 IsClosed old id None outcome new = Unknown old outcome new
@@ -82,7 +93,7 @@ abbrev pub IsWorked : ℕ → HostState → SessionId → Outcome → HostState 
 IsWorked budget old id outcome new =
     OnSession (Works budget) old id (find old.slots id) outcome new × KeepsTable old id new
 
--- each event with its outcome, and the host after it; only a `Work` of a session that is pending may change the table
+-- each event with its outcome, and the host after it; only a `Work` of a session that is pending may change the table, and none changes the setup
 abbrev pub Stepped : HostState → Event → Outcome → HostState → Type 0
 Stepped old Open outcome new = IsOpened old outcome new
 Stepped old (Feed id chunk) outcome new =

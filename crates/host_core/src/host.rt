@@ -7,7 +7,7 @@ ghost use Rattle.host_core.specs.ById.{IsQueue, pending_of, wants_input_of, is_o
 ghost use Rattle.host_core.specs.Events.{Open, Feed, Work, Take, Close, Opened, Worked, Gave};
 ghost use Rattle.host_core.specs.Kept.{PassKeepsOthers};
 ghost use Rattle.host_core.specs.Seen.{as_outcome, done_of, passed_from};
-ghost use Rattle.host_core.specs.Steps.{Stepped, new_host};
+ghost use Rattle.host_core.specs.Steps.{Stepped, new_host, new_host_under};
 ghost use Rattle.host_core.specs.declared.event.HostFault.TheVariants.{OutOfMemory};
 ghost use Rattle.session_slots.specs.declared.limits.TheConstants.{SESSIONS_MAX};
 ghost use Rattle.shared_table.specs.declared.table.TheConstants.{CAPACITY_MAX};
@@ -21,6 +21,7 @@ use std::alloc::Allocator;
 use std::hash::BuildHasher;
 use std::marker::Model;
 use usi_session::Session;
+use usi_texts::Setup;
 
 /// Drops what is there. Tells whether something was.
 fn dropped<T: Drop>(value: Option<T>) -> Option<()>
@@ -38,6 +39,8 @@ fn dropped<T: Drop>(value: Option<T>) -> Option<()>
 #[derive(Drop)]
 pub struct Host<S: BuildHasher, A: Allocator + Copy> {
     pub(crate) alloc: A,
+    // Each session begins under it.
+    setup: Setup,
     table: SharedTable<S, A>,
     pub(crate) slots: Slots<Session<A>, A>,
     // By slot: the generation of its session, where that is still.
@@ -50,14 +53,13 @@ impl<S: BuildHasher, A: Allocator + Copy> Model for Host<S, A> {
 
     ghost Value = { HostState };
 
-    ghost view = { λ h. record { table = h.table; slots = h.slots } };
+    ghost view = { λ h. record { setup = h.setup; table = h.table; slots = h.slots } };
 
     ghost invariant = { λ h. AreStill h.noted.items h.slots };
 }
 
 impl<S: BuildHasher, A: Allocator + Copy> Host<S, A> {
-    /// No session yet, and an empty table: at most so many sessions at a time, from 1 to 1,024, and at
-    /// most so many entries, from 1 to 1,000,000. Its one fault is `OutOfMemory`.
+    /// `with_setup` under the default setup.
     pub fn new(alloc: A, slots: usize, entries: usize, hasher: S) -> Result<Host<S, A>, HostFault>
     where
         S: Drop,
@@ -68,12 +70,35 @@ impl<S: BuildHasher, A: Allocator + Copy> Host<S, A> {
         ensures new { IfOk result (λ host. host ≡ new_host slots entries) }
         ensures fault { OnErr result (result ≡ Err OutOfMemory) }
     {
+        Host::with_setup(alloc, Setup::new(), slots, entries, hasher)
+    }
+
+    /// No session yet, and an empty table: at most so many sessions at a time, from 1 to 1,024, and at
+    /// most so many entries, from 1 to 1,000,000. Each session begins under the setup. Its one fault is
+    /// `OutOfMemory`.
+    pub fn with_setup(
+        alloc: A,
+        setup: Setup,
+        slots: usize,
+        entries: usize,
+        hasher: S,
+    ) -> Result<Host<S, A>, HostFault>
+    where
+        S: Drop,
+        requires least_slots { 1 ≤ slots }
+        requires most_slots { slots ≤ SESSIONS_MAX }
+        requires least_entries { 1 ≤ entries }
+        requires most_entries { entries ≤ CAPACITY_MAX }
+        ensures new { IfOk result (λ host. host ≡ new_host_under setup slots entries) }
+        ensures fault { OnErr result (result ≡ Err OutOfMemory) }
+    {
         let Ok(table) = SharedTable::new(alloc, entries, hasher) else {
             return Err(HostFault::OutOfMemory);
         };
         let noted = vec![in alloc; None; slots]?;
         Ok(Host {
             alloc,
+            setup,
             table,
             slots: Slots::new(alloc, slots),
             noted,
@@ -93,6 +118,13 @@ impl<S: BuildHasher, A: Allocator + Copy> Host<S, A> {
         self.slots.validity();
     }
 
+    /// The setup under which each session begins.
+    pub fn setup(&self) -> Setup
+        ensures { result ≡ self.now.setup }
+    {
+        self.setup
+    }
+
     /// How many times the table found no memory for what a search noted, and stored nothing. The count
     /// stays at the greatest number once it is there.
     pub fn refused_notes(&self) -> u64
@@ -108,7 +140,7 @@ impl<S: BuildHasher, A: Allocator + Copy> Host<S, A> {
         self.table.len()
     }
 
-    /// Opens a session at its start, the opening position, each option at its default, nothing held:
+    /// Opens a session at its start, the opening position, each option as the setup has it, nothing held:
     /// `Full` where as many are open as may be, or no id is left.
     pub fn open(&mut self) -> Result<SessionId, HostFault>
         ensures opened { Stepped self.old Open (as_outcome Opened result) self.new }
@@ -116,7 +148,7 @@ impl<S: BuildHasher, A: Allocator + Copy> Host<S, A> {
         ensures below { IsBelow self.old.slots }
     {
         self.slots.validity();
-        match self.slots.open(Session::new(self.alloc)) {
+        match self.slots.open(Session::with_setup(self.alloc, self.setup)) {
             Ok(id) => {
                 notes::set(&mut self.noted, id.slot, Some(id.generation));
                 Ok(id)

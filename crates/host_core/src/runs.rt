@@ -77,6 +77,7 @@ impl<S: BuildHasher, A: Allocator + Copy> Host<S, A> {
         ensures over { OfSteps events.now result (λ steps. OverByOwn steps self.new) }
         ensures ends_on { OfSteps events.now result (λ steps. EndsOn self.old steps self.new) }
         ensures capacity { self.new.table.capacity ≡ self.old.table.capacity }
+        ensures setup { self.new.setup ≡ self.old.setup }
         ensures fault { OnErr result (result ≡ Err OutOfMemory) }
         ensures err { OnErr result (self.new ≡ self.old) }
     {

@@ -5,6 +5,7 @@ use session_slots::SessionId;
 use std::alloc::Allocator;
 use std::hash::{BuildHasherDefault, FoldHasher};
 use std::marker::Model;
+use usi_texts::Setup;
 
 /// A host whose table has a hash without a seed. What its contracts say stays within.
 #[derive(Drop)]
@@ -22,10 +23,20 @@ impl<A: Allocator + Copy> OpaqueHost<A> {
     /// A host of so many slots, or of the nearest number from 1 to 1,024, with so many entries, or the
     /// nearest number from 1 to 1,000,000.
     pub fn new(alloc: A, slots: usize, entries: usize) -> Result<OpaqueHost<A>, HostFault> {
+        OpaqueHost::with_setup(alloc, Setup::new(), slots, entries)
+    }
+
+    /// The same under a setup.
+    pub fn with_setup(
+        alloc: A,
+        setup: Setup,
+        slots: usize,
+        entries: usize,
+    ) -> Result<OpaqueHost<A>, HostFault> {
         let hasher = BuildHasherDefault::<FoldHasher>::new();
         let (slots, entries) = (slots.clamp(1, 1024), entries.clamp(1, 1_000_000));
         Ok(OpaqueHost {
-            host: Host::new(alloc, slots, entries, hasher)?,
+            host: Host::with_setup(alloc, setup, slots, entries, hasher)?,
         })
     }
 

@@ -1,9 +1,11 @@
 //! A session.
 
+use shogi_eval::Eval;
 use shogi_search::Memo;
 use std::alloc::{AllocError, Allocator};
 use std::marker::Model;
 use usi_session::{CHUNK_MAX, Session};
+use usi_texts::Setup;
 
 /// A session. What its contracts say stays within.
 #[derive(Drop)]
@@ -21,6 +23,26 @@ impl<A: Allocator + Copy> OpaqueSession<A> {
     pub fn new(alloc: A) -> OpaqueSession<A> {
         OpaqueSession {
             session: Session::new(alloc),
+        }
+    }
+
+    pub fn with_setup(alloc: A, setup: Setup) -> OpaqueSession<A> {
+        OpaqueSession {
+            session: Session::with_setup(alloc, setup),
+        }
+    }
+
+    /// Under a setup of these, where they are one.
+    pub fn under(
+        alloc: A,
+        depth: u8,
+        max_depth: u8,
+        multi_pv: u8,
+        eval: Eval,
+    ) -> Result<OpaqueSession<A>, &'static str> {
+        match Setup::of(depth, max_depth, multi_pv, eval) {
+            Ok(setup) => Ok(OpaqueSession::with_setup(alloc, setup)),
+            Err(_) => Err("the numbers of a setup"),
         }
     }
 

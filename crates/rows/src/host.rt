@@ -1,7 +1,7 @@
 //! Rows as the sessions of one host: all at once in rounds, and in random order, as clients that come and go.
 
 use crate::found::Found;
-use crate::row::Row;
+use crate::row::{Place, Row};
 use opaque::OpaqueHost;
 use session_slots::SessionId;
 use std::alloc::{AllocError, Global};
@@ -15,8 +15,12 @@ const EVENTS: u64 = 4000;
 
 type Server = OpaqueHost<Global>;
 
-fn server_of(alloc: Global, slots: usize, entries: usize) -> Result<Server, AllocError> {
-    OpaqueHost::new(alloc, slots, entries).map_err(|_| AllocError)
+fn server_of(
+    (alloc, setup): Place,
+    slots: usize,
+    entries: usize,
+) -> Result<Server, AllocError> {
+    OpaqueHost::with_setup(alloc, setup, slots, entries).map_err(|_| AllocError)
 }
 
 /// Works one slice; returns whether it made at most its budget, and all of it where something is left.
@@ -70,12 +74,13 @@ fn take_all(
 
 /// All rows at once, each in a session of its own, in rounds of this budget over so many entries.
 fn run_rounds(
-    alloc: Global,
+    at: Place,
     rows: &[Row],
     (entries, budget): (usize, u64),
     found: &mut Found,
 ) -> Result<(), AllocError> {
-    let mut server = server_of(alloc, rows.len(), entries)?;
+    let mut server = server_of(at, rows.len(), entries)?;
+    let (alloc, _) = at;
     let mut ids = Vec::new(alloc);
     for row in rows {
         ids.push(fed(&mut server, row, "in a host", found))?;
@@ -94,8 +99,9 @@ fn run_rounds(
 }
 
 /// The rows one after another in one slot: a new session is at its start.
-fn run_slot(alloc: Global, rows: &[Row], found: &mut Found) -> Result<(), AllocError> {
-    let mut server = server_of(alloc, 1, 4096)?;
+fn run_slot(at: Place, rows: &[Row], found: &mut Found) -> Result<(), AllocError> {
+    let mut server = server_of(at, 1, 4096)?;
+    let (alloc, _) = at;
     for row in rows {
         if let Some(id) = fed(&mut server, row, "in one slot", found) {
             let worked = works(&mut server, id, u64::MAX);
@@ -236,13 +242,14 @@ fn next_client<'a>(
 /// So many events for so many clients over so many entries, as the seed draws them. Some clients leave in
 /// the middle of their answer, of which they have a prefix. Gives how many were served.
 fn served_at_random(
-    alloc: Global,
+    at: Place,
     rows: &[Row],
     (seed, clients, entries): (u64, usize, usize),
     found: &mut Found,
 ) -> Result<u64, AllocError> {
     let mut random = Random::new(seed);
-    let mut server = server_of(alloc, clients, entries)?;
+    let mut server = server_of(at, clients, entries)?;
+    let (alloc, _) = at;
     let (mut present, mut served) = (Vec::new(alloc), 0u64);
     for _ in 0..EVENTS {
         if present.len() < clients {
@@ -261,23 +268,23 @@ fn served_at_random(
 }
 
 fn run_random(
-    alloc: Global,
+    at: Place,
     rows: &[Row],
     way: (u64, usize, usize),
     found: &mut Found,
 ) -> Result<(), AllocError> {
-    let served = served_at_random(alloc, rows, way, found)?;
+    let served = served_at_random(at, rows, way, found)?;
     if let Some(row) = rows.first() {
         found.holds(row, IN_RANDOM_ORDER, "few were served\n", served >= 20);
     }
     Ok(())
 }
 
-pub fn run(alloc: Global, rows: &[Row], found: &mut Found) -> Result<(), AllocError> {
+pub fn run(at: Place, rows: &[Row], found: &mut Found) -> Result<(), AllocError> {
     for way in [(1, 1), (4096, 1), (4096, 97), (64, 1000)] {
-        run_rounds(alloc, rows, way, found)?;
+        run_rounds(at, rows, way, found)?;
     }
-    run_slot(alloc, rows, found)?;
+    run_slot(at, rows, found)?;
     for way in [
         (1u64, 2usize, 1usize),
         (2, 3, 4096),
@@ -286,7 +293,7 @@ pub fn run(alloc: Global, rows: &[Row], found: &mut Found) -> Result<(), AllocEr
         (5, 8, 100_000),
         (6, 8, 1),
     ] {
-        run_random(alloc, rows, way, found)?;
+        run_random(at, rows, way, found)?;
     }
     Ok(())
 }

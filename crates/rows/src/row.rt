@@ -7,6 +7,10 @@
 //! - `# TEXT` is a remark.
 
 use std::alloc::{AllocError, Global};
+use usi_texts::Setup;
+
+/// Where rows are run: their memory, and the setup of their sessions.
+pub type Place = (Global, Setup);
 
 /// What is sent, and what is answered.
 #[derive(Debug, Drop)]

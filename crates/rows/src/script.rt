@@ -1,9 +1,9 @@
 //! Scripts, and rows as scripts: each alone, and many by turns.
 
 use crate::found::Found;
-use crate::row::Row;
+use crate::row::{Place, Row};
 use std::alloc::{AllocError, Global};
-use usi_replay::{ReplayFault, replay};
+use usi_replay::{ReplayFault, replay_with_setup};
 use usi_stdio::Duplex;
 
 /// The names that sessions of a script may have.
@@ -24,7 +24,7 @@ const WAYS: [(usize, u64); 5] = [
 /// What a script writes, and the number of its first bad line, 0 where none is bad. None where it ends
 /// otherwise.
 fn played(
-    alloc: Global,
+    (alloc, setup): Place,
     script: &str,
     slots: usize,
     (entries, slice): (usize, u64),
@@ -34,7 +34,7 @@ fn played(
         output: Vec::new(alloc),
     };
     let (slots, entries) = (slots.clamp(1, 1024), entries.clamp(1, 1_000_000));
-    let ended = replay(alloc, &mut ends, slots, entries, slice.max(1));
+    let ended = replay_with_setup(alloc, setup, &mut ends, slots, entries, slice.max(1));
     let Duplex { input: _, output } = ends;
     match ended {
         Ok(()) => Some((output, 0)),
@@ -44,9 +44,9 @@ fn played(
 }
 
 /// Runs the script of a row, and compares its output or its first bad line.
-fn run_one(alloc: Global, row: &Row, script: &str, output: &str, slots: usize, found: &mut Found) {
+fn run_one(at: Place, row: &Row, script: &str, output: &str, slots: usize, found: &mut Found) {
     for way in WAYS {
-        match played(alloc, script, slots, way) {
+        match played(at, script, slots, way) {
             Some((written, bad)) => {
                 found.holds(row, "as a script", "another line is bad\n", bad == row.bad);
                 found.is(row, "as a script", output.as_bytes(), written.as_slice());
@@ -57,10 +57,10 @@ fn run_one(alloc: Global, row: &Row, script: &str, output: &str, slots: usize, f
 }
 
 /// Scripts.
-pub fn run(alloc: Global, rows: &[Row], found: &mut Found) {
+pub fn run(at: Place, rows: &[Row], found: &mut Found) {
     for row in rows {
         let (script, output) = (row.sent.as_str(), row.answer.as_str());
-        run_one(alloc, row, script, output, row.slots, found);
+        run_one(at, row, script, output, row.slots, found);
     }
 }
 
@@ -117,12 +117,13 @@ fn output_of(alloc: Global, rows: &[Row]) -> Result<String, AllocError> {
 }
 
 /// Rows of sessions as scripts: each alone, and all by turns, as many at a time as there are names.
-pub fn run_dialogues(alloc: Global, rows: &[Row], found: &mut Found) -> Result<(), AllocError> {
+pub fn run_dialogues(at: Place, rows: &[Row], found: &mut Found) -> Result<(), AllocError> {
+    let (alloc, _) = at;
     for size in [1usize, 26] {
         for group in rows.chunks(size) {
             if let Some(row) = group.first() {
                 let (script, output) = (script_of(alloc, group)?, output_of(alloc, group)?);
-                run_one(alloc, row, script.as_str(), output.as_str(), 26, found);
+                run_one(at, row, script.as_str(), output.as_str(), 26, found);
             }
         }
     }

@@ -2,11 +2,11 @@
 //! several memories.
 
 use crate::found::Found;
-use crate::row::Row;
+use crate::row::{Place, Row};
 use opaque::{OpaqueSession, SeedlessTable, table_of};
 use shogi_search::{Memo, NoMemo};
 use std::alloc::{AllocError, Global};
-use usi_stdio::{Duplex, stdio};
+use usi_stdio::{Duplex, stdio_with_setup};
 
 /// The most slices of one run.
 const SLICES: u64 = 1_000_000;
@@ -22,9 +22,9 @@ struct Talk {
 }
 
 impl Talk {
-    fn new(alloc: Global) -> Talk {
+    fn new((alloc, setup): Place) -> Talk {
         Talk {
-            session: OpaqueSession::new(alloc),
+            session: OpaqueSession::with_setup(alloc, setup),
             steps: 0,
             is_short: false,
         }
@@ -73,20 +73,20 @@ fn new_table(alloc: Global, entries: usize) -> Result<Table, AllocError> {
 }
 
 /// What the program's streams write, and whether they ended well.
-fn written(alloc: Global, row: &Row, entries: usize) -> (Vec<u8>, bool) {
+fn written((alloc, setup): Place, row: &Row, entries: usize) -> (Vec<u8>, bool) {
     let mut ends = Duplex {
         input: row.sent.as_bytes(),
         output: Vec::new(alloc),
     };
-    let ended = stdio(alloc, &mut ends, entries.clamp(1, 1_000_000));
+    let ended = stdio_with_setup(alloc, setup, &mut ends, entries.clamp(1, 1_000_000));
     let Duplex { input: _, output } = ends;
     (output, ended.is_ok())
 }
 
 /// The row through the streams.
-fn run_streams(alloc: Global, row: &Row, found: &mut Found) {
+fn run_streams(at: Place, row: &Row, found: &mut Found) {
     for entries in [1usize, 2, 4096] {
-        let (said, is_ok) = written(alloc, row, entries);
+        let (said, is_ok) = written(at, row, entries);
         found.holds(row, "through the streams", "they failed\n", is_ok);
         found.said(row, "through the streams", said.as_slice());
     }
@@ -94,13 +94,13 @@ fn run_streams(alloc: Global, row: &Row, found: &mut Found) {
 
 /// The row in slices of this budget. Gives the steps that were made.
 fn run_slices<M: Memo>(
-    alloc: Global,
+    at: Place,
     memo: &mut M,
     row: &Row,
     budget: u64,
     found: &mut Found,
 ) -> u64 {
-    let mut talk = Talk::new(alloc);
+    let mut talk = Talk::new(at);
     talk.feed(row.sent.as_bytes());
     talk.work_off(memo, budget);
     found.said(row, "in slices", talk.said());
@@ -108,23 +108,23 @@ fn run_slices<M: Memo>(
 }
 
 /// The steps are the same in slices of any budget.
-fn run_budgets(alloc: Global, row: &Row, found: &mut Found) {
-    let whole = run_slices(alloc, &mut NoMemo, row, u64::MAX, found);
+fn run_budgets(at: Place, row: &Row, found: &mut Found) {
+    let whole = run_slices(at, &mut NoMemo, row, u64::MAX, found);
     for budget in [1, 2, 7, 61, 1000] {
-        let steps = run_slices(alloc, &mut NoMemo, row, budget, found);
+        let steps = run_slices(at, &mut NoMemo, row, budget, found);
         found.holds(row, "in slices", "other steps\n", steps == whole);
     }
 }
 
 /// The row in two parts, the second fed after the first was answered.
 fn run_parts<M: Memo>(
-    alloc: Global,
+    at: Place,
     memo: &mut M,
     row: &Row,
     (first, second): (&[u8], &[u8]),
     found: &mut Found,
 ) {
-    let mut talk = Talk::new(alloc);
+    let mut talk = Talk::new(at);
     for part in [first, second] {
         talk.feed(part);
         talk.work_off(memo, u64::MAX);
@@ -133,18 +133,18 @@ fn run_parts<M: Memo>(
 }
 
 /// The row cut at each place.
-fn run_cuts<M: Memo>(alloc: Global, memo: &mut M, row: &Row, found: &mut Found) {
+fn run_cuts<M: Memo>(at: Place, memo: &mut M, row: &Row, found: &mut Found) {
     let sent = row.sent.as_bytes();
     for place in 0..sent.len() {
         if let Some(parts) = sent.split_at_checked(place) {
-            run_parts(alloc, memo, row, parts, found);
+            run_parts(at, memo, row, parts, found);
         }
     }
 }
 
 /// Two rows by turns, step by step, over one memory.
-fn run_turns<M: Memo>(alloc: Global, memo: &mut M, one: &Row, other: &Row, found: &mut Found) {
-    let (mut first, mut second) = (Talk::new(alloc), Talk::new(alloc));
+fn run_turns<M: Memo>(at: Place, memo: &mut M, one: &Row, other: &Row, found: &mut Found) {
+    let (mut first, mut second) = (Talk::new(at), Talk::new(at));
     first.feed(one.sent.as_bytes());
     second.feed(other.sent.as_bytes());
     for _ in 0..SLICES {
@@ -159,26 +159,27 @@ fn run_turns<M: Memo>(alloc: Global, memo: &mut M, one: &Row, other: &Row, found
 }
 
 /// Everything that is run of a single row, over a small and a large table among others.
-fn run_row(alloc: Global, small: &mut Table, large: &mut Table, row: &Row, found: &mut Found) {
-    run_streams(alloc, row, found);
-    run_budgets(alloc, row, found);
+fn run_row(at: Place, small: &mut Table, large: &mut Table, row: &Row, found: &mut Found) {
+    run_streams(at, row, found);
+    run_budgets(at, row, found);
     for budget in [1, u64::MAX] {
-        run_slices(alloc, small, row, budget, found);
-        run_slices(alloc, large, row, budget, found);
+        run_slices(at, small, row, budget, found);
+        run_slices(at, large, row, budget, found);
     }
-    run_cuts(alloc, &mut NoMemo, row, found);
-    run_cuts(alloc, large, row, found);
+    run_cuts(at, &mut NoMemo, row, found);
+    run_cuts(at, large, row, found);
 }
 
-pub fn run(alloc: Global, rows: &[Row], found: &mut Found) -> Result<(), AllocError> {
+pub fn run(at: Place, rows: &[Row], found: &mut Found) -> Result<(), AllocError> {
+    let (alloc, _) = at;
     let (mut small, mut large) = (new_table(alloc, 1)?, new_table(alloc, 4096)?);
     for row in rows {
-        run_row(alloc, &mut small, &mut large, row, found);
+        run_row(at, &mut small, &mut large, row, found);
     }
     for pair in rows.windows(2) {
         if let [one, other] = pair {
-            run_turns(alloc, &mut small, one, other, found);
-            run_turns(alloc, &mut new_table(alloc, 4096)?, one, other, found);
+            run_turns(at, &mut small, one, other, found);
+            run_turns(at, &mut new_table(alloc, 4096)?, one, other, found);
         }
     }
     Ok(())

@@ -11,6 +11,8 @@ mod memory;
 #[cfg(test)]
 mod rows;
 #[cfg(test)]
+mod setups;
+#[cfg(test)]
 mod slices;
 #[cfg(test)]
 mod streams;

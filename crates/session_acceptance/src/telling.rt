@@ -1,6 +1,7 @@
 //! A front end that tells its bytes and its calls, and the calls of runs over it.
 
 ghost use Rattle.std.specs.Prelude.{◌≡◌, ◌++◌, ◌∷◌, []};
+ghost use Rattle.usi_texts.specs.Setup.{default_setup};
 ghost use Rattle.usi_stdio.specs.Dialogue.{Talks};
 ghost use Rattle.session_acceptance.specs.Calls.{told_by};
 
@@ -103,7 +104,8 @@ impl<'r, R: Abort> FrontEnd for TellingEnd<'r, R> {
 
 /// A run over such a front end: its calls are a dialogue that ends with the result.
 fn run_over<R: Abort>(alloc: Global, end: &mut TellingEnd<'_, R>) -> Result<(), StdioFault>
-    ensures calls { Talks (told_by end.old.calls.items) (told_by end.new.calls.items) result }
+    ensures calls { Talks default_setup (told_by end.old.calls.items)
+        (told_by end.new.calls.items) result }
 {
     stdio(alloc, end, 1)
 }

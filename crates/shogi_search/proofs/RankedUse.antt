@@ -13,7 +13,7 @@ use Rattle.shogi_moves.specs.LegalMoves.{legal_codes, legal_above}
 use Rattle.shogi_moves.specs.Rising.{is_in, IsRising}
 use Rattle.shogi_moves.proofs.LegalLaws.{legal_rising}
 use Rattle.shogi_eval.specs.declared.eval.Eval.{Eval}
-use Rattle.minimax.proofs.MinimaxLaws.{worth_bounds, WorthWithin, worth_deep}
+use Rattle.minimax.proofs.MinimaxLaws.{worth_bounds, WorthWithin}
 use Rattle.search_nodes.proofs.MatchingOthers.{is_in-append_left, is_in-append_right}
 use Rattle.shogi_search.proofs.RankedLaws.{in_ranked, first_in, at_place_in, rank_past, not_before, ranked_last, ranked_list, AreDistinct}
 use Rattle.minimax.proofs.Valid.{after_valid}
@@ -190,11 +190,10 @@ past_window : (o : Option ℤ) (v x : ℤ) (P : Type 0) → x <ℤ INFINITY → 
 past_window None v x P most lower at f = absurd (omega (arith, ints))
 past_window (Some w) v x P most lower at f = f w refl (omega (arith, ints))
 
--- a move whose child is found to be worth no less than the end of its window is gone through without an offer
-pub gone_unlisted : (p : Shogi) (eval : Eval) (d : ℕ) (deep : 0 < d) (passed : Option Move) (r : Ranking) (m : Move) (q : Shogi) (beta : ℤ) (found : Found) → IsGoneThrough p (worth p eval d) passed r → legal_above p passed ≡ code_of m ∷ legal_above p (Some m) → q ≡ after_code p (code_of m)
+-- a move that is worth what its child is, and whose child is found to be worth no less than the end of its window, is gone through without an offer
+pub gone_unlisted : (p : Shogi) (eval : Eval) (d : ℕ) (passed : Option Move) (r : Ranking) (m : Move) (q : Shogi) (beta : ℤ) (found : Found) → worth p eval d (code_of m) ≡ negated (value (after_code p (code_of m)) eval d) → IsGoneThrough p (worth p eval d) passed r → legal_above p passed ≡ code_of m ∷ legal_above p (Some m) → q ≡ after_code p (code_of m)
     → IsFoundBelow q eval d beta found → beta ≡ child_beta r → beta ≤ℤ found.value → IsGoneThrough p (worth p eval d) (Some m) r
-gone_unlisted p eval d deep passed r m q beta found g e at b same h =
-    let is : worth p eval d (code_of m) ≡ negated (value (after_code p (code_of m)) eval d) = worth_deep p eval d (code_of m) deep in
+gone_unlisted p eval d passed r m q beta found is g e at b same h =
     let lower : found.value ≤ℤ value q eval d = b.lower in
     let v : value q eval d ≡ value (after_code p (code_of m)) eval d = ap (λ (x : Shogi). value x eval d) at in
     past_window (value_to_pass r) (value (after_code p (code_of m)) eval d) found.value (IsGoneThrough p (worth p eval d) (Some m) r) b.most (omega (arith, ints)) (omega (arith, ints))

@@ -6,7 +6,7 @@ use Rattle.std.proofs.lemmas.List.{map-append}
 use Rattle.std.proofs.KnownBytes.{Appends-kept, Keeps-trans}
 use Rattle.session_slots.specs.declared.id.SessionId.{SessionId}
 use Rattle.session_slots.specs.Slots.{Opens}
-use Rattle.usi_session.specs.Due.{new_session}
+use Rattle.usi_session.specs.Due.{new_session_under}
 use Rattle.host_core.specs.Steps.{HostState}
 use Rattle.host_core.specs.declared.event.HostFault.{HostFault}
 use Rattle.host_core.specs.Events.{Outcome, Opened, Refused, Open}
@@ -239,7 +239,7 @@ opened_true id = ap (λ (b : Bool). b || false) (is_same_id-refl id)
 
 pub admits_new : (held : List Connection) (place : ℕ) (c : Connection) (a : Report) (h i : HostState) (to : ℕ) → IsStep h (record { event = Open; outcome = Opened c.link.id }) i → Admits (links_of held) a h c.link.number (Opened c.link.id) to (links_of (insert held place c)) a i
 admits_new held place c a h i to s = λ from old kept least most.
-    let o : Opens h.slots i.slots c.link.id new_session = s.stepped.opens in
+    let o : Opens h.slots i.slots c.link.id (new_session_under h.setup) = s.stepped.opens in
     record {
       items_are = refl;
       accepts = record {

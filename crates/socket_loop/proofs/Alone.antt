@@ -7,12 +7,13 @@ use Rattle.std.proofs.lemmas.Bool.{cases_lt}
 use Rattle.std.proofs.lemmas.List.{length-drop}
 use Rattle.std.proofs.lemmas.List.Sums.{prefix_len-le-length}
 use Rattle.std.specs.Str.Lines.{strip_carriage_return}
+use Rattle.usi_texts.specs.declared.setup.Setup.{Setup}
 use Rattle.usi_lines.specs.Lines.{Line, Text, is_line_feed, lines}
 use Rattle.usi_lines.specs.declared.line.TheConstants.{LINE_MAX}
 use Rattle.usi_lines.proofs.LineLaws.{lines-long, lines-open, lines-text, longer}
 use Rattle.usi_session.specs.declared.state.State.{State}
-use Rattle.usi_session.specs.Answer.{initial_state}
-use Rattle.usi_session.specs.WholeStream.{answer_line, replies, replies_from, state_from, is_over_after}
+use Rattle.usi_session.specs.Answer.{initial_state_under}
+use Rattle.usi_session.specs.WholeStream.{answer_line, replies_under, replies_from, state_from, is_over_after_under}
 use Rattle.usi_session.proofs.Settled.{replies_from-over}
 use Rattle.socket_loop.specs.declared.connection.Link.{Link}
 use Rattle.usi_stdio.specs.Stdio as stdio
@@ -70,22 +71,23 @@ replies_then s [] ys = refl
 replies_then s (x ∷ xs) ys = ap (λ (bs : List ℕ). (answer_line s x).bytes ++ bs) (replies_then (answer_line s x).state xs ys) ∙ sym (append_assoc (answer_line s x).bytes (replies_from (answer_line s x).state xs) (replies_from (state_from (answer_line s x).state xs) ys))
 
 -- what comes after the end of a session is not answered
-over_replies : (r x : List ℕ) → is_over_after r ≡ true → replies (r ++ x) ≡ replies r
-over_replies r x over =
+over_replies : (setup : Setup) (r x : List ℕ) → is_over_after_under setup r ≡ true → replies_under setup (r ++ x) ≡ replies_under setup r
+over_replies setup r x over =
     let m : MoreLines r x = more_lines (length r) r x (omega arith) in
-    ap (replies_from initial_state) m.is ∙ (replies_then initial_state (lines r) m.rest ∙ (ap (λ (bs : List ℕ). replies_from initial_state (lines r) ++ bs) (replies_from-over (state_from initial_state (lines r)) m.rest over) ∙ append-nil (replies_from initial_state (lines r))))
+    let first : State = initial_state_under setup in
+    ap (replies_from first) m.is ∙ (replies_then first (lines r) m.rest ∙ (ap (λ (bs : List ℕ). replies_from first (lines r) ++ bs) (replies_from-over (state_from first (lines r)) m.rest over) ∙ append-nil (replies_from first (lines r))))
 
 -- ---- `stdio`
 
-consumed_all : (bytes read : List ℕ) (left : Option (List ℕ)) → Consumes (Some bytes) left read → IsAtEnd left ⊎ (is_over_after read ≡ true) → replies read ≡ replies bytes
-consumed_all bytes read None c ended = absurd c
-consumed_all bytes read (Some rest) c (inl e) = ap replies (sym (c ∙ (ap (λ (xs : List ℕ). read ++ xs) e ∙ append-nil read)))
-consumed_all bytes read (Some rest) c (inr over) = sym (over_replies read rest over) ∙ ap replies (sym c)
+consumed_all : (setup : Setup) (bytes read : List ℕ) (left : Option (List ℕ)) → Consumes (Some bytes) left read → IsAtEnd left ⊎ (is_over_after_under setup read ≡ true) → replies_under setup read ≡ replies_under setup bytes
+consumed_all setup bytes read None c ended = absurd c
+consumed_all setup bytes read (Some rest) c (inl e) = ap (replies_under setup) (sym (c ∙ (ap (λ (xs : List ℕ). read ++ xs) e ∙ append-nil read)))
+consumed_all setup bytes read (Some rest) c (inr over) = sym (over_replies setup read rest over) ∙ ap (replies_under setup) (sym c)
 
-given_replies : (input left old new : Option (List ℕ)) (s : stdio.IsAnswered input left old new) (bytes : List ℕ) → IsGiven input left old new s bytes → replies s.read ≡ replies bytes
-given_replies input left old new s bytes (inl e) = consumed_all bytes s.read left (rw e at s.consumed) s.ended
-given_replies input left old new s bytes (inr e) = ap replies e
+given_replies : (setup : Setup) (input left old new : Option (List ℕ)) (s : stdio.IsAnswered setup input left old new) (bytes : List ℕ) → IsGiven setup input left old new s bytes → replies_under setup s.read ≡ replies_under setup bytes
+given_replies setup input left old new s bytes (inl e) = consumed_all setup bytes s.read left (rw e at s.consumed) s.ended
+given_replies setup input left old new s bytes (inr e) = ap (replies_under setup) e
 
-pub as_alone : (before after : Scene) (link : Link) (a : IsAnswered new_duty before after link) → IsUndisturbed new_duty before after link a → (input left old new : Option (List ℕ)) (s : stdio.IsAnswered input left old new) → IsGiven input left old new s a.served.read → Appends old new a.served.written
+pub as_alone : (before after : Scene) (link : Link) (a : IsAnswered (new_duty before.host.setup) before after link) → IsUndisturbed (new_duty before.host.setup) before after link a → (input left old new : Option (List ℕ)) (s : stdio.IsAnswered before.host.setup input left old new) → IsGiven before.host.setup input left old new s a.served.read → Appends old new a.served.written
 as_alone before after link a p input left old new s given =
-    rw (said new_duty before after link a p ∙ sym (given_replies input left old new s a.served.read given)) s.written
+    rw (said (new_duty before.host.setup) before after link a p ∙ sym (given_replies before.host.setup input left old new s a.served.read given)) s.written

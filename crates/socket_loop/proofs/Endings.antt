@@ -5,7 +5,7 @@ use Rattle.std.proofs.lemmas.Bool.{and_parts, eqb-true, or_cases, or_left, or_ri
 use Rattle.session_slots.specs.declared.id.SessionId.{SessionId}
 use Rattle.session_slots.specs.Slots.{find, Opens}
 use Rattle.session_slots.proofs.Finds.{find-with_session, find-with_session-other}
-use Rattle.usi_session.specs.Due.{SessionView, is_pending, new_session}
+use Rattle.usi_session.specs.Due.{SessionView, is_pending, new_session_under}
 use Rattle.usi_session.proofs.Settled.{due-over, state_due-over}
 use Rattle.host_core.specs.declared.event.HostFault.TheVariants.{Full, OutOfMemory, UnknownSession, NotReady}
 use Rattle.host_core.specs.Events.{Event, Open, Feed, Work, Take, Close, Outcome, Opened, Done, Worked, Gave, Refused}
@@ -52,8 +52,8 @@ on_open goes old new at id o (Some t) true e f c s =
 on_open goes old new at id o (Some t) false e f c s =
     same_some _ _ (ap (λ q. find q id) c.slots_are ∙ find-with_session-other old.slots at id t c.after f (other_id at id e)) s
 
-opened_open : (old new : HostState) (at id : SessionId) (same : Bool) → is_same_id at id ≡ same → Opens old.slots new.slots at new_session → IsSome (find old.slots id) → IsSome (find new.slots id)
-opened_open old new at id true e p s = some_of (find new.slots id) new_session (ap (find new.slots) (sym (same_id at id e)) ∙ p.now)
+opened_open : (old new : HostState) (at id : SessionId) (same : Bool) → is_same_id at id ≡ same → Opens old.slots new.slots at (new_session_under old.setup) → IsSome (find old.slots id) → IsSome (find new.slots id)
+opened_open old new at id true e p s = some_of (find new.slots id) (new_session_under old.setup) (ap (find new.slots) (sym (same_id at id e)) ∙ p.now)
 opened_open old new at id false e p s = same_some _ _ (p.others id (other_id at id e)) s
 
 open_open : (old new : HostState) (id : SessionId) (o : Outcome) → IsOpened old o new → IsSome (find old.slots id) → IsSome (find new.slots id)
@@ -85,7 +85,7 @@ stays_open h i id (step ∷ rest) r e s =
     stays_open r.0 i id rest r.2 n.second (step_open h r.0 id step.event step.outcome r.1.stepped n.first s)
 
 opens_now : (old new : HostState) (id : SessionId) (event : Event) (o : Outcome) → Stepped old event o new → opens id event o ≡ true → IsSome (find new.slots id)
-opens_now old new id Open (Opened at) p e = some_of (find new.slots id) new_session (ap (find new.slots) (sym (same_id at id e)) ∙ p.opens.now)
+opens_now old new id Open (Opened at) p e = some_of (find new.slots id) (new_session_under old.setup) (ap (find new.slots) (sym (same_id at id e)) ∙ p.opens.now)
 opens_now old new id Open Done p e = absurd (cc)
 opens_now old new id Open (Worked n) p e = absurd (cc)
 opens_now old new id Open (Gave bytes) p e = absurd (cc)

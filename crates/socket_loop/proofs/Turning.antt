@@ -6,14 +6,14 @@ use Rattle.std.proofs.KnownBytes.{Appends-kept, Keeps-trans}
 use Rattle.session_slots.specs.declared.id.SessionId.{SessionId}
 use Rattle.session_slots.specs.Slots.{find}
 use Rattle.usi_session.specs.Due.{SessionView, due}
-use Rattle.usi_session.specs.WholeStream.{replies}
+use Rattle.usi_session.specs.WholeStream.{replies_under}
 use Rattle.host_core.specs.Steps.{HostState}
 use Rattle.host_core.specs.Events.{Event}
 use Rattle.host_core.specs.Made.{Step, own, taken, is_opened}
 use Rattle.host_core.specs.Runs.{IsRun}
 use Rattle.host_core.specs.Rounds.{IsRound, works, pending_ids}
 use Rattle.host_core.specs.Headline.{EndsFrom}
-use Rattle.host_core.proofs.OneSession.{kept, opened_ends}
+use Rattle.host_core.proofs.OneSession.{kept, opened_under}
 use Rattle.socket_loop.specs.declared.connection.Link.{Link}
 use Rattle.socket_loop.specs.declared.connection.Connection.{Connection}
 use Rattle.wires.specs.Report.{Report, KeepsConnection}
@@ -103,9 +103,9 @@ served : (owes : List ℕ → List ℕ) (marks : List Connection) (bound : ℕ) 
 served owes marks bound a b h m steps l c ends =
     record { read = own l.id steps; lost = c.lost; written = taken l.id steps; consumed = c.consumed; appended = c.appended; ends = ends; whole = λ some. not_lost m l.id c.lost c.whole some }
 
-starts_one : (ls : List Link) (f t : ℕ) (x : List Accepted) (g : ℕ) (marks : List Connection) (a b : Report) (h m : HostState) (first steps : List Step) (l : Link) → IsRun h steps m → Carried marks t a h steps b m l → ((is_opened l.id first ≡ true) → is_opened l.id steps ≡ true) → IsAmong ls l ⊎ Joins f t x g m.slots.next first l → IsAmong ls l ⊎ Served replies a b l.number (find m.slots l.id)
+starts_one : (ls : List Link) (f t : ℕ) (x : List Accepted) (g : ℕ) (marks : List Connection) (a b : Report) (h m : HostState) (first steps : List Step) (l : Link) → IsRun h steps m → Carried marks t a h steps b m l → ((is_opened l.id first ≡ true) → is_opened l.id steps ≡ true) → IsAmong ls l ⊎ Joins f t x g m.slots.next first l → IsAmong ls l ⊎ Served (replies_under h.setup) a b l.number (find m.slots l.id)
 starts_one ls f t x g marks a b h m first steps l r c up (inl old) = inl old
-starts_one ls f t x g marks a b h m first steps l r c up (inr new) = inr (served replies marks t a b h m steps l c (opened_ends h m l.id steps (up new.opened) r))
+starts_one ls f t x g marks a b h m first steps l r c up (inr new) = inr (served (replies_under h.setup) marks t a b h m steps l c (opened_under h.setup h m l.id steps refl (up new.opened) r))
 
 -- ---- all parts
 

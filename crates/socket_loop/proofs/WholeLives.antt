@@ -5,7 +5,7 @@ use Rattle.std.proofs.KnownBytes.{Appends-kept, Consumes-kept, Keeps-trans, Appe
 use Rattle.session_slots.specs.declared.id.SessionId.{SessionId}
 use Rattle.session_slots.specs.Slots.{find}
 use Rattle.usi_session.specs.Due.{SessionView}
-use Rattle.usi_session.specs.WholeStream.{replies, is_over_after}
+use Rattle.usi_session.specs.WholeStream.{replies_under, is_over_after_under}
 use Rattle.host_core.specs.Events.{Close}
 use Rattle.host_core.specs.Headline.{EndsFrom, OverFrom}
 use Rattle.socket_loop.specs.declared.connection.Link.{Link}
@@ -25,8 +25,10 @@ use Rattle.wires.specs.Moves.{AllMove}
 use Rattle.host_core.specs.Made.{Step, own, taken, is_opened}
 use Rattle.host_core.specs.Rounds.{works, pending_ids}
 use Rattle.host_core.proofs.Ids.{is_same_id-refl}
-use Rattle.host_core.proofs.OneSession.{gone, opened_ends, IsGone as IsOut}
-use Rattle.host_core.proofs.Overs.{opened_over}
+use Rattle.host_core.specs.Steps.{HostState}
+use Rattle.host_core.proofs.Kept.{keeps_setup}
+use Rattle.host_core.proofs.OneSession.{gone, opened_under, IsGone as IsOut}
+use Rattle.host_core.proofs.Overs.{over_under}
 use Rattle.socket_loop.specs.Scenes.{Scene}
 use Rattle.socket_loop.specs.Serving.{AreTurns, IsAcceptedIn, IsTurnAndWait, IsWait, Stops, WasAccepted}
 use Rattle.socket_loop.specs.Patience.{AnswersInTime}
@@ -109,6 +111,7 @@ account_of a b n l same s = subst (λ (x : ℕ). IsAccountedFor a b x) same (inr
 
 pub lives_start : (s : Scene) → Fits (links_of s.held) s.bound s.host → Lives s s
 lives_start s fit = record {
+  setup = refl;
   rises = omega arith;
   all = all_kept s.report s.report (kept_same s.report);
   marked = λ n m. inl m;
@@ -214,7 +217,7 @@ answered_aside slice moved a b c t duty l p k x =
 
 served_apart : (slice : ℕ) (moved : Bool) (a b c : Scene) (t : IsTurn slice moved b c) (l : Link) → IsApart t.met l.number → KeepsConnection b.report c.report l.number → IsServed a b l → IsServed a c l
 served_apart slice moved a b c t l p k (inl s) = inl (s.0, answered_aside slice moved a b c t (duty_of (find a.host.slots l.id)) l p k s.1)
-served_apart slice moved a b c t l p k (inr s) = inr (s.0, answered_aside slice moved a b c t new_duty l p k s.1)
+served_apart slice moved a b c t l p k (inr s) = inr (s.0, answered_aside slice moved a b c t (new_duty a.host.setup) l p k s.1)
 
 served_fits : (a b : Scene) (l : Link) → IsServed a b l → FitsOne (links_of b.held) b.bound b.host l
 served_fits a b l (inl s) = s.1.fits
@@ -335,7 +338,7 @@ answered_on slice moved a b c t duty l lives among x =
 
 served_met : (slice : ℕ) (moved : Bool) (a b c : Scene) (t : IsTurn slice moved b c) (l : Link) → Lives a b → IsAmong t.met l → IsServed a b l → IsServed a c l
 served_met slice moved a b c t l lives among (inl s) = inl (s.0, answered_on slice moved a b c t (duty_of (find a.host.slots l.id)) l lives among s.1)
-served_met slice moved a b c t l lives among (inr s) = inr (s.0, answered_on slice moved a b c t new_duty l lives among s.1)
+served_met slice moved a b c t l lives among (inr s) = inr (s.0, answered_on slice moved a b c t (new_duty a.host.setup) l lives among s.1)
 
 -- the connection of a held link was served under that link
 held_life : (a b : Scene) (l : Link) → IsAmong (links_of b.held) l → Life a b l.number → IsServed a b l
@@ -362,38 +365,38 @@ opened_earlier slice moved b c t l new f =
     opened_before l.id t.admissions (t.inputs ++ rest) f.earlier f.later last same new.unclosed (is_same_id-refl l.id) new.opened
 
 new_cause : (slice : ℕ) (moved : Bool) (a b c : Scene) (t : IsTurn slice moved b c) (l : Link) (k : Carried t.marks c.bound b.report b.host t.steps c.report c.host l) → Lives a b → Joins b.bound c.bound t.accepted b.host.slots.next c.host.slots.next t.admissions l → k.lost ≡ [] → Cause t.marks b.report b.host t.steps c.report c.host l
-    → HasEnded new_duty a c l.number (own l.id t.steps) k.lost (taken l.id t.steps)
+    → HasEnded (new_duty a.host.setup) a c l.number (own l.id t.steps) k.lost (taken l.id t.steps)
 new_cause slice moved a b c t l k lives new g (inl failed) = inl (rises_raised _ _ _ (lives.all l.number).failed failed)
 new_cause slice moved a b c t l k lives new g (inr (inl starved)) = absurd (k.fed starved g)
 new_cause slice moved a b c t l k lives new g (inr (inr f)) =
     let early : is_opened l.id f.earlier ≡ true = opened_earlier slice moved b c t l new f in
     let there : Found (find f.moment.slots l.id) = found (find f.moment.slots l.id) (opened_stays b.host f.moment l.id f.earlier f.run f.first early) in
-    let left : EndsFrom replies (own l.id f.earlier) (taken l.id f.earlier) (Some there.session) = rw there.is at (opened_ends b.host f.moment l.id f.earlier early f.run) in
-    let over : OverFrom is_over_after (own l.id f.earlier) (Some there.session) = rw there.is at (opened_over b.host f.moment l.id f.earlier early f.run) in
-    let end : Ending replies is_over_after l.id [] [] t.steps f.has_ended = ending replies is_over_after t.marks b.host c.host t.steps l [] [] f there.session there.is left over in
-    inr (inr (record { none_lost = g; all = end.all; why = ending_why new_duty slice moved a b c t l.number f.has_ended (own l.id t.steps) (taken l.id t.steps) lives f.marked end.why }))
+    let left : EndsFrom (replies_under a.host.setup) (own l.id f.earlier) (taken l.id f.earlier) (Some there.session) = rw there.is at (opened_under a.host.setup b.host f.moment l.id f.earlier lives.setup early f.run) in
+    let over : OverFrom (is_over_after_under a.host.setup) (own l.id f.earlier) (Some there.session) = rw there.is at (over_under a.host.setup b.host f.moment l.id f.earlier lives.setup early f.run) in
+    let end : Ending (replies_under a.host.setup) (is_over_after_under a.host.setup) l.id [] [] t.steps f.has_ended = ending (replies_under a.host.setup) (is_over_after_under a.host.setup) t.marks b.host c.host t.steps l [] [] f there.session there.is left over in
+    inr (inr (record { none_lost = g; all = end.all; why = ending_why (new_duty a.host.setup) slice moved a b c t l.number f.has_ended (own l.id t.steps) (taken l.id t.steps) lives f.marked end.why }))
 
 new_ends : (slice : ℕ) (moved : Bool) (a b c : Scene) (t : IsTurn slice moved b c) (l : Link) (k : Carried t.marks c.bound b.report b.host t.steps c.report c.host l) → Lives a b → Joins b.bound c.bound t.accepted b.host.slots.next c.host.slots.next t.admissions l → k.lost ≡ [] → find c.host.slots l.id ≡ None → IsSpared b.report t.steps c.report l ⊎ IsShutDown t.marks c.bound b.report b.host t.steps c.report c.host l
-    → HasEnded new_duty a c l.number (own l.id t.steps) k.lost (taken l.id t.steps)
+    → HasEnded (new_duty a.host.setup) a c l.number (own l.id t.steps) k.lost (taken l.id t.steps)
 new_ends slice moved a b c t l k lives new g none (inl spared) =
     absurd (not_none (find c.host.slots l.id) (opened_stays b.host c.host l.id t.steps t.chain spared.closed (opened_all slice moved b c t l new)) none)
 new_ends slice moved a b c t l k lives new g none (inr d) = new_cause slice moved a b c t l k lives new g d.cause
 
-new_answered : (slice : ℕ) (moved : Bool) (a b c : Scene) (t : IsTurn slice moved b c) (l : Link) → Lives a b → IsAmong t.met l → Joins b.bound c.bound t.accepted b.host.slots.next c.host.slots.next t.admissions l → KeepsConnection a.report b.report l.number → IsAnswered new_duty a c l
+new_answered : (slice : ℕ) (moved : Bool) (a b c : Scene) (t : IsTurn slice moved b c) (l : Link) → Lives a b → IsAmong t.met l → Joins b.bound c.bound t.accepted b.host.slots.next c.host.slots.next t.admissions l → KeepsConnection a.report b.report l.number → IsAnswered (new_duty a.host.setup) a c l
 new_answered slice moved a b c t l lives among new kept_ =
     let k : Carried t.marks c.bound b.report b.host t.steps c.report c.host l = t.carried l among in
-    answered new_duty a c l
+    answered (new_duty a.host.setup) a c l
     (record {
       read = own l.id t.steps;
       lost = k.lost;
       written = taken l.id t.steps;
       consumed = Keeps-Consumes _ _ _ (own l.id t.steps ++ k.lost) kept_.unread k.consumed;
       appended = Keeps-Appends _ _ _ (taken l.id t.steps) kept_.written k.appended;
-      ends = opened_ends b.host c.host l.id t.steps (opened_all slice moved b c t l new) t.chain;
+      ends = opened_under a.host.setup b.host c.host l.id t.steps lives.setup (opened_all slice moved b c t l new) t.chain;
       whole = λ some. not_lost c.host l.id k.lost k.whole some;
     })
-    (opened_over b.host c.host l.id t.steps (opened_all slice moved b c t l new) t.chain)
-    (λ none. ended_or new_duty a c l.number _ _ _ (λ g. new_ends slice moved a b c t l k lives new g none k.ends))
+    (over_under a.host.setup b.host c.host l.id t.steps lives.setup (opened_all slice moved b c t l new) t.chain)
+    (λ none. ended_or (new_duty a.host.setup) a c l.number _ _ _ (λ g. new_ends slice moved a b c t l k lives new g none k.ends))
     (kept_met slice moved a b c t l lives new.most (t.gone l among))
     (fits_new slice moved b c t l among new)
 
@@ -420,6 +423,7 @@ lives_turn slice moved a b c lives t =
     let u : a.bound ≤ b.bound = lives.rises in
     let v : b.bound ≤ c.bound = t.rises in
     record {
+      setup = keeps_setup b.host c.host t.steps t.chain ∙ lives.setup;
       rises = omega arith;
       all = moves_then a.report b.report c.report lives.all t.all;
       marked = λ n m. reads_met slice moved a b c t n lives (t.ended n m);
@@ -478,7 +482,7 @@ answered_wait a b c duty l w x =
 
 served_wait : {moved : Bool} {answer : Result (Unit {0}) WireFault} (a b c : Scene) (l : Link) → IsWait moved answer b c → IsServed a b l → IsServed a c l
 served_wait a b c l w (inl s) = inl (s.0, answered_wait a b c (duty_of (find a.host.slots l.id)) l w s.1)
-served_wait a b c l w (inr s) = inr (s.0, answered_wait a b c new_duty l w s.1)
+served_wait a b c l w (inr s) = inr (s.0, answered_wait a b c (new_duty a.host.setup) l w s.1)
 
 accounted_wait : {moved : Bool} {answer : Result (Unit {0}) WireFault} (a b c : Scene) (n : ℕ) → IsWait moved answer b c → IsAccountedFor a b n → IsAccountedFor a c n
 accounted_wait a b c n w (inl x) =
@@ -502,6 +506,7 @@ life_wait a b c n w (inr h) = inr (accounted_wait a b c n w h)
 
 pub lives_wait : {moved : Bool} {answer : Result (Unit {0}) WireFault} (a b c : Scene) → Lives a b → IsWait moved answer b c → Lives a c
 lives_wait a b c lives w = record {
+  setup = ap (λ (h : HostState). h.setup) w.host ∙ lives.setup;
   rises = rw w.bound lives.rises;
   all = moves_then a.report b.report c.report lives.all (all_kept b.report c.report w.report);
   marked = λ n m. reads_on a b c n (all_kept b.report c.report w.report) (lives.marked n (rw w.held at m));

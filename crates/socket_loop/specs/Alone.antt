@@ -2,6 +2,7 @@
 use Rattle.std.specs.Prelude.{◌≡◌, ◌⊎◌, ℕ, List, [], Option, Some}
 use Rattle.std.specs.Io.KnownBytes.{Appends}
 use Rattle.session_slots.specs.Slots.{find}
+use Rattle.usi_texts.specs.declared.setup.Setup.{Setup}
 use Rattle.host_core.specs.ById.{queued_of}
 use Rattle.host_core.specs.Headline.{IsSettled}
 use Rattle.socket_loop.specs.declared.connection.Link.{Link}
@@ -16,7 +17,7 @@ IsUndisturbed duty before after link a =
     (IsSettled (find after.host.slots link.id) × (queued_of (find after.host.slots link.id) ≡ []))
     ⊎ IsComplete duty before after link.number a.served.read a.served.lost a.served.written
 
--- two connections from which the same bytes were read are written the same, where neither was disturbed and the same was owed to both, as to two that were accepted; all else may differ
+-- two connections from which the same bytes were read are written the same, where neither was disturbed and the same was owed to both, as to two that were accepted under one setup; all else may differ
 abbrev pub IsolatesConnections : Type 0
 IsolatesConnections =
     (duty : Duty) (before after other_before other_after : Scene) (link other : Link)
@@ -25,14 +26,15 @@ IsolatesConnections =
     → a.served.read ≡ b.served.read → a.served.written ≡ b.served.written
 
 -- `stdio` is given these bytes as its whole input, or reads them
-abbrev pub IsGiven : (input left old new : Option (List ℕ)) → stdio.IsAnswered input left old new
-    → List ℕ → Type 0
-IsGiven input left old new s bytes = (input ≡ Some bytes) ⊎ (s.read ≡ bytes)
+abbrev pub IsGiven : (setup : Setup) (input left old new : Option (List ℕ))
+    → stdio.IsAnswered setup input left old new → List ℕ → Type 0
+IsGiven setup input left old new s bytes = (input ≡ Some bytes) ⊎ (s.read ≡ bytes)
 
--- a connection that was accepted and was undisturbed is written what `stdio` writes for the same bytes
+-- a connection that was accepted and was undisturbed is written what `stdio` writes for the same bytes under the setup of the host
 abbrev pub AnswersAsAlone : Type 0
 AnswersAsAlone =
-    (before after : Scene) (link : Link) (a : IsAnswered new_duty before after link)
-    → IsUndisturbed new_duty before after link a
-    → (input left old new : Option (List ℕ)) (s : stdio.IsAnswered input left old new)
-    → IsGiven input left old new s a.served.read → Appends old new a.served.written
+    (before after : Scene) (link : Link) (a : IsAnswered (new_duty before.host.setup) before after link)
+    → IsUndisturbed (new_duty before.host.setup) before after link a
+    → (input left old new : Option (List ℕ))
+    (s : stdio.IsAnswered before.host.setup input left old new)
+    → IsGiven before.host.setup input left old new s a.served.read → Appends old new a.served.written

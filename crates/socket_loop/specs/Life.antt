@@ -4,7 +4,8 @@ use Rattle.std.specs.Io.KnownBytes.{Keeps, Appends}
 use Rattle.session_slots.specs.declared.id.SessionId.{SessionId}
 use Rattle.session_slots.specs.Slots.{find}
 use Rattle.usi_session.specs.Due.{SessionView, due}
-use Rattle.usi_session.specs.WholeStream.{replies, is_over_after}
+use Rattle.usi_texts.specs.declared.setup.Setup.{Setup}
+use Rattle.usi_session.specs.WholeStream.{replies_under, is_over_after_under}
 use Rattle.host_core.specs.declared.event.HostFault.{HostFault}
 use Rattle.host_core.specs.ById.{queued_of, pending_of}
 use Rattle.host_core.specs.Headline.{IsPrefixOf, IsSettled, OverFrom, is_over_due}
@@ -20,9 +21,9 @@ pub record Duty : Type 0 where
   pub owes : List ℕ → List ℕ
   pub ends : List ℕ → Bool
 
--- of a new session: the replies
-abbrev pub new_duty : Duty
-new_duty = record { owes = replies; ends = is_over_after }
+-- of a new session: the replies under the setup under which it began
+abbrev pub new_duty : Setup → Duty
+new_duty setup = record { owes = replies_under setup; ends = is_over_after_under setup }
 
 -- of a session that continues: what it owes; nothing, where none is open
 abbrev pub duty_of : Option SessionView → Duty
@@ -77,12 +78,12 @@ pub record IsAnswered (duty : Duty) (before after : Scene) (link : Link) : Type 
   pub kept : IsHeldOrGone before after link
   pub fits : FitsOne (links_of after.held) after.bound after.host link
 
--- it was held before, and is answered what its session owed; or it was accepted since, and is answered from the replies
+-- it was held before, and is answered what its session owed; or it was accepted since, and is answered from the replies under the setup of the host
 abbrev pub IsServed : Scene → Scene → Link → Type 0
 IsServed before after link =
     (IsAmong (links_of before.held) link
     × IsAnswered (duty_of (find before.host.slots link.id)) before after link)
-    ⊎ ((before.bound ≤ link.number) × IsAnswered new_duty before after link)
+    ⊎ ((before.bound ≤ link.number) × IsAnswered (new_duty before.host.setup) before after link)
 
 -- it was not held and is not, and all that is reported of it stays
 pub record IsUntouched (before after : Scene) (number : ℕ) : Type 0 where
@@ -111,8 +112,9 @@ IsAccountedFor before after number =
 abbrev pub Life : Scene → Scene → ℕ → Type 0
 Life before after number = IsUntouched before after number ⊎ IsAccountedFor before after number
 
--- what became of each connection; those that are held now were served
+-- what became of each connection; those that are held now were served, and the host has the setup that it had
 pub record Lives (before after : Scene) : Type 0 where
+  pub setup : after.host.setup ≡ before.host.setup
   pub rises : before.bound ≤ after.bound
   pub all : AllMove before.report after.report
   pub marked : (number : ℕ) → IsMarked reads_ended after.held number

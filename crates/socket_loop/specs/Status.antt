@@ -45,6 +45,7 @@ abbrev pub status_from : {L A S : Type 0} → Limits → Totals → HostState �
     → StreamWire L A S → Status
 status_from limits totals host connections wire = record {
   limits = limits;
+  setup = host.setup;
   totals = totals;
   used = length connections.held;
   searching = pending_count host (links_of connections.held);

@@ -1,5 +1,8 @@
 -- The line of a status: one object of JSON, whose names are in this order (own choice).
 use Rattle.std.specs.Prelude.{ℕ, ◌-◌, ◌++◌, List, codes, decimal}
+use Rattle.shogi_eval.specs.declared.eval.Eval.{Eval}
+use Rattle.shogi_eval.specs.declared.eval.Eval.TheVariants.{Plain, Hand, Exchange}
+use Rattle.usi_texts.specs.declared.setup.Setup.{Setup}
 use Rattle.socket_loop.specs.declared.status.Limits.{Limits}
 use Rattle.socket_loop.specs.declared.status.Totals.{Totals}
 use Rattle.socket_loop.specs.declared.status.Status.{Status}
@@ -11,6 +14,21 @@ with_limits limits before =
     ++ codes ",\"slots\":" ++ decimal limits.slots
     ++ codes ",\"entries\":" ++ decimal limits.entries
     ++ codes ",\"slice\":" ++ decimal limits.slice
+
+-- an evaluation by the word that `--eval` has for it
+abbrev pub eval_word : Eval → List ℕ
+eval_word Plain = codes "plain"
+eval_word Hand = codes "hand"
+eval_word Exchange = codes "exchange"
+
+-- under what its sessions begin
+abbrev pub with_setup : Setup → List ℕ → List ℕ
+with_setup setup before =
+    before
+    ++ codes ",\"depth\":" ++ decimal setup.depth
+    ++ codes ",\"max_depth\":" ++ decimal setup.max_depth
+    ++ codes ",\"lines\":" ++ decimal setup.multi_pv
+    ++ codes ",\"eval\":\"" ++ eval_word setup.eval ++ codes "\""
 
 -- what it has now; those that wait are those that do not search
 abbrev pub with_loads : Status → List ℕ → List ℕ
@@ -51,5 +69,5 @@ with_others status before =
 abbrev pub status_line : Status → List ℕ
 status_line status =
     with_others status (with_ends status.totals (with_arrivals status.totals (with_loads status
-    (with_limits status.limits (codes "{\"version\":\"0.1.0\"")))))
+    (with_setup status.setup (with_limits status.limits (codes "{\"version\":\"0.1.0\""))))))
     ++ codes "}\n"

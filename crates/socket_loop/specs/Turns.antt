@@ -4,7 +4,7 @@ use Rattle.std.specs.Io.KnownBytes.{Keeps, Appends, Consumes}
 use Rattle.session_slots.specs.declared.id.SessionId.{SessionId}
 use Rattle.session_slots.specs.Slots.{find}
 use Rattle.usi_session.specs.Due.{SessionView, due}
-use Rattle.usi_session.specs.WholeStream.{replies}
+use Rattle.usi_session.specs.WholeStream.{replies_under}
 use Rattle.host_core.specs.declared.event.HostFault.{HostFault}
 use Rattle.host_core.specs.declared.event.HostFault.TheVariants.{Full}
 use Rattle.host_core.specs.Steps.{HostState}
@@ -194,13 +194,14 @@ ContinuesServing before after =
     → find before.host.slots link.id ≡ Some s
     → Served (due s) before.report after.report link.number (find after.host.slots link.id)
 
--- each of these connections that is not one of those before
+-- each of these connections that is not one of those before: its session began under the setup of the host
 abbrev pub ServesNew : Scene → List Link → Scene → Type 0
 ServesNew before met after =
     (link : Link)
     → IsAmong met link
     → IsAmong (links_of before.held) link
-    ⊎ Served replies before.report after.report link.number (find after.host.slots link.id)
+    ⊎ Served (replies_under before.host.setup) before.report after.report link.number
+    (find after.host.slots link.id)
 
 -- a connection was accepted in the turn, with a session of this generation or a later one, and below that one, which the admissions opened and left open
 pub record Joins (from to : ℕ) (accepted : List Accepted) (next last : ℕ) (admissions : List Step)

@@ -9,6 +9,7 @@ use host_core::Host;
 use std::alloc::Allocator;
 use std::hash::BuildHasher;
 use stream_wire::MioWire;
+use usi_texts::Setup;
 use wires::Wire;
 
 /// What a host was started with.
@@ -44,9 +45,11 @@ pub struct Totals {
 }
 
 /// The numbers of a host at one moment.
-#[derive(Clone, Copy, Debug, PartialEq, Eq)]
+#[derive(Clone, Copy, Debug)]
 pub struct Status {
     pub limits: Limits,
+    /// Under what each session begins.
+    pub setup: Setup,
     pub totals: Totals,
     /// The connections that are held, each with a session.
     pub used: u64,
@@ -108,6 +111,7 @@ pub fn status_of<S: BuildHasher, A: Allocator + Copy>(
 {
     Status {
         limits,
+        setup: host.setup(),
         totals,
         used: connections.count() as u64,
         searching: connections.count_pending(host) as u64,

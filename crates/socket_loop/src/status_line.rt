@@ -1,11 +1,13 @@
 //! The numbers of a status as one line of JSON.
 
-ghost use Rattle.std.specs.Prelude.{◌≡◌, ◌++◌, decimal, OnOk};
-ghost use Rattle.socket_loop.specs.StatusLine.{status_line, with_arrivals, with_ends, with_limits, with_loads, with_others};
+ghost use Rattle.std.specs.Prelude.{◌≡◌, ◌++◌, codes, decimal, OnOk};
+ghost use Rattle.socket_loop.specs.StatusLine.{eval_word, status_line, with_arrivals, with_ends, with_limits, with_loads, with_others, with_setup};
 
 use crate::status::{Limits, Status, Totals};
 use itoa::Buffer;
+use shogi_eval::Eval;
 use std::alloc::{AllocError, Allocator};
+use usi_texts::Setup;
 
 /// More than the longest line has.
 pub const LINE_MAX: usize = 1024;
@@ -34,6 +36,19 @@ fn put_two<A: Allocator>(
     put(out, second, m)
 }
 
+/// Appends a text, a word and the quotation mark that ends it.
+fn put_text<A: Allocator>(
+    out: &mut Vec<u8, A>,
+    text: &[u8],
+    word: &[u8],
+) -> Result<(), AllocError>
+    ensures { OnOk result (out.new.items ≡ out.old.items ++ text.now ++ word.now ++ codes "\"") }
+{
+    out.extend_from_slice(text)?;
+    out.extend_from_slice(word)?;
+    out.extend_from_slice(b"\"")
+}
+
 fn put_limits<A: Allocator>(out: &mut Vec<u8, A>, limits: &Limits) -> Result<(), AllocError>
     ensures { OnOk result (out.new.items ≡ with_limits limits.now out.old.items) }
 {
@@ -45,6 +60,31 @@ fn put_limits<A: Allocator>(out: &mut Vec<u8, A>, limits: &Limits) -> Result<(),
         limits.entries,
     )?;
     put(out, b",\"slice\":", limits.slice)
+}
+
+/// An evaluation by the word that `--eval` has for it.
+fn word_of(eval: Eval) -> &'static [u8]
+    ensures { result.now ≡ eval_word eval }
+{
+    match eval {
+        Eval::Plain => b"plain",
+        Eval::Hand => b"hand",
+        Eval::Exchange => b"exchange",
+    }
+}
+
+fn put_setup<A: Allocator>(out: &mut Vec<u8, A>, setup: &Setup) -> Result<(), AllocError>
+    ensures { OnOk result (out.new.items ≡ with_setup setup.now out.old.items) }
+{
+    put_two(
+        out,
+        b",\"depth\":",
+        setup.depth as u64,
+        b",\"max_depth\":",
+        setup.max_depth as u64,
+    )?;
+    put(out, b",\"lines\":", setup.multi_pv as u64)?;
+    put_text(out, b",\"eval\":\"", word_of(setup.eval))
 }
 
 fn put_loads<A: Allocator>(out: &mut Vec<u8, A>, status: &Status) -> Result<(), AllocError>
@@ -126,6 +166,7 @@ pub fn write_line<A: Allocator>(out: &mut Vec<u8, A>, status: &Status) -> Result
     out.clear();
     out.extend_from_slice(b"{\"version\":\"0.1.0\"")?;
     put_limits(out, &status.limits)?;
+    put_setup(out, &status.setup)?;
     put_loads(out, status)?;
     put_arrivals(out, &status.totals)?;
     put_ends(out, &status.totals)?;

@@ -2,9 +2,12 @@
 use Rattle.std.specs.Prelude.{◌≡◌, ◌≢◌, ◌≤◌, ◌<◌, ◌+◌, ℕ, List, ◌++◌, length, take, drop, min, true, false, Option, None, Some, Result, OnOk}
 use Rattle.shared_table.specs.Recent.{new_table}
 use Rattle.shared_table.specs.declared.table.TheConstants.{CAPACITY_MAX}
-use Rattle.usi_session.specs.Due.{SessionView, due, state_due, load, new_session, wants_input, is_pending, IsSameAfter, HasSpent}
+use Rattle.usi_texts.specs.Setup.{default_setup}
+use Rattle.usi_texts.specs.declared.setup.Setup.{Setup}
+use Rattle.usi_session.specs.Due.{SessionView, due, state_due, load, new_session_under, wants_input, is_pending, IsSameAfter, HasSpent}
 use Rattle.usi_session.specs.WholeLines.{GrowsByLines}
 use Rattle.usi_session.specs.declared.limits.TheConstants.{CHUNK_MAX}
+use Rattle.usi_library.specs.Setups.{IsNumbered}
 use Rattle.usi_library.specs.declared.calls.UsiAnswer.{UsiAnswer}
 use Rattle.usi_library.specs.declared.calls.UsiLook.{UsiLook}
 use Rattle.usi_library.specs.declared.handle.UsiSession.{UsiSession}
@@ -86,15 +89,26 @@ pub record IsMoved (before after : List ℕ) (count : ℕ) (old new : SessionVie
   pub bytes : after ≡ take count old.queued ++ drop count before
   pub taken : IsTaken count old new
 
--- it was closed, and has a new session over an empty table for so many entries
-abbrev pub IsOpened : ℕ → Option Opened → Option Opened → Type 0
-IsOpened entries old None = ⊥
-IsOpened entries old (Some new) =
-    (old ≡ None) × (new.session ≡ new_session) × (new.table ≡ new_table entries)
+-- it was closed, and has a new session under a setup over an empty table for so many entries
+abbrev pub IsOpened : Setup → ℕ → Option Opened → Option Opened → Type 0
+IsOpened setup entries old None = ⊥
+IsOpened setup entries old (Some new) =
+    (old ≡ None) × (new.session ≡ new_session_under setup) × (new.table ≡ new_table entries)
 
 -- the same of what is open in a session of C
+abbrev pub OpensUnder : Setup → ℕ → UsiSession → UsiSession → Type 0
+OpensUnder setup entries old new = IsOpened setup entries (open_in old) (open_in new)
+
+-- under the default setup
 abbrev pub Opens : ℕ → UsiSession → UsiSession → Type 0
-Opens entries old new = IsOpened entries (open_in old) (open_in new)
+Opens entries old new = OpensUnder default_setup entries old new
+
+-- under the setup of these numbers
+abbrev pub OpensNumbered : (entries depth max_depth lines eval : ℕ) → UsiSession → UsiSession
+    → Type 0
+OpensNumbered entries depth max_depth lines eval old new =
+    (setup : Setup)
+    × (IsNumbered depth max_depth lines eval setup × OpensUnder setup entries old new)
 
 -- what there is of an open session
 abbrev pub IsSeen : SessionView → UsiLook → Type 0

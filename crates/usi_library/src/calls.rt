@@ -1,16 +1,19 @@
 //! What C calls.
 
-ghost use Rattle.std.specs.Prelude.{◌≡◌, ◌≢◌, ◌≤◌, ◌<◌, [], None};
+ghost use Rattle.std.specs.Prelude.{◌≡◌, ◌≢◌, ◌≤◌, ◌<◌, ℕ, [], None, Some};
 ghost use Rattle.shared_table.specs.declared.table.TheConstants.{CAPACITY_MAX};
 ghost use Rattle.usi_session.specs.Due.{due, state_due, IsSameAfter};
-ghost use Rattle.usi_library.specs.Calls.{closed_answer, open_in, AnswersFeed, FailsForMemory, IsCapacity, IsEnough, IsFedOnOk, IsMoved, IsNothing, IsSeen, LowersLoad, Opens, QueuesLines, SpendsAll, WhereOpen};
+ghost use Rattle.usi_library.specs.Calls.{closed_answer, open_in, AnswersFeed, FailsForMemory, IsCapacity, IsEnough, IsFedOnOk, IsMoved, IsNothing, IsSeen, LowersLoad, Opens, OpensNumbered, OpensUnder, QueuesLines, SpendsAll, WhereOpen};
+ghost use Rattle.usi_library.specs.Setups.{setup_refusal};
 ghost use Rattle.usi_library.specs.declared.status.TheConstants.{USI_OK, USI_CLOSED, USI_IS_OPEN, USI_OUT_OF_RANGE};
 
 use crate::handle::UsiSession;
 use crate::opened::Opened;
+use crate::setup::setup_of;
 use crate::status::{USI_CLOSED, USI_IS_OPEN, USI_OK, USI_OUT_OF_MEMORY, USI_OUT_OF_RANGE};
 use shared_table::CAPACITY_MAX;
 use std::alloc::Global;
+use usi_texts::Setup;
 
 /// What `usi_work` and `usi_take` answer.
 #[repr(C)]
@@ -38,6 +41,31 @@ pub struct UsiLook {
     pub is_over: bool,
 }
 
+/// Opens a closed session under a setup.
+fn open(session: &mut UsiSession, alloc: Global, setup: Setup, entries: usize) -> u32
+    requires least { 1 ≤ entries }
+    requires most { entries ≤ CAPACITY_MAX }
+    ensures opened { result ≡ USI_OK → OpensUnder setup entries session.old session.new }
+    ensures refused { result ≢ USI_OK → open_in session.new ≡ open_in session.old }
+    ensures was_open { open_in session.old ≢ None → result ≡ USI_IS_OPEN }
+    ensures was_closed { open_in session.old ≡ None → FailsForMemory result }
+{
+    if let Some(open) = session.take_out() {
+        session.put_in(open);
+        return USI_IS_OPEN;
+    }
+    let Ok(opened) = Opened::new(alloc, setup, entries) else {
+        return USI_OUT_OF_MEMORY;
+    };
+    match Box::new(alloc, opened) {
+        Ok(boxed) => {
+            session.put_in(boxed);
+            USI_OK
+        }
+        Err(_) => USI_OUT_OF_MEMORY,
+    }
+}
+
 /// Opens a closed session: the opening position, each option at its default, and an empty table for
 /// so many entries, from 1 to 1,000,000. `USI_OUT_OF_RANGE` is answered before `USI_IS_OPEN`, and
 /// `USI_OUT_OF_MEMORY` where allocation failed; each of them leaves the session as it was.
@@ -54,19 +82,44 @@ pub extern "C" fn usi_open(session: &mut UsiSession, alloc: Global, entries: usi
     if entries < 1 || entries > CAPACITY_MAX {
         return USI_OUT_OF_RANGE;
     }
-    if let Some(open) = session.take_out() {
-        session.put_in(open);
-        return USI_IS_OPEN;
+    open(session, alloc, Setup::new(), entries)
+}
+
+/// Opens a closed session as `usi_open` does, under a setup: `depth` is where its option Depth begins,
+/// from 1 to 16, `max_depth` the greatest depth of a search, from 1 to 16, `lines` where its option
+/// MultiPV begins, from 1 to 8, and `eval` where its option Eval begins, a number as `USI_EVAL_PLAIN`.
+/// `USI_OUT_OF_RANGE` for the entries is answered first; then `USI_UNKNOWN_EVAL`,
+/// `USI_DEPTH_OUT_OF_RANGE`, `USI_MAX_DEPTH_OUT_OF_RANGE`, `USI_LINES_OUT_OF_RANGE` and
+/// `USI_DEPTH_ABOVE_MAX`, in this order; then `USI_IS_OPEN`, and `USI_OUT_OF_MEMORY` where allocation
+/// failed. Each of them leaves the session as it was.
+#[unsafe(no_mangle)]
+pub extern "C" fn usi_open_with_setup(
+    session: &mut UsiSession,
+    alloc: Global,
+    entries: usize,
+    depth: u32,
+    max_depth: u32,
+    lines: u32,
+    eval: u32,
+) -> u32
+    ensures opened { result ≡ USI_OK
+        → OpensNumbered entries depth max_depth lines eval session.old session.new }
+    ensures refused { result ≢ USI_OK → open_in session.new ≡ open_in session.old }
+    ensures least { entries < 1 → result ≡ USI_OUT_OF_RANGE }
+    ensures most { CAPACITY_MAX < entries → result ≡ USI_OUT_OF_RANGE }
+    ensures setup { IsCapacity entries
+        → (status : ℕ) → setup_refusal depth max_depth lines eval ≡ Some status → result ≡ status }
+    ensures was_open { IsCapacity entries → setup_refusal depth max_depth lines eval ≡ None
+        → open_in session.old ≢ None → result ≡ USI_IS_OPEN }
+    ensures was_closed { IsCapacity entries → setup_refusal depth max_depth lines eval ≡ None
+        → open_in session.old ≡ None → FailsForMemory result }
+{
+    if entries < 1 || entries > CAPACITY_MAX {
+        return USI_OUT_OF_RANGE;
     }
-    let Ok(opened) = Opened::new(alloc, entries) else {
-        return USI_OUT_OF_MEMORY;
-    };
-    match Box::new(alloc, opened) {
-        Ok(boxed) => {
-            session.put_in(boxed);
-            USI_OK
-        }
-        Err(_) => USI_OUT_OF_MEMORY,
+    match setup_of(depth, max_depth, lines, eval) {
+        Ok(setup) => open(session, alloc, setup, entries),
+        Err(status) => status,
     }
 }
 

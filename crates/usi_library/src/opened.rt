@@ -3,7 +3,7 @@
 ghost use Rattle.std.specs.Prelude.{◌≡◌, ◌≢◌, ◌≤◌, ◌+◌, ℕ, List, IfOk, OnErr};
 ghost use Rattle.shared_table.specs.Recent.{new_table};
 ghost use Rattle.shared_table.specs.declared.table.TheConstants.{CAPACITY_MAX};
-ghost use Rattle.usi_session.specs.Due.{due, state_due, load, new_session, HasSpent};
+ghost use Rattle.usi_session.specs.Due.{due, state_due, load, new_session_under, HasSpent};
 ghost use Rattle.usi_session.specs.WholeLines.{GrowsByLines};
 ghost use Rattle.usi_library.specs.Calls.{AnswersFeed, IsFed, IsMoved, Settles};
 ghost use Rattle.usi_library.specs.declared.status.TheConstants.{USI_OK};
@@ -13,6 +13,7 @@ use shared_table::{SharedTable, TableFault};
 use std::alloc::Global;
 use std::hash::{BuildHasherDefault, FoldHasher};
 use usi_session::{CHUNK_MAX, Session, SessionFault};
+use usi_texts::Setup;
 
 /// A session and the table that its searches ask and tell.
 #[derive(Drop)]
@@ -22,17 +23,17 @@ pub struct Opened {
 }
 
 impl Opened {
-    /// A new session over an empty table for so many entries.
-    pub(crate) fn new(alloc: Global, entries: usize) -> Result<Opened, TableFault>
+    /// A new session under a setup, over an empty table for so many entries.
+    pub(crate) fn new(alloc: Global, setup: Setup, entries: usize) -> Result<Opened, TableFault>
         requires least { 1 ≤ entries }
         requires most { entries ≤ CAPACITY_MAX }
-        ensures session { IfOk result (λ opened. opened.session ≡ new_session) }
+        ensures session { IfOk result (λ opened. opened.session ≡ new_session_under setup) }
         ensures table { IfOk result (λ opened. opened.table ≡ new_table entries) }
     {
         let hasher = BuildHasherDefault::<FoldHasher>::new();
         let table = SharedTable::new(alloc, entries, hasher)?;
         Ok(Opened {
-            session: Session::new(alloc),
+            session: Session::with_setup(alloc, setup),
             table,
         })
     }

@@ -3,7 +3,7 @@ use Rattle.std.specs.Prelude.{ℕ, ◌≤◌, ◌&&◌, List, [], ◌∷◌, Opt
 use Rattle.std.specs.Option.{option_map, option_map_or}
 use Rattle.std.specs.Str.{bytes_eq}
 use Rattle.shogi_eval.specs.declared.eval.Eval.{Eval}
-use Rattle.shogi_eval.specs.declared.eval.Eval.TheVariants.{Plain, Hand}
+use Rattle.shogi_eval.specs.declared.eval.Eval.TheVariants.{Plain, Hand, Exchange}
 use Rattle.shogi_sfen.specs.Numbers.{capped_number}
 use Rattle.usi_lines.specs.declared.options.TheConstants.{DEPTH_MIN, DEPTH_MAX, MULTI_PV_MIN, MULTI_PV_MAX}
 use Rattle.usi_lines.specs.Commands.{Command, SetDepth, SetEval, SetLines, Go, Other}
@@ -34,7 +34,8 @@ multi_pv_read word = clamped_read MULTI_PV_MIN MULTI_PV_MAX word
 abbrev pub eval_read : List ℕ → Option Eval
 eval_read word =
     cond (bytes_eq word (codes "Plain")) (Some Plain)
-    (cond (bytes_eq word (codes "Hand")) (Some Hand) None)
+    (cond (bytes_eq word (codes "Hand")) (Some Hand)
+    (cond (bytes_eq word (codes "Exchange")) (Some Exchange) None))
 
 -- the option of a name is set to a value: a row for each option
 abbrev pub command_for : List ℕ → List ℕ → Command

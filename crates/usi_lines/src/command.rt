@@ -22,7 +22,7 @@ pub enum Command<'a> {
     IsReady,
     /// `setoption name Depth value N`, with N clamped to its range
     SetDepth(u8),
-    /// `setoption name Eval value V`, with V `Plain` or `Hand`
+    /// `setoption name Eval value V`, with V `Plain`, `Hand` or `Exchange`
     SetEval(Eval),
     /// `setoption name MultiPV value N`, with N clamped to its range
     SetLines(u8),

@@ -52,6 +52,8 @@ fn read_eval(word: &[u8]) -> Option<Eval>
         Some(Eval::Plain)
     } else if is(word, b"Hand") {
         Some(Eval::Hand)
+    } else if is(word, b"Exchange") {
+        Some(Eval::Exchange)
     } else {
         None
     }

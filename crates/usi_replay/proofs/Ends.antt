@@ -2,11 +2,12 @@
 use Rattle.std.proofs.Common.{◌≡◌, ◌≢◌, ℕ, zero, suc, ◌+◌, ◌<◌, ◌≤◌, List, [], ◌∷◌, ◌++◌, Bool, true, false, cond, Option, Some, None, Ok, Err, length, get_or, drop, refl, sym, ap, ◌∙◌, arith, append_assoc, append-nil}
 use Rattle.std.specs.Prelude.{codes, is_some}
 use Rattle.std.proofs.lemmas.List.{drop_all}
+use Rattle.usi_texts.specs.declared.setup.Setup.{Setup}
 use Rattle.session_slots.specs.declared.id.SessionId.{SessionId}
 use Rattle.usi_lines.specs.Lines.{Line, lines}
-use Rattle.usi_session.specs.WholeStream.{replies}
+use Rattle.usi_session.specs.WholeStream.{replies_under}
 use Rattle.host_core.specs.Steps.{HostState}
-use Rattle.host_core.specs.Steps.{new_host}
+use Rattle.host_core.specs.Steps.{new_host_under}
 use Rattle.usi_replay.specs.Script.{Opening, section, output, or_else, openings_after_line, read_from, read_script, meaning}
 use Rattle.usi_replay.specs.Playback.{Transcript, play, no_transcript, no_opening, open_id, transcript_section, HasAllReplies, HasMade, IsTranscriptOf, AreTranscripts, IsPlayback, KeepsPlayback, IsReadTo, LeadsTo, Plays}
 use Rattle.usi_replay.specs.Replayed.{IsOutputOf}
@@ -14,46 +15,46 @@ use Rattle.usi_replay.proofs.Transcripts.{transcripts_get, transcripts_len}
 use Rattle.usi_lines.specs.declared.line.TheConstants.{LINE_FEED}
 
 -- what is written for what is kept is what is to be written for its `+` line
-answer_is : (h : HostState) (id : Option SessionId) (used refused : Bool) (text made : List ℕ) → HasMade h id used refused text made → (cond used id None ≢ None → made ≡ replies text) → cond (is_some id) made (codes "refused 1\n") ≡ cond refused (codes "refused 1\n") (replies text)
-answer_is h None used refused text made m all = rw m refl
-answer_is h (Some id) true refused text made m all = rw m.0 (all (λ e. cc))
-answer_is h (Some id) false refused text made m all = rw m.0 m.1
+answer_is : (setup : Setup) (h : HostState) (id : Option SessionId) (used refused : Bool) (text made : List ℕ) → HasMade setup h id used refused text made → (cond used id None ≢ None → made ≡ replies_under setup text) → cond (is_some id) made (codes "refused 1\n") ≡ cond refused (codes "refused 1\n") (replies_under setup text)
+answer_is setup h None used refused text made m all = rw m refl
+answer_is setup h (Some id) true refused text made m all = rw m.0 (all (λ e. cc))
+answer_is setup h (Some id) false refused text made m all = rw m.0 m.1
 
-pub section_is : (h : HostState) (o : Opening) (e : Transcript) → IsTranscriptOf h o e → (open_id e ≢ None → HasAllReplies o e) → transcript_section e ≡ section o
-section_is h o e i all = ap (λ n. codes "== " ++ (n ∷ LINE_FEED ∷ cond (is_some e.id) e.made (codes "refused 1\n"))) i.name_is ∙ ap (λ xs. codes "== " ++ (o.name ∷ LINE_FEED ∷ xs)) (answer_is h e.id e.in_use o.refused o.text e.made i.made_is all)
+pub section_is : {setup : Setup} (h : HostState) (o : Opening) (e : Transcript) → IsTranscriptOf setup h o e → (open_id e ≢ None → HasAllReplies setup o e) → transcript_section e ≡ section setup o
+section_is {setup} h o e i all = ap (λ n. codes "== " ++ (n ∷ LINE_FEED ∷ cond (is_some e.id) e.made (codes "refused 1\n"))) i.name_is ∙ ap (λ xs. codes "== " ++ (o.name ∷ LINE_FEED ∷ xs)) (answer_is setup h e.id e.in_use o.refused o.text e.made i.made_is all)
 
-output_from : (os : List Opening) (i : ℕ) → i < length os → output (drop i os) ≡ section (get_or os i no_opening) ++ output (drop (i + 1) os)
-output_from [] i lt = absurd (omega arith)
-output_from (o ∷ os) zero lt = refl
-output_from (o ∷ os) (suc i) lt = (let e : suc i + 1 ≡ suc (i + 1) = omega arith in rw e (output_from os i (omega arith)))
+output_from : (setup : Setup) (os : List Opening) (i : ℕ) → i < length os → output setup (drop i os) ≡ section setup (get_or os i no_opening) ++ output setup (drop (i + 1) os)
+output_from setup [] i lt = absurd (omega arith)
+output_from setup (o ∷ os) zero lt = refl
+output_from setup (o ∷ os) (suc i) lt = (let e : suc i + 1 ≡ suc (i + 1) = omega arith in rw e (output_from setup os i (omega arith)))
 
 -- the output so far, and what is left of it
 abbrev pub WritesTo : HostState → List Transcript → HostState → List Transcript → ℕ → List ℕ → Type 0
-WritesTo old es now fs i out = (slots : ℕ) (os : List Opening) → IsPlayback slots old os es → IsPlayback slots now os fs × (out ++ output (drop i os) ≡ output os)
+WritesTo old es now fs i out = (setup : Setup) (slots : ℕ) (os : List Opening) → IsPlayback setup slots old os es → IsPlayback setup slots now os fs × (out ++ output setup (drop i os) ≡ output setup os)
 
 pub writes_start : (h : HostState) (es : List Transcript) → WritesTo h es h es 0 []
-writes_start h es slots os p = (p, refl)
+writes_start h es setup slots os p = (p, refl)
 
-pub writes_next : (old mid new : HostState) (es fs gs : List Transcript) (i : ℕ) (out more : List ℕ) (x : Transcript) → WritesTo old es mid fs i out → KeepsPlayback (play mid fs) (play new gs) → ((slots : ℕ) (os : List Opening) → IsPlayback slots mid os fs → open_id (get_or gs i no_transcript) ≢ None → HasAllReplies (get_or os i no_opening) (get_or gs i no_transcript)) → i < length gs → get_or gs i no_transcript ≡ x → more ≡ out ++ transcript_section x → WritesTo old es new gs (i + 1) more
-writes_next old mid new es fs gs i out more x w played all lt item e slots os p =
-    let q = w slots os p in
-    let r : IsPlayback slots new os gs = played slots os q.0 in
-    let n : length os ≡ length gs = transcripts_len new 0 os gs r.transcripts in
-    let s : transcript_section (get_or gs i no_transcript) ≡ section (get_or os i no_opening) = section_is new (get_or os i no_opening) (get_or gs i no_transcript) (transcripts_get new 0 os gs i r.transcripts lt) (all slots os q.0) in
-    (r, ap (λ xs. xs ++ output (drop (i + 1) os)) (e ∙ ap (λ xs. out ++ xs) (ap transcript_section (sym item) ∙ s)) ∙ (append_assoc out (section (get_or os i no_opening)) (output (drop (i + 1) os)) ∙ (ap (λ xs. out ++ xs) (sym (output_from os i (omega arith))) ∙ q.1)))
+pub writes_next : (old mid new : HostState) (es fs gs : List Transcript) (i : ℕ) (out more : List ℕ) (x : Transcript) → WritesTo old es mid fs i out → KeepsPlayback (play mid fs) (play new gs) → ((setup : Setup) (slots : ℕ) (os : List Opening) → IsPlayback setup slots mid os fs → open_id (get_or gs i no_transcript) ≢ None → HasAllReplies setup (get_or os i no_opening) (get_or gs i no_transcript)) → i < length gs → get_or gs i no_transcript ≡ x → more ≡ out ++ transcript_section x → WritesTo old es new gs (i + 1) more
+writes_next old mid new es fs gs i out more x w played all lt item e setup slots os p =
+    let q = w setup slots os p in
+    let r : IsPlayback setup slots new os gs = played setup slots os q.0 in
+    let n : length os ≡ length gs = transcripts_len setup new 0 os gs r.transcripts in
+    let s : transcript_section (get_or gs i no_transcript) ≡ section setup (get_or os i no_opening) = section_is new (get_or os i no_opening) (get_or gs i no_transcript) (transcripts_get setup new 0 os gs i r.transcripts lt) (all setup slots os q.0) in
+    (r, ap (λ xs. xs ++ output setup (drop (i + 1) os)) (e ∙ ap (λ xs. out ++ xs) (ap transcript_section (sym item) ∙ s)) ∙ (append_assoc out (section setup (get_or os i no_opening)) (output setup (drop (i + 1) os)) ∙ (ap (λ xs. out ++ xs) (sym (output_from setup os i (omega arith))) ∙ q.1)))
 
-pub writes_end : (old now : HostState) (es fs : List Transcript) (i : ℕ) (out : List ℕ) → WritesTo old es now fs i out → length fs ≤ i → (slots : ℕ) (os : List Opening) → IsPlayback slots old os es → out ≡ output os
-writes_end old now es fs i out w le slots os p =
-    let q = w slots os p in
-    let n : length os ≡ length fs = transcripts_len now 0 os fs q.0.transcripts in
+pub writes_end : (old now : HostState) (es fs : List Transcript) (i : ℕ) (out : List ℕ) → WritesTo old es now fs i out → length fs ≤ i → (setup : Setup) (slots : ℕ) (os : List Opening) → IsPlayback setup slots old os es → out ≡ output setup os
+writes_end old now es fs i out w le setup slots os p =
+    let q = w setup slots os p in
+    let n : length os ≡ length fs = transcripts_len setup now 0 os fs q.0.transcripts in
     sym (append-nil out) ∙ (ap (λ (rest : List Opening). out ++ output rest) (sym (drop_all i os (omega arith))) ∙ q.1)
 
 -- a script before its first line
-pub read_start : (slots entries : ℕ) (bytes : List ℕ) (h : HostState) → h ≡ new_host slots entries → IsReadTo slots h [] bytes 0 bytes
+pub read_start : (setup : Setup) (slots entries : ℕ) (bytes : List ℕ) (h : HostState) → h ≡ new_host_under setup slots entries → IsReadTo setup slots h [] bytes 0 bytes
 unfolding AreTranscripts
-read_start slots entries bytes h e = record {
+read_start setup slots entries bytes h e = record {
   openings = [];
-  play = rw e (record { transcripts = omega arith; count_is = refl; max_is = refl; few = omega arith });
+  play = rw e (record { transcripts = omega arith; count_is = refl; max_is = refl; setup_is = refl; few = omega arith });
   comes = refl;
 }
 
@@ -69,19 +70,19 @@ read_end : (slots number : ℕ) (os : List Opening) → read_from slots number [
 unfolding read_from
 read_end slots number os = refl
 
-pub read_next : (slots : ℕ) (h new : HostState) (es fs : List Transcript) (bytes : List ℕ) (number : ℕ) (rest left : List ℕ) (line : Line) → IsReadTo slots h es bytes number rest → lines rest ≡ line ∷ lines left → Plays {E = Bool} (Ok true) (play h es) (meaning line) (play new fs) → IsReadTo slots new fs bytes (number + 1) left
-read_next slots h new es fs bytes number rest left line r e d =
-    let q : LeadsTo true slots (openings_after_line slots line r.openings) new fs = d slots r.openings r.play in
+pub read_next : {setup : Setup} (slots : ℕ) (h new : HostState) (es fs : List Transcript) (bytes : List ℕ) (number : ℕ) (rest left : List ℕ) (line : Line) → IsReadTo setup slots h es bytes number rest → lines rest ≡ line ∷ lines left → Plays {E = Bool} (Ok true) (play h es) (meaning line) (play new fs) → IsReadTo setup slots new fs bytes (number + 1) left
+read_next {setup} slots h new es fs bytes number rest left line r e d =
+    let q : LeadsTo setup true slots (openings_after_line slots line r.openings) new fs = d setup slots r.openings r.play in
     record {
       openings = q.0;
       play = q.2;
       comes = r.comes ∙ (ap (λ (ls : List Line). read_from slots (number + 1) ls r.openings) e ∙ read_good slots (number + 1) line (lines left) r.openings q.0 q.1);
     }
 
-pub read_fails : (slots : ℕ) (h new : HostState) (es fs : List Transcript) (bytes : List ℕ) (number : ℕ) (rest left : List ℕ) (line : Line) → IsReadTo slots h es bytes number rest → lines rest ≡ line ∷ lines left → Plays {E = Bool} (Ok false) (play h es) (meaning line) (play new fs) → read_script slots bytes ≡ Err (number + 1)
-read_fails slots h new es fs bytes number rest left line r e d =
-    r.comes ∙ (ap (λ (ls : List Line). read_from slots (number + 1) ls r.openings) e ∙ read_bad slots (number + 1) line (lines left) r.openings (d slots r.openings r.play))
+pub read_fails : {setup : Setup} (slots : ℕ) (h new : HostState) (es fs : List Transcript) (bytes : List ℕ) (number : ℕ) (rest left : List ℕ) (line : Line) → IsReadTo setup slots h es bytes number rest → lines rest ≡ line ∷ lines left → Plays {E = Bool} (Ok false) (play h es) (meaning line) (play new fs) → read_script slots bytes ≡ Err (number + 1)
+read_fails {setup} slots h new es fs bytes number rest left line r e d =
+    r.comes ∙ (ap (λ (ls : List Line). read_from slots (number + 1) ls r.openings) e ∙ read_bad slots (number + 1) line (lines left) r.openings (d setup slots r.openings r.play))
 
-pub read_whole : (slots : ℕ) (h : HostState) (es : List Transcript) (bytes : List ℕ) (number : ℕ) (rest out : List ℕ) → IsReadTo slots h es bytes number rest → lines rest ≡ [] → ((slots : ℕ) (os : List Opening) → IsPlayback slots h os es → out ≡ output os) → IsOutputOf slots bytes out
-read_whole slots h es bytes number rest out r e w =
-    (r.openings, r.comes ∙ (ap (λ (ls : List Line). read_from slots (number + 1) ls r.openings) e ∙ read_end slots (number + 1) r.openings), w slots r.openings r.play)
+pub read_whole : {setup : Setup} (slots : ℕ) (h : HostState) (es : List Transcript) (bytes : List ℕ) (number : ℕ) (rest out : List ℕ) → IsReadTo setup slots h es bytes number rest → lines rest ≡ [] → ((setup : Setup) (slots : ℕ) (os : List Opening) → IsPlayback setup slots h os es → out ≡ output setup os) → IsOutputOf setup slots bytes out
+read_whole {setup} slots h es bytes number rest out r e w =
+    (r.openings, r.comes ∙ (ap (λ (ls : List Line). read_from slots (number + 1) ls r.openings) e ∙ read_end slots (number + 1) r.openings), w setup slots r.openings r.play)

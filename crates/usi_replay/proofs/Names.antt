@@ -3,6 +3,7 @@ use Rattle.std.proofs.Common.{◌≡◌, ◌≢◌, ℕ, zero, suc, ◌+◌, ◌
 use Rattle.std.specs.Prelude.{nat_le, ◌&&◌}
 use Rattle.std.specs.List.{position_or_len}
 use Rattle.std.proofs.lemmas.Bool.{and_parts}
+use Rattle.usi_texts.specs.declared.setup.Setup.{Setup}
 use Rattle.session_slots.specs.declared.id.SessionId.{SessionId}
 use Rattle.session_slots.specs.Slots.{find, count, IsFull}
 use Rattle.host_core.specs.Steps.{HostState, Closed, IsClosed}
@@ -14,8 +15,8 @@ use Rattle.usi_replay.specs.Playback.{Transcript, play, no_transcript, no_openin
 use Rattle.usi_replay.proofs.Transcripts.{transcripts_get, transcripts_len, transcripts_set, transcripts_text, transcripts_open, transcripts_refused, held_set, held_freed, held_last, HasOpenId, has_open_id, made_live, id_none, none_made, made_none, item_is}
 
 -- a name's place among what is kept is its place among the `+` lines
-under_same : (h : HostState) (o : Opening) (e : Transcript) (name : ℕ) → IsTranscriptOf h o e → is_under name o ≡ is_transcript_under name e
-under_same h o e name i = rw (i.name_is, i.used_is) refl
+under_same : {setup : Setup} (h : HostState) (o : Opening) (e : Transcript) (name : ℕ) → IsTranscriptOf setup h o e → is_under name o ≡ is_transcript_under name e
+under_same {setup} h o e name i = rw (i.name_is, i.used_is) refl
 
 place_here : (name : ℕ) (e : Transcript) (es : List Transcript) → is_transcript_under name e ≡ true → position_or_len (is_transcript_under name) (e ∷ es) ≡ 0
 place_here name e es p = ap (λ (b : Bool). cond (not b) (1 + position_or_len (is_transcript_under name) es) 0) p
@@ -53,12 +54,12 @@ none_by false name by o os e es f u le more =
       none = ap (λ (b : Bool). change_into b by o os (change name by os)) v ∙ ap (change_into false by o os) r.none;
     }
 
-pub none_under : (h : HostState) (low name : ℕ) (by : Opening → Opening) (os : List Opening) (es : List Transcript) → AreTranscripts h low os es → length es ≤ position_or_len (is_transcript_under name) es → NoneUnder name by os
+pub none_under : (setup : Setup) (h : HostState) (low name : ℕ) (by : Opening → Opening) (os : List Opening) (es : List Transcript) → AreTranscripts setup h low os es → length es ≤ position_or_len (is_transcript_under name) es → NoneUnder name by os
 unfolding AreTranscripts
-none_under h low name by [] [] t le = record { unused = refl; none = refl }
-none_under h low name by [] (e ∷ es) t le = absurd t
-none_under h low name by (o ∷ os) [] t le = absurd t
-none_under h low name by (o ∷ os) (e ∷ es) t le = none_by (is_transcript_under name e) name by o os e es refl (under_same h o e name t.0) le (λ l. none_under h (floor_after low e.id) name by os es t.2 l)
+none_under setup h low name by [] [] t le = record { unused = refl; none = refl }
+none_under setup h low name by [] (e ∷ es) t le = absurd t
+none_under setup h low name by (o ∷ os) [] t le = absurd t
+none_under setup h low name by (o ∷ os) (e ∷ es) t le = none_by (is_transcript_under name e) name by o os e es refl (under_same h o e name t.0) le (λ l. none_under setup h (floor_after low e.id) name by os es t.2 l)
 
 -- one is
 pub record OneUnder (name : ℕ) (by : Opening → Opening) (os : List Opening) (i : ℕ) : Type 0 where
@@ -80,12 +81,12 @@ one_by false name by o os e es (suc i) f u p more =
       changed = ap (λ (b : Bool). change_into b by o os (change name by os)) v ∙ ap (change_into false by o os) r.changed;
     }
 
-pub one_under : (h : HostState) (low name : ℕ) (by : Opening → Opening) (os : List Opening) (es : List Transcript) (i : ℕ) → AreTranscripts h low os es → i ≡ position_or_len (is_transcript_under name) es → i < length es → OneUnder name by os i
+pub one_under : (setup : Setup) (h : HostState) (low name : ℕ) (by : Opening → Opening) (os : List Opening) (es : List Transcript) (i : ℕ) → AreTranscripts setup h low os es → i ≡ position_or_len (is_transcript_under name) es → i < length es → OneUnder name by os i
 unfolding AreTranscripts
-one_under h low name by [] [] i t e lt = absurd (omega arith)
-one_under h low name by [] (k ∷ es) i t e lt = absurd t
-one_under h low name by (o ∷ os) [] i t e lt = absurd t
-one_under h low name by (o ∷ os) (k ∷ es) i t e lt = one_by (is_transcript_under name k) name by o os k es i refl (under_same h o k name t.0) e (λ j f q. one_under h (floor_after low k.id) name by os es j t.2 q (omega arith))
+one_under setup h low name by [] [] i t e lt = absurd (omega arith)
+one_under setup h low name by [] (k ∷ es) i t e lt = absurd t
+one_under setup h low name by (o ∷ os) [] i t e lt = absurd t
+one_under setup h low name by (o ∷ os) (k ∷ es) i t e lt = one_by (is_transcript_under name k) name by o os k es i refl (under_same h o k name t.0) e (λ j f q. one_under setup h (floor_after low k.id) name by os es j t.2 q (omega arith))
 
 -- a name opens
 refused_by : (slots held : ℕ) → slots ≤ held → nat_le slots held ≡ true
@@ -102,25 +103,26 @@ full_count : (h : HostState) (slots held : ℕ) (es : List Transcript) → IsFul
 full_count h slots held es (inl le) m c few room = rw (sym m, sym c) le
 full_count h slots held es (inr e) m c few room = (let f : h.slots.next ≡ 2 ^ 64 - 1 = e in absurd (omega arith))
 
-pub opened_played : (old mid : HostState) (es : List Transcript) (name : ℕ) (id : Option SessionId) → IsOpenedAs old id mid → length es < 2 ^ 64 - 1 → (slots : ℕ) (os : List Opening) → IsPlayback slots old os es → IsPlayback slots mid (os ++ new_opening slots name os ∷ []) (es ++ new_transcript name id ∷ [])
-opened_played old mid es name None o room slots os p =
+pub opened_played : (old mid : HostState) (es : List Transcript) (name : ℕ) (id : Option SessionId) → IsOpenedAs old id mid → length es < 2 ^ 64 - 1 → (setup : Setup) (slots : ℕ) (os : List Opening) → IsPlayback setup slots old os es → IsPlayback setup slots mid (os ++ new_opening slots name os ∷ []) (es ++ new_transcript name id ∷ [])
+opened_played old mid es name None o room setup slots os p =
     let refused : nat_le slots (count_by has_session os) ≡ true = refused_by slots (count_by has_session os) (full_count old slots (count_by has_session os) es o.0 p.max_is p.count_is p.few room) in
-    let of : IsTranscriptOf old (new_opening slots name os) (new_transcript name None) = record { name_is = refl; used_is = refl; made_is = refused } in
+    let of : IsTranscriptOf setup old (new_opening slots name os) (new_transcript name None) = record { name_is = refl; used_is = refl; made_is = refused } in
     let held : ◌≡◌ {A = ℕ} (cond (has_session (new_opening slots name os)) 1 0) 0 = ap (λ (b : Bool). cond (not b) 1 0) refused in
     let last = held_last os (new_opening slots name os) in
     let len = length-append es (new_transcript name None ∷ []) in
     let few : old.slots.next ≤ length es = p.few in
-    let now : IsPlayback slots old (os ++ new_opening slots name os ∷ []) (es ++ new_transcript name None ∷ []) = record {
+    let now : IsPlayback setup slots old (os ++ new_opening slots name os ∷ []) (es ++ new_transcript name None ∷ []) = record {
       transcripts = transcripts_refused old 0 os es (new_opening slots name os) (new_transcript name None) refl of p.transcripts;
       count_is = p.count_is ∙ omega (arith, last, held);
       max_is = p.max_is;
+      setup_is = p.setup_is;
       few = omega (arith, len);
     } in
     rw o.1 now
-opened_played old mid es name (Some at) o room slots os p =
+opened_played old mid es name (Some at) o room setup slots os p =
     let granted : nat_le slots (count_by has_session os) ≡ false = granted_by slots (count_by has_session os) (λ le. o.room (inl (rw (p.max_is, p.count_is) le))) in
-    let owes : Owes (find mid.slots at) [] [] = rw o.opens.now (λ x. refl) in
-    let of : IsTranscriptOf mid (new_opening slots name os) (new_transcript name (Some at)) = record { name_is = refl; used_is = refl; made_is = (granted, owes) } in
+    let owes : Owes setup (find mid.slots at) [] [] = rw (o.opens.now, p.setup_is) (λ x. refl) in
+    let of : IsTranscriptOf setup mid (new_opening slots name os) (new_transcript name (Some at)) = record { name_is = refl; used_is = refl; made_is = (granted, owes) } in
     let held : ◌≡◌ {A = ℕ} (cond (has_session (new_opening slots name os)) 1 0) 1 = ap (λ (b : Bool). cond (not b) 1 0) granted in
     let last = held_last os (new_opening slots name os) in
     let len = length-append es (new_transcript name (Some at) ∷ []) in
@@ -132,17 +134,18 @@ opened_played old mid es name (Some at) o room slots os p =
       transcripts = transcripts_open old mid at 0 os es (new_opening slots name os) (new_transcript name (Some at)) o.opens.others o.opens.generation_is o.opens.next_is refl of p.transcripts;
       count_is = omega (arith, last, held, more, was);
       max_is = o.opens.max_is ∙ p.max_is;
+      setup_is = o.setup_is ∙ p.setup_is;
       few = omega (arith, len);
     }
 
 -- a name is closed_opening
-found_open : (f : Option SessionView) (made text : List ℕ) → Owes f made text → f ≡ None → ⊥
-found_open None made text o e = o
-found_open (Some s) made text o e = (cc)
+found_open : (setup : Setup) (f : Option SessionView) (made text : List ℕ) → Owes setup f made text → f ≡ None → ⊥
+found_open setup None made text o e = o
+found_open setup (Some s) made text o e = (cc)
 
-closed_of : (old new : HostState) (at : SessionId) (found : Option SessionView) (made text : List ℕ) (o : Outcome) → Owes found made text → IsClosed old at found o new → Closed old at o new
-closed_of old new at None made text o w c = absurd w
-closed_of old new at (Some s) made text o w c = c
+closed_of : (setup : Setup) (old new : HostState) (at : SessionId) (found : Option SessionView) (made text : List ℕ) (o : Outcome) → Owes setup found made text → IsClosed old at found o new → Closed old at o new
+closed_of setup old new at None made text o w c = absurd w
+closed_of setup old new at (Some s) made text o w c = c
 
 held_not : (o : Opening) → o.refused ≡ true → has_session o ≡ false
 held_not o e = ap (λ (b : Bool). o.in_use && not b) e ∙ and_false o.in_use where
@@ -150,46 +153,48 @@ held_not o e = ap (λ (b : Bool). o.in_use && not b) e ∙ and_false o.in_use wh
   and_false true = refl
   and_false false = refl
 
-pub freed_live : (old new : HostState) (at : SessionId) (es : List Transcript) (i : ℕ) (slots : ℕ) (os : List Opening) → i < length es → open_id (get_or es i no_transcript) ≡ Some at → IsClosedAs old (Some at) new → HasAllReplies (get_or os i no_opening) (get_or es i no_transcript) → IsPlayback slots old os es → IsPlayback slots new (set os i (closed_opening (get_or os i no_opening))) (set es i (record (get_or es i no_transcript) { in_use = false }))
-freed_live old new at es i slots os lt l closed all p =
+pub freed_live : (old new : HostState) (at : SessionId) (es : List Transcript) (i : ℕ) (setup : Setup) (slots : ℕ) (os : List Opening) → i < length es → open_id (get_or es i no_transcript) ≡ Some at → IsClosedAs old (Some at) new → HasAllReplies setup (get_or os i no_opening) (get_or es i no_transcript) → IsPlayback setup slots old os es → IsPlayback setup slots new (set os i (closed_opening (get_or os i no_opening))) (set es i (record (get_or es i no_transcript) { in_use = false }))
+freed_live old new at es i setup slots os lt l closed all p =
     let li : HasOpenId (get_or es i no_transcript) at = has_open_id (get_or es i no_transcript) at l in
-    let of : IsTranscriptOf old (get_or os i no_opening) (get_or es i no_transcript) = transcripts_get old 0 os es i p.transcripts lt in
+    let of : IsTranscriptOf setup old (get_or os i no_opening) (get_or es i no_transcript) = transcripts_get setup old 0 os es i p.transcripts lt in
     let m = made_live old (get_or os i no_opening) (get_or es i no_transcript) at li of in
-    let c : Closed old at closed.0 new = closed_of old new at (find old.slots at) (get_or es i no_transcript).made (get_or os i no_opening).text closed.0 m.1 closed.1 in
-    let n : length os ≡ length es = transcripts_len old 0 os es p.transcripts in
+    let c : Closed old at closed.0 new = closed_of setup old new at (find old.slots at) (get_or es i no_transcript).made (get_or os i no_opening).text closed.0 m.1 closed.1 in
+    let n : length os ≡ length es = transcripts_len setup old 0 os es p.transcripts in
     let used : (get_or os i no_opening).in_use ≡ true = sym of.used_is ∙ li.used in
     let held : has_session (get_or os i no_opening) ≡ true = rw (used, m.0) refl in
     let fewer = held_freed os i (closed_opening (get_or os i no_opening)) (omega arith) refl held in
     let less : count new.slots + 1 ≡ count old.slots = c.count_is in
     let was : count old.slots ≡ count_by has_session os = p.count_is in
-    let made : HasMade new (get_or es i no_transcript).id false (get_or os i no_opening).refused (get_or os i no_opening).text (get_or es i no_transcript).made = rw li.id_is (m.0, all) in
+    let made : HasMade setup new (get_or es i no_transcript).id false (get_or os i no_opening).refused (get_or os i no_opening).text (get_or es i no_transcript).made = rw li.id_is (m.0, all) in
     record {
       transcripts = transcripts_set old new at 0 os es i (closed_opening (get_or os i no_opening)) (record (get_or es i no_transcript) { in_use = false }) (record { others = c.others; next_is = c.next_is }) p.transcripts lt li.id_is li.id_is (record { name_is = of.name_is; used_is = refl; made_is = made });
       count_is = omega (arith, fewer, less, was);
       max_is = c.max_is ∙ p.max_is;
+      setup_is = c.setup_is ∙ p.setup_is;
       few = (let a : new.slots.next ≡ old.slots.next = c.next_is in let b : old.slots.next ≤ length es = p.few in grind (arith, length-set));
     }
 
-pub freed_refused : (h : HostState) (es : List Transcript) (i : ℕ) (slots : ℕ) (os : List Opening) → i < length es → (get_or es i no_transcript).in_use ≡ true → open_id (get_or es i no_transcript) ≡ None → IsPlayback slots h os es → IsPlayback slots h (set os i (closed_opening (get_or os i no_opening))) (set es i (record (get_or es i no_transcript) { in_use = false }))
-freed_refused h es i slots os lt used l p =
+pub freed_refused : (h : HostState) (es : List Transcript) (i : ℕ) (setup : Setup) (slots : ℕ) (os : List Opening) → i < length es → (get_or es i no_transcript).in_use ≡ true → open_id (get_or es i no_transcript) ≡ None → IsPlayback setup slots h os es → IsPlayback setup slots h (set os i (closed_opening (get_or os i no_opening))) (set es i (record (get_or es i no_transcript) { in_use = false }))
+freed_refused h es i setup slots os lt used l p =
     let none : (get_or es i no_transcript).id ≡ None = id_none (get_or es i no_transcript).in_use (get_or es i no_transcript).id used l in
-    let of : IsTranscriptOf h (get_or os i no_opening) (get_or es i no_transcript) = transcripts_get h 0 os es i p.transcripts lt in
-    let refused : (get_or os i no_opening).refused ≡ true = none_made h (get_or es i no_transcript).id _ _ _ _ none of.made_is in
-    let n : length os ≡ length es = transcripts_len h 0 os es p.transcripts in
+    let of : IsTranscriptOf setup h (get_or os i no_opening) (get_or es i no_transcript) = transcripts_get setup h 0 os es i p.transcripts lt in
+    let refused : (get_or os i no_opening).refused ≡ true = none_made setup h (get_or es i no_transcript).id _ _ _ _ none of.made_is in
+    let n : length os ≡ length es = transcripts_len setup h 0 os es p.transcripts in
     record {
-      transcripts = transcripts_text h 0 os es i (closed_opening (get_or os i no_opening)) (record (get_or es i no_transcript) { in_use = false }) p.transcripts lt refl (record { name_is = of.name_is; used_is = refl; made_is = made_none h (get_or es i no_transcript).id _ _ _ _ none refused });
+      transcripts = transcripts_text h 0 os es i (closed_opening (get_or os i no_opening)) (record (get_or es i no_transcript) { in_use = false }) p.transcripts lt refl (record { name_is = of.name_is; used_is = refl; made_is = made_none setup h (get_or es i no_transcript).id _ _ _ _ none refused });
       count_is = p.count_is ∙ sym (held_set os i (closed_opening (get_or os i no_opening)) (omega arith) (sym (held_not (get_or os i no_opening) refused)));
       max_is = p.max_is;
+      setup_is = p.setup_is;
       few = (let b : h.slots.next ≤ length es = p.few in grind (arith, length-set));
     }
 
-pub freed_by : (mid new : HostState) (fs : List Transcript) (i : ℕ) (l : Option SessionId) (slots : ℕ) (os : List Opening) → i < length fs → (get_or fs i no_transcript).in_use ≡ true → open_id (get_or fs i no_transcript) ≡ l → IsClosedAs mid l new → (open_id (get_or fs i no_transcript) ≢ None → HasAllReplies (get_or os i no_opening) (get_or fs i no_transcript)) → IsPlayback slots mid os fs → IsPlayback slots new (set os i (closed_opening (get_or os i no_opening))) (set fs i (record (get_or fs i no_transcript) { in_use = false }))
-freed_by mid new fs i None slots os lt used l c all p = rw c (freed_refused mid fs i slots os lt used l p)
-freed_by mid new fs i (Some at) slots os lt used l c all p = freed_live mid new at fs i slots os lt l c (all (λ e. (let f : Some at ≡ None = sym l ∙ e in cc))) p
+pub freed_by : (mid new : HostState) (fs : List Transcript) (i : ℕ) (l : Option SessionId) (setup : Setup) (slots : ℕ) (os : List Opening) → i < length fs → (get_or fs i no_transcript).in_use ≡ true → open_id (get_or fs i no_transcript) ≡ l → IsClosedAs mid l new → (open_id (get_or fs i no_transcript) ≢ None → HasAllReplies setup (get_or os i no_opening) (get_or fs i no_transcript)) → IsPlayback setup slots mid os fs → IsPlayback setup slots new (set os i (closed_opening (get_or os i no_opening))) (set fs i (record (get_or fs i no_transcript) { in_use = false }))
+freed_by mid new fs i None setup slots os lt used l c all p = rw c (freed_refused mid fs i setup slots os lt used l p)
+freed_by mid new fs i (Some at) setup slots os lt used l c all p = freed_live mid new at fs i setup slots os lt l c (all (λ e. (let f : Some at ≡ None = sym l ∙ e in cc))) p
 
-pub freed_played : (old mid new : HostState) (es fs : List Transcript) (i : ℕ) (x y : Transcript) → KeepsPlayback (play old es) (play mid fs) → ((slots : ℕ) (os : List Opening) → IsPlayback slots old os es → open_id (get_or fs i no_transcript) ≢ None → HasAllReplies (get_or os i no_opening) (get_or fs i no_transcript)) → i < length fs → (get_or fs i no_transcript).in_use ≡ true → x ≡ get_or fs i x → y ≡ get_or fs i y → IsClosedAs mid (open_id x) new
-    → (slots : ℕ) (os : List Opening) → IsPlayback slots old os es → IsPlayback slots new (set os i (closed_opening (get_or os i no_opening))) (set fs i (record y { in_use = false }))
-freed_played old mid new es fs i x y played all lt used e f c slots os p =
+pub freed_played : (old mid new : HostState) (es fs : List Transcript) (i : ℕ) (x y : Transcript) → KeepsPlayback (play old es) (play mid fs) → ((setup : Setup) (slots : ℕ) (os : List Opening) → IsPlayback setup slots old os es → open_id (get_or fs i no_transcript) ≢ None → HasAllReplies setup (get_or os i no_opening) (get_or fs i no_transcript)) → i < length fs → (get_or fs i no_transcript).in_use ≡ true → x ≡ get_or fs i x → y ≡ get_or fs i y → IsClosedAs mid (open_id x) new
+    → (setup : Setup) (slots : ℕ) (os : List Opening) → IsPlayback setup slots old os es → IsPlayback setup slots new (set os i (closed_opening (get_or os i no_opening))) (set fs i (record y { in_use = false }))
+freed_played old mid new es fs i x y played all lt used e f c setup slots os p =
     let a : get_or fs i no_transcript ≡ x = item_is fs i x lt e in
     let b : get_or fs i no_transcript ≡ y = item_is fs i y lt f in
-    rw (sym b) (freed_by mid new fs i (open_id (get_or fs i no_transcript)) slots os lt used refl (rw a c) (all slots os p) (played slots os p))
+    rw (sym b) (freed_by mid new fs i (open_id (get_or fs i no_transcript)) setup slots os lt used refl (rw a c) (all setup slots os p) (played setup slots os p))

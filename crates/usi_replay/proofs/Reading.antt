@@ -2,6 +2,7 @@
 use Rattle.std.proofs.Common.{◌≡◌, ◌<◌, ℕ, List, [], ◌∷◌, ◌++◌, Option, None, Some, Result, IsErrAnd, IfErr, Ok, Err, refl, sym, ap, ◌∙◌, length, take}
 use Rattle.std.specs.Io.KnownBytes.{Appends, Consumes, Keeps}
 use Rattle.std.proofs.KnownBytes.{Consumes-nil, Consumes-trans, Consumes-kept, Keeps-refl, Keeps-trans}
+use Rattle.usi_texts.specs.declared.setup.Setup.{Setup}
 use Rattle.usi_stdio.specs.Calls.{Call, Read, Write, Flush, FailedRead, FailedWrite, FailedFlush, Report, Reads, read_call}
 use Rattle.usi_stdio.specs.Dialogue.{Talk, after_call, after_calls, no_call}
 use Rattle.usi_stdio.specs.Saying.{quiet, Says, SaysPrefix}
@@ -91,32 +92,32 @@ appended (Some xs) None new bytes k a = absurd k
 appended (Some xs) (Some ys) None bytes k a = absurd a
 appended (Some xs) (Some ys) (Some zs) bytes k a = a ∙ ap (λ l. l ++ bytes) k
 
-pub replays : (slots : ℕ) (old mid new : Report) (bytes out : List ℕ) → GivesAll old mid bytes → Keeps old.written mid.written → IsOutputOf slots bytes out → Says mid new out → Replays slots old new
-replays slots old mid new bytes out given kept (os, reads, is) said = record {
+pub replays : (setup : Setup) (slots : ℕ) (old mid new : Report) (bytes out : List ℕ) → GivesAll old mid bytes → Keeps old.written mid.written → IsOutputOf setup slots bytes out → Says mid new out → Replays setup slots old new
+replays setup slots old mid new bytes out given kept (os, reads, is) said = record {
   openings = os;
   read = record { bytes = bytes; consumed = rw said.unread given.consumed; ended = rw said.unread given.ended; comes_to = reads };
   written = rw (← is) (appended old.written mid.written new.written out kept said.written);
 }
 
-pub leaves_write : (slots : ℕ) (old mid new : Report) (bytes out : List ℕ) (fault : StdioFault) → GivesAll old mid bytes → Keeps old.written mid.written → IsOutputOf slots bytes out → SaysPrefix mid new out fault → Leaves slots old new WriteFailed
-leaves_write slots old mid new bytes out fault given kept (os, reads, is) (left, w) = record {
+pub leaves_write : (setup : Setup) (slots : ℕ) (old mid new : Report) (bytes out : List ℕ) (fault : StdioFault) → GivesAll old mid bytes → Keeps old.written mid.written → IsOutputOf setup slots bytes out → SaysPrefix mid new out fault → Leaves setup slots old new WriteFailed
+leaves_write setup slots old mid new bytes out fault given kept (os, reads, is) (left, w) = record {
   openings = os;
   read = record { bytes = bytes; consumed = rw w.said.unread given.consumed; ended = rw w.said.unread given.ended; comes_to = reads };
   written = (left, record { done = w.done; appended = appended old.written mid.written new.written w.done kept w.said.written; split = sym is ∙ w.split });
 }
 
 -- a fault before anything was written
-pub leaves_read : (slots : ℕ) (old new : Report) (fault : ReplayFault) → IsReadFault fault → Keeps old.written new.written → Leaves slots old new fault
-leaves_read slots old new OutOfMemory is kept = kept
-leaves_read slots old new ReadFailed is kept = kept
-leaves_read slots old new WriteFailed is kept = absurd is
-leaves_read slots old new (BadScript line) is kept = absurd is
+pub leaves_read : (setup : Setup) (slots : ℕ) (old new : Report) (fault : ReplayFault) → IsReadFault fault → Keeps old.written new.written → Leaves setup slots old new fault
+leaves_read setup slots old new OutOfMemory is kept = kept
+leaves_read setup slots old new ReadFailed is kept = kept
+leaves_read setup slots old new WriteFailed is kept = absurd is
+leaves_read setup slots old new (BadScript line) is kept = absurd is
 
-pub leaves_answer : (slots : ℕ) (old new : Report) (bytes : List ℕ) (fault : ReplayFault) → GivesAll old new bytes → IsAnswerFault slots bytes fault → Keeps old.written new.written → Leaves slots old new fault
-leaves_answer slots old new bytes OutOfMemory given is kept = kept
-leaves_answer slots old new bytes ReadFailed given is kept = absurd is
-leaves_answer slots old new bytes WriteFailed given is kept = absurd is
-leaves_answer slots old new bytes (BadScript line) given is kept = record {
+pub leaves_answer : (setup : Setup) (slots : ℕ) (old new : Report) (bytes : List ℕ) (fault : ReplayFault) → GivesAll old new bytes → IsAnswerFault slots bytes fault → Keeps old.written new.written → Leaves setup slots old new fault
+leaves_answer setup slots old new bytes OutOfMemory given is kept = kept
+leaves_answer setup slots old new bytes ReadFailed given is kept = absurd is
+leaves_answer setup slots old new bytes WriteFailed given is kept = absurd is
+leaves_answer setup slots old new bytes (BadScript line) given is kept = record {
   read = record { bytes = bytes; consumed = given.consumed; ended = given.ended; comes_to = is };
   written = kept;
 }

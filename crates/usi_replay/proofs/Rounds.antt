@@ -39,6 +39,7 @@ changes_keep goes old new id s o e c = record {
   count_is = ap count c.slots_are ∙ count-with_session old.slots id s c.after e;
   max_is = ap (λ (q : slots.OpenSessions SessionView). q.max) c.slots_are;
   next_is = ap (λ (q : slots.OpenSessions SessionView). q.next) c.slots_are;
+  setup_is = c.setup_is;
 }
 
 pub changed_finds : (goes : SessionView → Outcome → SessionView → Type 0) (old new : HostState) (id : SessionId) (s : SessionView) (o : Outcome) → find old.slots id ≡ Some s → (c : Changed goes old id s o new) → find new.slots id ≡ Some c.after
@@ -50,6 +51,7 @@ on_keeps goes old new id o None e u = record {
   count_is = ap (λ (x : HostState). count x.slots) u.same;
   max_is = ap (λ (x : HostState). x.slots.max) u.same;
   next_is = ap (λ (x : HostState). x.slots.next) u.same;
+  setup_is = ap (λ (x : HostState). x.setup) u.same;
 }
 on_keeps goes old new id o (Some s) e c = changes_keep goes old new id s o e c
 
@@ -71,6 +73,7 @@ keeps_start h new e = record {
   count_is = ap (λ (x : HostState). count x.slots) e;
   max_is = ap (λ (x : HostState). x.slots.max) e;
   next_is = ap (λ (x : HostState). x.slots.next) e;
+  setup_is = ap (λ (x : HostState). x.setup) e;
 }
 
 pub keeps_chain : (old mid new : HostState) → KeepsDue old mid → KeepsDue mid new → KeepsDue old new
@@ -79,6 +82,7 @@ keeps_chain old mid new a b = record {
   count_is = b.count_is ∙ a.count_is;
   max_is = b.max_is ∙ a.max_is;
   next_is = b.next_is ∙ a.next_is;
+  setup_is = b.setup_is ∙ a.setup_is;
 }
 
 works_owed : (budget : ℕ) (s : SessionView) (o : Outcome) (t : SessionView) → Works budget s o t → (x : List ℕ) → due t x ≡ due s x
@@ -101,7 +105,7 @@ work_keeps : (budget : ℕ) (old new : HostState) (at : SessionId) (o : Outcome)
 work_keeps budget old new at o None e u = keeps_start old new u.same
 work_keeps budget old new at o (Some s) e c =
     let k : KeepsAllBut old new at = changes_keep (Works budget) old new at s o e c in
-    record { owed = λ id. works_at (is_same_id at id) budget old new at id s o refl e c; count_is = k.count_is; max_is = k.max_is; next_is = k.next_is }
+    record { owed = λ id. works_at (is_same_id at id) budget old new at id s o refl e c; count_is = k.count_is; max_is = k.max_is; next_is = k.next_is; setup_is = k.setup_is }
 
 run_keeps : (budget : ℕ) (ids : List SessionId) (os : List Outcome) (old new : HostState) → IsRun old (works budget ids os) new → KeepsDue old new
 unfolding IsRun

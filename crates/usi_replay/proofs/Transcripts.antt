@@ -3,10 +3,11 @@ use Rattle.std.proofs.Common.{◌≡◌, ◌≢◌, ℕ, zero, suc, ◌+◌, ◌
 use Rattle.std.proofs.lemmas.Bool.{eqb-true}
 use Rattle.std.proofs.lemmas.List.{set-get_or, get_or-set_same}
 use Rattle.std.proofs.lemmas.List.Sums.{sum_by-cons, sum_by-set}
+use Rattle.usi_texts.specs.declared.setup.Setup.{Setup}
 use Rattle.session_slots.specs.declared.id.SessionId.{SessionId}
 use Rattle.session_slots.specs.Slots.{find}
 use Rattle.usi_session.specs.Due.{SessionView, due}
-use Rattle.usi_session.specs.WholeStream.{replies}
+use Rattle.usi_session.specs.WholeStream.{replies_under}
 use Rattle.usi_session.proofs.Settled.{due-settled}
 use Rattle.host_core.specs.Steps.{HostState}
 use Rattle.host_core.specs.ById.{pending_of}
@@ -16,34 +17,34 @@ use Rattle.usi_replay.specs.Playback.{Transcript, play, no_transcript, no_openin
 use Rattle.usi_lines.specs.declared.line.TheConstants.{LINE_FEED}
 
 -- sessions that went on owe the same
-owes_due : (f g : Option SessionView) (made text : List ℕ) → OwesTheSame f g → Owes f made text → Owes g made text
-owes_due None g made text h o = absurd o
-owes_due (Some s) None made text h o = absurd h
-owes_due (Some s) (Some t) made text h o = λ x. ap (λ xs. made ++ xs) (h x) ∙ o x
+owes_due : (setup : Setup) (f g : Option SessionView) (made text : List ℕ) → OwesTheSame f g → Owes setup f made text → Owes setup g made text
+owes_due setup None g made text h o = absurd o
+owes_due setup (Some s) None made text h o = absurd h
+owes_due setup (Some s) (Some t) made text h o = λ x. ap (λ xs. made ++ xs) (h x) ∙ o x
 
-made_due : (old new : HostState) (id : Option SessionId) (used refused : Bool) (text made : List ℕ) → KeepsDue old new → HasMade old id used refused text made → HasMade new id used refused text made
-made_due old new None used refused text made k m = m
-made_due old new (Some id) true refused text made k m = (m.0, owes_due (find old.slots id) (find new.slots id) made text (k.owed id) m.1)
-made_due old new (Some id) false refused text made k m = m
+made_due : (setup : Setup) (old new : HostState) (id : Option SessionId) (used refused : Bool) (text made : List ℕ) → KeepsDue old new → HasMade setup old id used refused text made → HasMade setup new id used refused text made
+made_due setup old new None used refused text made k m = m
+made_due setup old new (Some id) true refused text made k m = (m.0, owes_due setup (find old.slots id) (find new.slots id) made text (k.owed id) m.1)
+made_due setup old new (Some id) false refused text made k m = m
 
-of_due : (old new : HostState) (o : Opening) (e : Transcript) → KeepsDue old new → IsTranscriptOf old o e → IsTranscriptOf new o e
-of_due old new o e k i = record { name_is = i.name_is; used_is = i.used_is; made_is = made_due old new e.id e.in_use o.refused o.text e.made k i.made_is }
+of_due : {setup : Setup} (old new : HostState) (o : Opening) (e : Transcript) → KeepsDue old new → IsTranscriptOf setup old o e → IsTranscriptOf setup new o e
+of_due {setup} old new o e k i = record { name_is = i.name_is; used_is = i.used_is; made_is = made_due setup old new e.id e.in_use o.refused o.text e.made k i.made_is }
 
-pub transcripts_due : (old new : HostState) (low : ℕ) (os : List Opening) (es : List Transcript) → KeepsDue old new → AreTranscripts old low os es → AreTranscripts new low os es
+pub transcripts_due : (setup : Setup) (old new : HostState) (low : ℕ) (os : List Opening) (es : List Transcript) → KeepsDue old new → AreTranscripts setup old low os es → AreTranscripts setup new low os es
 unfolding AreTranscripts
-transcripts_due old new low [] [] k t = (let n : new.slots.next ≡ old.slots.next = k.next_is in rw n t)
-transcripts_due old new low [] (e ∷ es) k t = absurd t
-transcripts_due old new low (o ∷ os) [] k t = absurd t
-transcripts_due old new low (o ∷ os) (e ∷ es) k t = (of_due old new o e k t.0, t.1, transcripts_due old new (floor_after low e.id) os es k t.2)
+transcripts_due setup old new low [] [] k t = (let n : new.slots.next ≡ old.slots.next = k.next_is in rw n t)
+transcripts_due setup old new low [] (e ∷ es) k t = absurd t
+transcripts_due setup old new low (o ∷ os) [] k t = absurd t
+transcripts_due setup old new low (o ∷ os) (e ∷ es) k t = (of_due old new o e k t.0, t.1, transcripts_due setup old new (floor_after low e.id) os es k t.2)
 
 -- the others are left as they were
-made_other : (old new : HostState) (at : SessionId) (id : Option SessionId) (used refused : Bool) (text made : List ℕ) → ((other : SessionId) → other ≢ at → find new.slots other ≡ find old.slots other) → ((other : SessionId) → id ≡ Some other → other ≢ at) → HasMade old id used refused text made → HasMade new id used refused text made
-made_other old new at None used refused text made k apart m = m
-made_other old new at (Some other) true refused text made k apart m = (m.0, rw (k other (apart other refl)) m.1)
-made_other old new at (Some other) false refused text made k apart m = m
+made_other : (setup : Setup) (old new : HostState) (at : SessionId) (id : Option SessionId) (used refused : Bool) (text made : List ℕ) → ((other : SessionId) → other ≢ at → find new.slots other ≡ find old.slots other) → ((other : SessionId) → id ≡ Some other → other ≢ at) → HasMade setup old id used refused text made → HasMade setup new id used refused text made
+made_other setup old new at None used refused text made k apart m = m
+made_other setup old new at (Some other) true refused text made k apart m = (m.0, rw (k other (apart other refl)) m.1)
+made_other setup old new at (Some other) false refused text made k apart m = m
 
-of_other : (old new : HostState) (at : SessionId) (o : Opening) (e : Transcript) → ((other : SessionId) → other ≢ at → find new.slots other ≡ find old.slots other) → ((other : SessionId) → e.id ≡ Some other → other ≢ at) → IsTranscriptOf old o e → IsTranscriptOf new o e
-of_other old new at o e k apart i = record { name_is = i.name_is; used_is = i.used_is; made_is = made_other old new at e.id e.in_use o.refused o.text e.made k apart i.made_is }
+of_other : {setup : Setup} (old new : HostState) (at : SessionId) (o : Opening) (e : Transcript) → ((other : SessionId) → other ≢ at → find new.slots other ≡ find old.slots other) → ((other : SessionId) → e.id ≡ Some other → other ≢ at) → IsTranscriptOf setup old o e → IsTranscriptOf setup new o e
+of_other {setup} old new at o e k apart i = record { name_is = i.name_is; used_is = i.used_is; made_is = made_other setup old new at e.id e.in_use o.refused o.text e.made k apart i.made_is }
 
 floor_up : (low : ℕ) (id : Option SessionId) → IsAbove low id → low ≤ floor_after low id
 floor_up low None a = omega arith
@@ -68,95 +69,95 @@ pub record KeepsOnly (old new : HostState) (at : SessionId) : Type 0 where
 pub keeps_only : (old new : HostState) (at : SessionId) → KeepsAllBut old new at → KeepsOnly old new at
 keeps_only old new at k = record { others = k.others; next_is = k.next_is }
 
-transcripts_later : (old new : HostState) (at : SessionId) (low : ℕ) (os : List Opening) (es : List Transcript) → KeepsOnly old new at → at.generation < low → AreTranscripts old low os es → AreTranscripts new low os es
+transcripts_later : (setup : Setup) (old new : HostState) (at : SessionId) (low : ℕ) (os : List Opening) (es : List Transcript) → KeepsOnly old new at → at.generation < low → AreTranscripts setup old low os es → AreTranscripts setup new low os es
 unfolding AreTranscripts
-transcripts_later old new at low [] [] k lt t = (let n : new.slots.next ≡ old.slots.next = k.next_is in rw n t)
-transcripts_later old new at low [] (e ∷ es) k lt t = absurd t
-transcripts_later old new at low (o ∷ os) [] k lt t = absurd t
-transcripts_later old new at low (o ∷ os) (e ∷ es) k lt t =
+transcripts_later setup old new at low [] [] k lt t = (let n : new.slots.next ≡ old.slots.next = k.next_is in rw n t)
+transcripts_later setup old new at low [] (e ∷ es) k lt t = absurd t
+transcripts_later setup old new at low (o ∷ os) [] k lt t = absurd t
+transcripts_later setup old new at low (o ∷ os) (e ∷ es) k lt t =
     let up : low ≤ floor_after low e.id = floor_up low e.id t.1 in
-    (of_other old new at o e k.others (λ other f. (let a : low ≤ other.generation = above_of low e.id other f t.1 in differ_above other at (omega arith))) t.0, t.1, transcripts_later old new at (floor_after low e.id) os es k (omega arith) t.2)
+    (of_other old new at o e k.others (λ other f. (let a : low ≤ other.generation = above_of low e.id other f t.1 in differ_above other at (omega arith))) t.0, t.1, transcripts_later setup old new at (floor_after low e.id) os es k (omega arith) t.2)
 
-member_above : (h : HostState) (low : ℕ) (os : List Opening) (es : List Transcript) (i : ℕ) (at : SessionId) → AreTranscripts h low os es → i < length es → (get_or es i no_transcript).id ≡ Some at → low ≤ at.generation
+member_above : (setup : Setup) (h : HostState) (low : ℕ) (os : List Opening) (es : List Transcript) (i : ℕ) (at : SessionId) → AreTranscripts setup h low os es → i < length es → (get_or es i no_transcript).id ≡ Some at → low ≤ at.generation
 unfolding AreTranscripts
-member_above h low [] [] i at t lt e = absurd (omega arith)
-member_above h low [] (k ∷ es) i at t lt e = absurd t
-member_above h low (o ∷ os) [] i at t lt e = absurd t
-member_above h low (o ∷ os) (k ∷ es) zero at t lt e = above_of low k.id at e t.1
-member_above h low (o ∷ os) (k ∷ es) (suc i) at t lt e =
+member_above setup h low [] [] i at t lt e = absurd (omega arith)
+member_above setup h low [] (k ∷ es) i at t lt e = absurd t
+member_above setup h low (o ∷ os) [] i at t lt e = absurd t
+member_above setup h low (o ∷ os) (k ∷ es) zero at t lt e = above_of low k.id at e t.1
+member_above setup h low (o ∷ os) (k ∷ es) (suc i) at t lt e =
     let up : low ≤ floor_after low k.id = floor_up low k.id t.1 in
-    let m : floor_after low k.id ≤ at.generation = member_above h (floor_after low k.id) os es i at t.2 (omega arith) e in
+    let m : floor_after low k.id ≤ at.generation = member_above setup h (floor_after low k.id) os es i at t.2 (omega arith) e in
     omega arith
 
 -- one `+` line continues, and no other
-pub transcripts_set : (old new : HostState) (at : SessionId) (low : ℕ) (os : List Opening) (es : List Transcript) (i : ℕ) (o : Opening) (e : Transcript) → KeepsOnly old new at → AreTranscripts old low os es → i < length es → (get_or es i no_transcript).id ≡ Some at → e.id ≡ Some at → IsTranscriptOf new o e → AreTranscripts new low (set os i o) (set es i e)
+pub transcripts_set : {setup : Setup} (old new : HostState) (at : SessionId) (low : ℕ) (os : List Opening) (es : List Transcript) (i : ℕ) (o : Opening) (e : Transcript) → KeepsOnly old new at → AreTranscripts setup old low os es → i < length es → (get_or es i no_transcript).id ≡ Some at → e.id ≡ Some at → IsTranscriptOf setup new o e → AreTranscripts setup new low (set os i o) (set es i e)
 unfolding AreTranscripts
-transcripts_set old new at low [] [] i o e k t lt was is of = absurd (omega arith)
-transcripts_set old new at low [] (f ∷ es) i o e k t lt was is of = absurd t
-transcripts_set old new at low (p ∷ os) [] i o e k t lt was is of = absurd t
-transcripts_set old new at low (p ∷ os) (f ∷ es) zero o e k t lt was is of =
+transcripts_set {setup} old new at low [] [] i o e k t lt was is of = absurd (omega arith)
+transcripts_set {setup} old new at low [] (f ∷ es) i o e k t lt was is of = absurd t
+transcripts_set {setup} old new at low (p ∷ os) [] i o e k t lt was is of = absurd t
+transcripts_set {setup} old new at low (p ∷ os) (f ∷ es) zero o e k t lt was is of =
     let same : e.id ≡ f.id = is ∙ sym was in
-    (of, rw same t.1, rw same (transcripts_later old new at (floor_after low f.id) os es k (floor_past low f.id at was) t.2))
-transcripts_set old new at low (p ∷ os) (f ∷ es) (suc i) o e k t lt was is of =
-    let m : floor_after low f.id ≤ at.generation = member_above old (floor_after low f.id) os es i at t.2 (omega arith) was in (
+    (of, rw same t.1, rw same (transcripts_later setup old new at (floor_after low f.id) os es k (floor_past low f.id at was) t.2))
+transcripts_set {setup} old new at low (p ∷ os) (f ∷ es) (suc i) o e k t lt was is of =
+    let m : floor_after low f.id ≤ at.generation = member_above setup old (floor_after low f.id) os es i at t.2 (omega arith) was in (
       of_other old new at p f k.others (λ other g. (let a : other.generation < floor_after low f.id = floor_past low f.id other g in differ_below other at (omega arith))) t.0,
       t.1,
       transcripts_set old new at (floor_after low f.id) os es i o e k t.2 (omega arith) was is of,
     )
 
 -- a `+` line that has no session
-pub transcripts_text : (h : HostState) (low : ℕ) (os : List Opening) (es : List Transcript) (i : ℕ) (o : Opening) (e : Transcript) → AreTranscripts h low os es → i < length es → e.id ≡ (get_or es i no_transcript).id → IsTranscriptOf h o e → AreTranscripts h low (set os i o) (set es i e)
+pub transcripts_text : {setup : Setup} (h : HostState) (low : ℕ) (os : List Opening) (es : List Transcript) (i : ℕ) (o : Opening) (e : Transcript) → AreTranscripts setup h low os es → i < length es → e.id ≡ (get_or es i no_transcript).id → IsTranscriptOf setup h o e → AreTranscripts setup h low (set os i o) (set es i e)
 unfolding AreTranscripts
-transcripts_text h low [] [] i o e t lt same of = absurd (omega arith)
-transcripts_text h low [] (f ∷ es) i o e t lt same of = absurd t
-transcripts_text h low (p ∷ os) [] i o e t lt same of = absurd t
-transcripts_text h low (p ∷ os) (f ∷ es) zero o e t lt same of = (of, rw same t.1, rw same t.2)
-transcripts_text h low (p ∷ os) (f ∷ es) (suc i) o e t lt same of = (t.0, t.1, transcripts_text h (floor_after low f.id) os es i o e t.2 (omega arith) same of)
+transcripts_text {setup} h low [] [] i o e t lt same of = absurd (omega arith)
+transcripts_text {setup} h low [] (f ∷ es) i o e t lt same of = absurd t
+transcripts_text {setup} h low (p ∷ os) [] i o e t lt same of = absurd t
+transcripts_text {setup} h low (p ∷ os) (f ∷ es) zero o e t lt same of = (of, rw same t.1, rw same t.2)
+transcripts_text {setup} h low (p ∷ os) (f ∷ es) (suc i) o e t lt same of = (t.0, t.1, transcripts_text h (floor_after low f.id) os es i o e t.2 (omega arith) same of)
 
-pub transcripts_get : (h : HostState) (low : ℕ) (os : List Opening) (es : List Transcript) (i : ℕ) → AreTranscripts h low os es → i < length es → IsTranscriptOf h (get_or os i no_opening) (get_or es i no_transcript)
+pub transcripts_get : (setup : Setup) (h : HostState) (low : ℕ) (os : List Opening) (es : List Transcript) (i : ℕ) → AreTranscripts setup h low os es → i < length es → IsTranscriptOf setup h (get_or os i no_opening) (get_or es i no_transcript)
 unfolding AreTranscripts
-transcripts_get h low [] [] i t lt = absurd (omega arith)
-transcripts_get h low [] (f ∷ es) i t lt = absurd t
-transcripts_get h low (p ∷ os) [] i t lt = absurd t
-transcripts_get h low (p ∷ os) (f ∷ es) zero t lt = t.0
-transcripts_get h low (p ∷ os) (f ∷ es) (suc i) t lt = transcripts_get h (floor_after low f.id) os es i t.2 (omega arith)
+transcripts_get setup h low [] [] i t lt = absurd (omega arith)
+transcripts_get setup h low [] (f ∷ es) i t lt = absurd t
+transcripts_get setup h low (p ∷ os) [] i t lt = absurd t
+transcripts_get setup h low (p ∷ os) (f ∷ es) zero t lt = t.0
+transcripts_get setup h low (p ∷ os) (f ∷ es) (suc i) t lt = transcripts_get setup h (floor_after low f.id) os es i t.2 (omega arith)
 
-pub transcripts_len : (h : HostState) (low : ℕ) (os : List Opening) (es : List Transcript) → AreTranscripts h low os es → length os ≡ length es
+pub transcripts_len : (setup : Setup) (h : HostState) (low : ℕ) (os : List Opening) (es : List Transcript) → AreTranscripts setup h low os es → length os ≡ length es
 unfolding AreTranscripts
-transcripts_len h low [] [] t = refl
-transcripts_len h low [] (f ∷ es) t = absurd t
-transcripts_len h low (p ∷ os) [] t = absurd t
-transcripts_len h low (p ∷ os) (f ∷ es) t = (let r = transcripts_len h (floor_after low f.id) os es t.2 in omega (arith, r))
+transcripts_len setup h low [] [] t = refl
+transcripts_len setup h low [] (f ∷ es) t = absurd t
+transcripts_len setup h low (p ∷ os) [] t = absurd t
+transcripts_len setup h low (p ∷ os) (f ∷ es) t = (let r = transcripts_len setup h (floor_after low f.id) os es t.2 in omega (arith, r))
 
-transcripts_low : (h : HostState) (low : ℕ) (os : List Opening) (es : List Transcript) → AreTranscripts h low os es → low ≤ h.slots.next
+transcripts_low : (setup : Setup) (h : HostState) (low : ℕ) (os : List Opening) (es : List Transcript) → AreTranscripts setup h low os es → low ≤ h.slots.next
 unfolding AreTranscripts
-transcripts_low h low [] [] t = t
-transcripts_low h low [] (f ∷ es) t = absurd t
-transcripts_low h low (p ∷ os) [] t = absurd t
-transcripts_low h low (p ∷ os) (f ∷ es) t = (let r = transcripts_low h (floor_after low f.id) os es t.2 in let up = floor_up low f.id t.1 in omega (arith, r, up))
+transcripts_low setup h low [] [] t = t
+transcripts_low setup h low [] (f ∷ es) t = absurd t
+transcripts_low setup h low (p ∷ os) [] t = absurd t
+transcripts_low setup h low (p ∷ os) (f ∷ es) t = (let r = transcripts_low setup h (floor_after low f.id) os es t.2 in let up = floor_up low f.id t.1 in omega (arith, r, up))
 
 -- one with_more `+` line, with a session
-pub transcripts_open : (old new : HostState) (at : SessionId) (low : ℕ) (os : List Opening) (es : List Transcript) (o : Opening) (e : Transcript) → ((other : SessionId) → other ≢ at → find new.slots other ≡ find old.slots other) → at.generation ≡ old.slots.next → new.slots.next ≡ old.slots.next + 1 → e.id ≡ Some at → IsTranscriptOf new o e → AreTranscripts old low os es → AreTranscripts new low (os ++ o ∷ []) (es ++ e ∷ [])
+pub transcripts_open : {setup : Setup} (old new : HostState) (at : SessionId) (low : ℕ) (os : List Opening) (es : List Transcript) (o : Opening) (e : Transcript) → ((other : SessionId) → other ≢ at → find new.slots other ≡ find old.slots other) → at.generation ≡ old.slots.next → new.slots.next ≡ old.slots.next + 1 → e.id ≡ Some at → IsTranscriptOf setup new o e → AreTranscripts setup old low os es → AreTranscripts setup new low (os ++ o ∷ []) (es ++ e ∷ [])
 unfolding AreTranscripts
-transcripts_open old new at low [] [] o e k g n is of t =
+transcripts_open {setup} old new at low [] [] o e k g n is of t =
     let b : low ≤ old.slots.next = t in
     (of, rw is (omega arith), rw is (omega arith))
-transcripts_open old new at low [] (f ∷ es) o e k g n is of t = absurd t
-transcripts_open old new at low (p ∷ os) [] o e k g n is of t = absurd t
-transcripts_open old new at low (p ∷ os) (f ∷ es) o e k g n is of t =
-    let l : floor_after low f.id ≤ old.slots.next = transcripts_low old (floor_after low f.id) os es t.2 in (
+transcripts_open {setup} old new at low [] (f ∷ es) o e k g n is of t = absurd t
+transcripts_open {setup} old new at low (p ∷ os) [] o e k g n is of t = absurd t
+transcripts_open {setup} old new at low (p ∷ os) (f ∷ es) o e k g n is of t =
+    let l : floor_after low f.id ≤ old.slots.next = transcripts_low setup old (floor_after low f.id) os es t.2 in (
       of_other old new at p f k (λ other h. (let a : other.generation < floor_after low f.id = floor_past low f.id other h in differ_below other at (omega arith))) t.0,
       t.1,
       transcripts_open old new at (floor_after low f.id) os es o e k g n is of t.2,
     )
 
 -- one with_more, that was refused
-pub transcripts_refused : (h : HostState) (low : ℕ) (os : List Opening) (es : List Transcript) (o : Opening) (e : Transcript) → e.id ≡ None → IsTranscriptOf h o e → AreTranscripts h low os es → AreTranscripts h low (os ++ o ∷ []) (es ++ e ∷ [])
+pub transcripts_refused : {setup : Setup} (h : HostState) (low : ℕ) (os : List Opening) (es : List Transcript) (o : Opening) (e : Transcript) → e.id ≡ None → IsTranscriptOf setup h o e → AreTranscripts setup h low os es → AreTranscripts setup h low (os ++ o ∷ []) (es ++ e ∷ [])
 unfolding AreTranscripts
-transcripts_refused h low [] [] o e is of t = (of, rw is tt, rw is t)
-transcripts_refused h low [] (f ∷ es) o e is of t = absurd t
-transcripts_refused h low (p ∷ os) [] o e is of t = absurd t
-transcripts_refused h low (p ∷ os) (f ∷ es) o e is of t = (t.0, t.1, transcripts_refused h (floor_after low f.id) os es o e is of t.2)
+transcripts_refused {setup} h low [] [] o e is of t = (of, rw is tt, rw is t)
+transcripts_refused {setup} h low [] (f ∷ es) o e is of t = absurd t
+transcripts_refused {setup} h low (p ∷ os) [] o e is of t = absurd t
+transcripts_refused {setup} h low (p ∷ os) (f ∷ es) o e is of t = (t.0, t.1, transcripts_refused h (floor_after low f.id) os es o e is of t.2)
 
 -- as many hold a session, where a `+` line changes that does so before and after or neither
 pub held_set : (os : List Opening) (i : ℕ) (o : Opening) → i < length os → has_session o ≡ has_session (get_or os i no_opening) → count_by has_session (set os i o) ≡ count_by has_session os
@@ -189,21 +190,21 @@ open_id_by false id at e = absurd (cc)
 pub has_open_id : (e : Transcript) (at : SessionId) → open_id e ≡ Some at → HasOpenId e at
 has_open_id e at f = (let p = open_id_by e.in_use e.id at f in record { used = p.0; id_is = p.1 })
 
-owes_handed : (f g : Option SessionView) (made text out : List ℕ) → IsCollected f g made out → Owes f made text → Owes g out text
-owes_handed None g made text out h o = absurd o
-owes_handed (Some s) None made text out h o = absurd h
-owes_handed (Some s) (Some t) made text out h o = λ x. ap (λ xs. xs ++ due t x) h.0 ∙ (append_assoc made s.queued (due t x) ∙ (ap (λ xs. made ++ xs) (sym (h.1 x)) ∙ o x))
+owes_handed : (setup : Setup) (f g : Option SessionView) (made text out : List ℕ) → IsCollected f g made out → Owes setup f made text → Owes setup g out text
+owes_handed setup None g made text out h o = absurd o
+owes_handed setup (Some s) None made text out h o = absurd h
+owes_handed setup (Some s) (Some t) made text out h o = λ x. ap (λ xs. xs ++ due t x) h.0 ∙ (append_assoc made s.queued (due t x) ∙ (ap (λ xs. made ++ xs) (sym (h.1 x)) ∙ o x))
 
-all_handed : (f g : Option SessionView) (made text out : List ℕ) → pending_of f ≡ false → IsCollected f g made out → Owes f made text → out ≡ replies text
-all_handed None g made text out p h o = absurd o
-all_handed (Some s) None made text out p h o = absurd h
-all_handed (Some s) (Some t) made text out p h o = h.0 ∙ (ap (λ xs. made ++ xs) (sym (due-settled s p)) ∙ (o [] ∙ ap replies (append-nil text)))
+all_handed : (setup : Setup) (f g : Option SessionView) (made text out : List ℕ) → pending_of f ≡ false → IsCollected f g made out → Owes setup f made text → out ≡ replies_under setup text
+all_handed setup None g made text out p h o = absurd o
+all_handed setup (Some s) None made text out p h o = absurd h
+all_handed setup (Some s) (Some t) made text out p h o = h.0 ∙ (ap (λ xs. made ++ xs) (sym (due-settled s p)) ∙ (o [] ∙ ap (replies_under setup) (append-nil text)))
 
-pub made_live : (h : HostState) (o : Opening) (e : Transcript) (id : SessionId) → HasOpenId e id → IsTranscriptOf h o e → (o.refused ≡ false) × Owes (find h.slots id) e.made o.text
-made_live h o e id l i = (let m : HasMade h e.id e.in_use o.refused o.text e.made = i.made_is in rw (l.id_is, l.used) at m)
+pub made_live : {setup : Setup} (h : HostState) (o : Opening) (e : Transcript) (id : SessionId) → HasOpenId e id → IsTranscriptOf setup h o e → (o.refused ≡ false) × Owes setup (find h.slots id) e.made o.text
+made_live {setup} h o e id l i = (let m : HasMade setup h e.id e.in_use o.refused o.text e.made = i.made_is in rw (l.id_is, l.used) at m)
 
-of_live : (h : HostState) (o : Opening) (e : Transcript) (id : SessionId) → HasOpenId e id → e.name ≡ o.name → e.in_use ≡ o.in_use → o.refused ≡ false → Owes (find h.slots id) e.made o.text → IsTranscriptOf h o e
-of_live h o e id l n u r w = record { name_is = n; used_is = u; made_is = rw (l.id_is, l.used) (r, w) }
+of_live : (setup : Setup) (h : HostState) (o : Opening) (e : Transcript) (id : SessionId) → HasOpenId e id → e.name ≡ o.name → e.in_use ≡ o.in_use → o.refused ≡ false → Owes setup (find h.slots id) e.made o.text → IsTranscriptOf setup h o e
+of_live setup h o e id l n u r w = record { name_is = n; used_is = u; made_is = rw (l.id_is, l.used) (r, w) }
 
 -- a session was settled, and what it had queued was kept
 pub record IsTaken (old mid new : HostState) (id : SessionId) (before after : Transcript) : Type 0 where
@@ -214,31 +215,32 @@ pub record IsTaken (old mid new : HostState) (id : SessionId) (before after : Tr
   pub rest : after ≡ record before { made = after.made }
   pub open_id_is : open_id before ≡ Some id
 
-pub taken_all : (old mid new : HostState) (id : SessionId) (o : Opening) (before after : Transcript) → IsTaken old mid new id before after → IsTranscriptOf old o before → HasAllReplies o after
-taken_all old mid new id o before after t i =
+pub taken_all : {setup : Setup} (old mid new : HostState) (id : SessionId) (o : Opening) (before after : Transcript) → IsTaken old mid new id before after → IsTranscriptOf setup old o before → HasAllReplies setup o after
+taken_all {setup} old mid new id o before after t i =
     let l : HasOpenId before id = has_open_id before id t.open_id_is in
-    all_handed (find mid.slots id) (find new.slots id) before.made o.text after.made t.settled t.handed (made_live mid o before id l (of_due old mid o before t.due i)).1
+    all_handed setup (find mid.slots id) (find new.slots id) before.made o.text after.made t.settled t.handed (made_live mid o before id l (of_due old mid o before t.due i)).1
 
 live_after : (old mid new : HostState) (id : SessionId) (before after : Transcript) → IsTaken old mid new id before after → HasOpenId after id
 live_after old mid new id before after t =
     let l : HasOpenId before id = has_open_id before id t.open_id_is in
     record { used = ap (λ (k : Transcript). k.in_use) t.rest ∙ l.used; id_is = ap (λ (k : Transcript). k.id) t.rest ∙ l.id_is }
 
-taken_of : (old mid new : HostState) (id : SessionId) (o : Opening) (before after : Transcript) → IsTaken old mid new id before after → IsTranscriptOf old o before → IsTranscriptOf new o after
-taken_of old mid new id o before after t i =
+taken_of : {setup : Setup} (old mid new : HostState) (id : SessionId) (o : Opening) (before after : Transcript) → IsTaken old mid new id before after → IsTranscriptOf setup old o before → IsTranscriptOf setup new o after
+taken_of {setup} old mid new id o before after t i =
     let l : HasOpenId before id = has_open_id before id t.open_id_is in
     let m = made_live mid o before id l (of_due old mid o before t.due i) in
-    of_live new o after id (live_after old mid new id before after t) (ap (λ (k : Transcript). k.name) t.rest ∙ i.name_is) (ap (λ (k : Transcript). k.in_use) t.rest ∙ i.used_is) m.0 (owes_handed (find mid.slots id) (find new.slots id) before.made o.text after.made t.handed m.1)
+    of_live setup new o after id (live_after old mid new id before after t) (ap (λ (k : Transcript). k.name) t.rest ∙ i.name_is) (ap (λ (k : Transcript). k.in_use) t.rest ∙ i.used_is) m.0 (owes_handed setup (find mid.slots id) (find new.slots id) before.made o.text after.made t.handed m.1)
 
 pub taken_played : (old mid new : HostState) (id : SessionId) (es : List Transcript) (i : ℕ) (after : Transcript) → i < length es → IsTaken old mid new id (get_or es i no_transcript) after → KeepsPlayback (play old es) (play new (set es i after))
-taken_played old mid new id es i after lt t slots os p =
+taken_played old mid new id es i after lt t setup slots os p =
     let l : HasOpenId (get_or es i no_transcript) id = has_open_id (get_or es i no_transcript) id t.open_id_is in
-    let of : IsTranscriptOf new (get_or os i no_opening) after = taken_of old mid new id (get_or os i no_opening) (get_or es i no_transcript) after t (transcripts_get old 0 os es i p.transcripts lt) in
-    let s : AreTranscripts new 0 (set os i (get_or os i no_opening)) (set es i after) = transcripts_set mid new id 0 os es i (get_or os i no_opening) after (keeps_only mid new id t.others) (transcripts_due old mid 0 os es t.due p.transcripts) lt l.id_is (live_after old mid new id (get_or es i no_transcript) after t).id_is of in
+    let of : IsTranscriptOf setup new (get_or os i no_opening) after = taken_of old mid new id (get_or os i no_opening) (get_or es i no_transcript) after t (transcripts_get setup old 0 os es i p.transcripts lt) in
+    let s : AreTranscripts setup new 0 (set os i (get_or os i no_opening)) (set es i after) = transcripts_set mid new id 0 os es i (get_or os i no_opening) after (keeps_only mid new id t.others) (transcripts_due setup old mid 0 os es t.due p.transcripts) lt l.id_is (live_after old mid new id (get_or es i no_transcript) after t).id_is of in
     record {
       transcripts = rw (set-get_or os i no_opening) at s;
       count_is = t.others.count_is ∙ (t.due.count_is ∙ p.count_is);
       max_is = t.others.max_is ∙ (t.due.max_is ∙ p.max_is);
+      setup_is = t.others.setup_is ∙ (t.due.setup_is ∙ p.setup_is);
       few = (let a : new.slots.next ≡ mid.slots.next = t.others.next_is in let b : mid.slots.next ≡ old.slots.next = t.due.next_is in let c : old.slots.next ≤ length es = p.few in grind (arith, length-set));
     }
 
@@ -257,27 +259,28 @@ taken_at old mid new id es i x y after lt e f l due settled others handed rest =
     record { due = due; settled = settled; others = others; handed = rw b handed; rest = rw b rest; open_id_is = rw a l }
 
 -- a chunk was fed to a `+` line
-fed_by : (f g : Option SessionView) (made text chunk : List ℕ) → IsFed f g chunk → Owes f made text → Owes g made (text ++ chunk)
-fed_by None g made text chunk h o = absurd o
-fed_by (Some s) None made text chunk h o = absurd h
-fed_by (Some s) (Some t) made text chunk h o = λ x. ap (λ xs. made ++ xs) (h x) ∙ (o (chunk ++ x) ∙ ap replies (sym (append_assoc text chunk x)))
+fed_by : (setup : Setup) (f g : Option SessionView) (made text chunk : List ℕ) → IsFed f g chunk → Owes setup f made text → Owes setup g made (text ++ chunk)
+fed_by setup None g made text chunk h o = absurd o
+fed_by setup (Some s) None made text chunk h o = absurd h
+fed_by setup (Some s) (Some t) made text chunk h o = λ x. ap (λ xs. made ++ xs) (h x) ∙ (o (chunk ++ x) ∙ ap (replies_under setup) (sym (append_assoc text chunk x)))
 
 held_same : (o p : Opening) → o.in_use ≡ p.in_use → o.refused ≡ p.refused → has_session o ≡ has_session p
 held_same o p e f = rw (e, f) refl
 
 pub fed_live : (old new : HostState) (id : SessionId) (es : List Transcript) (i : ℕ) (x : Transcript) (chunk : List ℕ) → i < length es → x ≡ get_or es i x → open_id x ≡ Some id → KeepsAllBut old new id → IsFed (find old.slots id) (find new.slots id) chunk → IsSent (play old es) (play new es) i chunk
-fed_live old new id es i x chunk lt e l others fed slots os p =
+fed_live old new id es i x chunk lt e l others fed setup slots os p =
     let a : get_or es i no_transcript ≡ x = item_is es i x lt e in
     let li : HasOpenId (get_or es i no_transcript) id = has_open_id (get_or es i no_transcript) id (ap open_id a ∙ l) in
-    let of : IsTranscriptOf old (get_or os i no_opening) (get_or es i no_transcript) = transcripts_get old 0 os es i p.transcripts lt in
+    let of : IsTranscriptOf setup old (get_or os i no_opening) (get_or es i no_transcript) = transcripts_get setup old 0 os es i p.transcripts lt in
     let m = made_live old (get_or os i no_opening) (get_or es i no_transcript) id li of in
-    let now : IsTranscriptOf new (with_more chunk (get_or os i no_opening)) (get_or es i no_transcript) = of_live new (with_more chunk (get_or os i no_opening)) (get_or es i no_transcript) id li of.name_is of.used_is m.0 (fed_by (find old.slots id) (find new.slots id) (get_or es i no_transcript).made (get_or os i no_opening).text chunk fed m.1) in
-    let s : AreTranscripts new 0 (set os i (with_more chunk (get_or os i no_opening))) (set es i (get_or es i no_transcript)) = transcripts_set old new id 0 os es i (with_more chunk (get_or os i no_opening)) (get_or es i no_transcript) (keeps_only old new id others) p.transcripts lt li.id_is li.id_is now in
-    let n : length os ≡ length es = transcripts_len old 0 os es p.transcripts in
+    let now : IsTranscriptOf setup new (with_more chunk (get_or os i no_opening)) (get_or es i no_transcript) = of_live setup new (with_more chunk (get_or os i no_opening)) (get_or es i no_transcript) id li of.name_is of.used_is m.0 (fed_by setup (find old.slots id) (find new.slots id) (get_or es i no_transcript).made (get_or os i no_opening).text chunk fed m.1) in
+    let s : AreTranscripts setup new 0 (set os i (with_more chunk (get_or os i no_opening))) (set es i (get_or es i no_transcript)) = transcripts_set old new id 0 os es i (with_more chunk (get_or os i no_opening)) (get_or es i no_transcript) (keeps_only old new id others) p.transcripts lt li.id_is li.id_is now in
+    let n : length os ≡ length es = transcripts_len setup old 0 os es p.transcripts in
     record {
       transcripts = rw (set-get_or es i no_transcript) at s;
       count_is = others.count_is ∙ (p.count_is ∙ sym (held_set os i (with_more chunk (get_or os i no_opening)) (omega arith) refl));
       max_is = others.max_is ∙ p.max_is;
+      setup_is = others.setup_is ∙ p.setup_is;
       few = (let b : new.slots.next ≡ old.slots.next = others.next_is in let c : old.slots.next ≤ length es = p.few in omega arith);
     }
 
@@ -285,33 +288,34 @@ pub id_none : (used : Bool) (id : Option SessionId) → used ≡ true → cond u
 id_none true id u e = e
 id_none false id u e = absurd (cc)
 
-pub none_made : (h : HostState) (id : Option SessionId) (used refused : Bool) (text made : List ℕ) → id ≡ None → HasMade h id used refused text made → refused ≡ true
-none_made h id used refused text made e m = rw e at m
+pub none_made : (setup : Setup) (h : HostState) (id : Option SessionId) (used refused : Bool) (text made : List ℕ) → id ≡ None → HasMade setup h id used refused text made → refused ≡ true
+none_made setup h id used refused text made e m = rw e at m
 
-pub made_none : (h : HostState) (id : Option SessionId) (used refused : Bool) (text made : List ℕ) → id ≡ None → refused ≡ true → HasMade h id used refused text made
-made_none h id used refused text made e m = rw e m
+pub made_none : (setup : Setup) (h : HostState) (id : Option SessionId) (used refused : Bool) (text made : List ℕ) → id ≡ None → refused ≡ true → HasMade setup h id used refused text made
+made_none setup h id used refused text made e m = rw e m
 
 pub fed_refused : (h : HostState) (es : List Transcript) (i : ℕ) (x : Transcript) (chunk : List ℕ) → i < length es → x ≡ get_or es i x → (get_or es i no_transcript).in_use ≡ true → open_id x ≡ None → IsSent (play h es) (play h es) i chunk
-fed_refused h es i x chunk lt e used l slots os p =
+fed_refused h es i x chunk lt e used l setup slots os p =
     let a : get_or es i no_transcript ≡ x = item_is es i x lt e in
     let none : (get_or es i no_transcript).id ≡ None = id_none (get_or es i no_transcript).in_use (get_or es i no_transcript).id used (ap open_id a ∙ l) in
-    let of : IsTranscriptOf h (get_or os i no_opening) (get_or es i no_transcript) = transcripts_get h 0 os es i p.transcripts lt in
-    let now : IsTranscriptOf h (with_more chunk (get_or os i no_opening)) (get_or es i no_transcript) = record { name_is = of.name_is; used_is = of.used_is; made_is = made_none h (get_or es i no_transcript).id _ _ _ _ none (none_made h (get_or es i no_transcript).id _ _ _ _ none of.made_is) } in
-    let s : AreTranscripts h 0 (set os i (with_more chunk (get_or os i no_opening))) (set es i (get_or es i no_transcript)) = transcripts_text h 0 os es i (with_more chunk (get_or os i no_opening)) (get_or es i no_transcript) p.transcripts lt refl now in
-    let n : length os ≡ length es = transcripts_len h 0 os es p.transcripts in
+    let of : IsTranscriptOf setup h (get_or os i no_opening) (get_or es i no_transcript) = transcripts_get setup h 0 os es i p.transcripts lt in
+    let now : IsTranscriptOf setup h (with_more chunk (get_or os i no_opening)) (get_or es i no_transcript) = record { name_is = of.name_is; used_is = of.used_is; made_is = made_none setup h (get_or es i no_transcript).id _ _ _ _ none (none_made setup h (get_or es i no_transcript).id _ _ _ _ none of.made_is) } in
+    let s : AreTranscripts setup h 0 (set os i (with_more chunk (get_or os i no_opening))) (set es i (get_or es i no_transcript)) = transcripts_text h 0 os es i (with_more chunk (get_or os i no_opening)) (get_or es i no_transcript) p.transcripts lt refl now in
+    let n : length os ≡ length es = transcripts_len setup h 0 os es p.transcripts in
     record {
       transcripts = rw (set-get_or es i no_transcript) at s;
       count_is = p.count_is ∙ sym (held_set os i (with_more chunk (get_or os i no_opening)) (omega arith) refl);
       max_is = p.max_is;
+      setup_is = p.setup_is;
       few = p.few;
     }
 
 -- one chunk after another
 pub played_fed : (old mid new : HostState) (es fs gs : List Transcript) (i : ℕ) (chunk : List ℕ) → KeepsPlayback (play old es) (play mid fs) → IsSent (play mid fs) (play new gs) i chunk → IsSent (play old es) (play new gs) i chunk
-played_fed old mid new es fs gs i chunk a b slots os p = b slots os (a slots os p)
+played_fed old mid new es fs gs i chunk a b setup slots os p = b setup slots os (a setup slots os p)
 
 pub fed_played : (old mid new : HostState) (es fs gs : List Transcript) (i : ℕ) (chunk : List ℕ) → IsSent (play old es) (play mid fs) i chunk → KeepsPlayback (play mid fs) (play new gs) → IsSent (play old es) (play new gs) i chunk
-fed_played old mid new es fs gs i chunk a b slots os p = b slots (set os i (with_more chunk (get_or os i no_opening))) (a slots os p)
+fed_played old mid new es fs gs i chunk a b setup slots os p = b setup slots (set os i (with_more chunk (get_or os i no_opening))) (a setup slots os p)
 
 set_twice : (os : List Opening) (i : ℕ) (a b : Opening) → set (set os i a) i b ≡ set os i b
 set_twice [] i a b = refl
@@ -326,14 +330,14 @@ more_more os i xs ys lt =
     set_twice os i (with_more xs o) (with_more ys (get_or (set os i (with_more xs o)) i no_opening)) ∙ ap (set os i) (ap (with_more ys) same ∙ text)
 
 pub fed_more : (old mid new : HostState) (es fs gs : List Transcript) (i : ℕ) (xs ys all : List ℕ) → i < length es → all ≡ xs ++ ys → IsSent (play old es) (play mid fs) i xs → IsSent (play mid fs) (play new gs) i ys → IsSent (play old es) (play new gs) i all
-fed_more old mid new es fs gs i xs ys all lt e a b slots os p =
-    let q : IsPlayback slots mid (set os i (with_more xs (get_or os i no_opening))) fs = a slots os p in
-    let n : length os ≡ length es = transcripts_len old 0 os es p.transcripts in
-    let r : IsPlayback slots new (set (set os i (with_more xs (get_or os i no_opening))) i (with_more ys (get_or (set os i (with_more xs (get_or os i no_opening))) i no_opening))) gs = b slots (set os i (with_more xs (get_or os i no_opening))) q in
+fed_more old mid new es fs gs i xs ys all lt e a b setup slots os p =
+    let q : IsPlayback setup slots mid (set os i (with_more xs (get_or os i no_opening))) fs = a setup slots os p in
+    let n : length os ≡ length es = transcripts_len setup old 0 os es p.transcripts in
+    let r : IsPlayback setup slots new (set (set os i (with_more xs (get_or os i no_opening))) i (with_more ys (get_or (set os i (with_more xs (get_or os i no_opening))) i no_opening))) gs = b setup slots (set os i (with_more xs (get_or os i no_opening))) q in
     rw e (rw (more_more os i xs ys (omega arith)) at r)
 
 pub fed_none : (h : HostState) (es : List Transcript) (i : ℕ) → IsSent (play h es) (play h es) i []
-fed_none h es i slots os p =
+fed_none h es i setup slots os p =
     let o : Opening = get_or os i no_opening in
     let same : with_more [] o ≡ o = ap (λ (t : List ℕ). (let r : Opening = record o { text = t } in r)) (append-nil o.text) in
     rw (ap (set os i) same ∙ set-get_or os i no_opening) p
@@ -360,10 +364,11 @@ fed_whole old mid new end es fs gs hs i text rest lt f none b last =
     fed_played old new end es gs hs i (text ++ LINE_FEED ∷ []) (fed_more old mid new es fs gs i f.done (LINE_FEED ∷ []) (text ++ LINE_FEED ∷ []) lt (rw same refl) f.fed b) last
 
 pub rounds_played : (old new : HostState) (es : List Transcript) → KeepsDue old new → KeepsPlayback (play old es) (play new es)
-rounds_played old new es k slots os p = record {
-  transcripts = transcripts_due old new 0 os es k p.transcripts;
+rounds_played old new es k setup slots os p = record {
+  transcripts = transcripts_due setup old new 0 os es k p.transcripts;
   count_is = k.count_is ∙ p.count_is;
   max_is = k.max_is ∙ p.max_is;
+  setup_is = k.setup_is ∙ p.setup_is;
   few = (let b : new.slots.next ≡ old.slots.next = k.next_is in let c : old.slots.next ≤ length es = p.few in omega arith);
 }
 

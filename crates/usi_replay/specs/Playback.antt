@@ -4,7 +4,8 @@ use Rattle.std.specs.List.{position_or_len}
 use Rattle.session_slots.specs.declared.id.SessionId.{SessionId}
 use Rattle.session_slots.specs.Slots.{find, count}
 use Rattle.usi_session.specs.Due.{SessionView, due}
-use Rattle.usi_session.specs.WholeStream.{replies}
+use Rattle.usi_texts.specs.declared.setup.Setup.{Setup}
+use Rattle.usi_session.specs.WholeStream.{replies_under}
 use Rattle.usi_lines.specs.Lines.{Line, lines}
 use Rattle.host_core.specs.Steps.{HostState}
 use Rattle.usi_replay.specs.Script.{ScriptLine, Opening, meaning, has_session, closed_opening, new_opening, ended, openings_after, read_from, read_script, output}
@@ -48,22 +49,22 @@ place_of name ts = position_or_len (is_transcript_under name) ts
 abbrev pub open_id : Transcript → Option SessionId
 open_id t = cond t.in_use t.id None
 
--- the bytes made and those that the session owes are the replies to the texts
-abbrev pub Owes : Option SessionView → List ℕ → List ℕ → Type 0
-Owes None made text = ⊥
-Owes (Some s) made text = (x : List ℕ) → made ++ due s x ≡ replies (text ++ x)
+-- the bytes made and those that the session owes are the replies to the texts, under a setup
+abbrev pub Owes : Setup → Option SessionView → List ℕ → List ℕ → Type 0
+Owes setup None made text = ⊥
+Owes setup (Some s) made text = (x : List ℕ) → made ++ due s x ≡ replies_under setup (text ++ x)
 
 -- what was made: nothing without a session, all where it is closed, and all but what is owed where it is open
-abbrev pub HasMade : HostState → Option SessionId → Bool → Bool → List ℕ → List ℕ → Type 0
-HasMade h None used refused text made = refused ≡ true
-HasMade h (Some id) true refused text made = (refused ≡ false) × Owes (find h.slots id) made text
-HasMade h (Some id) false refused text made = (refused ≡ false) × (made ≡ replies text)
+abbrev pub HasMade : Setup → HostState → Option SessionId → Bool → Bool → List ℕ → List ℕ → Type 0
+HasMade setup h None used refused text made = refused ≡ true
+HasMade setup h (Some id) true refused text made = (refused ≡ false) × Owes setup (find h.slots id) made text
+HasMade setup h (Some id) false refused text made = (refused ≡ false) × (made ≡ replies_under setup text)
 
 -- it is of this `+` line
-pub record IsTranscriptOf (h : HostState) (o : Opening) (t : Transcript) : Type 0 where
+pub record IsTranscriptOf (setup : Setup) (h : HostState) (o : Opening) (t : Transcript) : Type 0 where
   pub name_is : t.name ≡ o.name
   pub used_is : t.in_use ≡ o.in_use
-  pub made_is : HasMade h t.id t.in_use o.refused o.text t.made
+  pub made_is : HasMade setup h t.id t.in_use o.refused o.text t.made
 
 -- the least generation that later ids may have
 abbrev pub floor_after : ℕ → Option SessionId → ℕ
@@ -75,26 +76,27 @@ IsAbove low None = Unit {0}
 IsAbove low (Some id) = low ≤ id.generation
 
 -- each is of its `+` line, and ids come by rising generation
-unfoldable pub AreTranscripts : HostState → ℕ → List Opening → List Transcript → Type 0
-AreTranscripts h low [] [] = low ≤ h.slots.next
-AreTranscripts h low [] (t ∷ ts) = ⊥
-AreTranscripts h low (o ∷ os) [] = ⊥
-AreTranscripts h low (o ∷ os) (t ∷ ts) =
-    IsTranscriptOf h o t × IsAbove low t.id × AreTranscripts h (floor_after low t.id) os ts
+unfoldable pub AreTranscripts : Setup → HostState → ℕ → List Opening → List Transcript → Type 0
+AreTranscripts setup h low [] [] = low ≤ h.slots.next
+AreTranscripts setup h low [] (t ∷ ts) = ⊥
+AreTranscripts setup h low (o ∷ os) [] = ⊥
+AreTranscripts setup h low (o ∷ os) (t ∷ ts) =
+    IsTranscriptOf setup h o t × IsAbove low t.id × AreTranscripts setup h (floor_after low t.id) os ts
 
--- these `+` lines were replayed over a host of so many slots
-pub record IsPlayback (slots : ℕ) (h : HostState) (os : List Opening)
+-- these `+` lines were replayed over a host of so many slots under this setup
+pub record IsPlayback (setup : Setup) (slots : ℕ) (h : HostState) (os : List Opening)
     (ts : List Transcript) : Type 0 where
-  pub transcripts : AreTranscripts h 0 os ts
+  pub transcripts : AreTranscripts setup h 0 os ts
   pub count_is : count h.slots ≡ count_by has_session os
   pub max_is : h.slots.max ≡ slots
+  pub setup_is : h.setup ≡ setup
   pub few : h.slots.next ≤ length ts
 
 -- it continues without a further line
 abbrev pub KeepsPlayback : Play → Play → Type 0
 KeepsPlayback old new =
-    (slots : ℕ) (os : List Opening) → IsPlayback slots old.host os old.transcripts
-    → IsPlayback slots new.host os new.transcripts
+    (setup : Setup) (slots : ℕ) (os : List Opening) → IsPlayback setup slots old.host os old.transcripts
+    → IsPlayback setup slots new.host os new.transcripts
 
 -- the `+` line of this place has its name in use
 abbrev pub is_used_at : Play → ℕ → Bool
@@ -111,42 +113,42 @@ with_more chunk o = record o { text = o.text ++ chunk }
 -- bytes were sent to the `+` line of this place
 abbrev pub IsSent : Play → Play → ℕ → List ℕ → Type 0
 IsSent old new i chunk =
-    (slots : ℕ) (os : List Opening) → IsPlayback slots old.host os old.transcripts
-    → IsPlayback slots new.host (set os i (with_more chunk (get_or os i no_opening)))
+    (setup : Setup) (slots : ℕ) (os : List Opening) → IsPlayback setup slots old.host os old.transcripts
+    → IsPlayback setup slots new.host (set os i (with_more chunk (get_or os i no_opening)))
     new.transcripts
 
 -- a text and the LF that ends it were sent to the `+` line of this place
 abbrev pub IsFedLine : Play → Play → ℕ → List ℕ → Type 0
 IsFedLine old new i text = IsSent old new i (ended text)
 
--- all that the session replies was kept
-abbrev pub HasAllReplies : Opening → Transcript → Type 0
-HasAllReplies o t = t.made ≡ replies o.text
+-- all that the session replies under a setup was kept
+abbrev pub HasAllReplies : Setup → Opening → Transcript → Type 0
+HasAllReplies setup o t = t.made ≡ replies_under setup o.text
 
 -- all that the session of this place replies is kept, while it is open
 abbrev pub CollectsAll : Play → Play → ℕ → Type 0
 CollectsAll old new i =
-    (slots : ℕ) (os : List Opening) → IsPlayback slots old.host os old.transcripts
+    (setup : Setup) (slots : ℕ) (os : List Opening) → IsPlayback setup slots old.host os old.transcripts
     → open_id (get_or new.transcripts i no_transcript) ≢ None
-    → HasAllReplies (get_or os i no_opening) (get_or new.transcripts i no_transcript)
+    → HasAllReplies setup (get_or os i no_opening) (get_or new.transcripts i no_transcript)
 
 -- the name of the `+` line of this place is free
 abbrev pub IsClosedAt : Play → Play → ℕ → Type 0
 IsClosedAt old new i =
-    (slots : ℕ) (os : List Opening) → IsPlayback slots old.host os old.transcripts
-    → IsPlayback slots new.host (set os i (closed_opening (get_or os i no_opening)))
+    (setup : Setup) (slots : ℕ) (os : List Opening) → IsPlayback setup slots old.host os old.transcripts
+    → IsPlayback setup slots new.host (set os i (closed_opening (get_or os i no_opening)))
     new.transcripts
 
 -- one `+` line more
 abbrev pub IsOpenedUnder : Play → Play → ℕ → Type 0
 IsOpenedUnder old new name =
-    (slots : ℕ) (os : List Opening) → IsPlayback slots old.host os old.transcripts
-    → IsPlayback slots new.host (os ++ new_opening slots name os ∷ []) new.transcripts
+    (setup : Setup) (slots : ℕ) (os : List Opening) → IsPlayback setup slots old.host os old.transcripts
+    → IsPlayback setup slots new.host (os ++ new_opening slots name os ∷ []) new.transcripts
 
 -- the output of the `+` lines
 abbrev pub IsWhole : Play → List ℕ → Type 0
 IsWhole p out =
-    (slots : ℕ) (os : List Opening) → IsPlayback slots p.host os p.transcripts → out ≡ output os
+    (setup : Setup) (slots : ℕ) (os : List Opening) → IsPlayback setup slots p.host os p.transcripts → out ≡ output setup os
 
 -- what is written for it
 abbrev pub transcript_section : Transcript → List ℕ
@@ -154,24 +156,24 @@ transcript_section t =
     codes "== " ++ (t.name ∷ LINE_FEED ∷ cond (is_some t.id) t.made (codes "refused 1\n"))
 
 -- a script was replayed up to here: so many lines were read, and the rest is left
-pub record IsReadTo (slots : ℕ) (h : HostState) (ts : List Transcript) (bytes : List ℕ)
+pub record IsReadTo (setup : Setup) (slots : ℕ) (h : HostState) (ts : List Transcript) (bytes : List ℕ)
     (number : ℕ) (rest : List ℕ) : Type 0 where
   pub openings : List Opening
-  pub play : IsPlayback slots h openings ts
+  pub play : IsPlayback setup slots h openings ts
   pub comes : read_script slots bytes ≡ read_from slots (number + 1) (lines rest) openings
 
 -- the `+` lines after a good line; none after a bad one
-abbrev pub LeadsTo : Bool → ℕ → Option (List Opening) → HostState → List Transcript → Type 0
-LeadsTo true slots after new ts =
-    (next : List Opening) × (after ≡ Some next) × IsPlayback slots new next ts
-LeadsTo false slots after new ts = after ≡ None
+abbrev pub LeadsTo : Setup → Bool → ℕ → Option (List Opening) → HostState → List Transcript → Type 0
+LeadsTo setup true slots after new ts =
+    (next : List Opening) × (after ≡ Some next) × IsPlayback setup slots new next ts
+LeadsTo setup false slots after new ts = after ≡ None
 
 -- what a line did, and whether it was good; nothing, where memory ran out
 abbrev pub Plays : {E : Type 0} → Result Bool E → Play → ScriptLine → Play → Type 0
 Plays result old line new =
-    IfOk result (λ good. (slots : ℕ) (os : List Opening)
-    → IsPlayback slots old.host os old.transcripts
-    → LeadsTo good slots (openings_after slots line os) new.host new.transcripts)
+    IfOk result (λ good. (setup : Setup) (slots : ℕ) (os : List Opening)
+    → IsPlayback setup slots old.host os old.transcripts
+    → LeadsTo setup good slots (openings_after slots line os) new.host new.transcripts)
 
 -- what a line of bytes did, by what it means
 abbrev pub PlaysLine : {E : Type 0} → Result Bool E → Play → Line → Play → Type 0

@@ -1,6 +1,7 @@
 -- What `replay` does with its front end (own choice).
 use Rattle.std.specs.Prelude.{◌≡◌, ℕ, List, true, Option, Result, Ok, Err, MatchResult, Vec}
 use Rattle.std.specs.Io.KnownBytes.{Appends, Consumes, IsAtEnd, Keeps}
+use Rattle.usi_texts.specs.declared.setup.Setup.{Setup}
 use Rattle.usi_stdio.specs.Calls.{Call, Makes, Report}
 use Rattle.usi_stdio.specs.Dialogue.{after_calls, no_call}
 use Rattle.usi_stdio.specs.Stdio.{TakesPrefix}
@@ -21,17 +22,17 @@ pub record IsScript (slots : ℕ) (before after : Option (List ℕ))
   pub ended : IsAtEnd after
   pub comes_to : read_script slots bytes ≡ comes
 
--- the script's output was written
-pub record IsReplayed (slots : ℕ) (before after old new : Option (List ℕ)) : Type 0 where
+-- the script's output under a setup was written
+pub record IsReplayed (setup : Setup) (slots : ℕ) (before after old new : Option (List ℕ)) : Type 0 where
   pub openings : List Opening
   pub read : IsScript slots before after (Ok openings)
-  pub written : Appends old new (output openings)
+  pub written : Appends old new (output setup openings)
 
 -- a prefix of it was written
-pub record IsReplayedInPart (slots : ℕ) (before after old new : Option (List ℕ)) : Type 0 where
+pub record IsReplayedInPart (setup : Setup) (slots : ℕ) (before after old new : Option (List ℕ)) : Type 0 where
   pub openings : List Opening
   pub read : IsScript slots before after (Ok openings)
-  pub written : TakesPrefix old new (output openings)
+  pub written : TakesPrefix old new (output setup openings)
 
 -- the first bad line has this number, and nothing was written
 pub record IsBadAt (slots : ℕ) (before after old new : Option (List ℕ)) (line : ℕ) : Type 0 where
@@ -39,12 +40,12 @@ pub record IsBadAt (slots : ℕ) (before after old new : Option (List ℕ)) (lin
   pub written : Keeps old new
 
 -- what a fault leaves: only a write that failed leaves anything written
-abbrev pub IsFault : ℕ → Option (List ℕ) → Option (List ℕ) → Option (List ℕ) → Option (List ℕ)
+abbrev pub IsFault : Setup → ℕ → Option (List ℕ) → Option (List ℕ) → Option (List ℕ) → Option (List ℕ)
     → ReplayFault → Type 0
-IsFault slots before after old new OutOfMemory = Keeps old new
-IsFault slots before after old new ReadFailed = Keeps old new
-IsFault slots before after old new WriteFailed = IsReplayedInPart slots before after old new
-IsFault slots before after old new (BadScript line) = IsBadAt slots before after old new line
+IsFault setup slots before after old new OutOfMemory = Keeps old new
+IsFault setup slots before after old new ReadFailed = Keeps old new
+IsFault setup slots before after old new WriteFailed = IsReplayedInPart setup slots before after old new
+IsFault setup slots before after old new (BadScript line) = IsBadAt slots before after old new line
 
 -- a fault of the reading alone
 abbrev pub IsReadFault : ReplayFault → Type 0
@@ -53,10 +54,10 @@ IsReadFault ReadFailed = Unit {0}
 IsReadFault WriteFailed = ⊥
 IsReadFault (BadScript line) = ⊥
 
--- the output of a script
-abbrev pub IsOutputOf : ℕ → List ℕ → List ℕ → Type 0
-IsOutputOf slots bytes out =
-    (os : List Opening) × (read_script slots bytes ≡ Ok os) × (out ≡ output os)
+-- the output of a script under a setup
+abbrev pub IsOutputOf : Setup → ℕ → List ℕ → List ℕ → Type 0
+IsOutputOf setup slots bytes out =
+    (os : List Opening) × (read_script slots bytes ≡ Ok os) × (out ≡ output setup os)
 
 -- a fault of the answering alone
 abbrev pub IsAnswerFault : ℕ → List ℕ → ReplayFault → Type 0
@@ -66,9 +67,9 @@ IsAnswerFault slots bytes WriteFailed = ⊥
 IsAnswerFault slots bytes (BadScript line) = read_script slots bytes ≡ Err line
 
 -- the output of a script, or why there is none
-abbrev pub IsAnswerOf : {Z : Type 0} → ℕ → List ℕ → Result (Vec ℕ Z) ReplayFault → Type 0
-IsAnswerOf slots bytes result =
-    MatchResult result (λ out. IsOutputOf slots bytes out.items) (IsAnswerFault slots bytes)
+abbrev pub IsAnswerOf : {Z : Type 0} → Setup → ℕ → List ℕ → Result (Vec ℕ Z) ReplayFault → Type 0
+IsAnswerOf setup slots bytes result =
+    MatchResult result (λ out. IsOutputOf setup slots bytes out.items) (IsAnswerFault slots bytes)
 
 -- ---- the same of what a front end reports
 
@@ -81,8 +82,8 @@ abbrev pub GivesAllIn : {Z : Type 0} → Report → Report → Vec ℕ Z → Typ
 GivesAllIn old new bytes = GivesAll old new bytes.items
 
 -- the script's output was written
-abbrev pub Replays : ℕ → Report → Report → Type 0
-Replays slots old new = IsReplayed slots old.unread new.unread old.written new.written
+abbrev pub Replays : Setup → ℕ → Report → Report → Type 0
+Replays setup slots old new = IsReplayed setup slots old.unread new.unread old.written new.written
 
 -- where calls are reported, those since leave nothing that was written unflushed
 pub record FlushesAll (old new : Report) : Type 0 where
@@ -91,5 +92,5 @@ pub record FlushesAll (old new : Report) : Type 0 where
   pub flushed : (after_calls no_call calls).is_flushed ≡ true
 
 -- what a fault leaves: only a write that failed leaves anything written
-abbrev pub Leaves : ℕ → Report → Report → ReplayFault → Type 0
-Leaves slots old new fault = IsFault slots old.unread new.unread old.written new.written fault
+abbrev pub Leaves : Setup → ℕ → Report → Report → ReplayFault → Type 0
+Leaves setup slots old new fault = IsFault setup slots old.unread new.unread old.written new.written fault

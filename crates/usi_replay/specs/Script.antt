@@ -1,7 +1,8 @@
 -- Scripts: what a line means, and the output that a script asks for (own choice).
 use Rattle.std.specs.Prelude.{ℕ, ◌+◌, List, [], ◌∷◌, ◌++◌, Bool, true, false, ◌&&◌, ◌==◌, not, nat_le, cond, Option, Some, None, Result, Ok, Err, count_by, codes, length}
 use Rattle.usi_lines.specs.Lines.{Line, Text, TooLong, lines}
-use Rattle.usi_session.specs.WholeStream.{replies}
+use Rattle.usi_texts.specs.declared.setup.Setup.{Setup}
+use Rattle.usi_session.specs.WholeStream.{replies_under}
 use Rattle.usi_lines.specs.declared.line.TheConstants.{LINE_FEED}
 
 -- what a line means: nothing, a session is opened under a name, the session of a name is closed, or is sent a text
@@ -114,15 +115,15 @@ read_from slots number (line ∷ rest) os =
 abbrev pub read_script : ℕ → List ℕ → Result (List Opening) ℕ
 read_script slots bytes = read_from slots 1 (lines bytes) []
 
--- what stands under a `+` line: all replies to the texts that it was sent, or that it was refused
-abbrev pub answer_of : Opening → List ℕ
-answer_of o = cond o.refused (codes "refused 1\n") (replies o.text)
+-- what stands under a `+` line: all replies to the texts that it was sent, under a setup, or that it was refused
+abbrev pub answer_of : Setup → Opening → List ℕ
+answer_of setup o = cond o.refused (codes "refused 1\n") (replies_under setup o.text)
 
 -- what is written for a `+` line
-abbrev pub section : Opening → List ℕ
-section o = codes "== " ++ (o.name ∷ LINE_FEED ∷ answer_of o)
+abbrev pub section : Setup → Opening → List ℕ
+section setup o = codes "== " ++ (o.name ∷ LINE_FEED ∷ answer_of setup o)
 
 -- what is written for all of them, in the order of the script
-abbrev pub output : List Opening → List ℕ
-output [] = []
-output (o ∷ os) = section o ++ output os
+abbrev pub output : Setup → List Opening → List ℕ
+output setup [] = []
+output setup (o ∷ os) = section setup o ++ output setup os

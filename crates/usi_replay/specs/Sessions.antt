@@ -22,6 +22,7 @@ pub record KeepsDue (old new : HostState) : Type 0 where
   pub count_is : count new.slots ≡ count old.slots
   pub max_is : new.slots.max ≡ old.slots.max
   pub next_is : new.slots.next ≡ old.slots.next
+  pub setup_is : new.setup ≡ old.setup
 
 -- the works that a session may still need
 abbrev pub works_left : Option SessionView → ℕ
@@ -40,6 +41,7 @@ pub record KeepsAllBut (old new : HostState) (id : SessionId) : Type 0 where
   pub count_is : count new.slots ≡ count old.slots
   pub max_is : new.slots.max ≡ old.slots.max
   pub next_is : new.slots.next ≡ old.slots.next
+  pub setup_is : new.setup ≡ old.setup
 
 -- what was queued was added to what was made, and is queued no more
 abbrev pub IsCollected : Option SessionView → Option SessionView → List ℕ → List ℕ → Type 0

@@ -2,6 +2,7 @@
 
 ghost use Rattle.std.specs.Prelude.{◌≤◌, OnOk, IfOk, IfErr};
 ghost use Rattle.std.specs.Io.KnownBytes.{Keeps};
+ghost use Rattle.usi_texts.specs.Setup.{default_setup};
 ghost use Rattle.usi_replay.specs.Replayed.{FlushesAll, GivesAllIn, IsAnswerOf, IsReadFault, Leaves, Replays};
 ghost use Rattle.session_slots.specs.declared.limits.TheConstants.{SESSIONS_MAX};
 ghost use Rattle.shared_table.specs.declared.table.TheConstants.{CAPACITY_MAX};
@@ -14,6 +15,7 @@ use std::hash::{BuildHasherDefault, FoldHasher};
 use usi_lines::first_line;
 use usi_session::CHUNK_MAX;
 use usi_stdio::{FrontEnd, write_out};
+use usi_texts::Setup;
 
 /// Reads all that comes.
 fn read_all<A: Allocator, T: FrontEnd>(
@@ -42,9 +44,10 @@ fn read_all<A: Allocator, T: FrontEnd>(
     Err(ReplayFault::ReadFailed)
 }
 
-/// The output of a script.
+/// The output of a script under a setup.
 fn output_of<A: Allocator + Copy>(
     alloc: A,
+    setup: Setup,
     script: &[u8],
     slots: usize,
     entries: usize,
@@ -55,10 +58,10 @@ fn output_of<A: Allocator + Copy>(
     requires least_entries { 1 ≤ entries }
     requires most_entries { entries ≤ CAPACITY_MAX }
     requires least_slice { 1 ≤ slice }
-    ensures { IsAnswerOf slots script.now result }
+    ensures { IsAnswerOf setup slots script.now result }
 {
     let hasher = BuildHasherDefault::<FoldHasher>::new();
-    let Ok(host) = Host::new(alloc, slots, entries, hasher) else {
+    let Ok(host) = Host::with_setup(alloc, setup, slots, entries, hasher) else {
         return Err(ReplayFault::OutOfMemory);
     };
     let mut playback = Playback {
@@ -85,8 +88,30 @@ fn output_of<A: Allocator + Copy>(
     Ok(out)
 }
 
-/// Replays a script of many sessions over one host of at most `slots` sessions, from 1 to 1,024, that
-/// share a table of `entries` entries, from 1 to 1,000,000. In each round every pending session continues
+/// `replay_with_setup` under the default setup.
+pub fn replay<A: Allocator + Copy, T: FrontEnd>(
+    alloc: A,
+    front_end: &mut T,
+    slots: usize,
+    entries: usize,
+    slice: u64,
+) -> Result<(), ReplayFault>
+    requires least_slots { 1 ≤ slots }
+    requires most_slots { slots ≤ SESSIONS_MAX }
+    requires least_entries { 1 ≤ entries }
+    requires most_entries { entries ≤ CAPACITY_MAX }
+    requires least_slice { 1 ≤ slice }
+    ensures ok { OnOk result
+        (Replays default_setup slots (T.report front_end.old) (T.report front_end.new)) }
+    ensures flushed { OnOk result (FlushesAll (T.report front_end.old) (T.report front_end.new)) }
+    ensures err { IfErr result
+        (Leaves default_setup slots (T.report front_end.old) (T.report front_end.new)) }
+{
+    replay_with_setup(alloc, Setup::new(), front_end, slots, entries, slice)
+}
+
+/// Replays a script of many sessions, which begin under a setup, over one host of at most `slots`
+/// sessions, from 1 to 1,024, that share a table of `entries` entries, from 1 to 1,000,000. In each round every pending session continues
 /// by at most `slice` steps of search, at least 1. The lines of a script are those of a USI stream; an
 /// unfinished last line is ignored (own choice, as the whole form of scripts):
 ///
@@ -106,8 +131,9 @@ fn output_of<A: Allocator + Copy>(
 /// `OutOfMemory` comes where an allocation failed, `ReadFailed` where a read failed; `BadScript` names
 /// the first bad line, counted from 1; after each of them nothing was written. `WriteFailed` comes where
 /// a write or the flush failed or a write took nothing; then a prefix of the output was written.
-pub fn replay<A: Allocator + Copy, T: FrontEnd>(
+pub fn replay_with_setup<A: Allocator + Copy, T: FrontEnd>(
     alloc: A,
+    setup: Setup,
     front_end: &mut T,
     slots: usize,
     entries: usize,
@@ -118,12 +144,14 @@ pub fn replay<A: Allocator + Copy, T: FrontEnd>(
     requires least_entries { 1 ≤ entries }
     requires most_entries { entries ≤ CAPACITY_MAX }
     requires least_slice { 1 ≤ slice }
-    ensures ok { OnOk result (Replays slots (T.report front_end.old) (T.report front_end.new)) }
+    ensures ok { OnOk result
+        (Replays setup slots (T.report front_end.old) (T.report front_end.new)) }
     ensures flushed { OnOk result (FlushesAll (T.report front_end.old) (T.report front_end.new)) }
-    ensures err { IfErr result (Leaves slots (T.report front_end.old) (T.report front_end.new)) }
+    ensures err { IfErr result
+        (Leaves setup slots (T.report front_end.old) (T.report front_end.new)) }
 {
     let script = read_all(alloc, front_end)?;
-    let out = output_of(alloc, script.as_slice(), slots, entries, slice)?;
+    let out = output_of(alloc, setup, script.as_slice(), slots, entries, slice)?;
     match write_out(front_end, out.as_slice()) {
         Ok(()) => Ok(()),
         Err(_) => Err(ReplayFault::WriteFailed),

@@ -1,5 +1,5 @@
 -- A running `go`, from one search or one line to the next.
-use Rattle.std.proofs.Common.{◌≡◌, ◌≢◌, ◌<◌, ◌≤◌, ◌<ℤ◌, ◌≤ℤ◌, ℕ, ℤ, ◌+◌, ◌-◌, ◌*◌, ◌==◌, [], ◌∷◌, Bool, true, false, Option, Some, None, refl, sym, ap, ◌∙◌, arith, drop, length}
+use Rattle.std.proofs.Common.{◌≡◌, ◌≢◌, ◌<◌, ◌≤◌, ◌<ℤ◌, ◌≤ℤ◌, ℕ, zero, suc, ℤ, ◌+◌, ◌-◌, ◌*◌, ◌==◌, [], ◌∷◌, Bool, true, false, Option, Some, None, refl, sym, ap, ◌∙◌, arith, drop, length}
 use Rattle.std.specs.Prelude.{cond, ◌||◌, nat_lt, is_some}
 use Rattle.std.proofs.lemmas.Bool.{both_ways, eqb-true, ltb-false}
 use Rattle.std.proofs.lemmas.List.{drop_all}
@@ -13,12 +13,12 @@ use Rattle.shogi_moves.specs.LegalMoves.{legal_codes, legal_above}
 use Rattle.shogi_moves.specs.Rising.{is_in}
 use Rattle.shogi_moves.proofs.LegalLaws.{after_code_of, legal_above_in, listed_to_legal}
 use Rattle.shogi_eval.specs.declared.eval.Eval.{Eval}
-use Rattle.minimax.specs.Minimax.{worth, negated, tree_size, pv_cost, sum_of_tree_sizes}
+use Rattle.minimax.specs.Minimax.{value, worth, negated, tree_size, pv_cost, sum_of_tree_sizes}
 use Rattle.shogi_search.specs.Progress.{Progress, untouched, untouched_below}
 use Rattle.shogi_search.specs.Ranked.{Ranking, IsTop, child_beta}
 use Rattle.minimax.specs.declared.bounds.TheConstants.{INFINITY}
 use Rattle.minimax.proofs.Lines.{pv_cost-above}
-use Rattle.minimax.proofs.MinimaxLaws.{tree_size-positive, sum_of_tree_sizes-next}
+use Rattle.minimax.proofs.MinimaxLaws.{worth_plain, tree_size-positive, sum_of_tree_sizes-next}
 use Rattle.shogi_search.proofs.RankedLaws.{first_in}
 use Rattle.shogi_search.proofs.RankedUse.{IsGoneThrough, gone_all, gone_window}
 use Rattle.usi_session.specs.declared.question.Question.{Question}
@@ -26,7 +26,7 @@ use Rattle.usi_session.specs.declared.state.HeldBestmove.{HeldBestmove}
 use Rattle.usi_session.specs.Costs.{pvs_cost}
 use Rattle.usi_session.specs.GoInfos.{listed}
 use Rattle.usi_session.specs.RunningGo.{listed_at, bestmove_to, cost_of_depths, load_of, load_after_root_move}
-use Rattle.usi_session.specs.Walked.{Walked, walk_from, IsQuestionInRange, IsFirst, IsUnder, IsLine, IsRanked, IsRankedTo, IsRankedUpTo, IsAtDepth, first_root_move, first_search, load_at, running_go_of}
+use Rattle.usi_session.specs.Walked.{Walked, walk_from, IsQuestionInRange, IsFirst, IsUnder, IsLine, IsRanked, IsRankedTo, IsRankedUpTo, IsAtDepth, first_root_move, first_search, is_settled, load_at, running_go_of}
 use Rattle.usi_session.proofs.Listed.{IsFirstLine, first_line, first_listed, first_some, one_listed}
 use Rattle.usi_session.proofs.RunningGoLaws.{cost_of_depths-more}
 
@@ -119,6 +119,11 @@ begun_cost question first depths_done h f b =
 pub child_window : (question : Question) (depths_done : ℕ) (root_move : Move) (ranks : Ranking) → IsValid question.position → IsQuestionInRange question → depths_done < question.depth → IsRankedTo question depths_done root_move ranks → (negated INFINITY <ℤ child_beta ranks) × (child_beta ranks ≤ℤ INFINITY)
 child_window question depths_done root_move ranks ok a h r =
     gone_window question.position question.eval depths_done r.passed ranks ok (let d = a.depth_fits.most in omega arith) (gone question depths_done r.passed ranks r.ranked)
+
+-- a move that is not settled is worth what the search after it finds
+pub child_worth : (question : Question) (depths_done code : ℕ) → is_settled question depths_done ≡ false → worth question.position question.eval depths_done code ≡ negated (value (after_code question.position code) question.eval depths_done)
+child_worth question zero code h = worth_plain question.position question.eval 0 code h
+child_worth question (suc d) code h = refl
 
 pub child_legal : (question : Question) (depths_done : ℕ) (root_move : Move) (ranks : Ranking) → move_of (code_of root_move) ≡ Some root_move → IsRankedTo question depths_done root_move ranks → is_legal question.position root_move ≡ true
 child_legal question depths_done root_move ranks b r =

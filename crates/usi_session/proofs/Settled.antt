@@ -5,8 +5,10 @@ use Rattle.usi_lines.specs.Lines.{Line, ahead, lines}
 use Rattle.usi_session.specs.declared.state.State.{State}
 use Rattle.usi_session.specs.RunningGo.{RunningGo, rest_of_go_if, infos_left, bestmove_to}
 use Rattle.usi_session.proofs.RunningGoLaws.{write_or_hold-over}
-use Rattle.usi_session.specs.Due.{SessionView, due, state_due, owed, owed_after, has_line, is_pending, wants_input, new_session}
-use Rattle.usi_session.specs.WholeStream.{replies_from, state_from, is_over_after, answer_unless}
+use Rattle.usi_session.specs.Due.{SessionView, due, state_due, owed, owed_after, has_line, is_pending, wants_input, new_session, new_session_under}
+use Rattle.usi_session.specs.WholeStream.{replies_from, state_from, is_over_after_under, answer_unless}
+use Rattle.usi_texts.specs.declared.setup.Setup.{Setup}
+use Rattle.usi_texts.specs.Setup.{default_setup}
 use Rattle.usi_session.specs.declared.limits.TheConstants.{QUEUE_FULL}
 
 -- no line, no reply
@@ -112,9 +114,12 @@ wants_after s alive settled empty =
     wants_from s.state.is_over (is_some s.running_go || has_line (ahead s.input [])) (nat_lt (length s.queued) QUEUE_FULL) alive settled (ap (λ q. nat_lt (length q) QUEUE_FULL) empty)
 
 -- a new session wants input
-pub new_wants : wants_input new_session ≡ true
+pub new_wants_under : (setup : Setup) → wants_input (new_session_under setup) ≡ true
 unfolding lines
-new_wants = refl
+new_wants_under setup = refl
+
+pub new_wants : wants_input new_session ≡ true
+new_wants = new_wants_under default_setup
 
 alive_of : (over settled short : Bool) → (not over && not settled && short) ≡ true → over ≡ false
 alive_of false settled short e = refl
@@ -128,6 +133,6 @@ state_due-wanting s wants =
     ap (λ (t : State). t.is_over) (state_due-settled s alive settled) ∙ alive
 
 -- no session is over before it was sent anything
-pub initial_state_alive : is_over_after [] ≡ false
+pub initial_state_alive_under : (setup : Setup) → is_over_after_under setup [] ≡ false
 unfolding lines state_from
-initial_state_alive = refl
+initial_state_alive_under setup = refl

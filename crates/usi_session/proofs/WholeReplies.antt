@@ -1,6 +1,6 @@
 -- Every reply is whole lines.
 use Rattle.std.proofs.Common.{◌≡◌, ℕ, ℤ, zero, suc, ◌+◌, ◌-◌, ◌==◌, Bool, true, false, cond, List, [], ◌∷◌, ◌++◌, refl, sym, ap, ◌∙◌, append_assoc, append-nil, Option, Some, None, Result, Ok, Err}
-use Rattle.std.specs.Prelude.{codes, decimal, OnSome, unwrap_or}
+use Rattle.std.specs.Prelude.{codes, decimal, OnSome}
 use Rattle.shogi_core.specs.Position.{Shogi}
 use Rattle.shogi_core.specs.declared.moves.Move.{Move}
 use Rattle.shogi_moves.specs.LegalMoves.{legal_codes}
@@ -20,7 +20,9 @@ use Rattle.usi_texts.specs.Options.{option_lines}
 use Rattle.usi_texts.specs.Texts.{usi_reply, score_text, moves_text, info_for, info_text, numbered_info_text, info_line, bestmove_line, bad_position_line, illegal_move_line}
 use Rattle.usi_texts.specs.PositionCommand.{position_of_startpos, position_of_sfen}
 use Rattle.usi_session.specs.GoInfos.{listed, pv_by, numbered_line, numbered_lines, depth_lines, info_lines, go_infos, go_infos_where}
-use Rattle.usi_session.specs.Answer.{answer, answer_position, write_or_hold, answer_stop, answer_ponderhit_held, answer_ponderhit, held_line, bestmove_at}
+use Rattle.usi_texts.specs.declared.setup.Setup.{Setup}
+use Rattle.usi_texts.specs.Setup.{offers}
+use Rattle.usi_session.specs.Answer.{answer, answer_with, set_options, depth_of_go, answer_position, write_or_hold, answer_stop, answer_ponderhit_held, answer_ponderhit, held_line, bestmove_at}
 use Rattle.usi_session.specs.WholeStream.{answer_to}
 use Rattle.usi_session.specs.RunningGo.{RunningGo, with_rest}
 use Rattle.usi_session.specs.WholeLines.{last_byte, AreWholeLines, GrowsByLines}
@@ -68,10 +70,10 @@ bestmove_ends (Some best) (Some ponder) =
 bestmove_whole : (best ponder : Option Move) → AreWholeLines (bestmove_line best ponder)
 bestmove_whole best ponder = (bestmove_ends best ponder).ends LINE_FEED
 
-usi_ends : EndsInLf usi_reply
-usi_ends =
+usi_ends : (setup : Setup) → EndsInLf (usi_reply setup)
+usi_ends setup =
     after (codes "id name Shared Shogi Host\nid author Shared Shogi Host Team\n")
-    (after option_lines (after (codes "usiok") lf))
+    (after (option_lines setup) (after (codes "usiok") lf))
 
 bad_position_line-ends : (fault : ℕ) → EndsInLf (bad_position_line fault)
 bad_position_line-ends fault = after (codes "info string bad position ") (after (decimal fault) lf)
@@ -123,17 +125,21 @@ answer_ponderhit-whole : (s : State) (held : Option HeldBestmove) → AreWholeLi
 answer_ponderhit-whole s None = refl
 answer_ponderhit-whole s (Some held) = answer_ponderhit_held-whole s held held.until
 
+answer_eval-whole : (s : State) (eval : Eval) (offered : Bool) → AreWholeLines (cond offered (set_options s (record s.options { eval = eval })) (answer_with s [])).bytes
+answer_eval-whole s eval true = refl
+answer_eval-whole s eval false = refl
+
 answer-whole : (s : State) (command : Command) → AreWholeLines (answer s command).bytes
-answer-whole s Usi = usi_ends.ends LINE_FEED
+answer-whole s Usi = (usi_ends s.setup).ends LINE_FEED
 answer-whole s IsReady = refl
 answer-whole s (SetDepth depth) = refl
-answer-whole s (SetEval eval) = refl
+answer-whole s (SetEval eval) = answer_eval-whole s eval (offers s.setup eval)
 answer-whole s (SetLines multi_pv) = refl
 answer-whole s NewGame = refl
 answer-whole s (Startpos rest) = answer_position-whole s (position_of_startpos rest)
 answer-whole s (Sfen rest) = answer_position-whole s (position_of_sfen rest)
 answer-whole s BadPosition = (bad_position_line-ends 0).ends LINE_FEED
-answer-whole s (Go depth hold) = write_or_hold-whole s (go_infos s.position s.options.eval s.options.multi_pv (unwrap_or depth s.options.depth)) (bestmove_at s.position s.options.eval (unwrap_or depth s.options.depth) hold) hold (go_infos_where-whole s.position s.options.eval s.options.multi_pv (unwrap_or depth s.options.depth) (legal_codes s.position))
+answer-whole s (Go depth hold) = write_or_hold-whole s (go_infos s.position s.options.eval s.options.multi_pv (depth_of_go s depth)) (bestmove_at s.position s.options.eval (depth_of_go s depth) hold) hold (go_infos_where-whole s.position s.options.eval s.options.multi_pv (depth_of_go s depth) (legal_codes s.position))
 answer-whole s GoMate = refl
 answer-whole s Stop = answer_stop-whole s s.held
 answer-whole s PonderHit = answer_ponderhit-whole s s.held

@@ -1,5 +1,5 @@
 -- The answer to a command in a state: the bytes that are written, and the state after it (USI; what keeps and what drops a held `bestmove` is an own choice).
-use Rattle.std.specs.Prelude.{◌≡◌, ℕ, List, [], ◌++◌, Option, Some, None, Result, Ok, Err, OnOk, Vec, true, false, unwrap_or}
+use Rattle.std.specs.Prelude.{◌≡◌, ℕ, List, [], ◌++◌, Option, Some, None, Result, Ok, Err, OnOk, Vec, true, false, unwrap_or, min, cond}
 use Rattle.shogi_core.specs.Position.{Shogi}
 use Rattle.shogi_core.specs.declared.moves.Move.{Move}
 use Rattle.shogi_core.specs.Start.{start}
@@ -13,7 +13,9 @@ use Rattle.usi_texts.specs.declared.position_command.Refusal.TheVariants as refu
 use Rattle.usi_session.specs.declared.state.HeldBestmove.{HeldBestmove}
 use Rattle.usi_session.specs.declared.state.State.{State}
 use Rattle.usi_texts.specs.declared.options.Options.{Options}
-use Rattle.usi_texts.specs.Options.{default_options}
+use Rattle.usi_texts.specs.Options.{options_under}
+use Rattle.usi_texts.specs.declared.setup.Setup.{Setup}
+use Rattle.usi_texts.specs.Setup.{default_setup, offers}
 use Rattle.usi_texts.specs.PositionCommand.{position_of_startpos, position_of_sfen}
 use Rattle.usi_session.specs.GoInfos.{move_to_play, move_to_ponder, go_infos}
 use Rattle.usi_texts.specs.Texts.{usi_reply, ready_reply, mate_not_implemented_reply, bad_position_line, illegal_move_line, bestmove_line}
@@ -29,9 +31,19 @@ pub record Answer : Type 0 where
 abbrev pub answer_with : State → List ℕ → Answer
 answer_with state bytes = record { state = state; bytes = bytes }
 
--- the state in which a session begins
+-- the state in which a session begins under a setup
+abbrev pub initial_state_under : Setup → State
+initial_state_under setup = record {
+  position = start;
+  options = options_under setup;
+  setup = setup;
+  held = None;
+  is_over = false;
+}
+
+-- the same where nobody decides otherwise
 abbrev pub initial_state : State
-initial_state = record { position = start; options = default_options; held = None; is_over = false }
+initial_state = initial_state_under default_setup
 
 -- the answer was given: its bytes were appended, and the state is the one after it
 pub record IsGiven (answer : Answer) (before after : List ℕ) (state : State) : Type 0 where
@@ -106,18 +118,33 @@ answer_ponderhit state (Some held) = answer_ponderhit_held state held held.until
 abbrev pub set_options : State → Options → Answer
 set_options state options = answer_with (record state { options = options }) []
 
--- the answer to each command. A held bestmove stays after `usi`, `isready`, `setoption`, `position`, a line that is no command, and `ponderhit` where it is held until `stop`; each other command writes it or drops it
+-- a depth, held to the greatest one of the setup
+abbrev pub allowed_depth : State → ℕ → ℕ
+allowed_depth state depth = min depth state.setup.max_depth
+
+-- the depth of a `go`: the one that it names, or else that of the options, held to the greatest one
+abbrev pub depth_of_go : State → Option ℕ → ℕ
+depth_of_go state depth = allowed_depth state (unwrap_or depth state.options.depth)
+
+-- an evaluation that the setup offers is set; another one is passed over
+abbrev pub answer_eval : State → Eval → Answer
+answer_eval state eval =
+    cond (offers state.setup eval) (set_options state (record state.options { eval = eval }))
+    (answer_with state [])
+
+-- the answer to each command; none changes the setup. A held bestmove stays after `usi`, `isready`, `setoption`, `position`, a line that is no command, and `ponderhit` where it is held until `stop`; each other command writes it or drops it
 abbrev pub answer : State → Command → Answer
-answer state Usi = answer_with state usi_reply
+answer state Usi = answer_with state (usi_reply state.setup)
 answer state IsReady = answer_with state ready_reply
-answer state (SetDepth depth) = set_options state (record state.options { depth = depth })
-answer state (SetEval eval) = set_options state (record state.options { eval = eval })
+answer state (SetDepth depth) =
+    set_options state (record state.options { depth = allowed_depth state depth })
+answer state (SetEval eval) = answer_eval state eval
 answer state (SetLines multi_pv) = set_options state (record state.options { multi_pv = multi_pv })
 answer state NewGame = answer_with (record state { position = start; held = None }) []
 answer state (Startpos rest) = answer_position state (position_of_startpos rest)
 answer state (Sfen rest) = answer_position state (position_of_sfen rest)
 answer state BadPosition = answer_with state (bad_position_line 0)
-answer state (Go depth hold) = answer_go state (unwrap_or depth state.options.depth) hold
+answer state (Go depth hold) = answer_go state (depth_of_go state depth) hold
 answer state GoMate = answer_with (without_bestmove state) mate_not_implemented_reply
 answer state Stop = answer_stop state state.held
 answer state PonderHit = answer_ponderhit state state.held

@@ -1,5 +1,5 @@
 -- The steps that the `go` lines among unread lines may cost.
-use Rattle.std.specs.Prelude.{ℕ, zero, suc, ◌+◌, ◌-◌, ◌*◌, ◌==◌, List, [], ◌∷◌, unwrap_or, cond, sum_by}
+use Rattle.std.specs.Prelude.{ℕ, zero, suc, ◌+◌, ◌-◌, ◌*◌, ◌==◌, List, [], ◌∷◌, cond, sum_by}
 use Rattle.shogi_core.specs.Position.{Shogi}
 use Rattle.shogi_eval.specs.declared.eval.Eval.{Eval}
 use Rattle.shogi_moves.specs.After.{after_code}
@@ -9,6 +9,7 @@ use Rattle.usi_lines.specs.Commands.{Command, Go}
 use Rattle.usi_lines.specs.CommandLines.{command_of}
 use Rattle.usi_lines.specs.Lines.{Line, Text, TooLong}
 use Rattle.usi_session.specs.declared.state.State.{State}
+use Rattle.usi_session.specs.Answer.{depth_of_go}
 use Rattle.usi_session.specs.GoInfos.{listed}
 use Rattle.usi_session.specs.WholeStream.{answer_line}
 
@@ -36,7 +37,7 @@ go_cost state depth = cost_to_depth state.position state.options.eval state.opti
 
 -- no command but `go` costs a step
 abbrev pub cost_of_command : State → Command → ℕ
-cost_of_command state (Go depth hold) = go_cost state (unwrap_or depth state.options.depth)
+cost_of_command state (Go depth hold) = go_cost state (depth_of_go state depth)
 cost_of_command state _ = 0
 
 -- what a line may cost in a session that is not over

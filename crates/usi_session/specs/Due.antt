@@ -3,7 +3,9 @@ use Rattle.std.specs.Prelude.{◌≡◌, ◌≤◌, ℕ, ◌+◌, ◌*◌, List,
 use Rattle.shogi_search.specs.Calls.{Call}
 use Rattle.usi_lines.specs.Lines.{Buffer, Line, ahead}
 use Rattle.usi_session.specs.declared.state.State.{State}
-use Rattle.usi_session.specs.Answer.{Answer, initial_state}
+use Rattle.usi_session.specs.Answer.{Answer, initial_state_under}
+use Rattle.usi_texts.specs.declared.setup.Setup.{Setup}
+use Rattle.usi_texts.specs.Setup.{default_setup}
 use Rattle.usi_session.specs.RunningGo.{RunningGo, IsBegun, WritesLine, rest_of_go, rest_of_go_if, load_of_if, roots_of_if, is_searching, reports_of_if, most_reports}
 use Rattle.usi_session.specs.WholeStream.{answer_to, replies_from, state_from}
 use Rattle.usi_session.specs.Costs.{cost_to, costs_from}
@@ -138,11 +140,15 @@ wants_input session =
     not session.state.is_over && not (has_work session)
     && nat_lt (length session.queued) QUEUE_FULL
 
--- nothing read, nothing queued
-abbrev pub new_session : SessionView
-new_session = record {
-  state = initial_state;
+-- under a setup, with nothing read and nothing queued
+abbrev pub new_session_under : Setup → SessionView
+new_session_under setup = record {
+  state = initial_state_under setup;
   running_go = None;
   queued = [];
   input = record { unread = []; closed = false };
 }
+
+-- the same where nobody decides otherwise
+abbrev pub new_session : SessionView
+new_session = new_session_under default_setup

@@ -1,5 +1,5 @@
 -- The searches along the pvs of each `go`, by their roots (own choice).
-use Rattle.std.specs.Prelude.{ℕ, zero, suc, ◌+◌, ◌-◌, ◌==◌, List, [], ◌∷◌, ◌++◌, flat_map, Option, None, Some, unwrap_or, cond}
+use Rattle.std.specs.Prelude.{ℕ, zero, suc, ◌+◌, ◌-◌, ◌==◌, List, [], ◌∷◌, ◌++◌, flat_map, Option, None, Some, cond}
 use Rattle.shogi_core.specs.declared.moves.Move.{Move}
 use Rattle.shogi_core.specs.Position.{Shogi}
 use Rattle.shogi_eval.specs.declared.eval.Eval.{Eval}
@@ -10,6 +10,7 @@ use Rattle.usi_lines.specs.Commands.{Command, Go}
 use Rattle.usi_lines.specs.CommandLines.{command_of}
 use Rattle.usi_lines.specs.Lines.{Line, Text, TooLong}
 use Rattle.usi_session.specs.declared.state.State.{State}
+use Rattle.usi_session.specs.Answer.{depth_of_go}
 use Rattle.usi_session.specs.GoInfos.{listed}
 use Rattle.usi_session.specs.WholeStream.{answer_line}
 
@@ -66,7 +67,7 @@ roots_of_go state depth =
 
 -- no command but `go` searches
 abbrev pub roots_of_command : State → Command → List Root
-roots_of_command state (Go depth hold) = roots_of_go state (unwrap_or depth state.options.depth)
+roots_of_command state (Go depth hold) = roots_of_go state (depth_of_go state depth)
 roots_of_command state _ = []
 
 -- the searches of a line in a session that is not over

@@ -1,12 +1,13 @@
 -- A walk along a pv, ply by ply, and what a running `go` knows of the depth that it is at
 -- (own choice).
-use Rattle.std.specs.Prelude.{ℕ, ℤ, List, [], ◌∷◌, Option, None, Some, ◌≡◌, ◌≢◌, ◌+◌, ◌-◌, ◌<◌, ◌≤◌, ◌++◌, ◌==◌, true, cond, is_some, length, slice_get, unwrap_or}
+use Rattle.std.specs.Prelude.{ℕ, ℤ, List, [], ◌∷◌, Option, None, Some, ◌≡◌, ◌≢◌, ◌+◌, ◌-◌, ◌<◌, ◌≤◌, ◌++◌, ◌==◌, ◌&&◌, Bool, true, cond, is_some, length, slice_get, unwrap_or}
 use Rattle.shogi_core.specs.Codes.{code_of}
 use Rattle.shogi_core.specs.Position.{Shogi}
 use Rattle.shogi_core.specs.declared.moves.Move.{Move}
 use Rattle.shogi_moves.specs.After.{after}
 use Rattle.shogi_moves.specs.LegalMoves.{legal_codes, legal_above}
 use Rattle.shogi_eval.specs.declared.eval.Eval.{Eval}
+use Rattle.shogi_eval.specs.Exchange.{settles}
 use Rattle.minimax.specs.Minimax.{value, worth, best, pv, pv_cost, then_pv_cost}
 use Rattle.shogi_search.specs.Progress.{Progress, untouched, untouched_below, IsFoundBelow}
 use Rattle.shogi_search.specs.Ranked.{Ranking, IsTop, child_beta}
@@ -153,6 +154,10 @@ IsSearchedAlong walk search = 0 < walk.plies → IsUnder search walk.at walk.eva
 -- what a move is worth at the current depth, by its code
 abbrev pub worth_at : Question → ℕ → ℕ → ℤ
 worth_at question depths_done = worth question.position question.eval depths_done
+
+-- a move ends a line and is settled, so that it is not worth what the search after it finds
+abbrev pub is_settled : Question → ℕ → Bool
+is_settled question depths_done = depths_done == 0 && settles question.eval
 
 -- the legal moves up to the one that was passed last were ranked
 pub record IsRankedUpTo (question : Question) (depths_done : ℕ) (passed : Option Move)

@@ -3,7 +3,9 @@ use Rattle.std.specs.Prelude.{ℕ, List, [], ◌∷◌, ◌++◌, Bool, true, fa
 use Rattle.usi_lines.specs.CommandLines.{command_of}
 use Rattle.usi_lines.specs.Lines.{Line, Text, TooLong, lines}
 use Rattle.usi_session.specs.declared.state.State.{State}
-use Rattle.usi_session.specs.Answer.{Answer, answer, answer_with, initial_state}
+use Rattle.usi_session.specs.Answer.{Answer, answer, answer_with, initial_state_under}
+use Rattle.usi_texts.specs.declared.setup.Setup.{Setup}
+use Rattle.usi_texts.specs.Setup.{default_setup}
 use Rattle.usi_texts.specs.Texts.{too_long_reply}
 
 -- the answer to a line; one that is too long ends the session
@@ -30,10 +32,18 @@ unfoldable pub state_from : State → List Line → State
 state_from state [] = state
 state_from state (line ∷ rest) = state_from (answer_line state line).state rest
 
--- whether a session is over once it was sent these bytes
-abbrev pub is_over_after : List ℕ → Bool
-is_over_after bytes = (state_from initial_state (lines bytes)).is_over
+-- whether a session under a setup is over once it was sent these bytes
+abbrev pub is_over_after_under : Setup → List ℕ → Bool
+is_over_after_under setup bytes = (state_from (initial_state_under setup) (lines bytes)).is_over
 
--- the replies of a new session to a whole stream of bytes
+-- the same where nobody decides otherwise
+abbrev pub is_over_after : List ℕ → Bool
+is_over_after bytes = is_over_after_under default_setup bytes
+
+-- the replies of a new session under a setup to a whole stream of bytes
+abbrev pub replies_under : Setup → List ℕ → List ℕ
+replies_under setup bytes = replies_from (initial_state_under setup) (lines bytes)
+
+-- the same where nobody decides otherwise
 abbrev pub replies : List ℕ → List ℕ
-replies bytes = replies_from initial_state (lines bytes)
+replies bytes = replies_under default_setup bytes

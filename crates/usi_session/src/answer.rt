@@ -5,13 +5,14 @@ ghost use Rattle.usi_lines.specs.Seen.{meaning_of, line_of};
 ghost use Rattle.usi_lines.specs.declared.options.TheConstants.{DEPTH_MIN, DEPTH_MAX};
 ghost use Rattle.usi_lines.specs.Options.{IsInRange};
 ghost use Rattle.usi_texts.specs.Options.{AreInRange};
-ghost use Rattle.usi_session.specs.Answer.{Gives, answer_position, answer_bestmove, answer_stop, answer_ponderhit};
+ghost use Rattle.usi_session.specs.Answer.{Gives, allowed_depth, depth_of_go, answer_eval, answer_position, answer_bestmove, answer_stop, answer_ponderhit};
 ghost use Rattle.usi_session.specs.RunningGo.{Answers, AnswersLine, BeginsGo, EndsIdle};
 
 use crate::go_command::GoCommand;
 use crate::question::Question;
 use crate::state::{HeldBestmove, State};
 use shogi_core::Position;
+use shogi_eval::Eval;
 use shogi_moves::next_legal;
 use std::alloc::{AllocError, Allocator};
 use usi_lines::{Command, Hold, Line, read_command};
@@ -19,6 +20,29 @@ use usi_texts::{
     Refusal, position_of_sfen, position_of_startpos, write_bad_position, write_bestmove,
     write_illegal_move, write_mate_not_implemented, write_usi,
 };
+
+/// A depth, held to the greatest one of the setup.
+fn allowed_depth(state: &State, depth: u8) -> u8
+    ensures { result ≡ allowed_depth state.now depth }
+{
+    depth.min(state.setup.max_depth)
+}
+
+/// The depth of a `go`, which may name one.
+fn depth_of_go(state: &State, depth: Option<u8>) -> u8
+    ensures { result ≡ depth_of_go state.now depth }
+{
+    allowed_depth(state, depth.unwrap_or(state.options.depth))
+}
+
+/// Sets an evaluation that is offered, and passes over another one.
+fn answer_eval(state: &mut State, eval: Eval)
+    ensures { state.new ≡ (answer_eval state.old eval).state }
+{
+    if state.setup.offers(eval) {
+        state.options.eval = eval;
+    }
+}
 
 /// Takes the position that was reached, or says why there is none.
 fn answer_position<A: Allocator>(
@@ -130,10 +154,10 @@ pub fn answer<A: Allocator + Copy>(
     ensures options { OnOk result (AreInRange state.new.options) }
 {
     match command {
-        Command::Usi => write_usi(out)?,
+        Command::Usi => write_usi(out, &state.setup)?,
         Command::IsReady => out.extend_from_slice(b"readyok\n")?,
-        Command::SetDepth(depth) => state.options.depth = depth,
-        Command::SetEval(eval) => state.options.eval = eval,
+        Command::SetDepth(depth) => state.options.depth = allowed_depth(state, depth),
+        Command::SetEval(eval) => answer_eval(state, eval),
         Command::SetLines(multi_pv) => state.options.multi_pv = multi_pv,
         Command::NewGame => {
             state.position = Position::start();
@@ -143,7 +167,7 @@ pub fn answer<A: Allocator + Copy>(
         Command::Sfen(text) => answer_position(out, state, position_of_sfen(text))?,
         Command::BadPosition => write_bad_position(out, 0)?,
         Command::Go { depth, hold } => {
-            let depth = depth.unwrap_or(state.options.depth);
+            let depth = depth_of_go(state, depth);
             return answer_go(alloc, out, state, depth, hold);
         }
         Command::GoMate => {

@@ -9,12 +9,13 @@ ghost use Rattle.usi_session.specs.Answer.{bestmove_of};
 ghost use Rattle.usi_session.specs.GoInfos.{move_to_play, move_to_ponder};
 ghost use Rattle.usi_session.specs.RunningGo.{listed_at, infos_left, infos_after, deeper_infos, is_last, is_last_of_depth, is_searching, bestmove_to, cost_of_depths, load_of, reports_of, deeper_roots, first_roots, roots_of, EndsSearchesOfGo, HasDone, HasDoneLine, IsSameButForSearch, WritesLine};
 ghost use Rattle.usi_session.specs.Told.{IsCalled};
-ghost use Rattle.usi_session.specs.Walked.{IsQuestionInRange, IsFirst, IsRankedTo, IsRankedUpTo, IsRanked, BeginsLine, IsSearchedAlong, IsFoundOfChild, IsAtFirstLine, first_root_move, first_search, child_search, cost_after, walk_cost, walk_roots, roots_after, LeavesLoad, LeavesRoots};
+ghost use Rattle.usi_session.specs.Walked.{IsQuestionInRange, IsFirst, IsRankedTo, IsRankedUpTo, IsRanked, BeginsLine, IsSearchedAlong, IsFoundOfChild, IsAtFirstLine, first_root_move, first_search, is_settled, child_search, cost_after, walk_cost, walk_roots, roots_after, LeavesLoad, LeavesRoots};
 ghost use Rattle.usi_session.specs.WholeLines.{GrowsByLines};
 
 use crate::pv_walk::PvWalk;
 use crate::question::Question;
 use crate::state::HeldBestmove;
+use last_ply::last_worth;
 use shogi_core::Move;
 use shogi_moves::{apply, next_legal};
 use shogi_search::{Found, INFINITY, Memo, NoMemo, Ranks, Search};
@@ -208,8 +209,16 @@ fn search_child(
     search.restart_below(&next, question.eval, depths_done, ranks.child_beta());
 }
 
-/// Ranks a move by what the search of its child found. A value that is not below the bound ranks it
-/// behind a full list, and the list stays.
+/// Whether a move ends a line and is settled, so that it is not worth what the search of its child
+/// finds.
+fn is_settled(question: &Question, depths_done: u8) -> bool
+    ensures { result ≡ is_settled question.now depths_done }
+{
+    depths_done == 0 && question.eval.settles()
+}
+
+/// Ranks a move by what the search of its child found, or by what it is worth where it is settled. A
+/// value that is not below the bound ranks it behind a full list, and the list stays.
 fn rank(question: &Question, depths_done: u8, root_move: Move, found: &Found, ranks: &mut Ranks)
     requires question { IsQuestionInRange question.now }
     requires more { depths_done < question.now.depth }
@@ -219,6 +228,11 @@ fn rank(question: &Question, depths_done: u8, root_move: Move, found: &Found, ra
 {
     root_move.validity();
     question.position.validity();
+    if is_settled(question, depths_done) {
+        let worth = last_worth(&question.position, question.eval, root_move);
+        ranks.offer(root_move, worth);
+        return;
+    }
     if found.value < ranks.child_beta() {
         ranks.offer(root_move, -found.value);
     }

@@ -14,3 +14,4 @@ mod state;
 pub use laws::numbers;
 pub use limits::{CHUNK_MAX, QUEUE_FULL};
 pub use session::{Session, SessionFault};
+pub use usi_texts::{Setup, SetupFault};

@@ -1,10 +1,10 @@
 //! One USI session.
 
 ghost use Rattle.std.specs.Prelude.{◌≡◌, ◌≤◌, ◌++◌, ℕ, List, true, false, OnOk, OnErr, IfOk, OnSome, IfSome, IfNone, None, length, take, drop, ◌<◌, ◌+◌};
-ghost use Rattle.usi_session.specs.Due.{due, state_due, load, roots_left, turns, is_pending, wants_input, new_session, EndsSearches, HasSpent, IsMidSearch, IsPvWhole, IsSameAfter, KeepsDue, QueuesAnswer, QueuesEnd, QueuesLine};
+ghost use Rattle.usi_session.specs.Due.{due, state_due, load, roots_left, turns, is_pending, wants_input, new_session, new_session_under, EndsSearches, HasSpent, IsMidSearch, IsPvWhole, IsSameAfter, KeepsDue, QueuesAnswer, QueuesEnd, QueuesLine};
 ghost use Rattle.usi_session.specs.RunningGo.{is_last, is_searching};
-ghost use Rattle.usi_session.specs.WholeStream.{replies, state_from};
-ghost use Rattle.usi_session.specs.Answer.{initial_state};
+ghost use Rattle.usi_session.specs.WholeStream.{replies, replies_under, state_from};
+ghost use Rattle.usi_session.specs.Answer.{initial_state, initial_state_under};
 ghost use Rattle.usi_session.specs.WholeLines.{GrowsByLines};
 ghost use Rattle.usi_lines.specs.Lines.{lines};
 ghost use Rattle.usi_lines.specs.Seen.{line_of};
@@ -21,7 +21,7 @@ use shogi_search::Memo;
 use std::alloc::{AllocError, Allocator};
 use std::marker::Model;
 use usi_lines::{Line, LineBuffer, LineFault};
-use usi_texts::Options;
+use usi_texts::{Options, Setup};
 
 /// Why a session did not do what it was asked.
 #[derive(Clone, Copy, Debug, PartialEq, Eq)]
@@ -123,12 +123,24 @@ fn queue_end<A: Allocator + Copy>(
 }
 
 impl<A: Allocator + Copy> Session<A> {
-    /// A session at its start: the opening position, each option at its default, nothing held. It
-    /// takes no memory.
+    /// A session at its start, under the usual setup: Depth 3, the greatest depth 16, one line, by
+    /// the evaluation `Plain`. It takes no memory.
     pub fn new(alloc: A) -> Session<A>
         ensures initial { result ≡ new_session }
         ensures due { (x : List ℕ) → due result x ≡ replies x }
         ensures after { (x : List ℕ) → state_due result x ≡ state_from initial_state (lines x) }
+    {
+        Session::with_setup(alloc, Setup::new())
+    }
+
+    /// A session at its start: the opening position, each option as the setup has it, nothing held.
+    /// It takes no memory.
+    #[tactic(auto, using(usi_texts::proofs::SetupLaws::setup_in_range))]
+    pub fn with_setup(alloc: A, setup: Setup) -> Session<A>
+        ensures initial { result ≡ new_session_under setup }
+        ensures due { (x : List ℕ) → due result x ≡ replies_under setup x }
+        ensures after { (x : List ℕ) → state_due result x
+            ≡ state_from (initial_state_under setup) (lines x) }
     {
         Session {
             alloc,
@@ -136,7 +148,8 @@ impl<A: Allocator + Copy> Session<A> {
             queue: Queue::new(alloc),
             state: State {
                 position: Position::start(),
-                options: Options::new(),
+                options: Options::under(setup),
+                setup,
                 held: None,
                 is_over: false,
             },

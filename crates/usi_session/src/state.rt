@@ -2,7 +2,7 @@
 
 use shogi_core::{Move, Position};
 use usi_lines::Hold;
-use usi_texts::Options;
+use usi_texts::{Options, Setup};
 
 /// A `bestmove` that is held back, and until when.
 #[derive(Clone, Copy, Debug, PartialEq, Eq)]
@@ -12,11 +12,13 @@ pub struct HeldBestmove {
     pub until: Hold,
 }
 
-/// The position, the options, the held `bestmove`, and whether the session is over.
+/// The position, the options, the setup, which no command changes, the held `bestmove`, and whether
+/// the session is over.
 #[derive(Clone, Copy, Debug)]
 pub struct State {
     pub position: Position,
     pub options: Options,
+    pub setup: Setup,
     pub held: Option<HeldBestmove>,
     pub is_over: bool,
 }

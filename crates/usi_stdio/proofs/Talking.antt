@@ -1,6 +1,7 @@
 -- Calls after calls.
 use Rattle.std.proofs.Common.{◌≡◌, ◌<◌, ℕ, List, [], ◌∷◌, ◌++◌, Bool, true, false, Option, None, Some, Result, Err, refl, sym, ap, ◌∙◌, append_assoc, append-nil, length, arith}
 use Rattle.std.proofs.KnownBytes.{Appends-nil, Appends-trans}
+use Rattle.usi_texts.specs.declared.setup.Setup.{Setup}
 use Rattle.usi_stdio.specs.Calls.{Call, Write, Flush, FailedWrite, FailedFlush, Makes, Report}
 use Rattle.usi_stdio.specs.Dialogue.{Talk, after_call, after_calls, asked_by_read, asked_by_write, MayFollow, IsDialogue}
 use Rattle.usi_stdio.specs.Saying.{quiet, Speaks, SaysTo, Says}
@@ -22,13 +23,13 @@ pub after_both : (t : Talk) (x y : List Call) → after_calls t (x ++ y) ≡ aft
 after_both t [] y = refl
 after_both t (c ∷ x) y = after_both (after_call t c) x y
 
-pub dialogue_both : (t : Talk) (x y : List Call) → IsDialogue t x → IsDialogue (after_calls t x) y → IsDialogue t (x ++ y)
-dialogue_both t [] y p q = q
-dialogue_both t (c ∷ x) y p q = (p.0, p.1, dialogue_both (after_call t c) x y p.2 q)
+pub dialogue_both : (setup : Setup) (t : Talk) (x y : List Call) → IsDialogue setup t x → IsDialogue setup (after_calls t x) y → IsDialogue setup t (x ++ y)
+dialogue_both setup t [] y p q = q
+dialogue_both setup t (c ∷ x) y p q = (p.0, p.1, dialogue_both setup (after_call t c) x y p.2 q)
 
 -- one call more
-pub dialogue_call : (t : Talk) (x : List Call) (c : Call) → IsDialogue t x → (after_calls t x).outcome ≡ None → MayFollow (after_calls t x) c → IsDialogue t (x ++ (c ∷ []))
-dialogue_call t x c p none may = dialogue_both t x (c ∷ []) p (none, may, tt)
+pub dialogue_call : (setup : Setup) (t : Talk) (x : List Call) (c : Call) → IsDialogue setup t x → (after_calls t x).outcome ≡ None → MayFollow setup (after_calls t x) c → IsDialogue setup t (x ++ (c ∷ []))
+dialogue_call setup t x c p none may = dialogue_both setup t x (c ∷ []) p (none, may, tt)
 
 pub after_one : (t : Talk) (x : List Call) (c : Call) → after_calls t (x ++ (c ∷ [])) ≡ after_call (after_calls t x) c
 after_one t x c = after_both t x (c ∷ [])
@@ -45,13 +46,13 @@ write_goes_on (b ∷ rest) h = refl
 -- what is written between two reads
 pub speaks_nothing : Speaks [] [] true None
 speaks_nothing = record {
-  dialogue = λ read reads written. tt;
+  dialogue = λ setup read reads written. tt;
   after = λ read reads written. ap (λ xs. quiet read reads xs) (sym (append-nil written));
 }
 
 pub speaks_then : (x y : List Call) (bs cs : List ℕ) (f : Bool) (o : Option (Result (Unit {0}) StdioFault)) → Speaks x bs true None → Speaks y cs f o → Speaks (x ++ y) (bs ++ cs) f o
 speaks_then x y bs cs f o p q = record {
-  dialogue = λ read reads written. dialogue_both (quiet read reads written) x y (p.dialogue read reads written) (rw (p.after read reads written) (q.dialogue read reads (written ++ bs)));
+  dialogue = λ setup read reads written. dialogue_both setup (quiet read reads written) x y (p.dialogue setup read reads written) (rw (p.after read reads written) (q.dialogue setup read reads (written ++ bs)));
   after = λ read reads written. after_both (quiet read reads written) x y ∙ (ap (λ t. after_calls t y) (p.after read reads written) ∙ (q.after read reads (written ++ bs) ∙ ap (λ xs. record { read = read; reads = reads; written = xs; is_flushed = f; outcome = o }) (append_assoc written bs cs)));
 }
 
@@ -62,26 +63,26 @@ between read reads written f o = record { read = read; reads = reads; written = 
 -- one write more, which took these bytes
 pub speaks_write : (x : List Call) (bs b : List ℕ) (f : Bool) (o : Option (Result (Unit {0}) StdioFault)) → Speaks x bs f None → asked_by_write b ≡ o → Speaks (x ++ (Write b ∷ [])) (bs ++ b) false o
 speaks_write x bs b f o p e = record {
-  dialogue = λ read reads written. dialogue_call (quiet read reads written) x (Write b) (p.dialogue read reads written) (ap (λ (t : Talk). t.outcome) (p.after read reads written)) tt;
+  dialogue = λ setup read reads written. dialogue_call setup (quiet read reads written) x (Write b) (p.dialogue setup read reads written) (ap (λ (t : Talk). t.outcome) (p.after read reads written)) tt;
   after = λ read reads written. after_one (quiet read reads written) x (Write b) ∙ (ap (λ t. after_call t (Write b)) (p.after read reads written) ∙ (ap (λ xs. between read reads xs false (asked_by_write b)) (append_assoc written bs b) ∙ ap (λ q. between read reads (written ++ (bs ++ b)) false q) e));
 }
 
 pub speaks_flush : (x : List Call) (bs : List ℕ) (f : Bool) → Speaks x bs f None → Speaks (x ++ (Flush ∷ [])) bs true None
 speaks_flush x bs f p = record {
-  dialogue = λ read reads written. dialogue_call (quiet read reads written) x Flush (p.dialogue read reads written) (ap (λ (t : Talk). t.outcome) (p.after read reads written)) tt;
+  dialogue = λ setup read reads written. dialogue_call setup (quiet read reads written) x Flush (p.dialogue setup read reads written) (ap (λ (t : Talk). t.outcome) (p.after read reads written)) tt;
   after = λ read reads written. after_one (quiet read reads written) x Flush ∙ ap (λ t. after_call t Flush) (p.after read reads written);
 }
 
 -- a write or a flush that failed
 pub speaks_failed_write : (x : List Call) (bs : List ℕ) (f : Bool) → Speaks x bs f None → Speaks (x ++ (FailedWrite ∷ [])) bs f (Some (Err WriteFailed))
 speaks_failed_write x bs f p = record {
-  dialogue = λ read reads written. dialogue_call (quiet read reads written) x FailedWrite (p.dialogue read reads written) (ap (λ (t : Talk). t.outcome) (p.after read reads written)) tt;
+  dialogue = λ setup read reads written. dialogue_call setup (quiet read reads written) x FailedWrite (p.dialogue setup read reads written) (ap (λ (t : Talk). t.outcome) (p.after read reads written)) tt;
   after = λ read reads written. after_one (quiet read reads written) x FailedWrite ∙ ap (λ t. after_call t FailedWrite) (p.after read reads written);
 }
 
 pub speaks_failed_flush : (x : List Call) (bs : List ℕ) (f : Bool) → Speaks x bs f None → Speaks (x ++ (FailedFlush ∷ [])) bs f (Some (Err WriteFailed))
 speaks_failed_flush x bs f p = record {
-  dialogue = λ read reads written. dialogue_call (quiet read reads written) x FailedFlush (p.dialogue read reads written) (ap (λ (t : Talk). t.outcome) (p.after read reads written)) tt;
+  dialogue = λ setup read reads written. dialogue_call setup (quiet read reads written) x FailedFlush (p.dialogue setup read reads written) (ap (λ (t : Talk). t.outcome) (p.after read reads written)) tt;
   after = λ read reads written. after_one (quiet read reads written) x FailedFlush ∙ ap (λ t. after_call t FailedFlush) (p.after read reads written);
 }
 

@@ -1,6 +1,7 @@
 -- The calls of a run in their order: what is due is written and flushed before more is read, and the result is what the last call asks for (own choice).
 use Rattle.std.specs.Prelude.{◌≡◌, ◌+◌, ◌-◌, ◌^◌, ◌⊎◌, ℕ, List, [], ◌∷◌, ◌++◌, Bool, true, false, Option, None, Some, Result, Ok, Err}
-use Rattle.usi_session.specs.WholeStream.{replies, is_over_after}
+use Rattle.usi_texts.specs.declared.setup.Setup.{Setup}
+use Rattle.usi_session.specs.WholeStream.{replies_under, is_over_after_under}
 use Rattle.usi_stdio.specs.Calls.{Call, Read, Write, Flush, FailedRead, FailedWrite, FailedFlush, Makes}
 use Rattle.usi_stdio.specs.declared.streams.StdioFault.{StdioFault}
 use Rattle.usi_stdio.specs.declared.streams.StdioFault.TheVariants as fault
@@ -49,45 +50,45 @@ abbrev pub after_calls : Talk → List Call → Talk
 after_calls talk [] = talk
 after_calls talk (call ∷ rest) = after_calls (after_call talk call) rest
 
--- all replies to what was read are written and flushed
-abbrev pub IsSettled : Talk → Type 0
-IsSettled talk = (talk.written ≡ replies talk.read) × (talk.is_flushed ≡ true)
+-- all replies to what was read, under a setup, are written and flushed
+abbrev pub IsSettled : Setup → Talk → Type 0
+IsSettled setup talk = (talk.written ≡ replies_under setup talk.read) × (talk.is_flushed ≡ true)
 
 -- nothing is read before all is settled, nor once the session is over
-abbrev pub MayFollow : Talk → Call → Type 0
-MayFollow talk (Read bytes) = IsSettled talk × (is_over_after talk.read ≡ false)
-MayFollow talk FailedRead = IsSettled talk × (is_over_after talk.read ≡ false)
-MayFollow talk (Write bytes) = Unit {0}
-MayFollow talk FailedWrite = Unit {0}
-MayFollow talk Flush = Unit {0}
-MayFollow talk FailedFlush = Unit {0}
+abbrev pub MayFollow : Setup → Talk → Call → Type 0
+MayFollow setup talk (Read bytes) = IsSettled setup talk × (is_over_after_under setup talk.read ≡ false)
+MayFollow setup talk FailedRead = IsSettled setup talk × (is_over_after_under setup talk.read ≡ false)
+MayFollow setup talk (Write bytes) = Unit {0}
+MayFollow setup talk FailedWrite = Unit {0}
+MayFollow setup talk Flush = Unit {0}
+MayFollow setup talk FailedFlush = Unit {0}
 
 -- each call may follow those before it, none of which asked for a result
-abbrev pub IsDialogue : Talk → List Call → Type 0
-IsDialogue talk [] = Unit {0}
-IsDialogue talk (call ∷ rest) =
-    (talk.outcome ≡ None) × MayFollow talk call × IsDialogue (after_call talk call) rest
+abbrev pub IsDialogue : Setup → Talk → List Call → Type 0
+IsDialogue setup talk [] = Unit {0}
+IsDialogue setup talk (call ∷ rest) =
+    (talk.outcome ≡ None) × MayFollow setup talk call × IsDialogue setup (after_call talk call) rest
 
 -- a success comes at the end of the input or of the session, once all is settled; a fault is that of the last call, but for want of memory, and for a read beyond the greatest number of them
-abbrev pub EndsAs : Talk → Result (Unit {0}) StdioFault → Type 0
-EndsAs talk (Ok done) =
-    IsSettled talk
-    × ((talk.outcome ≡ Some (Ok tt)) ⊎ ((talk.outcome ≡ None) × (is_over_after talk.read ≡ true)))
-EndsAs talk (Err fault.OutOfMemory) = talk.outcome ≡ None
-EndsAs talk (Err fault.WriteFailed) = talk.outcome ≡ Some (Err fault.WriteFailed)
-EndsAs talk (Err fault.ReadFailed) =
+abbrev pub EndsAs : Setup → Talk → Result (Unit {0}) StdioFault → Type 0
+EndsAs setup talk (Ok done) =
+    IsSettled setup talk
+    × ((talk.outcome ≡ Some (Ok tt)) ⊎ ((talk.outcome ≡ None) × (is_over_after_under setup talk.read ≡ true)))
+EndsAs setup talk (Err fault.OutOfMemory) = talk.outcome ≡ None
+EndsAs setup talk (Err fault.WriteFailed) = talk.outcome ≡ Some (Err fault.WriteFailed)
+EndsAs setup talk (Err fault.ReadFailed) =
     (talk.outcome ≡ Some (Err fault.ReadFailed))
     ⊎ ((talk.outcome ≡ None) × (talk.reads ≡ 2 ^ 64 - 1))
 
 -- what was written begins the replies to what was read
-abbrev pub IsFront : Talk → Type 0
-IsFront talk = (left : List ℕ) × (replies talk.read ≡ talk.written ++ left)
+abbrev pub IsFront : Setup → Talk → Type 0
+IsFront setup talk = (left : List ℕ) × (replies_under setup talk.read ≡ talk.written ++ left)
 
 -- where calls are reported, the run is a dialogue that ends with this result
-pub record Talks (old new : Option (List Call)) (result : Result (Unit {0}) StdioFault)
+pub record Talks (setup : Setup) (old new : Option (List Call)) (result : Result (Unit {0}) StdioFault)
     : Type 0 where
   pub calls : List Call
   pub called : Makes old new calls
-  pub dialogue : IsDialogue no_call calls
-  pub front : IsFront (after_calls no_call calls)
-  pub ended : EndsAs (after_calls no_call calls) result
+  pub dialogue : IsDialogue setup no_call calls
+  pub front : IsFront setup (after_calls no_call calls)
+  pub ended : EndsAs setup (after_calls no_call calls) result

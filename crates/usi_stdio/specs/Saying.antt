@@ -1,6 +1,7 @@
 -- What is written between two reads (own choice).
 use Rattle.std.specs.Prelude.{◌≡◌, ◌+◌, ◌*◌, ℕ, List, [], ◌++◌, Bool, true, false, cond, Option, None, Some, Result, Err, IfErr}
 use Rattle.std.specs.Io.KnownBytes.{Appends}
+use Rattle.usi_texts.specs.declared.setup.Setup.{Setup}
 use Rattle.usi_session.specs.Due.{SessionView, due, state_due, load, is_pending}
 use Rattle.usi_stdio.specs.Calls.{Call, Report, Makes}
 use Rattle.usi_stdio.specs.Dialogue.{Talk, after_calls, IsDialogue}
@@ -17,11 +18,11 @@ quiet read reads written = record {
   outcome = None;
 }
 
--- these calls follow where all is flushed: they write these bytes and read none, leave them flushed or not, and this result asked for
+-- these calls follow where all is flushed, under any setup: they write these bytes and read none, leave them flushed or not, and this result asked for
 pub record Speaks (calls : List Call) (bytes : List ℕ) (is_flushed : Bool)
     (outcome : Option (Result (Unit {0}) StdioFault)) : Type 0 where
-  pub dialogue : (read : List ℕ) (reads : ℕ) (written : List ℕ)
-      → IsDialogue (quiet read reads written) calls
+  pub dialogue : (setup : Setup) (read : List ℕ) (reads : ℕ) (written : List ℕ)
+      → IsDialogue setup (quiet read reads written) calls
   pub after : (read : List ℕ) (reads : ℕ) (written : List ℕ)
       → after_calls (quiet read reads written) calls
       ≡ record {

@@ -1,7 +1,8 @@
 -- One session over a front end: what is written is what the session's replies are to what was read (own choice).
 use Rattle.std.specs.Prelude.{◌≡◌, ℕ, ◌≤◌, length, List, ◌++◌, Option, ◌⊎◌, true, false}
 use Rattle.std.specs.Io.KnownBytes.{Appends, Consumes, IsAtEnd}
-use Rattle.usi_session.specs.WholeStream.{replies, is_over_after}
+use Rattle.usi_texts.specs.declared.setup.Setup.{Setup}
+use Rattle.usi_session.specs.WholeStream.{replies_under, is_over_after_under}
 use Rattle.usi_session.specs.declared.limits.TheConstants.{CHUNK_MAX}
 use Rattle.usi_stdio.specs.Calls.{Report}
 
@@ -16,31 +17,31 @@ abbrev pub TakesPrefix : Option (List ℕ) → Option (List ℕ) → List ℕ �
 TakesPrefix old new bytes = (left : List ℕ) × WritesBut old new bytes left
 
 -- the session was not over before the last chunk: once it is over, nothing further is read
-pub record StopsInTime (read : List ℕ) : Type 0 where
+pub record StopsInTime (setup : Setup) (read : List ℕ) : Type 0 where
   pub prefix : List ℕ
   pub chunk : List ℕ
   pub split : read ≡ prefix ++ chunk
   pub most : length chunk ≤ CHUNK_MAX
-  pub alive : is_over_after prefix ≡ false
+  pub alive : is_over_after_under setup prefix ≡ false
 
--- all replies to what was read were written, and the input ended or the session is over
-pub record IsAnswered (before after old new : Option (List ℕ)) : Type 0 where
+-- all replies to what was read, under a setup, were written, and the input ended or the session is over
+pub record IsAnswered (setup : Setup) (before after old new : Option (List ℕ)) : Type 0 where
   pub read : List ℕ
   pub consumed : Consumes before after read
-  pub written : Appends old new (replies read)
-  pub ended : IsAtEnd after ⊎ (is_over_after read ≡ true)
-  pub stops : StopsInTime read
+  pub written : Appends old new (replies_under setup read)
+  pub ended : IsAtEnd after ⊎ (is_over_after_under setup read ≡ true)
+  pub stops : StopsInTime setup read
 
 -- a prefix of the replies to what was read was written
-pub record IsCutShort (before after old new : Option (List ℕ)) : Type 0 where
+pub record IsCutShort (setup : Setup) (before after old new : Option (List ℕ)) : Type 0 where
   pub read : List ℕ
   pub consumed : Consumes before after read
-  pub written : TakesPrefix old new (replies read)
-  pub stops : StopsInTime read
+  pub written : TakesPrefix old new (replies_under setup read)
+  pub stops : StopsInTime setup read
 
 -- the same two of what a front end reports
-abbrev pub IsServed : Report → Report → Type 0
-IsServed old new = IsAnswered old.unread new.unread old.written new.written
+abbrev pub IsServed : Setup → Report → Report → Type 0
+IsServed setup old new = IsAnswered setup old.unread new.unread old.written new.written
 
-abbrev pub IsLeft : Report → Report → Type 0
-IsLeft old new = IsCutShort old.unread new.unread old.written new.written
+abbrev pub IsLeft : Setup → Report → Report → Type 0
+IsLeft setup old new = IsCutShort setup old.unread new.unread old.written new.written

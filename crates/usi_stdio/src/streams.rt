@@ -7,9 +7,10 @@ ghost use Rattle.usi_stdio.specs.Stdio.{IsLeft, IsServed};
 ghost use Rattle.usi_stdio.specs.declared.streams.StdioFault.TheVariants.{OutOfMemory, WriteFailed};
 ghost use Rattle.usi_lines.specs.OneLine.{IsOneLine};
 ghost use Rattle.usi_lines.specs.Lines.{lines};
-ghost use Rattle.usi_session.specs.Answer.{initial_state};
-ghost use Rattle.usi_session.specs.Due.{due, is_pending, new_session, state_due, wants_input};
-ghost use Rattle.usi_session.specs.WholeStream.{replies, state_from};
+ghost use Rattle.usi_texts.specs.Setup.{default_setup};
+ghost use Rattle.usi_session.specs.Answer.{initial_state_under};
+ghost use Rattle.usi_session.specs.Due.{due, is_pending, new_session_under, state_due, wants_input};
+ghost use Rattle.usi_session.specs.WholeStream.{replies_under, state_from};
 ghost use Rattle.usi_session.specs.declared.limits.TheConstants.{CHUNK_MAX};
 ghost use Rattle.shared_table.specs.declared.table.TheConstants.{CAPACITY_MAX};
 
@@ -21,6 +22,7 @@ use std::hash::{BuildHasherDefault, FoldHasher};
 use thiserror::Error;
 use usi_lines::cut_line;
 use usi_session::{CHUNK_MAX, Session, SessionFault};
+use usi_texts::Setup;
 
 /// The most steps of search before what is queued is written.
 pub const SLICE: u64 = 500;
@@ -182,12 +184,16 @@ fn answer_all<A: Allocator + Copy, M: Memo, T: FrontEnd>(
     memo: &mut M,
     front_end: &mut T,
 ) -> Result<(), StdioFault>
-    requires initial { session.old ≡ new_session }
-    requires due { (x : List ℕ) → due session.old x ≡ replies x }
-    requires after { (x : List ℕ) → state_due session.old x ≡ state_from initial_state (lines x) }
-    ensures ok { OnOk result (IsServed (T.report front_end.old) (T.report front_end.new)) }
-    ensures err { OnErr result (IsLeft (T.report front_end.old) (T.report front_end.new)) }
-    ensures calls { Talks (T.report front_end.old).calls (T.report front_end.new).calls result }
+    requires initial { session.old ≡ new_session_under session.old.state.setup }
+    requires due { (x : List ℕ) → due session.old x ≡ replies_under session.old.state.setup x }
+    requires after { (x : List ℕ) → state_due session.old x
+        ≡ state_from (initial_state_under session.old.state.setup) (lines x) }
+    ensures ok { OnOk result
+        (IsServed session.old.state.setup (T.report front_end.old) (T.report front_end.new)) }
+    ensures err { OnErr result
+        (IsLeft session.old.state.setup (T.report front_end.old) (T.report front_end.new)) }
+    ensures calls { Talks session.old.state.setup
+        (T.report front_end.old).calls (T.report front_end.new).calls result }
 {
     let mut chunk = [0u8; CHUNK_MAX];
     'chunks: for _reads in 0..u64::MAX {
@@ -206,7 +212,25 @@ fn answer_all<A: Allocator + Copy, M: Memo, T: FrontEnd>(
     Err(StdioFault::ReadFailed)
 }
 
-/// Runs one session: reads chunks of at most 4,096 bytes and answers each before the next, until
+/// `stdio_with_setup` under the default setup.
+pub fn stdio<A: Allocator + Copy, T: FrontEnd>(
+    alloc: A,
+    front_end: &mut T,
+    entries: usize,
+) -> Result<(), StdioFault>
+    requires least { 1 ≤ entries }
+    requires most { entries ≤ CAPACITY_MAX }
+    ensures ok { OnOk result
+        (IsServed default_setup (T.report front_end.old) (T.report front_end.new)) }
+    ensures err { OnErr result
+        (IsLeft default_setup (T.report front_end.old) (T.report front_end.new)) }
+    ensures calls { Talks default_setup
+        (T.report front_end.old).calls (T.report front_end.new).calls result }
+{
+    stdio_with_setup(alloc, Setup::new(), front_end, entries)
+}
+
+/// Runs one session under a setup: reads chunks of at most 4,096 bytes and answers each before the next, until
 /// the input ends or the session is over. Replies are written and flushed as they are found: those
 /// to a line before the next line is looked at, and the info line of a depth before the next 500
 /// steps of search are made. Bytes after the last LF are no line, but for 65,536 or more, which are
@@ -215,19 +239,22 @@ fn answer_all<A: Allocator + Copy, M: Memo, T: FrontEnd>(
 /// `OutOfMemory` comes where allocation failed, `ReadFailed` where a read failed, and `WriteFailed`
 /// where a write or a flush failed or a write took nothing. After each of them what was written is
 /// a prefix of the replies to what was read.
-pub fn stdio<A: Allocator + Copy, T: FrontEnd>(
+pub fn stdio_with_setup<A: Allocator + Copy, T: FrontEnd>(
     alloc: A,
+    setup: Setup,
     front_end: &mut T,
     entries: usize,
 ) -> Result<(), StdioFault>
     requires least { 1 ≤ entries }
     requires most { entries ≤ CAPACITY_MAX }
-    ensures ok { OnOk result (IsServed (T.report front_end.old) (T.report front_end.new)) }
-    ensures err { OnErr result (IsLeft (T.report front_end.old) (T.report front_end.new)) }
-    ensures calls { Talks (T.report front_end.old).calls (T.report front_end.new).calls result }
+    ensures ok { OnOk result
+        (IsServed setup (T.report front_end.old) (T.report front_end.new)) }
+    ensures err { OnErr result (IsLeft setup (T.report front_end.old) (T.report front_end.new)) }
+    ensures calls { Talks setup
+        (T.report front_end.old).calls (T.report front_end.new).calls result }
 {
     let hasher = BuildHasherDefault::<FoldHasher>::new();
     let mut table = SharedTable::new(alloc, entries, hasher)?;
-    let mut session = Session::new(alloc);
+    let mut session = Session::with_setup(alloc, setup);
     answer_all(&mut session, &mut table, front_end)
 }

@@ -1,3 +1,5 @@
+pub mod SetupRange
+pub mod Setup
 pub mod Options
 pub mod Texts
 pub mod PositionCommand

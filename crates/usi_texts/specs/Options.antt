@@ -1,14 +1,16 @@
 -- The options of a session: what they are set to, and how they are offered (USI, option and setoption; names, ranges and defaults are an own choice).
-use Rattle.std.specs.Prelude.{ℕ, List, ◌++◌, codes, decimal}
-use Rattle.shogi_eval.specs.declared.eval.Eval.TheVariants.{Plain}
-use Rattle.usi_lines.specs.declared.options.TheConstants.{DEPTH_MIN, DEPTH_MAX, MULTI_PV_MIN, MULTI_PV_MAX}
+use Rattle.std.specs.Prelude.{ℕ, List, [], ◌++◌, cond, codes, decimal}
+use Rattle.shogi_eval.specs.declared.eval.Eval.{Eval}
+use Rattle.shogi_eval.specs.declared.eval.Eval.TheVariants.{Plain, Hand, Exchange}
+use Rattle.usi_lines.specs.declared.options.TheConstants.{DEPTH_MIN, MULTI_PV_MIN, MULTI_PV_MAX}
 use Rattle.usi_lines.specs.Options.{IsDepth, IsMultiPv}
-use Rattle.usi_texts.specs.declared.options.TheConstants.{DEPTH_DEFAULT, MULTI_PV_DEFAULT}
 use Rattle.usi_texts.specs.declared.options.Options.{Options}
+use Rattle.usi_texts.specs.declared.setup.Setup.{Setup}
+use Rattle.usi_texts.specs.Setup.{offers}
 
--- each option at its default
-abbrev pub default_options : Options
-default_options = record { depth = 3; eval = Plain; multi_pv = 1 }
+-- each option as a setup has it at first
+abbrev pub options_under : Setup → Options
+options_under setup = record { depth = setup.depth; eval = setup.eval; multi_pv = setup.multi_pv }
 
 -- each option that is a number lies in its range
 pub record AreInRange (options : Options) : Type 0 where
@@ -29,12 +31,25 @@ abbrev pub spin_line : List ℕ → ℕ → ℕ → ℕ → List ℕ
 spin_line name default least most =
     spin_name name ++ ((codes " default " ++ decimal default) ++ spin_range least most)
 
+-- the name of an evaluation
+abbrev pub eval_name : Eval → List ℕ
+eval_name Plain = codes "Plain"
+eval_name Hand = codes "Hand"
+eval_name Exchange = codes "Exchange"
+
+-- the evaluations of a setup, to the end of the line
+abbrev pub eval_names : Setup → List ℕ
+eval_names setup =
+    cond (offers setup Exchange) (codes " var Plain var Hand var Exchange\n")
+    (codes " var Plain var Hand\n")
+
 -- the line that offers the evaluation
-abbrev pub eval_line : List ℕ
-eval_line = codes "option name Eval type combo default Plain var Plain var Hand\n"
+abbrev pub eval_line : Setup → List ℕ
+eval_line setup =
+    codes "option name Eval type combo default " ++ (eval_name setup.eval ++ eval_names setup)
 
 -- what is offered: a row for each option
-abbrev pub option_lines : List ℕ
-option_lines =
-    spin_line (codes "Depth") DEPTH_DEFAULT DEPTH_MIN DEPTH_MAX
-    ++ (eval_line ++ spin_line (codes "MultiPV") MULTI_PV_DEFAULT MULTI_PV_MIN MULTI_PV_MAX)
+abbrev pub option_lines : Setup → List ℕ
+option_lines setup =
+    spin_line (codes "Depth") setup.depth DEPTH_MIN setup.max_depth
+    ++ (eval_line setup ++ spin_line (codes "MultiPV") setup.multi_pv MULTI_PV_MIN MULTI_PV_MAX)

@@ -6,6 +6,7 @@ use Rattle.shogi_eval.specs.declared.eval.Eval.{Eval}
 use Rattle.minimax.specs.Minimax.{value, pv}
 use Rattle.shogi_sfen.specs.MoveTexts.{text_of}
 use Rattle.usi_texts.specs.Options.{option_lines}
+use Rattle.usi_texts.specs.declared.setup.Setup.{Setup}
 use Rattle.usi_texts.specs.declared.text.TheConstants.{MATE_MIN}
 
 -- where it succeeds, the text was appended
@@ -13,10 +14,10 @@ abbrev pub Writes : {A E : Type 0} → Result (Unit {0}) E → Vec ℕ A → Vec
 Writes result before after text = OnOk result (after.items ≡ before.items ++ text)
 
 -- what `usi` is answered with
-abbrev pub usi_reply : List ℕ
-usi_reply =
+abbrev pub usi_reply : Setup → List ℕ
+usi_reply setup =
     codes "id name Shared Shogi Host\nid author Shared Shogi Host Team\n"
-    ++ (option_lines ++ codes "usiok\n")
+    ++ (option_lines setup ++ codes "usiok\n")
 
 -- what `isready` is answered with
 abbrev pub ready_reply : List ℕ

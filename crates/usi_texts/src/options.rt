@@ -2,13 +2,14 @@
 
 ghost use Rattle.std.specs.Prelude.{◌≡◌, ◌++◌, decimal};
 ghost use Rattle.usi_texts.specs.Texts.{Writes};
-ghost use Rattle.usi_texts.specs.Options.{default_options, option_lines, eval_line, spin_name, spin_range, spin_line};
+ghost use Rattle.usi_texts.specs.Options.{options_under, option_lines, eval_line, eval_name, eval_names, spin_name, spin_range, spin_line};
 
+use crate::setup::Setup;
 use crate::text::write_parts;
 use itoa::Buffer;
 use shogi_eval::Eval;
 use std::alloc::{AllocError, Allocator};
-use usi_lines::{DEPTH_MAX, DEPTH_MIN, MULTI_PV_MAX, MULTI_PV_MIN};
+use usi_lines::{DEPTH_MIN, MULTI_PV_MAX, MULTI_PV_MIN};
 
 /// The depth of a session whose `Depth` was never set (own choice).
 pub const DEPTH_DEFAULT: u8 = 3;
@@ -28,14 +29,14 @@ pub struct Options {
 }
 
 impl Options {
-    /// Each option at its default.
-    pub fn new() -> Options
-        ensures { result ≡ default_options }
+    /// Each option as the setup has it.
+    pub fn under(setup: Setup) -> Options
+        ensures { result ≡ options_under setup }
     {
         Options {
-            depth: DEPTH_DEFAULT,
-            eval: Eval::Plain,
-            multi_pv: MULTI_PV_DEFAULT,
+            depth: setup.depth,
+            eval: setup.eval,
+            multi_pv: setup.multi_pv,
         }
     }
 }
@@ -86,25 +87,42 @@ fn write_spin<A: Allocator>(
     Ok(())
 }
 
-/// Offers the evaluations (USI, option).
-fn write_eval<A: Allocator>(out: &mut Vec<u8, A>) -> Result<(), AllocError>
-    ensures { Writes result out.old out.new eval_line }
+/// The name of an evaluation.
+fn eval_name(eval: Eval) -> &'static [u8]
+    ensures { result.now ≡ eval_name eval }
 {
-    out.extend_from_slice(b"option name Eval type combo default Plain var Plain var Hand\n")
+    match eval {
+        Eval::Plain => b"Plain",
+        Eval::Hand => b"Hand",
+        Eval::Exchange => b"Exchange",
+    }
+}
+
+/// The evaluations of a setup, to the end of the line.
+fn eval_names(setup: &Setup) -> &'static [u8]
+    ensures { result.now ≡ eval_names setup.now }
+{
+    if setup.offers(Eval::Exchange) {
+        b" var Plain var Hand var Exchange\n"
+    } else {
+        b" var Plain var Hand\n"
+    }
+}
+
+/// Offers the evaluations (USI, option).
+fn write_eval<A: Allocator>(out: &mut Vec<u8, A>, setup: &Setup) -> Result<(), AllocError>
+    ensures { Writes result out.old out.new (eval_line setup.now) }
+{
+    let head: &[u8] = b"option name Eval type combo default ";
+    write_parts(out, &[head, eval_name(setup.eval), eval_names(setup)])
 }
 
 /// Offers the options: a row for each.
-pub fn write_options<A: Allocator>(out: &mut Vec<u8, A>) -> Result<(), AllocError>
-    ensures { Writes result out.old out.new option_lines }
+pub fn write_options<A: Allocator>(out: &mut Vec<u8, A>, setup: &Setup) -> Result<(), AllocError>
+    ensures { Writes result out.old out.new (option_lines setup.now) }
 {
-    write_spin(out, b"Depth", DEPTH_DEFAULT, DEPTH_MIN, DEPTH_MAX)?;
-    write_eval(out)?;
-    write_spin(
-        out,
-        b"MultiPV",
-        MULTI_PV_DEFAULT,
-        MULTI_PV_MIN,
-        MULTI_PV_MAX,
-    )?;
+    write_spin(out, b"Depth", setup.depth, DEPTH_MIN, setup.max_depth)?;
+    write_eval(out, setup)?;
+    write_spin(out, b"MultiPV", setup.multi_pv, MULTI_PV_MIN, MULTI_PV_MAX)?;
     Ok(())
 }

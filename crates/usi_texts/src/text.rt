@@ -4,6 +4,7 @@ ghost use Rattle.std.specs.Prelude.{◌++◌, flat_map};
 ghost use Rattle.usi_texts.specs.Texts.{Writes, usi_reply, mate_not_implemented_reply, bad_position_line, illegal_move_line, size_text, score_text, moves_text, head_text, pv_text, info_with, info_text, numbered_info_text, bestmove_line};
 
 use crate::options::write_options;
+use crate::setup::Setup;
 use itoa::Buffer;
 use minimax::MATE;
 use shogi_core::Move;
@@ -23,12 +24,12 @@ pub fn write_parts<A: Allocator>(out: &mut Vec<u8, A>, parts: &[&[u8]]) -> Resul
     Ok(())
 }
 
-/// Names the program and its options (USI, usi).
-pub fn write_usi<A: Allocator>(out: &mut Vec<u8, A>) -> Result<(), AllocError>
-    ensures { Writes result out.old out.new usi_reply }
+/// Names the program and its options under a setup (USI, usi).
+pub fn write_usi<A: Allocator>(out: &mut Vec<u8, A>, setup: &Setup) -> Result<(), AllocError>
+    ensures { Writes result out.old out.new (usi_reply setup.now) }
 {
     out.extend_from_slice(b"id name Shared Shogi Host\nid author Shared Shogi Host Team\n")?;
-    write_options(out)?;
+    write_options(out, setup)?;
     out.extend_from_slice(b"usiok\n")?;
     Ok(())
 }

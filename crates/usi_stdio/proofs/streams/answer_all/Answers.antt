@@ -6,7 +6,7 @@ use Rattle.usi_stdio.proofs.Working.{on_err}
 use Rattle.usi_stdio.proofs.streams.answer_all.Goals as goal
 
 pub chunks-init : goal.chunks-init
-chunks-init g c = between_start _ c.args.session.now c.requires.initial c.requires.due c.requires.after
+chunks-init g c = between_start c.args.session.now.state.setup _ c.args.session.now c.requires.initial c.requires.due c.requires.after
 
 -- a read failed
 pub returns-in_default-clause-err : goal.returns-in_default-clause-err

@@ -23,6 +23,7 @@ returns-in-Some-clause-closed g c =
       next_is = c.close.ensures.same.1;
       count_is = on_some c.close.result (count c.close.new.self + 1 ≡ count c.self.inside.slots) c.in-Some.ensures.some c.close.ensures.count;
       table_is = refl;
+      setup_is = refl;
     }))
 
 pub returns-in-Some-clause-others : goal.returns-in-Some-clause-others
@@ -33,7 +34,7 @@ returns-in-Some-clause-below g c = rw (← c.self.view_is) c.validity.ensures.be
 
 pub returns-in-None-clause-err : goal.returns-in-None-clause-err
 returns-in-None-clause-err g c =
-    let same = ap (λ (s : OpenSessions SessionView). (let h : HostState = record { table = c.self.inside.table; slots = s } in h)) (rw c.in-None.ensures.none at c.close.ensures.absent) in
+    let same = ap (λ (s : OpenSessions SessionView). (let h : HostState = record { setup = c.self.inside.setup; table = c.self.inside.table; slots = s } in h)) (rw c.in-None.ensures.none at c.close.ensures.absent) in
     same ∙ c.self.view_is
 
 pub returns-in-None-clause-closed : goal.returns-in-None-clause-closed

@@ -13,7 +13,7 @@ pub returns-clause-fed : goal.returns-clause-fed
 returns-clause-fed g c =
     let is : find c.self.inside.slots c.args.id ≡ Some c.in-Some.session.now = sym c.in-Some.ensures.value in
     rw (← c.self.view_is)
-    (on_found (Feeds c.args.chunk.now) (record { table = c.self.inside.table; slots = c.self.inside.slots }) c.self.inside.table c.args.id c.in-Some.session.now c.feed-fed.new.session (done_of c.feed-fed.result) is c.feed-fed.ensures, refl)
+    (on_found (Feeds c.args.chunk.now) (record { setup = c.self.inside.setup; table = c.self.inside.table; slots = c.self.inside.slots }) c.self.inside.table c.args.id c.in-Some.session.now c.feed-fed.new.session (done_of c.feed-fed.result) is c.feed-fed.ensures, refl)
 
 pub returns-clause-others : goal.returns-clause-others
 returns-clause-others g c =
@@ -34,7 +34,7 @@ pub returns-in_default-clause-fed : goal.returns-in_default-clause-fed
 returns-in_default-clause-fed g c =
     let is : find c.self.inside.slots c.args.id ≡ None = search rules in
     rw (← c.self.view_is)
-    (on_none (Feeds c.args.chunk.now) (record { table = c.self.inside.table; slots = c.self.inside.slots }) c.args.id is, refl)
+    (on_none (Feeds c.args.chunk.now) (record { setup = c.self.inside.setup; table = c.self.inside.table; slots = c.self.inside.slots }) c.args.id is, refl)
 
 pub returns-in_default-clause-err : goal.returns-in_default-clause-err
 returns-in_default-clause-err g c = c.self.view_is

@@ -8,19 +8,19 @@ use Rattle.host_core.proofs.host.Host.open.Goals as goal
 pub invariant_of-self : goal.invariant_of-self
 invariant_of-self g c =
     rw c.set.ensures
-    (still_opened c.self.inside.noted.items c.self.inside.slots c.open.new.self c.in-Ok.id c.self.invariant (rw c.new.ensures.initial at c.in-Ok.ensures.opened))
+    (still_opened c.self.inside.setup c.self.inside.noted.items c.self.inside.slots c.open.new.self c.in-Ok.id c.self.invariant (rw c.with_setup.ensures.initial at c.in-Ok.ensures.opened))
 
 pub returns-in-Ok-clause-opened : goal.returns-in-Ok-clause-opened
 returns-in-Ok-clause-opened g c =
     rw (← c.self.view_is)
-    (record { room = λ full. (let e = c.in-Ok.ensures.full.1 full in absurd (cc)); opens = rw c.new.ensures.initial at c.in-Ok.ensures.opened; table_is = refl })
+    (record { room = λ full. (let e = c.in-Ok.ensures.full.1 full in absurd (cc)); opens = rw c.with_setup.ensures.initial at c.in-Ok.ensures.opened; table_is = refl; setup_is = refl })
 
 pub returns-in-Ok-clause-below : goal.returns-in-Ok-clause-below
 returns-in-Ok-clause-below g c = rw (← c.self.view_is) c.validity.ensures.below
 
 pub returns-in-Err-Full-clause-err : goal.returns-in-Err-Full-clause-err
 returns-in-Err-Full-clause-err g c =
-    let same = ap (λ (s : OpenSessions SessionView). (let h : HostState = record { table = c.self.inside.table; slots = s } in h)) c.in-Err-Full.ensures.err in
+    let same = ap (λ (s : OpenSessions SessionView). (let h : HostState = record { setup = c.self.inside.setup; table = c.self.inside.table; slots = s } in h)) c.in-Err-Full.ensures.err in
     same ∙ c.self.view_is
 
 pub returns-in-Err-Full-clause-opened : goal.returns-in-Err-Full-clause-opened
@@ -34,7 +34,7 @@ returns-in-Err-Full-clause-below g c = rw (← c.self.view_is) c.validity.ensure
 
 pub returns-in-Err-OutOfMemory-clause-err : goal.returns-in-Err-OutOfMemory-clause-err
 returns-in-Err-OutOfMemory-clause-err g c =
-    let same = ap (λ (s : OpenSessions SessionView). (let h : HostState = record { table = c.self.inside.table; slots = s } in h)) c.in-Err-OutOfMemory.ensures.err in
+    let same = ap (λ (s : OpenSessions SessionView). (let h : HostState = record { setup = c.self.inside.setup; table = c.self.inside.table; slots = s } in h)) c.in-Err-OutOfMemory.ensures.err in
     same ∙ c.self.view_is
 
 pub returns-in-Err-OutOfMemory-clause-opened : goal.returns-in-Err-OutOfMemory-clause-opened

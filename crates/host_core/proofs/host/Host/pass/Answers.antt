@@ -16,7 +16,7 @@ returns-clause-below g c = rw (← c.self.view_is) c.validity.ensures.below
 
 pub returns-clause-others : goal.returns-clause-others
 returns-clause-others g c = λ id n.
-    let new : HostState = record { table = c.self.inside.table; slots = with_session c.self.inside.slots c.args.id c.pass-passed.new.session } in
+    let new : HostState = record { setup = c.self.inside.setup; table = c.self.inside.table; slots = with_session c.self.inside.slots c.args.id c.pass-passed.new.session } in
     keeps_others c.args.self.now new (Take c.args.id c.args.n) (passed_from c.args.self.now c.args.id c.args.n c.pass-passed.result) (returns-clause-taken g c) id n
 
 pub returns-clause-err : goal.returns-clause-err

@@ -2,7 +2,7 @@ use Rattle.std.proofs.Common.{rules, ◌≡◌, take}
 use Rattle.std.proofs.lemmas.List.{take_all}
 use Rattle.host_core.specs.Seen.{answered}
 use Rattle.host_core.proofs.Chains.{run-start, run_on}
-use Rattle.host_core.proofs.Kept.{keeps_capacity}
+use Rattle.host_core.proofs.Kept.{keeps_capacity, keeps_setup}
 use Rattle.host_core.proofs.OneSession.{made_prefix, made_all, kept}
 use Rattle.host_core.proofs.Overs.{kept_over, made_over, opened_over}
 use Rattle.host_core.proofs.host.Host.run.Goals as goal
@@ -51,3 +51,8 @@ pub returns-clause-capacity : goal.returns-clause-capacity
 returns-clause-capacity g c =
     let all : take c.loop-event.event-index c.args.events.now ≡ c.args.events.now = take_all c.loop-event.event-index c.args.events.now c.loop-event-test.false in
     keeps_capacity c.args.self.now c.loop-event.self (answered c.args.events.now c.loop-event.outcomes.items) (rw all at c.loop-event.invariant.chain)
+
+pub returns-clause-setup : goal.returns-clause-setup
+returns-clause-setup g c =
+    let all : take c.loop-event.event-index c.args.events.now ≡ c.args.events.now = take_all c.loop-event.event-index c.args.events.now c.loop-event-test.false in
+    keeps_setup c.args.self.now c.loop-event.self (answered c.args.events.now c.loop-event.outcomes.items) (rw all at c.loop-event.invariant.chain)

@@ -13,7 +13,7 @@ pub returns-clause-taken : goal.returns-clause-taken
 returns-clause-taken g c =
     let is : find c.self.inside.slots c.args.id ≡ Some c.in-Some.session.now = sym c.in-Some.ensures.value in
     rw (← c.self.view_is)
-    (on_found (Takes c.args.n) (record { table = c.self.inside.table; slots = c.self.inside.slots }) c.self.inside.table c.args.id c.in-Some.session.now c.take-taken.new.session (as_outcome Gave c.take-taken.result) is c.take-taken.ensures, refl)
+    (on_found (Takes c.args.n) (record { setup = c.self.inside.setup; table = c.self.inside.table; slots = c.self.inside.slots }) c.self.inside.table c.args.id c.in-Some.session.now c.take-taken.new.session (as_outcome Gave c.take-taken.result) is c.take-taken.ensures, refl)
 
 pub returns-clause-others : goal.returns-clause-others
 returns-clause-others g c =
@@ -34,7 +34,7 @@ pub returns-in_default-clause-taken : goal.returns-in_default-clause-taken
 returns-in_default-clause-taken g c =
     let is : find c.self.inside.slots c.args.id ≡ None = search rules in
     rw (← c.self.view_is)
-    (on_none (Takes c.args.n) (record { table = c.self.inside.table; slots = c.self.inside.slots }) c.args.id is, refl)
+    (on_none (Takes c.args.n) (record { setup = c.self.inside.setup; table = c.self.inside.table; slots = c.self.inside.slots }) c.args.id is, refl)
 
 pub returns-in_default-clause-err : goal.returns-in_default-clause-err
 returns-in_default-clause-err g c = c.self.view_is

@@ -22,7 +22,7 @@ returns-clause-worked g c =
     let slots : OpenSessions SessionView = c.self.inside.slots in
     let is : find slots c.args.id ≡ Some c.in-Some.session.now = sym c.in-Some.ensures.value in
     rw (← c.self.view_is) (
-      on_found (Works c.args.budget) (record { table = c.self.inside.table; slots = slots }) c.work-worked.new.memo c.args.id c.in-Some.session.now c.work-worked.new.session (as_outcome Worked c.work-worked.result) is c.work-worked.ensures.works,
+      on_found (Works c.args.budget) (record { setup = c.self.inside.setup; table = c.self.inside.table; slots = slots }) c.work-worked.new.memo c.args.id c.in-Some.session.now c.work-worked.new.session (as_outcome Worked c.work-worked.result) is c.work-worked.ensures.works,
       record {
         capacity_is = c.work-worked.ensures.capacity;
         idle = λ h. c.work-worked.ensures.idle (sym (ap pending_of is) ∙ h);

@@ -6,13 +6,13 @@ use Rattle.usi_replay.proofs.Names.{none_under, one_under, in_use_there}
 use Rattle.usi_replay.proofs.playback.Playback.send_line.Goals as goal
 
 pub returns-then-place-len-clause-done : goal.returns-then-place-len-clause-done
-returns-then-place-len-clause-done g c = λ slots os p.
+returns-then-place-len-clause-done g c = λ setup slots os p.
     let le : length c.args.self.now.transcripts.items ≤ position_or_len (is_transcript_under c.args.name) c.args.self.now.transcripts.items = search rules in
-    (none_under c.args.self.now.host 0 c.args.name (sent_opening c.args.text.now) os c.args.self.now.transcripts.items p.transcripts le).none
+    (none_under setup c.args.self.now.host 0 c.args.name (sent_opening c.args.text.now) os c.args.self.now.transcripts.items p.transcripts le).none
 
 pub send-requires-clause-used : goal.send-requires-clause-used
 send-requires-clause-used g c = in_use_there c.args.name c.args.self.now.transcripts.items c.place_of-place.result c.place_of-place.ensures.value (search rules)
 
 pub returns-clause-done : goal.returns-clause-done
-returns-clause-done g c = λ slots os p.
-    (set os c.place_of-place.result (sent_opening c.args.text.now (get_or os c.place_of-place.result no_opening)), (one_under c.args.self.now.host 0 c.args.name (sent_opening c.args.text.now) os c.args.self.now.transcripts.items c.place_of-place.result p.transcripts c.place_of-place.ensures.value (search rules)).changed, c.in_ok-send.ensures.fed slots os p)
+returns-clause-done g c = λ setup slots os p.
+    (set os c.place_of-place.result (sent_opening c.args.text.now (get_or os c.place_of-place.result no_opening)), (one_under setup c.args.self.now.host 0 c.args.name (sent_opening c.args.text.now) os c.args.self.now.transcripts.items c.place_of-place.result p.transcripts c.place_of-place.ensures.value (search rules)).changed, c.in_ok-send.ensures.fed setup slots os p)
