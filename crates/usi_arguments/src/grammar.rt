@@ -271,7 +271,7 @@ fn eval_option<'a>(alloc: Global) -> Arg<'a>
         alloc,
         "eval",
         "NAME",
-        "The option Eval as a session begins: plain, hand, or exchange, offered only with it",
+        "The option Eval as a session begins: plain, hand or exchange; Exchange is offered only so",
     )
     .default_value("plain")
 }

@@ -22,6 +22,7 @@ Exit statuses:
 Examples:
   usi_host
   usi_host stdio --entries 100000
+  usi_host stdio --eval exchange --depth 6
   printf 'position startpos\\ngo depth 3\\nquit\\n' | usi_host
   printf '+A\\n+B\\nA go depth 1\\nB usi\\n' | usi_host replay --slots 2
   usi_host serve --socket /tmp/shogi.socket";
@@ -34,8 +35,9 @@ Exit statuses:
   0  the session is over
   1  out of memory, or a failed read or write; standard error says which
 
-Example:
-  usi_host stdio --entries 100000";
+Examples:
+  usi_host stdio --entries 100000
+  usi_host stdio --eval exchange --depth 6";
 
 pub(crate) const REPLAY_HELP: &str = "`usi_host replay --help` describes the lines of a script.";
 
@@ -65,6 +67,7 @@ client closes its side and has its answers. A client that finds all slots taken 
 `info string host full`. The file of a socket stays when the program ends.
 Whoever connects to the socket of --status is sent one line of JSON, with what the host counts, and
 is closed.
+A search is not cut short: where strangers may connect, --max-depth says how deep one goes at most.
 An idle host does not end by --turns: each turn is followed by a wait, which may last until a
 client comes.
 
