@@ -138,7 +138,16 @@ fn main(rt: HostRuntime) -> ExitCode {
                 setup,
             },
         ) => {
-            match run_socket(&rt, socket.as_str(), &status, slots, entries, slice, turns, setup) {
+            match run_socket(
+                &rt,
+                socket.as_str(),
+                &status,
+                slots,
+                entries,
+                slice,
+                turns,
+                setup,
+            ) {
                 Ok(()) => DONE,
                 Err(fault) => complain(&rt, fault.complaint(), fault.status()),
             }

@@ -73,7 +73,15 @@ pub(crate) fn run_script<T: FrontEnd>(
     requires reach { IsInReach options }
     ensures { IsReplayAsked options slots (T.report front_end.old) (T.report front_end.new) result }
 {
-    script(rt, rt.alloc(), setup_of(options), front_end, slots, entries, slice)
+    script(
+        rt,
+        rt.alloc(),
+        setup_of(options),
+        front_end,
+        slots,
+        entries,
+        slice,
+    )
 }
 
 /// A host of no session yet.
