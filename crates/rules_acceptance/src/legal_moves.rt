@@ -119,14 +119,14 @@ fn leaves_reply(sfen: &str, text: &str) -> Result<bool, Fail> {
 #[test]
 fn moves_off_a_line_of_a_king(rt: HostRuntime) -> Result<(), Fail> {
     for (sfen, text, certain) in [
-        ("4k4/9/7p1/9/4S4/9/9/9/K3G4 b -", "5e4d", true),
-        ("4k4/9/7p1/9/4S4/9/9/9/K3R4 b -", "5e4d", false),
-        ("4k4/9/2p4p1/9/B1P1S4/9/9/9/K8 b -", "5e4d", true),
-        ("4k4/9/7p1/9/4S4/9/9/4P4/K3R4 b -", "5e4d", true),
-        ("4k4/4p4/7p1/9/4S4/9/9/9/K3R4 b -", "5e4d", true),
+        ("4k4/9/7pp/9/4S4/9/9/9/K3G4 b -", "5e4d", true),
+        ("4k4/9/7pp/9/4S4/9/9/9/K3R4 b -", "5e4d", false),
+        ("4k4/9/2p4pp/9/B1P1S4/9/9/9/K8 b -", "5e4d", true),
+        ("4k4/9/7pp/9/4S4/9/9/4P4/K3R4 b -", "5e4d", true),
+        ("4k4/4p4/7pp/9/4S4/9/9/9/K3R4 b -", "5e4d", true),
         // The king elsewhere, and a lance behind.
-        ("4k4/9/7p1/9/4S4/9/9/9/K3R4 b -", "9i8h", true),
-        ("4k4/9/7p1/9/9/9/9/4S4/K3L4 b -", "5h4g", false),
+        ("4k4/9/7pp/9/4S4/9/9/9/K3R4 b -", "9i8h", true),
+        ("4k4/9/7pp/9/9/9/9/4S4/K3L4 b -", "5h4g", false),
     ] {
         same!(rt; leaves_reply(sfen, text)?, certain, (sfen, text));
     }
@@ -137,14 +137,32 @@ fn moves_off_a_line_of_a_king(rt: HostRuntime) -> Result<(), Fail> {
 /// on one nearer by, and gives one on another. A rook behind it gives check by each move off the file.
 #[test]
 fn moves_of_a_slider_off_a_line_of_a_king(rt: HostRuntime) -> Result<(), Fail> {
-    let horse = "4k4/9/2p4p1/9/4+B4/9/9/9/K8 b -";
+    let horse = "4k4/9/2p4pp/9/4+B4/9/9/9/K8 b -";
     for (sfen, text, certain) in [
         (horse, "5e4d", true),
         (horse, "5e2h", true),
         (horse, "5e1a", true),
         (horse, "5e5d", true),
         (horse, "5e3c", false),
-        ("4k4/9/2p4p1/9/4+B4/9/9/9/K3R4 b -", "5e4d", false),
+        ("4k4/9/2p4pp/9/4+B4/9/9/9/K3R4 b -", "5e4d", false),
+    ] {
+        same!(rt; leaves_reply(sfen, text)?, certain, (sfen, text));
+    }
+    Ok(())
+}
+
+/// A pawn with one step shows a reply alone only with another one: the move may end before it, or
+/// take it. Two that step to one square are none.
+#[test]
+fn moves_of_spare_pieces(rt: HostRuntime) -> Result<(), Fail> {
+    for (sfen, text, certain) in [
+        ("4k4/9/7pp/9/7R1/9/9/9/K8 b -", "2e2d", true),
+        ("4k4/9/7pp/9/7R1/9/9/9/K8 b -", "2e2c", true),
+        ("4k4/9/7p1/9/7R1/9/9/9/K8 b -", "2e2d", false),
+        ("4k4/9/7p1/9/7R1/9/9/9/K8 b -", "2e2c", false),
+        ("4k4/9/7s1/9/7R1/9/9/9/K8 b -", "2e2d", true),
+        ("4k4/9/7s1/9/7R1/9/9/9/K8 b -", "2e2c", false),
+        ("4k4/8n/7p1/9/7R1/9/9/9/K8 b -", "2e2d", false),
     ] {
         same!(rt; leaves_reply(sfen, text)?, certain, (sfen, text));
     }
@@ -160,7 +178,8 @@ fn leaves_way_out(sfen: &str, text: &str) -> Result<bool, Fail> {
 /// A rook gives check from afar and a silver from below, and the king may step aside. A gold
 /// reaches all squares next to it. Another one opens the rank below to a rook, and a knight attacks
 /// the square that is left. A bishop beside the king lets it step past, and a rook reaches the only
-/// square, behind it. And without a king there is no such square.
+/// square, behind it. Where the king can only take, nothing is said; and without a king there is no
+/// such square.
 #[test]
 fn ways_out_of_a_check(rt: HostRuntime) -> Result<(), Fail> {
     for (sfen, text, left) in [
@@ -170,6 +189,8 @@ fn ways_out_of_a_check(rt: HostRuntime) -> Result<(), Fail> {
         ("4k4/R1G6/6N2/9/9/9/9/9/K8 b -", "7b6a", false),
         ("4kg3/9/9/9/9/9/9/9/K8 b B", "B*6b", true),
         ("3s1s3/3gkg3/3g1g3/9/9/9/9/9/K8 b R", "R*5e", false),
+        ("3lkl3/3p1p3/9/9/9/9/9/9/K8 b -", "9i8i", true),
+        ("3lkl3/3pBp3/9/9/9/9/9/9/K8 b -", "9i8i", false),
         ("9/9/9/9/9/9/9/9/K7R b -", "1i1a", false),
     ] {
         same!(rt; leaves_way_out(sfen, text)?, left, sfen);

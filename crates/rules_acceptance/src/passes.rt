@@ -42,7 +42,7 @@ fn quiet_moves_of_the_opening_position(rt: HostRuntime) {
 /// 7d, which may promote; no move of it, or of the king, gives check. Pawns are the second role.
 #[test]
 fn quiet_moves_and_a_promotion(rt: HostRuntime) -> Result<(), Fail> {
-    let p = position("8k/9/9/2P6/3P3p1/9/9/K8/9 b -")?;
+    let p = position("8k/9/9/2P6/3P2pp1/9/9/K8/9 b -")?;
     holds!(rt; first_left(&p, false, Squares::all(), 0) == Some(read("7d7c")?));
     holds!(rt; first_left(&p, false, Squares::all(), ALL_ROLES).is_none());
     holds!(rt; first_left(&p, false, Squares::all(), 2).is_none());
@@ -51,10 +51,10 @@ fn quiet_moves_and_a_promotion(rt: HostRuntime) -> Result<(), Fail> {
     Ok(())
 }
 
-/// The one capture, of 5d, gives no check, and leaves the other side a pawn with a move.
+/// The one capture, of 5d, gives no check, and leaves the other side two pawns with a move each.
 #[test]
 fn a_capture(rt: HostRuntime) -> Result<(), Fail> {
-    let p = position("2k6/9/9/4p4/4P4/8p/9/9/K8 b -")?;
+    let p = position("2k6/9/9/4p4/4P4/6p1p/9/9/K8 b -")?;
     let taken = squares_of("5d")?;
     holds!(rt; first_left(&p, true, Squares::all(), 0).is_none());
     holds!(rt; first_left(&p, true, taken, 0).is_none());
@@ -65,7 +65,7 @@ fn a_capture(rt: HostRuntime) -> Result<(), Fail> {
 /// The same with a promotion.
 #[test]
 fn a_capture_with_promotion(rt: HostRuntime) -> Result<(), Fail> {
-    let p = position("2k6/9/4p4/4P4/9/8p/9/9/K8 b -")?;
+    let p = position("2k6/9/4p4/4P4/9/6p1p/9/9/K8 b -")?;
     holds!(rt; first_left(&p, true, Squares::all(), 0) == Some(read("5d5c")?));
     holds!(rt; first_left(&p, true, Squares::all(), ALL_ROLES).is_none());
     Ok(())
@@ -82,9 +82,9 @@ fn first_quiet(sfen: &str) -> Result<Option<Move>, Fail> {
 /// checks on 3c and 5d as well; no move of the own king gives check.
 #[test]
 fn quiet_moves_of_a_slider(rt: HostRuntime) -> Result<(), Fail> {
-    let hemmed_in = "3lkl3/3p1p3/2p4p1/9/4+B4/9/9/9/K8 b -";
+    let hemmed_in = "3lkl3/3p1p3/2p4pp/9/4+B4/9/9/9/K8 b -";
     holds!(rt; first_quiet(hemmed_in)? == Some(read("5e1a")?));
-    let free = "4k4/9/2p4p1/9/4+B4/9/9/9/K8 b -";
+    let free = "4k4/9/2p4pp/9/4+B4/9/9/9/K8 b -";
     holds!(rt; first_quiet(free)?.is_none());
     Ok(())
 }
@@ -93,7 +93,7 @@ fn quiet_moves_of_a_slider(rt: HostRuntime) -> Result<(), Fail> {
 /// none of its moves is passed, of which that to 2b is the first.
 #[test]
 fn quiet_moves_of_some_pieces(rt: HostRuntime) -> Result<(), Fail> {
-    let p = position("4k4/9/6G2/9/7p1/9/9/9/K8 b -")?;
+    let p = position("4k4/9/6G2/9/6pp1/9/9/9/K8 b -")?;
     let others = Squares::all().except(square("3c")?);
     holds!(rt; first_left(&p, false, Squares::all(), 0).is_none());
     holds!(rt; first_of(&p, false, others, Squares::all(), 0) == Some(read("3c2b")?));
@@ -112,9 +112,9 @@ fn first_drop(sfen: &str) -> Result<Option<Move>, Fail> {
 /// take it, which nothing shows; one that is free may step aside.
 #[test]
 fn drops_of_a_pawn(rt: HostRuntime) -> Result<(), Fail> {
-    let hemmed_in = "3lkl3/3p1p3/9/9/7p1/9/9/9/K8 b P";
+    let hemmed_in = "3lkl3/3p1p3/9/9/6pp1/9/9/9/K8 b P";
     holds!(rt; first_drop(hemmed_in)? == Some(read("P*5b")?));
-    let free = "4k4/9/9/9/7p1/9/9/9/K8 b P";
+    let free = "4k4/9/9/9/6pp1/9/9/9/K8 b P";
     holds!(rt; first_drop(free)?.is_none());
     Ok(())
 }

@@ -423,8 +423,8 @@ fn may_reach(p: &Position, king: Square, piece: Option<Piece>, from: Square, to:
         || moved.role.is_sliding() && is_between(from, king, to)
 }
 
-/// Whether the move lets one of these squares be: it ends neither there nor on the king, begins on no line
-/// with it, and what moves does not reach it from where it ends.
+/// Whether the move lets one of these squares be on which nothing stands: it ends neither there nor on the
+/// king, begins on no line with it, and what moves does not reach it from where it ends.
 fn leaves_escape(p: &Position, escapes: &Escapes, m: &Move) -> bool {
     let (begin, end) = ends_of(m);
     let piece = piece_of(p, m);
@@ -432,6 +432,7 @@ fn leaves_escape(p: &Position, escapes: &Escapes, m: &Move) -> bool {
         let at = square(number);
         let is_lined = matches!(begin, Some(from) if from != at && are_on_a_line(from, at));
         if escapes.are_open[number as usize]
+            && p.at(at).is_none()
             && end != escapes.king
             && end != at
             && !is_lined
@@ -767,9 +768,9 @@ impl Outlook {
         }
     }
 
-    /// Whether a move is left out: it surely is answered, and not worth enough by its answer's material; or what
-    /// it puts on its square is taken, or it leaves the other side in no check, and it is not worth enough by
-    /// what that gains then.
+    /// Whether a move is left out: it surely is answered, and not worth enough by its answer's material; or,
+    /// where captures are not settled, what it puts on its square is taken, or it leaves the other side in no
+    /// check, and it is not worth enough by what that gains then.
     fn leaves_out(
         &mut self,
         p: &Position,
@@ -782,8 +783,14 @@ impl Outlook {
             if branch.is_answered {
                 return true;
             }
+            if e == Eval::Exchange {
+                return false;
+            }
             self.look(p, e, beta);
             return self.is_looked_for && is_taken(p, branch);
+        }
+        if e == Eval::Exchange {
+            return false;
         }
         self.look(p, e, beta);
         if !self.is_looked_for {

@@ -1,7 +1,7 @@
 -- What a side that has a legal move is worth at least one ply before the leaves.
-use Rattle.std.proofs.Common.{◌≡◌, ◌≢◌, ◌<◌, ◌-◌, ◌/◌, ◌%◌, ◌==◌, ◌+◌, ℕ, ℤ, pos, ◌-ℤ◌, ◌+ℤ◌, ◌≤ℤ◌, List, [], ◌∷◌, Bool, true, false, Option, Some, None, inl, inr, refl, sym, ap, ◌∙◌, arith, subst, set, get_or-set_other}
+use Rattle.std.proofs.Common.{◌≡◌, ◌≢◌, ◌<◌, ◌-◌, ◌/◌, ◌%◌, ◌==◌, ◌+◌, ℕ, ℤ, pos, ◌-ℤ◌, ◌+ℤ◌, ◌≤ℤ◌, List, [], ◌∷◌, Bool, true, false, cond, filter, Option, Some, None, inl, inr, refl, sym, ap, ◌∙◌, arith, subst, set, get_or-set_other}
 use Rattle.std.proofs.lemmas.Int.{ints}
-use Rattle.std.proofs.lemmas.Bool.{both_ways, or_left, eq-eqb, cases_lt}
+use Rattle.std.proofs.lemmas.Bool.{both_ways, or_left, or_right, cond_both, eq-eqb, cases_lt}
 use Rattle.shogi_core.specs.declared.moves.TheConstants.{FIRST_DROP, MOVE_CODE_COUNT}
 use Rattle.shogi_core.specs.declared.moves.Move.{Move}
 use Rattle.shogi_core.specs.declared.moves.Move.TheVariants.{Board, Drop}
@@ -18,11 +18,13 @@ use Rattle.shogi_moves.specs.After.{after, after_code, dropped, piece_moved}
 use Rattle.shogi_moves.specs.Legal.{is_legal}
 use Rattle.shogi_moves.specs.LegalMoves.{legal_codes}
 use Rattle.shogi_moves.specs.Rising.{is_in}
+use Rattle.shogi_replies.specs.Replies as replies
+use Rattle.shogi_replies.specs.Replies.{is_quiet_code, quiet_codes}
 use Rattle.shogi_replies.specs.Threats.{IsAttack, IsTaken, IsThreat, KeepsThreats, LeavesThreat, MayRetake, MayTake, end_of, put_by}
 use Rattle.shogi_moves.proofs.CheckInfoLaws.{other_side}
 use Rattle.shogi_moves.proofs.Keeps.{is_safe_from_legal}
 use Rattle.shogi_moves.proofs.KeepsDrop.{safe_drop}
-use Rattle.shogi_replies.proofs.ReplyLaws.{legal_own, other_counts}
+use Rattle.shogi_replies.proofs.ReplyLaws.{legal_own, other_counts, quiet_legal}
 use Rattle.shogi_moves.proofs.LegalLaws.{legal_in, legal_code_below, is_legal_code_of, after_code_at, after_code_of, legal_to_listed}
 use Rattle.shogi_eval.specs.declared.eval.Eval.{Eval}
 use Rattle.shogi_eval.specs.Material.{material_of, drop_gain, taken_gain, promotion_gain}
@@ -31,6 +33,7 @@ use Rattle.shogi_eval.proofs.Bounds.{material_bounds}
 use Rattle.shogi_eval.specs.Exchange.{settles, left_by, is_quiet}
 use Rattle.minimax.proofs.Settling.{IsBounded, left_bounded, left_quiet}
 use Rattle.shogi_eval.specs.Losses.{LosesAtMost}
+use Rattle.search_nodes.specs.Frames.{standing_codes}
 use Rattle.search_nodes.specs.Threats.{IsAttacked, TakesAfter}
 use Rattle.minimax.specs.Minimax.{value, worth, ended, negated, if_no_move_else, lost_value, greatest_or}
 use Rattle.minimax.specs.Window.{threshold}
@@ -146,47 +149,6 @@ retaken p m to ends retakes attacked =
 pub retake_gain : (p : Shogi) (e : Eval) (m : Move) (to gain : ℕ) → IsValid p → move_of (code_of m) ≡ Some m → is_legal p m ≡ true → end_of m ≡ to → IsAttacked p to → gain ≡ taken_gain e (put_by p m) → TakesAfter p e m gain
 retake_gain p e m to gain v back legal ends attacked is = λ plain keeps retakes. omega (arith, ints, taken_left p e plain m v back legal (retaken p m to ends retakes attacked), is)
 
--- ---- what a move is worth at most two plies before the leaves
-
--- no more than what the other side is worth at least after it, as its mover sees that
-worth_below : (p : Shogi) (e : Eval) (m : Move) (least : ℤ) → move_of (code_of m) ≡ Some m → least ≤ℤ value (after p m) e 1 → worth p e 1 (code_of m) ≤ℤ negated least
-worth_below p e m least back h =
-    let same : value (after_code p (code_of m)) e 1 ≡ value (after p m) e 1 = ap (λ (q : Shogi). value q e 1) (after_code_of p m back) in
-    omega (arith, ints, h, same)
-
--- by its material, less what a reply may lose
-pub material_left : (p : Shogi) (e : Eval) (plain : settles e ≡ false) (loss : ℤ) (m : Move) → IsValid p → move_of (code_of m) ≡ Some m → is_legal p m ≡ true → pos 0 ≤ℤ loss → LosesAtMost p.hands (opponent_of p.side) e loss → legal_codes (after p m) ≢ [] → (material_of (after p m) e -ℤ loss) ≤ℤ value (after p m) e 1
-material_left p e plain loss m v back legal h l some = value_least (after p m) e plain loss (legal_codes (after p m)) refl (valid_after p m v back (legal_to_listed p m back legal)) h (loses_after p e loss m l) some
-
--- by a threat that stands
-pub threat_left : (p : Shogi) (e : Eval) (plain : settles e ≡ false) (m : Move) (gain : ℕ) → KeepsThreats p m → MayRetake p m → TakesAfter p e m gain → (material_of (after p m) e -ℤ negated (pos gain)) ≤ℤ value (after p m) e 1
-threat_left p e plain m gain keeps retakes takes = omega (arith, ints, takes plain keeps retakes)
-
--- so the move is worth no more than that leaves
-pub worth_leaving : (p : Shogi) (e : Eval) (d : ℕ) (loss : ℤ) (m : Move) → move_of (code_of m) ≡ Some m → d ≡ 2 → (material_of (after p m) e -ℤ loss) ≤ℤ value (after p m) e 1 → worth p e (d - 1) (code_of m) ≤ℤ negated (material_of (after p m) e -ℤ loss)
-worth_leaving p e d loss m back last least =
-    let one : d - 1 ≡ 1 = omega arith in
-    subst (λ (n : ℕ). worth p e n (code_of m) ≤ℤ negated (material_of (after p m) e -ℤ loss)) (sym one) (worth_below p e m (material_of (after p m) e -ℤ loss) back least)
-
--- the same at a node of depth 2
-pub worth_ahead : (p : Shogi) (e : Eval) (plain : settles e ≡ false) (d : ℕ) (loss : ℤ) (m : Move) → IsValid p → move_of (code_of m) ≡ Some m → is_legal p m ≡ true → d ≡ 2 → pos 0 ≤ℤ loss → LosesAtMost p.hands (opponent_of p.side) e loss → legal_codes (after p m) ≢ [] → worth p e (d - 1) (code_of m) ≤ℤ negated (material_of (after p m) e -ℤ loss)
-worth_ahead p e plain d loss m v back legal last h l some = worth_leaving p e d loss m back last (material_left p e plain loss m v back legal h l some)
-
--- the same where it takes so much then
-pub worth_under_threat : (p : Shogi) (e : Eval) (d gain : ℕ) (m : Move) → move_of (code_of m) ≡ Some m → d ≡ 2 → (material_of (after p m) e +ℤ pos gain) ≤ℤ value (after p m) e 1 → worth p e (d - 1) (code_of m) ≤ℤ negated (material_of (after p m) e +ℤ pos gain)
-worth_under_threat p e d gain m back last least =
-    let one : d - 1 ≡ 1 = omega arith in
-    subst (λ (n : ℕ). worth p e n (code_of m) ≤ℤ negated (material_of (after p m) e +ℤ pos gain)) (sym one) (worth_below p e m (material_of (after p m) e +ℤ pos gain) back least)
-
--- what is below in a frame is below in another that differs in nothing that it speaks of
-pub still_below : (p p' : Shogi) (e e' : Eval) (d d' : ℕ) (v v' : ℤ) (b b' : Option ℕ) (m : ℕ) → p' ≡ p → e' ≡ e → d' ≡ d → v' ≡ v → b' ≡ b → worth p e (d - 1) m ≤ℤ threshold v b m → worth p' e' (d' - 1) m ≤ℤ threshold v' b' m
-still_below p p' e e' d d' v v' b b' m ps es ds vs bs h =
-    subst (λ (x : Shogi). worth x e' (d' - 1) m ≤ℤ threshold v' b' m) (sym ps)
-    (subst (λ (x : Eval). worth p x (d' - 1) m ≤ℤ threshold v' b' m) (sym es)
-    (subst (λ (x : ℕ). worth p e (x - 1) m ≤ℤ threshold v' b' m) (sym ds)
-    (subst (λ (x : ℤ). worth p e (d - 1) m ≤ℤ threshold x b' m) (sym vs)
-    (subst (λ (x : Option ℕ). worth p e (d - 1) m ≤ℤ threshold v x m) (sym bs) h))))
-
 -- ---- a quiet reply, whatever the evaluation settles
 
 -- a side is worth at depth 1 what a quiet legal move leaves it, or more
@@ -204,3 +166,81 @@ value_least_quiet q e loss code v h l i quiet =
     let left : material_of (after_code q code) e ≤ℤ negated (material_of q e -ℤ loss) = reply_left q e loss code v h l i in
     let worth_so : negated (material_of (after_code q code) e) ≤ℤ value q e 1 = value_quiet q e code v i quiet in
     omega (arith, ints, left, worth_so)
+
+-- what is quiet is so for the evaluation
+same_quiet : (q : Shogi) (m : Option Move) → replies.is_quiet q m ≡ is_quiet q m
+same_quiet q (Some (Board from to promote)) = refl
+same_quiet q (Some (Drop kind to)) = refl
+same_quiet q None = refl
+
+-- the first number that passes
+first_kept : (t : ℕ → Bool) (codes : List ℕ) (c : ℕ) (cs : List ℕ) → filter t codes ≡ c ∷ cs → (is_in c codes ≡ true) × (t c ≡ true)
+first_kept t [] c cs e = absurd (cc)
+first_kept t (x ∷ xs) c cs e =
+    cond_both (t x) (x ∷ filter t xs) (filter t xs) (λ (ys : List ℕ). ys ≡ c ∷ cs → (is_in c (x ∷ xs) ≡ true) × (t c ≡ true))
+    (λ passes is. let same : x ≡ c = cc in (or_left (c == x) (is_in c xs) (eq-eqb c x (sym same)), subst (λ (n : ℕ). t n ≡ true) same passes))
+    (λ fails is. let rest : _ = first_kept t xs c cs is in (or_right (c == x) (is_in c xs) rest.0, rest.1))
+    e
+
+-- a side that has a quiet legal move is worth its material without that loss, or more
+value_least_still : (q : Shogi) (e : Eval) (loss : ℤ) (codes : List ℕ) → quiet_codes q ≡ codes → IsValid q → pos 0 ≤ℤ loss → LosesAtMost q.hands q.side e loss → codes ≢ [] → (material_of q e -ℤ loss) ≤ℤ value q e 1
+value_least_still q e loss [] is v h l some = absurd (some refl)
+value_least_still q e loss (c ∷ cs) is v h l some =
+    let first : (is_in c (legal_codes q) ≡ true) × (is_quiet_code q c ≡ true) = first_kept (is_quiet_code q) (legal_codes q) c cs is in
+    value_least_quiet q e loss c v h l first.0 (sym (same_quiet q (move_of c)) ∙ first.1)
+
+-- some move stands if it is quiet, and any does where nothing is settled
+pub standing_quiet : (q : Shogi) (e : Eval) → quiet_codes q ≢ [] → standing_codes q e ≢ []
+standing_quiet q e some = cond_both (settles e) (quiet_codes q) (legal_codes q) (λ (xs : List ℕ). xs ≢ []) (λ _. some) (λ _. quiet_legal q some)
+
+pub standing_plain : (q : Shogi) (e : Eval) → settles e ≡ false → legal_codes q ≢ [] → standing_codes q e ≢ []
+standing_plain q e plain some = subst (λ (b : Bool). cond b (quiet_codes q) (legal_codes q) ≢ []) (sym plain) some
+
+-- so where such a move is legal
+value_least_standing : (q : Shogi) (e : Eval) (loss : ℤ) → IsValid q → pos 0 ≤ℤ loss → LosesAtMost q.hands q.side e loss → standing_codes q e ≢ [] → (material_of q e -ℤ loss) ≤ℤ value q e 1
+value_least_standing q e loss v h l some =
+    cond_both (settles e) (quiet_codes q) (legal_codes q) (λ (xs : List ℕ). xs ≢ [] → (material_of q e -ℤ loss) ≤ℤ value q e 1)
+    (λ settling one. value_least_still q e loss (quiet_codes q) refl v h l one)
+    (λ plain one. value_least q e plain loss (legal_codes q) refl v h l one)
+    some
+
+-- ---- what a move is worth at most two plies before the leaves
+
+-- no more than what the other side is worth at least after it, as its mover sees that
+worth_below : (p : Shogi) (e : Eval) (m : Move) (least : ℤ) → move_of (code_of m) ≡ Some m → least ≤ℤ value (after p m) e 1 → worth p e 1 (code_of m) ≤ℤ negated least
+worth_below p e m least back h =
+    let same : value (after_code p (code_of m)) e 1 ≡ value (after p m) e 1 = ap (λ (q : Shogi). value q e 1) (after_code_of p m back) in
+    omega (arith, ints, h, same)
+
+-- by its material, less what a reply may lose
+pub material_left : (p : Shogi) (e : Eval) (loss : ℤ) (m : Move) → IsValid p → move_of (code_of m) ≡ Some m → is_legal p m ≡ true → pos 0 ≤ℤ loss → LosesAtMost p.hands (opponent_of p.side) e loss → standing_codes (after p m) e ≢ [] → (material_of (after p m) e -ℤ loss) ≤ℤ value (after p m) e 1
+material_left p e loss m v back legal h l some = value_least_standing (after p m) e loss (valid_after p m v back (legal_to_listed p m back legal)) h (loses_after p e loss m l) some
+
+-- by a threat that stands
+pub threat_left : (p : Shogi) (e : Eval) (plain : settles e ≡ false) (m : Move) (gain : ℕ) → KeepsThreats p m → MayRetake p m → TakesAfter p e m gain → (material_of (after p m) e -ℤ negated (pos gain)) ≤ℤ value (after p m) e 1
+threat_left p e plain m gain keeps retakes takes = omega (arith, ints, takes plain keeps retakes)
+
+-- so the move is worth no more than that leaves
+pub worth_leaving : (p : Shogi) (e : Eval) (d : ℕ) (loss : ℤ) (m : Move) → move_of (code_of m) ≡ Some m → d ≡ 2 → (material_of (after p m) e -ℤ loss) ≤ℤ value (after p m) e 1 → worth p e (d - 1) (code_of m) ≤ℤ negated (material_of (after p m) e -ℤ loss)
+worth_leaving p e d loss m back last least =
+    let one : d - 1 ≡ 1 = omega arith in
+    subst (λ (n : ℕ). worth p e n (code_of m) ≤ℤ negated (material_of (after p m) e -ℤ loss)) (sym one) (worth_below p e m (material_of (after p m) e -ℤ loss) back least)
+
+-- the same at a node of depth 2
+pub worth_ahead : (p : Shogi) (e : Eval) (d : ℕ) (loss : ℤ) (m : Move) → IsValid p → move_of (code_of m) ≡ Some m → is_legal p m ≡ true → d ≡ 2 → pos 0 ≤ℤ loss → LosesAtMost p.hands (opponent_of p.side) e loss → standing_codes (after p m) e ≢ [] → worth p e (d - 1) (code_of m) ≤ℤ negated (material_of (after p m) e -ℤ loss)
+worth_ahead p e d loss m v back legal last h l some = worth_leaving p e d loss m back last (material_left p e loss m v back legal h l some)
+
+-- the same where it takes so much then
+pub worth_under_threat : (p : Shogi) (e : Eval) (d gain : ℕ) (m : Move) → move_of (code_of m) ≡ Some m → d ≡ 2 → (material_of (after p m) e +ℤ pos gain) ≤ℤ value (after p m) e 1 → worth p e (d - 1) (code_of m) ≤ℤ negated (material_of (after p m) e +ℤ pos gain)
+worth_under_threat p e d gain m back last least =
+    let one : d - 1 ≡ 1 = omega arith in
+    subst (λ (n : ℕ). worth p e n (code_of m) ≤ℤ negated (material_of (after p m) e +ℤ pos gain)) (sym one) (worth_below p e m (material_of (after p m) e +ℤ pos gain) back least)
+
+-- what is below in a frame is below in another that differs in nothing that it speaks of
+pub still_below : (p p' : Shogi) (e e' : Eval) (d d' : ℕ) (v v' : ℤ) (b b' : Option ℕ) (m : ℕ) → p' ≡ p → e' ≡ e → d' ≡ d → v' ≡ v → b' ≡ b → worth p e (d - 1) m ≤ℤ threshold v b m → worth p' e' (d' - 1) m ≤ℤ threshold v' b' m
+still_below p p' e e' d d' v v' b b' m ps es ds vs bs h =
+    subst (λ (x : Shogi). worth x e' (d' - 1) m ≤ℤ threshold v' b' m) (sym ps)
+    (subst (λ (x : Eval). worth p x (d' - 1) m ≤ℤ threshold v' b' m) (sym es)
+    (subst (λ (x : ℕ). worth p e (x - 1) m ≤ℤ threshold v' b' m) (sym ds)
+    (subst (λ (x : ℤ). worth p e (d - 1) m ≤ℤ threshold x b' m) (sym vs)
+    (subst (λ (x : Option ℕ). worth p e (d - 1) m ≤ℤ threshold v x m) (sym bs) h))))

@@ -7,7 +7,6 @@ use Rattle.shogi_core.specs.declared.moves.Move.{Move}
 use Rattle.shogi_core.specs.Codes.{code_of}
 use Rattle.shogi_core.specs.Position.{Shogi}
 use Rattle.shogi_core.specs.Validity.{IsValid}
-use Rattle.shogi_moves.specs.After.{after_code}
 use Rattle.shogi_moves.specs.LegalMoves.{legal_codes}
 use Rattle.shogi_moves.specs.Rising.{is_in}
 use Rattle.shogi_eval.specs.declared.eval.Eval.{Eval}
@@ -23,7 +22,6 @@ use Rattle.search_nodes.specs.Visits.{moves_at, IsAsked, IsCurrent, WhereCurrent
 use Rattle.minimax.proofs.MinimaxLaws.{tree_size-above, tree_size-leaf, worth_bounds, WorthWithin}
 use Rattle.search_nodes.proofs.OrderLaws.{IsWhole, whole, whole_covered}
 use Rattle.minimax.proofs.Cover.{IsCovered-start}
-use Rattle.minimax.proofs.Valid.{after_valid}
 use Rattle.minimax.specs.declared.bounds.TheConstants.{SEARCH_DEPTH_MAX, INFINITY}
 
 -- a node with a move that waits is no leaf

@@ -23,12 +23,11 @@ use Rattle.shogi_core.proofs.BitLaws.{has_bit-none}
 use Rattle.shogi_core.proofs.CodesBack.{move_of-board, move_of-drop}
 use Rattle.shogi_moves.specs.After.{after, after_code}
 use Rattle.shogi_moves.specs.Legal.{is_legal}
-use Rattle.shogi_moves.specs.LegalMoves.{legal_codes}
 use Rattle.shogi_moves.specs.Captures.{is_matching}
 use Rattle.shogi_replies.specs.declared.row.Row.{Row}
 use Rattle.shogi_replies.specs.declared.row.TheConstants.{ALL_ROLES}
 use Rattle.shogi_replies.specs.Passes.{IsCertainMove, IsCertainDrop, IsPassed, LeavesReply}
-use Rattle.shogi_replies.specs.Replies.{IsCertain}
+use Rattle.shogi_replies.specs.Replies.{IsCertain, quiet_codes}
 use Rattle.shogi_moves.proofs.DestinationLaws.{matching_move}
 use Rattle.shogi_moves.proofs.LegalLaws.{is_legal_code_of, after_code_of}
 use Rattle.shogi_eval.specs.declared.eval.Eval.{Eval}
@@ -76,7 +75,7 @@ threshold_rises best_value (Some b) first c up = grind (arith, ints, nat_tests)
 -- a move that leaves such a reply is certain
 certain_move : (p : Shogi) (escapes c : ℕ) (m : Move) → after_code p c ≡ after p m → LeavesReply p escapes c → IsCertain p escapes m
 certain_move p escapes c m made leaves = (
-  λ _. subst (λ (q : Shogi). legal_codes q ≢ []) made leaves.replied,
+  λ _. subst (λ (q : Shogi). quiet_codes q ≢ []) made leaves.replied,
   λ none _. subst (λ (q : Shogi). in_check q.cells (opponent_of p.side) ≡ false) made (leaves.unchecked none),
 )
 

@@ -36,7 +36,7 @@ use Rattle.search_nodes.specs.Threats.{AreSpared, AreThreatsIn, IsAttacked, IsTh
 use Rattle.search_nodes.specs.Visits.{IsKnownWhile, moves_at}
 use Rattle.minimax.proofs.MinimaxLaws.{sum_of_tree_sizes-next}
 use Rattle.shogi_eval.specs.Exchange.{settles}
-use Rattle.search_nodes.proofs.Ahead.{material_left, retake_gain, threat_gain, threat_left}
+use Rattle.search_nodes.proofs.Ahead.{material_left, retake_gain, standing_quiet, threat_gain, threat_left}
 use Rattle.search_nodes.proofs.Passing.{left_kept}
 use Rattle.search_nodes.proofs.Passed.{IsDropAt, IsWithin, drop_at, drop_worth, drops_covered, known_next, next_known, quiets_covered, threshold_within}
 
@@ -55,14 +55,15 @@ pub drops_known : (f : Frame) (kind : Kind) (squares escapes first : ℕ) (picke
 drops_known f kind squares escapes first picker next lost passed = next_known _ _ _ _ _ _ _ _ _ next (drops_covered f kind squares escapes first _ _ lost passed (known_next _ _ _ _ _ _ _ _ _ next f.known))
 
 -- moves that leave a reply leave the other side its material, less what a reply may lose
-pub material_leaves : (f : Frame) (plain : settles f.node.eval ≡ false) (loss : ℤ) (pieces squares escapes : ℕ) → pos 0 ≤ℤ loss → RepliesLoseAtMost f loss → MovesLeave f loss pieces squares escapes
-material_leaves f plain loss pieces squares escapes least loses = λ from to promote hf ht piece set legal certain. material_left f.node.position f.node.eval plain loss (Board from to promote) f.valid (move_of-board from to promote hf ht) legal least loses (certain.0 legal)
+pub material_leaves : (f : Frame) (loss : ℤ) (pieces squares escapes : ℕ) → pos 0 ≤ℤ loss → RepliesLoseAtMost f loss → MovesLeave f loss pieces squares escapes
+material_leaves f loss pieces squares escapes least loses = λ from to promote hf ht piece set legal certain. material_left f.node.position f.node.eval loss (Board from to promote) f.valid (move_of-board from to promote hf ht) legal least loses (standing_quiet (after f.node.position (Board from to promote)) f.node.eval (certain.0 legal))
 
 -- so drops that do not suffice by that are lost
-pub material_drops : (f : Frame) (plain : settles f.node.eval ≡ false) (kind : Kind) (squares escapes first : ℕ) (loss : ℤ) → f.depth ≡ 2 → pos 0 ≤ℤ loss → RepliesLoseAtMost f loss → FallsShort f kind first loss → DropsAreLost f kind squares escapes first
-material_drops f plain kind squares escapes first loss last least loses short = λ code is.
+pub material_drops : (f : Frame) (kind : Kind) (squares escapes first : ℕ) (loss : ℤ) → f.depth ≡ 2 → pos 0 ≤ℤ loss → RepliesLoseAtMost f loss → FallsShort f kind first loss → DropsAreLost f kind squares escapes first
+material_drops f kind squares escapes first loss last least loses short = λ code is.
     let at : _ = drop_at f.node.position kind squares escapes first code is in
-    drop_worth f kind squares escapes first code _ loss last short is.above at (material_left f.node.position f.node.eval plain loss (Drop kind (code - FIRST_DROP - kind_number kind * 81)) f.valid (move_of-drop kind (code - FIRST_DROP - kind_number kind * 81) at.fits) at.legal least loses (at.certain.0 at.legal))
+    drop_worth f kind squares escapes first code _ loss last short is.above at (material_left f.node.position f.node.eval loss (Drop kind (code - FIRST_DROP - kind_number kind * 81)) f.valid (move_of-drop kind (code - FIRST_DROP - kind_number kind * 81) at.fits) at.legal least loses
+    (standing_quiet (after f.node.position (Drop kind (code - FIRST_DROP - kind_number kind * 81))) f.node.eval (at.certain.0 at.legal)))
 
 -- moves that let a threat be and give no check leave it its material and what that gains
 pub threat_leaves : (f : Frame) (plain : settles f.node.eval ≡ false) (threat : Threat) (loss : ℤ) (pieces aside : ℕ) → IsThreatIn f.node.position f.node.eval threat → loss ≡ pos 0 -ℤ pos threat.gain → ((n : ℕ) → has_bit pieces n ≡ true → n ≢ threat.target) → AreSpared threat true aside → MovesLeave f loss pieces aside 0

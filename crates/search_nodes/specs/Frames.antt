@@ -12,11 +12,13 @@ use Rattle.shogi_moves.specs.After.{after, after_code}
 use Rattle.shogi_moves.specs.Legal.{is_legal}
 use Rattle.shogi_moves.specs.LegalMoves.{legal_codes}
 use Rattle.shogi_replies.specs.Passes.{IsCertainDrop}
-use Rattle.shogi_replies.specs.Replies.{IsCertain, lets_promote}
+use Rattle.shogi_replies.specs.Replies.{IsCertain, lets_promote, quiet_codes}
 use Rattle.shogi_replies.specs.Threats.{IsTaken, KeepsThreats, MayRetake}
 use Rattle.search_nodes.specs.declared.frame.Frame.{Frame}
 use Rattle.minimax.specs.declared.entry.Entry.{Entry}
 use Rattle.minimax.specs.Entries.{IsCutoff}
+use Rattle.shogi_eval.specs.declared.eval.Eval.{Eval}
+use Rattle.shogi_eval.specs.Exchange.{settles}
 use Rattle.shogi_eval.specs.Losses.{LosesAtMost}
 use Rattle.shogi_eval.specs.Material.{material_of, promotion_gain}
 use Rattle.minimax.specs.Minimax.{value, worth, IsTrueEntry, negated}
@@ -65,9 +67,13 @@ IsLost f m = IsWorthAtMost f m (threshold_of f m)
 abbrev pub FailsLow : Frame → Type 0
 FailsLow f = WhereCurrent f.waiting (IsLost f)
 
--- the other side has a legal move after the move
+-- the codes of the legal moves that leave the material as it is then, should they end a line: where captures are settled, those that take nothing and do not promote
+abbrev pub standing_codes : Shogi → Eval → List ℕ
+standing_codes p e = cond (settles e) (quiet_codes p) (legal_codes p)
+
+-- the other side has such a move after the move
 abbrev pub HasReply : Frame → Move → Type 0
-HasReply f m = legal_codes (after f.node.position m) ≢ []
+HasReply f m = standing_codes (after f.node.position m) f.node.eval ≢ []
 
 -- if the other side may carry out its threats after the move, that is not worth more than it has to be
 abbrev pub IsLostWhere : Frame → Move → Type 0

@@ -120,7 +120,6 @@ impl Frame {
     fn most_after(&self, current: &Move) -> i32
         requires current { IsCurrent self.now.waiting current.now }
         requires last { self.now.depth ≡ 2 }
-        requires plain { settles self.now.node.eval ≡ false }
         ensures most { HasReply self.now current.now → IsWorthAtMost self.now current.now result }
     {
         current.validity();
@@ -203,6 +202,9 @@ impl Frame {
         if self.is_answered(current) {
             return true;
         }
+        if self.node.eval().settles() {
+            return false;
+        }
         self.look_for_threats();
         self.is_retaken(current)
     }
@@ -236,12 +238,14 @@ impl Frame {
     fn prune_under_threat(&mut self, current: &Move) -> bool
         requires asked { self.old.waiting ≡ Waiting.Asked current.now }
         requires last { self.old.depth ≡ 2 }
-        requires plain { settles self.old.node.eval ≡ false }
         ensures next { result ≡ true → self.new.waiting ≡ Waiting.Next }
         ensures asked { result ≡ false → self.new.waiting ≡ self.old.waiting }
         ensures picker { self.new.picker ≡ self.old.picker }
         ensures same { IsSame self.old self.new }
     {
+        if self.node.eval().settles() {
+            return false;
+        }
         self.look_for_threats();
         if self.threats.is_none() {
             return false;
@@ -269,7 +273,6 @@ impl Frame {
     fn prune(&mut self, current: &Move) -> bool
         requires asked { self.old.waiting ≡ Waiting.Asked current.now }
         requires last { self.old.depth ≡ 2 }
-        requires plain { settles self.old.node.eval ≡ false }
         ensures next { result ≡ true → self.new.waiting ≡ Waiting.Next }
         ensures asked { result ≡ false → self.new.waiting ≡ self.old.waiting }
         ensures picker { self.new.picker ≡ self.old.picker }
@@ -299,7 +302,6 @@ impl Frame {
     ) -> bool
         requires next { self.old.waiting ≡ Waiting.Next }
         requires last { self.old.depth ≡ 2 }
-        requires plain { settles self.old.node.eval ≡ false }
         requires at { IsAtQuiets self.old.picker code }
         requires escapes { AreEscapes self.old.node.position escapes.bits }
         requires leave { MovesLeave self.old loss pieces.bits squares.bits escapes.bits }
@@ -346,7 +348,6 @@ impl Frame {
     fn prune_quiets(&mut self)
         requires next { self.old.waiting ≡ Waiting.Next }
         requires last { self.old.depth ≡ 2 }
-        requires plain { settles self.old.node.eval ≡ false }
         ensures { PrunesRow self.old self.new }
     {
         let Some(code) = self.picker.quiets() else {
@@ -354,6 +355,9 @@ impl Frame {
         };
         let (loss, escapes) = (self.loss_after(), self.known_escapes());
         if self.prune_row(code, loss, Squares::all(), Squares::all(), escapes) {
+            return;
+        }
+        if self.node.eval().settles() {
             return;
         }
         let threats = self.known_threats();
@@ -368,7 +372,6 @@ impl Frame {
     fn falls_short(&self, kind: Kind, code: u16, loss: i32) -> bool
         requires next { self.now.waiting ≡ Waiting.Next }
         requires last { self.now.depth ≡ 2 }
-        requires plain { settles self.now.node.eval ≡ false }
         requires least { (pos 0 -ℤ pos 4000) ≤ℤ loss }
         requires most { loss ≤ℤ pos 100 }
         ensures { result ≡ true → FallsShort self.now kind code loss }
@@ -447,7 +450,6 @@ impl Frame {
     fn prune_kind(&mut self) -> bool
         requires next { self.old.waiting ≡ Waiting.Next }
         requires last { self.old.depth ≡ 2 }
-        requires plain { settles self.old.node.eval ≡ false }
         ensures { PrunesRow self.old self.new }
     {
         let Some((kind, code)) = self.picker.drops() else {
@@ -456,6 +458,9 @@ impl Frame {
         if self.falls_short(kind, code, self.loss_after()) {
             let escapes = self.known_escapes();
             return self.pass_kind(kind, code, Squares::all(), escapes);
+        }
+        if self.node.eval().settles() {
+            return false;
         }
         let threats = self.known_threats();
         let squares = self.lost_squares(&threats, kind, code);
@@ -469,7 +474,6 @@ impl Frame {
     fn prune_drops(&mut self)
         requires next { self.old.waiting ≡ Waiting.Next }
         requires last { self.old.depth ≡ 2 }
-        requires plain { settles self.old.node.eval ≡ false }
         ensures { PrunesRow self.old self.new }
     {
         'kinds: for _ in 0..7u8 {
@@ -502,7 +506,6 @@ impl Frame {
     fn prune_rows(&mut self)
         requires next { self.old.waiting ≡ Waiting.Next }
         requires last { self.old.depth ≡ 2 }
-        requires plain { settles self.old.node.eval ≡ false }
         ensures { PrunesRow self.old self.new }
     {
         if !self.has_move || self.picker.is_checked(self.node.as_position()) {
@@ -521,7 +524,6 @@ impl Frame {
     fn worthy_move(&mut self) -> Option<Move>
         requires next { self.old.waiting ≡ Waiting.Next }
         requires last { self.old.depth ≡ 2 }
-        requires plain { settles self.old.node.eval ≡ false }
         ensures { AsksFor result self.old self.new }
     {
         self.prune_rows();
@@ -541,7 +543,7 @@ impl Frame {
         requires next { self.old.waiting ≡ Waiting.Next }
         ensures { AsksFor result self.old self.new }
     {
-        if self.depth == 2 && !self.node.eval().settles() {
+        if self.depth == 2 {
             return self.worthy_move();
         }
         self.pick_move()

@@ -2,25 +2,26 @@
 use Rattle.std.proofs.Common.{◌≡◌, ◌≢◌, ◌⊎◌, ℕ, ◌+◌, ◌-◌, ◌^◌, ◌<◌, Bool, true, false, not, Option, Some, None, List, [], ◌∷◌, refl, sym, ap, subst, ◌∙◌, arith, inl, inr, set, length, length-set, get_or-set_same, get_or-set_other, bit_and, bit_or}
 use Rattle.std.specs.Prelude.{◌&&◌, ◌==◌, is_none}
 use Rattle.std.specs.List.{list_any, list_all}
-use Rattle.std.proofs.lemmas.Bool.{cases_eq, false_from_ne_true, both_ways, and_parts, and_from, or_parts, or_cases, or_left, or_right, not-true, ne_eqb}
+use Rattle.std.proofs.lemmas.Bool.{cases_eq, false_from_ne_true, true_from_ne_false, both_ways, and_parts, and_from, or_parts, or_cases, or_left, or_right, not-true, ne_eqb}
 use Rattle.shogi_core.specs.declared.moves.Move.TheVariants.{Board, Drop}
 use Rattle.shogi_core.specs.declared.offset.Offset.{Offset}
 use Rattle.shogi_core.specs.declared.piece.Color.{Color}
 use Rattle.shogi_core.specs.declared.piece.Kind.{Kind}
 use Rattle.shogi_core.specs.declared.piece.Piece.{Piece}
-use Rattle.shogi_core.specs.Attack.{is_sniper}
+use Rattle.shogi_core.specs.Attack.{is_attacked, is_sniper}
 use Rattle.shogi_core.specs.Bits.{has_bit}
 use Rattle.shogi_core.specs.Cell.{is_piece_of, is_king, is_slider, HasNoOtherKing}
 use Rattle.shogi_core.specs.Lines.{are_aligned, are_lined, around}
-use Rattle.shogi_core.specs.Movement.{Cells, piece_at, cell_reaches, has_step, has_slide, is_slide, slides, slides_of, for_side}
+use Rattle.shogi_core.specs.Movement.{Cells, piece_at, reaches, cell_reaches, has_step, has_slide, is_slide, slides, slides_of, for_side}
 use Rattle.shogi_core.specs.Pieces.{opponent_of}
 use Rattle.shogi_core.specs.Position.{Shogi, HandCounts}
 use Rattle.shogi_core.specs.Rays.{direction_at, is_on_ray, ray_of}
 use Rattle.shogi_core.specs.Validity.{IsValid}
 use Rattle.shogi_core.proofs.BitLaws.{has_bit-and, has_bit-none, has_bit-or}
+use Rattle.shogi_core.proofs.CodesBack.{move_of-board}
 use Rattle.shogi_core.proofs.RayLaws.{slides_bare}
 use Rattle.shogi_core.proofs.Shots.{direction_of}
-use Rattle.shogi_core.proofs.Uncovered.{same_way, same_way_is, slides_around, slides_was}
+use Rattle.shogi_core.proofs.Uncovered.{attacked_was_but, reach_was, same_way, same_way_is, slides_around, slides_was}
 use Rattle.shogi_core.proofs.LineBits.{has_bit-not, has_bit-ray}
 use Rattle.shogi_core.proofs.SeenLaws.{lined_aligned, lined_back, slide_seen}
 use Rattle.shogi_moves.specs.After.{after, cells_after, piece_moved, dropped}
@@ -28,12 +29,14 @@ use Rattle.shogi_moves.specs.Escapes.{IsEscape, HasOpenEscape}
 use Rattle.shogi_replies.specs.Escapes.{HasRaysBehind, ReachesWithin}
 use Rattle.shogi_moves.specs.Legal.{is_legal}
 use Rattle.shogi_moves.specs.LegalMoves.{legal_codes}
-use Rattle.shogi_moves.proofs.CheckInfoLaws.{look, other_side, is_piece_of-piece_moved}
+use Rattle.shogi_moves.proofs.CheckInfoLaws.{look, other_side, is_piece_of-piece_moved, dropped_of, king_set}
 use Rattle.shogi_moves.proofs.KingLaws.{king_own}
 use Rattle.shogi_moves.proofs.MovedPieces.{opponent_twice}
-use Rattle.shogi_moves.proofs.EscapeLaws as escapes
-use Rattle.shogi_moves.proofs.EscapeLaws.{escaped, kept, king_reach, opened, still_out}
-use Rattle.shogi_replies.proofs.ReplyLaws.{legal_own}
+use Rattle.shogi_moves.proofs.DestinationLaws.{legal_board}
+use Rattle.shogi_moves.proofs.DropChecks as drops
+use Rattle.shogi_moves.proofs.EscapeLaws.{crowned, kept, king_reach, opened, still_out}
+use Rattle.shogi_replies.specs.Replies.{quiet_codes}
+use Rattle.shogi_replies.proofs.ReplyLaws.{king_lives, left_board, left_drop, legal_own, reply_by, right_step, some_quiet}
 use Rattle.shogi_replies.proofs.SlideOrigins.{attacked_from_origin}
 
 -- ---- what was left is on no line with a piece that slides
@@ -69,27 +72,114 @@ module _ (p : Shogi) (new : Cells) (hands : HandCounts) (Left : ℕ → Type 0) 
   pub escaped_covered : legal_codes (record { cells = new; hands = hands; side = opponent_of p.side }) ≢ []
   escaped_covered = still_out p new hands Left to cell old_len len mine see k e hk he crown stays elsewhere escape (attacked_from_origin (set p.cells k None) (set new k None) Left (opened p new hands Left to cell old_len len mine see k e hk he crown stays elsewhere escape) (opponent_of (opponent_of p.side)) no_sniper e (kept p new hands Left to cell old_len len mine see k e hk he crown stays elsewhere escape short) escape.safe)
 
+-- ---- what was left is on no open line with the square to which the king goes
+
+module _ (p : Shogi) (new : Cells) (hands : HandCounts) (Left : ℕ → Type 0) (to : ℕ) (cell : Option Piece) (old_len : length p.cells ≡ 81) (len : length new ≡ 81) (mine : is_piece_of p.side cell ≡ true)
+    (see : (x : ℕ) → ((x ≡ to) × (piece_at new x ≡ cell)) ⊎ ((Left x × (piece_at new x ≡ None)) ⊎ (piece_at new x ≡ piece_at p.cells x)))
+    (k e : ℕ) (hk : k < 81) (he : e < 81) (crown : is_king (opponent_of p.side) (piece_at p.cells k) ≡ true) (stays : Left k → ⊥) (elsewhere : (k ≢ to) × (e ≢ to)) (escape : IsEscape p.cells (opponent_of p.side) k e)
+    (short : cell_reaches (set p.cells k None) cell to e ≡ false) (free : (x : ℕ) → Left x → are_lined (set p.cells k None) x e ≡ false) where
+  king_there : piece_at new k ≡ piece_at p.cells k
+  king_there = elim (see k) [
+    | inl at ↦ absurd (elsewhere.0 at.0)
+    | inr rest ↦ elim rest [ inl gone ↦ absurd (stays gone.0) | inr same ↦ same ]
+  ]
+
+  crown_there : is_king (opponent_of p.side) (piece_at new k) ≡ true
+  crown_there = ap (is_king (opponent_of p.side)) king_there ∙ crown
+
+  own_there : is_piece_of (opponent_of p.side) (piece_at new k) ≡ true
+  own_there = king_own (opponent_of p.side) (piece_at new k) crown_there
+
+  lone_there : (x : ℕ) → x < 81 → x ≢ k → is_king (opponent_of p.side) (piece_at new x) ≡ false
+  lone_there x h other = elim (see x) [
+    | inl at ↦ ap (is_king (opponent_of p.side)) at.1 ∙ crowned (opponent_of p.side) cell (other_side p.side cell mine)
+    | inr rest ↦ elim rest [ inl gone ↦ ap (is_king (opponent_of p.side)) gone.1 | inr same ↦ ap (is_king (opponent_of p.side)) same ∙ escape.step.lone x h other ]
+  ]
+
+  open_there : is_piece_of (opponent_of p.side) (piece_at new e) ≡ false
+  open_there = elim (see e) [
+    | inl at ↦ absurd (elsewhere.1 at.0)
+    | inr rest ↦ elim rest [ inl gone ↦ ap (is_piece_of (opponent_of p.side)) gone.1 | inr same ↦ ap (is_piece_of (opponent_of p.side)) same ∙ escape.step.open_end ]
+  ]
+
+  reached_there : reaches new k e ≡ true
+  unfolding reaches
+  reached_there = ap (λ (x : Option Piece). cell_reaches new x k e) king_there ∙ king_reach p.cells new (opponent_of p.side) (piece_at p.cells k) k e crown escape.step.reached
+
+  unattacked_there : is_attacked (set new k None) (opponent_of (opponent_of p.side)) e ≡ false
+  unattacked_there =
+      attacked_was_but (set p.cells k None) (set new k None) Left (opened p new hands Left to cell old_len len mine see k e hk he crown stays elsewhere escape) (opponent_of (opponent_of p.side)) e
+      (kept p new hands Left to cell old_len len mine see k e hk he crown stays elsewhere escape
+      (false_from_ne_true (cell_reaches (set new k None) cell to e) (λ r. both_ways (cell_reaches (set p.cells k None) cell to e) short (reach_was (set p.cells k None) (set new k None) Left (opened p new hands Left to cell old_len len mine see k e hk he crown stays elsewhere escape) cell to e free r))))
+      free escape.safe
+
+  pub king_steps : is_legal (record { cells = new; hands = hands; side = opponent_of p.side }) (Board k e false) ≡ true
+  king_steps =
+      legal_board (record { cells = new; hands = hands; side = opponent_of p.side }) k e false
+      ∙ and_from _ _ (right_step new (opponent_of p.side) k e own_there open_there reached_there (king_lives (opponent_of p.side) (piece_at new k) e crown_there))
+      (ap not (king_set new (opponent_of p.side) k e (piece_moved false (piece_at new k)) len hk he (is_piece_of-piece_moved (opponent_of p.side) false (piece_at new k) ∙ own_there) lone_there unattacked_there))
+
 -- ---- after a move on the board, and after a drop
 
-pub escaped_board : (p : Shogi) (from to closed reach lines : ℕ) (promote : Bool) → IsValid p → from < 81 → to < 81 → is_legal p (Board from to promote) ≡ true → HasOpenEscape p closed to → closed ≡ bit_or reach lines
-    → ReachesWithin p (piece_moved promote (piece_at p.cells from)) to reach → ((n : ℕ) → n < 81 → has_bit lines n ≡ are_aligned from n) → legal_codes (after p (Board from to promote)) ≢ []
-escaped_board p from to closed reach lines promote v hf ht legal h is far bits =
+step_board : (p : Shogi) (from to closed reach lines : ℕ) (promote : Bool) → IsValid p → from < 81 → to < 81 → is_legal p (Board from to promote) ≡ true → (h : HasOpenEscape p closed to) → has_bit reach h.end ≡ false → has_bit lines h.end ≡ false
+    → ReachesWithin p (piece_moved promote (piece_at p.cells from)) to reach → ((n : ℕ) → n < 81 → has_bit lines n ≡ are_aligned from n) → is_legal (after p (Board from to promote)) (Board h.king_on h.end false) ≡ true
+step_board p from to closed reach lines promote v hf ht legal h short off far bits =
     let own : is_piece_of p.side (piece_at p.cells from) ≡ true = legal_own p from to promote legal in
-    let off : (has_bit reach h.end ≡ false) × (has_bit lines h.end ≡ false) = or_parts (has_bit reach h.end) (has_bit lines h.end) (sym (has_bit-or reach lines h.end) ∙ (ap (λ (m : ℕ). has_bit m h.end) (sym is) ∙ h.open_end)) in
-    let apart : are_aligned from h.end ≡ false = sym (bits h.end h.on_board.1) ∙ off.1 in
-    escaped p (cells_after p.cells p.side (Board from to promote)) (after p (Board from to promote)).hands (λ x. x ≡ from) to (piece_moved promote (piece_at p.cells from)) v.cells_fit
+    let apart : are_aligned from h.end ≡ false = sym (bits h.end h.on_board.1) ∙ off in
+    king_steps p (cells_after p.cells p.side (Board from to promote)) (after p (Board from to promote)).hands (λ x. x ≡ from) to (piece_moved promote (piece_at p.cells from)) v.cells_fit
     (length-set (set p.cells from None) to (piece_moved promote (piece_at p.cells from)) ∙ (length-set p.cells from None ∙ v.cells_fit))
     (is_piece_of-piece_moved p.side promote (piece_at p.cells from) ∙ own)
     (look p.cells p.side from to (piece_moved promote (piece_at p.cells from)) v.cells_fit hf ht)
     h.king_on h.end h.on_board.0 h.on_board.1 h.king
     (λ at. both_ways (is_piece_of (opponent_of p.side) (piece_at p.cells from)) (other_side p.side (piece_at p.cells from) own) (subst (λ (x : ℕ). is_piece_of (opponent_of p.side) (piece_at p.cells x) ≡ true) at (king_own (opponent_of p.side) (piece_at p.cells h.king_on) h.king)))
-    h.elsewhere h.escape (far h.king_on h.end h.on_board.0 h.on_board.1 h.king h.escape.step.lone off.0)
+    h.elsewhere h.escape (far h.king_on h.end h.on_board.0 h.on_board.1 h.king h.escape.step.lone short)
     (λ x at. subst (λ (y : ℕ). are_lined (set p.cells h.king_on None) y h.end ≡ false) (sym at) (false_from_ne_true (are_lined (set p.cells h.king_on None) from h.end) (λ l. both_ways (are_aligned from h.end) apart (lined_aligned (set p.cells h.king_on None) from h.end l))))
+
+step_drop : (p : Shogi) (kind : Kind) (to closed reach : ℕ) → IsValid p → to < 81 → (h : HasOpenEscape p closed to) → has_bit reach h.end ≡ false
+    → ReachesWithin p (dropped p.side kind) to reach → is_legal (after p (Drop kind to)) (Board h.king_on h.end false) ≡ true
+step_drop p kind to closed reach v ht h short far =
+    king_steps p (cells_after p.cells p.side (Drop kind to)) (after p (Drop kind to)).hands (λ x. ⊥) to (dropped p.side kind) v.cells_fit
+    (length-set p.cells to (dropped p.side kind) ∙ v.cells_fit)
+    (dropped_of p.side kind)
+    (λ x. elim (drops.look p.cells p.side kind to v.cells_fit ht x) [ inl there ↦ inl there | inr same ↦ inr (inr same) ])
+    h.king_on h.end h.on_board.0 h.on_board.1 h.king (λ left. absurd left)
+    h.elsewhere h.escape (far h.king_on h.end h.on_board.0 h.on_board.1 h.king h.escape.step.lone short) (λ x left. absurd left)
+
+-- a square in neither of two sets
+off_both : (a b both n : ℕ) → both ≡ bit_or a b → has_bit both n ≡ false → (has_bit a n ≡ false) × (has_bit b n ≡ false)
+off_both a b both n is out = or_parts (has_bit a n) (has_bit b n) (sym (has_bit-or a b n) ∙ (ap (λ (m : ℕ). has_bit m n) (sym is) ∙ out))
+
+pub escaped_board : (p : Shogi) (from to closed reach lines : ℕ) (promote : Bool) → IsValid p → from < 81 → to < 81 → is_legal p (Board from to promote) ≡ true → HasOpenEscape p closed to → closed ≡ bit_or reach lines
+    → ReachesWithin p (piece_moved promote (piece_at p.cells from)) to reach → ((n : ℕ) → n < 81 → has_bit lines n ≡ are_aligned from n) → legal_codes (after p (Board from to promote)) ≢ []
+escaped_board p from to closed reach lines promote v hf ht legal h is far bits =
+    let off : _ = off_both reach lines closed h.end is h.open_end in
+    reply_by (after p (Board from to promote)) h.king_on h.end h.on_board.0 h.on_board.1 (step_board p from to closed reach lines promote v hf ht legal h off.0 off.1 far bits)
 
 pub escaped_drop : (p : Shogi) (kind : Kind) (to reach : ℕ) → IsValid p → to < 81 → HasOpenEscape p reach to
     → ReachesWithin p (dropped p.side kind) to reach → legal_codes (after p (Drop kind to)) ≢ []
-escaped_drop p kind to reach v ht h far =
-    escapes.escaped_drop p kind to reach v ht h (far h.king_on h.end h.on_board.0 h.on_board.1 h.king h.escape.step.lone h.open_end)
+escaped_drop p kind to reach v ht h far = reply_by (after p (Drop kind to)) h.king_on h.end h.on_board.0 h.on_board.1 (step_drop p kind to reach reach v ht h h.open_end far)
+
+-- the king's step takes nothing where all squares are closed on which something stands
+
+bare_end : (cells : Cells) (occupied n : ℕ) → n < 81 → ((x : ℕ) → x < 81 → has_bit occupied x ≡ not (is_none (piece_at cells x))) → has_bit occupied n ≡ false → is_none (piece_at cells n) ≡ true
+bare_end cells occupied n h bits out = true_from_ne_false (is_none (piece_at cells n)) (λ stands. both_ways (has_bit occupied n) out (bits n h ∙ ap not stands))
+
+pub escaped_board_quietly : (p : Shogi) (from to closed reach lines beyond occupied : ℕ) (promote : Bool) → IsValid p → from < 81 → to < 81 → is_legal p (Board from to promote) ≡ true → HasOpenEscape p closed to → closed ≡ bit_or beyond occupied → beyond ≡ bit_or reach lines → ((n : ℕ) → n < 81 → has_bit occupied n ≡ not (is_none (piece_at p.cells n)))
+    → ReachesWithin p (piece_moved promote (piece_at p.cells from)) to reach → ((n : ℕ) → n < 81 → has_bit lines n ≡ are_aligned from n) → quiet_codes (after p (Board from to promote)) ≢ []
+escaped_board_quietly p from to closed reach lines beyond occupied promote v hf ht legal h is sum stands far bits =
+    let ends : _ = off_both beyond occupied closed h.end is h.open_end in
+    let off : _ = off_both reach lines beyond h.end sum ends.0 in
+    some_quiet (after p (Board from to promote)) (Board h.king_on h.end false) (move_of-board h.king_on h.end false h.on_board.0 h.on_board.1)
+    (step_board p from to closed reach lines promote v hf ht legal h off.0 off.1 far bits)
+    ((left_board p from to promote v hf ht (legal_own p from to promote legal)).empty h.end (bare_end p.cells occupied h.end h.on_board.1 stands ends.1) h.elsewhere.1)
+
+pub escaped_drop_quietly : (p : Shogi) (kind : Kind) (to closed reach occupied : ℕ) → IsValid p → to < 81 → HasOpenEscape p closed to → closed ≡ bit_or reach occupied → ((n : ℕ) → n < 81 → has_bit occupied n ≡ not (is_none (piece_at p.cells n)))
+    → ReachesWithin p (dropped p.side kind) to reach → quiet_codes (after p (Drop kind to)) ≢ []
+escaped_drop_quietly p kind to closed reach occupied v ht h is stands far =
+    let ends : _ = off_both reach occupied closed h.end is h.open_end in
+    some_quiet (after p (Drop kind to)) (Board h.king_on h.end false) (move_of-board h.king_on h.end false h.on_board.0 h.on_board.1)
+    (step_drop p kind to closed reach v ht h ends.0 far)
+    ((left_drop p kind to v ht).empty h.end (bare_end p.cells occupied h.end h.on_board.1 stands ends.1) h.elsewhere.1)
 
 -- ---- such squares as bits
 

@@ -1,28 +1,23 @@
 -- A king that is given check goes away where what moves uncovers nothing, or takes what moved.
-use Rattle.std.proofs.Common.{◌≡◌, ◌≢◌, ◌^◌, ◌%◌, ℕ, ◌<◌, Bool, true, false, not, refl, Option, Some, None, [], sym, ap, subst, ◌∙◌, arith, inl, inr, set, length, length-set, get_or-set_same, get_or-set_other, bit_and}
+use Rattle.std.proofs.Common.{◌≡◌, ◌≢◌, ◌^◌, ℕ, ◌<◌, Bool, true, false, not, Option, Some, None, [], sym, ap, subst, ◌∙◌, arith, inl, inr, set, length, length-set, get_or-set_same, get_or-set_other, bit_and}
 use Rattle.std.specs.Prelude.{is_none}
 use Rattle.std.specs.Int.{trailing_zeros, w128}
-use Rattle.std.proofs.lemmas.Bool.{cases_eq, false_from_ne_true, both_ways, or_cases, and_parts, and_from}
+use Rattle.std.proofs.lemmas.Bool.{cases_eq, false_from_ne_true, both_ways, or_cases, and_from}
 use Rattle.std.proofs.lemmas.List.{set-set}
 use Rattle.shogi_core.specs.declared.moves.Move.{Move}
 use Rattle.shogi_core.specs.declared.moves.Move.TheVariants.{Board, Drop}
 use Rattle.shogi_core.specs.declared.piece.Color.{Color}
-use Rattle.shogi_core.specs.declared.piece.Color.TheVariants.{Black, White}
 use Rattle.shogi_core.specs.declared.piece.Kind.{Kind}
 use Rattle.shogi_core.specs.declared.piece.Piece.{Piece}
-use Rattle.shogi_core.specs.declared.piece.Role.{Role}
-use Rattle.shogi_core.specs.declared.piece.Role.TheVariants.{King}
-use Rattle.shogi_core.specs.Codes.{code_of}
 use Rattle.shogi_core.specs.Attack.{is_attacked, is_sniper}
 use Rattle.shogi_core.specs.Bits.{has_bit}
-use Rattle.shogi_core.specs.Cell.{is_piece_of, is_king, is_king_role, is_immobile, is_immobile_role, is_slider, is_sliding_role, HasNoOtherKing}
+use Rattle.shogi_core.specs.Cell.{is_piece_of, is_king, is_slider, is_sliding_role, HasNoOtherKing}
 use Rattle.shogi_core.specs.Lines.{are_aligned}
 use Rattle.shogi_core.specs.Movement.{Cells, piece_at, reaches, cell_reaches, has_step, has_slide, slides, for_side}
-use Rattle.shogi_core.specs.Pieces.{is_same_color, opponent_of}
+use Rattle.shogi_core.specs.Pieces.{opponent_of}
 use Rattle.shogi_core.specs.Position.{Shogi, HandCounts}
 use Rattle.shogi_core.specs.Validity.{IsValid}
 use Rattle.shogi_core.proofs.BitLaws.{has_bit-none}
-use Rattle.shogi_core.proofs.CodesBack.{move_of-board}
 use Rattle.shogi_core.proofs.LineBits.{lowest_set}
 use Rattle.shogi_core.proofs.SeenLaws.{slides_role, sniper_bits}
 use Rattle.shogi_core.proofs.Uncovered.{attacked_was_but}
@@ -34,13 +29,11 @@ use Rattle.shogi_moves.specs.Legal.{is_legal}
 use Rattle.shogi_moves.specs.LegalMoves.{legal_codes}
 use Rattle.shogi_moves.proofs.CheckInfoLaws.{look, other_side, own_some, is_piece_of-piece_moved, dropped_of, king_set}
 use Rattle.shogi_moves.proofs.DestinationLaws.{legal_board}
-use Rattle.shogi_moves.proofs.ExistenceLaws.{some_legal}
-use Rattle.shogi_moves.proofs.LegalLaws.{is_legal_code_of}
 use Rattle.shogi_moves.proofs.EscapeLaws.{king_reach, crowned}
 use Rattle.shogi_replies.proofs.EscapeLaws.{escaped_covered}
 use Rattle.shogi_moves.proofs.KingLaws.{king_own, unreached}
 use Rattle.shogi_moves.proofs.MovedPieces.{opponent_twice}
-use Rattle.shogi_replies.proofs.ReplyLaws.{legal_own, right_step}
+use Rattle.shogi_replies.proofs.ReplyLaws.{king_lives, legal_own, reply_by, right_step}
 
 -- ---- the king goes away
 
@@ -89,20 +82,6 @@ covered_board p from to steps promote piece v hf ht legal moved still none bits 
     ]
 
 -- ---- the king takes
-
--- it moves on from everywhere
-king_lives : (side : Color) (cell : Option Piece) (t : ℕ) → is_king side cell ≡ true → is_immobile t cell ≡ false
-king_lives side None t e = refl
-king_lives side (Some piece) t e = go piece.color piece.role (and_parts (is_same_color side piece.color) (is_king_role piece.role) e).1
-  where
-    go : (color : Color) (role : Role) → is_king_role role ≡ true → is_immobile_role color role (t % 9) ≡ false
-    go Black King h = refl
-    go White King h = refl
-    go color _ h = absurd (cc)
-
--- so where it may take, the side has a legal move
-reply_by : (q : Shogi) (k to : ℕ) → k < 81 → to < 81 → is_legal q (Board k to false) ≡ true → legal_codes q ≢ []
-reply_by q k to hk ht legal = some_legal q (code_of (Board k to false)) (is_legal_code_of q (code_of (Board k to false)) (Board k to false) (move_of-board k to false hk ht) ∙ legal)
 
 pub taken_reply : (p : Shogi) (m : Move) → IsTaken p m → legal_codes (after p m) ≢ []
 taken_reply p m taken = reply_by (after p m) taken.taker (end_of m) taken.on_board.0 taken.on_board.1 taken.takes.legal

@@ -25,11 +25,10 @@ use Rattle.shogi_core.specs.Attack.{in_check}
 use Rattle.shogi_moves.specs.After.{after, after_code}
 use Rattle.shogi_moves.specs.Legal.{is_legal, is_legal_code}
 use Rattle.shogi_core.specs.Zones.{may_promote}
-use Rattle.shogi_moves.specs.LegalMoves.{legal_codes}
 use Rattle.shogi_replies.specs.declared.row.Row.{Row}
 use Rattle.shogi_replies.specs.declared.row.TheConstants.{ALL_ROLES}
 use Rattle.shogi_moves.specs.Captures.{is_matching}
-use Rattle.shogi_replies.specs.Replies.{HasCertainMoves, IsCertain, is_reached, lets_promote}
+use Rattle.shogi_replies.specs.Replies.{HasCertainMoves, IsCertain, is_reached, lets_promote, quiet_codes}
 use Rattle.shogi_moves.specs.Sweeps.{matching_from, KeepsBoard, KeepsDrop}
 use Rattle.shogi_replies.specs.Passes.{IsCertainMove, IsCertainDrop, IsPassed, IsPassedTo, LeavesReply}
 use Rattle.shogi_moves.proofs.CaptureLaws.{HasMatchingOn, skip_one, matching_found}
@@ -88,7 +87,7 @@ leaves_reply p escapes c m at back listed certain =
     let legal : is_legal p m ≡ true = sym (is_legal_code_of p c m (ap move_of at ∙ back)) ∙ listed in
     let made : after_code p c ≡ after p m = ap (after_code p) at ∙ after_code_of p m back in
     record {
-      replied = subst (λ (q : Shogi). legal_codes q ≢ []) (sym made) (certain.0 legal);
+      replied = subst (λ (q : Shogi). quiet_codes q ≢ []) (sym made) (certain.0 legal);
       unchecked = λ none. ap (λ (q : Shogi). in_check q.cells (opponent_of p.side)) made ∙ certain.1 none legal;
     }
 

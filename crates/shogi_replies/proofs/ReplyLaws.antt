@@ -1,8 +1,8 @@
 -- After most moves the other side has a legal move.
-use Rattle.std.proofs.Common.{◌≡◌, ◌≢◌, ℕ, ◌+◌, ◌-◌, ◌^◌, ◌<◌, ◌⊎◌, Bool, true, false, not, Option, Some, None, [], refl, sym, ap, subst, ◌∙◌, arith, inl, inr, set, length, length-set, get_or-set_same, get_or-set_other, bit_and, bit_or, cond}
+use Rattle.std.proofs.Common.{◌≡◌, ◌≢◌, ℕ, ◌+◌, ◌-◌, ◌%◌, ◌^◌, ◌<◌, ◌⊎◌, Bool, true, false, not, Option, Some, None, List, [], ◌∷◌, refl, sym, ap, subst, ◌∙◌, arith, inl, inr, filter, set, length, length-set, get_or-set_same, get_or-set_other, bit_and, bit_or, cond}
 use Rattle.std.specs.Prelude.{◌==◌, ◌&&◌, ◌||◌, nat_lt, is_none}
 use Rattle.std.specs.Int.{trailing_zeros, w128}
-use Rattle.std.proofs.lemmas.Bool.{cases_eq, false_from_ne_true, both_ways, and_parts, and_from, or_left, or_right, or_cases, or_parts, not-true, not_from_false, ne_eqb, eq-eqb}
+use Rattle.std.proofs.lemmas.Bool.{cases_eq, false_from_ne_true, both_ways, and_parts, and_from, or_left, or_right, or_cases, or_parts, not-true, not_from_false, ne_eqb, eq-eqb, eqb-true, cond_both}
 use Rattle.shogi_core.specs.declared.moves.Move.{Move}
 use Rattle.shogi_core.specs.declared.moves.Move.TheVariants.{Board, Drop}
 use Rattle.shogi_core.specs.declared.piece.Color.{Color}
@@ -15,16 +15,16 @@ use Rattle.shogi_core.specs.declared.piece.Role.TheVariants.{King, Pawn, Lance, 
 use Rattle.shogi_core.specs.Attack.{in_check, is_sniping, cell_steps}
 use Rattle.shogi_core.specs.Below.{some_below}
 use Rattle.shogi_core.specs.Bits.{has_bit}
-use Rattle.shogi_core.specs.Cell.{is_piece_of, is_king, is_immobile, is_slider, is_sliding_role}
-use Rattle.shogi_core.specs.Codes.{code_of}
+use Rattle.shogi_core.specs.Cell.{is_piece_of, is_king, is_king_role, is_immobile, is_immobile_role, is_slider, is_sliding_role}
+use Rattle.shogi_core.specs.Codes.{code_of, move_of}
 use Rattle.shogi_core.specs.Lines.{are_aligned, are_lined, is_jump, is_line_to_king, is_lined_with_king, is_seen}
 use Rattle.shogi_core.specs.Movement.{Cells, piece_at, reaches, cell_reaches, has_step, has_slide}
-use Rattle.shogi_core.specs.Pieces.{opponent_of, kind_of, kind_number, promoted}
+use Rattle.shogi_core.specs.Pieces.{is_same_color, opponent_of, kind_of, kind_number, promoted}
 use Rattle.shogi_core.specs.Position.{Shogi, HandCounts, count_in_hand, place_of}
 use Rattle.shogi_core.specs.Validity.{IsValid}
 use Rattle.shogi_core.proofs.Below.{some_below_no, some_below_not, some_below_at}
 use Rattle.shogi_core.proofs.BitLaws.{has_bit-and, has_bit-or, has_bit-none}
-use Rattle.shogi_core.proofs.CodesBack.{move_of-board}
+use Rattle.shogi_core.proofs.CodesBack.{move_of-board, move_of-drop}
 use Rattle.shogi_core.proofs.Uncovered.{some_below_which, reach_was}
 use Rattle.shogi_core.proofs.Faults.{faultless_from, number_below}
 use Rattle.shogi_core.proofs.LineBits.{lowest_set, and_fits, has_bit-not}
@@ -34,13 +34,14 @@ use Rattle.shogi_core.proofs.Snipers.{left_unpinned, stands_still}
 use Rattle.shogi_moves.specs.After.{after, cells_after, piece_moved, dropped, with_captured, with_one_more}
 use Rattle.shogi_moves.specs.Legal.{is_legal, is_safe, is_pseudo_legal_board_move, is_pseudo_legal_drop, is_pawn_kind, is_mated_by_drop}
 use Rattle.shogi_moves.specs.LegalMoves.{legal_codes}
-use Rattle.shogi_replies.specs.Replies.{holds_free, is_line_of_king, is_aligned_with_king, is_open_step, is_spare, is_way, Sees, Aligns, IsReplies, IsHarmless, IsHarmlessFrom, StaysCovered, UncoversNothing, UncoversWithin, IsOpen, IsCertain}
+use Rattle.shogi_moves.specs.Rising.{is_in}
+use Rattle.shogi_replies.specs.Replies.{holds_free, is_quiet, is_quiet_code, quiet_codes, is_line_of_king, is_aligned_with_king, is_quiet_step, is_step_beside, is_unbound, is_spare, is_way, HasOthers, AreQuietSteps, LeaveSpare, Sees, Aligns, IsReplies, IsHarmless, IsHarmlessFrom, StaysCovered, UncoversNothing, UncoversWithin, IsOpen, IsAnswered, IsQuietlyAnswered, IsCertain}
 use Rattle.shogi_moves.proofs.DropChecks as drops
 use Rattle.shogi_moves.proofs.DestinationLaws.{legal_board, legal_drop, drop_matching, still}
 use Rattle.shogi_moves.proofs.ExistenceLaws.{some_legal}
 use Rattle.shogi_moves.proofs.EscapeLaws.{crowned}
 use Rattle.shogi_moves.proofs.CheckInfoLaws.{look, other_side, own_some, is_piece_of-piece_moved, dropped_of, quiet_board, quiet_drop}
-use Rattle.shogi_moves.proofs.LegalLaws.{is_legal_code_of}
+use Rattle.shogi_moves.proofs.LegalLaws.{is_legal_code_of, legal_to_listed}
 
 -- a kind that has a move from every square, and is no pawn
 abbrev pub is_free_kind : Kind → Bool
@@ -49,6 +50,41 @@ is_free_kind kinds.Gold = true
 is_free_kind kinds.Bishop = true
 is_free_kind kinds.Rook = true
 is_free_kind _ = false
+
+-- ---- moves that take nothing and do not promote
+
+kept_in : (t : ℕ → Bool) (c : ℕ) (codes : List ℕ) → is_in c codes ≡ true → t c ≡ true → is_in c (filter t codes) ≡ true
+kept_in t c [] i passes = absurd (cc)
+kept_in t c (code ∷ codes) i passes =
+    cond_both (t code) (code ∷ filter t codes) (filter t codes) (λ (xs : List ℕ). is_in c xs ≡ true)
+    (λ _. elim (or_cases (c == code) (is_in c codes) i) [
+      | inl same ↦ or_left (c == code) (is_in c (filter t codes)) same
+      | inr later ↦ or_right (c == code) (is_in c (filter t codes)) (kept_in t c codes later passes)
+    ])
+    (λ fails. elim (or_cases (c == code) (is_in c codes) i) [
+      | inl same ↦ absurd (both_ways (t code) fails (subst (λ (n : ℕ). t n ≡ true) (eqb-true c code same) passes))
+      | inr later ↦ kept_in t c codes later passes
+    ])
+
+-- a legal one is among them
+pub some_quiet : (q : Shogi) (m : Move) → move_of (code_of m) ≡ Some m → is_legal q m ≡ true → is_quiet q (Some m) ≡ true → quiet_codes q ≢ []
+some_quiet q m back legal quiet none =
+    let among : is_in (code_of m) (quiet_codes q) ≡ true = kept_in (is_quiet_code q) (code_of m) (legal_codes q) (legal_to_listed q m back legal) (ap (is_quiet q) back ∙ quiet) in
+    let clash : false ≡ true = ap (is_in (code_of m)) (sym none) ∙ among in
+    cc
+
+-- and where there is one, some move is legal
+pub quiet_legal : (q : Shogi) → quiet_codes q ≢ [] → legal_codes q ≢ []
+quiet_legal q some none = some (ap (filter (is_quiet_code q)) none)
+
+-- so it is where a piece may go somewhere without promotion
+pub reply_by : (q : Shogi) (k to : ℕ) → k < 81 → to < 81 → is_legal q (Board k to false) ≡ true → legal_codes q ≢ []
+reply_by q k to hk ht legal = some_legal q (code_of (Board k to false)) (is_legal_code_of q (code_of (Board k to false)) (Board k to false) (move_of-board k to false hk ht) ∙ legal)
+
+-- where nothing stands, no piece of a side does
+pub unowned : (color : Color) (cell : Option Piece) → is_none cell ≡ true → is_piece_of color cell ≡ false
+unowned color None bare = refl
+unowned color (Some piece) bare = absurd (cc)
 
 -- ---- what a king sees
 
@@ -156,6 +192,17 @@ pub harmless_here : (cells : Cells) (side : Color) (piece : Piece) (to squares k
 harmless_here cells side piece to squares kings s b none k l king =
     false_from_ne_true (cell_reaches cells (Some piece) to k) (λ e. both_ways (has_bit (bit_and squares kings) k) (ap (λ m. has_bit m k) none ∙ has_bit-none k) (has_bit-and squares kings k ∙ and_from _ _ (s k l ∙ e) (b k l ∙ king)))
 
+-- ---- a king moves on from everywhere
+
+pub king_lives : (side : Color) (cell : Option Piece) (t : ℕ) → is_king side cell ≡ true → is_immobile t cell ≡ false
+king_lives side None t e = refl
+king_lives side (Some piece) t e = go piece.color piece.role (and_parts (is_same_color side piece.color) (is_king_role piece.role) e).1
+  where
+    go : (color : Color) (role : Role) → is_king_role role ≡ true → is_immobile_role color role (t % 9) ≡ false
+    go Black King h = refl
+    go White King h = refl
+    go color _ h = absurd (cc)
+
 -- ---- a piece that may be dropped on any empty square
 
 held_kind : (hands : HandCounts) (side : Color) → holds_free hands side ≡ true → (kind : Kind) × (is_free_kind kind ≡ true) × (nat_lt 0 (count_in_hand hands side kind) ≡ true)
@@ -183,7 +230,7 @@ free_lands color kinds.Knight a e = absurd (cc)
 free_lands Black _ a e = refl
 free_lands White _ a e = refl
 
-free_drop : (cells : Cells) (hands : HandCounts) (color : Color) (kind : Kind) (a : ℕ) → length cells ≡ 81 → a < 81 → is_free_kind kind ≡ true → nat_lt 0 (count_in_hand hands color kind) ≡ true → is_none (piece_at cells a) ≡ true → in_check cells color ≡ false → legal_codes (record { cells = cells; hands = hands; side = color }) ≢ []
+free_drop : (cells : Cells) (hands : HandCounts) (color : Color) (kind : Kind) (a : ℕ) → length cells ≡ 81 → a < 81 → is_free_kind kind ≡ true → nat_lt 0 (count_in_hand hands color kind) ≡ true → is_none (piece_at cells a) ≡ true → in_check cells color ≡ false → quiet_codes (record { cells = cells; hands = hands; side = color }) ≢ []
 unfolding is_safe
 free_drop cells hands color kind a len ha kin held empty shut =
     let q : Shogi = record { cells = cells; hands = hands; side = color } in
@@ -191,7 +238,9 @@ free_drop cells hands color kind a len ha kin held empty shut =
     let lands : is_immobile a (dropped color kind) ≡ false = free_lands color kind a kin in
     let allowed : is_pseudo_legal_drop cells hands color kind a ≡ true = rw (held, empty, lands, plain) refl in
     let safe : is_safe (record { cells = cells; hands = hands; side = color }) (Drop kind a) ≡ true = and_from _ _ allowed (ap not (quiet_drop cells color kind a len ha shut)) in
-    some_legal q (code_of (Drop kind a)) (sym (drop_matching q kind a ha) ∙ (legal_drop q kind a ha ∙ and_from _ _ safe (ap (λ b. not (b && is_mated_by_drop (after q (Drop kind a)))) plain)))
+    some_quiet q (Drop kind a) (move_of-drop kind a ha)
+    (sym (is_legal_code_of q (code_of (Drop kind a)) (Drop kind a) (move_of-drop kind a ha)) ∙ (sym (drop_matching q kind a ha) ∙ (legal_drop q kind a ha ∙ and_from _ _ safe (ap (λ b. not (b && is_mated_by_drop (after q (Drop kind a)))) plain))))
+    refl
 
 -- a move changes nothing in the other side's hand
 other_place : (side : Color) (kind other : Kind) → place_of (opponent_of side) other ≢ place_of side kind
@@ -216,10 +265,13 @@ other_counts p (Drop kind to) other = other_hand p.hands p.side kind other (coun
 still_holds : (p : Shogi) (m : Move) → holds_free p.hands (opponent_of p.side) ≡ true → holds_free (after p m).hands (opponent_of p.side) ≡ true
 still_holds p m e = rw (other_counts p m kinds.Silver, other_counts p m kinds.Gold, other_counts p m kinds.Bishop, other_counts p m kinds.Rook) e
 
-way_after : (p : Shogi) (m : Move) (a : ℕ) → is_way p (opponent_of p.side) a ≡ true → (is_spare p.cells (opponent_of p.side) a ≡ true) ⊎ ((is_none (piece_at p.cells a) ≡ true) × (holds_free (after p m).hands (opponent_of p.side) ≡ true))
-way_after p m a e = elim (or_cases (is_spare p.cells (opponent_of p.side) a) (is_none (piece_at p.cells a) && holds_free p.hands (opponent_of p.side)) e) [
+way_after : (p : Shogi) (m : Move) (to a : ℕ) → is_way p (opponent_of p.side) to a ≡ true → (is_spare p.cells (opponent_of p.side) to a ≡ true) ⊎ ((a ≢ to) × (is_none (piece_at p.cells a) ≡ true) × (holds_free (after p m).hands (opponent_of p.side) ≡ true))
+way_after p m to a e = elim (or_cases (is_spare p.cells (opponent_of p.side) to a) (not (a == to) && is_none (piece_at p.cells a) && holds_free p.hands (opponent_of p.side)) e) [
   | inl spare ↦ inl spare
-  | inr held ↦ (let parts = and_parts (is_none (piece_at p.cells a)) (holds_free p.hands (opponent_of p.side)) held in inr (parts.0, still_holds p m parts.1))
+  | inr held ↦ (
+      let parts = and_parts (not (a == to) && is_none (piece_at p.cells a)) (holds_free p.hands (opponent_of p.side)) held in
+      let two : (not (a == to) ≡ true) × (is_none (piece_at p.cells a) ≡ true) = and_parts (not (a == to)) (is_none (piece_at p.cells a)) parts.0 in
+      inr (λ same. both_ways _ (ap not (eq-eqb a to same)) two.0, two.1, still_holds p m parts.1))
 ]
 
 -- ---- a spare piece has a legal move
@@ -240,35 +292,36 @@ pub record LeavesStanding (old new : Cells) (color : Color) (to : ℕ) : Type 0 
   pub empty : (x : ℕ) → is_none (piece_at old x) ≡ true → x ≢ to → is_none (piece_at new x) ≡ true
 
 module _ (old new : Cells) (hands : HandCounts) (color : Color) where
-  replied_step : (to : ℕ) → LeavesStanding old new color to → in_check new color ≡ false → (a : ℕ) → a < 81 → a ≢ to → is_spare old color a ≡ true → legal_codes (record { cells = new; hands = hands; side = color }) ≢ []
+  replied_step : (to : ℕ) → LeavesStanding old new color to → in_check new color ≡ false → (a : ℕ) → a < 81 → is_spare old color to a ≡ true → quiet_codes (record { cells = new; hands = hands; side = color }) ≢ []
   unfolding is_spare reaches
-  replied_step to k shut a ha other e =
+  replied_step to k shut a ha e =
       let q : Shogi = record { cells = new; hands = hands; side = color } in
-      let four = and_parts (is_piece_of color (piece_at old a) && not (is_king color (piece_at old a)) && not (is_aligned_with_king old color a)) (some_below 81 (is_open_step old color a)) e in
-      let three = and_parts (is_piece_of color (piece_at old a) && not (is_king color (piece_at old a))) (not (is_aligned_with_king old color a)) four.0 in
+      let four = and_parts (not (a == to) && is_unbound old color a) (some_below 81 (is_step_beside old to a)) e in
+      let apart : (not (a == to) ≡ true) × (is_unbound old color a ≡ true) = and_parts (not (a == to)) (is_unbound old color a) four.0 in
+      let three = and_parts (is_piece_of color (piece_at old a) && not (is_king color (piece_at old a))) (not (is_aligned_with_king old color a)) apart.1 in
       let two : (is_piece_of color (piece_at old a) ≡ true) × (not (is_king color (piece_at old a)) ≡ true) = and_parts (is_piece_of color (piece_at old a)) (not (is_king color (piece_at old a))) three.0 in
-      let which = some_below_which 81 (is_open_step old color a) four.1 in
-      let t = which.0 in
-      let step = and_parts (cell_steps (piece_at old a) a which.0 && not (is_piece_of color (piece_at old which.0))) (not (is_immobile which.0 (piece_at old a))) which.2 in
-      let walk : (cell_steps (piece_at old a) a which.0 ≡ true) × (not (is_piece_of color (piece_at old which.0)) ≡ true) = and_parts (cell_steps (piece_at old a) a which.0) (not (is_piece_of color (piece_at old which.0))) step.0 in
-      let same : piece_at new a ≡ piece_at old a = k.stays a two.0 other in
+      let which = some_below_which 81 (is_step_beside old to a) four.1 in
+      let beside : (is_quiet_step old a which.0 ≡ true) × (not (which.0 == to) ≡ true) = and_parts (is_quiet_step old a which.0) (not (which.0 == to)) which.2 in
+      let step = and_parts (cell_steps (piece_at old a) a which.0 && is_none (piece_at old which.0)) (not (is_immobile which.0 (piece_at old a))) beside.0 in
+      let walk : (cell_steps (piece_at old a) a which.0 ≡ true) × (is_none (piece_at old which.0) ≡ true) = and_parts (cell_steps (piece_at old a) a which.0) (is_none (piece_at old which.0)) step.0 in
+      let same : piece_at new a ≡ piece_at old a = k.stays a two.0 (λ at. both_ways _ (ap not (eq-eqb a to at)) apart.0) in
       let own : is_piece_of color (piece_at new a) ≡ true = ap (is_piece_of color) same ∙ two.0 in
-      let open_end : is_piece_of color (piece_at new which.0) ≡ false = k.clear which.0 (not-true _ walk.1) in
+      let bare : is_none (piece_at new which.0) ≡ true = k.empty which.0 walk.1 (λ at. both_ways _ (ap not (eq-eqb which.0 to at)) beside.1) in
       let reach : reaches new a which.0 ≡ true = ap (λ cell. cell_reaches new cell a which.0) same ∙ steps_reach new (piece_at old a) a which.0 walk.0 in
       let alive : is_immobile which.0 (piece_at new a) ≡ false = ap (is_immobile which.0) same ∙ not-true _ step.1 in
       let plain : is_king color (piece_at new a) ≡ false = ap (is_king color) same ∙ not-true _ two.1 in
       let off : is_lined_with_king new color a ≡ false = stays_unlined old new color a ha k.kings (not-true _ three.1) in
-      some_legal q (code_of (Board a which.0 false))
-      (is_legal_code_of q (code_of (Board a which.0 false)) (Board a which.0 false) (move_of-board a which.0 false ha which.1)
-      ∙ (legal_board q a which.0 false
-      ∙ and_from _ _ (right_step new color a which.0 own open_end reach alive) (ap not (quiet_board new color a which.0 false k.len ha which.1 own plain off shut))))
+      some_quiet q (Board a which.0 false) (move_of-board a which.0 false ha which.1)
+      (legal_board q a which.0 false
+      ∙ and_from _ _ (right_step new color a which.0 own (unowned color (piece_at new which.0) bare) reach alive) (ap not (quiet_board new color a which.0 false k.len ha which.1 own plain off shut)))
+      bare
 
-  replied : (to : ℕ) → LeavesStanding old new color to → in_check new color ≡ false → (a : ℕ) → a < 81 → a ≢ to → (is_spare old color a ≡ true) ⊎ ((is_none (piece_at old a) ≡ true) × (holds_free hands color ≡ true)) → legal_codes (record { cells = new; hands = hands; side = color }) ≢ []
-  replied to k shut a ha other way = elim way [
-    | inl e ↦ replied_step to k shut a ha other e
+  replied : (to : ℕ) → LeavesStanding old new color to → in_check new color ≡ false → (a : ℕ) → a < 81 → (is_spare old color to a ≡ true) ⊎ ((a ≢ to) × (is_none (piece_at old a) ≡ true) × (holds_free hands color ≡ true)) → quiet_codes (record { cells = new; hands = hands; side = color }) ≢ []
+  replied to k shut a ha way = elim way [
+    | inl e ↦ replied_step to k shut a ha e
     | inr e ↦ (
-        let held = held_kind hands color e.1 in
-        free_drop new hands color held.0 a k.len ha held.1 held.2 (k.empty a e.0 other) shut)
+        let held = held_kind hands color e.2 in
+        free_drop new hands color held.0 a k.len ha held.1 held.2 (k.empty a e.1 e.0) shut)
   ]
 
 -- ---- what moves attacks no king from where it ends, once it is gone
@@ -413,13 +466,14 @@ module _ (p : Shogi) (from to : ℕ) (v : IsValid p) (hf : from < 81) (own : is_
       (faultless_from p v.no_fault).shut covered
 
 replied_shut : (p : Shogi) (from to : ℕ) (promote : Bool) (sight spare a : ℕ) → IsValid p → IsReplies p sight spare → from < 81 → to < 81 → is_piece_of p.side (piece_at p.cells from) ≡ true → in_check (after p (Board from to promote)).cells (opponent_of p.side) ≡ false
-    → a < 81 → has_bit spare a ≡ true → a ≢ to → legal_codes (after p (Board from to promote)) ≢ []
+    → a < 81 → has_bit spare a ≡ true → a ≢ to → quiet_codes (after p (Board from to promote)) ≢ []
 replied_shut p from to promote sight spare a v r hf ht own shut ha some other =
+    let which = some_below_which 81 (is_way p (opponent_of p.side) to) (r.spares a to ha some other) in
     replied p.cells (cells_after p.cells p.side (Board from to promote)) (after p (Board from to promote)).hands (opponent_of p.side)
-    to (left_board p from to promote v hf ht own) shut a ha other (way_after p (Board from to promote) a (r.spares a ha some))
+    to (left_board p from to promote v hf ht own) shut which.0 which.1 (way_after p (Board from to promote) to which.0 which.2)
 
 pub replied_board : (p : Shogi) (from to : ℕ) (promote : Bool) (sight spare a : ℕ) → IsValid p → IsReplies p sight spare → from < 81 → to < 81 → is_piece_of p.side (piece_at p.cells from) ≡ true → UncoversNothing p.cells (opponent_of p.side) sight from (piece_moved promote (piece_at p.cells from)) to → IsHarmless p.cells (opponent_of p.side) (piece_moved promote (piece_at p.cells from)) to
-    → a < 81 → has_bit spare a ≡ true → a ≢ to → legal_codes (after p (Board from to promote)) ≢ []
+    → a < 81 → has_bit spare a ≡ true → a ≢ to → quiet_codes (after p (Board from to promote)) ≢ []
 replied_board p from to promote sight spare a v r hf ht own out off = replied_shut p from to promote sight spare a v r hf ht own (shut_board p from to promote v hf ht own sight spare r out off)
 
 module _ (p : Shogi) (kind : Kind) (to : ℕ) (v : IsValid p) (ht : to < 81) where
@@ -458,49 +512,69 @@ module _ (p : Shogi) (kind : Kind) (to : ℕ) (v : IsValid p) (ht : to < 81) whe
   }
 
 pub replied_drop : (p : Shogi) (kind : Kind) (to sight spare a : ℕ) → IsValid p → IsReplies p sight spare → to < 81 → IsHarmless p.cells (opponent_of p.side) (dropped p.side kind) to
-    → a < 81 → has_bit spare a ≡ true → a ≢ to → legal_codes (after p (Drop kind to)) ≢ []
+    → a < 81 → has_bit spare a ≡ true → a ≢ to → quiet_codes (after p (Drop kind to)) ≢ []
 replied_drop p kind to sight spare a v r ht off ha some other =
+    let which = some_below_which 81 (is_way p (opponent_of p.side) to) (r.spares a to ha some other) in
     replied p.cells (cells_after p.cells p.side (Drop kind to)) (after p (Drop kind to)).hands (opponent_of p.side)
-    to (left_drop p kind to v ht) (shut_drop p kind to v ht off) a ha other (way_after p (Drop kind to) a (r.spares a ha some))
+    to (left_drop p kind to v ht) (shut_drop p kind to v ht off) which.0 which.1 (way_after p (Drop kind to) to which.0 which.2)
 
 -- ---- spare pieces are found one by one
 
--- what is left and what is kept are pieces of the side off the lines of its kings; what is kept and not left is spare
-pub record IsSifted (cells : Cells) (side : Color) (lines left kept : ℕ) : Type 0 where
+-- a piece of the side that is no king and on no line with one, and has a step to an empty square
+pub record IsMover (cells : Cells) (side : Color) (a : ℕ) : Type 0 where
+  pub unbound : is_unbound cells side a ≡ true
+  pub steps : some_below 81 (is_quiet_step cells a) ≡ true
+
+-- what is left and what is kept are pieces of the side off the lines of its kings; what is kept and not left has such a step, and each of the ends is one of such a piece
+pub record IsSifted (cells : Cells) (side : Color) (lines left kept ends : ℕ) : Type 0 where
   pub own : (a : ℕ) → a < 81 → has_bit left a ≡ true → (is_piece_of side (piece_at cells a) ≡ true) × (has_bit lines a ≡ false)
   pub within : (a : ℕ) → has_bit left a ≡ true → has_bit kept a ≡ true
-  pub spare : (a : ℕ) → a < 81 → has_bit kept a ≡ true → (has_bit left a ≡ true) ⊎ (is_spare cells side a ≡ true)
+  pub spare : (a : ℕ) → a < 81 → has_bit kept a ≡ true → (has_bit left a ≡ true) ⊎ IsMover cells side a
+  pub end : (t : ℕ) → t < 81 → has_bit ends t ≡ true → (a : ℕ) × (a < 81) × (is_unbound cells side a ≡ true) × (is_quiet_step cells a t ≡ true)
 
-pub sifted_first : (cells : Cells) (side : Color) (lines own : ℕ) → lines < 2 ^ 128 → ((n : ℕ) → n < 81 → has_bit own n ≡ is_piece_of side (piece_at cells n)) → IsSifted cells side lines (bit_and own (2 ^ 128 - 1 - lines)) (bit_and own (2 ^ 128 - 1 - lines))
+pub sifted_first : (cells : Cells) (side : Color) (lines own : ℕ) → lines < 2 ^ 128 → ((n : ℕ) → n < 81 → has_bit own n ≡ is_piece_of side (piece_at cells n)) → IsSifted cells side lines (bit_and own (2 ^ 128 - 1 - lines)) (bit_and own (2 ^ 128 - 1 - lines)) 0
 sifted_first cells side lines own fits bits = record {
   own = λ a h e. (
       let parts : (has_bit own a ≡ true) × (has_bit (2 ^ 128 - 1 - lines) a ≡ true) = and_parts _ _ (sym (has_bit-and own (2 ^ 128 - 1 - lines) a) ∙ e) in
       (sym (bits a h) ∙ parts.0, not-true _ (sym (has_bit-not lines a fits (omega arith)) ∙ parts.1)));
   within = λ a e. e;
   spare = λ a h e. inl e;
+  end = λ t h e. absurd (both_ways (has_bit 0 t) (has_bit-none t) e);
 }
 
-spare_if : (cells : Cells) (side : Color) (lines a : ℕ) → Aligns cells side 0 lines → a < 81 → is_piece_of side (piece_at cells a) ≡ true → has_bit lines a ≡ false → some_below 81 (is_open_step cells side a) ≡ true → is_spare cells side a ≡ true
-unfolding is_spare
-spare_if cells side lines a s h own off step =
-    rw (own, unaligned cells side lines a s h off, false_from_ne_true (is_king side (piece_at cells a)) (λ king. both_ways (has_bit lines a) off (s.kings a h king)), step) refl
+unbound_if : (cells : Cells) (side : Color) (lines a : ℕ) → Aligns cells side 0 lines → a < 81 → is_piece_of side (piece_at cells a) ≡ true → has_bit lines a ≡ false → is_unbound cells side a ≡ true
+unbound_if cells side lines a s h own off =
+    rw (own, unaligned cells side lines a s h off, false_from_ne_true (is_king side (piece_at cells a)) (λ king. both_ways (has_bit lines a) off (s.kings a h king))) refl
 
-pub sifted_found : (cells : Cells) (side : Color) (lines left kept next from : ℕ) → Aligns cells side 0 lines → IsSifted cells side lines left kept → from < 81 → has_bit left from ≡ true → some_below 81 (is_open_step cells side from) ≡ true
-    → ((i : ℕ) → has_bit next i ≡ (has_bit left i && not (i == from))) → IsSifted cells side lines next kept
-sifted_found cells side lines left kept next from s f hf here step bits = record {
-  own = λ a h e. f.own a h ((and_parts (has_bit left a) (not (a == from)) (sym (bits a) ∙ e)).0);
-  within = λ a e. f.within a ((and_parts (has_bit left a) (not (a == from)) (sym (bits a) ∙ e)).0);
-  spare = λ a h e. elim (cases_eq a from) [
-    | inl same ↦ inr (let own = f.own from hf here in subst (λ (y : ℕ). is_spare cells side y ≡ true) (sym same) (spare_if cells side lines from s hf own.0 own.1 step))
-    | inr other ↦ elim (f.spare a h e) [
-      | inl still ↦ inl (bits a ∙ and_from _ _ still (not_from_false _ (ne_eqb a from other)))
-      | inr spare ↦ inr spare
-    ]
-  ];
-}
+-- some step of it is one
+some_step : (cells : Cells) (a steps : ℕ) → steps < 2 ^ 81 → AreQuietSteps cells a steps → steps ≢ 0 → some_below 81 (is_quiet_step cells a) ≡ true
+some_step cells a steps fits are some =
+    let low = lowest_set steps some fits in
+    some_below_at 81 (is_quiet_step cells a) (trailing_zeros w128 steps) low.0 (are (trailing_zeros w128 steps) low.0 low.1)
 
-pub sifted_dropped : (cells : Cells) (side : Color) (lines left kept next less from : ℕ) → IsSifted cells side lines left kept → ((i : ℕ) → has_bit next i ≡ (has_bit left i && not (i == from))) → ((i : ℕ) → has_bit less i ≡ (has_bit kept i && not (i == from))) → IsSifted cells side lines next less
-sifted_dropped cells side lines left kept next less from f bits gone = record {
+pub sifted_found : (cells : Cells) (side : Color) (lines left kept ends next from steps : ℕ) → Aligns cells side 0 lines → IsSifted cells side lines left kept ends → from < 81 → has_bit left from ≡ true → steps < 2 ^ 81 → AreQuietSteps cells from steps → steps ≢ 0
+    → ((i : ℕ) → has_bit next i ≡ (has_bit left i && not (i == from))) → IsSifted cells side lines next kept (bit_or ends steps)
+sifted_found cells side lines left kept ends next from steps s f hf here fits are some bits =
+    let own : _ = f.own from hf here in
+    let unbound : is_unbound cells side from ≡ true = unbound_if cells side lines from s hf own.0 own.1 in
+    record {
+      own = λ a h e. f.own a h ((and_parts (has_bit left a) (not (a == from)) (sym (bits a) ∙ e)).0);
+      within = λ a e. f.within a ((and_parts (has_bit left a) (not (a == from)) (sym (bits a) ∙ e)).0);
+      spare = λ a h e. elim (cases_eq a from) [
+        | inl same ↦ inr (subst (IsMover cells side) (sym same) (record { unbound = unbound; steps = some_step cells from steps fits are some }))
+        | inr other ↦ elim (f.spare a h e) [
+          | inl still ↦ inl (bits a ∙ and_from _ _ still (not_from_false _ (ne_eqb a from other)))
+          | inr spare ↦ inr spare
+        ]
+      ];
+      end = λ t h e. elim (or_cases (has_bit ends t) (has_bit steps t) (sym (has_bit-or ends steps t) ∙ e)) [
+        | inl before ↦ f.end t h before
+        | inr now ↦ (from, hf, unbound, are t h now)
+      ];
+    }
+
+pub sifted_dropped : (cells : Cells) (side : Color) (lines left kept ends next less from : ℕ) → IsSifted cells side lines left kept ends → ((i : ℕ) → has_bit next i ≡ (has_bit left i && not (i == from))) → ((i : ℕ) → has_bit less i ≡ (has_bit kept i && not (i == from))) → IsSifted cells side lines next less ends
+sifted_dropped cells side lines left kept ends next less from f bits gone = record {
   own = λ a h e. f.own a h ((and_parts (has_bit left a) (not (a == from)) (sym (bits a) ∙ e)).0);
   within = λ a e. (let parts = and_parts (has_bit left a) (not (a == from)) (sym (bits a) ∙ e) in gone a ∙ and_from _ _ (f.within a parts.0) parts.1);
   spare = λ a h e. (
@@ -509,34 +583,60 @@ sifted_dropped cells side lines left kept next less from f bits gone = record {
         | inl still ↦ inl (bits a ∙ and_from _ _ still parts.1)
         | inr spare ↦ inr spare
       ]);
+  end = f.end;
 }
 
-pub sifted_done : (cells : Cells) (side : Color) (lines left kept : ℕ) → left < 2 ^ 128 → IsSifted cells side lines left kept → (a : ℕ) → a < 81 → has_bit (bit_and kept (2 ^ 128 - 1 - left)) a ≡ true → is_spare cells side a ≡ true
-sifted_done cells side lines left kept fits f a h e =
-    let parts : (has_bit kept a ≡ true) × (has_bit (2 ^ 128 - 1 - left) a ≡ true) = and_parts _ _ (sym (has_bit-and kept (2 ^ 128 - 1 - left) a) ∙ e) in
-    elim (f.spare a h parts.0) [
-      | inl still ↦ absurd (both_ways (has_bit left a) (not-true _ (sym (has_bit-not left a fits (omega arith)) ∙ parts.1)) still)
-      | inr spare ↦ spare
+-- a piece with a step to another square than the one where a move ends, if it does not end on the piece
+spare_at : (cells : Cells) (side : Color) (to a t : ℕ) → a < 81 → t < 81 → a ≢ to → t ≢ to → is_unbound cells side a ≡ true → is_quiet_step cells a t ≡ true → some_below 81 (is_spare cells side to) ≡ true
+unfolding is_spare
+spare_at cells side to a t ha ht stays beside unbound step =
+    some_below_at 81 (is_spare cells side to) a ha
+    (and_from _ _ (and_from _ _ (not_from_false _ (ne_eqb a to stays)) unbound)
+    (some_below_at 81 (is_step_beside cells to a) t ht (and_from _ _ step (not_from_false _ (ne_eqb t to beside)))))
+
+-- where a move ends on a piece, a step to an empty square ends elsewhere
+steps_beside : (cells : Cells) (side : Color) (to a t : ℕ) → is_unbound cells side to ≡ true → is_quiet_step cells a t ≡ true → t ≢ to
+steps_beside cells side to a t unbound step same =
+    let own : is_piece_of side (piece_at cells to) ≡ true = (and_parts _ _ (and_parts _ _ unbound).0).0 in
+    let bare : is_none (piece_at cells t) ≡ true = (and_parts _ _ (and_parts _ _ step).0).1 in
+    both_ways (is_piece_of side (piece_at cells to)) (unowned side (piece_at cells to) (subst (λ (n : ℕ). is_none (piece_at cells n) ≡ true) same bare)) own
+
+-- with two ends, each piece leaves a step: its own or that of another one
+pub sifted_done : (cells : Cells) (side : Color) (lines left kept ends : ℕ) → left < 2 ^ 128 → HasOthers ends → IsSifted cells side lines left kept ends → LeaveSpare cells side (bit_and kept (2 ^ 128 - 1 - left))
+sifted_done cells side lines left kept ends fits two f a to h set stays =
+    let parts : (has_bit kept a ≡ true) × (has_bit (2 ^ 128 - 1 - left) a ≡ true) = and_parts _ _ (sym (has_bit-and kept (2 ^ 128 - 1 - left) a) ∙ set) in
+    let end = two to in
+    let by = f.end end.0 end.1 end.2 in
+    elim (cases_eq by.0 to) [
+      | inr off ↦ spare_at cells side to by.0 end.0 by.1 end.1 off end.3 by.2 by.3
+      | inl at ↦ elim (f.spare a h parts.0) [
+        | inl still ↦ absurd (both_ways (has_bit left a) (not-true _ (sym (has_bit-not left a fits (omega arith)) ∙ parts.1)) still)
+        | inr mover ↦ (
+            let step = some_below_which 81 (is_quiet_step cells a) mover.steps in
+            spare_at cells side to a step.0 h step.1 stays (steps_beside cells side to a step.0 (subst (λ (n : ℕ). is_unbound cells side n ≡ true) at by.2) step.2) mover.unbound step.2)
+      ]
     ]
 
 pub ruleset sifting = (sifted_first, sifted_found, sifted_dropped, sifted_done, and_fits)
 
--- an end that the step has, as a bit
-pub step_found : (cells : Cells) (side : Color) (piece : Piece) (a steps own dead : ℕ) → piece_at cells a ≡ Some piece → steps < 2 ^ 81 → own < 2 ^ 81 → dead < 2 ^ 81 → ((n : ℕ) → n < 81 → has_bit steps n ≡ has_step piece a n) → ((n : ℕ) → n < 81 → has_bit own n ≡ is_piece_of side (piece_at cells n)) → ((n : ℕ) → n < 81 → has_bit dead n ≡ is_immobile n (piece_at cells a))
-    → bit_and (bit_and steps (2 ^ 128 - 1 - own)) (2 ^ 128 - 1 - dead) ≢ 0 → some_below 81 (is_open_step cells side a) ≡ true
-step_found cells side piece a steps own dead stands sf wf df s o d some =
-    let m : ℕ = bit_and (bit_and steps (2 ^ 128 - 1 - own)) (2 ^ 128 - 1 - dead) in
-    let low = lowest_set (bit_and (bit_and steps (2 ^ 128 - 1 - own)) (2 ^ 128 - 1 - dead)) some (and_fits (bit_and steps (2 ^ 128 - 1 - own)) (2 ^ 128 - 1 - dead) (and_fits steps (2 ^ 128 - 1 - own) sf)) in
-    found (trailing_zeros w128 (bit_and (bit_and steps (2 ^ 128 - 1 - own)) (2 ^ 128 - 1 - dead))) low.0 low.1
-  where
-    found : (t : ℕ) → t < 81 → has_bit (bit_and (bit_and steps (2 ^ 128 - 1 - own)) (2 ^ 128 - 1 - dead)) t ≡ true → some_below 81 (is_open_step cells side a) ≡ true
-    found t h e =
-        let two : (has_bit (bit_and steps (2 ^ 128 - 1 - own)) t ≡ true) × (has_bit (2 ^ 128 - 1 - dead) t ≡ true) = and_parts _ _ (sym (has_bit-and (bit_and steps (2 ^ 128 - 1 - own)) (2 ^ 128 - 1 - dead) t) ∙ e) in
-        let one : (has_bit steps t ≡ true) × (has_bit (2 ^ 128 - 1 - own) t ≡ true) = and_parts _ _ (sym (has_bit-and steps (2 ^ 128 - 1 - own) t) ∙ two.0) in
-        some_below_at 81 (is_open_step cells side a) t h
-        (and_from _ _ (and_from _ _ (ap (λ cell. cell_steps cell a t) stands ∙ (sym (s t h) ∙ one.0))
-        (ap not (sym (o t h)) ∙ (sym (has_bit-not own t (omega arith) (omega arith)) ∙ one.1)))
-        (ap not (sym (d t h)) ∙ (sym (has_bit-not dead t (omega arith) (omega arith)) ∙ two.1)))
+-- steps to empty squares, as bits
+pub steps_found : (cells : Cells) (piece : Piece) (a steps free dead : ℕ) → piece_at cells a ≡ Some piece → dead < 2 ^ 81 → ((n : ℕ) → n < 81 → has_bit steps n ≡ has_step piece a n) → ((n : ℕ) → n < 81 → has_bit free n ≡ is_none (piece_at cells n)) → ((n : ℕ) → n < 81 → has_bit dead n ≡ is_immobile n (piece_at cells a))
+    → AreQuietSteps cells a (bit_and (bit_and steps free) (2 ^ 128 - 1 - dead))
+steps_found cells piece a steps free dead stands fits s f d t h e =
+    let two : (has_bit (bit_and steps free) t ≡ true) × (has_bit (2 ^ 128 - 1 - dead) t ≡ true) = and_parts _ _ (sym (has_bit-and (bit_and steps free) (2 ^ 128 - 1 - dead) t) ∙ e) in
+    let one : (has_bit steps t ≡ true) × (has_bit free t ≡ true) = and_parts _ _ (sym (has_bit-and steps free t) ∙ two.0) in
+    and_from _ _ (and_from _ _ (ap (λ cell. cell_steps cell a t) stands ∙ (sym (s t h) ∙ one.0)) (sym (f t h) ∙ one.1))
+    (ap not (sym (d t h)) ∙ (sym (has_bit-not dead t (omega (arith, fits)) (omega arith)) ∙ two.1))
+
+-- an empty square is one on which a held piece may be dropped, and of a spare piece there is a way
+pub ways_free : (p : Shogi) (side : Color) (free : ℕ) → holds_free p.hands side ≡ true → ((n : ℕ) → n < 81 → has_bit free n ≡ is_none (piece_at p.cells n)) → (a to : ℕ) → a < 81 → has_bit free a ≡ true → a ≢ to → some_below 81 (is_way p side to) ≡ true
+ways_free p side free held bits a to h set other =
+    some_below_at 81 (is_way p side to) a h (or_right (is_spare p.cells side to a) _ (and_from _ _ (and_from _ _ (not_from_false _ (ne_eqb a to other)) (sym (bits a h) ∙ set)) held))
+
+pub ways_spare : (p : Shogi) (side : Color) (squares : ℕ) → LeaveSpare p.cells side squares → (a to : ℕ) → a < 81 → has_bit squares a ≡ true → a ≢ to → some_below 81 (is_way p side to) ≡ true
+ways_spare p side squares leave a to h set other =
+    let which = some_below_which 81 (is_spare p.cells side to) (leave a to h set other) in
+    some_below_at 81 (is_way p side to) which.0 which.1 (or_left (is_spare p.cells side to which.0) _ which.2)
 
 pub unknown_sees : (cells : Cells) (side : Color) (all : ℕ) → ((n : ℕ) → n < 81 → has_bit all n ≡ true) → Sees cells side 0 all
 unknown_sees cells side all every = record { kings = λ n h e. every n h; squares = λ k n h l e out seen. every n l }
@@ -558,16 +658,20 @@ another_than spare free to fits bits some =
     (trailing_zeros w128 free, low.0, parts.0, λ e. both_ways _ (ap not (eq-eqb _ to e)) parts.1)
 
 pub certain_board : (p : Shogi) (from to : ℕ) (promote : Bool) (sight spare free : ℕ) → IsValid p → IsReplies p sight spare → free < 2 ^ 81 → from < 81 → to < 81 → is_legal p (Board from to promote) ≡ true → in_check (after p (Board from to promote)).cells (opponent_of p.side) ≡ false
-    → ((i : ℕ) → has_bit free i ≡ (has_bit spare i && not (i == to))) → free ≢ 0 → legal_codes (after p (Board from to promote)) ≢ []
+    → ((i : ℕ) → has_bit free i ≡ (has_bit spare i && not (i == to))) → free ≢ 0 → quiet_codes (after p (Board from to promote)) ≢ []
 certain_board p from to promote sight spare free v r fits hf ht legal shut bits some =
     let a = another_than spare free to fits bits some in
     replied_shut p from to promote sight spare a.0 v r hf ht (legal_own p from to promote legal) shut a.1 a.2 a.3
 
 pub certain_drop : (p : Shogi) (kind : Kind) (to sight spare free : ℕ) → IsValid p → IsReplies p sight spare → free < 2 ^ 81 → to < 81 → IsHarmless p.cells (opponent_of p.side) (dropped p.side kind) to
-    → ((i : ℕ) → has_bit free i ≡ (has_bit spare i && not (i == to))) → free ≢ 0 → legal_codes (after p (Drop kind to)) ≢ []
+    → ((i : ℕ) → has_bit free i ≡ (has_bit spare i && not (i == to))) → free ≢ 0 → quiet_codes (after p (Drop kind to)) ≢ []
 certain_drop p kind to sight spare free v r fits ht off bits some =
     let a = another_than spare free to fits bits some in
     replied_drop p kind to sight spare a.0 v r ht off a.1 a.2 a.3
+
+-- what is answered quietly is answered
+pub answered : (p : Shogi) (m : Move) → IsQuietlyAnswered p m → IsAnswered p m
+answered p m quietly legal = quiet_legal (after p m) (quietly legal)
 
 -- ---- squares in a row
 

@@ -12,14 +12,13 @@ use Rattle.shogi_moves.specs.declared.sweep.DropSweep.{DropSweep}
 use Rattle.shogi_moves.specs.After.{after_code}
 use Rattle.shogi_moves.specs.Captures.{is_matching}
 use Rattle.shogi_moves.specs.Legal.{is_legal_code}
-use Rattle.shogi_moves.specs.LegalMoves.{legal_codes}
 use Rattle.shogi_moves.specs.Sweeps.{matching_from, board_left, drops_left}
 use Rattle.shogi_replies.specs.declared.row.Row.{Row}
-use Rattle.shogi_replies.specs.Replies.{lets_promote}
+use Rattle.shogi_replies.specs.Replies.{lets_promote, quiet_codes}
 
--- after the move of the code the other side has a legal move and, where no escapes are given, is in no check
+-- after the move of the code the other side has a legal move that takes nothing and does not promote and, where no escapes are given, is in no check
 pub record LeavesReply (p : Shogi) (escapes code : ℕ) : Type 0 where
-  pub replied : legal_codes (after_code p code) ≢ []
+  pub replied : quiet_codes (after_code p code) ≢ []
   pub unchecked : escapes ≡ 0 → in_check (after_code p code).cells (opponent_of p.side) ≡ false
 
 -- the code is that of a legal move of the kind on the board, from a code on, which the row has, and after which the other side has such a move

@@ -1,5 +1,5 @@
 -- What is kept of a position to decide that after most of its moves the other side is in no check and has a legal move.
-use Rattle.std.specs.Prelude.{ℕ, ◌≡◌, ◌≢◌, ◌<◌, ◌⊎◌, ◌&&◌, ◌||◌, Bool, true, false, not, nat_lt, Option, Some, None, is_none, [], slice_set}
+use Rattle.std.specs.Prelude.{ℕ, ◌≡◌, ◌≢◌, ◌<◌, ◌==◌, ◌⊎◌, ◌&&◌, ◌||◌, Bool, true, false, not, nat_lt, Option, Some, None, is_none, List, [], filter, slice_set}
 use Rattle.shogi_core.specs.declared.moves.Move.{Move}
 use Rattle.shogi_core.specs.declared.moves.Move.TheVariants.{Board, Drop}
 use Rattle.shogi_core.specs.declared.piece.Color.{Color}
@@ -9,6 +9,7 @@ use Rattle.shogi_core.specs.declared.piece.Piece.{Piece}
 use Rattle.shogi_core.specs.Attack.{in_check, is_sniping, cell_steps}
 use Rattle.shogi_core.specs.Below.{some_below}
 use Rattle.shogi_core.specs.Bits.{has_bit}
+use Rattle.shogi_core.specs.Codes.{move_of}
 use Rattle.shogi_core.specs.Cell.{is_piece_of, is_king, is_immobile}
 use Rattle.shogi_core.specs.Lines.{are_aligned, are_lined, is_seen}
 use Rattle.shogi_core.specs.Movement.{Cells, piece_at, reaches, cell_reaches}
@@ -22,11 +23,25 @@ use Rattle.shogi_core.specs.Zones.{may_promote, is_around}
 use Rattle.shogi_moves.specs.LegalMoves.{legal_codes}
 use Rattle.shogi_replies.specs.declared.row.Row.{Row}
 
--- the piece on a may step to t: none of its own stands there, and it can move again from there without promotion
-abbrev pub is_open_step : Cells → Color → ℕ → ℕ → Bool
-is_open_step cells side a t =
+-- the move takes nothing and does not promote
+abbrev pub is_quiet : Shogi → Option Move → Bool
+is_quiet p (Some (Board from to promote)) = not promote && is_none (piece_at p.cells to)
+is_quiet p (Some (Drop kind to)) = true
+is_quiet p None = true
+
+-- the code is that of such a move
+abbrev pub is_quiet_code : Shogi → ℕ → Bool
+is_quiet_code p code = is_quiet p (move_of code)
+
+-- the codes of the legal moves that are so
+abbrev pub quiet_codes : Shogi → List ℕ
+quiet_codes p = filter (is_quiet_code p) (legal_codes p)
+
+-- the piece on a may step to t, where nothing stands, and can move again from there without promotion
+abbrev pub is_quiet_step : Cells → ℕ → ℕ → Bool
+is_quiet_step cells a t =
     cell_steps (piece_at cells a) a t
-    && not (is_piece_of side (piece_at cells t))
+    && is_none (piece_at cells t)
     && not (is_immobile t (piece_at cells a))
 
 -- the square lies on a line with a king of the side, whatever stands between
@@ -37,13 +52,21 @@ is_line_of_king cells side a king = is_king side (piece_at cells king) && are_al
 unfoldable pub is_aligned_with_king : Cells → Color → ℕ → Bool
 is_aligned_with_king cells side a = some_below 81 (is_line_of_king cells side a)
 
--- a piece of the side with such a step, which is no king and on no line with one
-unfoldable pub is_spare : Cells → Color → ℕ → Bool
-is_spare cells side a =
+-- a piece of the side, no king, and on no line with one
+abbrev pub is_unbound : Cells → Color → ℕ → Bool
+is_unbound cells side a =
     is_piece_of side (piece_at cells a)
     && not (is_king side (piece_at cells a))
     && not (is_aligned_with_king cells side a)
-    && some_below 81 (is_open_step cells side a)
+
+-- the piece on a has such a step to t, which is another square than that one
+abbrev pub is_step_beside : Cells → ℕ → ℕ → ℕ → Bool
+is_step_beside cells to a t = is_quiet_step cells a t && not (t == to)
+
+-- such a piece stands on another square than that one, and has such a step
+unfoldable pub is_spare : Cells → Color → ℕ → ℕ → Bool
+is_spare cells side to a =
+    not (a == to) && is_unbound cells side a && some_below 81 (is_step_beside cells to a)
 
 -- the side holds a piece of such a kind, which it may drop on each empty square where it is in no check
 abbrev pub holds_free : HandCounts → Color → Bool
@@ -53,9 +76,25 @@ holds_free hands side =
     || nat_lt 0 (count_in_hand hands side Bishop)
     || nat_lt 0 (count_in_hand hands side Rook)
 
--- a spare piece stands there, or nothing, and such a piece is held
-abbrev pub is_way : Shogi → Color → ℕ → Bool
-is_way p side a = is_spare p.cells side a || is_none (piece_at p.cells a) && holds_free p.hands side
+-- a spare piece stands on a, or nothing, and such a piece is held; a is another square than the one where a move ends
+abbrev pub is_way : Shogi → Color → ℕ → ℕ → Bool
+is_way p side to a =
+    is_spare p.cells side to a
+    || not (a == to) && is_none (piece_at p.cells a) && holds_free p.hands side
+
+-- beside each square there is another one in the set
+abbrev pub HasOthers : ℕ → Type 0
+HasOthers set = (n : ℕ) → (a : ℕ) × (a < 81) × (has_bit set a ≡ true) × (a ≢ n)
+
+-- to what stands on a there is a step to each of the squares
+abbrev pub AreQuietSteps : Cells → ℕ → ℕ → Type 0
+AreQuietSteps cells a squares =
+    (t : ℕ) → t < 81 → has_bit squares t ≡ true → is_quiet_step cells a t ≡ true
+
+-- wherever a move ends, if not on one of the squares, the side has a spare piece left
+abbrev pub LeaveSpare : Cells → Color → ℕ → Type 0
+LeaveSpare cells side squares = (a to : ℕ) → a < 81 → has_bit squares a ≡ true → a ≢ to
+    → some_below 81 (is_spare cells side to) ≡ true
 
 -- squares with the kings of a side and all that those see which are not left
 pub record Sees (cells : Cells) (side : Color) (left sight : ℕ) : Type 0 where
@@ -106,10 +145,11 @@ UncoversWithin cells side sight from set = (promote : Bool) (n : ℕ) → n < 81
 abbrev pub UncoversChecksWithin : Shogi → ℕ → ℕ → ℕ → Type 0
 UncoversChecksWithin p sight from set = UncoversWithin p.cells (opponent_of p.side) sight from set
 
--- such squares for the side that is not to move, and some of those that give it a move
+-- such squares for the side that is not to move, and others, of which it has a way wherever a move ends that leaves one of them
 pub record IsReplies (p : Shogi) (sight spare : ℕ) : Type 0 where
   pub sees : Sees p.cells (opponent_of p.side) 0 sight
-  pub spares : (a : ℕ) → a < 81 → has_bit spare a ≡ true → is_way p (opponent_of p.side) a ≡ true
+  pub spares : (a to : ℕ) → a < 81 → has_bit spare a ≡ true → a ≢ to
+      → some_below 81 (is_way p (opponent_of p.side) to) ≡ true
 
 -- the square is not closed, and another one gives the side a move
 pub record IsOpen (closed spare n : ℕ) : Type 0 where
@@ -125,15 +165,19 @@ AreOpen closed spare squares =
 abbrev pub IsAnswered : Shogi → Move → Type 0
 IsAnswered p m = is_legal p m ≡ true → legal_codes (after p m) ≢ []
 
--- a move from the square to each one in the set is answered, promoting or not
+-- and one that takes nothing and does not promote
+abbrev pub IsQuietlyAnswered : Shogi → Move → Type 0
+IsQuietlyAnswered p m = is_legal p m ≡ true → quiet_codes (after p m) ≢ []
+
+-- a move from the square to each one in the set is so answered, promoting or not
 abbrev pub AreAnswered : Shogi → ℕ → Bool → ℕ → Type 0
 AreAnswered p from promote set =
-    (n : ℕ) → n < 81 → has_bit set n ≡ true → IsAnswered p (Board from n promote)
+    (n : ℕ) → n < 81 → has_bit set n ≡ true → IsQuietlyAnswered p (Board from n promote)
 
--- each move on the board of what stands on the squares is answered, promoting or not
+-- so is each move on the board of what stands on the squares
 abbrev pub AreRemote : Shogi → ℕ → Type 0
 AreRemote p squares = (a n : ℕ) (promote : Bool) → a < 81 → n < 81 → has_bit squares a ≡ true
-    → reaches p.cells a n ≡ true → IsAnswered p (Board a n promote)
+    → reaches p.cells a n ≡ true → IsQuietlyAnswered p (Board a n promote)
 
 -- each of the squares is in the set
 abbrev pub AreAmong : ℕ → ℕ → Type 0
@@ -144,18 +188,18 @@ abbrev pub PromotesWithin : Cells → ℕ → ℕ → ℕ → Type 0
 PromotesWithin cells from squares set = (n : ℕ) → n < 81 → has_bit squares n ≡ true
     → may_promote (piece_at cells from) from n ≡ true → has_bit set n ≡ true
 
--- a drop of the kind on each of the squares is answered
+-- so is a drop of the kind on each of the squares
 abbrev pub AreDropsAnswered : Shogi → Kind → ℕ → Type 0
 AreDropsAnswered p kind squares =
-    (n : ℕ) → n < 81 → has_bit squares n ≡ true → IsAnswered p (Drop kind n)
+    (n : ℕ) → n < 81 → has_bit squares n ≡ true → IsQuietlyAnswered p (Drop kind n)
 
 -- if the move is legal, it gives no check
 abbrev pub GivesNoCheck : Shogi → Move → Type 0
 GivesNoCheck p m = is_legal p m ≡ true → in_check (after p m).cells (opponent_of p.side) ≡ false
 
--- the move is answered and, where no escapes are given, gives no check
+-- the move is answered by one that takes nothing and does not promote and, where no escapes are given, gives no check
 abbrev pub IsCertain : Shogi → ℕ → Move → Type 0
-IsCertain p escapes m = IsAnswered p m × (escapes ≡ 0 → GivesNoCheck p m)
+IsCertain p escapes m = IsQuietlyAnswered p m × (escapes ≡ 0 → GivesNoCheck p m)
 
 -- so is a move from the square to each one in the set, promoting or not
 abbrev pub AreCertain : Shogi → ℕ → ℕ → Bool → ℕ → Type 0

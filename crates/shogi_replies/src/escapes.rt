@@ -6,7 +6,7 @@ ghost use Rattle.shogi_moves.specs.Destinations.{IsWithin};
 ghost use Rattle.shogi_moves.specs.Escapes.{AreEscapes};
 ghost use Rattle.shogi_moves.specs.Legal.{is_legal};
 ghost use Rattle.shogi_replies.specs.Escapes.{AreAllUnattacked, AreUnattacked, IsSafeWithoutBoth, HasRaysBehind, HasKingsRays, ReachesWithin, HasNoSniper};
-ghost use Rattle.shogi_replies.specs.Replies.{IsAnswered, AreAnswered, AreDropsAnswered};
+ghost use Rattle.shogi_replies.specs.Replies.{IsAnswered, IsQuietlyAnswered, AreAnswered, AreDropsAnswered};
 ghost use Rattle.shogi_replies.specs.Threats.{IsTaken};
 
 use shogi_core::bits::{cleared, lowest, without_lowest};
@@ -131,14 +131,15 @@ fn within_reach(p: &Position, cell: Option<Piece>, to: Square, among: Squares) -
     }
 }
 
-/// Whether one of the squares is surely left to the king after the legal move, should that give it
-/// check: the move does not end there, what moves does not reach it, and it is on no line with the
-/// square that it leaves.
+/// Whether one of the squares on which nothing stands is surely left to the king after the legal
+/// move, should that give it check: the move does not end there, what moves does not reach it, and it
+/// is on no line with the square that it leaves.
 pub fn leaves_escape(p: &Position, escapes: Squares, m: &Move) -> bool
     requires { AreEscapes p.now escapes.bits }
-    ensures { result ≡ true → IsAnswered p.now m.now }
+    ensures { result ≡ true → IsQuietlyAnswered p.now m.now }
 {
     p.validity();
+    let occupied = p.as_board().occupied();
     match m {
         Move::Board { from, to, promote } => {
             from.validity();
@@ -149,12 +150,12 @@ pub fn leaves_escape(p: &Position, escapes: Squares, m: &Move) -> bool
                 return false;
             }
             let reach = within_reach(p, piece_moved(p.at(*from), *promote), *to, left);
-            has_open(p, escapes, reach | lines, *to)
+            has_open(p, escapes, reach | lines | occupied, *to)
         }
         Move::Drop { kind, to } => {
             to.validity();
             let reach = within_reach(p, dropped(p.side(), *kind), *to, escapes);
-            has_open(p, escapes, reach, *to)
+            has_open(p, escapes, reach | occupied, *to)
         }
     }
 }

@@ -1,15 +1,13 @@
 //! Whether the other side surely has a legal move after a move, without making it.
 
-ghost use Rattle.std.specs.Prelude.{◌≡◌, ◌≢◌, ◌<◌, ℕ, [], true, false, bit_and};
-ghost use Rattle.shogi_core.specs.Below.{some_below};
+ghost use Rattle.std.specs.Prelude.{◌≡◌, ◌≢◌, [], true, false, bit_and};
 ghost use Rattle.shogi_core.specs.Bits.{has_bit};
 ghost use Rattle.shogi_core.specs.Pieces.{opponent_of};
 ghost use Rattle.shogi_moves.specs.After.{after};
 ghost use Rattle.shogi_moves.specs.Destinations.{IsWithin};
 ghost use Rattle.shogi_moves.specs.Escapes.{AreEscapes};
 ghost use Rattle.shogi_moves.specs.Legal.{is_legal};
-ghost use Rattle.shogi_moves.specs.LegalMoves.{legal_codes};
-ghost use Rattle.shogi_replies.specs.Replies.{ChecksAmong, holds_free, is_open_step, is_spare, Sees, Aligns, IsReplies, IsHarmless, StaysCovered, UncoversNoCheck, AreCertain, AreDropsCertain, AreRemote, HasCertainMoves, PromotesWithin, UncoversChecksWithin, AreOpen, AreAmong, ChecksWithin, HaveCertainMoves, AreAlwaysCertain};
+ghost use Rattle.shogi_replies.specs.Replies.{AreQuietSteps, ChecksAmong, HasOthers, LeaveSpare, holds_free, quiet_codes, Sees, Aligns, IsReplies, IsHarmless, StaysCovered, UncoversNoCheck, AreCertain, AreDropsCertain, AreRemote, HasCertainMoves, PromotesWithin, UncoversChecksWithin, AreOpen, AreAmong, ChecksWithin, HaveCertainMoves, AreAlwaysCertain};
 ghost use Rattle.shogi_replies.specs.Threats.{KeepsThreats, MayRetake};
 
 use crate::escapes::{escaped_destinations, escaped_drops};
@@ -23,8 +21,10 @@ use shogi_core::{
 use shogi_moves::{dropped, matching_destinations, piece_moved};
 
 /// What is kept of a position to decide that after most of its moves the other side is in no check
-/// and has a legal move: what its king sees, and pieces of it that have an open step, or the empty
-/// squares where it holds a piece that may be dropped on each of them.
+/// and has a legal move that takes nothing and does not promote: what its king sees, and pieces of it
+/// that step to empty squares, or the empty squares where it holds a piece that may be dropped on
+/// each of them. Wherever a move ends that leaves one of these squares, the side has such a step or
+/// drop to another square than that.
 #[derive(Clone, Copy, Debug)]
 pub struct Replies {
     pub sight: Squares,
@@ -93,40 +93,58 @@ fn is_uncovered(p: &Position, from: Square, to: Square) -> bool
     }
 }
 
-/// Whether what stands on the square has a step to where none of the side's own stands, and from
-/// where it can move again without promotion.
-fn has_open_step(p: &Position, side: Color, from: Square) -> bool
-    ensures { result ≡ true → some_below 81 (is_open_step p.now.cells side from) ≡ true }
+/// The empty squares to which what stands on the square may step, and from where it can move again
+/// without promotion.
+fn quiet_steps(p: &Position, from: Square) -> Squares
+    ensures { AreQuietSteps p.now.cells from result.bits }
 {
     let cell = p.at(from);
     match cell {
-        None => false,
+        None => Squares::none(),
         Some(piece) => {
             from.validity();
-            let steps = step_squares(piece, from.index()).without(p.as_board().own(side));
-            !steps.without(dead_squares(cell)).is_empty()
+            let steps = step_squares(piece, from.index()) & p.as_board().free();
+            steps.without(dead_squares(cell))
         }
     }
 }
 
-/// Two pieces of the side that are on no line with a king of their own and have an open step, or
-/// fewer where there are no more.
+/// Whether there are two squares.
+fn has_two(squares: Squares) -> bool
+    ensures { result ≡ true → HasOthers squares.bits }
+{
+    if squares.is_empty() {
+        return false;
+    }
+    without_lowest(squares.bits, lowest(squares.bits)) != 0
+}
+
+/// Pieces of the side that are on no line with a king of their own and have a step to an empty
+/// square, two at least with two such squares between them; none where there are not that many
+/// squares, and one where there is no second piece.
 fn spare_pieces(p: &Position, side: Color, lines: Squares) -> Squares
     requires { Aligns p.now.cells side 0 lines.bits }
-    ensures { (a : ℕ) → a < 81 → has_bit result.bits a ≡ true
-        → is_spare p.now.cells side a ≡ true }
+    ensures { LeaveSpare p.now.cells side result.bits }
 {
     let mut left = p.as_board().own(side).without(lines).bits;
     let mut kept = left;
+    let mut ends = Squares::none();
     let mut found = 0u8;
-    while left != 0 && found < 2 {
+    while left != 0 && (found < 2 || !has_two(ends)) {
         let from = lowest(left);
-        if has_open_step(p, side, Square::of_index(from)) {
-            found += 1;
-        } else {
+        let steps = quiet_steps(p, Square::of_index(from));
+        if steps.is_empty() {
             kept = cleared(kept, from);
+        } else {
+            ends = ends | steps;
+            if found < 2 {
+                found += 1;
+            }
         }
         left = without_lowest(left, from);
+    }
+    if !has_two(ends) {
+        return Squares::none();
     }
     Squares { bits: kept & !left }
 }
@@ -273,13 +291,13 @@ impl Replies {
     }
 
     /// Whether it is certain that after the legal move the other side is in no check and has a
-    /// legal move. Then it may carry out each of its threats that the move leaves, and take what the
+    /// legal move that takes nothing and does not promote. Then it may carry out each of its threats that the move leaves, and take what the
     /// move puts on its square.
     #[inline(always)]
     pub fn is_certain(&self, p: &Position, m: &Move) -> bool
         requires kept { IsReplies p.now self.now.sight.bits self.now.spare.bits }
         requires legal { is_legal p.now m.now ≡ true }
-        ensures replied { result ≡ true → legal_codes (after p.now m.now) ≢ [] }
+        ensures replied { result ≡ true → quiet_codes (after p.now m.now) ≢ [] }
         ensures threats { result ≡ true → KeepsThreats p.now m.now }
         ensures retakes { result ≡ true → MayRetake p.now m.now }
     {

@@ -2,14 +2,14 @@ use Rattle.std.proofs.Common.{◌-◌, ◌^◌, ◌∙◌, arith, sym}
 use Rattle.std.proofs.lemmas.Bool.{and_parts}
 use Rattle.shogi_core.specs.declared.moves.Move.TheVariants.{Board}
 use Rattle.shogi_core.proofs.BitLaws.{has_bit-and}
-use Rattle.shogi_replies.specs.Replies.{IsAnswered}
+use Rattle.shogi_replies.specs.Replies.{IsQuietlyAnswered}
 use Rattle.shogi_replies.proofs.EscapeLaws.{tried_first, tried_before, tried_done, tried_next}
 use Rattle.shogi_core.proofs.LineBits.{and_fits}
 use Rattle.shogi_replies.proofs.escapes.escaped_destinations.Goals as goal
 
 pub loop-left-init : goal.loop-left-init
 loop-left-init c = record {
-  tried = tried_first c.args.destinations.bits (λ n. IsAnswered c.args.p.now (Board c.args.from n c.args.promote));
+  tried = tried_first c.args.destinations.bits (λ n. IsQuietlyAnswered c.args.p.now (Board c.args.from n c.args.promote));
   left = c.args.destinations.fits;
 }
 
@@ -21,10 +21,10 @@ pub returns-clause-among : goal.returns-clause-among
 returns-clause-among c = λ n e. e
 
 pub returns-then-not-leaves_escape-clause-answered : goal.returns-then-not-leaves_escape-clause-answered
-returns-then-not-leaves_escape-clause-answered c = tried_before c.args.destinations.bits c.loop-left.left (λ n. IsAnswered c.args.p.now (Board c.args.from n c.args.promote)) c.loop-left.invariant.tried c.loop-left.invariant.left
+returns-then-not-leaves_escape-clause-answered c = tried_before c.args.destinations.bits c.loop-left.left (λ n. IsQuietlyAnswered c.args.p.now (Board c.args.from n c.args.promote)) c.loop-left.invariant.tried c.loop-left.invariant.left
 
 pub returns-clause-answered : goal.returns-clause-answered
-returns-clause-answered c = tried_done c.args.destinations.bits c.loop-left.left (λ n. IsAnswered c.args.p.now (Board c.args.from n c.args.promote)) c.loop-left.invariant.tried (omega arith)
+returns-clause-answered c = tried_done c.args.destinations.bits c.loop-left.left (λ n. IsQuietlyAnswered c.args.p.now (Board c.args.from n c.args.promote)) c.loop-left.invariant.tried (omega arith)
 
 pub lowest-to-requires-clause-fits : goal.lowest-to-requires-clause-fits
 lowest-to-requires-clause-fits c = c.loop-left.invariant.left
@@ -49,7 +49,7 @@ leaves_escape-requires c = c.requires
 
 pub loop-left-preserved : goal.loop-left-preserved
 loop-left-preserved c = record {
-  tried = tried_next c.args.destinations.bits c.loop-left.left c.without_lowest-left.result c.lowest-to.result (λ n. IsAnswered c.args.p.now (Board c.args.from n c.args.promote)) c.loop-left.invariant.tried c.without_lowest-left.ensures.bits
+  tried = tried_next c.args.destinations.bits c.loop-left.left c.without_lowest-left.result c.lowest-to.result (λ n. IsQuietlyAnswered c.args.p.now (Board c.args.from n c.args.promote)) c.loop-left.invariant.tried c.without_lowest-left.ensures.bits
       (rw c.of_index.ensures at (c.leaves_escape.ensures c.if-not-leaves_escape.false));
   left = omega (arith, c.without_lowest-left.ensures.less, c.loop-left.invariant.left);
 }

@@ -1,12 +1,12 @@
 use Rattle.std.proofs.Common.{◌<◌, ◌^◌}
 use Rattle.shogi_core.specs.declared.moves.Move.TheVariants.{Drop}
-use Rattle.shogi_replies.specs.Replies.{IsAnswered}
+use Rattle.shogi_replies.specs.Replies.{IsQuietlyAnswered}
 use Rattle.shogi_replies.proofs.EscapeLaws.{PassesTried}
 use Rattle.shogi_replies.proofs.escapes.escaped_drops.Given as goal
 
 abbrev pub invariant-loop-left : goal.invariant-loop-left
 invariant-loop-left l = record {
-  tried : PassesTried l.fn.destinations.bits l.left (λ n. IsAnswered l.p (Drop l.kind n));
+  tried : PassesTried l.fn.destinations.bits l.left (λ n. IsQuietlyAnswered l.p (Drop l.kind n));
   left : l.left < 2 ^ 81;
 }
 

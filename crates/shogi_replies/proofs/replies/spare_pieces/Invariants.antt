@@ -4,7 +4,7 @@ use Rattle.shogi_replies.proofs.replies.spare_pieces.Given as goal
 
 abbrev pub invariant-loop-left : goal.invariant-loop-left
 invariant-loop-left l = record {
-  sifted : IsSifted l.p.cells l.side l.fn.lines.bits l.left l.kept;
+  sifted : IsSifted l.p.cells l.fn.side l.fn.lines.bits l.left l.kept l.ends.bits;
   left : l.left < 2 ^ 81;
   fits : l.kept < 2 ^ 81;
   few : l.found ≤ 2;

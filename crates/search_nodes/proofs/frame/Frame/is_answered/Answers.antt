@@ -6,6 +6,7 @@ use Rattle.shogi_moves.proofs.LegalLaws.{listed_to_legal}
 use Rattle.shogi_eval.specs.Evaluated.{Evaluated}
 use Rattle.shogi_replies.specs.Replies.{IsReplies}
 use Rattle.search_nodes.specs.declared.frame.Frame.{Frame}
+use Rattle.search_nodes.proofs.Ahead.{standing_quiet}
 use Rattle.search_nodes.proofs.Nodes.{waits}
 use Rattle.search_nodes.proofs.Rows.{kept_again}
 use Rattle.search_nodes.proofs.frame.Frame.is_answered.Goals as goal
@@ -20,7 +21,10 @@ pub returns-clause-some : goal.returns-clause-some
 returns-clause-some c = λ e.
     let w : _ = waits _ _ _ _ _ _ _ _ _ _ c.requires.current c.args.self.now.known in
     let same : c.look_for_escapes-escapes.new.self.node.position ≡ c.args.self.now.node.position = ap (λ (n : Evaluated). n.position) c.look_for_escapes-escapes.ensures.kept.0.0 ∙ ap (λ (n : Evaluated). n.position) c.look_ahead.ensures.0.0 in
-    (rw c.as_position-2.ensures at c.leaves_escape.ensures e) (subst (λ (q : Shogi). is_legal q c.args.current.now ≡ true) (sym same) (listed_to_legal _ _ c.validity.ensures.back w.is_listed))
+    standing_quiet _ _ ((rw c.as_position-2.ensures at c.leaves_escape.ensures e) (subst (λ (q : Shogi). is_legal q c.args.current.now ≡ true) (sym same) (listed_to_legal _ _ c.validity.ensures.back w.is_listed)))
+
+pub returns-then-is_certain-clause-some : goal.returns-then-is_certain-clause-some
+returns-then-is_certain-clause-some c = λ e. standing_quiet _ _ (rw c.as_position.ensures at c.is_certain.ensures.replied c.if-is_certain.true)
 
 pub leaves_escape-requires : goal.leaves_escape-requires
 leaves_escape-requires c =

@@ -30,6 +30,6 @@ returns c = record {
       let w : _ = waits _ _ _ _ _ _ _ _ _ _ c.requires.current c.args.self.now.known in
       let valid : IsValid (after c.args.self.now.node.position c.args.current.now) = subst IsValid (after_code_of c.args.self.now.node.position c.args.current.now c.validity.ensures.back) (after_valid c.args.self.now.node.position (code_of c.args.current.now) c.args.self.now.valid w.is_listed) in
       let b : _ = material_bounds (after c.args.self.now.node.position c.args.current.now) c.args.self.now.node.eval valid in
-      let most : worth c.args.self.now.node.position c.args.self.now.node.eval (c.args.self.now.depth - 1) (code_of c.args.current.now) ≤ℤ negated (material_of (after c.args.self.now.node.position c.args.current.now) c.args.self.now.node.eval -ℤ c.loss_after.result) = worth_ahead c.args.self.now.node.position c.args.self.now.node.eval c.requires.plain c.args.self.now.depth c.loss_after.result c.args.current.now c.args.self.now.valid c.validity.ensures.back (listed_to_legal _ _ c.validity.ensures.back w.is_listed) c.requires.last c.loss_after.ensures.least c.loss_after.ensures.loss some in
+      let most : worth c.args.self.now.node.position c.args.self.now.node.eval (c.args.self.now.depth - 1) (code_of c.args.current.now) ≤ℤ negated (material_of (after c.args.self.now.node.position c.args.current.now) c.args.self.now.node.eval -ℤ c.loss_after.result) = worth_ahead c.args.self.now.node.position c.args.self.now.node.eval c.args.self.now.depth c.loss_after.result c.args.current.now c.args.self.now.valid c.validity.ensures.back (listed_to_legal _ _ c.validity.ensures.back w.is_listed) c.requires.last c.loss_after.ensures.least c.loss_after.ensures.loss some in
       omega (arith, ints, most, b.0, b.1, c.score_after.ensures);
 }

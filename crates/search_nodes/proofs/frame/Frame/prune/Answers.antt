@@ -4,9 +4,8 @@ use Rattle.std.proofs.lemmas.Int.{ints}
 use Rattle.shogi_core.specs.declared.moves.Move.{Move}
 use Rattle.shogi_eval.specs.Evaluated.{Evaluated}
 use Rattle.shogi_moves.specs.After.{after}
-use Rattle.shogi_moves.specs.LegalMoves.{legal_codes}
 use Rattle.search_nodes.specs.declared.frame.Frame.{Frame}
-use Rattle.search_nodes.specs.Frames.{IsLost, worth_of, threshold_of}
+use Rattle.search_nodes.specs.Frames.{IsLost, standing_codes, worth_of, threshold_of}
 use Rattle.search_nodes.proofs.Nodes.{asked, of_current}
 use Rattle.search_nodes.proofs.Rows.{lost_kept, same_again}
 use Rattle.search_nodes.proofs.frame.Frame.prune.Goals as goal
@@ -47,7 +46,7 @@ fail_low-requires c =
     let g : Frame = c.has_reply.new.self in
     let m : Move = c.args.current.now in
     let yes : c.has_reply.result ≡ true = search rules in
-    let reply : legal_codes (after f.node.position m) ≢ [] = subst (λ (n : Evaluated). legal_codes (after n.position m) ≢ []) c.has_reply.ensures.kept.0.0 (c.has_reply.ensures.some yes) in
+    let reply : standing_codes (after f.node.position m) f.node.eval ≢ [] = subst (λ (n : Evaluated). standing_codes (after n.position m) n.eval ≢ []) c.has_reply.ensures.kept.0.0 (c.has_reply.ensures.some yes) in
     let lost : worth_of f m ≤ℤ threshold_of f m = omega (arith, ints, c.most_after.ensures.most reply, c.threshold.ensures.threshold, c.if-most_after-threshold.false) in
     of_current g.waiting (IsLost g) m (asked _ _ (c.has_reply.ensures.kept.1.1.0 ∙ c.requires.asked)) (lost_kept f g m c.has_reply.ensures.kept lost)
 
@@ -62,9 +61,3 @@ returns-clause-picker c = c.fail_low.ensures.ended.1.0 ∙ c.has_reply.ensures.k
 
 pub returns-clause-same : goal.returns-clause-same
 returns-clause-same c = same_again c.args.self.now c.has_reply.new.self c.fail_low.new.self c.has_reply.ensures.kept.0 c.fail_low.ensures.ended.0
-
-pub most_after-requires-clause-plain : goal.most_after-requires-clause-plain
-most_after-requires-clause-plain c = c.requires.plain
-
-pub prune_under_threat-requires-clause-plain : goal.prune_under_threat-requires-clause-plain
-prune_under_threat-requires-clause-plain c = c.requires.plain

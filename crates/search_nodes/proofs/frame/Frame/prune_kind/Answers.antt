@@ -14,7 +14,7 @@ use Rattle.search_nodes.proofs.frame.Frame.prune_kind.Goals as goal
 pub pass_kind-requires-clause-lost : goal.pass_kind-requires-clause-lost
 pass_kind-requires-clause-lost c =
     let fits : FitsSigned w32 c.loss_after.result = search rules in
-    material_drops c.args.self.now c.requires.plain c.in-Some.kind _ _ c.in-Some.code c.loss_after.result c.requires.last c.loss_after.ensures.least c.loss_after.ensures.loss
+    material_drops c.args.self.now c.in-Some.kind _ _ c.in-Some.code c.loss_after.result c.requires.last c.loss_after.ensures.least c.loss_after.ensures.loss
     (subst (FallsShort c.args.self.now c.in-Some.kind c.in-Some.code) (to_z-of_z w32 c.loss_after.result fits) (c.falls_short.ensures c.if-falls_short.true))
 
 pub pass_kind-requires-2-clause-escapes : goal.pass_kind-requires-2-clause-escapes
@@ -67,8 +67,8 @@ pass_kind-requires-2-clause-lost c =
     let f : Frame = c.known_threats-threats.new.self in
     subst (λ (n : ℕ). DropsAreLost f c.in-Some.kind c.lost_squares-squares.result.bits n c.in-Some.code) (sym c.none.ensures) c.lost_squares-squares.ensures
 
-pub falls_short-requires-clause-plain : goal.falls_short-requires-clause-plain
-falls_short-requires-clause-plain c = c.requires.plain
-
 pub lost_squares-squares-requires-clause-plain : goal.lost_squares-squares-requires-clause-plain
-lost_squares-squares-requires-clause-plain c = ap (λ (n : Evaluated). settles n.eval) c.known_threats-threats.ensures.kept.0.0 ∙ c.requires.plain
+lost_squares-squares-requires-clause-plain c = ap (λ (n : Evaluated). settles n.eval) c.known_threats-threats.ensures.kept.0.0 ∙ (sym (c.settles.ensures ∙ ap settles c.eval.ensures) ∙ c.if-settles.false)
+
+pub returns-then-settles : goal.returns-then-settles
+returns-then-settles c = nothing_pruned c.args.self.now c.requires.next

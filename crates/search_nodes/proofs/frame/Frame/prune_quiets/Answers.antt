@@ -13,7 +13,7 @@ pub prune_row-requires-clause-leave : goal.prune_row-requires-clause-leave
 prune_row-requires-clause-leave c =
     let fits : FitsSigned w32 c.loss_after-loss.result = search rules in
     subst (λ x. MovesLeave c.args.self.now x c.all.result.bits c.all-2.result.bits c.known_escapes-escapes.result.bits) (sym (to_z-of_z w32 c.loss_after-loss.result fits))
-    (material_leaves c.args.self.now c.requires.plain c.loss_after-loss.result c.all.result.bits c.all-2.result.bits c.known_escapes-escapes.result.bits c.loss_after-loss.ensures.least c.loss_after-loss.ensures.loss)
+    (material_leaves c.args.self.now c.loss_after-loss.result c.all.result.bits c.all-2.result.bits c.known_escapes-escapes.result.bits c.loss_after-loss.ensures.least c.loss_after-loss.ensures.loss)
 
 pub prune_spared-requires-clause-threat : goal.prune_spared-requires-clause-threat
 prune_spared-requires-clause-threat c = subst (λ (n : Evaluated). IsThreatIn n.position n.eval c.in-Some-greatest.threat) (sym c.known_threats-threats.ensures.kept.0.0)
@@ -52,8 +52,8 @@ returns-in-Some-greatest c = prunes_after c.args.self.now c.known_threats-threat
 pub returns-in_default-greatest : goal.returns-in_default-greatest
 returns-in_default-greatest c = kept_prunes c.args.self.now c.known_threats-threats.new.self c.requires.next (kept_again c.args.self.now c.prune_row.new.self c.known_threats-threats.new.self (c.prune_row.ensures.same c.if-prune_row.false) c.known_threats-threats.ensures.kept)
 
-pub prune_row-requires-clause-plain : goal.prune_row-requires-clause-plain
-prune_row-requires-clause-plain c = c.requires.plain
-
 pub prune_spared-requires-clause-plain : goal.prune_spared-requires-clause-plain
-prune_spared-requires-clause-plain c = ap (λ (n : Evaluated). settles n.eval) c.known_threats-threats.ensures.kept.0.0 ∙ (ap (λ (n : Evaluated). settles n.eval) (c.prune_row.ensures.same c.if-prune_row.false).0.0 ∙ c.requires.plain)
+prune_spared-requires-clause-plain c = ap (λ (n : Evaluated). settles n.eval) c.known_threats-threats.ensures.kept.0.0 ∙ (sym (c.settles.ensures ∙ ap settles c.eval.ensures) ∙ c.if-settles.false)
+
+pub returns-then-settles : goal.returns-then-settles
+returns-then-settles c = kept_prunes c.args.self.now c.prune_row.new.self c.requires.next (c.prune_row.ensures.same c.if-prune_row.false)

@@ -1,6 +1,4 @@
-use Rattle.std.proofs.Common.{ap, ◌∙◌, subst, sym}
-use Rattle.shogi_eval.specs.Evaluated.{Evaluated}
-use Rattle.shogi_eval.specs.Exchange.{settles}
+use Rattle.std.proofs.Common.{◌∙◌, subst, sym}
 use Rattle.search_nodes.proofs.Rows.{prunes_again}
 use Rattle.shogi_core.specs.Position.{Shogi}
 use Rattle.search_nodes.specs.declared.frame.Frame.{Frame}
@@ -14,13 +12,13 @@ pub returns-in-Captures : goal.returns-in-Captures
 returns-in-Captures c = c.turn_to_quiets.ensures
 
 pub prune_quiets-requires : goal.prune_quiets-requires
-prune_quiets-requires c = record { next = c.turn_to_quiets.ensures.1.0; last = c.turn_to_quiets.ensures.0.1.0 ∙ c.requires.last; plain = ap (λ (n : Evaluated). settles n.eval) c.turn_to_quiets.ensures.0.0 ∙ c.requires.plain }
+prune_quiets-requires c = record { next = c.turn_to_quiets.ensures.1.0; last = c.turn_to_quiets.ensures.0.1.0 ∙ c.requires.last }
 
 pub turn_to_drops-requires : goal.turn_to_drops-requires
 turn_to_drops-requires c = record { next = c.prune_quiets.ensures.1.0 }
 
 pub prune_drops-requires : goal.prune_drops-requires
-prune_drops-requires c = record { next = c.turn_to_drops.ensures.1.0; last = c.turn_to_drops.ensures.0.1.0 ∙ (c.prune_quiets.ensures.0.1.0 ∙ (c.turn_to_quiets.ensures.0.1.0 ∙ c.requires.last)); plain = ap (λ (n : Evaluated). settles n.eval) c.turn_to_drops.ensures.0.0 ∙ (ap (λ (n : Evaluated). settles n.eval) c.prune_quiets.ensures.0.0 ∙ (ap (λ (n : Evaluated). settles n.eval) c.turn_to_quiets.ensures.0.0 ∙ c.requires.plain)) }
+prune_drops-requires c = record { next = c.turn_to_drops.ensures.1.0; last = c.turn_to_drops.ensures.0.1.0 ∙ (c.prune_quiets.ensures.0.1.0 ∙ (c.turn_to_quiets.ensures.0.1.0 ∙ c.requires.last)) }
 
 pub returns : goal.returns
 returns c = prunes_again c.args.self.now c.turn_to_quiets.new.self c.prune_drops.new.self c.turn_to_quiets.ensures

@@ -118,7 +118,7 @@ returns-clause-same c =
 
 pub invariant_of-self : goal.invariant_of-self
 invariant_of-self c =
-    let f : Frame = c.look_for_threats.new.self in
+    let f : Frame = c.args.self.now in
     record {
       valid = f.valid;
       shallow = f.shallow;
@@ -135,6 +135,23 @@ invariant_of-self c =
 
 pub invariant_of-self-2 : goal.invariant_of-self-2
 invariant_of-self-2 c =
+    let f : Frame = c.look_for_threats.new.self in
+    record {
+      valid = f.valid;
+      shallow = f.shallow;
+      least = f.least;
+      «open» = f.open;
+      most = f.most;
+      known = f.known;
+      moves = f.moves;
+      kept = f.kept;
+      replied = f.replied;
+      escaping = f.escaping;
+      threatened = f.threatened;
+    }
+
+pub invariant_of-self-3 : goal.invariant_of-self-3
+invariant_of-self-3 c =
     let f : Frame = c.look_ahead.new.self in
     record {
       valid = f.valid;
@@ -151,7 +168,19 @@ invariant_of-self-2 c =
     }
 
 pub is_lost_piece-requires-clause-plain : goal.is_lost_piece-requires-clause-plain
-is_lost_piece-requires-clause-plain c = ap (λ (n : Evaluated). settles n.eval) c.look_ahead.ensures.0.0 ∙ (ap (λ (n : Evaluated). settles n.eval) c.look_for_threats.ensures.0.0 ∙ c.requires.plain)
+is_lost_piece-requires-clause-plain c = ap (λ (n : Evaluated). settles n.eval) c.look_ahead.ensures.0.0 ∙ (ap (λ (n : Evaluated). settles n.eval) c.look_for_threats.ensures.0.0 ∙ (sym (c.settles.ensures ∙ ap settles c.eval.ensures) ∙ c.if-settles.false))
 
 pub loses-requires-clause-plain : goal.loses-requires-clause-plain
-loses-requires-clause-plain c = ap (λ (n : Evaluated). settles n.eval) c.look_ahead.ensures.0.0 ∙ (ap (λ (n : Evaluated). settles n.eval) c.look_for_threats.ensures.0.0 ∙ c.requires.plain)
+loses-requires-clause-plain c = ap (λ (n : Evaluated). settles n.eval) c.look_ahead.ensures.0.0 ∙ (ap (λ (n : Evaluated). settles n.eval) c.look_for_threats.ensures.0.0 ∙ (sym (c.settles.ensures ∙ ap settles c.eval.ensures) ∙ c.if-settles.false))
+
+pub returns-then-settles-clause-next : goal.returns-then-settles-clause-next
+returns-then-settles-clause-next c = λ e. absurd (both_ways false refl e)
+
+pub returns-then-settles-clause-asked : goal.returns-then-settles-clause-asked
+returns-then-settles-clause-asked c = λ e. refl
+
+pub returns-then-settles-clause-picker : goal.returns-then-settles-clause-picker
+returns-then-settles-clause-picker c = refl
+
+pub returns-then-settles-clause-same : goal.returns-then-settles-clause-same
+returns-then-settles-clause-same c = (refl, (refl, (refl, refl)))

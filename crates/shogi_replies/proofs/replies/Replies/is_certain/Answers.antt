@@ -6,19 +6,19 @@ use Rattle.shogi_moves.specs.After.{after, dropped}
 use Rattle.shogi_replies.specs.Replies.{IsHarmless}
 use Rattle.shogi_replies.specs.Threats.{KeepsThreats, MayRetake}
 use Rattle.shogi_moves.specs.Legal.{is_legal}
-use Rattle.shogi_moves.specs.LegalMoves.{legal_codes}
+use Rattle.shogi_replies.specs.Replies.{quiet_codes}
 use Rattle.shogi_moves.proofs.DestinationLaws.{some_there}
 use Rattle.shogi_replies.proofs.ReplyLaws.{certain_board, certain_drop, shut_drop}
 use Rattle.shogi_replies.proofs.ThreatLaws.{threat_board, threat_drop, retake_drop, retake_unchecked}
 use Rattle.shogi_replies.proofs.replies.Replies.is_certain.Goals as goal
 
 pub returns-else-uncovers-clause-replied : goal.returns-else-uncovers-clause-replied
-returns-else-uncovers-clause-replied c = λ e. subst (λ (m : Move). legal_codes (after c.args.p.now m) ≢ []) (sym c.in-Board.is)
+returns-else-uncovers-clause-replied c = λ e. subst (λ (m : Move). quiet_codes (after c.args.p.now m) ≢ []) (sym c.in-Board.is)
     (certain_board c.args.p.now c.in-Board.from c.in-Board.to c.in-Board.promote c.args.self.now.sight.bits c.args.self.now.spare.bits c.except.result.bits c.validity.ensures c.requires.kept c.except.result.fits (omega arith) (omega arith)
     (subst (λ (m : Move). is_legal c.args.p.now m ≡ true) c.in-Board.is c.requires.legal) (c.uncovers.ensures c.if-uncovers.false c.in-Board.promote (rw (← c.at.ensures, ← c.piece_moved.ensures) (c.is_harmless.ensures c.if-not-is_harmless.false)) (subst (λ (m : Move). is_legal c.args.p.now m ≡ true) c.in-Board.is c.requires.legal)) c.except.ensures (some_there _ _ c.is_empty.ensures (not-true _ e)))
 
 pub returns-else-not-is_harmless-2-clause-replied : goal.returns-else-not-is_harmless-2-clause-replied
-returns-else-not-is_harmless-2-clause-replied c = λ e. subst (λ (m : Move). legal_codes (after c.args.p.now m) ≢ []) (sym c.in-Drop.is)
+returns-else-not-is_harmless-2-clause-replied c = λ e. subst (λ (m : Move). quiet_codes (after c.args.p.now m) ≢ []) (sym c.in-Drop.is)
     (certain_drop c.args.p.now c.in-Drop.kind c.in-Drop.to c.args.self.now.sight.bits c.args.self.now.spare.bits c.except-in-Drop.result.bits c.validity.ensures c.requires.kept c.except-in-Drop.result.fits (omega arith)
     (subst (λ cell. IsHarmless c.args.p.now.cells (opponent_of c.args.p.now.side) cell c.in-Drop.to) (c.dropped.ensures ∙ ap (λ side. dropped side c.in-Drop.kind) c.side.ensures) (c.is_harmless-in-Drop.ensures c.if-not-is_harmless-2.false)) c.except-in-Drop.ensures (some_there _ _ c.is_empty-in-Drop.ensures (not-true _ e)))
 

@@ -10,5 +10,5 @@ use Rattle.shogi_replies.proofs.replies.Replies.unknown.Goals as goal
 pub returns : goal.returns
 returns c = record {
   sees = rw c.all.ensures (unknown_sees c.args.p.now.cells (opponent_of c.args.p.now.side) ALL_SQUARES all_squares);
-  spares = rw c.none.ensures (λ a h e. absurd (both_ways (has_bit 0 a) (has_bit-none a) e));
+  spares = rw c.none.ensures (λ a to h e other. absurd (both_ways (has_bit 0 a) (has_bit-none a) e));
 }

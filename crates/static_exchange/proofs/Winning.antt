@@ -1,0 +1,30 @@
+-- What is left by the move that ends a line, by what the other side wins then.
+use Rattle.std.proofs.Common.{◌≡◌, ◌≤◌, ℕ, ℤ, pos, ◌+ℤ◌, ◌≤ℤ◌, true, false, not, sym, ap, ◌∙◌, subst, arith}
+use Rattle.std.proofs.lemmas.Int.{ints}
+use Rattle.shogi_core.specs.Codes.{move_of}
+use Rattle.shogi_core.specs.Position.{Shogi}
+use Rattle.shogi_moves.specs.After.{after_code}
+use Rattle.shogi_eval.specs.declared.eval.Eval.TheVariants.{Exchange}
+use Rattle.shogi_eval.specs.Exchange.{best_settled, is_quiet, left_by}
+use Rattle.shogi_eval.specs.Material.{material_of}
+use Rattle.minimax.proofs.Settling.{best_least, left_loud, left_quiet}
+use Rattle.shogi_eval.specs.Exchange.{captures_max}
+use Rattle.static_exchange.specs.Reprisals.{IsWon, IsWonAtLeast, IsReprisal, IsEnough}
+
+-- a side that may stand wins nothing or more
+pub wins_least : (p : Shogi) → material_of p Exchange ≤ℤ best_settled p Exchange
+wins_least p = best_least p Exchange captures_max 80
+
+-- after a quiet move nothing is won
+pub reprisal_quiet : (p : Shogi) (code : ℕ) → is_quiet p (move_of code) ≡ true → IsReprisal p code 0
+reprisal_quiet p code q = let is : left_by p Exchange code ≡ material_of (after_code p code) Exchange = left_quiet p Exchange code q in omega (arith, ints, is)
+
+pub enough_quiet : (p : Shogi) (code enough : ℕ) → is_quiet p (move_of code) ≡ true → enough ≤ 0 → IsEnough p code enough
+enough_quiet p code enough q h = let is : left_by p Exchange code ≡ material_of (after_code p code) Exchange = left_quiet p Exchange code q in omega (arith, ints, is, h)
+
+-- and after another one what the other side wins
+pub reprisal_loud : (p q : Shogi) (code won : ℕ) → is_quiet p (move_of code) ≡ false → q ≡ after_code p code → IsWon q won → IsReprisal p code won
+reprisal_loud p q code won loud at is = left_loud p Exchange code (ap not loud) ∙ subst (λ (r : Shogi). IsWon r won) at is
+
+pub enough_loud : (p q : Shogi) (code won : ℕ) → is_quiet p (move_of code) ≡ false → q ≡ after_code p code → IsWonAtLeast q won → IsEnough p code won
+enough_loud p q code won loud at is = subst (λ (v : ℤ). (material_of (after_code p code) Exchange +ℤ pos won) ≤ℤ v) (sym (left_loud p Exchange code (ap not loud))) (subst (λ (r : Shogi). IsWonAtLeast r won) at is)

@@ -1,0 +1,26 @@
+//! What the other side wins after a move that ends a line.
+
+ghost use Rattle.std.specs.Prelude.{◌≡◌, ◌≤◌, ◌<◌, true};
+ghost use Rattle.shogi_core.specs.Codes.{code_of};
+ghost use Rattle.shogi_moves.specs.Legal.{is_legal};
+ghost use Rattle.static_exchange.specs.Reprisals.{IsReprisal, IsEnough};
+
+use crate::exchanges::best_won;
+use crate::settle::is_quiet;
+use shogi_core::{Move, Position};
+use shogi_moves::apply;
+
+/// What the other side wins, in points under `Eval::Exchange`, by its best exchange on one square
+/// after the legal move, and 0 after a quiet one: exactly where it is less than `enough`, and else
+/// a number from `enough` on (own choice).
+pub fn reprisal(p: &Position, m: Move, enough: u32) -> u32
+    requires { is_legal p.now m ≡ true }
+    ensures below { result < enough → IsReprisal p.now (code_of m) result }
+    ensures enough { enough ≤ result → IsEnough p.now (code_of m) enough }
+{
+    m.validity();
+    if is_quiet(p, &m) {
+        return 0;
+    }
+    best_won(&apply(p, m), enough)
+}

@@ -1,0 +1,143 @@
+//! What takes on a square: the cheapest piece that legally can.
+
+ghost use Rattle.std.specs.Prelude.{◌≡◌, ◌≢◌, ◌<◌, ◌≤◌, ◌^◌, ◌&&◌, ◌*◌, ◌+◌, ℕ, true, false, Some, None, IfSome};
+ghost use Rattle.shogi_core.specs.Bits.{HasBits, has_bit};
+ghost use Rattle.shogi_core.specs.Codes.{code_of};
+ghost use Rattle.shogi_core.specs.Movement.{reaches};
+ghost use Rattle.shogi_moves.specs.Destinations.{is_own};
+ghost use Rattle.shogi_moves.specs.Legal.{is_legal};
+ghost use Rattle.shogi_eval.specs.Exchange.{price_of, price_with, taker};
+ghost use Rattle.static_exchange.specs.Takers.{code_in, rank_on, taking, IsFirst, IsLegalIn, NoneTakenOff, OthersTakeNot};
+
+use shogi_core::bits::{cleared, lowest, without_lowest};
+use shogi_core::zones::may_promote;
+use shogi_core::{
+    Board, Move, Piece, Position, Role, Square, Squares, aligned_squares, near_squares,
+};
+use shogi_moves::{is_legal, takers};
+
+/// What a piece is worth to send into an exchange: its value, a king last.
+fn price_of(role: Role) -> u32
+    ensures value { result ≡ price_of role }
+    ensures range { result ≤ 10000 }
+{
+    match role {
+        Role::King => 10_000,
+        Role::Pawn => 100,
+        Role::Lance => 300,
+        Role::Knight => 400,
+        Role::Silver => 500,
+        Role::Gold => 600,
+        Role::Bishop => 800,
+        Role::Rook => 1000,
+        Role::PromotedPawn | Role::PromotedLance | Role::PromotedKnight | Role::PromotedSilver =>
+            600,
+        Role::Horse => 1100,
+        Role::Dragon => 1300,
+    }
+}
+
+/// The same of what takes, twice, and one more where it does not promote.
+fn price_with(cell: Option<Piece>, promote: bool) -> u32
+    ensures value { result ≡ price_with cell promote }
+    ensures range { result ≤ 20001 }
+{
+    match cell {
+        None => 0,
+        Some(piece) => {
+            let twice = 2 * price_of(piece.role);
+            if promote { twice } else { twice + 1 }
+        }
+    }
+}
+
+/// A number for the order in which pieces take on the square: the lower price first, and of equal
+/// ones the lower square.
+#[tactic(auto, unfolding(crate::specs::Takers::rank_on))]
+fn rank_on(p: &Position, square: Square, from: Square) -> u32
+    ensures { result ≡ rank_on p.now square from }
+{
+    let cell = p.at(from);
+    let index = from.index() as u32;
+    price_with(cell, may_promote(cell, from, square)) * 128 + index
+}
+
+/// The move of what stands on the one square to the other, which promotes if it may.
+fn taking(p: &Position, square: Square, from: Square) -> Move
+    ensures { result ≡ taking p.now square from }
+{
+    let promote = may_promote(p.at(from), from, square);
+    Move::Board {
+        from,
+        to: square,
+        promote,
+    }
+}
+
+/// The pieces of the side to move that reach the square.
+fn reachers(p: &Position, square: Square) -> Squares
+    ensures squares { HasBits result.bits (λ n. is_own p.now n && reaches p.now.cells n square) }
+{
+    square.validity();
+    let board = p.as_board();
+    let lined = board.sliders() & aligned_squares(square.index());
+    let near = near_squares(square.index()) | lined;
+    (board.own(p.side()) & near).sift(|from| board.reaches(from, square))
+}
+
+/// Which of these pieces takes first on the square, if each may.
+fn first_of(p: &Position, square: Square, pieces: u128) -> usize
+    requires some { pieces ≢ 0 }
+    requires fits { pieces < 2 ^ 81 }
+    ensures range { result < 81 }
+    ensures among { has_bit pieces result ≡ true }
+    ensures first { IsFirst p.now square pieces result }
+{
+    let mut first = lowest(pieces);
+    let mut rank = rank_on(p, square, Square::of_index(first));
+    let mut rest = without_lowest(pieces, first);
+    'pieces: while rest != 0 {
+        let from = lowest(rest);
+        let here = rank_on(p, square, Square::of_index(from));
+        if here < rank {
+            first = from;
+            rank = here;
+        }
+        rest = without_lowest(rest, from);
+    }
+    first
+}
+
+/// The legal move that takes on the square with the cheapest piece, promoting where it may, the one
+/// of least code where several do.
+pub fn taker(p: &Position, square: Square) -> Option<Move>
+    ensures code { code_in result ≡ taker p.now square }
+    ensures legal { IsLegalIn p.now result }
+{
+    p.validity();
+    square.validity();
+    if p.at(square).is_none() {
+        return None;
+    }
+    let mut left = reachers(p, square).bits;
+    'pieces: while left != 0 {
+        let index = first_of(p, square, left);
+        let from = Square::of_index(index);
+        if is_legal(p, taking(p, square, from)) {
+            return Some(taking(p, square, from));
+        }
+        left = cleared(left, index);
+    }
+    None
+}
+
+/// Squares outside which the side to move takes nothing.
+pub fn targets(p: &Position) -> Squares
+    ensures { NoneTakenOff p.now result.bits }
+{
+    p.validity();
+    let board = p.as_board();
+    let movers = takers(p, board.own(p.side()));
+    let reached = movers.union(|from| board.targets(from));
+    board.own(p.side().opponent()) & reached
+}
