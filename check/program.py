@@ -123,6 +123,19 @@ SLICES = (
     b"from 1 to 1000000000",
     b"[default: 500]",
 )
+SETUP = (
+    b"--depth",
+    b"from 1 to 16",
+    b"[default: 3, or --max-depth if less]",
+    b"--max-depth",
+    b"[default: 16]",
+    b"--lines",
+    b"from 1 to 8",
+    b"[default: 1]",
+    b"--eval",
+    b"plain, hand or exchange",
+    b"[default: plain]",
+)
 SOCKET = (b"--socket", b"1 to 107 bytes", b"--status", b"--turns", b"from 1 to 18446744073709551615")
 SCRIPT = (b"+A ", b"A TEXT", b"-A ", b"refused 1", b"3  ", b"usi_host replay --slots 2")
 HELPS = (
@@ -131,12 +144,16 @@ HELPS = (
         (b"stdio", b"replay", b"serve", b"--version", b"COMMAND --help"),
         (b"0  ", b"1  ", b"2  ", b"3  ", b"usi_host stdio --entries 100000\n"),
     ),
-    (["stdio"], TABLE, (b"0  ", b"1  ", b"usi_host stdio --entries 100000")),
-    (["replay"], TABLE + SLICES, SCRIPT),
+    (
+        ["stdio"],
+        TABLE + SETUP,
+        (b"0  ", b"1  ", b"usi_host stdio --entries 100000", b"stdio --eval exchange --depth 6"),
+    ),
+    (["replay"], TABLE + SLICES + SETUP, SCRIPT),
     (
         ["serve"],
-        TABLE + SLICES + SOCKET,
-        (b"host full", b"1  ", b"usi_host serve --socket"),
+        TABLE + SLICES + SETUP + SOCKET,
+        (b"host full", b"strangers", b"1  ", b"usi_host serve --socket"),
     ),
 )
 
@@ -191,6 +208,19 @@ def other_words_are_refused():
         ["replay", "--slice", "0"],
         ["replay", "--slice", "1000000001"],
         ["replay", "--slots", "1", "--slots", "2"],
+        ["--depth", "1"],
+        ["stdio", "--depth", "0"],
+        ["stdio", "--depth", "17"],
+        ["stdio", "--max-depth", "0"],
+        ["stdio", "--max-depth", "17"],
+        ["stdio", "--lines", "0"],
+        ["stdio", "--lines", "9"],
+        ["stdio", "--eval"],
+        ["stdio", "--eval", "plain", "--eval", "plain"],
+        ["replay", "--depth", "many"],
+        ["serve", "--depth", "1"],
+        # What `clap` finds is told first.
+        ["stdio", "--depth", "17", "--max-depth", "4", "--eval", "material"],
     ):
         is_refused(words, POINTER)
     for words in (["stdio", "--version"], ["serve", "--socket", "s", "-V"], ["version"], ["-v"]):
@@ -214,8 +244,152 @@ def a_number_with_a_sign_is_refused():
         ["serve", "--socket", "s", "--slots", "+5"],
         ["serve", "--socket", "s", "--turns", "+05"],
         ["serve", "--socket", "+5", "--turns", "+5"],
+        ["stdio", "--depth", "+3"],
+        ["replay", "--max-depth", "+16"],
+        ["serve", "--socket", "s", "--lines=+1"],
+        # A depth that can be read is above the greatest, but another number cannot be read.
+        ["stdio", "--depth", "5", "--max-depth", "4", "--lines", "+1"],
     ):
         want(run(words), (2, b"", said), f"{words}")
+
+
+def an_evaluation_is_one_of_three():
+    said = b"error: --eval takes plain, hand or exchange" + POINTER
+    for words in (
+        ["stdio", "--eval", "material"],
+        ["stdio", "--eval", "Plain"],
+        ["stdio", "--eval="],
+        ["replay", "--eval", "plains"],
+        ["serve", "--socket", "s", "--eval", "exchange "],
+        # It is told before a number with a sign, and before the depth.
+        ["stdio", "--eval", "see", "--entries", "+5"],
+        ["stdio", "--eval", "see", "--depth", "5", "--max-depth", "4"],
+    ):
+        want(run(words), (2, b"", said), f"{words}")
+
+
+def a_depth_above_the_greatest_is_refused():
+    for words, depth, most in (
+        (["--depth", "5", "--max-depth", "4"], 5, 4),
+        (["--max-depth=1", "--depth=2"], 2, 1),
+        (["--depth", "16", "--max-depth", "15", "--eval", "exchange"], 16, 15),
+        (["--depth", "010", "--lines", "8", "--max-depth", "09"], 10, 9),
+    ):
+        said = b"error: --depth %d is above --max-depth %d" % (depth, most) + POINTER
+        for command in (["stdio"], ["replay"], ["serve", "--socket", "s"]):
+            want(run([*command, *words]), (2, b"", said), f"{command} {words}")
+
+
+def usi_of(depth=3, most=16, evaluation=b"Plain", lines=1):
+    """The reply to `usi` under a setup: docs/PROTOCOL.md."""
+    offered = b" var Exchange" if evaluation == b"Exchange" else b""
+    return (
+        b"id name Shared Shogi Host\n"
+        b"id author Shared Shogi Host Team\n"
+        b"option name Depth type spin default %d min 1 max %d\n"
+        b"option name Eval type combo default %s var Plain var Hand%s\n"
+        b"option name MultiPV type spin default %d min 1 max 8\n"
+        b"usiok\n"
+    ) % (depth, most, evaluation, offered, lines)
+
+
+def usi_shows_the_setup():
+    """Each word alone, and several; without `--depth` it is 3, or less where the greatest is less."""
+    for words, reply in (
+        ([], USI),
+        (["--depth", "3", "--max-depth", "16", "--lines", "1", "--eval", "plain"], USI),
+        (["--depth", "6"], usi_of(depth=6)),
+        (["--depth=16"], usi_of(depth=16)),
+        (["--max-depth", "8"], usi_of(most=8)),
+        (["--max-depth", "3"], usi_of(most=3)),
+        (["--max-depth", "2"], usi_of(depth=2, most=2)),
+        (["--max-depth", "1"], usi_of(depth=1, most=1)),
+        (["--lines", "8"], usi_of(lines=8)),
+        (["--eval", "hand"], usi_of(evaluation=b"Hand")),
+        (["--eval", "exchange"], usi_of(evaluation=b"Exchange")),
+        (
+            ["--depth", "4", "--max-depth", "4", "--lines", "2", "--eval", "exchange"],
+            usi_of(4, 4, b"Exchange", 2),
+        ),
+        (
+            ["--eval=hand", "--lines=05", "--entries", "7", "--max-depth=5", "--depth=1"],
+            usi_of(1, 5, b"Hand", 5),
+        ),
+    ):
+        want(run(["stdio", *words], b"usi\n"), (0, reply, b""), f"stdio {words}")
+        output = b"== A\n" + reply + b"== B\n" + reply
+        want(run(["replay", *words], b"+A\nA usi\n+B\nB usi\n"), (0, output, b""), f"replay {words}")
+
+
+def sessions_begin_with_the_setup():
+    hand = DEPTH_THREE.replace(b"score cp 200", b"score cp 210")
+    two = (
+        b"info depth 1 multipv 1 score cp 0 pv 1g1f\n"
+        b"info depth 1 multipv 2 score cp 0 pv 1i1h\n"
+        b"bestmove 1g1f\n"
+    )
+    one = DEPTH_ONE + b"bestmove 1g1f\n"
+    option = b"setoption name "
+    for words, sent, reply in (
+        (["--depth", "1"], b"go\nusinewgame\ngo\n", one + one),
+        (["--depth", "1"], option + b"Depth value 3\ngo\n", DEPTH_THREE),
+        (["--depth", "1"], b"go depth 3\ngo\n", DEPTH_THREE + one),
+        (["--lines", "2", "--depth", "1"], b"go\n", two),
+        (["--lines", "2", "--depth", "1"], option + b"MultiPV value 1\ngo\n", one),
+        (["--eval", "hand"], b"go\n", hand),
+        (["--eval", "hand"], option + b"Eval value Plain\ngo\n", DEPTH_THREE),
+    ):
+        want(run(["stdio", *words], sent), (0, reply, b""), f"stdio {words}")
+        script = b"+A\n" + b"".join(b"A %s\n" % line for line in sent.splitlines())
+        want(run(["replay", *words], script), (0, b"== A\n" + reply, b""), f"replay {words}")
+
+
+def no_search_is_deeper_than_the_greatest():
+    """An option, or a `go`, that asks for more is answered at the greatest depth."""
+    two = DEPTH_ONE + b"info depth 2 score cp 0 pv 1g1f 1a1b\nbestmove 1g1f ponder 1a1b\n"
+    one = DEPTH_ONE + b"bestmove 1g1f\n"
+    deep = b"setoption name Depth value 16\n"
+    for sent, reply in (
+        (b"go\n", two),
+        (b"go depth 2\n", two),
+        (b"go depth 3\n", two),
+        (b"go depth 16\n", two),
+        (b"go depth 99\n", two),
+        (deep + b"go\n", two),
+        (deep + b"go infinite depth 16\nstop\n", two),
+        (b"go depth 1\n", one),
+        (b"setoption name Depth value 1\ngo\n", one),
+    ):
+        want(run(["stdio", "--max-depth", "2"], sent), (0, reply, b""), f"{sent}")
+
+
+# A rook before a pawn that a gold guards: 1,000 - 700. It may take the pawn and promote, for 500, and is
+# taken then, for 2,300. `Plain` stops at the capture, and `Exchange` does not.
+GUARDED = b"position sfen 4k4/4g4/4p4/9/9/9/9/4R4/4K4 b - 1\ngo depth 1\n"
+TAKEN = b"info depth 1 score cp 800 pv 5h5c+\nbestmove 5h5c+\n"
+SETTLED = b"info depth 1 score cp 300 pv 5h1h\nbestmove 5h1h\n"
+
+
+def captures_are_settled_where_exchange_is_offered():
+    """A session whose host does not offer it passes the option over."""
+    exchange = b"setoption name Eval value Exchange\n"
+    plain = b"setoption name Eval value Plain\n"
+    hand = b"setoption name Eval value Hand\n"
+    offered = ["--eval", "exchange"]
+    want(run(["stdio", *offered], GUARDED), (0, SETTLED, b""), "from the start")
+    sent = plain + GUARDED + exchange + GUARDED
+    want(run(["stdio", *offered], sent), (0, TAKEN + SETTLED, b""), "away and back")
+    want(run([], exchange + GUARDED), (0, TAKEN, b""), "not offered")
+    for words in ([], ["--eval", "plain"]):
+        want(run(["stdio", *words], exchange + b"usi\n" + GUARDED), (0, USI + TAKEN, b""), f"{words}")
+    # A pawn in hand counts 110: the same move is worth 10 more.
+    more = TAKEN.replace(b"800", b"810")
+    want(run([], hand + exchange + GUARDED), (0, more, b""), "the option stays as it was")
+    want(run(["stdio", "--eval", "hand"], exchange + GUARDED), (0, more, b""), "Hand")
+    script = b"+A\n+B\n" + b"".join(b"A %s\n" % line for line in GUARDED.splitlines())
+    script += b"B " + plain + b"".join(b"B %s\n" % line for line in GUARDED.splitlines())
+    output = b"== A\n" + SETTLED + b"== B\n" + TAKEN
+    want(run(["replay", *offered], script), (0, output, b""), "one of two")
 
 
 def a_word_that_is_not_utf_8_is_refused():
@@ -586,6 +760,8 @@ CHECKS = (
     the_version_is_no_fault,
     other_words_are_refused,
     a_number_with_a_sign_is_refused,
+    an_evaluation_is_one_of_three,
+    a_depth_above_the_greatest_is_refused,
     a_word_that_is_not_utf_8_is_refused,
     a_full_device_is_a_failed_write,
     a_closed_output_is_a_failed_write,
@@ -605,6 +781,10 @@ CHECKS = (
     a_slot_serves_a_thousand_sessions,
     the_longest_line_of_a_script,
     each_session_has_an_evaluation_of_its_own,
+    usi_shows_the_setup,
+    sessions_begin_with_the_setup,
+    no_search_is_deeper_than_the_greatest,
+    captures_are_settled_where_exchange_is_offered,
     several_lines_are_ranked,
     several_lines_come_as_they_are_found,
     the_first_bad_line_of_a_script_is_named,

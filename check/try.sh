@@ -1,6 +1,7 @@
 #!/usr/bin/env bash
 # Runs the program on the lines of standard input, or of the terminal, without a proof: it is compiled with
-# checks at run time, and answers once all lines are there.
+# checks at run time, and answers once all lines are there. Its arguments are those of the program, as
+# `stdio --eval exchange`.
 set -euo pipefail
 cd "$(dirname "$0")/../crates/usi_host"
 command -v rt >/dev/null || {
@@ -12,5 +13,6 @@ echo 'make build proves and builds it.' >&2
 if [ -t 0 ]; then
     echo 'Reading USI from the terminal, up to quit or Ctrl-D.' >&2
 fi
+[ $# -eq 0 ] || set -- -- "$@"
 # A terminal is read up to quit; further lines of a file have no effect after it.
-sed '/^[[:blank:]]*quit[[:space:]]*$/q' | rt try --seconds 600
+sed '/^[[:blank:]]*quit[[:space:]]*$/q' | rt try --seconds 600 "$@"

@@ -7,18 +7,22 @@ _usi_host() {
             compopt -o default
             return
             ;;
-        --slots | --entries | --slice | --turns)
+        --eval)
+            mapfile -t COMPREPLY < <(compgen -W 'plain hand exchange' -- "$word")
+            return
+            ;;
+        --slots | --entries | --slice | --turns | --depth | --max-depth | --lines)
             return
             ;;
     esac
-    local words
+    local words setup='--depth --max-depth --lines --eval'
     if [ "$COMP_CWORD" -eq 1 ]; then
         words='stdio replay serve help -h --help -V --version'
     else
         case ${COMP_WORDS[1]} in
-            stdio) words='--entries -h --help' ;;
-            replay) words='--slots --entries --slice -h --help' ;;
-            serve) words='--socket --status --slots --entries --slice --turns -h --help' ;;
+            stdio) words="--entries $setup -h --help" ;;
+            replay) words="--slots --entries --slice $setup -h --help" ;;
+            serve) words="--socket --status --slots --entries --slice $setup --turns -h --help" ;;
             help) words='stdio replay serve' ;;
         esac
     fi

@@ -1,5 +1,5 @@
 -- The command line, and its answers at arguments that are written out.
-use Rattle.std.proofs.Common.{◌≡◌, ◌∷◌, ◌∙◌, true, ℕ, List, [], Result, Ok, Err, Option, Some, None, IfOk, IfErr, codes, refl, sym, ap, arith, subst, slice_index_or, inl, inr, lit≤, lit<}
+use Rattle.std.proofs.Common.{◌≡◌, ◌∷◌, ◌∙◌, true, ℕ, List, [], Result, Ok, Err, Option, Some, None, IfOk, IfErr, IfSome, codes, refl, sym, ap, arith, subst, slice_index_or, inl, inr, lit≤, lit<}
 use Rattle.std.specs.Prelude.{string_bytes}
 use Rattle.clap.specs.Words.{App, FailsBy, HasMatchesOf, IsAmong, Kinds, Row, Text, fault_of, is_simple, is_simple_and_free, kind_of, subcommand_of, subcommand_rows_of}
 use Rattle.clap.specs.Kinds.{HasKind}
@@ -10,13 +10,18 @@ use Rattle.clap.specs.declared.error.kind.ErrorKind.{ErrorKind}
 use Rattle.clap.specs.declared.error.kind.ErrorKind.TheVariants as kinds
 use Rattle.clap.specs.declared.parser.matches.ArgMatches.{ArgMatches}
 use Rattle.clap.specs.declared.parser.matches.ValueSource.TheVariants.{DefaultValue}
-use Rattle.usi_arguments.specs.Answers.{AreHelpArguments, AreVersionArguments, Gives, GivesHelp, HasRanges, IsAnswerToParsed, IsAskedBy, IsRefusedFor, IsReplayOf, IsStdioOf, HasMistake, IsMistake, IsNoJob, NamesJob}
+use Rattle.usi_arguments.specs.Answers.{AreHelpArguments, AreVersionArguments, Gives, GivesHelp, GivesReplay, GivesStdio, HasRanges, HasReach, IsTooDeepIn, KnowsEvaluation, NamesNoEvaluation, IsAnswerToParsed, IsAskedBy, IsJobOf, IsRefusal, IsRefusedFor, IsReplayOf, IsStdioOf, HasMistake, IsMistake, IsNoJob, NamesJob}
 use Rattle.usi_arguments.specs.CommandLine.{IsNumber, NamesNumber, command_line, command_of, faults_of}
 use Rattle.usi_arguments.specs.declared.arguments.Job.{Job}
 use Rattle.usi_arguments.specs.declared.arguments.Job.TheVariants.{Stdio, Replay, Serve, Help, Version}
 use Rattle.usi_arguments.specs.declared.arguments.ArgumentsFault.{ArgumentsFault}
 use Rattle.usi_arguments.specs.declared.arguments.ArgumentsFault.TheVariants.{OutOfMemory, NotAccepted}
+use Rattle.usi_arguments.specs.Setup.{HasSetupRanges, IsInReach, IsTooDeep, NamesSetup, usual_setup}
+use Rattle.usi_arguments.specs.declared.setup.Evaluation.TheVariants.{Plain}
+use Rattle.usi_arguments.specs.declared.setup.SetupOptions.{SetupOptions}
+use Rattle.usi_arguments.specs.Texts.{not_an_evaluation}
 use Rattle.usi_arguments.proofs.Numbers.{names_once}
+use Rattle.usi_arguments.proofs.Setups.{setup_once}
 
 pub line_is_simple : is_simple command_line ≡ true
 unfolding clap_on_literals
@@ -61,12 +66,15 @@ row name usual = record {
   reading = AsWritten;
 }
 
--- the options of `stdio` and of `replay` where none is given
+-- the options of the setup, of `stdio` and of `replay` where none is given
+abbrev setup_rows : List Row
+setup_rows = row (codes "max-depth") (codes "16") ∷ row (codes "lines") (codes "1") ∷ row (codes "eval") (codes "plain") ∷ []
+
 abbrev stdio_rows : List Row
-stdio_rows = row (codes "entries") (codes "4096") ∷ []
+stdio_rows = row (codes "entries") (codes "4096") ∷ setup_rows
 
 abbrev replay_rows : List Row
-replay_rows = row (codes "slots") (codes "64") ∷ row (codes "entries") (codes "4096") ∷ row (codes "slice") (codes "500") ∷ []
+replay_rows = row (codes "slots") (codes "64") ∷ row (codes "entries") (codes "4096") ∷ row (codes "slice") (codes "500") ∷ setup_rows
 
 pub stdio_faults : faults_of (codes "stdio" ∷ []) ≡ []
 unfolding clap_on_literals
@@ -104,14 +112,14 @@ parsed_line app arguments (Err e) is ok fails = record {
 
 -- no command names a help
 no_help : (command : Option (Text × List Row)) (job : Job) (text : _) → job ≡ Help text → NamesJob command job → ⊥
-no_help None job text e is = let bad : Help text ≡ Stdio 4096 = sym e ∙ is in cc
+no_help None job text e is = let bad : Help text ≡ Stdio 4096 usual_setup = sym e ∙ is in cc
 no_help (Some command) job text e (inl is) = rw e at is.1
 no_help (Some command) job text e (inr (inl is)) = rw e at is.1
 no_help (Some command) job text e (inr (inr is)) = rw e at is.1
 
 -- no command names the version
 no_version : (command : Option (Text × List Row)) (job : Job) → job ≡ Version → NamesJob command job → ⊥
-no_version None job e is = let bad : Version ≡ Stdio 4096 = sym e ∙ is in cc
+no_version None job e is = let bad : Version ≡ Stdio 4096 usual_setup = sym e ∙ is in cc
 no_version (Some command) job e (inl is) = rw e at is.1
 no_version (Some command) job e (inr (inl is)) = rw e at is.1
 no_version (Some command) job e (inr (inr is)) = rw e at is.1
@@ -120,14 +128,14 @@ no_version (Some command) job e (inr (inr is)) = rw e at is.1
 pub line_asked : (arguments : List Text) (parsed : Result ArgMatches Error) (r : Result Job ArgumentsFault) → IsParsedLine arguments parsed
     → IsAnswerToParsed parsed r
     → IfOk r (IsAskedBy arguments)
-line_asked arguments (Ok m) (Ok (Stdio entries)) line is = (line.kinds, subst (λ (c : Option (Text × List Row)). NamesJob c (Stdio entries)) line.matches is)
-line_asked arguments (Ok m) (Ok (Replay slots entries slice)) line is = (line.kinds, subst (λ (c : Option (Text × List Row)). NamesJob c (Replay slots entries slice)) line.matches is)
-line_asked arguments (Ok m) (Ok (Serve socket status slots entries slice turns)) line is = (line.kinds, subst (λ (c : Option (Text × List Row)). NamesJob c (Serve socket status slots entries slice turns)) line.matches is)
+line_asked arguments (Ok m) (Ok (Stdio entries setup)) line is = (line.kinds, subst (λ (c : Option (Text × List Row)). NamesJob c (Stdio entries setup)) line.matches is)
+line_asked arguments (Ok m) (Ok (Replay slots entries slice setup)) line is = (line.kinds, subst (λ (c : Option (Text × List Row)). NamesJob c (Replay slots entries slice setup)) line.matches is)
+line_asked arguments (Ok m) (Ok (Serve socket status slots entries slice turns setup)) line is = (line.kinds, subst (λ (c : Option (Text × List Row)). NamesJob c (Serve socket status slots entries slice turns setup)) line.matches is)
 line_asked arguments (Ok m) (Ok (Help text)) line is = absurd (no_help (subcommand_rows_of m) (Help text) text refl is)
 line_asked arguments (Ok m) (Ok Version) line is = absurd (no_version (subcommand_rows_of m) Version refl is)
-line_asked arguments (Err e) (Ok (Stdio entries)) line is = absurd is
-line_asked arguments (Err e) (Ok (Replay slots entries slice)) line is = absurd is
-line_asked arguments (Err e) (Ok (Serve socket status slots entries slice turns)) line is = absurd is
+line_asked arguments (Err e) (Ok (Stdio entries setup)) line is = absurd is
+line_asked arguments (Err e) (Ok (Replay slots entries slice setup)) line is = absurd is
+line_asked arguments (Err e) (Ok (Serve socket status slots entries slice turns setup)) line is = absurd is
 line_asked arguments (Err e) (Ok (Help text)) line is = elim line.kinds [
   | inl memory ↦ let bad : kinds.DisplayHelp ≡ kinds.OutOfMemory = sym is ∙ memory in cc
   | inr among ↦ subst (λ (k : ErrorKind). IsAmong k (faults_of arguments)) is among
@@ -151,34 +159,64 @@ line_refused arguments (Err e) (Err (NotAccepted text)) line is = elim line.kind
   | inr among ↦ inl (kind_of e, among, is.0)
 ]
 
+-- an evaluation that is not known is refused with its text
+pub refused_evaluation : (command : Option (Text × List Row)) (r : Result Job ArgumentsFault) → NamesNoEvaluation command → IsRefusal not_an_evaluation r → IsJobOf command r
+refused_evaluation command (Ok job) none is = absurd is
+refused_evaluation command (Err OutOfMemory) none is = tt
+refused_evaluation command (Err (NotAccepted text)) none is = inl (none, is)
+
+-- a job within its reach does not begin with a depth above its greatest
+not_too_deep : (job : Job) (said : List ℕ) → HasReach job → IsTooDeepIn job said → ⊥
+not_too_deep job said reach deep =
+    let fits : IsInReach deep.0 = subst (λ (s : Option SetupOptions). IfSome s IsInReach) deep.1 reach in
+    let above : IsTooDeep deep.0 = deep.2 in
+    omega arith
+
+-- a command that knows its evaluation, and names one job only, which is within its reach, is not refused
+has_job : (command : Option (Text × List Row)) (job : Job) (said : List ℕ) → KnowsEvaluation command → NamesJob command job → HasRanges job → HasReach job
+    → ((other : Job) → NamesJob command other → other ≡ job) → IsNoJob command said → ⊥
+has_job (Some command) job said knows names range reach only (inl is) = is.0 knows.0 knows.1
+has_job None job said knows names range reach only (inl is) = is.0
+has_job command job said knows names range reach only (inr (inl is)) = is.1 job range names
+has_job command job said knows names range reach only (inr (inr is)) =
+    not_too_deep job said reach (subst (λ (j : Job). IsTooDeepIn j said) (only is.0 is.1.1) is.2)
+
 -- arguments without a mistake that name one job only give it
 gives : (arguments : List Text) (job : Job) (r : Result Job ArgumentsFault)
     → faults_of arguments ≡ []
-    → NamesJob (command_of arguments) job → HasRanges job → ((other : Job) → NamesJob (command_of arguments) other → other ≡ job)
+    → KnowsEvaluation (command_of arguments)
+    → NamesJob (command_of arguments) job → HasRanges job → HasReach job → ((other : Job) → NamesJob (command_of arguments) other → other ≡ job)
     → IfOk r (IsAskedBy arguments) → IfErr r (IsRefusedFor arguments) → Gives job r
-gives arguments job (Ok (Stdio entries)) none names range only asked refused = inl (ap Ok (only (Stdio entries) asked.1))
-gives arguments job (Ok (Replay slots entries slice)) none names range only asked refused = inl (ap Ok (only (Replay slots entries slice) asked.1))
-gives arguments job (Ok (Serve socket status slots entries slice turns)) none names range only asked refused = inl (ap Ok (only (Serve socket status slots entries slice turns) asked.1))
-gives arguments job (Ok (Help text)) none names range only asked refused = absurd (rw none at asked)
-gives arguments job (Ok Version) none names range only asked refused = absurd (rw none at asked)
-gives arguments job (Err OutOfMemory) none names range only asked refused = inr refl
-gives arguments job (Err (NotAccepted text)) none names range only asked refused = elim refused [
+gives arguments job (Ok (Stdio entries setup)) none knows names range reach only asked refused = inl (ap Ok (only (Stdio entries setup) asked.1))
+gives arguments job (Ok (Replay slots entries slice setup)) none knows names range reach only asked refused = inl (ap Ok (only (Replay slots entries slice setup) asked.1))
+gives arguments job (Ok (Serve socket status slots entries slice turns setup)) none knows names range reach only asked refused =
+    inl (ap Ok (only (Serve socket status slots entries slice turns setup) asked.1))
+gives arguments job (Ok (Help text)) none knows names range reach only asked refused = absurd (rw none at asked)
+gives arguments job (Ok Version) none knows names range reach only asked refused = absurd (rw none at asked)
+gives arguments job (Err OutOfMemory) none knows names range reach only asked refused = inr refl
+gives arguments job (Err (NotAccepted text)) none knows names range reach only asked refused = elim refused [
   | inl mistake ↦ absurd (subst (λ (k : Kinds). IsAmong mistake.0 k) none mistake.1)
-  | inr no_job ↦ absurd (no_job.1.0 job range names)
+  | inr no_job ↦ absurd (has_job (command_of arguments) job (string_bytes text) knows names range reach only no_job.1)
 ]
 
 -- arguments whose command is known
 gives_of : (arguments : List Text) (job : Job) (command : Option (Text × List Row)) (r : Result Job ArgumentsFault) → faults_of arguments ≡ []
-    → command_of arguments ≡ command → NamesJob command job → HasRanges job → ((other : Job) → NamesJob command other → other ≡ job)
+    → command_of arguments ≡ command → KnowsEvaluation command → NamesJob command job → HasRanges job → HasReach job → ((other : Job) → NamesJob command other → other ≡ job)
     → IfOk r (IsAskedBy arguments) → IfErr r (IsRefusedFor arguments) → Gives job r
-gives_of arguments job command r none is names range only asked refused =
-    gives arguments job r none (subst (λ (c : Option (Text × List Row)). NamesJob c job) (sym is) names) range
+gives_of arguments job command r none is knows names range reach only asked refused =
+    gives arguments job r none (subst KnowsEvaluation (sym is) knows) (subst (λ (c : Option (Text × List Row)). NamesJob c job) (sym is) names) range reach
     (λ other has. only other (subst (λ (c : Option (Text × List Row)). NamesJob c other) is has)) asked refused
 
+usual_ranges : HasSetupRanges usual_setup
+usual_ranges = ((lit≤ tt, lit≤ tt), (lit≤ tt, lit≤ tt), (lit≤ tt, lit≤ tt))
+
+usual_reach : IsInReach usual_setup
+usual_reach = lit≤ tt
+
 pub gives_bare : (arguments : List Text) (r : Result Job ArgumentsFault) → arguments ≡ []
-    → IfOk r (IsAskedBy arguments) → IfErr r (IsRefusedFor arguments) → Gives (Stdio 4096) r
+    → IfOk r (IsAskedBy arguments) → IfErr r (IsRefusedFor arguments) → GivesStdio r
 gives_bare arguments r is asked refused =
-    gives_of [] (Stdio 4096) None r bare_faults bare_command refl (lit≤ tt, lit≤ tt) (λ other has. has)
+    gives_of [] (Stdio 4096 usual_setup) None r bare_faults bare_command tt refl ((lit≤ tt, lit≤ tt), usual_ranges) usual_reach (λ other has. has)
     (subst (λ (a : List Text). IfOk r (IsAskedBy a)) is asked) (subst (λ (a : List Text). IfErr r (IsRefusedFor a)) is refused)
 
 is_64 : IsNumber (codes "64") 64
@@ -187,29 +225,42 @@ is_64 = ((lit< tt, (lit< tt, (lit< tt, tt))), refl)
 is_4096 : IsNumber (codes "4096") 4096
 is_4096 = ((lit< tt, (lit< tt, (lit< tt, (lit< tt, (lit< tt, tt))))), refl)
 
+is_16 : IsNumber (codes "16") 16
+is_16 = ((lit< tt, (lit< tt, (lit< tt, tt))), refl)
+
+is_1 : IsNumber (codes "1") 1
+is_1 = ((lit< tt, (lit< tt, tt)), refl)
+
 is_500 : IsNumber (codes "500") 500
 is_500 = ((lit< tt, (lit< tt, (lit< tt, (lit< tt, tt)))), refl)
 
 stdio_entries : NamesNumber (codes "entries") stdio_rows 4096
 stdio_entries = (codes "4096", refl, is_4096)
 
-stdio_only : (job : Job) → IsStdioOf stdio_rows job → job ≡ Stdio 4096
-stdio_only (Stdio entries) is = ap Stdio (names_once (codes "entries") stdio_rows entries 4096 is stdio_entries)
-stdio_only (Replay slots entries slice) is = absurd is
-stdio_only (Serve socket status slots entries slice turns) is = absurd is
+stdio_setup : NamesSetup stdio_rows usual_setup
+stdio_setup = (inr (refl, refl), (codes "16", refl, is_16), (codes "1", refl, is_1), refl)
+
+stdio_only : (job : Job) → IsStdioOf stdio_rows job → job ≡ Stdio 4096 usual_setup
+stdio_only (Stdio entries setup) is =
+    let a : entries ≡ 4096 = names_once (codes "entries") stdio_rows entries 4096 is.0 stdio_entries in
+    let b : setup ≡ usual_setup = setup_once stdio_rows setup usual_setup is.1 stdio_setup in
+    λ k. Stdio (a k) (b k)
+stdio_only (Replay slots entries slice setup) is = absurd is
+stdio_only (Serve socket status slots entries slice turns setup) is = absurd is
 stdio_only (Help text) is = absurd is
 stdio_only Version is = absurd is
 
-stdio_names : (job : Job) → NamesJob (Some (codes "stdio", stdio_rows)) job → job ≡ Stdio 4096
+stdio_names : (job : Job) → NamesJob (Some (codes "stdio", stdio_rows)) job → job ≡ Stdio 4096 usual_setup
 stdio_names job (inl is) = stdio_only job is.1
 stdio_names job (inr (inl is)) = let bad : codes "stdio" ≡ codes "replay" = is.0 in cc
 stdio_names job (inr (inr is)) = absurd (let second : 116 ≡ 101 = ap (λ (text : Text). slice_index_or text 1 0) is.0 in omega arith)
 
 pub gives_stdio : (arguments : List Text) (r : Result Job ArgumentsFault)
     → arguments ≡ codes "stdio" ∷ []
-    → IfOk r (IsAskedBy arguments) → IfErr r (IsRefusedFor arguments) → Gives (Stdio 4096) r
+    → IfOk r (IsAskedBy arguments) → IfErr r (IsRefusedFor arguments) → GivesStdio r
 gives_stdio arguments r is asked refused =
-    gives_of (codes "stdio" ∷ []) (Stdio 4096) (Some (codes "stdio", stdio_rows)) r stdio_faults stdio_command_is (inl (refl, stdio_entries)) (lit≤ tt, lit≤ tt) stdio_names
+    gives_of (codes "stdio" ∷ []) (Stdio 4096 usual_setup) (Some (codes "stdio", stdio_rows)) r stdio_faults stdio_command_is (Plain, refl)
+    (inl (refl, (stdio_entries, stdio_setup))) ((lit≤ tt, lit≤ tt), usual_ranges) usual_reach stdio_names
     (subst (λ (a : List Text). IfOk r (IsAskedBy a)) is asked) (subst (λ (a : List Text). IfErr r (IsRefusedFor a)) is refused)
 
 replay_slots : NamesNumber (codes "slots") replay_rows 64
@@ -221,27 +272,33 @@ replay_entries = (codes "4096", refl, is_4096)
 replay_slice : NamesNumber (codes "slice") replay_rows 500
 replay_slice = (codes "500", refl, is_500)
 
-replay_only : (job : Job) → IsReplayOf replay_rows job → job ≡ Replay 64 4096 500
-replay_only (Stdio entries) is = absurd is
-replay_only (Replay slots entries slice) is =
+replay_setup : NamesSetup replay_rows usual_setup
+replay_setup = (inr (refl, refl), (codes "16", refl, is_16), (codes "1", refl, is_1), refl)
+
+replay_only : (job : Job) → IsReplayOf replay_rows job → job ≡ Replay 64 4096 500 usual_setup
+replay_only (Stdio entries setup) is = absurd is
+replay_only (Replay slots entries slice setup) is =
     let a : slots ≡ 64 = names_once (codes "slots") replay_rows slots 64 is.0 replay_slots in
     let b : entries ≡ 4096 = names_once (codes "entries") replay_rows entries 4096 is.1 replay_entries in
     let c : slice ≡ 500 = names_once (codes "slice") replay_rows slice 500 is.2 replay_slice in
-    λ k. Replay (a k) (b k) (c k)
-replay_only (Serve socket status slots entries slice turns) is = absurd is
+    let d : setup ≡ usual_setup = setup_once replay_rows setup usual_setup is.3 replay_setup in
+    λ k. Replay (a k) (b k) (c k) (d k)
+replay_only (Serve socket status slots entries slice turns setup) is = absurd is
 replay_only (Help text) is = absurd is
 replay_only Version is = absurd is
 
-replay_names : (job : Job) → NamesJob (Some (codes "replay", replay_rows)) job → job ≡ Replay 64 4096 500
+replay_names : (job : Job) → NamesJob (Some (codes "replay", replay_rows)) job → job ≡ Replay 64 4096 500 usual_setup
 replay_names job (inl is) = let bad : codes "replay" ≡ codes "stdio" = is.0 in cc
 replay_names job (inr (inl is)) = replay_only job is.1
 replay_names job (inr (inr is)) = let bad : codes "replay" ≡ codes "serve" = is.0 in cc
 
 pub gives_replay : (arguments : List Text) (r : Result Job ArgumentsFault)
     → arguments ≡ codes "replay" ∷ []
-    → IfOk r (IsAskedBy arguments) → IfErr r (IsRefusedFor arguments) → Gives (Replay 64 4096 500) r
+    → IfOk r (IsAskedBy arguments) → IfErr r (IsRefusedFor arguments) → GivesReplay r
 gives_replay arguments r is asked refused =
-    gives_of (codes "replay" ∷ []) (Replay 64 4096 500) (Some (codes "replay", replay_rows)) r replay_faults replay_command_is (inr (inl (refl, (replay_slots, replay_entries, replay_slice)))) ((lit≤ tt, lit≤ tt), (lit≤ tt, lit≤ tt), (lit≤ tt, lit≤ tt)) replay_names
+    gives_of (codes "replay" ∷ []) (Replay 64 4096 500 usual_setup) (Some (codes "replay", replay_rows)) r replay_faults replay_command_is (Plain, refl)
+    (inr (inl (refl, (replay_slots, replay_entries, replay_slice, replay_setup)))) ((lit≤ tt, lit≤ tt), (lit≤ tt, lit≤ tt), (lit≤ tt, lit≤ tt), usual_ranges)
+    usual_reach replay_names
     (subst (λ (a : List Text). IfOk r (IsAskedBy a)) is asked) (subst (λ (a : List Text). IfErr r (IsRefusedFor a)) is refused)
 
 among_one : (x k : ErrorKind) → IsAmong k (x ∷ []) → k ≡ x
@@ -264,9 +321,9 @@ no_mistake_in_version is = is.1 refl
 gives_help_of : (arguments : List Text) (r : Result Job ArgumentsFault) → faults_of arguments ≡ kinds.DisplayHelp ∷ []
     → IfOk r (IsAskedBy arguments) → IfErr r (IsRefusedFor arguments) → GivesHelp r
 gives_help_of arguments (Ok (Help text)) is asked refused = tt
-gives_help_of arguments (Ok (Stdio entries)) is asked refused = let bad : kinds.DisplayHelp ∷ [] ≡ [] = sym is ∙ asked.0 in cc
-gives_help_of arguments (Ok (Replay slots entries slice)) is asked refused = let bad : kinds.DisplayHelp ∷ [] ≡ [] = sym is ∙ asked.0 in cc
-gives_help_of arguments (Ok (Serve socket status slots entries slice turns)) is asked refused = let bad : kinds.DisplayHelp ∷ [] ≡ [] = sym is ∙ asked.0 in cc
+gives_help_of arguments (Ok (Stdio entries setup)) is asked refused = let bad : kinds.DisplayHelp ∷ [] ≡ [] = sym is ∙ asked.0 in cc
+gives_help_of arguments (Ok (Replay slots entries slice setup)) is asked refused = let bad : kinds.DisplayHelp ∷ [] ≡ [] = sym is ∙ asked.0 in cc
+gives_help_of arguments (Ok (Serve socket status slots entries slice turns setup)) is asked refused = let bad : kinds.DisplayHelp ∷ [] ≡ [] = sym is ∙ asked.0 in cc
 gives_help_of arguments (Ok Version) is asked refused =
     let bad : kinds.DisplayVersion ≡ kinds.DisplayHelp = among_one kinds.DisplayHelp kinds.DisplayVersion (subst (λ (k : Kinds). IsAmong kinds.DisplayVersion k) is asked) in cc
 gives_help_of arguments (Err OutOfMemory) is asked refused = tt
@@ -276,9 +333,9 @@ gives_help_of arguments (Err (NotAccepted text)) is asked refused = not_refused 
 gives_version_of : (arguments : List Text) (r : Result Job ArgumentsFault) → faults_of arguments ≡ kinds.DisplayVersion ∷ []
     → IfOk r (IsAskedBy arguments) → IfErr r (IsRefusedFor arguments) → Gives Version r
 gives_version_of arguments (Ok Version) is asked refused = inl refl
-gives_version_of arguments (Ok (Stdio entries)) is asked refused = let bad : kinds.DisplayVersion ∷ [] ≡ [] = sym is ∙ asked.0 in cc
-gives_version_of arguments (Ok (Replay slots entries slice)) is asked refused = let bad : kinds.DisplayVersion ∷ [] ≡ [] = sym is ∙ asked.0 in cc
-gives_version_of arguments (Ok (Serve socket status slots entries slice turns)) is asked refused = let bad : kinds.DisplayVersion ∷ [] ≡ [] = sym is ∙ asked.0 in cc
+gives_version_of arguments (Ok (Stdio entries setup)) is asked refused = let bad : kinds.DisplayVersion ∷ [] ≡ [] = sym is ∙ asked.0 in cc
+gives_version_of arguments (Ok (Replay slots entries slice setup)) is asked refused = let bad : kinds.DisplayVersion ∷ [] ≡ [] = sym is ∙ asked.0 in cc
+gives_version_of arguments (Ok (Serve socket status slots entries slice turns setup)) is asked refused = let bad : kinds.DisplayVersion ∷ [] ≡ [] = sym is ∙ asked.0 in cc
 gives_version_of arguments (Ok (Help text)) is asked refused =
     let bad : kinds.DisplayHelp ≡ kinds.DisplayVersion = among_one kinds.DisplayVersion kinds.DisplayHelp (subst (λ (k : Kinds). IsAmong kinds.DisplayHelp k) is asked) in cc
 gives_version_of arguments (Err OutOfMemory) is asked refused = inr refl

@@ -1,12 +1,15 @@
 -- When each answer to the arguments comes.
-use Rattle.std.specs.Prelude.{◌≡◌, ◌≢◌, ◌⊎◌, ◌∷◌, ◌-◌, ◌^◌, ℕ, List, [], Option, Some, None, Result, Ok, Err, MatchResult, ⊤, codes, string_bytes}
+use Rattle.std.specs.Prelude.{◌≡◌, ◌≢◌, ◌⊎◌, ◌∷◌, ◌-◌, ◌^◌, ℕ, List, [], Option, Some, None, Result, Ok, Err, IfSome, MatchResult, ⊤, codes, string_bytes}
 use Rattle.clap.specs.Words.{IsAmong, Row, Text, kind_of, subcommand_rows_of}
 use Rattle.clap.specs.declared.error.Error.{Error}
 use Rattle.clap.specs.declared.error.kind.ErrorKind.{ErrorKind}
 use Rattle.clap.specs.declared.error.kind.ErrorKind.TheVariants as kinds
 use Rattle.clap.specs.declared.parser.matches.ArgMatches.{ArgMatches}
 use Rattle.usi_arguments.specs.CommandLine.{IsFromOne, NamesNumber, NamesText, NamesTextIfAny, command_of, faults_of}
-use Rattle.usi_arguments.specs.Texts.{not_digits}
+use Rattle.usi_arguments.specs.Setup.{HasNoEvaluation, HasSetupRanges, IsInReach, IsTooDeep, NamesEvaluation, NamesSetup, usual_setup}
+use Rattle.usi_arguments.specs.Texts.{not_an_evaluation, not_digits, too_deep}
+use Rattle.usi_arguments.specs.declared.setup.Evaluation.{Evaluation}
+use Rattle.usi_arguments.specs.declared.setup.SetupOptions.{SetupOptions}
 use Rattle.usi_arguments.specs.declared.arguments.Job.{Job}
 use Rattle.usi_arguments.specs.declared.arguments.Job.TheVariants.{Stdio, Replay, Serve, Help, Version}
 use Rattle.usi_arguments.specs.declared.arguments.ArgumentsFault.{ArgumentsFault}
@@ -20,23 +23,38 @@ HasServeRanges slots entries slice turns =
 
 -- the numbers of the job lie in their ranges
 abbrev pub HasRanges : Job → Type 0
-HasRanges (Stdio entries) = IsFromOne 1000000 entries
-HasRanges (Replay slots entries slice) =
+HasRanges (Stdio entries setup) = IsFromOne 1000000 entries × HasSetupRanges setup
+HasRanges (Replay slots entries slice setup) =
     IsFromOne 1024 slots × IsFromOne 1000000 entries × IsFromOne 1000000000 slice
-HasRanges (Serve socket status slots entries slice turns) = HasServeRanges slots entries slice turns
+    × HasSetupRanges setup
+HasRanges (Serve socket status slots entries slice turns setup) =
+    HasServeRanges slots entries slice turns × HasSetupRanges setup
 HasRanges (Help text) = ⊤
 HasRanges Version = ⊤
 
--- the job is `stdio`, with the number that these options name
+-- the setup of the job's sessions
+abbrev pub setup_in : Job → Option SetupOptions
+setup_in (Stdio entries setup) = Some setup
+setup_in (Replay slots entries slice setup) = Some setup
+setup_in (Serve socket status slots entries slice turns setup) = Some setup
+setup_in (Help text) = None
+setup_in Version = None
+
+-- the job's sessions begin with a depth that they may search
+abbrev pub HasReach : Job → Type 0
+HasReach job = IfSome (setup_in job) IsInReach
+
+-- the job is `stdio`, with the number and the setup that these options name
 abbrev pub IsStdioOf : List Row → Job → Type 0
-IsStdioOf options (Stdio entries) = NamesNumber (codes "entries") options entries
+IsStdioOf options (Stdio entries setup) =
+    NamesNumber (codes "entries") options entries × NamesSetup options setup
 IsStdioOf options _ = ⊥
 
--- the job is `replay`, with the numbers that these options name
+-- the job is `replay`, with the numbers and the setup that these options name
 abbrev pub IsReplayOf : List Row → Job → Type 0
-IsReplayOf options (Replay slots entries slice) =
+IsReplayOf options (Replay slots entries slice setup) =
     NamesNumber (codes "slots") options slots × NamesNumber (codes "entries") options entries
-    × NamesNumber (codes "slice") options slice
+    × NamesNumber (codes "slice") options slice × NamesSetup options setup
 IsReplayOf options _ = ⊥
 
 -- the numbers that these options of `serve` name
@@ -56,17 +74,17 @@ HasNoNumbers options =
     (slots entries slice turns : ℕ) → HasServeRanges slots entries slice turns
     → NamesNumbers options slots entries slice turns → ⊥
 
--- the job is `serve`, with the paths and the numbers that these options name
+-- the job is `serve`, with the paths, the numbers and the setup that these options name
 abbrev pub IsServeOf : List Row → Job → Type 0
-IsServeOf options (Serve socket status slots entries slice turns) =
+IsServeOf options (Serve socket status slots entries slice turns setup) =
     NamesText (codes "socket") options (string_bytes socket)
     × NamesTextIfAny (codes "status") options status
-    × NamesNumbers options slots entries slice turns
+    × NamesNumbers options slots entries slice turns × NamesSetup options setup
 IsServeOf options _ = ⊥
 
--- the command names the job; without a command it is `stdio` with 4096 entries
+-- the command names the job; without a command it is `stdio` with 4096 entries and the usual setup
 abbrev pub NamesJob : Option (Text × List Row) → Job → Type 0
-NamesJob None job = job ≡ Stdio 4096
+NamesJob None job = job ≡ Stdio 4096 usual_setup
 NamesJob (Some command) job = ((command.0 ≡ codes "stdio") × IsStdioOf command.1 job)
     ⊎ ((command.0 ≡ codes "replay") × IsReplayOf command.1 job)
     ⊎ ((command.0 ≡ codes "serve") × IsServeOf command.1 job)
@@ -103,9 +121,26 @@ IsAskedBy arguments job = (faults_of arguments ≡ []) × NamesJob (command_of a
 abbrev pub IsMistake : ErrorKind → Type 0
 IsMistake kind = (kind ≢ kinds.DisplayHelp) × (kind ≢ kinds.DisplayVersion)
 
--- the command names no job whose numbers are written in digits alone and lie in their ranges, and this is what is said of it
+-- the command has an evaluation that is known, or none; and it has one that is not
+abbrev pub KnowsEvaluation : Option (Text × List Row) → Type 0
+KnowsEvaluation None = ⊤
+KnowsEvaluation (Some command) = (evaluation : Evaluation) × NamesEvaluation command.1 evaluation
+
+abbrev pub NamesNoEvaluation : Option (Text × List Row) → Type 0
+NamesNoEvaluation None = ⊥
+NamesNoEvaluation (Some command) = HasNoEvaluation command.1
+
+-- this is said of the setup of the job, which begins with a depth above its greatest
+abbrev pub IsTooDeepIn : Job → List ℕ → Type 0
+IsTooDeepIn job said = (setup : SetupOptions) × (setup_in job ≡ Some setup) × IsTooDeep setup
+    × (said ≡ too_deep setup.depth setup.max_depth)
+
+-- why the command names no job, and what is said of it: its evaluation is not known; or a number is not written in
+-- digits alone; or all are, and its depth is above its greatest
 abbrev pub IsNoJob : Option (Text × List Row) → List ℕ → Type 0
-IsNoJob command said = NamesNoJob command × (said ≡ not_digits)
+IsNoJob command said = (NamesNoEvaluation command × (said ≡ not_an_evaluation))
+    ⊎ (KnowsEvaluation command × NamesNoJob command × (said ≡ not_digits))
+    ⊎ ((job : Job) × IsJobIn command job × IsTooDeepIn job said)
 
 -- the arguments have a mistake, or are read without one and name no job, of which this is said
 abbrev pub HasMistake : List Text → List ℕ → Type 0
@@ -124,7 +159,11 @@ Gives job result = (result ≡ Ok job) ⊎ (result ≡ Err OutOfMemory)
 
 -- the job of `replay` with the numbers that it has where none is given, or memory ran out
 abbrev pub GivesReplay : Result Job ArgumentsFault → Type 0
-GivesReplay result = Gives (Replay 64 4096 500) result
+GivesReplay result = Gives (Replay 64 4096 500 usual_setup) result
+
+-- the job of `stdio` with the number that it has where none is given, or memory ran out
+abbrev pub GivesStdio : Result Job ArgumentsFault → Type 0
+GivesStdio result = Gives (Stdio 4096 usual_setup) result
 
 -- a help, or memory ran out
 abbrev pub GivesHelp : Result Job ArgumentsFault → Type 0
@@ -152,6 +191,18 @@ abbrev pub IsJobOf : Option (Text × List Row) → Result Job ArgumentsFault →
 IsJobOf command (Ok job) = NamesJob command job
 IsJobOf command (Err OutOfMemory) = ⊤
 IsJobOf command (Err (NotAccepted text)) = IsNoJob command (string_bytes text)
+
+-- a refusal with this text, or memory ran out
+abbrev pub IsRefusal : List ℕ → Result Job ArgumentsFault → Type 0
+IsRefusal said (Ok job) = ⊥
+IsRefusal said (Err OutOfMemory) = ⊤
+IsRefusal said (Err (NotAccepted text)) = string_bytes text ≡ said
+
+-- the answer to a job that was named: it is given where its depth is not above its greatest
+abbrev pub IsHeld : Job → Result Job ArgumentsFault → Type 0
+IsHeld job (Ok given) = (given ≡ job) × HasReach job
+IsHeld job (Err OutOfMemory) = ⊤
+IsHeld job (Err (NotAccepted text)) = IsTooDeepIn job (string_bytes text)
 
 -- the answer to an error of this kind
 abbrev pub IsAnswerTo : ErrorKind → Result Job ArgumentsFault → Type 0

@@ -41,14 +41,37 @@ turns_option = number_option (codes "turns") (2 ^ 64 - 1) (codes "18446744073709
 abbrev pub socket_option : Rule
 socket_option = record (value_option (codes "socket")) { required = true }
 
+-- the option Depth as a session begins: `--depth N`, from 1 to 16; where it is left out it is not the same for each
+-- `--max-depth`, and so no default of `clap`
+abbrev pub depth_option : Rule
+depth_option = record (value_option (codes "depth")) { parser = Some (parser.Unsigned 1 16) }
+
+-- the greatest depth of a search: `--max-depth N`, from 1 to 16, which it is where it is left out
+abbrev pub max_depth_option : Rule
+max_depth_option = number_option (codes "max-depth") 16 (codes "16")
+
+-- the option MultiPV as a session begins: `--lines N`, from 1 to 8, and 1 where it is left out
+abbrev pub lines_option : Rule
+lines_option = number_option (codes "lines") 8 (codes "1")
+
+-- the option Eval as a session begins: `--eval NAME`, and `plain` where it is left out
+abbrev pub eval_option : Rule
+eval_option = record (value_option (codes "eval")) { defaults = codes "plain" ∷ [] }
+
 -- the command, where it could be made, is this one, with no option that its commands share
 abbrev pub IsMade : {E : Type 0} → App → Result Command E → Type 0
 IsMade app made =
     IfOk made (λ command. (app_of command ≡ app) × ((fields_of command).has_globals ≡ false))
 
+-- a command with the options of the setup
+abbrev pub with_setup_options : App → App
+with_setup_options command =
+    with_rule (with_rule (with_rule (with_rule command depth_option) max_depth_option) lines_option)
+    eval_option
+
 -- the command `stdio`
 abbrev pub stdio_command : App
-stdio_command = with_rule (new_app (codes "stdio")) entries_option
+stdio_command = with_setup_options (with_rule (new_app (codes "stdio")) entries_option)
 
 -- a command with the options of a host: how many sessions, how many entries and how many steps
 abbrev pub with_host_options : App → App
@@ -57,7 +80,7 @@ with_host_options command =
 
 -- the command `replay`
 abbrev pub replay_command : App
-replay_command = with_host_options (new_app (codes "replay"))
+replay_command = with_setup_options (with_host_options (new_app (codes "replay")))
 
 -- where a second socket is made, for the status: `--status PATH`, which may be left out
 abbrev pub status_option : Rule
@@ -69,7 +92,7 @@ socket_command = with_rule (with_rule (new_app (codes "serve")) socket_option) s
 
 -- the command `serve`
 abbrev pub serve_command : App
-serve_command = with_rule (with_host_options socket_command) turns_option
+serve_command = with_rule (with_setup_options (with_host_options socket_command)) turns_option
 
 -- the program without a command; it has a version, so `--version` and `-V` ask for it
 abbrev pub bare_line : App

@@ -1,6 +1,6 @@
 //! The arguments that the program was started with.
 ghost use Rattle.std.specs.Prelude.{IfOk};
-ghost use Rattle.usi_arguments.specs.Answers.{HasRanges};
+ghost use Rattle.usi_arguments.specs.Answers.{HasRanges, HasReach};
 
 use crate::arguments::{ArgumentsFault, Job, read_arguments};
 use crate::unread::unread_arguments;
@@ -9,7 +9,8 @@ use std::env::Env;
 
 /// The arguments after the program's name, read as a job by `read_arguments`.
 pub fn asked<R: Env + AllocGlobal>(rt: &R) -> Result<Job, ArgumentsFault>
-    ensures { IfOk result HasRanges }
+    ensures ranges { IfOk result HasRanges }
+    ensures reach { IfOk result HasReach }
 {
     let mut given = match env::args(rt) {
         Ok(given) => given,

@@ -3,12 +3,17 @@
 
 mod arguments;
 mod given;
+mod grammar;
+mod help;
 mod refusal;
+mod setup;
 mod unread;
+mod values;
 mod version;
 
 pub use arguments::{ArgumentsFault, Job, read_arguments};
 pub use given::asked;
 pub use refusal::{complaint, status};
+pub use setup::{Evaluation, SetupOptions};
 pub use unread::unread_arguments;
 pub use version::version_text;

@@ -4,7 +4,11 @@
 ghost use Rattle.std.specs.Prelude.{◌≡◌, ◌≤◌};
 ghost use Rattle.session_slots.specs.declared.limits.TheConstants.{SESSIONS_MAX};
 ghost use Rattle.shared_table.specs.declared.table.TheConstants.{CAPACITY_MAX};
+ghost use Rattle.usi_arguments.specs.Setup.{HasSetupRanges, IsInReach};
 
+mod setup;
+
+use crate::setup::{host_of, run_script, run_session};
 use host_core::Host;
 use socket_loop::{Limits, Loop, StatusSocket, serve};
 use std::alloc::Global;
@@ -12,8 +16,8 @@ use std::hash::RandomState;
 use std::io;
 use std::process::ExitCode;
 use stream_wire::MioWire;
-use usi_arguments::{Job, asked, complaint, status, version_text};
-use usi_runs::{DONE, ServeFault, print_out, script, session, socket_fault, status_fault};
+use usi_arguments::{Job, SetupOptions, asked, complaint, status, version_text};
+use usi_runs::{DONE, ServeFault, print_out, socket_fault, status_fault};
 use usi_stdio::Duplex;
 use wires::WireFault;
 
@@ -74,7 +78,7 @@ fn serve_host(
     }
 }
 
-/// Makes a host and serves it. Strangers share its table, so the hash of the table has a seed that they
+/// Makes a host whose sessions begin under the setup, and serves it. Strangers share its table, so the hash of the table has a seed that they
 /// can't know.
 fn run_socket(
     rt: &HostRuntime,
@@ -84,12 +88,15 @@ fn run_socket(
     entries: usize,
     slice: u64,
     turns: u64,
+    setup: SetupOptions,
 ) -> Result<(), ServeFault>
     requires least_slots { 1 ≤ slots }
     requires most_slots { slots ≤ SESSIONS_MAX }
     requires least_entries { 1 ≤ entries }
     requires most_entries { entries ≤ CAPACITY_MAX }
     requires least_slice { 1 ≤ slice }
+    requires ranges { HasSetupRanges setup }
+    requires reach { IsInReach setup }
 {
     let Ok(hasher) = RandomState::new(rt) else {
         return Err(ServeFault::ReadFailed);
@@ -99,7 +106,7 @@ fn run_socket(
         entries: entries as u64,
         slice,
     };
-    let mut host = Host::new(rt.alloc(), slots, entries, hasher)?;
+    let mut host = host_of(rt.alloc(), slots, entries, hasher, setup)?;
     serve_host(rt, &mut host, socket, status, limits, turns)
 }
 
@@ -111,14 +118,15 @@ fn main(rt: HostRuntime) -> ExitCode {
         output: io::writer(&rt),
     };
     let status = match asked(&rt) {
-        Ok(Job::Stdio { entries }) => session(&rt, rt.alloc(), &mut ends, entries),
+        Ok(Job::Stdio { entries, setup }) => run_session(&rt, &mut ends, entries, setup),
         Ok(
             Job::Replay {
                 slots,
                 entries,
                 slice,
+                setup,
             },
-        ) => script(&rt, rt.alloc(), &mut ends, slots, entries, slice),
+        ) => run_script(&rt, &mut ends, slots, entries, slice, setup),
         Ok(
             Job::Serve {
                 socket,
@@ -127,11 +135,23 @@ fn main(rt: HostRuntime) -> ExitCode {
                 entries,
                 slice,
                 turns,
+                setup,
             },
-        ) => match run_socket(&rt, socket.as_str(), &status, slots, entries, slice, turns) {
-            Ok(()) => DONE,
-            Err(fault) => complain(&rt, fault.complaint(), fault.status()),
-        },
+        ) => {
+            match run_socket(
+                &rt,
+                socket.as_str(),
+                &status,
+                slots,
+                entries,
+                slice,
+                turns,
+                setup,
+            ) {
+                Ok(()) => DONE,
+                Err(fault) => complain(&rt, fault.complaint(), fault.status()),
+            }
+        }
         Ok(Job::Help { text }) => print_out(&rt, &mut ends, text.as_bytes()),
         Ok(Job::Version) => print_out(&rt, &mut ends, version_text().as_bytes()),
         Err(fault) => complain(&rt, complaint(&fault), status(&fault)),

@@ -8,6 +8,7 @@ use Rattle.usi_stdio.specs.Calls.{Report}
 use Rattle.usi_stdio.specs.Dialogue.{Talks}
 use Rattle.usi_stdio.specs.Saying.{Says, SaysPrefix}
 use Rattle.usi_stdio.specs.Stdio.{IsLeft, IsServed}
+use Rattle.usi_texts.specs.declared.setup.Setup.{Setup}
 
 -- 0 where it was done, and 1 after a fault
 abbrev pub ended_status : Result (Unit {0}) StdioFault → ℕ
@@ -26,21 +27,21 @@ abbrev pub replayed_status : Result (Unit {0}) ReplayFault → ℕ
 replayed_status (Ok done) = 0
 replayed_status (Err fault) = replay_status fault
 
--- the front end was served one session, with this status: all replies to what was read were written, or a prefix of them
+-- the front end was served one session under the setup, with this status: all replies to what was read were written, or a prefix of them
 -- after a fault, and the calls are a dialogue
-pub record IsSession (old new : Report) (status : ℕ) : Type 0 where
+pub record IsSession (setup : Setup) (old new : Report) (status : ℕ) : Type 0 where
   pub ended : Result (Unit {0}) StdioFault
-  pub ok : OnOk ended (IsServed old new)
-  pub err : OnErr ended (IsLeft old new)
-  pub calls : Talks old.calls new.calls ended
+  pub ok : OnOk ended (IsServed setup old new)
+  pub err : OnErr ended (IsLeft setup old new)
+  pub calls : Talks setup old.calls new.calls ended
   pub status_is : status ≡ ended_status ended
 
--- what was read is a script, and its output was written and flushed, with this status; or it is bad, or a fault came
-pub record IsReplay (slots : ℕ) (old new : Report) (status : ℕ) : Type 0 where
+-- what was read is a script, and its output under the setup was written and flushed, with this status; or it is bad, or a fault came
+pub record IsReplay (setup : Setup) (slots : ℕ) (old new : Report) (status : ℕ) : Type 0 where
   pub ended : Result (Unit {0}) ReplayFault
-  pub ok : OnOk ended (Replays slots old new)
+  pub ok : OnOk ended (Replays setup slots old new)
   pub flushed : OnOk ended (FlushesAll old new)
-  pub err : IfErr ended (Leaves slots old new)
+  pub err : IfErr ended (Leaves setup slots old new)
   pub status_is : status ≡ replayed_status ended
 
 -- a text was written and flushed, and nothing was read, with this status; or a prefix of it, after a fault

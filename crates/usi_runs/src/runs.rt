@@ -6,8 +6,9 @@ ghost use Rattle.shared_table.specs.declared.table.TheConstants.{CAPACITY_MAX};
 ghost use Rattle.usi_runs.specs.Runs.{IsPrint, IsReplay, IsSession, ended_status, replay_status};
 
 use std::alloc::Allocator;
-use usi_replay::{ReplayFault, replay};
-use usi_stdio::{FrontEnd, StdioFault, stdio, write_out};
+use usi_replay::{ReplayFault, replay_with_setup};
+use usi_stdio::{FrontEnd, StdioFault, stdio_with_setup, write_out};
+use usi_texts::Setup;
 
 /// The status of what was done.
 pub const DONE: u8 = 0;
@@ -41,26 +42,28 @@ fn status_of(fault: &ReplayFault) -> u8
     }
 }
 
-/// One session over a front end. Gives the status, and tells standard error of a fault.
+/// One session under a setup over a front end. Gives the status, and tells standard error of a fault.
 pub fn session<E: Eprint, A: Allocator + Copy, T: FrontEnd>(
     errors: &E,
     alloc: A,
+    setup: Setup,
     front_end: &mut T,
     entries: usize,
 ) -> u8
     requires least { 1 ≤ entries }
     requires most { entries ≤ CAPACITY_MAX }
-    ensures { IsSession (T.report front_end.old) (T.report front_end.new) result }
+    ensures { IsSession setup (T.report front_end.old) (T.report front_end.new) result }
 {
-    let ended = stdio(alloc, front_end, entries);
+    let ended = stdio_with_setup(alloc, setup, front_end, entries);
     status_of_run(errors, &ended)
 }
 
-/// A script over a front end, which has its output. Gives the status, and tells standard error of a
-/// fault.
+/// A script over a front end, which has its output, with sessions under a setup. Gives the status,
+/// and tells standard error of a fault.
 pub fn script<E: Eprint, A: Allocator + Copy, T: FrontEnd>(
     errors: &E,
     alloc: A,
+    setup: Setup,
     front_end: &mut T,
     slots: usize,
     entries: usize,
@@ -71,9 +74,9 @@ pub fn script<E: Eprint, A: Allocator + Copy, T: FrontEnd>(
     requires least_entries { 1 ≤ entries }
     requires most_entries { entries ≤ CAPACITY_MAX }
     requires least_slice { 1 ≤ slice }
-    ensures { IsReplay slots (T.report front_end.old) (T.report front_end.new) result }
+    ensures { IsReplay setup slots (T.report front_end.old) (T.report front_end.new) result }
 {
-    match replay(alloc, front_end, slots, entries, slice) {
+    match replay_with_setup(alloc, setup, front_end, slots, entries, slice) {
         Ok(()) => DONE,
         Err(fault) => {
             let _ = eprintln!(errors; "usi_host: {fault}");

@@ -1,5 +1,5 @@
 use Rattle.usi_arguments.specs.CommandLine.{options_in}
-use Rattle.usi_arguments.proofs.Jobs.{no_slots, no_entries, no_slice}
+use Rattle.usi_arguments.proofs.Jobs.{no_entries, no_replay_setup, no_slice, no_slots}
 use Rattle.usi_arguments.proofs.Numbers.{if_none}
 use Rattle.usi_arguments.proofs.arguments.replay_job.Goals as goal
 
@@ -11,3 +11,6 @@ returns-in_err-entries-clause-none c = if_none c.from_residual-in_err-entries.re
 
 pub returns-in_err-slice-clause-none : goal.returns-in_err-slice-clause-none
 returns-in_err-slice-clause-none c = if_none c.from_residual-in_err-slice.result _ (no_slice (options_in c.args.options.now) c.in_err-slice.ensures.none)
+
+pub returns-in_err-setup-clause-none : goal.returns-in_err-setup-clause-none
+returns-in_err-setup-clause-none c = if_none c.from_residual-in_err-setup.result _ (no_replay_setup (options_in c.args.options.now) c.in_err-setup.ensures.none)

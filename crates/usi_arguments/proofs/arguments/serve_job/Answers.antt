@@ -2,7 +2,7 @@ use Rattle.std.proofs.Common.{◌∙◌, Some, sym, codes, ap, option_map}
 use Rattle.clap.specs.Words.{found_of}
 use Rattle.clap.proofs.WalkLemmas.{first_value-rows}
 use Rattle.usi_arguments.specs.CommandLine.{options_in}
-use Rattle.usi_arguments.proofs.Jobs.{no_numbers, no_socket}
+use Rattle.usi_arguments.proofs.Jobs.{no_numbers, no_serve_setup, no_socket}
 use Rattle.usi_arguments.proofs.arguments.serve_job.Goals as goal
 
 pub returns-in_default-clause-none : goal.returns-in_default-clause-none
@@ -12,6 +12,18 @@ returns-in_default-clause-none c = no_socket (options_in c.args.options.now)
 pub returns-in_default-serve_numbers-clause-none : goal.returns-in_default-serve_numbers-clause-none
 returns-in_default-serve_numbers-clause-none c = no_numbers (options_in c.args.options.now) c.in_default-serve_numbers.ensures.none
 
+pub returns-in_default-setup_of-clause-none : goal.returns-in_default-setup_of-clause-none
+returns-in_default-setup_of-clause-none c = no_serve_setup (options_in c.args.options.now) c.in_default-setup_of.ensures.none
+
 pub returns-clause-some : goal.returns-clause-some
-returns-clause-some c = let numbers = c.in-Some-serve_numbers.ensures.some in
-    (numbers.0, (sym (first_value-rows (found_of c.args.options.now) (codes "socket")) ∙ sym c.get_str.ensures ∙ ap (option_map (λ s. s.now)) c.in-Some.is ∙ ap Some (sym c.in_ok-socket.ensures.ok), c.in_ok-status.ensures, numbers.1))
+returns-clause-some c =
+    let numbers = c.in-Some-serve_numbers.ensures.some in
+    let setup = c.in-Some-setup_of.ensures.some in (
+      (numbers.0, setup.0),
+      (
+        sym (first_value-rows (found_of c.args.options.now) (codes "socket")) ∙ sym c.get_str.ensures ∙ ap (option_map (λ s. s.now)) c.in-Some.is ∙ ap Some (sym c.in_ok-socket.ensures.ok),
+        c.in_ok-status.ensures,
+        numbers.1,
+        setup.1,
+      ),
+    )

@@ -1,7 +1,7 @@
 use Rattle.std.proofs.Common.{codes}
 use Rattle.clap.specs.Words.{new_app, with_rule}
 use Rattle.usi_arguments.specs.CommandLine.{socket_option, status_option}
-use Rattle.usi_arguments.proofs.arguments.socket_command.Goals as goal
+use Rattle.usi_arguments.proofs.grammar.socket_command.Goals as goal
 
 pub returns : goal.returns
 returns c =

@@ -1,5 +1,5 @@
 use Rattle.usi_arguments.specs.CommandLine.{bare_line, replay_command, replay_line, serve_command, stdio_command, stdio_line}
-use Rattle.usi_arguments.proofs.arguments.command_line.Goals as goal
+use Rattle.usi_arguments.proofs.grammar.command_line.Goals as goal
 
 pub returns : goal.returns
 returns c =

@@ -1,6 +1,6 @@
 use Rattle.clap.specs.Words.{with_rule}
 use Rattle.usi_arguments.specs.CommandLine.{entries_option, slice_option, slots_option}
-use Rattle.usi_arguments.proofs.arguments.with_host_options.Goals as goal
+use Rattle.usi_arguments.proofs.grammar.with_host_options.Goals as goal
 
 pub returns : goal.returns
 returns c = λ app made.

@@ -3,8 +3,8 @@ use Rattle.clap.specs.Words.{found_of}
 use Rattle.clap.proofs.WalkLemmas.{first_value-rows}
 use Rattle.usi_arguments.specs.CommandLine.{IsFromOne, options_in}
 use Rattle.usi_arguments.proofs.Numbers.{if_none, no_number, no_text, other_in_range}
-use Rattle.usi_arguments.proofs.arguments.number_of.Goals as goal
-use Rattle.usi_arguments.proofs.arguments.number_of.Goals.{else-n-ge1-via-then-n-ge1+else-n-most, else-n-ge1-via-else-n-ge1}
+use Rattle.usi_arguments.proofs.values.number_of.Goals as goal
+use Rattle.usi_arguments.proofs.values.number_of.Goals.{else-n-ge1-via-then-n-ge1+else-n-most, else-n-ge1-via-else-n-ge1}
 
 pub returns-in_err-text-clause-none : goal.returns-in_err-text-clause-none
 returns-in_err-text-clause-none c =

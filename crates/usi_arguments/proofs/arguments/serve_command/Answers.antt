@@ -1,7 +1,0 @@
-use Rattle.usi_arguments.specs.CommandLine.{socket_command, turns_option, with_host_options}
-use Rattle.usi_arguments.proofs.arguments.serve_command.Goals as goal
-
-pub returns : goal.returns
-returns c =
-    c.with_option.ensures (with_host_options socket_command) turns_option c.turns_option.ensures.rule
-    (c.with_host_options-made.ensures socket_command c.socket_command.ensures)

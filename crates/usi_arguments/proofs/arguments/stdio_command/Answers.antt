@@ -1,7 +1,0 @@
-use Rattle.std.proofs.Common.{codes}
-use Rattle.clap.specs.Words.{new_app}
-use Rattle.usi_arguments.specs.CommandLine.{entries_option}
-use Rattle.usi_arguments.proofs.arguments.stdio_command.Goals as goal
-
-pub returns : goal.returns
-returns c = c.with_option.ensures (new_app (codes "stdio")) entries_option c.entries_option.ensures.rule (c.described-command.ensures.app, c.described-command.ensures.local)

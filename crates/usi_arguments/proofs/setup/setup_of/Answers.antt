@@ -1,0 +1,15 @@
+use Rattle.usi_arguments.specs.CommandLine.{options_in}
+use Rattle.usi_arguments.proofs.Numbers.{if_none}
+use Rattle.usi_arguments.proofs.Setups.{no_depth, no_lines, no_max_depth}
+use Rattle.usi_arguments.proofs.setup.setup_of.Goals as goal
+
+pub returns-in_err-max_depth-clause-none : goal.returns-in_err-max_depth-clause-none
+returns-in_err-max_depth-clause-none c = if_none c.from_residual.result _ (no_max_depth (options_in c.args.options.now) c.in_err-max_depth.ensures.none)
+
+pub returns-in_err-depth-clause-none : goal.returns-in_err-depth-clause-none
+returns-in_err-depth-clause-none c =
+    if_none c.from_residual-in_err-depth.result _
+    (no_depth (options_in c.args.options.now) c.in_ok-max_depth.max_depth c.in_ok-max_depth.ensures.some.1 c.in_err-depth.ensures.none)
+
+pub returns-in_err-lines-clause-none : goal.returns-in_err-lines-clause-none
+returns-in_err-lines-clause-none c = if_none c.from_residual-in_err-lines.result _ (no_lines (options_in c.args.options.now) c.in_err-lines.ensures.none)

@@ -1,0 +1,72 @@
+-- The setup of the sessions, as the options of the command line say it (own choice).
+use Rattle.std.specs.Prelude.{◌≡◌, ◌⊎◌, ◌≤◌, ◌<◌, ℕ, List, None, codes, min}
+use Rattle.clap.specs.Words.{Row, Text, first_of}
+use Rattle.usi_arguments.specs.CommandLine.{IsFromOne, NamesNumber, NamesText}
+use Rattle.usi_arguments.specs.declared.setup.Evaluation.{Evaluation}
+use Rattle.usi_arguments.specs.declared.setup.Evaluation.TheVariants.{Plain, Hand, Exchange}
+use Rattle.usi_arguments.specs.declared.setup.SetupOptions.{SetupOptions}
+
+-- the word that names an evaluation
+abbrev pub evaluation_word : Evaluation → Text
+evaluation_word Plain = codes "plain"
+evaluation_word Hand = codes "hand"
+evaluation_word Exchange = codes "exchange"
+
+-- `--eval` names this evaluation
+abbrev pub NamesEvaluation : List Row → Evaluation → Type 0
+NamesEvaluation options evaluation = NamesText (codes "eval") options (evaluation_word evaluation)
+
+-- `--eval` names no evaluation
+abbrev pub HasNoEvaluation : List Row → Type 0
+HasNoEvaluation options = (evaluation : Evaluation) → NamesEvaluation options evaluation → ⊥
+
+-- the depth is the number of `--depth`; where that is left out it is 3, or the greatest depth where that is less
+abbrev pub NamesDepth : List Row → ℕ → ℕ → Type 0
+NamesDepth options most depth = NamesNumber (codes "depth") options depth
+    ⊎ ((first_of (codes "depth") options ≡ None) × (depth ≡ min 3 most))
+
+-- it is this depth, from 1 to 16
+abbrev pub HasDepth : List Row → ℕ → ℕ → Type 0
+HasDepth options most depth = IsFromOne 16 depth × NamesDepth options most depth
+
+-- it is no depth from 1 to 16
+abbrev pub HasNoDepth : List Row → ℕ → Type 0
+HasNoDepth options most = (depth : ℕ) → IsFromOne 16 depth → NamesDepth options most depth → ⊥
+
+-- each number of the setup lies in its range
+abbrev pub HasSetupRanges : SetupOptions → Type 0
+HasSetupRanges setup =
+    IsFromOne 16 setup.depth × IsFromOne 16 setup.max_depth × IsFromOne 8 setup.lines
+
+-- the options name this setup
+abbrev pub NamesSetup : List Row → SetupOptions → Type 0
+NamesSetup options setup = NamesDepth options setup.max_depth setup.depth
+    × NamesNumber (codes "max-depth") options setup.max_depth
+    × NamesNumber (codes "lines") options setup.lines
+    × NamesEvaluation options setup.evaluation
+
+-- they name it, and its numbers lie in their ranges
+abbrev pub AreSetupOptions : List Row → SetupOptions → Type 0
+AreSetupOptions options setup = HasSetupRanges setup × NamesSetup options setup
+
+-- they name no setup whose numbers lie in their ranges
+abbrev pub HasNoSetup : List Row → Type 0
+HasNoSetup options =
+    (setup : SetupOptions) → HasSetupRanges setup → NamesSetup options setup → ⊥
+
+-- the setup where no option is given
+abbrev pub usual_setup : SetupOptions
+usual_setup = record {
+  depth = 3;
+  max_depth = 16;
+  lines = 1;
+  evaluation = Plain;
+}
+
+-- the sessions begin with a depth that they may search
+abbrev pub IsInReach : SetupOptions → Type 0
+IsInReach setup = setup.depth ≤ setup.max_depth
+
+-- they begin with a depth above the greatest
+abbrev pub IsTooDeep : SetupOptions → Type 0
+IsTooDeep setup = setup.max_depth < setup.depth

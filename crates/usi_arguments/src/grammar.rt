@@ -1,0 +1,304 @@
+//! The command line as `clap` is told it: the commands with their options.
+ghost use Rattle.std.specs.Prelude.{◌≡◌, codes, false, IfOk};
+ghost use Rattle.clap.specs.Words.{App, Rule, app_of, new_app, rule_of, with_rule, with_subcommand};
+ghost use Rattle.clap.specs.declared.builder.command.Command.TheViews.{out-Command as fields_of};
+ghost use Rattle.usi_arguments.specs.CommandLine.{IsMade, bare_line, command_line, depth_option, entries_option, eval_option, lines_option, max_depth_option, number_option, replay_command, serve_command, slice_option, slots_option, socket_command, socket_option, status_option, stdio_command, turns_option, value_option, with_host_options, with_setup_options};
+
+use crate::help::{
+    ABOUT, AFTER_HELP, AFTER_LONG_HELP, REPLAY_HELP, REPLAY_LONG_HELP, SERVE_HELP, SERVE_LONG_HELP,
+    STDIO_HELP, STDIO_LONG_HELP,
+};
+use crate::version::version_text;
+use clap::builder::ValueParser;
+use clap::{Arg, Command};
+use std::alloc::{AllocError, Global};
+
+/// The program with its three commands.
+pub(crate) fn command_line<'a>(alloc: Global) -> Result<Command<'a>, AllocError>
+    ensures { IfOk result (λ line. app_of line ≡ command_line) }
+{
+    let line = with_command(bare_line(alloc), stdio_command(alloc));
+    let line = with_command(line, replay_command(alloc));
+    with_command(line, serve_command(alloc))
+}
+
+/// The line with one command more, where both were made.
+fn with_command<'a>(
+    line: Result<Command<'a>, AllocError>,
+    command: Result<Command<'a>, AllocError>,
+) -> Result<Command<'a>, AllocError>
+    ensures { (whole part : App) → IfOk line.entry (λ line. app_of line ≡ whole)
+        → IsMade part command.entry
+        → IfOk result (λ made. app_of made ≡ with_subcommand whole part.top) }
+{
+    line?.subcommand(command?)
+}
+
+fn bare_line<'a>(alloc: Global) -> Result<Command<'a>, AllocError>
+    ensures { IfOk result (λ line. app_of line ≡ bare_line) }
+{
+    described(alloc, "usi_host", ABOUT, AFTER_HELP, AFTER_LONG_HELP)
+        .no_binary_name(true)
+        .version(version_text())
+        .bin_name("usi_host")
+}
+
+/// A command with the texts of its help.
+fn described<'a>(
+    alloc: Global,
+    name: &'a str,
+    about: &'a str,
+    after_help: &'a str,
+    after_long_help: &'a str,
+) -> Command<'a>
+    ensures app { app_of result ≡ new_app name.entry.now }
+    ensures local { (fields_of result).has_globals ≡ false }
+{
+    Command::new(alloc, name)
+        .about(about)
+        .after_help(after_help)
+        .after_long_help(after_long_help)
+}
+
+/// The command with one option more, where it was made.
+fn with_option<'a>(
+    made: Result<Command<'a>, AllocError>,
+    option: Arg<'a>,
+) -> Result<Command<'a>, AllocError>
+    requires { option.global ≡ false }
+    ensures { (app : App) (rule : Rule) → rule_of option.entry ≡ rule → IsMade app made.entry
+        → IsMade (with_rule app rule) result }
+{
+    made?.arg(option)
+}
+
+fn stdio_command<'a>(alloc: Global) -> Result<Command<'a>, AllocError>
+    ensures { IsMade stdio_command result }
+{
+    let command = described(
+        alloc,
+        "stdio",
+        "Answers one front end over standard input and output",
+        STDIO_HELP,
+        STDIO_LONG_HELP,
+    );
+    with_setup_options(alloc, with_option(Ok(command), entries_option(alloc)))
+}
+
+fn replay_command<'a>(alloc: Global) -> Result<Command<'a>, AllocError>
+    ensures { IsMade replay_command result }
+{
+    let command = described(
+        alloc,
+        "replay",
+        "Runs many sessions from one script on standard input",
+        REPLAY_HELP,
+        REPLAY_LONG_HELP,
+    );
+    with_setup_options(alloc, with_host_options(alloc, Ok(command)))
+}
+
+/// The command with the options of a host, where it was made.
+fn with_host_options<'a>(
+    alloc: Global,
+    made: Result<Command<'a>, AllocError>,
+) -> Result<Command<'a>, AllocError>
+    ensures { (app : App) → IsMade app made.entry → IsMade (with_host_options app) result }
+{
+    let made = with_option(made, slots_option(alloc));
+    let made = with_option(made, entries_option(alloc));
+    with_option(made, slice_option(alloc))
+}
+
+/// The command with the options of the setup, where it was made.
+fn with_setup_options<'a>(
+    alloc: Global,
+    made: Result<Command<'a>, AllocError>,
+) -> Result<Command<'a>, AllocError>
+    ensures { (app : App) → IsMade app made.entry → IsMade (with_setup_options app) result }
+{
+    let made = with_option(made, depth_option(alloc));
+    let made = with_option(made, max_depth_option(alloc));
+    let made = with_option(made, lines_option(alloc));
+    with_option(made, eval_option(alloc))
+}
+
+fn serve_command<'a>(alloc: Global) -> Result<Command<'a>, AllocError>
+    ensures { IsMade serve_command result }
+{
+    let made = with_host_options(alloc, socket_command(alloc));
+    let made = with_setup_options(alloc, made);
+    with_option(made, turns_option(alloc))
+}
+
+/// `serve` with the options that name its sockets.
+fn socket_command<'a>(alloc: Global) -> Result<Command<'a>, AllocError>
+    ensures { IsMade socket_command result }
+{
+    let command = described(
+        alloc,
+        "serve",
+        "Serves many front ends on a Unix socket, each with a session of its own",
+        SERVE_HELP,
+        SERVE_LONG_HELP,
+    );
+    let made = with_option(Ok(command), socket_option(alloc));
+    with_option(made, status_option(alloc))
+}
+
+fn socket_option<'a>(alloc: Global) -> Arg<'a>
+    ensures rule { rule_of result ≡ socket_option }
+    ensures local { result.global ≡ false }
+{
+    value_option(
+        alloc,
+        "socket",
+        "PATH",
+        "Where the socket is made: a path of 1 to 107 bytes, which must not exist",
+    )
+    .required(true)
+}
+
+fn status_option<'a>(alloc: Global) -> Arg<'a>
+    ensures rule { rule_of result ≡ status_option }
+    ensures local { result.global ≡ false }
+{
+    value_option(
+        alloc,
+        "status",
+        "PATH",
+        "Where a second socket is made, which tells the status: a path like that of --socket",
+    )
+}
+
+fn turns_option<'a>(alloc: Global) -> Arg<'a>
+    ensures rule { rule_of result ≡ turns_option }
+    ensures local { result.global ≡ false }
+{
+    number_option(
+        alloc,
+        "turns",
+        u64::MAX,
+        "18446744073709551615",
+        "After how many turns it ends, from 1 to 18446744073709551615",
+    )
+}
+
+fn slots_option<'a>(alloc: Global) -> Arg<'a>
+    ensures rule { rule_of result ≡ slots_option }
+    ensures local { result.global ≡ false }
+{
+    number_option(
+        alloc,
+        "slots",
+        1024,
+        "64",
+        "How many sessions may be open at a time, from 1 to 1024",
+    )
+}
+
+fn entries_option<'a>(alloc: Global) -> Arg<'a>
+    ensures rule { rule_of result ≡ entries_option }
+    ensures local { result.global ≡ false }
+{
+    number_option(
+        alloc,
+        "entries",
+        1_000_000,
+        "4096",
+        "How many positions the transposition table keeps, from 1 to 1000000",
+    )
+}
+
+fn slice_option<'a>(alloc: Global) -> Arg<'a>
+    ensures rule { rule_of result ≡ slice_option }
+    ensures local { result.global ≡ false }
+{
+    number_option(
+        alloc,
+        "slice",
+        1_000_000_000,
+        "500",
+        "How many steps a session searches before the others' turn, from 1 to 1000000000",
+    )
+}
+
+/// Without a default of `clap`: where it is left out, it depends on `--max-depth`.
+fn depth_option<'a>(alloc: Global) -> Arg<'a>
+    ensures rule { rule_of result ≡ depth_option }
+    ensures local { result.global ≡ false }
+{
+    value_option(
+        alloc,
+        "depth",
+        "N",
+        "The option Depth as a session begins, from 1 to 16 [default: 3, or --max-depth if less]",
+    )
+    .value_parser(ValueParser::unsigned(1, 16))
+}
+
+fn max_depth_option<'a>(alloc: Global) -> Arg<'a>
+    ensures rule { rule_of result ≡ max_depth_option }
+    ensures local { result.global ≡ false }
+{
+    number_option(
+        alloc,
+        "max-depth",
+        16,
+        "16",
+        "The greatest depth of a search, from 1 to 16: Depth and `go depth` are held to it",
+    )
+}
+
+fn lines_option<'a>(alloc: Global) -> Arg<'a>
+    ensures rule { rule_of result ≡ lines_option }
+    ensures local { result.global ≡ false }
+{
+    number_option(
+        alloc,
+        "lines",
+        8,
+        "1",
+        "The option MultiPV as a session begins, from 1 to 8",
+    )
+}
+
+fn eval_option<'a>(alloc: Global) -> Arg<'a>
+    ensures rule { rule_of result ≡ eval_option }
+    ensures local { result.global ≡ false }
+{
+    value_option(
+        alloc,
+        "eval",
+        "NAME",
+        "The option Eval as a session begins: plain, hand or exchange; Exchange is offered only so",
+    )
+    .default_value("plain")
+}
+
+/// The option of a number from 1 to `most`, which is `usual` where it is left out.
+fn number_option<'a>(
+    alloc: Global,
+    name: &'a str,
+    most: u64,
+    usual: &'a str,
+    help: &'a str,
+) -> Arg<'a>
+    ensures rule { rule_of result ≡ number_option name.entry.now most usual.entry.now }
+    ensures local { result.global ≡ false }
+{
+    value_option(alloc, name, "N", help)
+        .value_parser(ValueParser::unsigned(1, most))
+        .default_value(usual)
+}
+
+/// The option of a value, which help calls `value`.
+fn value_option<'a>(alloc: Global, name: &'a str, value: &'a str, help: &'a str) -> Arg<'a>
+    ensures rule { rule_of result ≡ value_option name.entry.now }
+    ensures local { result.global ≡ false }
+{
+    Arg::new(alloc, name)
+        .long(name)
+        .value_name(value)
+        .help(help)
+}

@@ -1,0 +1,80 @@
+//! The texts of help.
+
+pub(crate) const ABOUT: &str =
+    "Analyses shogi positions to an exact depth, for front ends that speak USI";
+
+pub(crate) const AFTER_HELP: &str =
+    "Without arguments it runs `stdio`, as front ends start an engine.
+`usi_host COMMAND --help` shows the options of a command, with their ranges.";
+
+pub(crate) const AFTER_LONG_HELP: &str =
+    "Without arguments it runs `stdio`, as front ends start an engine.
+`usi_host COMMAND --help` shows the options of a command, with their ranges.
+
+Exit statuses:
+  0  the input ended, the session is over, the script was replayed, the last turn was taken,
+     or help or the version was asked for
+  1  out of memory, a failed read or write, or a socket that could not be made or waited for;
+     standard error says which
+  2  the arguments are not accepted; standard error says why
+  3  a script has a bad line; standard error gives its number
+
+Examples:
+  usi_host
+  usi_host stdio --entries 100000
+  usi_host stdio --eval exchange --depth 6
+  printf 'position startpos\\ngo depth 3\\nquit\\n' | usi_host
+  printf '+A\\n+B\\nA go depth 1\\nB usi\\n' | usi_host replay --slots 2
+  usi_host serve --socket /tmp/shogi.socket";
+
+pub(crate) const STDIO_HELP: &str = "It ends with `quit`, or when its input ends.";
+
+pub(crate) const STDIO_LONG_HELP: &str = "It ends with `quit`, or when its input ends.
+
+Exit statuses:
+  0  the session is over
+  1  out of memory, or a failed read or write; standard error says which
+
+Examples:
+  usi_host stdio --entries 100000
+  usi_host stdio --eval exchange --depth 6";
+
+pub(crate) const REPLAY_HELP: &str = "`usi_host replay --help` describes the lines of a script.";
+
+pub(crate) const REPLAY_LONG_HELP: &str = "Lines of a script:
+  +A      opens a session under the name A, a letter from A to Z
+  A TEXT  sends the line TEXT to the session A
+  -A      closes the session A once it has answered, and frees the name
+Blank lines are skipped. Any other line is bad, and so is a name that is opened twice, or used
+while it is not open: nothing is written then, and the status is 3.
+
+The output has for each + line, in order, the line `== A` and all replies of that session, or
+`refused 1` where all slots were taken. The size of the table and of a slice does not change it.
+
+Exit statuses:
+  0  the script was replayed
+  1  out of memory, or a failed read or write; standard error says which
+  3  the script has a bad line; standard error gives its number
+
+Example:
+  printf '+A\\n+B\\nA go depth 1\\nB usi\\n' | usi_host replay --slots 2";
+
+pub(crate) const SERVE_HELP: &str = "Each connection is a session of its own.";
+
+pub(crate) const SERVE_LONG_HELP: &str =
+    "Each connection is a session of its own. It ends when the client sends `quit`, or when the
+client closes its side and has its answers. A client that finds all slots taken is sent
+`info string host full`. The file of a socket stays when the program ends.
+Whoever connects to the socket of --status is sent one line of JSON, with what the host counts, and
+is closed.
+A search is not cut short: where strangers may connect, --max-depth says how deep one goes at most.
+An idle host does not end by --turns: each turn is followed by a wait, which may last until a
+client comes.
+
+Exit statuses:
+  0  the last turn was taken
+  1  out of memory, no random seed could be read, or the socket could not be made or waited
+     for; standard error says which
+
+Example:
+  usi_host serve --socket /tmp/shogi.socket --status /tmp/shogi.status --slots 256";
