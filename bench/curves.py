@@ -1,7 +1,7 @@
 #!/usr/bin/env python3
 """Measures three positions with `measure`: the time of a search against its depth, and the steps of a
 search against the size of its table. Writes their part of docs/BENCHMARKS.md and the plots. The program
-`measure` has to be built: bench/run.sh does that."""
+`measure` has to be built: bench/rates.sh does that."""
 
 import os
 import subprocess
