@@ -38,9 +38,9 @@ def uses():
 
 
 def pages():
-    """Each page of the top, of docs/ and of a crate."""
+    """Each page of the top, of docs/ with its notes, and of a crate."""
     crates = [os.path.join(CRATES, name) for name in sorted(os.listdir(CRATES))]
-    for folder in [TOP, os.path.join(TOP, "docs"), *crates]:
+    for folder in [TOP, os.path.join(TOP, "docs"), os.path.join(TOP, "docs", "notes"), *crates]:
         for name in sorted(os.listdir(folder)):
             if name.endswith(".md"):
                 yield os.path.join(folder, name)
