@@ -61,7 +61,7 @@ test:
 # Prints how fast moves are counted, positions searched, and `go` answered by the program, alone and as a
 # host on a socket. Writes docs/BENCHMARKS.md with its plots.
 bench:
-	bench/run.sh
+	bench/rates.sh
 	bench/go.py
 	bench/curves.py
 	bench/multipv.py

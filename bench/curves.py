@@ -1,7 +1,7 @@
 #!/usr/bin/env python3
 """Measures three positions with `measure`: the time of a search against its depth, and the steps of a
 search against the size of its table. Writes their part of docs/BENCHMARKS.md and the plots. The program
-`measure` has to be built: bench/run.sh does that."""
+`measure` has to be built: bench/rates.sh does that."""
 
 import os
 import subprocess
@@ -39,6 +39,13 @@ def searches(requests):
     return found
 
 
+def by_position(first, rows):
+    """A table of a row for each depth or size, with the steps and, in brackets, the milliseconds of each position."""
+    cells = {(name, n): f"{steps:,} ({ms:.2f})" for name, its in rows.items() for n, steps, ms in its}
+    sizes = sorted({n for _, n in cells})
+    return table([first, *rows], [[f"{n:,}", *(cells.get((name, n), "-") for name in rows)] for n in sizes])
+
+
 def main():
     depths = {name: range(1, DEPTHS[name] + 1) for name in POSITIONS}
     found = searches(
@@ -63,19 +70,9 @@ def main():
         {name: [(n, steps) for n, steps, _ in rows] for name, rows in tables.items()},
         TABLES,
     )
-    by_depth = [
-        [name, str(d), f"{steps:,}", f"{ms:.2f}", f"{steps / ms / 1000:.2f}" if ms >= 0.5 else "-"]
-        for name, rows in times.items()
-        for d, steps, ms in rows
-    ]
-    by_table = [
-        [name, f"{n:,}", f"{steps:,}", f"{ms:.2f}", f"{steps / ms / 1000:.2f}" if ms >= 0.5 else "-"]
-        for name, rows in tables.items()
-        for n, steps, ms in rows
-    ]
     put("machine", f"The machine of the last run: {machine()}.")
-    put("time", table(["Position", "Depth", "Steps", "Milliseconds", "Million steps a second"], by_depth))
-    put("steps", table(["Position", "Entries", "Steps", "Milliseconds", "Million steps a second"], by_table))
+    put("time", by_position("Depth", times))
+    put("steps", by_position("Entries", tables))
 
 
 if __name__ == "__main__":

@@ -1,8 +1,9 @@
 #!/usr/bin/env bash
 # The gate. First what the READMEs show, and `rt ci`: every proof, each edit that must be refused, each
 # test, each program; what an earlier run passed on this machine is kept there by checksums. Then the
-# program and the library for C are built and used as their users do. At the end, or where it is cut
-# off, it tells what it cost, and shows again what failed. The last line counts all of it.
+# program and the library for C are built and used as their users do, and the benchmark is laid over
+# earlier commits. At the end, or where it is cut off, it tells what it cost, and shows again what
+# failed. The last line counts all of it.
 set -uo pipefail
 cd "$(dirname "$0")/.."
 log=$(mktemp)
@@ -20,6 +21,7 @@ if [ $status -eq 0 ]; then
         check/serve.py | tee -a "$log" || status=1
         check/examples.py | tee -a "$log" || status=1
         check/library.py | tee -a "$log" || status=1
+        check/old.py | tee -a "$log" || status=1
     else
         echo '0 passed, 1 failed' | tee -a "$log"
         status=1

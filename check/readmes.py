@@ -1,14 +1,18 @@
 #!/usr/bin/env python3
 """Looks whether the README of each library crate shows its uses as they stand in `crates/examples`, where
-they are proved and run: everything from the first `use` of a file on. With `--write` it puts it there. Then
-looks whether README.md names the toolchain as `rt version` does, the command that runs the program and the
-one that tests it, and whether each link of a page leads to a file and a heading that are there. Its last
-line is `N passed, M failed`."""
+they are proved and run: everything from the first `use` of a file on; whether docs/DEFINITIONS.md has the
+tables of `check/definitions.py`; and whether docs/PROOFS.md counts definitions as `check/trusted.py` does.
+With `--write` it puts all of these there. Then looks whether README.md names the toolchain as `rt version`
+does, the command that runs the program and the one that tests it, and whether each link of a page leads to a
+file and a heading that are there. Its last line is `N passed, M failed`."""
 
 import os
 import re
 import subprocess
 import sys
+
+from definitions import PAGE, page_with, tables
+from trusted import counts
 
 TOP = os.path.dirname(os.path.dirname(os.path.abspath(__file__)))
 CRATES = os.path.join(TOP, "crates")
@@ -19,6 +23,9 @@ GOALS = ("run", "test")
 BLOCK = re.compile(r"```rust\n.*?```\n", re.S)
 ANY_BLOCK = re.compile(r"```.*?```", re.S)
 LINK = re.compile(r"\]\(([^)\s]+)\)")
+PROOFS = os.path.join(TOP, "docs", "PROOFS.md")
+# What docs/PROOFS.md says of the definitions that are to be trusted.
+COUNTED = re.compile(r"[\d,]+ definitions, [\d,]+ lines of `specs/`; [\d,]+ of them, [\d,]+ lines, define the replies")
 
 
 def read(path):
@@ -38,9 +45,9 @@ def uses():
 
 
 def pages():
-    """Each page of the top, of docs/ and of a crate."""
+    """Each page of the top, of docs/ with its notes, and of a crate."""
     crates = [os.path.join(CRATES, name) for name in sorted(os.listdir(CRATES))]
-    for folder in [TOP, os.path.join(TOP, "docs"), *crates]:
+    for folder in [TOP, os.path.join(TOP, "docs"), os.path.join(TOP, "docs", "notes"), *crates]:
         for name in sorted(os.listdir(folder)):
             if name.endswith(".md"):
                 yield os.path.join(folder, name)
@@ -61,18 +68,40 @@ def leads_nowhere(page, link):
     return not os.path.exists(target) or (anchor != "" and anchor not in anchors(target))
 
 
+def counted():
+    """docs/PROOFS.md, and the same with the counts of now."""
+    was = read(PROOFS)
+    (all_of_it, lines), (replies, lines_of_replies) = counts()
+    says = (
+        f"{all_of_it:,} definitions, {lines:,} lines of `specs/`; "
+        f"{replies:,} of them, {lines_of_replies:,} lines, define the replies"
+    )
+    return was, COUNTED.sub(says, was) if COUNTED.search(was) else None
+
+
+def is_kept(path, was, wanted):
+    """Whether the page is as it is wanted; with `--write` it is made so."""
+    if wanted is not None and was != wanted and "--write" in sys.argv[1:]:
+        with open(path, "w", encoding="utf-8") as page:
+            page.write(wanted)
+        return True
+    return was == wanted
+
+
 def main():
     passed = failed = 0
+    for path, (was, wanted) in ((PAGE, page_with(tables())), (PROOFS, counted())):
+        if is_kept(path, was, wanted):
+            passed += 1
+        else:
+            failed += 1
+            print(f"{os.path.relpath(path, TOP)} is not as the definitions are: check/readmes.py --write")
     for crate, its in uses():
         path = os.path.join(CRATES, crate, "README.md")
         text = read(path)
         rest = iter(its)
         wanted = BLOCK.sub(lambda _: f"```rust\n{next(rest)}```\n", text, count=len(its))
-        if "--write" in sys.argv[1:] and text != wanted:
-            with open(path, "w", encoding="utf-8") as page:
-                page.write(wanted)
-            text = wanted
-        if text == wanted and len(BLOCK.findall(text)) >= len(its):
+        if is_kept(path, text, wanted) and len(BLOCK.findall(wanted)) >= len(its):
             passed += 1
         else:
             failed += 1

@@ -10,6 +10,7 @@ import sys
 
 TOP = os.path.dirname(os.path.dirname(os.path.abspath(__file__)))
 HEADLINE = ("host_core.Headline.PrefixOfReplies", "host_core.Headline.AllReplies")
+REPLIES = ("usi_session.WholeStream.replies",)
 BEGINS = re.compile(r"(?:(?:unfoldable|abbrev|data|record|codata|pub|inline)\s+)+«?([^\s({:»]+)")
 IMPORT = re.compile(r"^use Rattle\.(\w+)\.specs\.([\w.]+)\.\{(.*)\}$")
 WORD = re.compile(r"[\w◌⊤⊥≡≤<>+*/^∷%&|=-]+")
@@ -50,19 +51,38 @@ def trusted(wanted, found, names):
     return seen
 
 
-def main():
+def all_definitions():
+    """The definitions of all modules, and where the names come from that each module uses."""
     found, names = {}, {}
     for path in glob.glob(f"{TOP}/crates/*/specs/**/*.antt", recursive=True):
         crate, _, inside = os.path.relpath(path, f"{TOP}/crates").partition("/specs/")
         read(path, crate, inside.removesuffix(".antt").replace("/", "."), found, names)
+    return found, names
+
+
+def stood_on(words, found, names):
+    """The definitions that these names stand on."""
     wanted = []
-    for name in sys.argv[1:] or HEADLINE:
+    for name in words:
         crate, _, rest = name.partition(".")
         module, _, word = rest.rpartition(".")
         if (crate, module, word) not in found:
             sys.exit(f"There is no definition {name}.")
         wanted.append((crate, module, word))
-    seen = trusted(wanted, found, names)
+    return trusted(wanted, found, names)
+
+
+def counts():
+    """How many definitions the headline stands on and how many lines they have, and the same of the replies."""
+    found, names = all_definitions()
+    for words in (HEADLINE, REPLIES):
+        seen = stood_on(words, found, names)
+        yield len(seen), sum(len(found[it]) for it in seen)
+
+
+def main():
+    found, names = all_definitions()
+    seen = stood_on(sys.argv[1:] or HEADLINE, found, names)
     by_module = {}
     for one in seen:
         by_module.setdefault(one[:2], []).append(one)

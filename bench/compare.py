@@ -1,7 +1,8 @@
 #!/usr/bin/env python3
-"""bench/run OLD NEW [SEED] [TURNS]: times the workloads of bench/workloads.txt by turns in two built
+"""bench/compare.py OLD NEW [SEED] [TURNS]: times the workloads of bench/workloads.txt by turns in two built
 checkouts, and prints a row for each: the medians in seconds, and the first over the second. It stops
-where their outputs differ. Without a SEED it is 1; without TURNS there are seven."""
+where their outputs differ. Without a SEED it is 1; without TURNS there are seven. The status is 2 for an
+argument that is not accepted."""
 
 import os
 import statistics
@@ -33,12 +34,33 @@ def run(checkout, crate, words, given):
         return time.perf_counter() - start, done.stdout
 
 
+def refuse(why):
+    print(f"bench/compare.py: {why}", file=sys.stderr)
+    sys.exit(2)
+
+
+def number(word, what):
+    """A number from 1 to a billion."""
+    if not word.isascii() or not word.isdigit() or not 1 <= int(word) <= 1_000_000_000:
+        refuse(f"{word} is no {what}, a number from 1 to 1000000000")
+    return int(word)
+
+
+def built(word):
+    """A checkout that has each program of the workloads."""
+    for _, crate, _, _ in workloads("1"):
+        if not os.path.exists(os.path.join(word, "crates", crate, "out", crate)):
+            refuse(f"{word} has no built program {crate}")
+    return os.path.abspath(word)
+
+
 def main():
     if len(sys.argv) not in (3, 4, 5):
-        sys.exit(__doc__)
-    checkouts = [os.path.abspath(word) for word in sys.argv[1:3]]
-    seed = sys.argv[3] if len(sys.argv) > 3 else "1"
-    turns = int(sys.argv[4]) if len(sys.argv) > 4 else 7
+        print(__doc__, file=sys.stderr)
+        sys.exit(2)
+    checkouts = [built(word) for word in sys.argv[1:3]]
+    seed = str(number(sys.argv[3], "SEED")) if len(sys.argv) > 3 else "1"
+    turns = number(sys.argv[4], "number of TURNS") if len(sys.argv) > 4 else 7
     print("| workload | seconds in OLD | seconds in NEW | OLD over NEW |\n|---|---|---|---|")
     for name, crate, words, given in workloads(seed):
         seconds, outputs = ([], []), set()
