@@ -1,15 +1,22 @@
-use Rattle.std.proofs.Common.{rules, refl, take}
+use Rattle.std.proofs.Common.{◌≡◌, Some, rules, refl, sym, take}
 use Rattle.session_slots.specs.Slots.{find, with_session}
 use Rattle.host_core.specs.ById.{queued_of}
 use Rattle.host_core.specs.Events.{Take, Gave}
-use Rattle.host_core.specs.Seen.{passed_from}
+use Rattle.host_core.specs.Seen.{passed_from, passed_of}
+use Rattle.host_core.specs.Sessions.{Takes}
 use Rattle.host_core.specs.Steps.{HostState}
+use Rattle.host_core.proofs.Found.{on_found}
 use Rattle.host_core.proofs.Kept.{keeps_others, refused_call}
 use Rattle.host_core.proofs.Still.{still_written}
 use Rattle.host_core.proofs.host.Host.pass.Goals as goal
 
 pub returns-clause-taken : goal.returns-clause-taken
-returns-clause-taken g c = search rules
+returns-clause-taken g c =
+    let is : find c.self.inside.slots c.args.id ≡ Some c.in-Some.session.now = sym c.in-Some.ensures.value in
+    let old : HostState = record { setup = c.self.inside.setup; table = c.self.inside.table; slots = c.self.inside.slots } in
+    let went : Takes c.args.n c.in-Some.session.now (passed_of (take c.args.n (queued_of (find c.self.inside.slots c.args.id))) c.pass-passed.result) c.pass-passed.new.session = rw is c.pass-passed.ensures.taken in
+    rw (← c.self.view_is)
+    (on_found (Takes c.args.n) old c.self.inside.table c.args.id c.in-Some.session.now c.pass-passed.new.session (passed_from old c.args.id c.args.n c.pass-passed.result) is went, refl)
 
 pub returns-clause-below : goal.returns-clause-below
 returns-clause-below g c = rw (← c.self.view_is) c.validity.ensures.below
