@@ -11,6 +11,8 @@ mod comparison;
 #[cfg(test)]
 mod evaluation;
 #[cfg(test)]
+mod exchanges;
+#[cfg(test)]
 mod legal_moves;
 #[cfg(test)]
 mod passes;
