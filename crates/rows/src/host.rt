@@ -15,11 +15,7 @@ const EVENTS: u64 = 4000;
 
 type Server = OpaqueHost<Global>;
 
-fn server_of(
-    (alloc, setup): Place,
-    slots: usize,
-    entries: usize,
-) -> Result<Server, AllocError> {
+fn server_of((alloc, setup): Place, slots: usize, entries: usize) -> Result<Server, AllocError> {
     OpaqueHost::with_setup(alloc, setup, slots, entries).map_err(|_| AllocError)
 }
 

@@ -93,13 +93,7 @@ fn run_streams(at: Place, row: &Row, found: &mut Found) {
 }
 
 /// The row in slices of this budget. Gives the steps that were made.
-fn run_slices<M: Memo>(
-    at: Place,
-    memo: &mut M,
-    row: &Row,
-    budget: u64,
-    found: &mut Found,
-) -> u64 {
+fn run_slices<M: Memo>(at: Place, memo: &mut M, row: &Row, budget: u64, found: &mut Found) -> u64 {
     let mut talk = Talk::new(at);
     talk.feed(row.sent.as_bytes());
     talk.work_off(memo, budget);

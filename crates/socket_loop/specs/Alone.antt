@@ -33,8 +33,10 @@ IsGiven setup input left old new s bytes = (input ≡ Some bytes) ⊎ (s.read �
 -- a connection that was accepted and was undisturbed is written what `stdio` writes for the same bytes under the setup of the host
 abbrev pub AnswersAsAlone : Type 0
 AnswersAsAlone =
-    (before after : Scene) (link : Link) (a : IsAnswered (new_duty before.host.setup) before after link)
+    (before after : Scene) (link : Link)
+    (a : IsAnswered (new_duty before.host.setup) before after link)
     → IsUndisturbed (new_duty before.host.setup) before after link a
     → (input left old new : Option (List ℕ))
     (s : stdio.IsAnswered before.host.setup input left old new)
-    → IsGiven before.host.setup input left old new s a.served.read → Appends old new a.served.written
+    → IsGiven before.host.setup input left old new s a.served.read
+    → Appends old new a.served.written

@@ -37,11 +37,7 @@ fn put_two<A: Allocator>(
 }
 
 /// Appends a text, a word and the quotation mark that ends it.
-fn put_text<A: Allocator>(
-    out: &mut Vec<u8, A>,
-    text: &[u8],
-    word: &[u8],
-) -> Result<(), AllocError>
+fn put_text<A: Allocator>(out: &mut Vec<u8, A>, text: &[u8], word: &[u8]) -> Result<(), AllocError>
     ensures { OnOk result (out.new.items ≡ out.old.items ++ text.now ++ word.now ++ codes "\"") }
 {
     out.extend_from_slice(text)?;

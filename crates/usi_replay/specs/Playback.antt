@@ -57,11 +57,14 @@ Owes setup (Some s) made text = (x : List ℕ) → made ++ due s x ≡ replies_u
 -- what was made: nothing without a session, all where it is closed, and all but what is owed where it is open
 abbrev pub HasMade : Setup → HostState → Option SessionId → Bool → Bool → List ℕ → List ℕ → Type 0
 HasMade setup h None used refused text made = refused ≡ true
-HasMade setup h (Some id) true refused text made = (refused ≡ false) × Owes setup (find h.slots id) made text
-HasMade setup h (Some id) false refused text made = (refused ≡ false) × (made ≡ replies_under setup text)
+HasMade setup h (Some id) true refused text made =
+    (refused ≡ false) × Owes setup (find h.slots id) made text
+HasMade setup h (Some id) false refused text made =
+    (refused ≡ false) × (made ≡ replies_under setup text)
 
 -- it is of this `+` line
-pub record IsTranscriptOf (setup : Setup) (h : HostState) (o : Opening) (t : Transcript) : Type 0 where
+pub record IsTranscriptOf (setup : Setup) (h : HostState) (o : Opening) (t : Transcript)
+    : Type 0 where
   pub name_is : t.name ≡ o.name
   pub used_is : t.in_use ≡ o.in_use
   pub made_is : HasMade setup h t.id t.in_use o.refused o.text t.made
@@ -81,7 +84,8 @@ AreTranscripts setup h low [] [] = low ≤ h.slots.next
 AreTranscripts setup h low [] (t ∷ ts) = ⊥
 AreTranscripts setup h low (o ∷ os) [] = ⊥
 AreTranscripts setup h low (o ∷ os) (t ∷ ts) =
-    IsTranscriptOf setup h o t × IsAbove low t.id × AreTranscripts setup h (floor_after low t.id) os ts
+    IsTranscriptOf setup h o t × IsAbove low t.id
+    × AreTranscripts setup h (floor_after low t.id) os ts
 
 -- these `+` lines were replayed over a host of so many slots under this setup
 pub record IsPlayback (setup : Setup) (slots : ℕ) (h : HostState) (os : List Opening)
@@ -95,7 +99,8 @@ pub record IsPlayback (setup : Setup) (slots : ℕ) (h : HostState) (os : List O
 -- it continues without a further line
 abbrev pub KeepsPlayback : Play → Play → Type 0
 KeepsPlayback old new =
-    (setup : Setup) (slots : ℕ) (os : List Opening) → IsPlayback setup slots old.host os old.transcripts
+    (setup : Setup) (slots : ℕ) (os : List Opening)
+    → IsPlayback setup slots old.host os old.transcripts
     → IsPlayback setup slots new.host os new.transcripts
 
 -- the `+` line of this place has its name in use
@@ -113,7 +118,8 @@ with_more chunk o = record o { text = o.text ++ chunk }
 -- bytes were sent to the `+` line of this place
 abbrev pub IsSent : Play → Play → ℕ → List ℕ → Type 0
 IsSent old new i chunk =
-    (setup : Setup) (slots : ℕ) (os : List Opening) → IsPlayback setup slots old.host os old.transcripts
+    (setup : Setup) (slots : ℕ) (os : List Opening)
+    → IsPlayback setup slots old.host os old.transcripts
     → IsPlayback setup slots new.host (set os i (with_more chunk (get_or os i no_opening)))
     new.transcripts
 
@@ -128,27 +134,31 @@ HasAllReplies setup o t = t.made ≡ replies_under setup o.text
 -- all that the session of this place replies is kept, while it is open
 abbrev pub CollectsAll : Play → Play → ℕ → Type 0
 CollectsAll old new i =
-    (setup : Setup) (slots : ℕ) (os : List Opening) → IsPlayback setup slots old.host os old.transcripts
+    (setup : Setup) (slots : ℕ) (os : List Opening)
+    → IsPlayback setup slots old.host os old.transcripts
     → open_id (get_or new.transcripts i no_transcript) ≢ None
     → HasAllReplies setup (get_or os i no_opening) (get_or new.transcripts i no_transcript)
 
 -- the name of the `+` line of this place is free
 abbrev pub IsClosedAt : Play → Play → ℕ → Type 0
 IsClosedAt old new i =
-    (setup : Setup) (slots : ℕ) (os : List Opening) → IsPlayback setup slots old.host os old.transcripts
+    (setup : Setup) (slots : ℕ) (os : List Opening)
+    → IsPlayback setup slots old.host os old.transcripts
     → IsPlayback setup slots new.host (set os i (closed_opening (get_or os i no_opening)))
     new.transcripts
 
 -- one `+` line more
 abbrev pub IsOpenedUnder : Play → Play → ℕ → Type 0
 IsOpenedUnder old new name =
-    (setup : Setup) (slots : ℕ) (os : List Opening) → IsPlayback setup slots old.host os old.transcripts
+    (setup : Setup) (slots : ℕ) (os : List Opening)
+    → IsPlayback setup slots old.host os old.transcripts
     → IsPlayback setup slots new.host (os ++ new_opening slots name os ∷ []) new.transcripts
 
 -- the output of the `+` lines
 abbrev pub IsWhole : Play → List ℕ → Type 0
 IsWhole p out =
-    (setup : Setup) (slots : ℕ) (os : List Opening) → IsPlayback setup slots p.host os p.transcripts → out ≡ output setup os
+    (setup : Setup) (slots : ℕ) (os : List Opening)
+    → IsPlayback setup slots p.host os p.transcripts → out ≡ output setup os
 
 -- what is written for it
 abbrev pub transcript_section : Transcript → List ℕ
@@ -156,8 +166,8 @@ transcript_section t =
     codes "== " ++ (t.name ∷ LINE_FEED ∷ cond (is_some t.id) t.made (codes "refused 1\n"))
 
 -- a script was replayed up to here: so many lines were read, and the rest is left
-pub record IsReadTo (setup : Setup) (slots : ℕ) (h : HostState) (ts : List Transcript) (bytes : List ℕ)
-    (number : ℕ) (rest : List ℕ) : Type 0 where
+pub record IsReadTo (setup : Setup) (slots : ℕ) (h : HostState) (ts : List Transcript)
+    (bytes : List ℕ) (number : ℕ) (rest : List ℕ) : Type 0 where
   pub openings : List Opening
   pub play : IsPlayback setup slots h openings ts
   pub comes : read_script slots bytes ≡ read_from slots (number + 1) (lines rest) openings

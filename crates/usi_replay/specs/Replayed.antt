@@ -23,13 +23,15 @@ pub record IsScript (slots : ℕ) (before after : Option (List ℕ))
   pub comes_to : read_script slots bytes ≡ comes
 
 -- the script's output under a setup was written
-pub record IsReplayed (setup : Setup) (slots : ℕ) (before after old new : Option (List ℕ)) : Type 0 where
+pub record IsReplayed (setup : Setup) (slots : ℕ) (before after old new : Option (List ℕ))
+    : Type 0 where
   pub openings : List Opening
   pub read : IsScript slots before after (Ok openings)
   pub written : Appends old new (output setup openings)
 
 -- a prefix of it was written
-pub record IsReplayedInPart (setup : Setup) (slots : ℕ) (before after old new : Option (List ℕ)) : Type 0 where
+pub record IsReplayedInPart (setup : Setup) (slots : ℕ) (before after old new : Option (List ℕ))
+    : Type 0 where
   pub openings : List Opening
   pub read : IsScript slots before after (Ok openings)
   pub written : TakesPrefix old new (output setup openings)
@@ -40,11 +42,12 @@ pub record IsBadAt (slots : ℕ) (before after old new : Option (List ℕ)) (lin
   pub written : Keeps old new
 
 -- what a fault leaves: only a write that failed leaves anything written
-abbrev pub IsFault : Setup → ℕ → Option (List ℕ) → Option (List ℕ) → Option (List ℕ) → Option (List ℕ)
-    → ReplayFault → Type 0
+abbrev pub IsFault : Setup → ℕ → Option (List ℕ) → Option (List ℕ) → Option (List ℕ)
+    → Option (List ℕ) → ReplayFault → Type 0
 IsFault setup slots before after old new OutOfMemory = Keeps old new
 IsFault setup slots before after old new ReadFailed = Keeps old new
-IsFault setup slots before after old new WriteFailed = IsReplayedInPart setup slots before after old new
+IsFault setup slots before after old new WriteFailed =
+    IsReplayedInPart setup slots before after old new
 IsFault setup slots before after old new (BadScript line) = IsBadAt slots before after old new line
 
 -- a fault of the reading alone
@@ -93,4 +96,5 @@ pub record FlushesAll (old new : Report) : Type 0 where
 
 -- what a fault leaves: only a write that failed leaves anything written
 abbrev pub Leaves : Setup → ℕ → Report → Report → ReplayFault → Type 0
-Leaves setup slots old new fault = IsFault setup slots old.unread new.unread old.written new.written fault
+Leaves setup slots old new fault =
+    IsFault setup slots old.unread new.unread old.written new.written fault
