@@ -47,7 +47,7 @@ pub writes_end : (old now : HostState) (es fs : List Transcript) (i : ℕ) (out 
 writes_end old now es fs i out w le setup slots os p =
     let q = w setup slots os p in
     let n : length os ≡ length fs = transcripts_len setup now 0 os fs q.0.transcripts in
-    sym (append-nil out) ∙ (ap (λ (rest : List Opening). out ++ output rest) (sym (drop_all i os (omega arith))) ∙ q.1)
+    sym (append-nil out) ∙ (ap (λ (rest : List Opening). out ++ output setup rest) (sym (drop_all i os (omega arith))) ∙ q.1)
 
 -- a script before its first line
 pub read_start : (setup : Setup) (slots entries : ℕ) (bytes : List ℕ) (h : HostState) → h ≡ new_host_under setup slots entries → IsReadTo setup slots h [] bytes 0 bytes

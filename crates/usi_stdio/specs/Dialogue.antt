@@ -56,8 +56,10 @@ IsSettled setup talk = (talk.written ≡ replies_under setup talk.read) × (talk
 
 -- nothing is read before all is settled, nor once the session is over
 abbrev pub MayFollow : Setup → Talk → Call → Type 0
-MayFollow setup talk (Read bytes) = IsSettled setup talk × (is_over_after_under setup talk.read ≡ false)
-MayFollow setup talk FailedRead = IsSettled setup talk × (is_over_after_under setup talk.read ≡ false)
+MayFollow setup talk (Read bytes) =
+    IsSettled setup talk × (is_over_after_under setup talk.read ≡ false)
+MayFollow setup talk FailedRead =
+    IsSettled setup talk × (is_over_after_under setup talk.read ≡ false)
 MayFollow setup talk (Write bytes) = Unit {0}
 MayFollow setup talk FailedWrite = Unit {0}
 MayFollow setup talk Flush = Unit {0}
@@ -73,7 +75,8 @@ IsDialogue setup talk (call ∷ rest) =
 abbrev pub EndsAs : Setup → Talk → Result (Unit {0}) StdioFault → Type 0
 EndsAs setup talk (Ok done) =
     IsSettled setup talk
-    × ((talk.outcome ≡ Some (Ok tt)) ⊎ ((talk.outcome ≡ None) × (is_over_after_under setup talk.read ≡ true)))
+    × ((talk.outcome ≡ Some (Ok tt))
+    ⊎ ((talk.outcome ≡ None) × (is_over_after_under setup talk.read ≡ true)))
 EndsAs setup talk (Err fault.OutOfMemory) = talk.outcome ≡ None
 EndsAs setup talk (Err fault.WriteFailed) = talk.outcome ≡ Some (Err fault.WriteFailed)
 EndsAs setup talk (Err fault.ReadFailed) =
@@ -85,8 +88,8 @@ abbrev pub IsFront : Setup → Talk → Type 0
 IsFront setup talk = (left : List ℕ) × (replies_under setup talk.read ≡ talk.written ++ left)
 
 -- where calls are reported, the run is a dialogue that ends with this result
-pub record Talks (setup : Setup) (old new : Option (List Call)) (result : Result (Unit {0}) StdioFault)
-    : Type 0 where
+pub record Talks (setup : Setup) (old new : Option (List Call))
+    (result : Result (Unit {0}) StdioFault) : Type 0 where
   pub calls : List Call
   pub called : Makes old new calls
   pub dialogue : IsDialogue setup no_call calls

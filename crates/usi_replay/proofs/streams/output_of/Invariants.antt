@@ -4,7 +4,7 @@ use Rattle.usi_replay.proofs.streams.output_of.Given as goal
 
 abbrev pub invariant-lines : goal.invariant-lines
 invariant-lines g l = record {
-  read : IsReadTo l.setup l.slots l.playback.host l.playback.transcripts.items l.script l.number l.rest;
+  read : IsReadTo l.fn.setup l.slots l.playback.host l.playback.transcripts.items l.script l.number l.rest;
   few : l.number + length l.rest ≤ length l.script;
   slice : l.playback.slice ≡ l.slice;
 }

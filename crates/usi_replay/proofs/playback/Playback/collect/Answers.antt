@@ -14,7 +14,7 @@ pub returns-clause-all : goal.returns-clause-all
 returns-clause-all g c = λ setup slots os p some.
     let l : open_id c.index.result.now ≡ Some c.in-Some.id = search rules in
     let t = taken_at c.args.self.now.host c.settle.new.host c.take_output.new.host c.in-Some.id c.args.self.now.transcripts.items c.args.place c.index.result.now c.index_mut.result.now c.take_output.new.transcript c.requires.within c.index.ensures c.index_mut.ensures.value l c.in_ok-settle.ensures.due c.in_ok-settle.ensures.settled c.in_ok-take_output.ensures.others c.in_ok-take_output.ensures.collected c.in_ok-take_output.ensures.rest in
-    let all : HasAllReplies (get_or os c.args.place no_opening) c.take_output.new.transcript = taken_all c.args.self.now.host c.settle.new.host c.take_output.new.host c.in-Some.id (get_or os c.args.place no_opening) (get_or c.args.self.now.transcripts.items c.args.place no_transcript) c.take_output.new.transcript t (transcripts_get setup c.args.self.now.host 0 os c.args.self.now.transcripts.items c.args.place p.transcripts c.requires.within) in
+    let all : HasAllReplies setup (get_or os c.args.place no_opening) c.take_output.new.transcript = taken_all c.args.self.now.host c.settle.new.host c.take_output.new.host c.in-Some.id (get_or os c.args.place no_opening) (get_or c.args.self.now.transcripts.items c.args.place no_transcript) c.take_output.new.transcript t (transcripts_get setup c.args.self.now.host 0 os c.args.self.now.transcripts.items c.args.place p.transcripts c.requires.within) in
     ap (λ (k : Transcript). k.made) (get_or-set_same c.args.self.now.transcripts.items c.args.place c.take_output.new.transcript no_transcript c.requires.within) ∙ all
 
 pub returns-clause-used : goal.returns-clause-used
