@@ -6,7 +6,7 @@ use Rattle.usi_replay.proofs.streams.output_of.Goals as goal
 
 pub lines-init : goal.lines-init
 lines-init g c = record {
-  read = (let e : c.new-2.result.items ≡ [] = c.new-2.ensures.items in rw e (read_start c.args.setup c.args.slots c.args.entries c.args.script.now c.in-Ok.host c.in-Ok.ensures.new));
+  read = (let e : c.new.result.items ≡ [] = c.new.ensures.items in rw e (read_start c.args.setup c.args.slots c.args.entries c.args.script.now c.in-Ok.host c.in-Ok.ensures.new));
   few = omega arith;
   slice = refl;
 }
