@@ -46,8 +46,12 @@ fn walk(rt: &impl Abort, moves: &[&str]) {
     let (mut known, mut forgotten) = (false, false);
     for (at, text) in moves.iter().enumerate() {
         for depth in 0..4u8 {
-            if has_few(&p, depth.saturating_sub(1), 1500) {
-                for e in [Eval::Plain, Eval::Hand, Eval::Exchange] {
+            for (e, most) in [
+                (Eval::Plain, 1500),
+                (Eval::Hand, 1500),
+                (Eval::Exchange, 200),
+            ] {
+                if has_few(&p, depth.saturating_sub(1), most) {
                     if assert_agrees(rt, &p, e, at, depth, &mut memo) {
                         known = true;
                     } else {

@@ -29,8 +29,12 @@ fn price_of(role: Role) -> u32 {
 fn price_on(p: &Position, m: &Move, at: Square) -> Option<u32> {
     match m {
         Move::Board { from, to, promote } if *to == at && p.at(at).is_some() => {
-            let twice = 2 * price_of(p.at(*from)?.role);
-            Some(if *promote { twice } else { twice + 1 })
+            let twice = price_of(p.at(*from)?.role).saturating_mul(2);
+            Some(if *promote {
+                twice
+            } else {
+                twice.saturating_add(1)
+            })
         }
         _ => None,
     }
