@@ -16,12 +16,16 @@ trap 'kill $front $screen; rm -rf "$home"' EXIT
 sleep 2
 
 # uci2wb takes one word for the engine; xboard writes first the side that moves first, as White.
-ln -s "$program" "$home/usi_host"
+cat >"$home/usi_host" <<ENGINE
+#!/bin/sh
+exec "$program" stdio --eval exchange --depth 5
+ENGINE
+chmod +x "$home/usi_host"
 cat >"$home/position" <<'POSITION'
 l6nl/5+P1gk/2np1S3/p1p4Pp/3P2Sp1/1PPb2P1P/P5GS1/R8/LN4bKL[RGgsnppppp] b - 0 1
 POSITION
 touch "$home/.xboard-shogi-rc"
-xboard @shogi -fcp "uci2wb -s $home/usi_host" -firstOptions Depth=5 -size 49 -startupMessage '' \
+xboard @shogi -fcp "uci2wb -s $home/usi_host" -size 49 -startupMessage '' \
     -loadPositionFile "$home/position" -initialMode analysis -engineOutputUp true >>"$home/log" 2>&1 &
 front=$!
 sleep 5
