@@ -1,67 +1,43 @@
 #!/usr/bin/env python3
-"""A game's table and its picture: what each move was worth, and what it lost.
+"""What each move of a game was worth, and what it lost: a table, and a report for players.
 
-    analyse.py [--program PATH | --socket PATH] [--depth N] [--svg FILE] [GAME] > table.csv
+    analyse.py [--program PATH | --socket PATH] [--depth N] [--jobs N] [--html FILE] [--svg FILE] [--kif FILE]
+               [--json FILE] [--pieces japanese|international] [--game N] [GAME] > table.csv
 
-GAME is a record: moves in USI's words or a `position` line, KIF, or CSA (the first game of it, without
-variations), in UTF-8 or Shift-JIS. Each row has the ply, who moved, the move that was played, the value of the
-position before it, the best move, what the played move was worth, and what it lost; a last row has the
-position at the end. Values and worths are from Black's side: hundredths of a pawn, or `mate N` in plies where
-Black mates, `mate -N` where White does, and `mate 0` where the side to move is mated.
+GAME is a record: moves in USI's words or `position` lines, the log of a front end, KIF, KI2 or CSA, in UTF-8,
+UTF-16, Shift-JIS or EUC-JP. Each row of the table has the ply, who moved, the move that was played, the value of
+the position before it, the best move, what the played move was worth, what it lost, and the value as it is drawn;
+a last row has the position at the end. Values and worths are from Black's side: hundredths of a pawn, or `mate N`
+in plies where Black mates, `mate -N` where White does, and `mate 0` where the side to move is mated.
 
 Both sides of a loss are exact and of the same depth. A move's worth at depth N is the negated value of the
 position after it, one ply less deep, which the search of that position to depth N shows on its way: so each
-position is searched once, and N is at least 2. The loss is the mover's, in hundredths of a pawn; it is `mate`
-where only one of the two is a mate, or they are mates of different sides, and `N plies` where a mate is put off
-or comes so much sooner.
+position is searched once. The loss is the mover's, and the least on which the last two depths, and the move seen one
+ply deeper, agree; so N is at least 4.
 
 The status is 1 where the record cannot be read or has an illegal move, with its line and column on standard
-error; it is 2 where the program cannot be started or the host is gone. Progress goes to standard error."""
+error; 2 where the program cannot be started or the host is gone; 130 after Ctrl-C. What is done by then is written.
+Progress goes to standard error."""
 
 import argparse
 import contextlib
 import csv
-import html
-import math
 import os
+import queue
 import re
 import sys
-from typing import NamedTuple
+import tempfile
+import threading
+import time
 
-from client import Gone, Refused, add_arguments, client_of
-from compare import shown, worth_after
-from records import Unreadable, read_game
-
-WORST = 5  # so many moves are marked in the picture
-
-
-class Row(NamedTuple):
-    """A row of the table. Values are pairs (cp, mate) from Black's side, of which one is None."""
-
-    ply: int
-    side: str
-    move: str
-    value: tuple
-    best: str
-    worth: tuple
-    loss: object
-
-
-def for_black(value, side):
-    """A value of the side to move, as Black sees it."""
-    return value if side == "Black" else tuple(None if part is None else -part for part in value)
-
-
-def loss_of(best, played):
-    """What a move lost, from the worths of the best move and of this one."""
-    if best == played:
-        return 0
-    (cp, mate), (played_cp, played_mate) = best, played
-    if mate is None and played_mate is None:
-        return cp - played_cp
-    if mate is not None and played_mate is not None and (mate > 0) == (played_mate > 0):
-        return f"{abs(mate - played_mate)} plies"
-    return "mate"
+from client import Answer, Gone, Refused, add_arguments, client_of, told_evaluation
+from game_report.curve import picture_of
+from game_report.data import data_of
+from game_report.kif import record_of
+from game_report.page import Made, page_of
+from game_report.values import SHALLOWEST, Analysis, Row, shown
+from game_report.words import title_of
+from shogi_records import Game, Unreadable, read_games
 
 
 def text_of_game(game, plies):
@@ -82,213 +58,214 @@ def check_game(client, game):
         raise Unreadable(move.line, move.column, f"illegal move {move.text}") from why
 
 
-def answers_of(client, game, depth):
-    """The answer for each position of the game, with progress on standard error."""
-    answers = []
-    for plies in range(len(game.moves) + 1):
-        answers.append(client.analyse(text_of_game(game, plies), depth))
-        print(f"\r{plies} of {len(game.moves)} plies", end="", file=sys.stderr, flush=True)
-    print(file=sys.stderr)
-    return answers
+def chosen_game(data: bytes, number: int, tell) -> Game:
+    """The game of that number in the record, which is told where there are several; with its notes."""
+    games = read_games(data)
+    if number > len(games):
+        raise Unreadable(1, 1, f"no game {number}: the record has {len(games)}")
+    game = games[number - 1]
+    if len(games) > 1:
+        tell(f"{game.line}:{game.column}: game {number} of {len(games)}")
+    for note in game.notes:
+        tell(str(note))
+    return game
 
 
-def rows_of(game, answers, depth):
-    """The rows of the table."""
-    black_begins = game.start == "startpos" or game.start.split()[2] == "b"
-    rows = []
-    for plies, answer in enumerate(answers):
-        side = "Black" if (plies % 2 == 0) == black_begins else "White"
-        last = answer.lines[-1] if answer.lines else None
-        value = (last.cp, last.mate) if last else (None, 0)
-        move, worth, loss = "", None, ""
-        if plies < len(game.moves):
-            after = answers[plies + 1]
-            played = worth_after(after._replace(lines=[line for line in after.lines if line.depth < depth]))
-            move, worth, loss = game.moves[plies].text, for_black(played, side), loss_of(value, played)
-        rows.append(Row(plies + 1, side, move, for_black(value, side), answer.best, worth, loss))
-    return rows
+class Table:
+    """The rows of the table, written as they come."""
+
+    def __init__(self, analysis: Analysis):
+        self.analysis, self.written = analysis, 0
+        self.out = csv.writer(sys.stdout, lineterminator="\n")
+
+    def write(self) -> None:
+        """Writes the rows that are new."""
+        for plies in range(self.written, self.analysis.count()):
+            if plies == 0:
+                self.out.writerow(Row._fields)
+            row = self.analysis.row(plies)
+            worth = "" if row.worth is None else shown(row.worth)
+            self.out.writerow(row._replace(value=shown(row.value), worth=worth, drawn=shown(row.drawn)))
+            sys.stdout.flush()
+        self.written = self.analysis.count()
 
 
-def write_table(rows, file):
-    """Writes the rows as CSV."""
-    out = csv.writer(file, lineterminator="\n")
-    out.writerow(Row._fields)
-    for row in rows:
-        worth = "" if row.worth is None else shown(row.worth)
-        out.writerow(row._replace(value=shown(row.value), worth=worth))
+class Workers:
+    """Clients that answer for the positions of a game, each in a thread of its own."""
+
+    def __init__(self, clients: list, game: Game, depth: int):
+        self.clients, self.game, self.depth = clients, game, depth
+        self.wanted: queue.Queue = queue.Queue()
+        self.found: queue.Queue = queue.Queue()
+        for plies in range(len(game.moves) + 1):
+            self.wanted.put(plies)
+        for client in clients:
+            threading.Thread(target=self.work, args=(client,), daemon=True).start()
+
+    def work(self, client) -> None:
+        """Answers for positions until none is left."""
+        with contextlib.suppress(queue.Empty):
+            while True:
+                plies = self.wanted.get_nowait()
+                try:
+                    self.found.put((plies, client.analyse(text_of_game(self.game, plies), self.depth)))
+                except (Gone, OSError, ValueError) as why:
+                    self.found.put((plies, why))
+                    return
+
+    def answers(self):
+        """The answers in the order of the game."""
+        early: dict[int, Answer] = {}
+        for plies in range(len(self.game.moves) + 1):
+            while plies not in early:
+                number, answer = self.found.get()
+                if isinstance(answer, Exception):
+                    raise answer
+                early[number] = answer
+            yield early.pop(plies)
 
 
-# The picture.
-
-WIDTH, HEIGHT = 980, 440
-LEFT, RIGHT, UP, DOWN = 80, 290, 48, 60
-INK, GRID, CURVE = "#1a202c", "#ddd", "#2b6cb0"
-COLORS = {"Black": "#c05621", "White": "#2f855a"}
+def left(began: float, done: int, total: int) -> str:
+    """About how long the rest takes."""
+    seconds = round((time.monotonic() - began) / done * (total - done))
+    return f"{seconds // 60}:{seconds % 60:02}"
 
 
-def worst_of(rows):
-    """The moves that lost most, the worst one first: those that had to do with a mate before the others."""
-    lost = [row for row in rows if row.loss == "mate" or isinstance(row.loss, int) and row.loss > 0]
-    return sorted(lost, key=lambda row: -math.inf if row.loss == "mate" else -row.loss)[:WORST]
+def analyse(analysis: Analysis, clients: list) -> None:
+    """Fills the analysis, writes the rows as they come, and tells how far it is."""
+    table, began, total = Table(analysis), time.monotonic(), len(analysis.game.moves) + 1
+    for done, answer in enumerate(Workers(clients, analysis.game, analysis.depth).answers(), 1):
+        analysis.answers.append(answer)
+        table.write()
+        told = f"{done} of {total} positions, {left(began, done, total)} left"
+        print(f"\r{told:<40}", end="\n" if done == total else "", file=sys.stderr, flush=True)
 
 
-def step_of(length, most):
-    """The least round step by which there are at most so many."""
-    return next(
-        step * 10**power for power in range(9) for step in (1, 2, 5) if length <= step * 10**power * most
-    )
+def want_place(path: str) -> None:
+    """Raises `OSError` where no file can be written there."""
+    if os.path.exists(path) and not os.path.isdir(path):
+        with open(path, "ab"):
+            return
+    with tempfile.TemporaryFile(dir=os.path.dirname(path) or "."):
+        if os.path.isdir(path):
+            raise IsADirectoryError(f"{path} is a folder")
 
 
-class Plot:
-    """Where things stand in the picture: plies across, pawns upwards; a mate is at the edge."""
-
-    def __init__(self, rows):
-        greatest = max([abs(row.value[0]) / 100 for row in rows if row.value[1] is None] + [1])
-        self.has_mate = any(row.value[1] is not None for row in rows)
-        self.plies = max(len(rows) - 1, 1)
-        self.step = step_of(greatest, 4)
-        self.limit = self.step * (math.floor(greatest / self.step) + 1)
-
-    def across(self, plies):
-        return LEFT + plies / self.plies * (WIDTH - LEFT - RIGHT)
-
-    def upwards(self, pawns):
-        return UP + (self.limit - pawns) / (2 * self.limit) * (HEIGHT - UP - DOWN)
-
-    def spot(self, row):
-        """Where the value of a row's position stands, behind the plies before it."""
-        cp, mate = row.value
-        if mate is None:
-            return self.across(row.ply - 1), self.upwards(cp / 100)
-        black = mate > 0 or mate == 0 and row.side == "White"
-        return self.across(row.ply - 1), self.upwards(self.limit if black else -self.limit)
+def write_file(path: str, text: str) -> None:
+    """Writes a file whole, or leaves what was there."""
+    if os.path.exists(path) and not os.path.isfile(path):
+        with open(path, "w", encoding="utf-8") as file:
+            file.write(text)
+        return
+    partial = f"{path}.part"
+    with open(partial, "w", encoding="utf-8") as file:
+        file.write(text)
+    os.replace(partial, path)
 
 
-def text_at(x, y, text, **attributes):
-    """A text of the picture."""
-    words = "".join(f' {name.replace("_", "-")}="{value}"' for name, value in attributes.items())
-    return f'<text x="{x:.1f}" y="{y:.1f}"{words}>{html.escape(text)}</text>'
+def write_reports(arguments, analysis: Analysis, made: Made) -> None:
+    """Writes the files that were asked for, where there is something to tell."""
+    if not analysis.count():
+        return
+    title = title_of(analysis.game, made.name)
+    for path, text_of in [
+        (arguments.html, lambda: page_of(analysis, made)),
+        (arguments.svg, lambda: picture_of(analysis, title, made.pieces)),
+        (arguments.kif, lambda: record_of(analysis, made)),
+        (arguments.json, lambda: data_of(analysis, made)),
+    ]:
+        if path:
+            write_file(path, text_of())
 
 
-def axes_of(plot, title, depth):
-    """The frame, the title and the scales."""
-    end, foot = WIDTH - RIGHT, HEIGHT - DOWN
-    up = "value in pawns, for Black"
-    out = [
-        f'<rect width="{WIDTH}" height="{HEIGHT}" fill="white"/>',
-        text_at(LEFT, 26, f"{title}: the value after each ply, at depth {depth}", font_size=15),
-        text_at((LEFT + end) / 2, HEIGHT - 16, "plies played", text_anchor="middle"),
-        f'<text x="20" y="{(UP + foot) / 2}" text-anchor="middle" '
-        f'transform="rotate(-90 20 {(UP + foot) / 2})">{up}</text>',
-    ]
-    for number in range(-round(plot.limit / plot.step), round(plot.limit / plot.step) + 1):
-        pawns = number * plot.step
-        y = plot.upwards(pawns)
-        out.append(f'<path d="M{LEFT} {y:.1f}H{end}" stroke="{GRID if number else INK}"/>')
-        sign = "+" if pawns > 0 else "−" if pawns < 0 else ""
-        label = "mate" if abs(pawns) == plot.limit and plot.has_mate else f"{sign}{abs(pawns)}"
-        out.append(text_at(LEFT - 8, y + 4, label, text_anchor="end"))
-    step = step_of(plot.plies, 10)
-    for plies in range(0, plot.plies + 1, step):
-        x = plot.across(plies)
-        out.append(f'<path d="M{x:.1f} {foot}v5" stroke="{INK}"/>')
-        out.append(text_at(x, foot + 20, str(plies), text_anchor="middle"))
-    out.append(text_at(LEFT + 6, UP + 16, "Black is ahead", fill="#718096"))
-    out.append(text_at(LEFT + 6, foot - 8, "White is ahead", fill="#718096"))
-    return out
-
-
-def lost_by(row):
-    """What a move lost, in words."""
-    if row.loss != "mate":
-        return f"lost {row.loss / 100:g} pawns"
-    mate = row.value[1]
-    return "missed a mate" if mate is not None and (mate > 0) == (row.side == "Black") else "allowed a mate"
-
-
-def marks_of(plot, rows):
-    """The worst moves: a number at the value after each, and what it was beside the plot."""
-    out, taken = [], []
-    for number, row in enumerate(worst_of(rows), 1):
-        x, y = plot.spot(rows[row.ply])
-        color, away = COLORS[row.side], 18 if row.side == "Black" else -18
-        if not UP < y + away < HEIGHT - DOWN:
-            away = -away
-        at = y + away
-        while any(abs(x - other) < 20 and abs(at - height) < 20 for other, height in taken):
-            at += away
-        taken.append((x, at))
-        out.append(f'<path d="M{x:.1f} {y:.1f}V{at:.1f}" stroke="{color}"/>')
-        out.append(f'<circle cx="{x:.1f}" cy="{y:.1f}" r="3.5" fill="{color}"/>')
-        out.append(f'<circle cx="{x:.1f}" cy="{at:.1f}" r="9" fill="{color}"/>')
-        out.append(text_at(x, at + 4.5, str(number), text_anchor="middle", fill="white"))
-        left, top = WIDTH - RIGHT + 36, UP + 36 + 48 * number
-        out.append(f'<circle cx="{left}" cy="{top - 4}" r="9" fill="{color}"/>')
-        out.append(text_at(left, top + 0.5, str(number), text_anchor="middle", fill="white"))
-        out.append(text_at(left + 16, top, f"ply {row.ply}: {row.side}'s {row.move}"))
-        out.append(text_at(left + 16, top + 18, f"{lost_by(row)}; best was {row.best}", fill="#4a5568"))
-    return out
-
-
-def picture_of(rows, title, depth):
-    """The picture as SVG."""
-    plot = Plot(rows)
-    points = " ".join(f"{x:.1f},{y:.1f}" for x, y in map(plot.spot, rows))
-    out = [
-        f'<svg xmlns="http://www.w3.org/2000/svg" viewBox="0 0 {WIDTH} {HEIGHT}" '
-        'font-family="sans-serif" font-size="13">',
-        *axes_of(plot, title, depth),
-        f'<polyline points="{points}" fill="none" stroke="{CURVE}" stroke-width="1.5"/>',
-        text_at(WIDTH - RIGHT + 27, UP + 16, "The moves that lost most:"),
-        text_at(WIDTH - RIGHT + 27, UP + 34, "Black's", fill=COLORS["Black"]),
-        text_at(WIDTH - RIGHT + 82, UP + 34, "White's", fill=COLORS["White"]),
-        *marks_of(plot, rows),
-        "</svg>",
-    ]
-    return "\n".join(out) + "\n"
-
-
-def main():
+def arguments_of():
+    """What the command line asks for."""
     parser = argparse.ArgumentParser(
-        description="What each move of a game was worth and lost, as CSV, and with --svg as a picture.",
-        epilog="Values are from Black's side, at depth N. A move's worth at depth N is that of the position after "
-        "it, one ply less deep, so both sides of a loss are exact and of the same depth.",
+        description="What each move of a game was worth and lost, as CSV, and as a report for players.",
+        epilog="Values are from Black's side, at depth N. A loss is the least on which the last two depths agree.",
     )
     add_arguments(parser)
+    parser.add_argument("--html", metavar="FILE", help="writes a report for players there, a page of its own")
+    parser.add_argument("--svg", metavar="FILE", help="draws the game there")
+    parser.add_argument("--kif", metavar="FILE", help="writes the record there as KIF, with comments")
+    parser.add_argument("--json", metavar="FILE", help="writes all of it there as data")
+    parser.add_argument("--pieces", choices=("japanese", "international"), default="japanese", help="japanese")
+    parser.add_argument("--game", type=int, default=1, metavar="N", help="which game of the record (1)")
+    parser.add_argument("--jobs", type=int, default=1, metavar="N", help="how many positions at a time (1)")
     parser.add_argument(
-        "--svg", type=argparse.FileType("w", encoding="utf-8"), metavar="FILE", help="draws the game there"
-    )
-    parser.add_argument(
-        "game",
+        "game_file",
         nargs="?",
-        type=argparse.FileType("rb"),
-        default=sys.stdin.buffer,
-        help="a record: USI's moves or a position line, KIF, CSA (standard input)",
+        metavar="GAME",
+        help="a record: USI's moves or position lines, KIF, KI2, CSA (standard input)",
     )
     arguments = parser.parse_args()
-    if arguments.depth < 2:
-        parser.error("the depth is at least 2")
-    name = arguments.game.name
+    if arguments.depth < SHALLOWEST:
+        parser.error(f"the depth is at least {SHALLOWEST}, so that two depths say something of a loss")
+    if arguments.game < 1 or not 1 <= arguments.jobs <= 64:
+        parser.error("--game counts from 1, and --jobs is from 1 to 64")
+    return arguments
+
+
+def record_at(path):
+    """The bytes of the record, and its name."""
+    if path is None:
+        return sys.stdin.buffer.read(), "<stdin>"
+    with open(path, "rb") as file:
+        return file.read(), path
+
+
+def run(arguments, clients: list) -> int:
+    """Analyses the game; the status."""
+    data, name = record_at(arguments.game_file)
+    for path in (arguments.html, arguments.svg, arguments.kif, arguments.json):
+        if path:
+            want_place(path)
+
+    def tell(text):
+        print(f"analyse.py: {text}", file=sys.stderr)
+
     try:
-        game = read_game(arguments.game.read())
-        with contextlib.closing(client_of(arguments)) as client:
-            check_game(client, game)
-            answers = answers_of(client, game, arguments.depth)
+        game = chosen_game(data, arguments.game, lambda note: tell(f"{name}:{note}"))
+        clients.append(client_of(arguments))
+        check_game(clients[0], game)
     except Unreadable as why:
-        print(f"analyse.py: {name}:{why}", file=sys.stderr)
+        tell(f"{name}:{why}")
         return 1
-    rows = rows_of(game, answers, arguments.depth)
-    write_table(rows, sys.stdout)
-    if arguments.svg:
-        with arguments.svg as file:
-            title = "a game" if name == sys.stdin.name else os.path.basename(name)
-            file.write(picture_of(rows, title, arguments.depth))
+    if told := told_evaluation(clients[0], arguments):
+        tell(told)
+    while len(clients) < min(arguments.jobs, len(game.moves) + 1):
+        clients.append(client_of(arguments))
+    analysis = Analysis(game, arguments.depth)
+    title = "a game" if arguments.game_file is None else os.path.basename(name)
+    made = Made(clients[0].title, clients[0].options["Eval"], title, arguments.pieces)
+    try:
+        analyse(analysis, clients)
+    except (Gone, OSError, KeyboardInterrupt) as why:
+        print(file=sys.stderr)
+        cause, status = ("Ctrl-C", 130) if isinstance(why, KeyboardInterrupt) else (why, 2)
+        write_reports(arguments, analysis, made)
+        moves = min(analysis.count(), len(game.moves))
+        tell(f"{cause}; written is what is done, {moves} of {len(game.moves)} moves")
+        return status
+    write_reports(arguments, analysis, made)
     return 0
 
 
-if __name__ == "__main__":
+def main():
+    arguments = arguments_of()
+    clients: list = []
     try:
-        sys.exit(main())
+        return run(arguments, clients)
     except (Gone, OSError) as why:
         print(f"analyse.py: {why}", file=sys.stderr)
-        sys.exit(2)
+        return 2
+    except KeyboardInterrupt:
+        print("\nanalyse.py: Ctrl-C", file=sys.stderr)
+        return 130
+    finally:
+        for client in clients:
+            client.close()
+
+
+if __name__ == "__main__":
+    sys.exit(main())

@@ -1,15 +1,16 @@
 #!/usr/bin/env python3
 """A client of the shogi host: over the program's standard input and output, or over a host's socket.
 
-    client.py [--program PATH | --socket PATH] [--depth N] [SFEN]
+    client.py [--program PATH | --socket PATH] [--depth N] [--eval NAME] [--timeout SECONDS] [SFEN]
 
-prints the answer to one `go`. As a module it has the class `Client`; `grade.py` and `compare.py` beside
-it are written with it. Python's standard library is all that it needs."""
+prints the answer to one `go`. As a module it has the class `Client`; the other scripts beside it are written
+with it. Python's standard library is all that it needs."""
 
 import argparse
 import contextlib
 import os
 import re
+import select
 import socket
 import subprocess
 import sys
@@ -18,11 +19,15 @@ from typing import NamedTuple, Optional
 
 
 class Gone(Exception):
-    """The host has ended the connection, or nobody listens at the socket."""
+    """The host has ended, or has ended the connection, or nobody listens at the socket."""
 
 
 class HostFull(Gone):
     """The host has as many clients as it takes."""
+
+
+class TooSlow(Gone):
+    """A reply did not come in time; the session is ended."""
 
 
 class Refused(Exception):
@@ -37,7 +42,7 @@ class Line(NamedTuple):
     number: int
     cp: Optional[int]
     mate: Optional[int]
-    pv: list
+    pv: list[str]
 
 
 class Answer(NamedTuple):
@@ -45,16 +50,17 @@ class Answer(NamedTuple):
 
     best: str
     ponder: Optional[str]
-    lines: list
+    lines: list[Line]
 
 
-# The options of the host: the numbers or the names that each one takes.
+# The evaluations that a host may offer, the one to analyse with first, and the deepest search.
+EVALUATIONS = ("Exchange", "Plain", "Hand")
 DEPTHS = range(1, 17)
-OPTIONS = {"Depth": DEPTHS, "Eval": ("Plain", "Hand"), "MultiPV": range(1, 9)}
 
 INFO = re.compile(
     r"info depth (\d+)(?: multipv (\d+))? score (?:cp (-?\d+)|mate (-?\d+)) pv(.*)"
 )
+OPTION = re.compile(r"option name (.+?) type (\w+)(.*)")
 
 
 def line_of(text):
@@ -72,76 +78,130 @@ def line_of(text):
     )
 
 
-def want_number(what, value, numbers):
-    """Raises `ValueError` where the word of a value is no number of the range. A host would take the nearest
-    number that it has, and would pass over any other word, without a reply in both cases."""
-    if str(value).lstrip("0") not in map(str, numbers):
+def options_of(replies):
+    """The options of the replies to `usi`: the numbers or the names that each one takes."""
+    options = {}
+    for name, kind, rest in (match.groups() for match in map(OPTION.fullmatch, replies) if match):
+        words = rest.split()
+        if kind == "spin" and {"min", "max"} <= set(words):
+            low, high = (int(words[words.index(word) + 1]) for word in ("min", "max"))
+            options[name] = range(low, high + 1)
+        elif kind == "combo":
+            options[name] = tuple(rest.split(" var ")[1:])
+    return options
+
+
+def listed(words):
+    """Words as `Plain, Hand or Exchange`."""
+    *others, last = words
+    return f"{', '.join(others)} or {last}" if others else last
+
+
+def is_number(value, numbers):
+    """Whether the word of a value is a number of the range."""
+    return str(value).lstrip("0") in map(str, numbers)
+
+
+def want_depth(depth, depths=DEPTHS):
+    """Raises `ValueError` for a depth that a host would change or pass over."""
+    if not is_number(depth, depths):
+        raise ValueError(f"a depth is a whole number from {depths[0]} to {depths[-1]}, and not {depth!r}")
+
+
+def want_option(offered, name, value):
+    """Raises `ValueError` for an option or a value that a host would pass over or change without a word."""
+    if name not in offered:
         raise ValueError(
-            f"{what} is a whole number from {numbers[0]} to {numbers[-1]}, and not {value!r}"
+            f"an option with another name, or in other letters: {name!r}; they are {', '.join(offered)}"
         )
-
-
-def want_depth(depth):
-    """Raises `ValueError` for a depth that no host has."""
-    want_number("a depth", depth, DEPTHS)
-
-
-def want_option(name, value):
-    """Raises `ValueError` for an option or a value that the host would pass over or change."""
-    if name not in OPTIONS:
-        raise ValueError(f"no option {name!r}: they are {', '.join(OPTIONS)}")
-    values = OPTIONS[name]
-    if isinstance(values, range):
-        want_number(name, value, values)
-    elif value not in values:
-        raise ValueError(f"{name} is {' or '.join(values)}, and not {value!r}")
+    values = offered[name]
+    if not isinstance(values, range):
+        if value not in values:
+            raise ValueError(
+                f"an option with a value that it does not have: {name} is {listed(values)}, and not {value!r}"
+            )
+    elif not is_number(value, values):
+        is_digits = re.fullmatch(r"[0-9]+", str(value))
+        slip = "a number out of range" if is_digits else "an option with a value that it does not have"
+        raise ValueError(
+            f"{slip}: {name} is a whole number from {values[0]} to {values[-1]}, and not {value!r}"
+        )
 
 
 class Client:
     """A session. `command` is the program with its arguments; or `path` is a host's socket, where it
     waits up to `patience` seconds for the host to be there and to have room. Over a socket a session that
-    was cut off is begun anew, with the options and the position that it had."""
+    was cut off is begun anew, with the options and the position that it had. The reply to a line may take
+    `timeout` seconds, or as long as it takes where that is None."""
 
-    def __init__(self, command=None, path=None, patience=60.0):
-        self.command, self.path, self.patience = command, path, patience
+    def __init__(self, command=None, path=None, patience=60.0, timeout=None):
+        self.command, self.path, self.patience, self.timeout = command, path, patience, timeout
         self.options, self.position = {}, "startpos"
         self.process = self.socket = None
+        self.name = path if command is None else command[0]
         self.connect()
 
     def connect(self):
-        """Starts the program, or connects to the host."""
+        """Starts the program, or connects to the host, and asks what it offers."""
         self.close()
         self.unread = b""
         if self.command:
+            # In a session of its own, so that Ctrl-C reaches the script alone.
             self.process = subprocess.Popen(
-                self.command, stdin=subprocess.PIPE, stdout=subprocess.PIPE, bufsize=0
+                self.command, stdin=subprocess.PIPE, stdout=subprocess.PIPE, bufsize=0, start_new_session=True
             )
+            self.greet()
             return
         end = time.monotonic() + self.patience
         while True:
             try:
                 self.socket = socket.socket(socket.AF_UNIX)
                 self.socket.connect(self.path)
-                # A full host says so and ends, maybe before it is asked; the others answer.
-                with contextlib.suppress(Gone):
-                    self.send("isready")
-                self.read_until("readyok")
+                self.greet()
                 return
+            except TooSlow:
+                raise
             except (OSError, Gone) as why:
                 self.close()
                 if time.monotonic() > end:
-                    raise why if isinstance(why, Gone) else Gone(f"{self.path}: {why}")
+                    raise why if isinstance(why, Gone) else Gone(f"{self.path}: {why}") from why
                 time.sleep(0.2)
 
+    def greet(self):
+        """Asks who the host is and what it offers."""
+        # A full host says so and ends, maybe before it is asked; the others answer.
+        with contextlib.suppress(Gone):
+            self.send("usi")
+        replies = self.read_until("usiok")
+        self.offered = options_of(replies)
+        names = [reply.removeprefix("id name ") for reply in replies if reply.startswith("id name ")]
+        self.title = names[0] if names else self.name
+
     def close(self):
-        """Ends the session."""
+        """Ends the session, and the program too where it does not end by that."""
         if self.socket is not None:
             self.socket.close()
         if self.process is not None:
-            self.process.stdin.close()
-            self.process.stdout.close()
-            self.process.wait()
+            for stream in (self.process.stdin, self.process.stdout):
+                with contextlib.suppress(OSError):
+                    stream.close()
+            try:
+                self.process.wait(1)
+            except subprocess.TimeoutExpired:
+                self.process.kill()
+                self.process.wait()
         self.process = self.socket = None
+
+    def end_of(self):
+        """How the host went away."""
+        if self.process is None:
+            return Gone(f"{self.name}: the host has ended the connection")
+        try:
+            status = self.process.wait(1)
+        except subprocess.TimeoutExpired:
+            return Gone(f"{self.name}: it has closed its output")
+        how = f"signal {-status}" if status < 0 else f"status {status}"
+        return Gone(f"{self.name}: it has ended with {how}")
 
     def send(self, line):
         """Sends one line, as it is."""
@@ -153,20 +213,32 @@ class Client:
             else:
                 self.socket.sendall(data)
         except OSError as why:
-            raise Gone(str(why)) from why
+            raise self.end_of() from why
 
-    def read_line(self):
-        """The next reply, without its line feed. Bytes that came with it stay for the next call."""
+    def wait(self, end):
+        """Waits until there is something to read; raises `TooSlow`, and ends the session, at the time `end`."""
+        source = self.socket if self.process is None else self.process.stdout
+        if not select.select([source], [], [], max(end - time.monotonic(), 0))[0]:
+            if self.process is not None:
+                self.process.kill()
+            self.close()
+            raise TooSlow(f"{self.name}: no answer within {self.timeout:g} s")
+
+    def read_line(self, end=None):
+        """The next reply, without its line feed, which has to come before the time `end`. Bytes that came with it
+        stay for the next call."""
         while b"\n" not in self.unread:
+            if end is not None:
+                self.wait(end)
             try:
                 if self.process is not None:
                     data = self.process.stdout.read(65536)
                 else:
                     data = self.socket.recv(65536)
-            except OSError as why:
-                raise Gone(str(why)) from why
+            except OSError:
+                data = b""
             if not data:
-                raise Gone("the host has ended the connection")
+                raise self.end_of()
             self.unread += data
         line, self.unread = self.unread.split(b"\n", 1)
         return line.decode()
@@ -174,20 +246,24 @@ class Client:
     def read_until(self, word):
         """The replies up to the one that begins with the word, with that one."""
         replies = []
+        end = None if self.timeout is None else time.monotonic() + self.timeout
         while True:
-            line = self.read_line()
+            line = self.read_line(end)
             if line == "info string host full":
-                raise HostFull("the host has as many clients as it takes")
+                raise HostFull(f"{self.name}: the host has as many clients as it takes")
             replies.append(line)
             if line.split(" ", 1)[0] == word:
                 return replies
 
     def set_option(self, name, value):
-        """Sets Depth, Eval or MultiPV. Raises `ValueError`, and sends nothing, where the host has no such
-        option or value; `send` sets the options of another engine."""
-        want_option(name, value)
+        """Sets an option. Raises `ValueError`, and sends nothing, where the host has no such option or value."""
+        want_option(self.offered, name, value)
         self.options[name] = value
         self.send(f"setoption name {name} value {value}")
+
+    def want_depth(self, depth):
+        """Raises `ValueError` for a depth to which the host does not search."""
+        want_depth(depth, self.offered.get("Depth", DEPTHS))
 
     def set_position(self, text):
         """Sets the position: `startpos` or `sfen ..`, with `moves ..` behind it or not. Raises `Refused`
@@ -201,9 +277,9 @@ class Client:
 
     def go(self, depth=None):
         """Searches the position, by default to the depth that is set. Raises `ValueError`, and sends nothing,
-        where the depth is not from 1 to 16."""
+        where the host does not search to that depth."""
         if depth is not None:
-            want_depth(depth)
+            self.want_depth(depth)
         self.send("go" if depth is None else f"go depth {depth}")
         replies = self.read_until("bestmove")
         words = replies[-1].split()
@@ -214,10 +290,12 @@ class Client:
         """The answer for a position. Over a socket it is asked for once more where the host went away. A depth
         is refused as by `go`, before the position is sent."""
         if depth is not None:
-            want_depth(depth)
+            self.want_depth(depth)
         try:
             self.set_position(text)
             return self.go(depth)
+        except TooSlow:
+            raise
         except Gone:
             if self.path is None:
                 raise
@@ -228,9 +306,10 @@ class Client:
             return self.go(depth)
 
 
-def text_of(sfen):
-    """What follows `position` for an SFEN, a whole `sfen ..`, or `startpos ..`."""
-    return sfen if sfen.split(" ", 1)[0] in ("startpos", "sfen") else f"sfen {sfen}"
+def text_of(line):
+    """What follows `position` for an SFEN, a whole `sfen ..`, `startpos ..`, or a `position` line."""
+    text = line.strip().removeprefix("position ").strip()
+    return text if text.split(" ", 1)[0] in ("startpos", "sfen") else f"sfen {text}"
 
 
 def depth_of(text):
@@ -242,31 +321,77 @@ def depth_of(text):
     return int(text)
 
 
+def seconds_of(text):
+    """A time on the command line."""
+    try:
+        seconds = float(text)
+    except ValueError:
+        seconds = 0.0
+    if not 0 < seconds < float("inf"):
+        raise argparse.ArgumentTypeError(f"a time is a number of seconds above 0, and not {text!r}")
+    return seconds
+
+
 def add_arguments(parser):
-    """The arguments by which the examples choose a host."""
+    """The arguments by which the scripts choose a host, and what it searches."""
     where = parser.add_mutually_exclusive_group()
     where.add_argument("--program", default="usi_host", help="the program to start (usi_host)")
     where.add_argument("--socket", help="the socket of a host that runs already")
-    parser.add_argument("--depth", type=depth_of, default=3, help="in plies, from 1 to 16 (3)")
-    parser.add_argument("--eval", choices=OPTIONS["Eval"], default="Plain", help="Plain")
+    parser.add_argument("--depth", type=depth_of, default=6, help="in plies, from 1 to 16 (6)")
+    parser.add_argument(
+        "--eval", choices=EVALUATIONS, help="the evaluation (Exchange where it is offered, else Plain)"
+    )
+    parser.add_argument(
+        "--timeout", type=seconds_of, metavar="SECONDS", help="the longest that an answer may take (no limit)"
+    )
+
+
+def command_of(program, depth):
+    """The words that start the program. One that does not know the evaluation Exchange refuses its words with
+    the status 2, and is started without them."""
+    words = [program, "stdio", "--eval", "exchange", "--depth", str(depth)]
+    try:
+        tried = subprocess.run(words, stdin=subprocess.DEVNULL, capture_output=True, timeout=120, check=False)
+    except subprocess.TimeoutExpired as why:
+        raise Gone(f"{program}: it does not end where its input ends") from why
+    return [program] if tried.returncode == 2 else words
 
 
 def client_of(arguments):
-    """The client that the arguments ask for."""
+    """The client that the arguments ask for, with its evaluation set, which stands in `options["Eval"]`. Raises
+    `Gone` where the host has no such evaluation or does not search so deep."""
     if arguments.socket:
-        client = Client(path=arguments.socket)
+        client = Client(path=arguments.socket, timeout=arguments.timeout)
     else:
-        client = Client(command=[arguments.program])
-    client.set_option("Eval", arguments.eval)
+        client = Client(
+            command=command_of(arguments.program, arguments.depth), timeout=arguments.timeout
+        )
+    offered = client.offered.get("Eval", ())
+    chosen = arguments.eval or next((name for name in EVALUATIONS if name in offered), "")
+    try:
+        client.want_depth(arguments.depth)
+        client.set_option("Eval", chosen)
+    except ValueError as why:
+        client.close()
+        raise Gone(f"{client.name}: {why}") from why
     return client
+
+
+def told_evaluation(client, arguments):
+    """What is said of the evaluation where it is not the one to analyse with; nothing where it is, or was chosen."""
+    evaluation = client.options["Eval"]
+    if arguments.eval or evaluation == EVALUATIONS[0]:
+        return ""
+    return f"evaluation {evaluation}, as {client.name} does not offer {EVALUATIONS[0]}"
 
 
 def main():
     parser = argparse.ArgumentParser(description="Asks a shogi host for the best move of a position.")
     add_arguments(parser)
-    parser.add_argument("sfen", nargs="?", default="startpos", help="an SFEN (startpos)")
+    parser.add_argument("sfen", nargs="?", default="startpos", help="an SFEN or a position line (startpos)")
     arguments = parser.parse_args()
     client = client_of(arguments)
+    print(f"evaluation {client.options['Eval']}")
     answer = client.analyse(text_of(arguments.sfen), arguments.depth)
     for line in answer.lines:
         score = f"mate {line.mate}" if line.cp is None else f"cp {line.cp}"

@@ -2,33 +2,45 @@
 """Compares another USI engine with exact minimax: the engine's move at each position, beside what that
 move and the best one are worth here.
 
-    compare.py --engine "COMMAND .." [--go "depth 5"] [--program PATH | --socket PATH] [--depth N] [FILE]
+    compare.py --engine "COMMAND .." [--go "depth 5"] [--program PATH | --socket PATH] [--depth N] [--eval NAME]
+               [--timeout SECONDS] [FILE]
 
-FILE has SFENs, one a line. The worth of a move at depth N is the negated value of the position after it,
-one ply less deep; so N is at least 2. The output is CSV."""
+FILE has SFENs or `position` lines, one a line. The worth of a move at depth N is the negated value of the position
+after it, one ply less deep; so N is at least 2. The output is CSV; at the end a summary goes to standard error: how
+many moves agree, the mean loss, and the ten greatest differences with their positions. The status is 2 where one of
+the two programs is gone or does not answer in time, which is named."""
 
 import argparse
+import contextlib
 import csv
 import shlex
 import sys
 
-from client import Client, Gone, Refused, add_arguments, client_of, text_of
+from client import Client, Gone, Refused, add_arguments, client_of, text_of, told_evaluation
+from game_report.values import loss_of, shown, value_at, weight, worth_at
+from grade import positions_of
+from shogi_records import Unreadable
+
+COLUMNS = ["sfen", "best", "best_worth", "engine", "engine_worth", "loss", "error"]
+GREATEST = 10  # so many differences are in the summary
 
 
-def worth_after(answer):
-    """What a move is worth whose position has this answer: (cp, None), or (None, mate in plies)."""
-    if not answer.lines:
-        return None, 1  # no reply is legal
-    last = answer.lines[-1]
-    if last.cp is not None:
-        return -last.cp, None
-    return None, 1 - last.mate if last.mate < 0 else -1 - last.mate
+class Other(Client):
+    """The other engine. It is sent its `go` as it is, and named where it goes away."""
 
+    def __init__(self, command, timeout):
+        self.title = ""
+        super().__init__(command=command, timeout=timeout)
 
-def shown(worth):
-    """A worth as text."""
-    cp, mate = worth
-    return f"cp {cp}" if mate is None else f"mate {mate}"
+    def connect(self):
+        self.name = f"the other engine, {self.command[0]}"
+        super().connect()
+
+    def move_at(self, text, go):
+        """Its move at a position."""
+        self.send(f"position {text}")
+        self.send(f"go {go}")
+        return self.read_until("bestmove")[-1].split()[1]
 
 
 def with_move(text, move):
@@ -36,46 +48,80 @@ def with_move(text, move):
     return f"{text} {move}" if " moves " in f" {text} " else f"{text} moves {move}"
 
 
+def row_of(here, other, sfen, go, depth):
+    """The row of a position."""
+    row, text = {"sfen": sfen}, text_of(sfen)
+    try:
+        best = here.analyse(text, depth)
+    except Refused as why:
+        return row | {"error": str(why).split(":", 1)[0]}
+    move = other.move_at(text, go)
+    row |= {"best": best.best, "engine": move}
+    if best.best == "resign" or move in ("resign", "win"):
+        return row
+    try:
+        worth = worth_at(here.analyse(with_move(text, move), depth - 1), depth)
+    except Refused as why:
+        return row | {"error": f"the engine's move: {str(why).split(':', 1)[0]}"}
+    value = value_at(best, depth)
+    return row | {"best_worth": shown(value), "engine_worth": shown(worth), "loss": loss_of(value, worth)}
+
+
+def summary_of(rows):
+    """How well the engine's moves agree, in words."""
+    judged = [row for row in rows if "loss" in row]
+    agreed = sum(weight(row["loss"]) == 0 for row in judged)
+    points = [row["loss"] for row in judged if isinstance(row["loss"], int)]
+    out = [f"{agreed} of {len(judged)} moves are worth as much as the best one"]
+    if points:
+        mates = len(judged) - len(points)
+        about = f", without {mates} that are about mates" if mates else ""
+        out.append(f"mean loss {sum(points) / len(points):.0f}{about}")
+    differing = sorted((row for row in judged if weight(row["loss"]) > 0), key=lambda row: -weight(row["loss"]))
+    if differing:
+        out.append("the greatest differences:")
+    out += [f"  {row['loss']}: {row['engine']}, best {row['best']}, {row['sfen']}" for row in differing[:GREATEST]]
+    return "\n".join(out)
+
+
 def main():
     parser = argparse.ArgumentParser(description="Another USI engine's moves, and what they are worth.")
     add_arguments(parser)
     parser.add_argument("--engine", required=True, help="the command of the other engine")
     parser.add_argument("--go", default="depth 5", help="what follows its go (depth 5)")
-    parser.add_argument("file", nargs="?", type=argparse.FileType("r"), default=sys.stdin)
+    parser.add_argument("file", nargs="?", help="SFENs or position lines, one a line (standard input)")
     arguments = parser.parse_args()
     if arguments.depth < 2:
         parser.error("the depth is at least 2")
-    here = client_of(arguments)
-    other = Client(command=shlex.split(arguments.engine))
-    other.send("usi")
-    other.read_until("usiok")
-    rows = csv.writer(sys.stdout, lineterminator="\n")
-    rows.writerow(["sfen", "best", "best_worth", "engine", "engine_worth", "error"])
-    for line in arguments.file:
-        sfen = line.strip()
-        if not sfen or sfen.startswith("#"):
-            continue
-        text = text_of(sfen)
-        try:
-            best = here.analyse(text, arguments.depth)
-            other.send(f"position {text}")
-            other.send(f"go {arguments.go}")
-            move = other.read_until("bestmove")[-1].split()[1]
-            if best.best == "resign" or move in ("resign", "win"):
-                rows.writerow([sfen, best.best, "", move, "", ""])
-                continue
-            last = best.lines[-1]
-            after = here.analyse(with_move(text, move), arguments.depth - 1)
-            worth = shown(worth_after(after))
-            rows.writerow([sfen, best.best, shown((last.cp, last.mate)), move, worth, ""])
-        except Refused as why:
-            rows.writerow([sfen, "", "", "", "", str(why).split(":", 1)[0]])
-    here.close()
-    other.close()
+    try:
+        sfens = positions_of(arguments.file)
+    except Unreadable as why:
+        print(f"compare.py: {arguments.file or '<stdin>'}:{why}", file=sys.stderr)
+        return 1
+    rows = []
+    with contextlib.ExitStack() as stack:
+        here = stack.enter_context(contextlib.closing(client_of(arguments)))
+        other = stack.enter_context(
+            contextlib.closing(Other(shlex.split(arguments.engine), arguments.timeout))
+        )
+        if told := told_evaluation(here, arguments):
+            print(f"compare.py: {told}", file=sys.stderr)
+        out = csv.DictWriter(sys.stdout, COLUMNS, lineterminator="\n")
+        out.writeheader()
+        for sfen in sfens:
+            rows.append(row_of(here, other, sfen, arguments.go, arguments.depth))
+            out.writerow(rows[-1])
+            sys.stdout.flush()
+    print(f"compare.py: {summary_of(rows)}", file=sys.stderr)
+    return 0
 
 
 if __name__ == "__main__":
     try:
-        main()
+        sys.exit(main())
     except (Gone, OSError) as why:
-        sys.exit(f"compare.py: {why}")
+        print(f"compare.py: {why}", file=sys.stderr)
+        sys.exit(2)
+    except KeyboardInterrupt:
+        print("\ncompare.py: Ctrl-C; the rows above are done", file=sys.stderr)
+        sys.exit(130)
