@@ -65,6 +65,7 @@ bench:
 	bench/go.py
 	bench/curves.py
 	bench/multipv.py
+	bench/usefulness.py --write
 	bench/serve.py
 
 # Takes away what was built and what `rt check` kept.
