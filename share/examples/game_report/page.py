@@ -36,6 +36,7 @@ article { display: grid; grid-template-columns: minmax(0, 25rem) minmax(0, 1fr);
 .played { background: var(--played) } .best { background: var(--best) }
 .line { overflow-wrap: anywhere }
 .moves { columns: 2; column-gap: 2rem } .moves table { width: 100%; break-inside: auto }
+.moves td { white-space: nowrap } .moves td:nth-child(3) { white-space: normal }
 tr.mark td { font-weight: 600 }
 @media (max-width: 640px) {
   article { grid-template-columns: minmax(0, 1fr) } .moves { columns: 1 }
