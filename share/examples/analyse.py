@@ -2,7 +2,7 @@
 """What each move of a game was worth, and what it lost: a table, and a report for players.
 
     analyse.py [--program PATH | --socket PATH] [--depth N] [--jobs N] [--html FILE] [--svg FILE] [--kif FILE]
-               [--json FILE] [--pieces japanese|international] [--game N] [GAME] > table.csv
+               [--json FILE] [--title TEXT] [--pieces japanese|international] [--game N] [GAME] > table.csv
 
 GAME is a record: moves in USI's words or `position` lines, the log of a front end, KIF, KI2 or CSA, in UTF-8,
 UTF-16, Shift-JIS or EUC-JP. Each row of the table has the ply, who moved, the move that was played, the value of
@@ -34,9 +34,9 @@ from client import Answer, Gone, Refused, add_arguments, client_of, told_evaluat
 from game_report.curve import picture_of
 from game_report.data import data_of
 from game_report.kif import record_of
-from game_report.page import Made, page_of
+from game_report.page import page_of
 from game_report.values import SHALLOWEST, Analysis, Row, shown
-from game_report.words import title_of
+from game_report.words import Made
 from shogi_records import Game, Unreadable, read_games
 
 
@@ -167,10 +167,9 @@ def write_reports(arguments, analysis: Analysis, made: Made) -> None:
     """Writes the files that were asked for, where there is something to tell."""
     if not analysis.count():
         return
-    title = title_of(analysis.game, made.name)
     for path, text_of in [
         (arguments.html, lambda: page_of(analysis, made)),
-        (arguments.svg, lambda: picture_of(analysis, title, made.pieces)),
+        (arguments.svg, lambda: picture_of(analysis, made)),
         (arguments.kif, lambda: record_of(analysis, made)),
         (arguments.json, lambda: data_of(analysis, made)),
     ]:
@@ -189,6 +188,7 @@ def arguments_of():
     parser.add_argument("--svg", metavar="FILE", help="draws the game there")
     parser.add_argument("--kif", metavar="FILE", help="writes the record there as KIF, with comments")
     parser.add_argument("--json", metavar="FILE", help="writes all of it there as data")
+    parser.add_argument("--title", help="the title of the report (the players' names, or that of the record)")
     parser.add_argument("--pieces", choices=("japanese", "international"), default="japanese", help="japanese")
     parser.add_argument("--game", type=int, default=1, metavar="N", help="which game of the record (1)")
     parser.add_argument("--jobs", type=int, default=1, metavar="N", help="how many positions at a time (1)")
@@ -237,7 +237,7 @@ def run(arguments, clients: list) -> int:
         clients.append(client_of(arguments))
     analysis = Analysis(game, arguments.depth)
     title = "a game" if arguments.game_file is None else os.path.basename(name)
-    made = Made(clients[0].title, clients[0].options["Eval"], title, arguments.pieces)
+    made = Made(clients[0].title, clients[0].options["Eval"], title, arguments.pieces, arguments.title)
     try:
         analyse(analysis, clients)
     except (Gone, OSError, KeyboardInterrupt) as why:

@@ -4,10 +4,10 @@ from shogi_records.notation import NOTATIONS
 
 from .svg import COLORS, path, stone, text_at
 from .values import Analysis, chance_for_black
-from .words import lost_words
+from .words import Made, lost_words, title_of
 
 WIDTH, HEIGHT = 720, 300
-LEFT, RIGHT, UP, DOWN = 58, 14, 26, 44
+LEFT, RIGHT, UP, DOWN = 74, 14, 26, 48
 LIST = 300  # the room for the list of the marked moves beside a picture of its own
 
 
@@ -87,7 +87,7 @@ class Curve:
         return "\n".join([*self.axes(), self.line(), *self.marks()])
 
 
-def picture_of(analysis: Analysis, title: str, pieces: str) -> str:
+def picture_of(analysis: Analysis, made: Made) -> str:
     """A picture of its own as SVG, with a list of the marked moves beside the curve."""
     width, height = WIDTH + LIST, HEIGHT + 34
     out = [
@@ -95,14 +95,14 @@ def picture_of(analysis: Analysis, title: str, pieces: str) -> str:
         'font-family="sans-serif" font-size="13" fill="var(--ink)">',
         f"<style>{COLORS}.soft {{ fill: var(--soft) }}</style>",
         f'<rect width="{width}" height="{height}" fill="var(--paper)"/>',
-        text_at(LEFT, 24, f"{title}: Black's chance of winning, at depth {analysis.depth}", font_size=15),
+        text_at(LEFT, 24, f"{title_of(analysis.game, made)}: Black's chance of winning, at depth {analysis.depth}", font_size=15),
         f'<g transform="translate(0 34)">{Curve(analysis).drawing()}</g>',
         text_at(WIDTH + 16, 52, "The moves that lost most:", font_size=15),
     ]
     boards, lasts = analysis.boards, analysis.ends
     for number, plies in enumerate(analysis.marks(), 1):
         row, y = analysis.row(plies), 44 + 44 * number
-        write = NOTATIONS[pieces]
+        write = NOTATIONS[made.pieces]
         played, best = (write(boards[plies], move, lasts[plies]) for move in (row.move, row.best))
         out.append(stone(WIDTH + 28, y - 4, row.side == "Black", number))
         out.append(text_at(WIDTH + 46, y, f"ply {row.ply}: {played} {lost_words(analysis, plies)}"))

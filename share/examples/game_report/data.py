@@ -2,9 +2,8 @@
 
 import json
 
-from .page import Made
 from .values import SCALE, SLIP, Analysis, Value, chance_for_black
-from .words import result_of
+from .words import Made, result_of, title_of
 
 
 def value_of(value: Value) -> dict:
@@ -48,6 +47,7 @@ def data_of(analysis: Analysis, made: Made) -> str:
     data = {
         "form": 1,
         "complete": analysis.is_whole,
+        "title": title_of(game, made),
         "record": made.name,
         "program": made.program,
         "evaluation": made.evaluation,

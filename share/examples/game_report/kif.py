@@ -5,9 +5,8 @@ from shogi_records.japanese import HANDICAPS, RANKS, set_handicap
 from shogi_records.kif import ENDS as KIF_ENDS
 from shogi_records.notation import LETTERS, kif, line_of
 
-from .page import Made
 from .values import Analysis
-from .words import WON, lost_words, pawns, players_of
+from .words import WON, Made, lost_words, pawns, players_of
 
 ENDS = {
     "resign": "投了",

@@ -2,7 +2,6 @@
 
 import html
 import urllib.parse
-from typing import NamedTuple
 
 from shogi_records.board import Board
 from shogi_records.notation import NOTATIONS, line_of
@@ -11,7 +10,7 @@ from .curve import HEIGHT, WIDTH, Curve
 from .diagram import Arrow, diagram_of
 from .svg import COLORS
 from .values import SCALE, SLIP, Analysis
-from .words import lost_words, pawns, result_of, title_of
+from .words import Made, lost_words, pawns, result_of, title_of
 
 STYLE = """
 * { box-sizing: border-box }
@@ -24,7 +23,7 @@ p { margin: .4rem 0 }
 a { color: var(--curve) }
 .soft, figcaption, footer { color: var(--soft); font-size: .9rem }
 svg { fill: var(--ink); font-family: inherit }
-svg .soft { fill: var(--soft) }
+svg .soft { fill: var(--soft); font-size: inherit }
 figure { margin: 1rem 0 }
 .curve { width: 100%; height: auto; font-size: 13px }
 table { border-collapse: collapse; font-variant-numeric: tabular-nums }
@@ -37,6 +36,7 @@ article { display: grid; grid-template-columns: minmax(0, 25rem) minmax(0, 1fr);
 .played { background: var(--played) } .best { background: var(--best) }
 .line { overflow-wrap: anywhere }
 .moves { columns: 2; column-gap: 2rem } .moves table { width: 100%; break-inside: auto }
+.moves td { white-space: nowrap } .moves td:nth-child(3) { white-space: normal }
 tr.mark td { font-weight: 600 }
 @media (max-width: 640px) {
   article { grid-template-columns: minmax(0, 1fr) } .moves { columns: 1 }
@@ -52,15 +52,6 @@ tr.mark td { font-weight: 600 }
 PRINT = "@media print {" + COLORS.split("@media", maxsplit=1)[0] + "}"
 
 
-class Made(NamedTuple):
-    """How a report was made: the program, its evaluation, the name of the record, and the letters of its pieces."""
-
-    program: str
-    evaluation: str
-    name: str
-    pieces: str
-
-
 def link_of(board: Board) -> str:
     """lishogi's analysis board with the position."""
     sfen = urllib.parse.quote(board.sfen().replace(" ", "_"), safe="/_-")
@@ -72,7 +63,7 @@ def head_of(analysis: Analysis, made: Made) -> list[str]:
     head = analysis.game.head
     facts = [head.get(key, "") for key in ("event", "site", "date", "handicap")] + [result_of(analysis)]
     told = " · ".join(html.escape(fact) for fact in facts if fact)
-    out = [f"<h1>{html.escape(title_of(analysis.game, made.name))}</h1>"]
+    out = [f"<h1>{html.escape(title_of(analysis.game, made))}</h1>"]
     if told:
         out.append(f'<p class="soft">{told}</p>')
     if not analysis.is_whole:
@@ -155,7 +146,7 @@ def moves_of(analysis: Analysis, made: Made) -> list[str]:
 
 def page_of(analysis: Analysis, made: Made) -> str:
     """The whole page."""
-    title = html.escape(title_of(analysis.game, made.name))
+    title = html.escape(title_of(analysis.game, made))
     marks = [mark_of(analysis, number, plies, made) for number, plies in enumerate(analysis.marks(), 1)]
     return "\n".join(
         [
@@ -167,9 +158,10 @@ def page_of(analysis: Analysis, made: Made) -> str:
             *curve_of(analysis),
             *sides_of(analysis),
             "<h2>The moves that lost most</h2>",
+            '<p class="soft">Losses are of the chance of winning; values are in pawns, for Black.</p>',
             *(marks or ["<p>None lost anything.</p>"]),
             "<h2>All moves</h2>",
-            '<p class="soft">The value is that of the move that was played, in pawns, for Black.</p>',
+            '<p class="soft">The value is that of the move that was played.</p>',
             *moves_of(analysis, made),
             f"<footer><p>Made by analyse.py from {html.escape(made.name)}, by {html.escape(made.program)} at depth "
             f"{analysis.depth}, evaluation {html.escape(made.evaluation)}.</p></footer>",

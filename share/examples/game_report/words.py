@@ -1,8 +1,22 @@
 """What reports say of a game in words."""
 
+from typing import NamedTuple, Optional
+
 from shogi_records import Game
 
-from .values import Analysis, Row, Value, value_at
+from .values import Analysis, Value, value_at
+
+
+class Made(NamedTuple):
+    """How a report was made: the program, its evaluation, the name of the record, the letters of its pieces, and a title
+    that was asked for."""
+
+    program: str
+    evaluation: str
+    name: str
+    pieces: str
+    title: Optional[str] = None
+
 
 # What the words at the end of a record mean, for the side whose turn it is: whether it has won (None: a draw
 # or no result), and how it came.
@@ -79,13 +93,10 @@ def players_of(game: Game) -> tuple[str, str]:
     return game.head.get("black") or "Black", game.head.get("white") or "White"
 
 
-def title_of(game: Game, name: str) -> str:
-    """A title: the players where the record names them, or the name of the record."""
+def title_of(game: Game, made: Made) -> str:
+    """The title that was asked for, or the players where the record names them, or the name of the record."""
+    if made.title:
+        return made.title
     if game.head.get("black") or game.head.get("white"):
         return "☗ {} – ☖ {}".format(*players_of(game))
-    return name
-
-
-def is_black(row: Row) -> bool:
-    """Whether Black made the move of a row."""
-    return row.side == "Black"
+    return made.name
