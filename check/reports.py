@@ -312,7 +312,12 @@ def what_is_done_is_kept():
             paths = [os.path.join(folder, name) for name in names]
             words = ["--program", fake, "--html", paths[0], "--json", paths[1], "--depth", "4", *words]
             with subprocess.Popen(
-                script_of(*words), stdin=subprocess.PIPE, stdout=subprocess.PIPE, stderr=subprocess.PIPE
+                script_of(*words),
+                stdin=subprocess.PIPE,
+                stdout=subprocess.PIPE,
+                stderr=subprocess.PIPE,
+                # Ctrl-C is heard also where this script runs in the background.
+                preexec_fn=lambda: signal.signal(signal.SIGINT, signal.SIG_DFL),
             ) as running:
                 running.stdin.write(game.encode())
                 running.stdin.close()
