@@ -1,7 +1,8 @@
 #!/usr/bin/env python3
 """Runs the scripts of `share/examples` against the built program, over its standard input and output and
 as a host on a Unix socket. Its one argument is the program; without it, the program that `make build`
-makes. Its last line is `N passed, M failed`. The checks of records and of reports stand in records.py and reports.py."""
+makes. Its last line is `N passed, M failed`. The checks of records and of reports stand in records.py and in
+reports.py."""
 
 import os
 import socket
@@ -227,7 +228,8 @@ def slips_are_named_and_not_sent():
 def what_a_host_offers_is_taken():
     client = Unsent()
     offered = "option name Depth type spin default 4 min 1 max 4\noption name Eval type combo default Exchange"
-    client.offered = options_of(f"{offered} var Plain var Hand var Exchange\noption name Ponder type check".splitlines())
+    offered += " var Plain var Hand var Exchange\noption name Ponder type check default false"
+    client.offered = options_of(offered.splitlines())
     want(client.offered, {"Depth": range(1, 5), "Eval": ("Plain", "Hand", "Exchange")}, "the options")
     client.set_option("Eval", "Exchange")
     want(named(client.go, 5), "a depth is a whole number from 1 to 4, and not 5", "too deep")

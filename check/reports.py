@@ -131,7 +131,8 @@ def tables_of_other_forms():
     told = analysed(games, *words, "--game", "2")
     want(told[:2], table[:2], "the second game")
     want("analyse.py: <stdin>:2:1: game 2 of 2" in told[2], True, told[2])
-    want(analysed(games, *words, "--game", "3")[::2], (1, ["analyse.py: <stdin>:1:1: no game 3: the record has 2"]), "")
+    told = analysed(games, *words, "--game", "3")
+    want(told[::2], (1, ["analyse.py: <stdin>:1:1: no game 3: the record has 2"]), "a third game")
 
 
 def answer(*values):
@@ -190,8 +191,9 @@ def notations_of_moves():
     want(line_of(start, "7g7f 3c3d 8h2b+ 3a2b".split(), "japanese"), "☗７六歩 ☖３四歩 ☗２二角成 ☖同銀", "a line")
     want(line_of(start, "4i5h 3c3d".split(), "international"), "☗G4i-5h ☖P-3d", "which gold")
     want(NOTATIONS["japanese"](start, "4i5h"), "☗５八金右", "which gold")
-    for value, text in [((200, None), "+2"), ((-50, None), "−0.5"), ((0, None), "0"), ((None, 1), "Black mates in 1 ply")]:
-        want(pawns(value), text, "a value in words")
+    for cp, text in [(200, "+2"), (-50, "−0.5"), (0, "0")]:
+        want(pawns((cp, None)), text, "a value in words")
+    want(pawns((None, 1)), "Black mates in 1 ply", "a mate in words")
 
 
 class Tags(html.parser.HTMLParser):
@@ -288,7 +290,8 @@ def programs_of_other_kinds():
     with tempfile.TemporaryDirectory() as folder:
         fake = make_fake(folder, more="", refuses=True)
         status, _, told = analysed(game, "--program", fake)
-        want((status, told[0]), (0, f"analyse.py: evaluation Plain, as {fake} does not offer Exchange"), "an older one")
+        why = f"analyse.py: evaluation Plain, as {fake} does not offer Exchange"
+        want((status, told[0]), (0, why), "an older one")
         want(analysed(game, "--program", fake, "--eval", "Hand")[2][0].startswith("1 of 3"), True, "Hand is chosen")
         status, table, told = analysed(game, "--program", fake, "--eval", "Exchange")
         slip = "an option with a value that it does not have: Eval is Plain or Hand, and not 'Exchange'"
@@ -312,7 +315,12 @@ def what_is_done_is_kept():
             paths = [os.path.join(folder, name) for name in names]
             words = ["--program", fake, "--html", paths[0], "--json", paths[1], "--depth", "4", *words]
             with subprocess.Popen(
-                script_of(*words), stdin=subprocess.PIPE, stdout=subprocess.PIPE, stderr=subprocess.PIPE
+                script_of(*words),
+                stdin=subprocess.PIPE,
+                stdout=subprocess.PIPE,
+                stderr=subprocess.PIPE,
+                # Ctrl-C is heard also where this script runs in the background.
+                preexec_fn=lambda: signal.signal(signal.SIGINT, signal.SIG_DFL),
             ) as running:
                 running.stdin.write(game.encode())
                 running.stdin.close()

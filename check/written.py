@@ -49,8 +49,8 @@ def kif_of(words):
 
 
 def way_of(black, origin, to, origins):
-    """How a piece goes where others of its kind may go as well: up, level or back, and from which side, both said where
-    one alone would do."""
+    """How a piece goes where others of its kind may go as well: up, level or back, and from which side, both said
+    where one alone would do."""
     if origins == {origin}:
         return ""
     forward = (origin[1] - to[1]) * (1 if black else -1)

@@ -109,7 +109,7 @@ class Workers:
                 plies = self.wanted.get_nowait()
                 try:
                     self.found.put((plies, client.analyse(text_of_game(self.game, plies), self.depth)))
-                except (Gone, OSError, ValueError) as why:
+                except Exception as why:  # it is raised where the answers are taken
                     self.found.put((plies, why))
                     return
 

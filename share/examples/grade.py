@@ -1,7 +1,8 @@
 #!/usr/bin/env python3
 """Grades positions: a file of SFENs or `position` lines to CSV.
 
-    grade.py [--program PATH | --socket PATH] [--depth N] [--eval NAME] [--lines N] [--timeout SECONDS] [FILE] > grades.csv
+    grade.py [--program PATH | --socket PATH] [--depth N] [--eval NAME] [--lines N] [--timeout SECONDS] [FILE]
+             > grades.csv
 
 Each row has the SFEN, the depth, the best move, its score in hundredths of a pawn or as a mate in plies,
 and the best line. Where the side to move has no legal move, the best move is "resign", without a score or a

@@ -70,12 +70,15 @@ class Curve:
                 continue
             x, y = self.spot(plies + 1)
             black = self.rows[plies].side == "Black"
-            away = 20 if black else -20
-            if not UP < y + away < HEIGHT - DOWN:
-                away = -away
-            at = y + away
-            while any(abs(x - other) < 22 and abs(at - height) < 22 for other, height in taken):
-                at += away
+            way = 1 if black else -1
+            heights = [y + sign * 20 * step for step in range(1, 14) for sign in (way, -way)]
+            free = (
+                height
+                for height in heights
+                if UP < height < HEIGHT - DOWN
+                and not any(abs(x - other) < 22 and abs(height - at) < 22 for other, at in taken)
+            )
+            at = next(free, y + 20 * way)
             taken.append((x, at))
             out.append(path(f"M{x:.1f} {y:.1f}V{at:.1f}", stroke="var(--soft)"))
             out.append(f'<circle cx="{x:.1f}" cy="{y:.1f}" r="3.5" fill="var(--curve)"/>')
@@ -89,13 +92,13 @@ class Curve:
 
 def picture_of(analysis: Analysis, made: Made) -> str:
     """A picture of its own as SVG, with a list of the marked moves beside the curve."""
-    width, height = WIDTH + LIST, HEIGHT + 34
+    width, height, title = WIDTH + LIST, HEIGHT + 34, title_of(analysis.game, made)
     out = [
         f'<svg xmlns="http://www.w3.org/2000/svg" viewBox="0 0 {width} {height}" '
         'font-family="sans-serif" font-size="13" fill="var(--ink)">',
         f"<style>{COLORS}.soft {{ fill: var(--soft) }}</style>",
         f'<rect width="{width}" height="{height}" fill="var(--paper)"/>',
-        text_at(LEFT, 24, f"{title_of(analysis.game, made)}: Black's chance of winning, at depth {analysis.depth}", font_size=15),
+        text_at(LEFT, 24, f"{title}: Black's chance of winning, at depth {analysis.depth}", font_size=15),
         f'<g transform="translate(0 34)">{Curve(analysis).drawing()}</g>',
         text_at(WIDTH + 16, 52, "The moves that lost most:", font_size=15),
     ]

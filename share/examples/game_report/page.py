@@ -32,7 +32,8 @@ td.number, th.number { text-align: right }
 article { display: grid; grid-template-columns: minmax(0, 25rem) minmax(0, 1fr); gap: 1.2rem; align-items: start;
   padding: 1.2rem 0; border-top: 1px solid var(--grid); break-inside: avoid }
 .board { width: 100%; height: auto; display: block }
-.key { display: inline-block; width: 1.1em; height: .35em; border-radius: 2px; vertical-align: middle; margin-right: .4em }
+.key { display: inline-block; width: 1.1em; height: .35em; margin-right: .4em; border-radius: 2px;
+  vertical-align: middle }
 .played { background: var(--played) } .best { background: var(--best) }
 .line { overflow-wrap: anywhere }
 .moves { columns: 2; column-gap: 2rem } .moves table { width: 100%; break-inside: auto }
@@ -80,8 +81,8 @@ def curve_of(analysis: Analysis) -> list[str]:
         f'<figure><svg class="curve" viewBox="0 0 {WIDTH} {HEIGHT}" role="img" '
         f'aria-label="Black\'s chance of winning after each ply">{Curve(analysis).drawing()}</svg>',
         "<figcaption>Black's chance of winning after each ply, taken from the value <i>v</i> of the position as "
-        f"1 / (1 + e<sup>−v/{SCALE}</sup>): the mean of the values at depths {shallower} and {depth}, in hundredths of "
-        "a pawn; a captured pawn counts 200. A mate is 0 or 100 %.</figcaption></figure>",
+        f"1 / (1 + e<sup>−v/{SCALE}</sup>): the mean of the values at depths {shallower} and {depth}, in hundredths "
+        "of a pawn; a captured pawn counts 200. A mate is 0 or 100 %.</figcaption></figure>",
     ]
 
 
@@ -98,8 +99,9 @@ def sides_of(analysis: Analysis) -> list[str]:
         numbers = "".join(f'<td class="number">{cell}</td>' for cell in cells)
         out.append(f"<tr><th>{mark} {side}</th>{numbers}</tr>")
     out.append(
-        f'</table><p class="soft">A slip lost {100 * SLIP:.0f} % of the chance of winning or more. A loss is the least '
-        f"that depths {analysis.depth - 1} and {analysis.depth} agree on, and the played move seen one ply deeper.</p>"
+        f'</table><p class="soft">A slip lost {100 * SLIP:.0f} % of the chance of winning or more. A loss is the '
+        f"least on which depths {analysis.depth - 1} and {analysis.depth} agree, with the played move seen one ply "
+        "deeper too.</p>"
     )
     return out
 

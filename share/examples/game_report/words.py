@@ -8,8 +8,8 @@ from .values import Analysis, Value, value_at
 
 
 class Made(NamedTuple):
-    """How a report was made: the program, its evaluation, the name of the record, the letters of its pieces, and a title
-    that was asked for."""
+    """How a report was made: the program, its evaluation, the name of the record, the letters of its pieces, and a
+    title that was asked for."""
 
     program: str
     evaluation: str
