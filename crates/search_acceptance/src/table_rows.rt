@@ -67,7 +67,7 @@ fn words_of_keys(rt: HostRuntime) -> Result<(), Fail> {
             3300682383377,
             0,
             0,
-            12
+            18
         ]);
     let late = TableKey::of(&position(PROMOTED)?, Eval::Hand, 16);
     same!(rt; late.words(), [
@@ -80,7 +80,7 @@ fn words_of_keys(rt: HostRuntime) -> Result<(), Fail> {
             30786325577755,
             3211305,
             1050663,
-            67
+            99
         ]);
     Ok(())
 }
