@@ -1,14 +1,14 @@
 #!/usr/bin/env python3
-"""Measures three positions with `measure`: the time of a search against its depth, and the steps of a
-search against the size of its table. Writes their part of docs/BENCHMARKS.md and the plots. The program
-`measure` has to be built: bench/rates.sh does that."""
+"""Measures three positions with `bench_measure`: the time of a search against its depth, and the steps of a
+search against the size of its table. Prints both as tables, and writes the plots of docs/BENCHMARKS.md and
+the machine. The program `bench_measure` has to be built: bench/rates.sh does that."""
 
 import os
 import subprocess
 
 from report import TOP, machine, plot, put, table
 
-MEASURE = os.path.join(TOP, "crates", "measure", "out", "measure")
+MEASURE = os.path.join(TOP, "crates", "bench_measure", "out", "bench_measure")
 POSITIONS = {
     "opening": "startpos",
     "middle game": "l6nl/5+P1gk/2np1S3/p1p4Pp/3P2Sp1/1PPb2P1P/P5GS1/R8/LN4bKL w RGgsn5p 1",
@@ -71,8 +71,8 @@ def main():
         TABLES,
     )
     put("machine", f"The machine of the last run: {machine()}.")
-    put("time", by_position("Depth", times))
-    put("steps", by_position("Entries", tables))
+    print(by_position("Depth", times))
+    print(by_position("Entries", tables))
 
 
 if __name__ == "__main__":

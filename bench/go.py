@@ -1,7 +1,7 @@
 #!/usr/bin/env python3
 """Builds the program, and measures whole runs of it: from its start to the answer to `go` from the opening
 position; beside it Fairy-Stockfish, where that is installed. Writes its part of docs/BENCHMARKS.md. The
-depths are the arguments, or 1 to 7."""
+depths are the arguments, or 3 to 7."""
 
 import os
 import shutil
@@ -15,7 +15,7 @@ FOLDER = os.path.join(TOP, "crates", "usi_host")
 PROGRAM = os.path.join(FOLDER, "out", "usi_host")
 FAIRY = shutil.which("fairy-stockfish", path=os.environ.get("PATH", "") + ":/usr/games")
 OF_SHOGI = "uci\nsetoption name UCI_Variant value shogi\nposition startpos\n"
-DEPTHS = range(1, 8)
+DEPTHS = range(3, 8)
 TRIES = 15
 
 

@@ -2,7 +2,7 @@
 """Worked scripts of `go` with several lines on positions of games, computed from the rules alone, as
 `minimax_rows.py` does, by plain recursion and a stable sort. Games are played by chance from fixed seeds; a
 position is asked about at each sixth move, and wherever few moves are legal, as deep as plain recursion is quick.
-Usage: ranked_rows.py, which writes rows for crates/rows/data/scripts.txt."""
+Usage: ranked_rows.py, which writes rows for crates/test_rows/data/scripts.txt."""
 
 import random
 

@@ -42,8 +42,8 @@ USUAL = {
     "usi_lines": 44,
     "usi_texts": 46,
     "usi_session": 132,
-    "wires": 13,
-    "stream_wire": 122,
+    "transport": 13,
+    "stream_transport": 122,
     "session_slots": 29,
     "host_core": 98,
     "socket_loop": 162,
@@ -51,7 +51,7 @@ USUAL = {
     "usi_replay": 89,
     "usi_library": 70,
     "usi_arguments": 102,
-    "usi_runs": 20,
+    "usi_app": 20,
     "usi_host": 98,
 }
 

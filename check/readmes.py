@@ -1,5 +1,5 @@
 #!/usr/bin/env python3
-"""Looks whether the README of each library crate shows its uses as they stand in `crates/examples`, where
+"""Looks whether the README of each library crate shows its uses as they stand in `crates/test_examples`, where
 they are proved and run: everything from the first `use` of a file on; whether docs/DEFINITIONS.md has the
 tables of `check/definitions.py`; and whether docs/PROOFS.md counts definitions as `check/trusted.py` does.
 With `--write` it puts all of these there. Then looks whether README.md names the toolchain as `rt version`
@@ -16,7 +16,7 @@ from trusted import counts
 
 TOP = os.path.dirname(os.path.dirname(os.path.abspath(__file__)))
 CRATES = os.path.join(TOP, "crates")
-USES = os.path.join(CRATES, "examples", "src")
+USES = os.path.join(CRATES, "test_examples", "src")
 # The goals of the Makefile that README.md has to name: the one that runs the program, and the one that
 # tests it.
 GOALS = ("run", "test")
@@ -105,7 +105,7 @@ def main():
             passed += 1
         else:
             failed += 1
-            print(f"crates/{crate}/README.md does not show its uses as crates/examples has them")
+            print(f"crates/{crate}/README.md does not show its uses as crates/test_examples has them")
     readme = read(os.path.join(TOP, "README.md"))
     makefile = read(os.path.join(TOP, "Makefile"))
     for goal in GOALS:

@@ -129,7 +129,7 @@ opened_ends old new id steps o r = opened_under new.setup old new id steps (sym 
 prefix_of : (owes : List ℕ → List ℕ) (own_ taken_ : List ℕ) (now : Option SessionView) → EndsFrom owes own_ taken_ now → IsPrefixOf (taken_ ++ queued_of now) (owes own_)
 prefix_of owes own_ taken_ None (rest, e) = (rest, ap (λ xs. xs ++ rest) (append-nil taken_) ∙ e)
 prefix_of owes own_ taken_ (Some t) h =
-    (owed t.state t.running_go (ahead t.input []), append_assoc taken_ t.queued (owed t.state t.running_go (ahead t.input [])) ∙ (h [] ∙ ap owes (append-nil own_)))
+    (owed t.state t.go_task (ahead t.input []), append_assoc taken_ t.queued (owed t.state t.go_task (ahead t.input [])) ∙ (h [] ∙ ap owes (append-nil own_)))
 
 all_of : (owes : List ℕ → List ℕ) (own_ taken_ : List ℕ) (now : Option SessionView) → EndsFrom owes own_ taken_ now → IsSettled now → taken_ ++ queued_of now ≡ owes own_
 all_of owes own_ taken_ None h settled = absurd settled

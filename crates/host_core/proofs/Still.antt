@@ -13,7 +13,7 @@ use Rattle.std.specs.Borrow.{Bor}
 use Rattle.host_core.specs.ById.{IsQueue, is_still_of, is_over_of, pending_of, wants_input_of}
 use Rattle.host_core.specs.Made.{is_same_id}
 use Rattle.host_core.specs.Steps.{HostState}
-use Rattle.host_core.specs.Still.{AreStill, AreSettled, note_of}
+use Rattle.host_core.specs.Still.{AreStill, AreSettled, idle_generation_of}
 use Rattle.host_core.proofs.Ids.{same_id, other_id}
 use Rattle.host_core.proofs.Rounds.{is_settled}
 
@@ -26,7 +26,7 @@ blank (suc n) (suc k) g e = blank n k g e
 pub none_still : (n : ℕ) (slots : OpenSessions SessionView) → AreStill (replicate n None) slots
 none_still n slots id e = absurd (blank n id.slot id.generation e)
 
-written : (noted : List (Option ℕ)) (k : ℕ) (m : Option ℕ) (g : ℕ) → slice_index_or (set noted k m) k None ≡ Some g → m ≡ Some g
+written : (idle : List (Option ℕ)) (k : ℕ) (m : Option ℕ) (g : ℕ) → slice_index_or (set idle k m) k None ≡ Some g → m ≡ Some g
 written [] k m g e = absurd (cc)
 written (x ∷ xs) zero m g e = e
 written (x ∷ xs) (suc k) m g e = written xs k m g e
@@ -41,48 +41,48 @@ noted_generation false x g e = absurd (cc)
 
 -- a note of another session at the slot is of another generation
 same_slot : (at id : SessionId) (found : Option SessionView) → id ≢ at → id.slot ≡ at.slot
-    → note_of at found ≡ Some id.generation → ⊥
+    → idle_generation_of at found ≡ Some id.generation → ⊥
 same_slot at id found differs same e =
     let g : at.generation ≡ id.generation = noted_generation (is_still_of found) at.generation id.generation e in
     differs (λ k. record { slot = same k; generation = sym g k })
 
-noted_by : (b : Bool) (noted : List (Option ℕ)) (old new : OpenSessions SessionView) (at id : SessionId) (found : Option SessionView)
-    → is_same_id at id ≡ b → find new at ≡ found → AreStill noted old → OthersKept old new at
-    → slice_index_or (set noted at.slot (note_of at found)) id.slot None ≡ Some id.generation
+noted_by : (b : Bool) (idle : List (Option ℕ)) (old new : OpenSessions SessionView) (at id : SessionId) (found : Option SessionView)
+    → is_same_id at id ≡ b → find new at ≡ found → AreStill idle old → OthersKept old new at
+    → slice_index_or (set idle at.slot (idle_generation_of at found)) id.slot None ≡ Some id.generation
     → is_still_of (find new id) ≡ true
-noted_by true noted old new at id found s finds still kept e =
+noted_by true idle old new at id found s finds still kept e =
     let same : at ≡ id = same_id at id s in
     let slot : id.slot ≡ at.slot = ap (λ (i : SessionId). i.slot) (sym same) in
-    let m : note_of at found ≡ Some id.generation = written noted at.slot (note_of at found) id.generation (ap (λ k. slice_index_or (set noted at.slot (note_of at found)) k None) (sym slot) ∙ e) in
+    let m : idle_generation_of at found ≡ Some id.generation = written idle at.slot (idle_generation_of at found) id.generation (ap (λ k. slice_index_or (set idle at.slot (idle_generation_of at found)) k None) (sym slot) ∙ e) in
     ap (λ (i : SessionId). is_still_of (find new i)) (sym same) ∙ (ap is_still_of finds ∙ noted_still (is_still_of found) at.generation id.generation m)
-noted_by false noted old new at id found s finds still kept e =
+noted_by false idle old new at id found s finds still kept e =
     elim (cases_eq id.slot at.slot) [
-      | inl same ↦ absurd (same_slot at id found (other_id at id s) same (written noted at.slot (note_of at found) id.generation (ap (λ k. slice_index_or (set noted at.slot (note_of at found)) k None) (sym same) ∙ e)))
-      | inr apart ↦ ap is_still_of (kept id (other_id at id s)) ∙ still id (sym (get_or-set_other noted at.slot id.slot (note_of at found) None apart) ∙ e)
+      | inl same ↦ absurd (same_slot at id found (other_id at id s) same (written idle at.slot (idle_generation_of at found) id.generation (ap (λ k. slice_index_or (set idle at.slot (idle_generation_of at found)) k None) (sym same) ∙ e)))
+      | inr apart ↦ ap is_still_of (kept id (other_id at id s)) ∙ still id (sym (get_or-set_other idle at.slot id.slot (idle_generation_of at found) None apart) ∙ e)
     ]
 
 -- after one session changed, and was noted
-pub still_after : (noted : List (Option ℕ)) (old new : OpenSessions SessionView) (at : SessionId) (found : Option SessionView)
-    → find new at ≡ found → AreStill noted old → OthersKept old new at
-    → AreStill (set noted at.slot (note_of at found)) new
-still_after noted old new at found finds still kept id e = noted_by (is_same_id at id) noted old new at id found refl finds still kept e
+pub still_after : (idle : List (Option ℕ)) (old new : OpenSessions SessionView) (at : SessionId) (found : Option SessionView)
+    → find new at ≡ found → AreStill idle old → OthersKept old new at
+    → AreStill (set idle at.slot (idle_generation_of at found)) new
+still_after idle old new at found finds still kept id e = noted_by (is_same_id at id) idle old new at id found refl finds still kept e
 
 -- after a write to the session of an id
-pub still_written : (noted : List (Option ℕ)) (old : OpenSessions SessionView) (at : SessionId) (t after : SessionView)
-    → find old at ≡ Some t → AreStill noted old
-    → AreStill (set noted at.slot (note_of at (Some after))) (with_session old at after)
-still_written noted old at t after e still =
-    still_after noted old (with_session old at after) at (Some after) (find-with_session old at t after e) still (λ other differs. find-with_session-other old at other t after e differs)
+pub still_written : (idle : List (Option ℕ)) (old : OpenSessions SessionView) (at : SessionId) (t after : SessionView)
+    → find old at ≡ Some t → AreStill idle old
+    → AreStill (set idle at.slot (idle_generation_of at (Some after))) (with_session old at after)
+still_written idle old at t after e still =
+    still_after idle old (with_session old at after) at (Some after) (find-with_session old at t after e) still (λ other differs. find-with_session-other old at other t after e differs)
 
 -- a new session is still
-new_noted : (setup : Setup) (at : SessionId) → note_of at (Some (new_session_under setup)) ≡ Some at.generation
+new_noted : (setup : Setup) (at : SessionId) → idle_generation_of at (Some (new_session_under setup)) ≡ Some at.generation
 new_noted setup at = ap (λ b. cond (b && true) (Some at.generation) None) (new_wants_under setup)
 
 -- after a session was opened
-pub still_opened : (setup : Setup) (noted : List (Option ℕ)) (old new : OpenSessions SessionView) (at : SessionId) → AreStill noted old → Opens old new at (new_session_under setup)
-    → AreStill (set noted at.slot (Some at.generation)) new
-still_opened setup noted old new at still o =
-    let s : AreStill (set noted at.slot (note_of at (Some (new_session_under setup)))) new = still_after noted old new at (Some (new_session_under setup)) o.now still o.others in
+pub still_opened : (setup : Setup) (idle : List (Option ℕ)) (old new : OpenSessions SessionView) (at : SessionId) → AreStill idle old → Opens old new at (new_session_under setup)
+    → AreStill (set idle at.slot (Some at.generation)) new
+still_opened setup idle old new at still o =
+    let s : AreStill (set idle at.slot (idle_generation_of at (Some (new_session_under setup)))) new = still_after idle old new at (Some (new_session_under setup)) o.now still o.others in
     rw (new_noted setup at) at s
 
 -- a session that is still is open, and nothing of it is pending
@@ -120,21 +120,21 @@ pub still_queue : (found : Option SessionView) (bytes : Bor (List ℕ)) → is_s
 still_queue None bytes e none = absurd (cc)
 still_queue (Some t) bytes e none = none ∙ empty_list t.queued (and_parts (wants_input t) (nat_eq (length t.queued) 0) e).1
 
-same_default : (noted : List (Option ℕ)) (k : ℕ) (x : Option ℕ) → k < length noted → slice_index_or noted k x ≡ slice_index_or noted k None
+same_default : (idle : List (Option ℕ)) (k : ℕ) (x : Option ℕ) → k < length idle → slice_index_or idle k x ≡ slice_index_or idle k None
 same_default [] k x h = absurd (omega arith)
 same_default (y ∷ ys) zero x h = refl
 same_default (y ∷ ys) (suc k) x h = same_default ys k x (omega arith)
 
-still_settled : (noted : List (Option ℕ)) (h : HostState) (slot g : ℕ) → AreStill noted h.slots → slice_index_or noted slot None ≡ Some g → AreSettled slot (slot + 1) h.slots.slots
-still_settled noted h slot g still e =
+still_settled : (idle : List (Option ℕ)) (h : HostState) (slot g : ℕ) → AreStill idle h.slots → slice_index_or idle slot None ≡ Some g → AreSettled slot (slot + 1) h.slots.slots
+still_settled idle h slot g still e =
     let id : SessionId = record { slot = slot; generation = g } in
     let s : is_still_of (find h.slots id) ≡ true = still id e in
     is_settled h id (is_open (find h.slots id) s) (still_idle (find h.slots id) s)
 
-settled_at : (noted : List (Option ℕ)) (h : HostState) (slot : ℕ) (x : Option ℕ) → AreStill noted h.slots → slice_index_or noted slot None ≡ x → is_some x ≡ true → AreSettled slot (slot + 1) h.slots.slots
-settled_at noted h slot None still e some = absurd (cc)
-settled_at noted h slot (Some g) still e some = still_settled noted h slot g still e
+settled_at : (idle : List (Option ℕ)) (h : HostState) (slot : ℕ) (x : Option ℕ) → AreStill idle h.slots → slice_index_or idle slot None ≡ x → is_some x ≡ true → AreSettled slot (slot + 1) h.slots.slots
+settled_at idle h slot None still e some = absurd (cc)
+settled_at idle h slot (Some g) still e some = still_settled idle h slot g still e
 
 -- a slot at which something is noted is passed
-pub noted_settled : (noted : List (Option ℕ)) (h : HostState) (slot : ℕ) (x : Option ℕ) → AreStill noted h.slots → slot < length noted → x ≡ slice_index_or noted slot x → is_some x ≡ true → AreSettled slot (slot + 1) h.slots.slots
-noted_settled noted h slot x still h1 e some = settled_at noted h slot x still (sym (e ∙ same_default noted slot x h1)) some
+pub noted_settled : (idle : List (Option ℕ)) (h : HostState) (slot : ℕ) (x : Option ℕ) → AreStill idle h.slots → slot < length idle → x ≡ slice_index_or idle slot x → is_some x ≡ true → AreSettled slot (slot + 1) h.slots.slots
+noted_settled idle h slot x still h1 e some = settled_at idle h slot x still (sym (e ∙ same_default idle slot x h1)) some

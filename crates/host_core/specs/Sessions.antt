@@ -17,7 +17,7 @@ pub record Fed (old : SessionView) (chunk : List ℕ) (new : SessionView) : Type
   pub after : (x : List ℕ) → state_due new x ≡ state_due old (chunk ++ x)
   pub queued_is : new.queued ≡ old.queued
   pub state_is : new.state ≡ old.state
-  pub running_go_is : new.running_go ≡ old.running_go
+  pub running_go_is : new.go_task ≡ old.go_task
 
 -- it went on by so many steps, owes what it owed and comes to the state that it came to, and its queue has only grown, by whole lines; where something is still pending, the budget is spent within a search
 pub record WorkedOn (old : SessionView) (budget steps : ℕ) (new : SessionView) : Type 0 where
@@ -26,7 +26,7 @@ pub record WorkedOn (old : SessionView) (budget steps : ℕ) (new : SessionView)
   pub grown : GrowsByLines old.queued new.queued
   pub most : steps ≤ budget
   pub made : steps + load new ≤ load old
-  pub spent : is_pending new ≡ true → (steps ≡ budget) × IsMidSearch new.running_go
+  pub spent : is_pending new ≡ true → (steps ≡ budget) × IsMidSearch new.go_task
   pub enough : load old ≤ budget → is_pending new ≡ false
   pub idle : is_pending old ≡ false → (steps ≡ 0) × (new ≡ old)
 
@@ -45,7 +45,7 @@ pub record Taken (old : SessionView) (n : ℕ) (bytes : List ℕ) (new : Session
   pub owed : (x : List ℕ) → due old x ≡ take n old.queued ++ due new x
   pub queued_is : new.queued ≡ drop n old.queued
   pub state_is : new.state ≡ old.state
-  pub running_go_is : new.running_go ≡ old.running_go
+  pub running_go_is : new.go_task ≡ old.go_task
   pub input_is : new.input ≡ old.input
 
 abbrev pub Feeds : List ℕ → SessionView → Outcome → SessionView → Type 0

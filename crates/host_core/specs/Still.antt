@@ -8,13 +8,13 @@ use Rattle.host_core.specs.Rounds.{pending_from}
 
 -- each session whose generation is noted at its slot is still
 abbrev pub AreStill : List (Option ℕ) → OpenSessions SessionView → Type 0
-AreStill noted slots =
-    (id : SessionId) → slice_index_or noted id.slot None ≡ Some id.generation
+AreStill idle slots =
+    (id : SessionId) → slice_index_or idle id.slot None ≡ Some id.generation
     → is_still_of (find slots id) ≡ true
 
 -- what is noted of an id: its generation, where it finds a session that is still
-abbrev pub note_of : SessionId → Option SessionView → Option ℕ
-note_of id found = cond (is_still_of found) (Some id.generation) None
+abbrev pub idle_generation_of : SessionId → Option SessionView → Option ℕ
+idle_generation_of id found = cond (is_still_of found) (Some id.generation) None
 
 -- between these slots none is pending
 abbrev pub AreSettled : ℕ → ℕ → List (Option (OpenSession SessionView)) → Type 0

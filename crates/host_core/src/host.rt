@@ -14,7 +14,7 @@ ghost use Rattle.shared_table.specs.declared.table.TheConstants.{CAPACITY_MAX};
 
 use crate::bytes::Bytes;
 use crate::event::HostFault;
-use crate::{notes, on_session};
+use crate::{idle_cache, on_session};
 use session_slots::{SessionId, SlotFault, Slots};
 use shared_table::SharedTable;
 use std::alloc::Allocator;
@@ -26,7 +26,7 @@ use usi_texts::Setup;
 /// Drops what is there. Tells whether something was.
 fn dropped<T: Drop>(value: Option<T>) -> Option<()>
     ensures some { OnSome result (IsSome value) }
-    ensures none { IfNone result (value ≡ None) }
+    ensures if_none { IfNone result (value ≡ None) }
 {
     match value {
         Some(_) => Some(()),
@@ -44,7 +44,7 @@ pub struct Host<S: BuildHasher, A: Allocator + Copy> {
     table: SharedTable<S, A>,
     pub(crate) slots: Slots<Session<A>, A>,
     // By slot: the generation of its session, where that is still.
-    pub(crate) noted: Vec<Option<u64>, A>,
+    pub(crate) idle: Vec<Option<u64>, A>,
 }
 
 impl<S: BuildHasher, A: Allocator + Copy> Model for Host<S, A> {
@@ -55,7 +55,7 @@ impl<S: BuildHasher, A: Allocator + Copy> Model for Host<S, A> {
 
     ghost view = { λ h. record { setup = h.setup; table = h.table; slots = h.slots } };
 
-    ghost invariant = { λ h. AreStill h.noted.items h.slots };
+    ghost invariant = { λ h. AreStill h.idle.items h.slots };
 }
 
 impl<S: BuildHasher, A: Allocator + Copy> Host<S, A> {
@@ -95,27 +95,27 @@ impl<S: BuildHasher, A: Allocator + Copy> Host<S, A> {
         let Ok(table) = SharedTable::new(alloc, entries, hasher) else {
             return Err(HostFault::OutOfMemory);
         };
-        let noted = vec![in alloc; None; slots]?;
+        let idle = vec![in alloc; None; slots]?;
         Ok(Host {
             alloc,
             setup,
             table,
             slots: Slots::new(alloc, slots),
-            noted,
+            idle,
         })
     }
 
     /// States that each entry of the table is true, that there are at most as many as its capacity,
     /// that each id which finds a session has a generation below the next one, and that at most 1,024
     /// sessions are open.
-    pub fn validity(&self)
+    pub fn reveal_invariant(&self)
         ensures truth { AreTrue self.now.table.pairs }
         ensures fits { length self.now.table.pairs ≤ self.now.table.capacity }
         ensures below { IsBelow self.now.slots }
         ensures few { count self.now.slots ≤ SESSIONS_MAX }
     {
-        self.table.validity();
-        self.slots.validity();
+        self.table.reveal_invariant();
+        self.slots.reveal_invariant();
     }
 
     /// The setup under which each session begins.
@@ -147,10 +147,10 @@ impl<S: BuildHasher, A: Allocator + Copy> Host<S, A> {
         ensures err { OnErr result (self.new ≡ self.old) }
         ensures below { IsBelow self.old.slots }
     {
-        self.slots.validity();
+        self.slots.reveal_invariant();
         match self.slots.open(Session::with_setup(self.alloc, self.setup)) {
             Ok(id) => {
-                notes::set(&mut self.noted, id.slot, Some(id.generation));
+                idle_cache::set(&mut self.idle, id.slot, Some(id.generation));
                 Ok(id)
             }
             Err(SlotFault::Full) => Err(HostFault::Full),
@@ -166,12 +166,12 @@ impl<S: BuildHasher, A: Allocator + Copy> Host<S, A> {
         ensures err { OnErr result (self.new ≡ self.old) }
         ensures below { IsBelow self.old.slots }
     {
-        self.slots.validity();
+        self.slots.reveal_invariant();
         let Some(session) = self.slots.get_mut(id) else {
             return Err(HostFault::UnknownSession);
         };
         let fed = on_session::feed(session, chunk);
-        notes::set(&mut self.noted, id.slot, notes::of(id, session));
+        idle_cache::set(&mut self.idle, id.slot, idle_cache::of(id, session));
         fed
     }
 
@@ -185,14 +185,14 @@ impl<S: BuildHasher, A: Allocator + Copy> Host<S, A> {
         ensures fits { length self.new.table.pairs ≤ self.new.table.capacity }
         ensures below { IsBelow self.old.slots }
     {
-        self.slots.validity();
+        self.slots.reveal_invariant();
         let Some(session) = self.slots.get_mut(id) else {
-            self.table.validity();
+            self.table.reveal_invariant();
             return Err(HostFault::UnknownSession);
         };
         let worked = on_session::work(session, &mut self.table, budget);
-        notes::set(&mut self.noted, id.slot, notes::of(id, session));
-        self.table.validity();
+        idle_cache::set(&mut self.idle, id.slot, idle_cache::of(id, session));
+        self.table.reveal_invariant();
         worked
     }
 
@@ -203,12 +203,12 @@ impl<S: BuildHasher, A: Allocator + Copy> Host<S, A> {
         ensures err { OnErr result (self.new ≡ self.old) }
         ensures below { IsBelow self.old.slots }
     {
-        self.slots.validity();
+        self.slots.reveal_invariant();
         let Some(session) = self.slots.get_mut(id) else {
             return Err(HostFault::UnknownSession);
         };
         let taken = on_session::take(self.alloc, session, n);
-        notes::set(&mut self.noted, id.slot, notes::of(id, session));
+        idle_cache::set(&mut self.idle, id.slot, idle_cache::of(id, session));
         taken
     }
 
@@ -221,12 +221,12 @@ impl<S: BuildHasher, A: Allocator + Copy> Host<S, A> {
         ensures err { OnErr result (self.new ≡ self.old) }
         ensures below { IsBelow self.old.slots }
     {
-        self.slots.validity();
+        self.slots.reveal_invariant();
         let Some(session) = self.slots.get_mut(id) else {
             return Err(HostFault::UnknownSession);
         };
         let passed = on_session::pass(session, n);
-        notes::set(&mut self.noted, id.slot, notes::of(id, session));
+        idle_cache::set(&mut self.idle, id.slot, idle_cache::of(id, session));
         passed
     }
 
@@ -237,10 +237,10 @@ impl<S: BuildHasher, A: Allocator + Copy> Host<S, A> {
         ensures err { OnErr result (self.new ≡ self.old) }
         ensures below { IsBelow self.old.slots }
     {
-        self.slots.validity();
+        self.slots.reveal_invariant();
         match dropped(self.slots.close(id)) {
             Some(()) => {
-                notes::set(&mut self.noted, id.slot, None);
+                idle_cache::set(&mut self.idle, id.slot, None);
                 Ok(())
             }
             None => Err(HostFault::UnknownSession),
@@ -307,7 +307,7 @@ impl<S: BuildHasher, A: Allocator + Copy> Host<S, A> {
     fn is_still(&self, id: SessionId) -> bool
         ensures still { result ≡ true → is_still_of (find self.now.slots id) ≡ true }
     {
-        match self.noted.get(id.slot) {
+        match self.idle.get(id.slot) {
             Some(Some(generation)) => *generation == id.generation,
             _ => false,
         }

@@ -4,8 +4,8 @@
 mod bytes;
 mod event;
 mod host;
+mod idle_cache;
 mod laws;
-mod notes;
 mod on_session;
 mod round;
 mod runs;

@@ -64,7 +64,7 @@ impl<S: BuildHasher, A: Allocator + Copy> Host<S, A> {
         ensures next { IfSome result (IsNext from self.now.slots) }
         ensures open { IfSome result (λ id. IsSome (find self.now.slots id)) }
         ensures not_last { IfSome result (λ id. id.slot < 2 ^ 64 - 1) }
-        ensures none { IfNone result (pending_from from (drop from self.now.slots.slots) ≡ []) }
+        ensures if_none { IfNone result (pending_from from (drop from self.now.slots.slots) ≡ []) }
     {
         let first = self.past_still(from);
         self.slots.next_open(first.checked_sub(1))
@@ -76,7 +76,7 @@ impl<S: BuildHasher, A: Allocator + Copy> Host<S, A> {
         ensures passed { AreSettled from result self.now.slots.slots }
     {
         let mut slot = from;
-        while slot < self.noted.len() && self.noted[slot].is_some() {
+        while slot < self.idle.len() && self.idle[slot].is_some() {
             slot += 1;
         }
         slot

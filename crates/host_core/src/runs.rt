@@ -54,9 +54,9 @@ impl<S: BuildHasher, A: Allocator + Copy> Host<S, A> {
         ensures fits { length self.new.table.pairs ≤ self.new.table.capacity }
         ensures below { IsBelow self.old.slots }
     {
-        self.validity();
+        self.reveal_invariant();
         let outcome = self.answer(event);
-        self.validity();
+        self.reveal_invariant();
         outcome
     }
 

@@ -12,7 +12,7 @@ use Rattle.shogi_core.proofs.BitLaws.{has_bit-and, has_bit-or}
 use Rattle.shogi_core.proofs.LineBits.{has_bit-not}
 use Rattle.shogi_core.proofs.CodesBack.{move_of-board}
 use Rattle.shogi_moves.specs.CheckInfo.{IsCheckInfo}
-use Rattle.shogi_moves.specs.Destinations.{is_own, is_unchecked}
+use Rattle.shogi_moves.specs.Destinations.{is_own, leaves_king_safe}
 use Rattle.shogi_moves.specs.Legal.{is_pseudo_legal_board_move}
 use Rattle.shogi_moves.proofs.DestinationLaws.{legal_board, no_answer, unchecked_either}
 use Rattle.shogi_moves.proofs.LegalLaws.{is_legal_code_of}
@@ -23,10 +23,10 @@ use Rattle.last_ply.proofs.Squares.{out_within}
 -- a legal move of what is no king ends where the check is answered
 answers_on : (p : Shogi) (checked : Bool) (pinned_or_king from n : ℕ) (promote : Bool) → IsValid p → IsCheckInfo p checked pinned_or_king → checked ≡ true → from < 81 → n < 81 → is_own p from ≡ true → is_king p.side (piece_at p.cells from) ≡ false
     → is_legal_board_move p from n promote ≡ true → has_bit pinned_or_king n ≡ true
-answers_on p checked pinned_or_king from n promote v g check hf hn own plain l =
+answers_on p checked pinned_or_king from n promote v g check hf hn own non_promoting l =
     let legal = sym (is_legal_code_of p (code_of (Board from n promote)) (Board from n promote) (move_of-board from n promote hf hn) ∙ legal_board p from n promote) ∙ l in
-    let safe : is_unchecked p (Board from n promote) ≡ true = (and_parts (is_pseudo_legal_board_move p.cells p.side from n promote) (is_unchecked p (Board from n promote)) legal).1 in
-    true_from_ne_false (has_bit pinned_or_king n) (λ out. both_ways (is_unchecked p (Board from n false)) (no_answer p checked pinned_or_king from n g check v.cells_fit hf hn own plain out) (sym (unchecked_either p from n promote v.cells_fit hn own) ∙ safe))
+    let safe : leaves_king_safe p (Board from n promote) ≡ true = (and_parts (is_pseudo_legal_board_move p.cells p.side from n promote) (leaves_king_safe p (Board from n promote)) legal).1 in
+    true_from_ne_false (has_bit pinned_or_king n) (λ out. both_ways (leaves_king_safe p (Board from n false)) (no_answer p checked pinned_or_king from n g check v.cells_fit hf hn own non_promoting out) (sym (unchecked_either p from n promote v.cells_fit hn own) ∙ safe))
 
 pub none_without_answer : (p : Shogi) (checked : Bool) (pinned_or_king own kings reaching : ℕ) → IsValid p → IsCheckInfo p checked pinned_or_king → checked ≡ true → own < 2 ^ 81 → HasBits own (is_own p) → ((n : ℕ) → n < 81 → has_bit kings n ≡ is_king p.side (piece_at p.cells n))
     → OnEach (bit_and pinned_or_king (2 ^ 128 - 1 - own)) (HasReachers p.cells reaching) → OnRest own (bit_and own (bit_or kings reaching)) (HasNoneFrom p)

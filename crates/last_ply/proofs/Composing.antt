@@ -16,10 +16,10 @@ use Rattle.shogi_eval.specs.declared.points.TheConstants.{POINTS_MAX}
 use Rattle.shogi_eval.specs.Material.{material_of}
 use Rattle.shogi_eval.proofs.Bounds.{material_bounds}
 use Rattle.minimax.specs.declared.bounds.TheConstants.{MATE}
-use Rattle.shogi_eval.specs.Exchange.{left_by}
+use Rattle.shogi_eval.specs.Exchange.{leaf_after}
 use Rattle.minimax.specs.Minimax.{value, worth, ended, lost_value, greatest_or}
 use Rattle.minimax.proofs.Settling.{IsBounded, left_bounded}
-use Rattle.minimax.specs.Window.{IsCovered, threshold}
+use Rattle.minimax.specs.Window.{IsCovered, move_alpha}
 use Rattle.minimax.proofs.MinimaxLaws.{value-above, ended_some, ended_none, cut}
 use Rattle.minimax.proofs.Greatest.{greatest_or-least}
 use Rattle.minimax.proofs.Left.{IsFound, found_best, left_lost}
@@ -46,9 +46,9 @@ worth_none p e n none =
 -- what a legal move scores lies within the bounds of material, settled or not
 pub score_bounds : (p : Shogi) (e : Eval) (n : ℕ) → IsValid p → is_in n (legal_codes p) ≡ true → ((pos 0 -ℤ pos POINTS_MAX) ≤ℤ score_at p e n) × (score_at p e n ≤ℤ pos POINTS_MAX)
 score_bounds p e n ok i =
-    let b : IsBounded (left_by p e n) = left_bounded p e n (after_valid p n ok i) in
-    let low : (pos 0 -ℤ pos POINTS_MAX) ≤ℤ left_by p e n = b.least in
-    let high : left_by p e n ≤ℤ pos POINTS_MAX = b.most in
+    let b : IsBounded (leaf_after p e n) = left_bounded p e n (after_valid p n ok i) in
+    let low : (pos 0 -ℤ pos POINTS_MAX) ≤ℤ leaf_after p e n = b.least in
+    let high : leaf_after p e n ≤ℤ pos POINTS_MAX = b.most in
     (omega (arith, ints, low, high), omega (arith, ints, low, high))
 
 pub raw_bounds : (p : Shogi) (e : Eval) (n : ℕ) → IsValid p → is_in n (legal_codes p) ≡ true → ((pos 0 -ℤ pos POINTS_MAX) ≤ℤ raw_score p e n) × (raw_score p e n ≤ℤ pos POINTS_MAX)
@@ -108,7 +108,7 @@ pub at_most : (p : Shogi) (e : Eval) (v : ℤ) → HasNoMate p → ScoresAtMost 
 at_most p e v quiet most lost = worth_at_most p e v (λ n i. let q : worth p e 0 n ≡ score_at p e n = worth_some p e n (quiet n i) in let l : score_at p e n ≤ℤ v = most n i in omega (arith, ints)) lost
 
 -- a move that is not the first of those that are worth v, where none is worth more
-before : (v w : ℤ) (b n : ℕ) → w ≤ℤ v → (n < b → w ≡ v → ⊥) → w ≤ℤ threshold v (Some b) n
+before : (v w : ℤ) (b n : ℕ) → w ≤ℤ v → (n < b → w ≡ v → ⊥) → w ≤ℤ move_alpha v (Some b) n
 before v w b n most first = elim (cases_lt n b) [
   | inl low ↦ rw (lt-ltb n b low) (less (first low))
   | inr high ↦ rw (le-ltb n b high) most

@@ -18,7 +18,7 @@ use Rattle.shogi_core.proofs.LineBits.{lowest_set, has_bit-not}
 use Rattle.shogi_core.proofs.SeenLaws.{slide_seen, lined_aligned, slides_role}
 use Rattle.shogi_moves.specs.After.{dropped, piece_moved}
 use Rattle.shogi_moves.specs.Escapes.{AreEscapes}
-use Rattle.shogi_replies.specs.Replies.{IsAnswered}
+use Rattle.shogi_replies.specs.ReplyInfo.{IsAnswered}
 use Rattle.shogi_replies.proofs.CheckLaws.{step_both_ways}
 use Rattle.shogi_replies.proofs.EscapeLaws.{escaped_board, escaped_drop}
 use Rattle.shogi_replies.proofs.KingReplies.{taken_drop}

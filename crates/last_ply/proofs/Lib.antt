@@ -6,6 +6,6 @@ pub mod Settled
 pub mod Passing
 pub mod MateLaws
 pub mod OneWalk
-pub mod Firsts
+pub mod PriorityMoves
 pub mod DropLaws
 pub mod Held

@@ -26,7 +26,7 @@ use Rattle.shogi_core.proofs.CodesBack.{move_of-board, move_of-drop, code_of-boa
 use Rattle.shogi_moves.specs.After.{after, after_code}
 use Rattle.shogi_moves.specs.Legal.{is_legal, is_legal_code, is_pseudo_legal_board_move}
 use Rattle.shogi_core.specs.Zones.{may_promote, is_near_zone}
-use Rattle.shogi_moves.specs.Destinations.{is_own, AreEnterable, HasMovers, is_destination, is_unchecked}
+use Rattle.shogi_moves.specs.Destinations.{is_own, AreEnterable, HasMovers, is_destination, leaves_king_safe}
 use Rattle.shogi_moves.specs.LegalMoves.{legal_codes}
 use Rattle.shogi_moves.specs.Rising.{is_in}
 use Rattle.shogi_moves.proofs.DestinationLaws.{legal_board}
@@ -37,7 +37,7 @@ use Rattle.shogi_moves.proofs.LegalLaws.{in_legal, legal_in, legal_code_below, i
 use Rattle.shogi_eval.specs.declared.eval.Eval.{Eval}
 use Rattle.shogi_eval.specs.declared.eval.Eval.TheVariants.{Plain, Hand, Exchange}
 use Rattle.shogi_eval.specs.declared.gain.TheConstants.{PROMOTION_GAIN_MAX}
-use Rattle.shogi_eval.specs.Exchange.{is_quiet, left_by}
+use Rattle.shogi_eval.specs.Exchange.{is_quiet, leaf_after}
 use Rattle.shogi_eval.specs.Material.{material_of, taken_gain, promotion_gain, drop_gain, value_of}
 use Rattle.shogi_eval.proofs.Gains.{material_after_board, material_after_drop}
 use Rattle.minimax.proofs.Settling.{left_least, left_quiet}
@@ -46,7 +46,7 @@ use Rattle.last_ply.specs.LastPly.{is_legal_board_move, score_at, raw_score, Has
 
 -- what is settled scores no more than it does unsettled
 pub score_most : (p : Shogi) (e : Eval) (code : ℕ) → score_at p e code ≤ℤ raw_score p e code
-score_most p e code = let least : material_of (after_code p code) e ≤ℤ left_by p e code = left_least p e code in omega (arith, ints, least)
+score_most p e code = let least : material_of (after_code p code) e ≤ℤ leaf_after p e code = left_least p e code in omega (arith, ints, least)
 
 -- what the move on the board of a code scores with nothing settled
 pub score_board : (p : Shogi) (e : Eval) (from to : ℕ) (promote : Bool) → IsValid p → from < 81 → to < 81 → is_legal_board_move p from to promote ≡ true
@@ -84,45 +84,45 @@ score_quiet p e from to v hf ht l free =
     let promotion : promotion_gain false (piece_at p.cells from) ≡ 0 = plain_gain (piece_at p.cells from) in
     let law : _ = score_board p e from to false v hf ht l in
     let quiet : is_quiet p (move_of (code_of (Board from to false))) ≡ true = ap (is_quiet p) back ∙ ap is_none none in
-    let left : left_by p e (code_of (Board from to false)) ≡ material_of (after_code p (code_of (Board from to false))) e = left_quiet p e (code_of (Board from to false)) quiet in
+    let left : leaf_after p e (code_of (Board from to false)) ≡ material_of (after_code p (code_of (Board from to false))) e = left_quiet p e (code_of (Board from to false)) quiet in
     omega (arith, ints, law, taken, promotion, left)
 
 -- what a legal move on the board obeys
 pub legal_parts : (p : Shogi) (from n : ℕ) (promote : Bool) → from < 81 → n < 81 → is_legal_board_move p from n promote ≡ true → (reaches p.cells from n ≡ true) × (is_own p n ≡ false) × ((not promote || may_promote (piece_at p.cells from) from n) ≡ true)
 legal_parts p from n promote hf h l =
     let legal = sym (is_legal_code_of p (code_of (Board from n promote)) (Board from n promote) (move_of-board from n promote hf h) ∙ legal_board p from n promote) ∙ l in
-    let four = and_parts _ _ (and_parts (is_pseudo_legal_board_move p.cells p.side from n promote) (is_unchecked p (Board from n promote)) legal).0 in
+    let four = and_parts _ _ (and_parts (is_pseudo_legal_board_move p.cells p.side from n promote) (leaves_king_safe p (Board from n promote)) legal).0 in
     let three = and_parts _ _ four.0 in
     let two = and_parts _ _ three.0 in
     (two.1, not-true _ (and_parts _ _ two.0).1, three.1)
 
 -- a legal move ends on a square of the reach, and with promotion where the piece may promote
-pub legal_end : (p : Shogi) (from reach n : ℕ) (promote : Bool) → from < 81 → n < 81 → IsReach p from reach → is_legal_board_move p from n promote ≡ true → has_bit reach n ≡ true
-legal_end p from reach n promote hf h rb l =
+pub legal_end : (p : Shogi) (from targets n : ℕ) (promote : Bool) → from < 81 → n < 81 → IsReach p from targets → is_legal_board_move p from n promote ≡ true → has_bit targets n ≡ true
+legal_end p from targets n promote hf h rb l =
     let parts = legal_parts p from n promote hf h l in
     rb n h ∙ and_from _ _ parts.0 (ap not parts.1)
 
-pub legal_promotion : (p : Shogi) (from reach zone n : ℕ) → from < 81 → n < 81 → IsReach p from reach → has_bit zone n ≡ may_promote (piece_at p.cells from) from n → is_legal_board_move p from n true ≡ true → has_bit (bit_and reach zone) n ≡ true
-legal_promotion p from reach zone n hf h rb zb l = has_bit-and reach zone n ∙ and_from _ _ (legal_end p from reach n true hf h rb l) (zb ∙ (legal_parts p from n true hf h l).2)
+pub legal_promotion : (p : Shogi) (from targets zone n : ℕ) → from < 81 → n < 81 → IsReach p from targets → has_bit zone n ≡ may_promote (piece_at p.cells from) from n → is_legal_board_move p from n true ≡ true → has_bit (bit_and targets zone) n ≡ true
+legal_promotion p from targets zone n hf h rb zb l = has_bit-and targets zone n ∙ and_from _ _ (legal_end p from targets n true hf h rb l) (zb ∙ (legal_parts p from n true hf h l).2)
 
 -- the legal ones among the squares of the reach are all legal ones
-pub all_legal : (p : Shogi) (from reach ends n : ℕ) (promote : Bool) → from < 81 → n < 81 → IsReach p from reach → has_bit ends n ≡ (has_bit reach n && is_legal_board_move p from n promote) → has_bit ends n ≡ is_legal_board_move p from n promote
-all_legal p from reach ends n promote hf h rb bits = elim (cases_Bool (is_legal_board_move p from n promote)) [
-  | inl legal ↦ bits ∙ (and_from _ _ (legal_end p from reach n promote hf h rb legal) legal ∙ sym legal)
-  | inr illegal ↦ false_from_ne_true (has_bit ends n) (λ set. both_ways (is_legal_board_move p from n promote) illegal (and_parts (has_bit reach n) _ (sym bits ∙ set)).1) ∙ sym illegal
+pub all_legal : (p : Shogi) (from targets ends n : ℕ) (promote : Bool) → from < 81 → n < 81 → IsReach p from targets → has_bit ends n ≡ (has_bit targets n && is_legal_board_move p from n promote) → has_bit ends n ≡ is_legal_board_move p from n promote
+all_legal p from targets ends n promote hf h rb bits = elim (cases_Bool (is_legal_board_move p from n promote)) [
+  | inl legal ↦ bits ∙ (and_from _ _ (legal_end p from targets n promote hf h rb legal) legal ∙ sym legal)
+  | inr illegal ↦ false_from_ne_true (has_bit ends n) (λ set. both_ways (is_legal_board_move p from n promote) illegal (and_parts (has_bit targets n) _ (sym bits ∙ set)).1) ∙ sym illegal
 ]
 
 -- what a piece's captures and promotions score at most, all its moves do, where the node has no more
-pub from_ends : (p : Shogi) (e : Eval) (from reach foe zone : ℕ) (floor first last : ℤ) → IsValid p → from < 81 → IsReach p from reach
+pub from_ends : (p : Shogi) (e : Eval) (from targets foe zone : ℕ) (floor first last : ℤ) → IsValid p → from < 81 → IsReach p from targets
     → ((n : ℕ) → n < 81 → has_bit foe n ≡ is_piece_of (opponent_of p.side) (piece_at p.cells n)) → ((n : ℕ) → n < 81 → has_bit zone n ≡ may_promote (piece_at p.cells from) from n)
-    → ScoresAmongAtMost p e from false (bit_and reach foe) first → ScoresAmongAtMost p e from true (bit_and reach zone) last
+    → ScoresAmongAtMost p e from false (bit_and targets foe) first → ScoresAmongAtMost p e from true (bit_and targets zone) last
     → material_of p e ≤ℤ floor → floor ≤ℤ first → first ≤ℤ last → ScoresFromAtMost p e from last
-from_ends p e from reach foe zone floor first last v hf rb fb zb takes promotes base up more n promote h l = go promote l
+from_ends p e from targets foe zone floor first last v hf rb fb zb takes promotes base up more n promote h l = go promote l
   where
     go : (promote : Bool) → is_legal_board_move p from n promote ≡ true → score_at p e (code_of (Board from n promote)) ≤ℤ last
-    go true l = promotes n h (has_bit-and reach zone n ∙ and_from _ _ (legal_end p from reach n true hf h rb l) (zb n h ∙ (legal_parts p from n true hf h l).2)) l
+    go true l = promotes n h (has_bit-and targets zone n ∙ and_from _ _ (legal_end p from targets n true hf h rb l) (zb n h ∙ (legal_parts p from n true hf h l).2)) l
     go false l = elim (cases_Bool (has_bit foe n)) [
-      | inl set ↦ (let s : score_at p e (code_of (Board from n false)) ≤ℤ first = takes n h (has_bit-and reach foe n ∙ and_from _ _ (legal_end p from reach n false hf h rb l) set) l in omega (arith, ints))
+      | inl set ↦ (let s : score_at p e (code_of (Board from n false)) ≤ℤ first = takes n h (has_bit-and targets foe n ∙ and_from _ _ (legal_end p from targets n false hf h rb l) set) l in omega (arith, ints))
       | inr out ↦ (let s : score_at p e (code_of (Board from n false)) ≡ material_of p e = score_quiet p e from n v hf h l (sym (fb n h) ∙ out) in omega (arith, ints))
     ]
 
@@ -134,13 +134,13 @@ none_among p e from a b v none = (λ n h set l. absurd (both_ways (has_bit a n) 
     out n = or_parts _ _ (sym (has_bit-or a b n) ∙ (ap (λ (m : ℕ). has_bit m n) none ∙ has_bit-none n))
 
 -- the piece reaches and may enter the squares of its reach, and those of them that are among others
-pub enters : (p : Shogi) (from reach : ℕ) → IsReach p from reach → AreEnterable p from reach
-enters p from reach rb n h set =
+pub enters : (p : Shogi) (from targets : ℕ) → IsReach p from targets → AreEnterable p from targets
+enters p from targets rb n h set =
     let both = and_parts (reaches p.cells from n) (not (is_own p n)) (sym (rb n h) ∙ set) in
     (both.0, not-true (is_own p n) both.1)
 
-pub enters_some : (p : Shogi) (from reach squares : ℕ) → IsReach p from reach → AreEnterable p from (bit_and reach squares)
-enters_some p from reach squares rb n h set = enters p from reach rb n h (and_parts (has_bit reach n) _ (sym (has_bit-and reach squares n) ∙ set)).0
+pub enters_some : (p : Shogi) (from targets squares : ℕ) → IsReach p from targets → AreEnterable p from (bit_and targets squares)
+enters_some p from targets squares rb n h set = enters p from targets rb n h (and_parts (has_bit targets n) _ (sym (has_bit-and targets squares n) ∙ set)).0
 
 -- no drop gains
 drop_gain_most : (e : Eval) (kind : Kind) → drop_gain e kind ≤ℤ pos 0

@@ -13,7 +13,7 @@ use Rattle.shogi_moves.proofs.LegalLaws.{is_legal_code_of, legal_to_listed}
 use Rattle.shogi_eval.specs.declared.eval.Eval.{Eval}
 use Rattle.shogi_eval.specs.declared.eval.Eval.TheVariants.{Plain, Hand, Exchange}
 use Rattle.shogi_eval.specs.declared.points.TheConstants.{POINTS_MAX}
-use Rattle.shogi_eval.specs.Exchange.{settles}
+use Rattle.shogi_eval.specs.Exchange.{resolves_captures}
 use Rattle.minimax.proofs.Settling.{left_plain}
 use Rattle.static_exchange.specs.Reprisals.{IsReprisal, IsEnough}
 use Rattle.last_ply.specs.LastPly.{is_legal_board_move, score_at, raw_score}
@@ -32,16 +32,16 @@ apart_held a b n fa fb is up =
     apart (a -ℤ b) n (is ∙ first ∙ second) (omega (arith, ints, up))
 
 -- where nothing is settled, it scores what it scores unsettled
-pub score_plain : (p : Shogi) (e : Eval) (code : ℕ) → settles e ≡ false → score_at p e code ≡ raw_score p e code
+pub score_plain : (p : Shogi) (e : Eval) (code : ℕ) → resolves_captures e ≡ false → score_at p e code ≡ raw_score p e code
 score_plain p e code plain = ap (λ (v : ℤ). pos 0 -ℤ v) (left_plain p e code plain)
 
 -- elsewhere less what the other side wins
-pub score_won : (p : Shogi) (e : Eval) (code won : ℕ) → settles e ≡ true → IsReprisal p code won → score_at p e code ≡ raw_score p e code -ℤ pos won
+pub score_won : (p : Shogi) (e : Eval) (code won : ℕ) → resolves_captures e ≡ true → IsReprisal p code won → score_at p e code ≡ raw_score p e code -ℤ pos won
 score_won p Plain code won s w = absurd (cc)
 score_won p Hand code won s w = absurd (cc)
 score_won p Exchange code won s w = omega (arith, ints, w)
 
-pub score_enough : (p : Shogi) (e : Eval) (code won : ℕ) → settles e ≡ true → IsEnough p code won → score_at p e code ≤ℤ (raw_score p e code -ℤ pos won)
+pub score_enough : (p : Shogi) (e : Eval) (code won : ℕ) → resolves_captures e ≡ true → IsEnough p code won → score_at p e code ≤ℤ (raw_score p e code -ℤ pos won)
 score_enough p Plain code won s w = absurd (cc)
 score_enough p Hand code won s w = absurd (cc)
 score_enough p Exchange code won s w = omega (arith, ints, w)

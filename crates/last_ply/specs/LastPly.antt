@@ -17,11 +17,11 @@ use Rattle.shogi_moves.specs.Destinations.{is_own, AreEnterable}
 use Rattle.shogi_moves.specs.Legal.{is_legal_code}
 use Rattle.shogi_moves.specs.LegalMoves.{legal_codes}
 use Rattle.shogi_moves.specs.Rising.{is_in}
-use Rattle.shogi_replies.specs.Replies.{IsAnswered}
+use Rattle.shogi_replies.specs.ReplyInfo.{IsAnswered}
 use Rattle.shogi_eval.specs.declared.eval.Eval.{Eval}
 use Rattle.shogi_eval.specs.declared.gain.TheConstants.{PROMOTION_GAIN_MAX}
 use Rattle.shogi_eval.specs.Evaluated.{Evaluated}
-use Rattle.shogi_eval.specs.Exchange.{left_by}
+use Rattle.shogi_eval.specs.Exchange.{leaf_after}
 use Rattle.shogi_eval.specs.Material.{material_of, taken_gain}
 use Rattle.minimax.specs.Minimax.{negated, lost_value, IsTrueEntry}
 use Rattle.minimax.specs.declared.entry.Entry.{Entry}
@@ -69,7 +69,7 @@ base_of node = material_of node.position node.eval
 
 -- what the move of a code scores: what its mover has left, once the other side has settled it under an evaluation that does so
 abbrev pub score_at : Shogi → Eval → ℕ → ℤ
-score_at p e code = negated (left_by p e code)
+score_at p e code = negated (leaf_after p e code)
 
 -- what it scores if nothing is settled: the material after it, for its mover
 abbrev pub raw_score : Shogi → Eval → ℕ → ℤ
@@ -215,8 +215,8 @@ ScoresAmongAtMost p e from promote squares v =
     OnEach squares (λ n. ScoresToAtMost p e v from n promote)
 
 -- the capture of what does not slide gains no more than this
-abbrev pub StillGainAtMost : Eval → ℕ → Type 0
-StillGainAtMost e gain = (cell : Option Piece) → is_slider cell ≡ false → taken_gain e cell ≤ gain
+abbrev pub NonSliderGainAtMost : Eval → ℕ → Type 0
+NonSliderGainAtMost e gain = (cell : Option Piece) → is_slider cell ≡ false → taken_gain e cell ≤ gain
 
 -- a capture of what stands on the square scores no more than this, whatever takes and promotes
 abbrev pub TakesTooLittle : Evaluated → ℕ → ℤ → Type 0

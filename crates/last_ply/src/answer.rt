@@ -1,19 +1,19 @@
 //! What is known of a node with one ply left, within a window.
 
 ghost use Rattle.std.specs.Prelude.{◌≡◌, ◌<◌, ◌^◌, ◌≤ℤ◌, ◌<ℤ◌, IfSome, IsNone, true, false};
-ghost use Rattle.minimax.specs.Entries.{IsCutoff};
+ghost use Rattle.minimax.specs.Entries.{IsConclusive};
 ghost use Rattle.minimax.specs.Minimax.{negated, IsTrueEntry};
 ghost use Rattle.minimax.specs.declared.bounds.TheConstants.{INFINITY};
 ghost use Rattle.last_ply.specs.LastPly.{AreLegalEnds, base_of, HasNoMate, IsNoLoss, IsTrueOf, NodeHasScore, NodeScoresAtMost};
 
-use crate::scene::Scene;
+use crate::frontier::FrontierNode;
 use minimax::{Entry, MATE};
 use shogi_core::bits::{lowest, without_lowest};
 use shogi_core::{Square, Squares};
 use shogi_eval::Node;
 use shogi_moves::has_legal;
 
-impl Scene<'_> {
+impl FrontierNode<'_> {
     /// Whether one of the legal ends is one where nothing is taken, so that the move there, without
     /// promotion, scores what the node has.
     fn has_quiet_end(&self, from: Square, ends: Squares) -> bool
@@ -21,7 +21,7 @@ impl Scene<'_> {
         ensures { result ≡ true → NodeHasScore self.now.node.now
             (base_of self.now.node.now) }
     {
-        from.validity();
+        from.reveal_invariant();
         let quiet = ends.without(self.foe);
         if quiet.is_empty() {
             return false;
@@ -40,7 +40,7 @@ impl Scene<'_> {
         while left != 0 {
             let square = lowest(left);
             let from = Square::of_index(square);
-            if self.has_quiet_end(from, self.destinations(from).plain) {
+            if self.has_quiet_end(from, self.destinations(from).non_promoting) {
                 return true;
             }
             left = without_lowest(left, square);
@@ -51,8 +51,8 @@ impl Scene<'_> {
     /// What is known where some legal move leaves the other side without one.
     fn mate_entry(&self, alpha: i32, beta: i32) -> Option<Entry>
         ensures truth { IfSome result (IsTrueOf self.now.node.now) }
-        ensures cutoff { IfSome result (IsCutoff alpha beta) }
-        ensures none { IsNone result → HasNoMate self.now.node.now.position }
+        ensures conclusive { IfSome result (IsConclusive alpha beta) }
+        ensures if_none { IsNone result → HasNoMate self.now.node.now.position }
     {
         if !self.has_mate() {
             return None;
@@ -66,7 +66,7 @@ impl Scene<'_> {
         match self.first_mate() {
             None => None,
             Some(m) => {
-                m.validity();
+                m.reveal_invariant();
                 Some(Entry::Exact(MATE, Some(m)))
             }
         }
@@ -79,7 +79,7 @@ impl Scene<'_> {
         requires some { alpha <ℤ most → NodeHasScore self.now.node.now most }
         requires lost { IsNoLoss self.now.node.now.position most }
         ensures truth { IsTrueOf self.now.node.now result }
-        ensures cutoff { IsCutoff alpha beta result }
+        ensures conclusive { IsConclusive alpha beta result }
     {
         if most <= alpha {
             return Entry::AtMost(most);
@@ -87,20 +87,20 @@ impl Scene<'_> {
         match self.first_with(most) {
             None => unreachable!(),
             Some(m) => {
-                m.validity();
+                m.reveal_invariant();
                 Entry::Exact(most, Some(m))
             }
         }
     }
 
     /// What is known where no legal move scores more than this, unless that is enough.
-    fn settled(&self, most: i32, alpha: i32, beta: i32) -> Entry
+    fn resolve(&self, most: i32, alpha: i32, beta: i32) -> Entry
         requires all { most <ℤ beta → NodeScoresAtMost self.now.node.now most }
         requires some { alpha <ℤ most → NodeHasScore self.now.node.now most }
         requires lost { IsNoLoss self.now.node.now.position most }
         requires open { alpha <ℤ beta }
         ensures truth { IsTrueOf self.now.node.now result }
-        ensures cutoff { IsCutoff alpha beta result }
+        ensures conclusive { IsConclusive alpha beta result }
     {
         if most >= beta {
             return Entry::AtLeast(most);
@@ -112,33 +112,33 @@ impl Scene<'_> {
     }
 
     /// The same where perhaps only drops are legal, of which all may score less than the node has.
-    fn by_all_moves(&self, alpha: i32, beta: i32) -> Entry
+    fn resolve_by_enumeration(&self, alpha: i32, beta: i32) -> Entry
         requires open { alpha <ℤ beta }
         ensures truth { IsTrueOf self.now.node.now result }
-        ensures cutoff { IsCutoff alpha beta result }
+        ensures conclusive { IsConclusive alpha beta result }
     {
         if !has_legal(self.node.as_position()) {
             return Entry::Exact(-MATE - 1, None);
         }
-        self.settled(self.most_of_all(alpha), alpha, beta)
+        self.resolve(self.best_score_of_all(alpha), alpha, beta)
     }
 
     /// What is known where the node has more than the window's lower end.
-    fn above(&self, base: i32, alpha: i32, beta: i32) -> Entry
+    fn resolve_above_alpha(&self, base: i32, alpha: i32, beta: i32) -> Entry
         requires base { base ≡ base_of self.now.node.now }
         requires above { alpha <ℤ base }
         requires open { alpha <ℤ beta }
         ensures truth { IsTrueOf self.now.node.now result }
-        ensures cutoff { IsCutoff alpha beta result }
+        ensures conclusive { IsConclusive alpha beta result }
     {
-        let most = self.most(base, beta);
+        let most = self.best_score(base, beta);
         if most > base {
-            return self.settled(most, alpha, beta);
+            return self.resolve(most, alpha, beta);
         }
         if self.has_board_move() {
-            return self.settled(base, alpha, beta);
+            return self.resolve(base, alpha, beta);
         }
-        self.by_all_moves(alpha, beta)
+        self.resolve_by_enumeration(alpha, beta)
     }
 }
 
@@ -146,16 +146,16 @@ impl Scene<'_> {
 pub fn last_ply(node: &Node, alpha: i32, beta: i32) -> Entry
     requires open { alpha <ℤ beta }
     ensures truth { IsTrueEntry node.now.position node.now.eval 1 result }
-    ensures cutoff { IsCutoff alpha beta result }
+    ensures conclusive { IsConclusive alpha beta result }
 {
-    let scene = Scene::of(node);
-    if scene.known.info.checked && alpha < -MATE - 1 && beta > MATE {
-        return scene.by_one_walk();
+    let frontier = FrontierNode::of(node);
+    if frontier.known.info.checked && alpha < -MATE - 1 && beta > MATE {
+        return frontier.resolve_evasions();
     }
     let base = node.score();
     if base > alpha {
-        return scene.above(base, alpha, beta);
+        return frontier.resolve_above_alpha(base, alpha, beta);
     }
-    let most = scene.most(alpha, beta);
-    scene.settled(most, alpha, beta)
+    let most = frontier.best_score(alpha, beta);
+    frontier.resolve(most, alpha, beta)
 }

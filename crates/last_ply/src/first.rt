@@ -5,28 +5,28 @@ ghost use Rattle.shogi_core.specs.Codes.{code_of};
 ghost use Rattle.shogi_core.specs.Movement.{reaches};
 ghost use Rattle.shogi_moves.specs.Destinations.{is_own, AreEnterable, IsWithin};
 ghost use Rattle.shogi_moves.specs.Legal.{is_legal};
-ghost use Rattle.minimax.specs.Entries.{IsCutoff};
+ghost use Rattle.minimax.specs.Entries.{IsConclusive};
 ghost use Rattle.last_ply.specs.LastPly.{base_of, BoardMoveScores, HasNoMate, IsFirstFrom, IsFirstMate, IsFirstToScore, IsLegalTo, NoneGains, NoneScores, NoneScoresFrom, OtherEndsScoreElse, Scores, ScoresElse, NodeHasScore, NodeScoresAtMost, IsTrueOf};
-ghost use Rattle.last_ply.specs.Scenes.{OthersScoreElse};
+ghost use Rattle.last_ply.specs.FrontierNodes.{OthersScoreElse};
 
-use crate::mates::Outlook;
-use crate::scene::Scene;
+use crate::frontier::FrontierNode;
+use crate::mates::MateSearch;
 use minimax::{Entry, INFINITY, MATE};
 use shogi_core::bits::{lowest, without_lowest};
 use shogi_core::zones::promoting_squares;
 use shogi_core::{Move, Square, Squares};
 use shogi_moves::Walk;
 
-impl Scene<'_> {
+impl FrontierNode<'_> {
     /// The legal move of least code that leaves the other side without one.
     pub fn first_mate(&self) -> Option<Move>
         ensures some { IfSome result (λ m. IsFirstMate self.now.node.now.position (code_of m)) }
-        ensures none { IsNone result → HasNoMate self.now.node.now.position }
+        ensures if_none { IsNone result → HasNoMate self.now.node.now.position }
     {
-        let outlook = Outlook::of(self);
+        let mate_search = MateSearch::of(self);
         let mut walk = Walk::new(self.node.as_position());
         'moves: while let Some(m) = walk.next() {
-            if outlook.mates_past(&m) {
+            if mate_search.mates_past(&m) {
                 return Some(m);
             }
         }
@@ -43,8 +43,8 @@ impl Scene<'_> {
         ensures scores { result ≡ true → BoardMoveScores self.now.node.now score from to promote }
         ensures other { result ≡ false → ScoresElse self.now.node.now score from to promote }
     {
-        from.validity();
-        to.validity();
+        from.reveal_invariant();
+        to.reveal_invariant();
         let raw = self.raw_to(from, to, promote);
         if raw < score {
             return false;
@@ -61,13 +61,13 @@ impl Scene<'_> {
         ensures reached { AreEnterable self.now.node.now.position from result.bits }
         ensures others { OtherEndsScoreElse self.now.node.now score from result.bits }
     {
-        from.validity();
+        from.reveal_invariant();
         let p = self.node.as_position();
-        let reach = self.reach(from);
+        let targets = self.targets(from);
         if score <= self.node.score() {
-            return reach;
+            return targets;
         }
-        reach & (self.foe | promoting_squares(p.at(from), from))
+        targets & (self.foe | promoting_squares(p.at(from), from))
     }
 
     /// The move of least code of one of the side's pieces that is legal and scores this, no less
@@ -76,7 +76,7 @@ impl Scene<'_> {
         requires own { is_own self.now.node.now.position from ≡ true }
         requires least { base_of self.now.node.now ≤ℤ score }
         ensures some { IfSome result (λ m. IsFirstFrom self.now.node.now score from (code_of m)) }
-        ensures none { IsNone result → NoneScoresFrom self.now.node.now score from }
+        ensures if_none { IsNone result → NoneScoresFrom self.now.node.now score from }
     {
         let mut left = self.ends_scoring(from, score).bits;
         while left != 0 {
@@ -118,7 +118,7 @@ impl Scene<'_> {
     fn first_on_board(&self, score: i32) -> Option<Move>
         requires { base_of self.now.node.now ≤ℤ score }
         ensures some { IfSome result (λ m. IsFirstToScore self.now.node.now score (code_of m)) }
-        ensures none { IsNone result → NoneGains self.now.node.now score }
+        ensures if_none { IsNone result → NoneGains self.now.node.now score }
     {
         let mut left = self.pieces_scoring(score).bits;
         while left != 0 {
@@ -144,7 +144,7 @@ impl Scene<'_> {
     /// The legal move of least code that scores this.
     pub fn first_with(&self, score: i32) -> Option<Move>
         ensures some { IfSome result (λ m. IsFirstToScore self.now.node.now score (code_of m)) }
-        ensures none { IsNone result → NoneScores self.now.node.now score }
+        ensures if_none { IsNone result → NoneScores self.now.node.now score }
     {
         let base = self.node.score();
         if score >= base {
@@ -164,7 +164,7 @@ impl Scene<'_> {
 
     /// The most that a legal move scores, or the floor where that is no less, found by going
     /// through all moves.
-    pub fn most_of_all(&self, floor: i32) -> i32
+    pub fn best_score_of_all(&self, floor: i32) -> i32
         ensures least { floor ≤ℤ result }
         ensures all { NodeScoresAtMost self.now.node.now result }
         ensures some { floor <ℤ result → NodeHasScore self.now.node.now result }
@@ -172,27 +172,27 @@ impl Scene<'_> {
         let mut best = floor;
         let mut walk = Walk::new(self.node.as_position());
         'moves: while let Some(m) = walk.next() {
-            best = self.most_with(&m, best);
+            best = self.best_score_with(&m, best);
         }
         best
     }
 
     /// The value and the best move of a node with few legal moves: they are gone through once.
     #[inline(never)]
-    pub fn by_one_walk(&self) -> Entry
+    pub fn resolve_evasions(&self) -> Entry
         ensures truth { IsTrueOf self.now.node.now result }
-        ensures cutoff { (alpha beta : ℤ) → IsCutoff alpha beta result }
+        ensures conclusive { (alpha beta : ℤ) → IsConclusive alpha beta result }
     {
-        let outlook = Outlook::of(self);
+        let mate_search = MateSearch::of(self);
         let mut walk = Walk::new(self.node.as_position());
         let mut most = -INFINITY;
         let mut first = None;
         'moves: while let Some(m) = walk.next() {
-            if outlook.mates_past(&m) {
-                m.validity();
+            if mate_search.mates_past(&m) {
+                m.reveal_invariant();
                 return Entry::Exact(MATE, Some(m));
             }
-            let score = self.most_with(&m, most);
+            let score = self.best_score_with(&m, most);
             if score > most {
                 most = score;
                 first = Some(m);
@@ -201,7 +201,7 @@ impl Scene<'_> {
         match first {
             None => Entry::Exact(-MATE - 1, None),
             Some(m) => {
-                m.validity();
+                m.reveal_invariant();
                 Entry::Exact(most, Some(m))
             }
         }

@@ -9,21 +9,21 @@ ghost use Rattle.shogi_moves.specs.LegalMoves.{legal_codes};
 ghost use Rattle.shogi_moves.specs.Rising.{is_in};
 ghost use Rattle.shogi_eval.specs.declared.gain.TheConstants.{PROMOTION_GAIN_MAX};
 ghost use Rattle.shogi_eval.specs.declared.points.TheConstants.{PIECE_VALUE_MAX, POINTS_MAX};
-ghost use Rattle.shogi_eval.specs.Exchange.{settles};
-ghost use Rattle.last_ply.specs.LastPly.{base_of, is_legal_board_move, raw_of, score_of, Scores, HasReachers, NodeHasScore, NodeScoresAmongAtMost, NodeScoresAtMost, NodeScoresFromAtMost, NodeScoresToAtMost, OnEach, Outside, RawScoresTo, StillGainAtMost, TakesLittle};
-ghost use Rattle.last_ply.specs.Scenes.{OthersCannotMove, OthersScoreAtMost, OthersTakeLittle};
+ghost use Rattle.shogi_eval.specs.Exchange.{resolves_captures};
+ghost use Rattle.last_ply.specs.LastPly.{base_of, is_legal_board_move, raw_of, score_of, Scores, HasReachers, NodeHasScore, NodeScoresAmongAtMost, NodeScoresAtMost, NodeScoresFromAtMost, NodeScoresToAtMost, OnEach, Outside, RawScoresTo, NonSliderGainAtMost, TakesLittle};
+ghost use Rattle.last_ply.specs.FrontierNodes.{OthersCannotMove, OthersScoreAtMost, OthersTakeLittle};
 
-use crate::scene::Scene;
+use crate::frontier::FrontierNode;
 use shogi_core::bits::{lowest, without_lowest};
 use shogi_core::zones::{promoting_squares, squares_near_zone};
-use shogi_core::{Color, Move, Piece, Role, Square, Squares, aligned_squares, near_squares};
+use shogi_core::{Color, Move, Piece, Role, Square, Squares, line_mask, near_squares};
 use shogi_eval::{Eval, PROMOTION_GAIN_MAX, promotion_gain, taken_gain};
 use shogi_moves::{legal_destinations, takers};
-use static_exchange::reprisal;
+use static_exchange::best_exchange;
 
 /// The most that the capture of a piece that does not slide gains, that of a gold.
-fn still_gain(e: Eval) -> u32
-    ensures most { StillGainAtMost e result }
+fn max_nonslider_gain(e: Eval) -> u32
+    ensures most { NonSliderGainAtMost e result }
     ensures least { PROMOTION_GAIN_MAX ≤ result }
     ensures range { result ≤ 2 * PIECE_VALUE_MAX }
 {
@@ -34,7 +34,7 @@ fn still_gain(e: Eval) -> u32
     taken_gain(e, Some(gold))
 }
 
-impl Scene<'_> {
+impl FrontierNode<'_> {
     /// What the legal move scores with nothing settled.
     pub fn raw_with(&self, m: &Move) -> i32
         requires { is_legal self.now.node.now.position m.now ≡ true }
@@ -43,7 +43,7 @@ impl Scene<'_> {
         ensures least { (pos 0 -ℤ pos POINTS_MAX) ≤ℤ result }
         ensures most { result ≤ℤ pos POINTS_MAX }
     {
-        m.validity();
+        m.reveal_invariant();
         0 - self.node.score_after(m)
     }
 
@@ -51,7 +51,7 @@ impl Scene<'_> {
     /// with nothing settled it scores more than that.
     #[inline(never)]
     fn settled_above(&self, m: Move, raw: i32, floor: i32) -> i32
-        requires settles { settles self.now.node.now.eval ≡ true }
+        requires resolves_captures { resolves_captures self.now.node.now.eval ≡ true }
         requires legal { is_legal self.now.node.now.position m ≡ true }
         requires raw { raw ≡ raw_of self.now.node.now (code_of m) }
         requires above { floor <ℤ raw }
@@ -59,9 +59,9 @@ impl Scene<'_> {
         ensures at { score_of self.now.node.now (code_of m) ≤ℤ result }
         ensures exact { floor <ℤ result → result ≡ score_of self.now.node.now (code_of m) }
     {
-        m.validity();
+        m.reveal_invariant();
         let enough = raw.abs_diff(floor);
-        let lost = reprisal(self.node.as_position(), m, enough);
+        let lost = best_exchange(self.node.as_position(), m, enough);
         if lost < enough {
             raw - lost as i32
         } else {
@@ -80,7 +80,7 @@ impl Scene<'_> {
         ensures at { score_of self.now.node.now (code_of m) ≤ℤ result }
         ensures exact { floor <ℤ result → result ≡ score_of self.now.node.now (code_of m) }
     {
-        if self.node.eval().settles() {
+        if self.node.eval().resolves_captures() {
             self.settled_above(m, raw, floor)
         } else {
             raw
@@ -91,16 +91,16 @@ impl Scene<'_> {
     /// evaluation that settles.
     #[inline(never)]
     fn settles_at(&self, m: Move, raw: i32, score: i32) -> bool
-        requires settles { settles self.now.node.now.eval ≡ true }
+        requires resolves_captures { resolves_captures self.now.node.now.eval ≡ true }
         requires legal { is_legal self.now.node.now.position m ≡ true }
         requires raw { raw ≡ raw_of self.now.node.now (code_of m) }
         requires below { score ≤ℤ raw }
         ensures scores { result ≡ true → Scores self.now.node.now score (code_of m) }
         ensures other { result ≡ false → Scores self.now.node.now score (code_of m) → ⊥ }
     {
-        m.validity();
+        m.reveal_invariant();
         let lost = raw.abs_diff(score);
-        reprisal(self.node.as_position(), m, lost + 1) == lost
+        best_exchange(self.node.as_position(), m, lost + 1) == lost
     }
 
     /// Whether the legal move scores this, which is no more than with nothing settled.
@@ -112,7 +112,7 @@ impl Scene<'_> {
         ensures scores { result ≡ true → Scores self.now.node.now score (code_of m) }
         ensures other { result ≡ false → Scores self.now.node.now score (code_of m) → ⊥ }
     {
-        if self.node.eval().settles() {
+        if self.node.eval().resolves_captures() {
             self.settles_at(m, raw, score)
         } else {
             raw == score
@@ -120,7 +120,7 @@ impl Scene<'_> {
     }
 
     /// What the legal move scores, or the floor where that is no less.
-    pub fn most_with(&self, m: &Move, floor: i32) -> i32
+    pub fn best_score_with(&self, m: &Move, floor: i32) -> i32
         requires { is_legal self.now.node.now.position m.now ≡ true }
         ensures least { floor ≤ℤ result }
         ensures at { score_of self.now.node.now (code_of m.now) ≤ℤ result }
@@ -140,8 +140,8 @@ impl Scene<'_> {
     pub fn raw_to(&self, from: Square, to: Square, promote: bool) -> i32
         ensures { RawScoresTo self.now.node.now result from to promote }
     {
-        from.validity();
-        to.validity();
+        from.reveal_invariant();
+        to.reveal_invariant();
         let p = self.node.as_position();
         let gain = taken_gain(self.node.eval(), p.at(to)) + promotion_gain(p.at(from), promote);
         self.node.score() + gain as i32
@@ -155,19 +155,19 @@ impl Scene<'_> {
         requires free { is_own self.now.node.now.position to ≡ false }
         ensures { result ≡ is_legal_board_move self.now.node.now.position from to promote }
     {
-        to.validity();
+        to.reveal_invariant();
         let square = Squares::none().with(to);
         let ends = legal_destinations(&self.known, from, square);
         if promote {
             ends.promoting.has(to)
         } else {
-            ends.plain.has(to)
+            ends.non_promoting.has(to)
         }
     }
 
     /// What the move of one of the side's pieces to a square that it reaches scores, or the floor
     /// where it is illegal or that is no less.
-    fn most_to(&self, from: Square, to: Square, promote: bool, floor: i32) -> i32
+    fn best_score_to(&self, from: Square, to: Square, promote: bool, floor: i32) -> i32
         requires own { is_own self.now.node.now.position from ≡ true }
         requires reached { reaches self.now.node.now.position.cells from to ≡ true }
         requires free { is_own self.now.node.now.position to ≡ false }
@@ -175,8 +175,8 @@ impl Scene<'_> {
         ensures at { NodeScoresToAtMost self.now.node.now result from to promote }
         ensures some { floor <ℤ result → NodeHasScore self.now.node.now result }
     {
-        from.validity();
-        to.validity();
+        from.reveal_invariant();
+        to.reveal_invariant();
         let raw = self.raw_to(from, to, promote);
         if raw <= floor {
             return floor;
@@ -190,7 +190,7 @@ impl Scene<'_> {
     /// The most that a legal move of one of the side's pieces to these squares, which it reaches,
     /// scores, promoting or not, or the floor where that is no less.
     #[inline(always)]
-    fn most_among(&self, from: Square, promote: bool, ends: Squares, floor: i32) -> i32
+    fn best_score_among(&self, from: Square, promote: bool, ends: Squares, floor: i32) -> i32
         requires own { is_own self.now.node.now.position from ≡ true }
         requires reached { AreEnterable self.now.node.now.position from ends.bits }
         ensures least { floor ≤ℤ result }
@@ -201,7 +201,7 @@ impl Scene<'_> {
         let mut left = ends.bits;
         while left != 0 {
             let to = lowest(left);
-            best = self.most_to(from, Square::of_index(to), promote, best);
+            best = self.best_score_to(from, Square::of_index(to), promote, best);
             left = without_lowest(left, to);
         }
         best
@@ -209,23 +209,23 @@ impl Scene<'_> {
 
     /// The most that a legal move of one of the side's pieces scores, or the floor where that is no
     /// less; a move that takes nothing and does not promote scores what the node has.
-    fn most_from(&self, from: Square, floor: i32) -> i32
+    fn best_score_from(&self, from: Square, floor: i32) -> i32
         requires own { is_own self.now.node.now.position from ≡ true }
         requires floor { base_of self.now.node.now ≤ℤ floor }
         ensures least { floor ≤ℤ result }
         ensures all { NodeScoresFromAtMost self.now.node.now result from }
         ensures some { floor <ℤ result → NodeHasScore self.now.node.now result }
     {
-        from.validity();
+        from.reveal_invariant();
         let p = self.node.as_position();
-        let reach = self.reach(from);
-        let takes = reach & self.foe;
-        let promoting = reach & promoting_squares(p.at(from), from);
+        let targets = self.targets(from);
+        let takes = targets & self.foe;
+        let promoting = targets & promoting_squares(p.at(from), from);
         if (takes | promoting).is_empty() {
             return floor;
         }
-        let best = self.most_among(from, false, takes, floor);
-        self.most_among(from, true, promoting, best)
+        let best = self.best_score_among(from, false, takes, floor);
+        self.best_score_among(from, true, promoting, best)
     }
 
     /// Squares outside which nothing reaches the square.
@@ -234,7 +234,7 @@ impl Scene<'_> {
         ensures { HasReachers self.now.node.now.position.cells result.bits square }
     {
         let board = self.node.as_position().as_board();
-        near_squares(square) | board.sliders() & aligned_squares(square)
+        near_squares(square) | board.sliders() & line_mask(square)
     }
 
     /// Squares outside which nothing takes on the square; none where that scores no more than the
@@ -284,13 +284,13 @@ impl Scene<'_> {
 
     /// In check, the side's kings and those of its pieces that may reach a square where it is answered:
     /// no other one has a legal move.
-    fn answerers(&self) -> Squares
+    fn evaders(&self) -> Squares
         requires { self.now.known.info.checked ≡ true }
         ensures within { IsWithin result.bits self.now.own.bits }
         ensures others { OthersCannotMove self.now result.bits }
     {
         let p = self.node.as_position();
-        p.validity();
+        p.reveal_invariant();
         let answers = self.known.info.pinned_or_king.without(self.own);
         let reaching = self.squares_reaching_some(answers);
         self.own & (p.as_board().kings(p.side()) | reaching)
@@ -302,7 +302,7 @@ impl Scene<'_> {
         ensures others { OthersCannotMove self.now result.bits }
     {
         if self.known.info.checked {
-            return self.answerers();
+            return self.evaders();
         }
         self.own
     }
@@ -316,12 +316,12 @@ impl Scene<'_> {
         ensures others { OthersScoreAtMost self.now floor result.bits }
     {
         if self.known.info.checked {
-            return self.answerers();
+            return self.evaders();
         }
         let p = self.node.as_position();
         let sliders = p.as_board().sliders();
         let base = self.node.score();
-        let still = still_gain(self.node.eval());
+        let still = max_nonslider_gain(self.node.eval());
         if base + (still + PROMOTION_GAIN_MAX) as i32 <= floor {
             return self.takers_above(self.foe & sliders, floor);
         }
@@ -338,7 +338,7 @@ impl Scene<'_> {
     /// The most that a legal move scores, or the floor where that is no less, which is no less than
     /// what the node has; where that is enough for the bound, some number from the bound on that a
     /// legal move scores.
-    pub fn most(&self, floor: i32, beta: i32) -> i32
+    pub fn best_score(&self, floor: i32, beta: i32) -> i32
         requires floor { base_of self.now.node.now ≤ℤ floor }
         ensures least { floor ≤ℤ result }
         ensures all { result <ℤ beta → NodeScoresAtMost self.now.node.now result }
@@ -348,7 +348,7 @@ impl Scene<'_> {
         let mut left = self.gainers(floor).bits;
         while left != 0 {
             let from = lowest(left);
-            best = self.most_from(Square::of_index(from), best);
+            best = self.best_score_from(Square::of_index(from), best);
             if best >= beta {
                 return best;
             }

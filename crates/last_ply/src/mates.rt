@@ -7,36 +7,34 @@ ghost use Rattle.shogi_moves.specs.Destinations.{is_own, AreDropSquares, IsWithi
 ghost use Rattle.shogi_moves.specs.Escapes.{AreEscapes};
 ghost use Rattle.shogi_moves.specs.LegalMoves.{legal_codes};
 ghost use Rattle.shogi_moves.specs.Legal.{is_legal};
-ghost use Rattle.shogi_replies.specs.Replies.{IsAnswered, IsReplies};
+ghost use Rattle.shogi_replies.specs.ReplyInfo.{IsAnswered, IsReplyInfo};
 ghost use Rattle.last_ply.specs.LastPly.{AllDropsLeaveSome, AreLegalDropEnds, BoardLeavesSome, OnEach, Outside, HasMate, HasNoMate, IsMate, IsNoMate, IsPieceMoved, AreLegalEnds, LeaveSomeFrom, DropsLeaveSome, IsOutOfReach, HasOthers};
-ghost use Rattle.last_ply.specs.Scenes.{SceneAnsweredOff, SceneDoubtfulEnds, SceneDropsAnsweredOff, SceneDropsLeaveSomeAmong, SceneLeavesSomeAmong};
+ghost use Rattle.last_ply.specs.FrontierNodes.{FrontierAnsweredOff, FrontierDoubtfulEnds, FrontierDropsAnsweredOff, FrontierDropsLeaveSomeAmong, FrontierLeavesSomeAmong};
 
-use crate::scene::Scene;
+use crate::frontier::FrontierNode;
 use shogi_core::bits::{lowest, with, without_lowest};
 use shogi_core::zones::promoting_squares;
-use shogi_core::{
-    Kind, Move, Piece, Position, Role, Square, Squares, aligned_squares, step_squares,
-};
+use shogi_core::{Kind, Move, Piece, Position, Role, Square, Squares, line_mask, step_squares};
 use shogi_moves::{
     Destinations, drop_destinations, drop_squares, has_legal, is_legal, legal_destinations,
 };
-use shogi_replies::{Replies, king_takes, leaves_escape, leaves_king_move, some_escapes};
+use shogi_replies::{ReplyInfo, king_takes, leaves_escape, leaves_king_move, some_escapes};
 
-/// A scene, and what shows of most moves that the other side surely has one after them.
+/// A frontier node, and what shows of most moves that the other side surely has one after them.
 #[derive(Clone, Copy)]
-pub struct Outlook<'a> {
-    pub scene: Scene<'a>,
-    pub replies: Replies,
+pub struct MateSearch<'a> {
+    pub frontier: FrontierNode<'a>,
+    pub replies: ReplyInfo,
     /// Three of the squares to which the other side's king may go, or fewer where there are no more.
     pub escapes: Squares,
     /// The empty squares on which a held piece may be dropped.
     pub squares: Squares,
     /// Whether the other side surely has a legal move after each one that gives it no check.
     pub spared: bool,
-    ghost replied: { IsReplies scene.node.now.position replies.sight.bits replies.spare.bits } by { Prim.hlevel props },
-    ghost escaping: { AreEscapes scene.node.now.position escapes.bits } by { Prim.hlevel props },
-    ghost dropping: { AreDropSquares scene.node.now.position squares.bits } by { Prim.hlevel props },
-    ghost others: { spared ≡ true → HasOthers replies.spare.bits },
+    ghost replied: { IsReplyInfo frontier.node.now.position replies.king_view.bits replies.free_movers.bits } by { Prim.hlevel props },
+    ghost escaping: { AreEscapes frontier.node.now.position escapes.bits } by { Prim.hlevel props },
+    ghost dropping: { AreDropSquares frontier.node.now.position squares.bits } by { Prim.hlevel props },
+    ghost others: { spared ≡ true → HasOthers replies.free_movers.bits },
 }
 
 /// Whether there are two squares.
@@ -82,8 +80,8 @@ fn takes_legally(p: &Position, from: Square, to: Square) -> bool
     let Some(piece) = p.at(from) else {
         return false
     };
-    from.validity();
-    to.validity();
+    from.reveal_invariant();
+    to.reveal_invariant();
     let m = Move::Board {
         from,
         to,
@@ -97,7 +95,7 @@ fn retakes(p: &Position, m: &Move) -> bool
     ensures { result ≡ true → legal_codes p.now ≢ [] }
 {
     let to = end_of(m);
-    to.validity();
+    to.reveal_invariant();
     let mut left = pieces_near(p, to.index()).bits;
     while left != 0 {
         let square = lowest(left);
@@ -120,21 +118,21 @@ fn closing_squares(piece: Piece, square: usize) -> Squares
     };
     let steps = step_squares(back, square);
     if piece.role.is_sliding() {
-        steps | aligned_squares(square)
+        steps | line_mask(square)
     } else {
         steps
     }
 }
 
-impl Scene<'_> {
+impl FrontierNode<'_> {
     /// Whether the legal move leaves the other side without one.
     pub fn mates(&self, m: &Move) -> bool
         requires { is_legal self.now.node.now.position m.now ≡ true }
         ensures mated { result ≡ true → IsMate self.now.node.now.position m.now }
         ensures some { result ≡ true → HasMate self.now.node.now.position }
-        ensures none { result ≡ false → IsNoMate self.now.node.now.position m.now }
+        ensures if_none { result ≡ false → IsNoMate self.now.node.now.position m.now }
     {
-        m.validity();
+        m.reveal_invariant();
         if king_takes(self.node.as_position(), m) {
             return false;
         }
@@ -148,35 +146,35 @@ impl Scene<'_> {
     /// Whether some legal move leaves the other side without one.
     pub fn has_mate(&self) -> bool
         ensures some { result ≡ true → HasMate self.now.node.now.position }
-        ensures none { result ≡ false → HasNoMate self.now.node.now.position }
+        ensures if_none { result ≡ false → HasNoMate self.now.node.now.position }
     {
-        let outlook = Outlook::of(self);
-        outlook.has_board_mate() || outlook.has_drop_mate()
+        let mate_search = MateSearch::of(self);
+        mate_search.has_board_mate() || mate_search.has_drop_mate()
     }
 }
 
-impl Outlook<'_> {
-    /// The outlook of the scene.
+impl MateSearch<'_> {
+    /// The mate search of the node.
     #[inline(always)]
-    pub fn of<'a>(scene: &Scene<'a>) -> Outlook<'a>
-        ensures { result.scene.node.now ≡ scene.now.node.now }
+    pub fn of<'a>(frontier: &FrontierNode<'a>) -> MateSearch<'a>
+        ensures { result.frontier.node.now ≡ frontier.now.node.now }
     {
-        let p = scene.node.as_position();
-        let replies = Replies::of(p);
-        Outlook {
-            scene: *scene,
+        let p = frontier.node.as_position();
+        let replies = ReplyInfo::of(p);
+        MateSearch {
+            frontier: *frontier,
             replies,
             escapes: some_escapes(p),
-            squares: drop_squares(&scene.known),
-            spared: has_two(replies.spare),
+            squares: drop_squares(&frontier.known),
+            spared: has_two(replies.free_movers),
         }
     }
 
     /// Whether the other side's king surely has a way out after the legal move.
     fn leaves_way(&self, m: &Move) -> bool
-        ensures { result ≡ true → IsAnswered self.now.scene.node.now.position m.now }
+        ensures { result ≡ true → IsAnswered self.now.frontier.node.now.position m.now }
     {
-        let p = self.scene.node.as_position();
+        let p = self.frontier.node.as_position();
         leaves_escape(p, self.escapes, m) || leaves_king_move(p, self.escapes, m)
     }
 
@@ -184,35 +182,38 @@ impl Outlook<'_> {
     /// move is not made.
     #[inline(always)]
     fn tries(&self, m: &Move) -> bool
-        requires { is_legal self.now.scene.node.now.position m.now ≡ true }
-        ensures mated { result ≡ true → IsMate self.now.scene.node.now.position m.now }
-        ensures some { result ≡ true → HasMate self.now.scene.node.now.position }
-        ensures none { result ≡ false → IsNoMate self.now.scene.node.now.position m.now }
+        requires { is_legal self.now.frontier.node.now.position m.now ≡ true }
+        ensures mated { result ≡ true → IsMate self.now.frontier.node.now.position m.now }
+        ensures some { result ≡ true → HasMate self.now.frontier.node.now.position }
+        ensures if_none { result ≡ false → IsNoMate self.now.frontier.node.now.position m.now }
     {
-        m.validity();
+        m.reveal_invariant();
         if self.leaves_way(m) {
             return false;
         }
-        self.scene.mates(m)
+        self.frontier.mates(m)
     }
 
     /// The same; where a reply shows after a move that gives no check, nothing more is asked.
     pub fn mates_past(&self, m: &Move) -> bool
-        requires { is_legal self.now.scene.node.now.position m.now ≡ true }
-        ensures mated { result ≡ true → IsMate self.now.scene.node.now.position m.now }
-        ensures none { result ≡ false → IsNoMate self.now.scene.node.now.position m.now }
+        requires { is_legal self.now.frontier.node.now.position m.now ≡ true }
+        ensures mated { result ≡ true → IsMate self.now.frontier.node.now.position m.now }
+        ensures if_none { result ≡ false → IsNoMate self.now.frontier.node.now.position m.now }
     {
-        m.validity();
-        !self.replies.is_certain(self.scene.node.as_position(), m) && self.tries(m)
+        m.reveal_invariant();
+        !self
+            .replies
+            .guarantees_reply(self.frontier.node.as_position(), m)
+            && self.tries(m)
     }
 
     /// Whether one of the legal moves of what stands on the square to these does.
     fn mates_among(&self, from: Square, promote: bool, ends: Squares) -> bool
-        requires { AreLegalEnds self.now.scene.node.now.position from promote ends.bits }
-        ensures some { result ≡ true → HasMate self.now.scene.node.now.position }
-        ensures none { result ≡ false → SceneLeavesSomeAmong self.now.scene from promote ends.bits }
+        requires { AreLegalEnds self.now.frontier.node.now.position from promote ends.bits }
+        ensures some { result ≡ true → HasMate self.now.frontier.node.now.position }
+        ensures if_none { result ≡ false → FrontierLeavesSomeAmong self.now.frontier from promote ends.bits }
     {
-        from.validity();
+        from.reveal_invariant();
         let mut left = ends.bits;
         while left != 0 {
             let to = lowest(left);
@@ -231,9 +232,9 @@ impl Outlook<'_> {
 
     /// Whether one of the legal drops of the kind on these squares does.
     fn mates_by_drops(&self, kind: Kind, ends: Squares) -> bool
-        requires { AreLegalDropEnds self.now.scene.node.now.position kind ends.bits }
-        ensures some { result ≡ true → HasMate self.now.scene.node.now.position }
-        ensures none { result ≡ false → SceneDropsLeaveSomeAmong self.now.scene kind ends.bits }
+        requires { AreLegalDropEnds self.now.frontier.node.now.position kind ends.bits }
+        ensures some { result ≡ true → HasMate self.now.frontier.node.now.position }
+        ensures if_none { result ≡ false → FrontierDropsLeaveSomeAmong self.now.frontier kind ends.bits }
     {
         let mut left = ends.bits;
         while left != 0 {
@@ -253,36 +254,36 @@ impl Outlook<'_> {
     /// Whether the other side's king sees neither the square nor one of the ends, and that side
     /// surely has a legal move after each one that gives it no check.
     fn is_unseen(&self, from: Square, ends: Squares) -> bool
-        ensures others { result ≡ true → HasOthers self.now.replies.spare.bits }
-        ensures start { result ≡ true → has_bit self.now.replies.sight.bits from ≡ false }
-        ensures ends { result ≡ true → bit_and ends.bits self.now.replies.sight.bits ≡ 0 }
+        ensures others { result ≡ true → HasOthers self.now.replies.free_movers.bits }
+        ensures start { result ≡ true → has_bit self.now.replies.king_view.bits from ≡ false }
+        ensures ends { result ≡ true → bit_and ends.bits self.now.replies.king_view.bits ≡ 0 }
     {
         if !self.spared {
             return false;
         }
-        if self.replies.sight.has(from) {
+        if self.replies.king_view.has(from) {
             return false;
         }
-        (ends & self.replies.sight).is_empty()
+        (ends & self.replies.king_view).is_empty()
     }
 
     /// Those of the ends from which what moves there from the square, this piece, may reach each
     /// escape on no line with that square, and those on one: elsewhere the king has one left.
     #[inline(always)]
     fn closing_ends(&self, from: Square, promote: bool, piece: Piece, ends: Squares) -> Squares
-        requires { IsPieceMoved self.now.scene.node.now.position from promote piece }
+        requires { IsPieceMoved self.now.frontier.node.now.position from promote piece }
         ensures within { IsWithin result.bits ends.bits }
-        ensures answered { SceneAnsweredOff self.now.scene from promote ends.bits result.bits }
+        ensures answered { FrontierAnsweredOff self.now.frontier from promote ends.bits result.bits }
     {
         let _ = promote;
-        from.validity();
-        let p = self.scene.node.as_position();
+        from.reveal_invariant();
+        let p = self.frontier.node.as_position();
         let kings = p.as_board().kings(p.side().opponent());
         if kings.is_empty() {
             return ends;
         }
         let mut kept = ends.bits;
-        let mut left = self.escapes.without(aligned_squares(from.index())).bits;
+        let mut left = self.escapes.without(line_mask(from.index())).bits;
         while left != 0 && kept != 0 {
             let escape = lowest(left);
             kept &= closing_squares(piece, escape).bits | with(kings.bits, escape);
@@ -294,30 +295,30 @@ impl Outlook<'_> {
     /// Those of the ends after which, once this piece has moved there from the square, it is not
     /// certain that the other side has a legal move.
     fn doubtful_among(&self, from: Square, promote: bool, piece: Piece, ends: Squares) -> Squares
-        requires { IsPieceMoved self.now.scene.node.now.position from promote piece }
+        requires { IsPieceMoved self.now.frontier.node.now.position from promote piece }
         ensures within { IsWithin result.bits ends.bits }
-        ensures answered { SceneAnsweredOff self.now.scene from promote ends.bits result.bits }
+        ensures answered { FrontierAnsweredOff self.now.frontier from promote ends.bits result.bits }
     {
-        let p = self.scene.node.as_position();
+        let p = self.frontier.node.as_position();
         let closing = self.closing_ends(from, promote, piece, ends);
-        let certain = self
+        let guaranteed = self
             .replies
-            .certain_destinations(p, Squares::none(), from, promote, closing);
-        closing.without(certain)
+            .guaranteed_destinations(p, Squares::none(), from, promote, closing);
+        closing.without(guaranteed)
     }
 
     /// Where what stands on the square may go, without promotion and with it, legally or not, so that
     /// it is not certain that the other side has a legal move after it.
     fn doubtful_ends(&self, from: Square) -> Destinations
-        ensures plain { SceneDoubtfulEnds self.now.scene from false result.plain.bits }
-        ensures promoting { SceneDoubtfulEnds self.now.scene from true result.promoting.bits }
+        ensures non_promoting { FrontierDoubtfulEnds self.now.frontier from false result.non_promoting.bits }
+        ensures promoting { FrontierDoubtfulEnds self.now.frontier from true result.promoting.bits }
     {
-        from.validity();
-        let p = self.scene.node.as_position();
-        let ends = self.scene.reach(from);
+        from.reveal_invariant();
+        let p = self.frontier.node.as_position();
+        let ends = self.frontier.targets(from);
         if self.is_unseen(from, ends) {
             return Destinations {
-                plain: Squares::none(),
+                non_promoting: Squares::none(),
                 promoting: Squares::none(),
             };
         }
@@ -325,14 +326,14 @@ impl Outlook<'_> {
         let promotions = ends & promoting_squares(cell, from);
         let Some(piece) = cell else {
             return Destinations {
-                plain: ends,
+                non_promoting: ends,
                 promoting: promotions,
             }
         };
-        let plain = self.doubtful_among(from, false, piece, ends);
+        let non_promoting = self.doubtful_among(from, false, piece, ends);
         if promotions.is_empty() {
             return Destinations {
-                plain,
+                non_promoting,
                 promoting: Squares::none(),
             };
         }
@@ -341,40 +342,48 @@ impl Outlook<'_> {
             role: piece.role.promoted(),
         };
         let promoting = self.doubtful_among(from, true, promoted, promotions);
-        Destinations { plain, promoting }
+        Destinations {
+            non_promoting,
+            promoting,
+        }
     }
 
     /// Whether a legal move of one of the side's pieces leaves the other side without one.
     fn mates_from(&self, from: Square) -> bool
-        requires own { is_own self.now.scene.node.now.position from ≡ true }
-        ensures some { result ≡ true → HasMate self.now.scene.node.now.position }
-        ensures none { result ≡ false → LeaveSomeFrom self.now.scene.node.now.position from }
+        requires own { is_own self.now.frontier.node.now.position from ≡ true }
+        ensures some { result ≡ true → HasMate self.now.frontier.node.now.position }
+        ensures if_none { result ≡ false → LeaveSomeFrom self.now.frontier.node.now.position from }
     {
-        from.validity();
+        from.reveal_invariant();
         let doubtful = self.doubtful_ends(from);
-        let among = doubtful.plain | doubtful.promoting;
+        let among = doubtful.non_promoting | doubtful.promoting;
         if among.is_empty() {
             return false;
         }
-        let ends = legal_destinations(&self.scene.known, from, among);
-        self.mates_among(from, false, ends.plain & doubtful.plain)
+        let ends = legal_destinations(&self.frontier.known, from, among);
+        self.mates_among(from, false, ends.non_promoting & doubtful.non_promoting)
             || self.mates_among(from, true, ends.promoting & doubtful.promoting)
     }
 
     /// Pieces of the side that are far from the other side's king, after each of whose moves that
     /// side surely has one.
-    fn far_pieces(&self) -> Squares
-        ensures { OnEach result.bits (LeaveSomeFrom self.now.scene.node.now.position) }
+    fn non_mating_pieces(&self) -> Squares
+        ensures { OnEach result.bits (LeaveSomeFrom self.now.frontier.node.now.position) }
     {
-        self.replies.remote_pieces(self.scene.node.as_position())
+        self.replies
+            .distant_pieces(self.frontier.node.as_position())
     }
 
     /// Whether a legal move on the board leaves the other side without one.
     fn has_board_mate(&self) -> bool
-        ensures some { result ≡ true → HasMate self.now.scene.node.now.position }
-        ensures none { result ≡ false → BoardLeavesSome self.now.scene.node.now.position }
+        ensures some { result ≡ true → HasMate self.now.frontier.node.now.position }
+        ensures if_none { result ≡ false → BoardLeavesSome self.now.frontier.node.now.position }
     {
-        let mut left = self.scene.movable().without(self.far_pieces()).bits;
+        let mut left = self
+            .frontier
+            .movable()
+            .without(self.non_mating_pieces())
+            .bits;
         while left != 0 {
             let from = lowest(left);
             if self.mates_from(Square::of_index(from)) {
@@ -389,9 +398,9 @@ impl Outlook<'_> {
     /// stand on one: elsewhere the king has one left, or takes it.
     fn closing_drops(&self, kind: Kind, squares: Squares) -> Squares
         ensures among { IsWithin result.bits squares.bits }
-        ensures answered { SceneDropsAnsweredOff self.now.scene kind squares.bits result.bits }
+        ensures answered { FrontierDropsAnsweredOff self.now.frontier kind squares.bits result.bits }
     {
-        let p = self.scene.node.as_position();
+        let p = self.frontier.node.as_position();
         let side = p.side();
         if p.as_board().kings(side.opponent()).is_empty() {
             return squares;
@@ -413,18 +422,18 @@ impl Outlook<'_> {
     /// Whether a legal drop of the kind, if that is held, leaves the other side without a legal move.
     #[inline(never)]
     fn mates_by_held(&self, kind: Kind) -> bool
-        ensures some { result ≡ true → HasMate self.now.scene.node.now.position }
-        ensures none { result ≡ false → DropsLeaveSome self.now.scene.node.now.position kind }
+        ensures some { result ≡ true → HasMate self.now.frontier.node.now.position }
+        ensures if_none { result ≡ false → DropsLeaveSome self.now.frontier.node.now.position kind }
     {
-        let p = self.scene.node.as_position();
+        let p = self.frontier.node.as_position();
         let closing = self.closing_drops(kind, self.squares);
         if closing.is_empty() {
             return false;
         }
-        let certain = self
+        let guaranteed = self
             .replies
-            .certain_drops(p, Squares::none(), kind, closing);
-        let doubtful = closing.without(certain);
+            .guaranteed_drops(p, Squares::none(), kind, closing);
+        let doubtful = closing.without(guaranteed);
         if doubtful.is_empty() {
             return false;
         }
@@ -435,10 +444,10 @@ impl Outlook<'_> {
     /// Whether a legal drop of the kind leaves the other side without a legal move.
     #[inline(always)]
     fn mates_by(&self, kind: Kind) -> bool
-        ensures some { result ≡ true → HasMate self.now.scene.node.now.position }
-        ensures none { result ≡ false → DropsLeaveSome self.now.scene.node.now.position kind }
+        ensures some { result ≡ true → HasMate self.now.frontier.node.now.position }
+        ensures if_none { result ≡ false → DropsLeaveSome self.now.frontier.node.now.position kind }
     {
-        let p = self.scene.node.as_position();
+        let p = self.frontier.node.as_position();
         if p.hand(p.side(), kind) == 0 {
             return false;
         }
@@ -447,8 +456,8 @@ impl Outlook<'_> {
 
     /// Whether a legal drop leaves the other side without a legal move.
     fn has_drop_mate(&self) -> bool
-        ensures some { result ≡ true → HasMate self.now.scene.node.now.position }
-        ensures none { result ≡ false → AllDropsLeaveSome self.now.scene.node.now.position }
+        ensures some { result ≡ true → HasMate self.now.frontier.node.now.position }
+        ensures if_none { result ≡ false → AllDropsLeaveSome self.now.frontier.node.now.position }
     {
         self.mates_by(Kind::Pawn)
             || self.mates_by(Kind::Lance)

@@ -6,7 +6,7 @@ ghost use Rattle.shogi_moves.specs.Legal.{is_legal};
 ghost use Rattle.minimax.specs.Minimax.{lost_value, worth};
 ghost use Rattle.minimax.specs.declared.bounds.TheConstants.{MATE};
 
-use crate::scene::Scene;
+use crate::frontier::FrontierNode;
 use minimax::{INFINITY, MATE};
 use shogi_core::{Move, Position};
 use shogi_eval::{Eval, Node};
@@ -20,12 +20,12 @@ pub fn last_worth(p: &Position, e: Eval, m: Move) -> i32
     ensures least { lost_value 0 ≤ℤ result }
     ensures most { result ≤ℤ MATE }
 {
-    p.validity();
-    m.validity();
+    p.reveal_invariant();
+    m.reveal_invariant();
     if !has_legal(&apply(p, m)) {
         return MATE;
     }
     let node = Node::of(*p, e);
-    let scene = Scene::of(&node);
-    scene.most_with(&m, -INFINITY)
+    let frontier = FrontierNode::of(&node);
+    frontier.best_score_with(&m, -INFINITY)
 }

@@ -6,7 +6,7 @@ use Rattle.std.proofs.lemmas.Bool.{or_left, or_right, or_from, ne_eqb, eq-eqb, c
 use Rattle.std.proofs.lemmas.Bool.Decides.{nat_tests}
 use Rattle.minimax.specs.Minimax.{greatest_or}
 use Rattle.shogi_moves.specs.Rising.{IsRising}
-use Rattle.minimax.specs.Window.{threshold, IsCovered}
+use Rattle.minimax.specs.Window.{move_alpha, IsCovered}
 use Rattle.minimax.proofs.Greatest.{greatest_or-above, greatest_or-least, find_first}
 use Rattle.minimax.proofs.Equal.{same_int_eq, less_int_eq}
 
@@ -18,40 +18,40 @@ IsCovered-start f all alpha = record {
   reached = refl;
 }
 
-pub threshold-best_value : (best_value : ℤ) (b : Option ℕ) (n : ℕ) → threshold best_value b n ≤ℤ best_value
-threshold-best_value best_value None n = omega (arith, ints)
-threshold-best_value best_value (Some b) n = grind (arith, ints, nat_tests)
+pub move_alpha-best_value : (best_value : ℤ) (b : Option ℕ) (n : ℕ) → move_alpha best_value b n ≤ℤ best_value
+move_alpha-best_value best_value None n = omega (arith, ints)
+move_alpha-best_value best_value (Some b) n = grind (arith, ints, nat_tests)
 
-threshold-raised : (best_value v : ℤ) (b : Option ℕ) (m n : ℕ) → threshold best_value b m <ℤ v → threshold best_value b n ≤ℤ threshold v (Some m) n
-threshold-raised best_value v None m n h = grind (arith, ints, nat_tests)
-threshold-raised best_value v (Some b) m n h = grind (arith, ints, nat_tests)
+move_alpha-raised : (best_value v : ℤ) (b : Option ℕ) (m n : ℕ) → move_alpha best_value b m <ℤ v → move_alpha best_value b n ≤ℤ move_alpha v (Some m) n
+move_alpha-raised best_value v None m n h = grind (arith, ints, nat_tests)
+move_alpha-raised best_value v (Some b) m n h = grind (arith, ints, nat_tests)
 
-below_lesser : (v best_value : ℤ) (b n : ℕ) → n < b → v ≤ℤ threshold best_value (Some b) n → v <ℤ best_value
+below_lesser : (v best_value : ℤ) (b n : ℕ) → n < b → v ≤ℤ move_alpha best_value (Some b) n → v <ℤ best_value
 below_lesser v best_value b n lt h = grind (arith, ints, nat_tests)
 
-at_itself : (f : ℕ → ℤ) (v : ℤ) (m n : ℕ) → n ≡ m → f m ≡ v → f n ≤ℤ threshold v (Some m) n
+at_itself : (f : ℕ → ℤ) (v : ℤ) (m n : ℕ) → n ≡ m → f m ≡ v → f n ≤ℤ move_alpha v (Some m) n
 at_itself f v m n same e = let q : f n ≡ f m = ap f same in grind (arith, ints, nat_tests)
 
 -- a move that doesn't pass its threshold
-pub IsCovered-skip : (f : ℕ → ℤ) (all rest : List ℕ) (alpha best_value : ℤ) (b : Option ℕ) (m : ℕ) → IsCovered f all (m ∷ rest) alpha best_value b → f m ≤ℤ threshold best_value b m → IsCovered f all rest alpha best_value b
+pub IsCovered-skip : (f : ℕ → ℤ) (all rest : List ℕ) (alpha best_value : ℤ) (b : Option ℕ) (m : ℕ) → IsCovered f all (m ∷ rest) alpha best_value b → f m ≤ℤ move_alpha best_value b m → IsCovered f all rest alpha best_value b
 IsCovered-skip f all rest alpha best_value b m h le = record {
   among = λ n i. h.among n (or_right _ _ i);
-  below = λ n i o. elim (cases_eq n m) [ inl e ↦ subst (λ (k : ℕ). f k ≤ℤ threshold best_value b k) (sym e) le | inr ne ↦ h.below n i (or_from _ _ (ne_eqb n m ne) o) ];
+  below = λ n i o. elim (cases_eq n m) [ inl e ↦ subst (λ (k : ℕ). f k ≤ℤ move_alpha best_value b k) (sym e) le | inr ne ↦ h.below n i (or_from _ _ (ne_eqb n m ne) o) ];
   reached = h.reached;
 }
 
 -- a move that passes its threshold is the best move
-pub IsCovered-raise : (f : ℕ → ℤ) (all rest : List ℕ) (alpha best_value v : ℤ) (b : Option ℕ) (m : ℕ) → IsCovered f all (m ∷ rest) alpha best_value b → f m ≡ v → threshold best_value b m <ℤ v → IsCovered f all rest alpha v (Some m)
+pub IsCovered-raise : (f : ℕ → ℤ) (all rest : List ℕ) (alpha best_value v : ℤ) (b : Option ℕ) (m : ℕ) → IsCovered f all (m ∷ rest) alpha best_value b → f m ≡ v → move_alpha best_value b m <ℤ v → IsCovered f all rest alpha v (Some m)
 IsCovered-raise f all rest alpha best_value v b m h e lt = record {
   among = λ n i. h.among n (or_right _ _ i);
-  below = λ n i o. elim (cases_eq n m) [ inl same ↦ at_itself f v m n same e | inr ne ↦ (let old : f n ≤ℤ threshold best_value b n = h.below n i (or_from _ _ (ne_eqb n m ne) o) in let more : threshold best_value b n ≤ℤ threshold v (Some m) n = threshold-raised best_value v b m n lt in omega (arith, ints)) ];
+  below = λ n i o. elim (cases_eq n m) [ inl same ↦ at_itself f v m n same e | inr ne ↦ (let old : f n ≤ℤ move_alpha best_value b n = h.below n i (or_from _ _ (ne_eqb n m ne) o) in let more : move_alpha best_value b n ≤ℤ move_alpha v (Some m) n = move_alpha-raised best_value v b m n lt in omega (arith, ints)) ];
   reached = (h.among m (or_left _ _ (eq-eqb m m refl)), e);
 }
 
 -- at the end a best move is the first one that is worth the most
 pub ended_exact : (otherwise : ℤ) (f : ℕ → ℤ) (all : List ℕ) (alpha best_value : ℤ) (b : ℕ) → IsRising all → IsCovered f all [] alpha best_value (Some b) → greatest_or otherwise f all ≡ best_value
 ended_exact otherwise f all alpha best_value b r h =
-    let up : greatest_or otherwise f all ≤ℤ best_value = greatest_or-least otherwise f all b best_value h.reached.0 (λ n i. let at_threshold : f n ≤ℤ threshold best_value (Some b) n = h.below n i refl in let le : threshold best_value (Some b) n ≤ℤ best_value = threshold-best_value best_value (Some b) n in omega (arith, ints)) in
+    let up : greatest_or otherwise f all ≤ℤ best_value = greatest_or-least otherwise f all b best_value h.reached.0 (λ n i. let at_threshold : f n ≤ℤ move_alpha best_value (Some b) n = h.below n i refl in let le : move_alpha best_value (Some b) n ≤ℤ best_value = move_alpha-best_value best_value (Some b) n in omega (arith, ints)) in
     let at : f b ≤ℤ greatest_or otherwise f all = greatest_or-above otherwise f all b h.reached.0 in
     let same : f b ≡ best_value = h.reached.1 in
     omega (arith, ints)

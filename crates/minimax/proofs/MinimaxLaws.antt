@@ -14,7 +14,7 @@ use Rattle.shogi_eval.specs.declared.points.TheConstants.{POINTS_MAX}
 use Rattle.shogi_eval.specs.Material.{material_of}
 use Rattle.shogi_eval.proofs.Bounds.{material_bounds}
 use Rattle.shogi_eval.specs.declared.eval.Eval.{Eval}
-use Rattle.shogi_eval.specs.Exchange.{left_by, settles}
+use Rattle.shogi_eval.specs.Exchange.{leaf_after, resolves_captures}
 use Rattle.minimax.proofs.Settling.{IsBounded, left_bounded, left_plain}
 use Rattle.minimax.specs.Minimax.{value, ended, best, best_code, move_of_some, tree_size, worth, lost_value, negated, greatest_or, if_no_move_else, sum_of_tree_sizes}
 use Rattle.minimax.proofs.Greatest.{greatest_or-above, greatest_or-least}
@@ -85,8 +85,8 @@ negated_within d v h = record { least = omega (arith, ints); most = omega (arith
 -- a move that ends a line
 ended_within : (p : Shogi) (eval : Eval) (m : ℕ) → IsValid p → is_in m (legal_codes p) ≡ true → Within 0 (ended p eval m)
 ended_within p eval m v i =
-    let b : IsBounded (left_by p eval m) = left_bounded p eval m (after_valid p m v i) in
-    leaf_within (legal_codes (after_code p m)) (left_by p eval m) b.least b.most
+    let b : IsBounded (leaf_after p eval m) = left_bounded p eval m (after_valid p m v i) in
+    leaf_within (legal_codes (after_code p m)) (leaf_after p eval m) b.least b.most
 
 worth_within : (d : ℕ) (p : Shogi) (eval : Eval) (m : ℕ) → IsValid p → is_in m (legal_codes p) ≡ true → ((q : Shogi) → IsValid q → Within d (value q eval d)) → WorthWithin d (worth p eval d m)
 worth_within zero p eval m v i h = negated_within 0 _ (ended_within p eval m v i)
@@ -147,23 +147,23 @@ worth_deep p eval zero m h = absurd (omega arith)
 worth_deep p eval (suc d) m h = refl
 
 -- and where it has none
-leaf_worth : (p : Shogi) (eval : Eval) (m : ℕ) (ms : List ℕ) → settles eval ≡ false → if_no_move_else (lost_value 0) (left_by p eval m) ms ≡ if_no_move_else (lost_value 0) (material_of (after_code p m) eval) ms
+leaf_worth : (p : Shogi) (eval : Eval) (m : ℕ) (ms : List ℕ) → resolves_captures eval ≡ false → if_no_move_else (lost_value 0) (leaf_after p eval m) ms ≡ if_no_move_else (lost_value 0) (material_of (after_code p m) eval) ms
 leaf_worth p eval m ms h = ap (λ (v : ℤ). if_no_move_else (lost_value 0) v ms) (left_plain p eval m h)
 
 -- the same at any depth under an evaluation that settles nothing
-pub worth_plain : (p : Shogi) (eval : Eval) (d m : ℕ) → settles eval ≡ false → worth p eval d m ≡ negated (value (after_code p m) eval d)
+pub worth_plain : (p : Shogi) (eval : Eval) (d m : ℕ) → resolves_captures eval ≡ false → worth p eval d m ≡ negated (value (after_code p m) eval d)
 worth_plain p eval zero m h = ap negated (leaf_worth p eval m (legal_codes (after_code p m)) h ∙ sym (value-leaf (after_code p m) eval))
 worth_plain p eval (suc d) m h = refl
 
 -- a move is worth no more than its score, unless it mates; a side without a move is worth less than any
 pub ended_none : (p : Shogi) (eval : Eval) (m : ℕ) → legal_codes (after_code p m) ≡ [] → ended p eval m ≡ lost_value 0
-ended_none p eval m none = ap (if_no_move_else (lost_value 0) (left_by p eval m)) none
+ended_none p eval m none = ap (if_no_move_else (lost_value 0) (leaf_after p eval m)) none
 
-ended_at : (p : Shogi) (eval : Eval) (m : ℕ) (ms : List ℕ) → legal_codes (after_code p m) ≡ ms → (ms ≡ [] → ⊥) → ended p eval m ≡ left_by p eval m
+ended_at : (p : Shogi) (eval : Eval) (m : ℕ) (ms : List ℕ) → legal_codes (after_code p m) ≡ ms → (ms ≡ [] → ⊥) → ended p eval m ≡ leaf_after p eval m
 ended_at p eval m [] e ne = absurd (ne refl)
-ended_at p eval m (c ∷ cs) e ne = ap (if_no_move_else (lost_value 0) (left_by p eval m)) e
+ended_at p eval m (c ∷ cs) e ne = ap (if_no_move_else (lost_value 0) (leaf_after p eval m)) e
 
-pub ended_some : (p : Shogi) (eval : Eval) (m : ℕ) → (legal_codes (after_code p m) ≡ [] → ⊥) → ended p eval m ≡ left_by p eval m
+pub ended_some : (p : Shogi) (eval : Eval) (m : ℕ) → (legal_codes (after_code p m) ≡ [] → ⊥) → ended p eval m ≡ leaf_after p eval m
 ended_some p eval m ne = ended_at p eval m (legal_codes (after_code p m)) refl ne
 
 -- a move that is worth so much

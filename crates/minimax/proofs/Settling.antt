@@ -14,7 +14,7 @@ use Rattle.shogi_eval.specs.declared.points.TheConstants.{POINTS_MAX}
 use Rattle.shogi_eval.specs.declared.eval.Eval.{Eval}
 use Rattle.shogi_eval.specs.declared.eval.Eval.TheVariants.{Plain, Hand, Exchange}
 use Rattle.shogi_eval.specs.Material.{material_of}
-use Rattle.shogi_eval.specs.Exchange.{price, takes_on, is_quiet, cheaper, cheapest, taker, stand_or_take, settled, most_settled, captures_max, best_settled, left_by, settles}
+use Rattle.shogi_eval.specs.Exchange.{price, takes_on, is_quiet, cheaper, cheapest, taker, stand_or_take, settled, most_settled, captures_max, best_settled, leaf_after, resolves_captures}
 use Rattle.shogi_eval.proofs.Bounds.{material_bounds}
 use Rattle.minimax.proofs.Valid.{after_valid}
 
@@ -91,7 +91,7 @@ best_least p e n zero = settled_least p e 0 n
 best_least p e n (suc s) = let here : material_of p e ≤ℤ settled p e (suc s) n = settled_least p e (suc s) n in omega (arith, ints, clamps, here)
 
 -- what is left by a move lies within the bounds of material
-pub left_bounded : (p : Shogi) (e : Eval) (code : ℕ) → IsValid (after_code p code) → IsBounded (left_by p e code)
+pub left_bounded : (p : Shogi) (e : Eval) (code : ℕ) → IsValid (after_code p code) → IsBounded (leaf_after p e code)
 left_bounded p Plain code v = bounded_material (after_code p code) Plain v
 left_bounded p Hand code v = bounded_material (after_code p code) Hand v
 left_bounded p Exchange code v =
@@ -99,7 +99,7 @@ left_bounded p Exchange code v =
     (λ _. bounded_material (after_code p code) Exchange v) (λ _. best_bounded (after_code p code) Exchange captures_max 80 v)
 
 -- the other side has no less than its material then
-pub left_least : (p : Shogi) (e : Eval) (code : ℕ) → material_of (after_code p code) e ≤ℤ left_by p e code
+pub left_least : (p : Shogi) (e : Eval) (code : ℕ) → material_of (after_code p code) e ≤ℤ leaf_after p e code
 left_least p Plain code = omega (arith, ints)
 left_least p Hand code = omega (arith, ints)
 left_least p Exchange code =
@@ -107,7 +107,7 @@ left_least p Exchange code =
     (λ _. omega (arith, ints)) (λ _. best_least (after_code p code) Exchange captures_max 80)
 
 -- and after a quiet move just that
-pub left_quiet : (p : Shogi) (e : Eval) (code : ℕ) → is_quiet p (move_of code) ≡ true → left_by p e code ≡ material_of (after_code p code) e
+pub left_quiet : (p : Shogi) (e : Eval) (code : ℕ) → is_quiet p (move_of code) ≡ true → leaf_after p e code ≡ material_of (after_code p code) e
 left_quiet p Plain code q = refl
 left_quiet p Hand code q = refl
 left_quiet p Exchange code q =
@@ -115,20 +115,20 @@ left_quiet p Exchange code q =
     (λ _. refl) (λ loud. absurd (cc))
 
 -- so it is after every move where the evaluation settles nothing
-pub left_plain : (p : Shogi) (e : Eval) (code : ℕ) → settles e ≡ false → left_by p e code ≡ material_of (after_code p code) e
+pub left_plain : (p : Shogi) (e : Eval) (code : ℕ) → resolves_captures e ≡ false → leaf_after p e code ≡ material_of (after_code p code) e
 left_plain p Plain code q = refl
 left_plain p Hand code q = refl
 left_plain p Exchange code q = absurd (cc)
 
 -- the two cases by one test
-pub left_held : (p : Shogi) (e : Eval) (code : ℕ) → (settles e && not (is_quiet p (move_of code))) ≡ false → left_by p e code ≡ material_of (after_code p code) e
+pub left_held : (p : Shogi) (e : Eval) (code : ℕ) → (resolves_captures e && not (is_quiet p (move_of code))) ≡ false → leaf_after p e code ≡ material_of (after_code p code) e
 left_held p Plain code q = refl
 left_held p Hand code q = refl
 left_held p Exchange code q =
     cond_both (is_quiet p (move_of code)) (material_of (after_code p code) Exchange) (best_settled (after_code p code) Exchange) (λ (v : ℤ). v ≡ material_of (after_code p code) Exchange)
     (λ _. refl) (λ loud. absurd (both_ways (not (is_quiet p (move_of code))) q (ap not loud)))
 
-pub left_loud : (p : Shogi) (e : Eval) (code : ℕ) → (settles e && not (is_quiet p (move_of code))) ≡ true → left_by p e code ≡ best_settled (after_code p code) e
+pub left_loud : (p : Shogi) (e : Eval) (code : ℕ) → (resolves_captures e && not (is_quiet p (move_of code))) ≡ true → leaf_after p e code ≡ best_settled (after_code p code) e
 left_loud p Plain code q = absurd (cc)
 left_loud p Hand code q = absurd (cc)
 left_loud p Exchange code q =

@@ -7,15 +7,15 @@ use Rattle.minimax.specs.Minimax.{negated}
 use Rattle.minimax.specs.declared.bounds.TheConstants.{INFINITY}
 
 -- an entry says enough for a window: the value, or that it lies at or above high, or at or below low
-abbrev pub IsCutoff : ℤ → ℤ → Entry → Type 0
-IsCutoff alpha beta (Exact v m) = Unit {0}
-IsCutoff alpha beta (AtLeast v) = beta ≤ℤ v
-IsCutoff alpha beta (AtMost v) = v ≤ℤ alpha
+abbrev pub IsConclusive : ℤ → ℤ → Entry → Type 0
+IsConclusive alpha beta (Exact v m) = Unit {0}
+IsConclusive alpha beta (AtLeast v) = beta ≤ℤ v
+IsConclusive alpha beta (AtMost v) = v ≤ℤ alpha
 
 -- the answer says enough for a window
 abbrev pub IsEnough : ℤ → ℤ → Option Entry → Type 0
 IsEnough alpha beta None = ⊥
-IsEnough alpha beta (Some e) = IsCutoff alpha beta e
+IsEnough alpha beta (Some e) = IsConclusive alpha beta e
 
 -- the answer says enough for a search below a bound
 abbrev pub IsEnoughBelow : ℤ → Option Entry → Type 0

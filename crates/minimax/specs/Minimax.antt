@@ -9,7 +9,7 @@ use Rattle.shogi_moves.specs.After.{after, after_code}
 use Rattle.shogi_moves.specs.LegalMoves.{legal_codes}
 use Rattle.shogi_eval.specs.declared.eval.Eval.{Eval}
 use Rattle.shogi_eval.specs.Material.{material_of}
-use Rattle.shogi_eval.specs.Exchange.{left_by}
+use Rattle.shogi_eval.specs.Exchange.{leaf_after}
 use Rattle.minimax.specs.declared.entry.Entry.{Entry}
 use Rattle.minimax.specs.declared.entry.Entry.TheVariants.{Exact, AtLeast, AtMost}
 use Rattle.minimax.specs.declared.bounds.TheConstants.{MATE}
@@ -42,7 +42,7 @@ if_no_move_else lost static_value (code ∷ codes) = static_value
 -- the value of the position after the move that ends a line, for the side to move then
 abbrev pub ended : Shogi → Eval → ℕ → ℤ
 ended p e code =
-    if_no_move_else (lost_value 0) (left_by p e code) (legal_codes (after_code p code))
+    if_no_move_else (lost_value 0) (leaf_after p e code) (legal_codes (after_code p code))
 
 -- the value of a position at a depth, for the side to move
 unfoldable pub value : Shogi → Eval → ℕ → ℤ

@@ -10,17 +10,17 @@ code_at None = None
 code_at (Some m) = Some (code_of m)
 
 -- the worth that a move has to pass: the best so far, and one less for a move of lesser code than the best move
-abbrev pub threshold : ℤ → Option ℕ → ℕ → ℤ
-threshold best_value None n = best_value
-threshold best_value (Some b) n = if nat_lt n b then best_value -ℤ pos 1 else best_value
+abbrev pub move_alpha : ℤ → Option ℕ → ℕ → ℤ
+move_alpha best_value None n = best_value
+move_alpha best_value (Some b) n = if nat_lt n b then best_value -ℤ pos 1 else best_value
 
--- each move of all that is not in todo is worth at most its threshold; a best move is worth the best so far
+-- each move of all that is not in todo is worth at most its alpha; a best move is worth the best so far
 pub record IsCovered (worth_of : ℕ → ℤ) (all todo : List ℕ) (alpha best_value : ℤ)
     (best_move : Option ℕ) : Type 0 where
   pub among : (n : ℕ) → is_in n todo ≡ true → is_in n all ≡ true
   pub below :
       (n : ℕ) → is_in n all ≡ true → is_in n todo ≡ false
-      → worth_of n ≤ℤ threshold best_value best_move n
+      → worth_of n ≤ℤ move_alpha best_value best_move n
   pub reached :
       MatchOption best_move (best_value ≡ alpha)
       (λ b. (is_in b all ≡ true) × (worth_of b ≡ best_value))

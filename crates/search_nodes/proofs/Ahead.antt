@@ -18,8 +18,8 @@ use Rattle.shogi_moves.specs.After.{after, after_code, dropped, piece_moved}
 use Rattle.shogi_moves.specs.Legal.{is_legal}
 use Rattle.shogi_moves.specs.LegalMoves.{legal_codes}
 use Rattle.shogi_moves.specs.Rising.{is_in}
-use Rattle.shogi_replies.specs.Replies as replies
-use Rattle.shogi_replies.specs.Replies.{is_quiet_code, quiet_codes}
+use Rattle.shogi_replies.specs.ReplyInfo as replies
+use Rattle.shogi_replies.specs.ReplyInfo.{is_quiet_code, quiet_codes}
 use Rattle.shogi_replies.specs.Threats.{IsAttack, IsTaken, IsThreat, KeepsThreats, LeavesThreat, MayRetake, MayTake, end_of, put_by}
 use Rattle.shogi_moves.proofs.CheckInfoLaws.{other_side}
 use Rattle.shogi_moves.proofs.Keeps.{is_safe_from_legal}
@@ -30,13 +30,13 @@ use Rattle.shogi_eval.specs.declared.eval.Eval.{Eval}
 use Rattle.shogi_eval.specs.Material.{material_of, drop_gain, taken_gain, promotion_gain}
 use Rattle.shogi_eval.proofs.Gains.{material_after_board, material_after_drop}
 use Rattle.shogi_eval.proofs.Bounds.{material_bounds}
-use Rattle.shogi_eval.specs.Exchange.{settles, left_by, is_quiet}
+use Rattle.shogi_eval.specs.Exchange.{resolves_captures, leaf_after, is_quiet}
 use Rattle.minimax.proofs.Settling.{IsBounded, left_bounded, left_quiet}
 use Rattle.shogi_eval.specs.Losses.{LosesAtMost}
 use Rattle.search_nodes.specs.Frames.{standing_codes}
 use Rattle.search_nodes.specs.Threats.{IsAttacked, TakesAfter}
 use Rattle.minimax.specs.Minimax.{value, worth, ended, negated, if_no_move_else, lost_value, greatest_or}
-use Rattle.minimax.specs.Window.{threshold}
+use Rattle.minimax.specs.Window.{move_alpha}
 use Rattle.minimax.proofs.Greatest.{greatest_or-above}
 use Rattle.minimax.proofs.MinimaxLaws.{value-leaf, value-suc, worth_plain}
 use Rattle.minimax.proofs.Valid.{after_valid, board_of, drop_of}
@@ -77,7 +77,7 @@ pub value_leaf_most : (r : Shogi) (e : Eval) → IsValid r → value r e 0 ≤�
 value_leaf_most r e v = rw value-leaf (leaf_most (legal_codes r) (material_of r e) (let b : _ = material_bounds r e v in omega (arith, ints, b.0)))
 
 -- a side is worth at depth 1 what a legal move leaves it, or more
-value_reply : (q : Shogi) (e : Eval) (plain : settles e ≡ false) (code : ℕ) → IsValid q → is_in code (legal_codes q) ≡ true → negated (material_of (after_code q code) e) ≤ℤ value q e 1
+value_reply : (q : Shogi) (e : Eval) (plain : resolves_captures e ≡ false) (code : ℕ) → IsValid q → is_in code (legal_codes q) ≡ true → negated (material_of (after_code q code) e) ≤ℤ value q e 1
 value_reply q e plain code v i =
     let leaf : value (after_code q code) e 0 ≤ℤ material_of (after_code q code) e = value_leaf_most (after_code q code) e (after_valid q code v i) in
     let above : worth q e 0 code ≤ℤ greatest_or (lost_value 1) (worth q e 0) (legal_codes q) = greatest_or-above (lost_value 1) (worth q e 0) (legal_codes q) code i in
@@ -86,7 +86,7 @@ value_reply q e plain code v i =
     omega (arith, ints, leaf, above, is_value, counted)
 
 -- so where it has a legal move it is worth its material without that loss, or more
-value_least : (q : Shogi) (e : Eval) (plain : settles e ≡ false) (loss : ℤ) (codes : List ℕ) → codes ≡ legal_codes q → IsValid q → pos 0 ≤ℤ loss → LosesAtMost q.hands q.side e loss → codes ≢ [] → (material_of q e -ℤ loss) ≤ℤ value q e 1
+value_least : (q : Shogi) (e : Eval) (plain : resolves_captures e ≡ false) (loss : ℤ) (codes : List ℕ) → codes ≡ legal_codes q → IsValid q → pos 0 ≤ℤ loss → LosesAtMost q.hands q.side e loss → codes ≢ [] → (material_of q e -ℤ loss) ≤ℤ value q e 1
 value_least q e plain loss [] is v h l some = absurd (some refl)
 value_least q e plain loss (c ∷ cs) is v h l some =
     let i : is_in c (legal_codes q) ≡ true = subst (λ (xs : List ℕ). is_in c xs ≡ true) is (or_left _ _ (eq-eqb c c refl)) in
@@ -95,7 +95,7 @@ value_least q e plain loss (c ∷ cs) is v h l some =
     omega (arith, ints, left, worth_so)
 
 -- and where it may take a piece, its material and what that gains, or more
-value_taking : (q : Shogi) (e : Eval) (plain : settles e ≡ false) (a t : ℕ) (promote : Bool) (cell : Option Piece) → IsValid q → a < 81 → t < 81 → MayTake q a t promote cell → (material_of q e +ℤ pos (taken_gain e cell + promotion_gain promote (piece_at q.cells a))) ≤ℤ value q e 1
+value_taking : (q : Shogi) (e : Eval) (plain : resolves_captures e ≡ false) (a t : ℕ) (promote : Bool) (cell : Option Piece) → IsValid q → a < 81 → t < 81 → MayTake q a t promote cell → (material_of q e +ℤ pos (taken_gain e cell + promotion_gain promote (piece_at q.cells a))) ≤ℤ value q e 1
 value_taking q e plain a t promote cell v ha ht may =
     let back : move_of (code_of (Board a t promote)) ≡ Some (Board a t promote) = move_of-board a t promote ha ht in
     let law : material_of (after q (Board a t promote)) e ≡ pos 0 -ℤ (material_of q e +ℤ pos (taken_gain e (piece_at q.cells t) + promotion_gain promote (piece_at q.cells a))) = material_after_board q e a t promote v ha ht may.legal in
@@ -133,7 +133,7 @@ unpromoted None = refl
 unpromoted (Some piece) = refl
 
 -- a capture of what it puts on its square gains that
-pub taken_left : (p : Shogi) (e : Eval) (plain : settles e ≡ false) (m : Move) → IsValid p → move_of (code_of m) ≡ Some m → is_legal p m ≡ true → IsTaken p m → (material_of (after p m) e +ℤ pos (taken_gain e (put_by p m))) ≤ℤ value (after p m) e 1
+pub taken_left : (p : Shogi) (e : Eval) (plain : resolves_captures e ≡ false) (m : Move) → IsValid p → move_of (code_of m) ≡ Some m → is_legal p m ≡ true → IsTaken p m → (material_of (after p m) e +ℤ pos (taken_gain e (put_by p m))) ≤ℤ value (after p m) e 1
 taken_left p e plain m v back legal taken =
     let valid : IsValid (after p m) = valid_after p m v back (legal_to_listed p m back legal) in
     let least : (material_of (after p m) e +ℤ pos (taken_gain e (put_by p m) + promotion_gain false (piece_at (after p m).cells taken.taker))) ≤ℤ value (after p m) e 1 = value_taking (after p m) e plain taken.taker (end_of m) false (put_by p m) valid taken.on_board.0 taken.on_board.1 taken.takes in
@@ -154,8 +154,8 @@ retake_gain p e m to gain v back legal ends attacked is = λ plain keeps retakes
 -- a side is worth at depth 1 what a quiet legal move leaves it, or more
 pub value_quiet : (q : Shogi) (e : Eval) (code : ℕ) → IsValid q → is_in code (legal_codes q) ≡ true → is_quiet q (move_of code) ≡ true → negated (material_of (after_code q code) e) ≤ℤ value q e 1
 value_quiet q e code v i quiet =
-    let held : left_by q e code ≡ material_of (after_code q code) e = left_quiet q e code quiet in
-    let leaf : ended q e code ≤ℤ left_by q e code = leaf_most (legal_codes (after_code q code)) (left_by q e code) (let b : IsBounded (left_by q e code) = left_bounded q e code (after_valid q code v i) in omega (arith, ints, b.least)) in
+    let held : leaf_after q e code ≡ material_of (after_code q code) e = left_quiet q e code quiet in
+    let leaf : ended q e code ≤ℤ leaf_after q e code = leaf_most (legal_codes (after_code q code)) (leaf_after q e code) (let b : IsBounded (leaf_after q e code) = left_bounded q e code (after_valid q code v i) in omega (arith, ints, b.least)) in
     let above : worth q e 0 code ≤ℤ greatest_or (lost_value 1) (worth q e 0) (legal_codes q) = greatest_or-above (lost_value 1) (worth q e 0) (legal_codes q) code i in
     let is_value : value q e 1 ≡ greatest_or (lost_value 1) (worth q e 0) (legal_codes q) = value-suc q e 0 in
     omega (arith, ints, held, leaf, above, is_value)
@@ -178,7 +178,7 @@ first_kept : (t : ℕ → Bool) (codes : List ℕ) (c : ℕ) (cs : List ℕ) →
 first_kept t [] c cs e = absurd (cc)
 first_kept t (x ∷ xs) c cs e =
     cond_both (t x) (x ∷ filter t xs) (filter t xs) (λ (ys : List ℕ). ys ≡ c ∷ cs → (is_in c (x ∷ xs) ≡ true) × (t c ≡ true))
-    (λ passes is. let same : x ≡ c = cc in (or_left (c == x) (is_in c xs) (eq-eqb c x (sym same)), subst (λ (n : ℕ). t n ≡ true) same passes))
+    (λ skips is. let same : x ≡ c = cc in (or_left (c == x) (is_in c xs) (eq-eqb c x (sym same)), subst (λ (n : ℕ). t n ≡ true) same skips))
     (λ fails is. let rest : _ = first_kept t xs c cs is in (or_right (c == x) (is_in c xs) rest.0, rest.1))
     e
 
@@ -191,15 +191,15 @@ value_least_still q e loss (c ∷ cs) is v h l some =
 
 -- some move stands if it is quiet, and any does where nothing is settled
 pub standing_quiet : (q : Shogi) (e : Eval) → quiet_codes q ≢ [] → standing_codes q e ≢ []
-standing_quiet q e some = cond_both (settles e) (quiet_codes q) (legal_codes q) (λ (xs : List ℕ). xs ≢ []) (λ _. some) (λ _. quiet_legal q some)
+standing_quiet q e some = cond_both (resolves_captures e) (quiet_codes q) (legal_codes q) (λ (xs : List ℕ). xs ≢ []) (λ _. some) (λ _. quiet_legal q some)
 
-pub standing_plain : (q : Shogi) (e : Eval) → settles e ≡ false → legal_codes q ≢ [] → standing_codes q e ≢ []
+pub standing_plain : (q : Shogi) (e : Eval) → resolves_captures e ≡ false → legal_codes q ≢ [] → standing_codes q e ≢ []
 standing_plain q e plain some = subst (λ (b : Bool). cond b (quiet_codes q) (legal_codes q) ≢ []) (sym plain) some
 
 -- so where such a move is legal
 value_least_standing : (q : Shogi) (e : Eval) (loss : ℤ) → IsValid q → pos 0 ≤ℤ loss → LosesAtMost q.hands q.side e loss → standing_codes q e ≢ [] → (material_of q e -ℤ loss) ≤ℤ value q e 1
 value_least_standing q e loss v h l some =
-    cond_both (settles e) (quiet_codes q) (legal_codes q) (λ (xs : List ℕ). xs ≢ [] → (material_of q e -ℤ loss) ≤ℤ value q e 1)
+    cond_both (resolves_captures e) (quiet_codes q) (legal_codes q) (λ (xs : List ℕ). xs ≢ [] → (material_of q e -ℤ loss) ≤ℤ value q e 1)
     (λ settling one. value_least_still q e loss (quiet_codes q) refl v h l one)
     (λ plain one. value_least q e plain loss (legal_codes q) refl v h l one)
     some
@@ -217,7 +217,7 @@ pub material_left : (p : Shogi) (e : Eval) (loss : ℤ) (m : Move) → IsValid p
 material_left p e loss m v back legal h l some = value_least_standing (after p m) e loss (valid_after p m v back (legal_to_listed p m back legal)) h (loses_after p e loss m l) some
 
 -- by a threat that stands
-pub threat_left : (p : Shogi) (e : Eval) (plain : settles e ≡ false) (m : Move) (gain : ℕ) → KeepsThreats p m → MayRetake p m → TakesAfter p e m gain → (material_of (after p m) e -ℤ negated (pos gain)) ≤ℤ value (after p m) e 1
+pub threat_left : (p : Shogi) (e : Eval) (plain : resolves_captures e ≡ false) (m : Move) (gain : ℕ) → KeepsThreats p m → MayRetake p m → TakesAfter p e m gain → (material_of (after p m) e -ℤ negated (pos gain)) ≤ℤ value (after p m) e 1
 threat_left p e plain m gain keeps retakes takes = omega (arith, ints, takes plain keeps retakes)
 
 -- so the move is worth no more than that leaves
@@ -237,10 +237,10 @@ worth_under_threat p e d gain m back last least =
     subst (λ (n : ℕ). worth p e n (code_of m) ≤ℤ negated (material_of (after p m) e +ℤ pos gain)) (sym one) (worth_below p e m (material_of (after p m) e +ℤ pos gain) back least)
 
 -- what is below in a frame is below in another that differs in nothing that it speaks of
-pub still_below : (p p' : Shogi) (e e' : Eval) (d d' : ℕ) (v v' : ℤ) (b b' : Option ℕ) (m : ℕ) → p' ≡ p → e' ≡ e → d' ≡ d → v' ≡ v → b' ≡ b → worth p e (d - 1) m ≤ℤ threshold v b m → worth p' e' (d' - 1) m ≤ℤ threshold v' b' m
+pub still_below : (p p' : Shogi) (e e' : Eval) (d d' : ℕ) (v v' : ℤ) (b b' : Option ℕ) (m : ℕ) → p' ≡ p → e' ≡ e → d' ≡ d → v' ≡ v → b' ≡ b → worth p e (d - 1) m ≤ℤ move_alpha v b m → worth p' e' (d' - 1) m ≤ℤ move_alpha v' b' m
 still_below p p' e e' d d' v v' b b' m ps es ds vs bs h =
-    subst (λ (x : Shogi). worth x e' (d' - 1) m ≤ℤ threshold v' b' m) (sym ps)
-    (subst (λ (x : Eval). worth p x (d' - 1) m ≤ℤ threshold v' b' m) (sym es)
-    (subst (λ (x : ℕ). worth p e (x - 1) m ≤ℤ threshold v' b' m) (sym ds)
-    (subst (λ (x : ℤ). worth p e (d - 1) m ≤ℤ threshold x b' m) (sym vs)
-    (subst (λ (x : Option ℕ). worth p e (d - 1) m ≤ℤ threshold v x m) (sym bs) h))))
+    subst (λ (x : Shogi). worth x e' (d' - 1) m ≤ℤ move_alpha v' b' m) (sym ps)
+    (subst (λ (x : Eval). worth p x (d' - 1) m ≤ℤ move_alpha v' b' m) (sym es)
+    (subst (λ (x : ℕ). worth p e (x - 1) m ≤ℤ move_alpha v' b' m) (sym ds)
+    (subst (λ (x : ℤ). worth p e (d - 1) m ≤ℤ move_alpha x b' m) (sym vs)
+    (subst (λ (x : Option ℕ). worth p e (d - 1) m ≤ℤ move_alpha v x m) (sym bs) h))))

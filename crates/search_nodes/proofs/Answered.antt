@@ -11,7 +11,7 @@ use Rattle.shogi_eval.specs.declared.eval.Eval.{Eval}
 use Rattle.minimax.specs.declared.entry.Entry.{Entry}
 use Rattle.minimax.specs.declared.entry.Entry.TheVariants.{Exact, AtLeast, AtMost}
 use Rattle.minimax.specs.Minimax.{value, worth, IsTrueEntry, negated, lost_value}
-use Rattle.minimax.specs.Entries.{IsCutoff}
+use Rattle.minimax.specs.Entries.{IsConclusive}
 use Rattle.minimax.proofs.MinimaxLaws.{worth_from, worth_deep, value_within, Within}
 use Rattle.minimax.proofs.Valid.{after_valid}
 use Rattle.minimax.specs.declared.bounds.TheConstants.{SEARCH_DEPTH_MAX}
@@ -34,17 +34,17 @@ pub record IsAtLeast (p : Shogi) (eval : Eval) (d m : ℕ) (beta v : ℤ) : Type
   pub least : lost_value SEARCH_DEPTH_MAX ≤ℤ v
   pub cuts : v ≤ℤ (pos 0 -ℤ beta)
 
-pub at_most_says : (p : Shogi) (eval : Eval) (d m : ℕ) (deep : 1 < d) (e : Entry) (v beta below : ℤ) → IsValid p → is_in m (legal_codes p) ≡ true → d ≤ SEARCH_DEPTH_MAX → e ≡ AtMost v → IsTrueEntry (after_code p m) eval (d - 1) e → IsCutoff (pos 0 -ℤ beta) below e → IsAtLeast p eval (d - 1) m beta v
+pub at_most_says : (p : Shogi) (eval : Eval) (d m : ℕ) (deep : 1 < d) (e : Entry) (v beta below : ℤ) → IsValid p → is_in m (legal_codes p) ≡ true → d ≤ SEARCH_DEPTH_MAX → e ≡ AtMost v → IsTrueEntry (after_code p m) eval (d - 1) e → IsConclusive (pos 0 -ℤ beta) below e → IsAtLeast p eval (d - 1) m beta v
 at_most_says p eval d m deep e v beta below ok i h q t s =
     let k : value (after_code p m) eval (d - 1) ≤ℤ v = subst (λ (x : Entry). IsTrueEntry (after_code p m) eval (d - 1) x) q t in
-    let l : v ≤ℤ (pos 0 -ℤ beta) = subst (λ (x : Entry). IsCutoff (pos 0 -ℤ beta) below x) q s in
+    let l : v ≤ℤ (pos 0 -ℤ beta) = subst (λ (x : Entry). IsConclusive (pos 0 -ℤ beta) below x) q s in
     let w : Within (d - 1) (value (after_code p m) eval (d - 1)) = value_within (d - 1) (after_code p m) eval (after_valid p m ok i) in
     let is : worth p eval (d - 1) m ≡ negated (value (after_code p m) eval (d - 1)) = worth_deep p eval (d - 1) m (omega arith) in
     record { worth_is = omega (arith, ints, is, k); least = omega (arith, ints); cuts = l }
 
-pub at_least_says : (p : Shogi) (eval : Eval) (d m : ℕ) (deep : 1 < d) (e : Entry) (v beta alpha : ℤ) → e ≡ AtLeast v → IsTrueEntry (after_code p m) eval (d - 1) e → IsCutoff beta (pos 0 -ℤ alpha) e → worth p eval (d - 1) m ≤ℤ alpha
+pub at_least_says : (p : Shogi) (eval : Eval) (d m : ℕ) (deep : 1 < d) (e : Entry) (v beta alpha : ℤ) → e ≡ AtLeast v → IsTrueEntry (after_code p m) eval (d - 1) e → IsConclusive beta (pos 0 -ℤ alpha) e → worth p eval (d - 1) m ≤ℤ alpha
 at_least_says p eval d m deep e v beta alpha q t s =
     let k : v ≤ℤ value (after_code p m) eval (d - 1) = subst (λ (x : Entry). IsTrueEntry (after_code p m) eval (d - 1) x) q t in
-    let l : (pos 0 -ℤ alpha) ≤ℤ v = subst (λ (x : Entry). IsCutoff beta (pos 0 -ℤ alpha) x) q s in
+    let l : (pos 0 -ℤ alpha) ≤ℤ v = subst (λ (x : Entry). IsConclusive beta (pos 0 -ℤ alpha) x) q s in
     let is : worth p eval (d - 1) m ≡ negated (value (after_code p m) eval (d - 1)) = worth_deep p eval (d - 1) m (omega arith) in
     omega (arith, ints, is, k, l)

@@ -7,7 +7,7 @@ use Rattle.shogi_core.specs.Position.{Shogi}
 use Rattle.shogi_moves.specs.LegalMoves.{legal_codes}
 use Rattle.shogi_moves.specs.Rising.{is_in}
 use Rattle.shogi_moves.proofs.LegalLaws.{legal_in, legal_code_below}
-use Rattle.search_nodes.specs.Firsts.{is_distinct}
+use Rattle.search_nodes.specs.PriorityMoves.{is_distinct}
 use Rattle.search_nodes.proofs.MatchingOthers.{in_head, in_tail, in_cases, is_in-append_cases}
 
 -- a number behind others is none of them

@@ -10,74 +10,74 @@ use Rattle.shogi_moves.specs.Captures.{matches_kind}
 use Rattle.shogi_moves.specs.LegalMoves.{legal_from}
 use Rattle.shogi_moves.specs.Rising.{is_in}
 use Rattle.shogi_moves.specs.Sweeps.{matching_from}
-use Rattle.shogi_replies.specs.Passes.{IsPassed}
+use Rattle.shogi_replies.specs.Passes.{IsSkipped}
 use Rattle.shogi_moves.proofs.SweepLaws.{no_captures}
-use Rattle.search_nodes.specs.Firsts.{is_distinct}
+use Rattle.search_nodes.specs.PriorityMoves.{is_distinct}
 use Rattle.search_nodes.specs.Order.{matches_other, matching_others_from}
 
 -- a test of two parts keeps what the second keeps of what the first keeps
-filter-both : (p : Shogi) (firsts : List ℕ) (capture : Bool) (xs : List ℕ) → filter (matches_other p firsts capture) xs ≡ filter (λ n. not (is_in n firsts)) (filter (matches_kind p capture) xs)
-filter-both p firsts capture [] = refl
-filter-both p firsts capture (m ∷ xs) = elim (cases_Bool (matches_kind p capture m)) [
+filter-both : (p : Shogi) (priority_moves : List ℕ) (capture : Bool) (xs : List ℕ) → filter (matches_other p priority_moves capture) xs ≡ filter (λ n. not (is_in n priority_moves)) (filter (matches_kind p capture) xs)
+filter-both p priority_moves capture [] = refl
+filter-both p priority_moves capture (m ∷ xs) = elim (cases_Bool (matches_kind p capture m)) [
   | inl matching ↦ (
       let here : filter (matches_kind p capture) (m ∷ xs) ≡ m ∷ filter (matches_kind p capture) xs = cond-true _ _ _ matching in
-      ap (λ (b : Bool). cond b (m ∷ filter (matches_other p firsts capture) xs) (filter (matches_other p firsts capture) xs)) (ap (λ (b : Bool). b && not (is_in m firsts)) matching)
-      ∙ ap (λ (ys : List ℕ). cond (not (is_in m firsts)) (m ∷ ys) ys) (filter-both p firsts capture xs)
-      ∙ ap (filter (λ n. not (is_in n firsts))) (sym here))
+      ap (λ (b : Bool). cond b (m ∷ filter (matches_other p priority_moves capture) xs) (filter (matches_other p priority_moves capture) xs)) (ap (λ (b : Bool). b && not (is_in m priority_moves)) matching)
+      ∙ ap (λ (ys : List ℕ). cond (not (is_in m priority_moves)) (m ∷ ys) ys) (filter-both p priority_moves capture xs)
+      ∙ ap (filter (λ n. not (is_in n priority_moves))) (sym here))
   | inr other ↦ (
       let gone : filter (matches_kind p capture) (m ∷ xs) ≡ filter (matches_kind p capture) xs = cond-false _ _ _ other in
-      ap (λ (b : Bool). cond b (m ∷ filter (matches_other p firsts capture) xs) (filter (matches_other p firsts capture) xs)) (ap (λ (b : Bool). b && not (is_in m firsts)) other)
-      ∙ filter-both p firsts capture xs
-      ∙ ap (filter (λ n. not (is_in n firsts))) (sym gone))
+      ap (λ (b : Bool). cond b (m ∷ filter (matches_other p priority_moves capture) xs) (filter (matches_other p priority_moves capture) xs)) (ap (λ (b : Bool). b && not (is_in m priority_moves)) other)
+      ∙ filter-both p priority_moves capture xs
+      ∙ ap (filter (λ n. not (is_in n priority_moves))) (sym gone))
 ]
 
 -- the next one that matches is a pick, or it is one of the first moves and is passed, or there is none
-pub other-found : (p : Shogi) (firsts : List ℕ) (capture : Bool) (m : ℕ) (xs rest : List ℕ) → filter (matches_kind p capture) xs ≡ m ∷ filter (matches_kind p capture) rest → is_in m firsts ≡ false → filter (matches_other p firsts capture) xs ≡ m ∷ filter (matches_other p firsts capture) rest
-other-found p firsts capture m xs rest e h =
-    filter-both p firsts capture xs ∙ ap (filter (λ n. not (is_in n firsts))) e ∙ cond-true _ _ _ (ap not h) ∙ ap (λ (ys : List ℕ). m ∷ ys) (sym (filter-both p firsts capture rest))
+pub other-found : (p : Shogi) (priority_moves : List ℕ) (capture : Bool) (m : ℕ) (xs rest : List ℕ) → filter (matches_kind p capture) xs ≡ m ∷ filter (matches_kind p capture) rest → is_in m priority_moves ≡ false → filter (matches_other p priority_moves capture) xs ≡ m ∷ filter (matches_other p priority_moves capture) rest
+other-found p priority_moves capture m xs rest e h =
+    filter-both p priority_moves capture xs ∙ ap (filter (λ n. not (is_in n priority_moves))) e ∙ cond-true _ _ _ (ap not h) ∙ ap (λ (ys : List ℕ). m ∷ ys) (sym (filter-both p priority_moves capture rest))
 
-pub other-passed : (p : Shogi) (firsts : List ℕ) (capture : Bool) (m : ℕ) (xs rest : List ℕ) → filter (matches_kind p capture) xs ≡ m ∷ filter (matches_kind p capture) rest → is_in m firsts ≡ true → filter (matches_other p firsts capture) xs ≡ filter (matches_other p firsts capture) rest
-other-passed p firsts capture m xs rest e h =
-    filter-both p firsts capture xs ∙ ap (filter (λ n. not (is_in n firsts))) e ∙ cond-false _ _ _ (ap not h) ∙ sym (filter-both p firsts capture rest)
+pub other-passed : (p : Shogi) (priority_moves : List ℕ) (capture : Bool) (m : ℕ) (xs rest : List ℕ) → filter (matches_kind p capture) xs ≡ m ∷ filter (matches_kind p capture) rest → is_in m priority_moves ≡ true → filter (matches_other p priority_moves capture) xs ≡ filter (matches_other p priority_moves capture) rest
+other-passed p priority_moves capture m xs rest e h =
+    filter-both p priority_moves capture xs ∙ ap (filter (λ n. not (is_in n priority_moves))) e ∙ cond-false _ _ _ (ap not h) ∙ sym (filter-both p priority_moves capture rest)
 
-pub other-none : (p : Shogi) (firsts : List ℕ) (capture : Bool) (xs : List ℕ) → filter (matches_kind p capture) xs ≡ [] → filter (matches_other p firsts capture) xs ≡ []
-other-none p firsts capture xs e = filter-both p firsts capture xs ∙ ap (filter (λ n. not (is_in n firsts))) e
+pub other-none : (p : Shogi) (priority_moves : List ℕ) (capture : Bool) (xs : List ℕ) → filter (matches_kind p capture) xs ≡ [] → filter (matches_other p priority_moves capture) xs ≡ []
+other-none p priority_moves capture xs e = filter-both p priority_moves capture xs ∙ ap (filter (λ n. not (is_in n priority_moves))) e
 
 -- with each one that matches fewer are left
 pub fewer_left : (left rest : List ℕ) (m : ℕ) → left ≡ m ∷ rest → length rest < length left
 fewer_left left rest m e = subst (λ (xs : List ℕ). length rest < length xs) (sym e) (omega arith)
 
 -- what matches from one code on as from another does so without the first moves
-pub other-same : (p : Shogi) (firsts : List ℕ) (capture : Bool) (xs ys : List ℕ) → filter (matches_kind p capture) xs ≡ filter (matches_kind p capture) ys → filter (matches_other p firsts capture) xs ≡ filter (matches_other p firsts capture) ys
-other-same p firsts capture xs ys e = filter-both p firsts capture xs ∙ ap (filter (λ n. not (is_in n firsts))) e ∙ sym (filter-both p firsts capture ys)
+pub other-same : (p : Shogi) (priority_moves : List ℕ) (capture : Bool) (xs ys : List ℕ) → filter (matches_kind p capture) xs ≡ filter (matches_kind p capture) ys → filter (matches_other p priority_moves capture) xs ≡ filter (matches_other p priority_moves capture) ys
+other-same p priority_moves capture xs ys e = filter-both p priority_moves capture xs ∙ ap (filter (λ n. not (is_in n priority_moves))) e ∙ sym (filter-both p priority_moves capture ys)
 
 -- what is passed of a list is passed of what a test keeps of it
-passed_none : (fact : ℕ → Type 0) (xs : List ℕ) → IsPassed fact xs xs
+passed_none : (fact : ℕ → Type 0) (xs : List ℕ) → IsSkipped fact xs xs
 passed_none fact [] = refl
 passed_none fact (m ∷ xs) = inl refl
 
-passed_filter : (fact : ℕ → Type 0) (t : ℕ → Bool) (xs ys : List ℕ) → IsPassed fact xs ys → IsPassed fact (filter t xs) (filter t ys)
+passed_filter : (fact : ℕ → Type 0) (t : ℕ → Bool) (xs ys : List ℕ) → IsSkipped fact xs ys → IsSkipped fact (filter t xs) (filter t ys)
 passed_filter fact t [] ys h = ap (filter t) h
 passed_filter fact t (m ∷ xs) ys h = elim h [
-  | inl same ↦ subst (λ (zs : List ℕ). IsPassed fact (filter t (m ∷ xs)) (filter t zs)) same (passed_none fact (filter t (m ∷ xs)))
-  | inr more ↦ cond_both (t m) (m ∷ filter t xs) (filter t xs) (λ (zs : List ℕ). IsPassed fact zs (filter t ys)) (λ _. inr (more.0, passed_filter fact t xs ys more.1)) (λ _. passed_filter fact t xs ys more.1)
+  | inl same ↦ subst (λ (zs : List ℕ). IsSkipped fact (filter t (m ∷ xs)) (filter t zs)) same (passed_none fact (filter t (m ∷ xs)))
+  | inr more ↦ cond_both (t m) (m ∷ filter t xs) (filter t xs) (λ (zs : List ℕ). IsSkipped fact zs (filter t ys)) (λ _. inr (more.0, passed_filter fact t xs ys more.1)) (λ _. passed_filter fact t xs ys more.1)
 ]
 
-pub passed_others : (fact : ℕ → Type 0) (p : Shogi) (firsts : List ℕ) (capture : Bool) (first code : ℕ) → IsPassed fact (matching_from p capture first) (matching_from p capture code) → IsPassed fact (matching_others_from p firsts capture first) (matching_others_from p firsts capture code)
-passed_others fact p firsts capture first code h =
-    let t : ℕ → Bool = λ (n : ℕ). not (is_in n firsts) in
-    subst (λ (xs : List ℕ). IsPassed fact xs (matching_others_from p firsts capture code)) (sym (filter-both p firsts capture (legal_from p first)))
-    (subst (λ (ys : List ℕ). IsPassed fact (filter t (matching_from p capture first)) ys) (sym (filter-both p firsts capture (legal_from p code)))
+pub passed_others : (fact : ℕ → Type 0) (p : Shogi) (priority_moves : List ℕ) (capture : Bool) (first code : ℕ) → IsSkipped fact (matching_from p capture first) (matching_from p capture code) → IsSkipped fact (matching_others_from p priority_moves capture first) (matching_others_from p priority_moves capture code)
+passed_others fact p priority_moves capture first code h =
+    let t : ℕ → Bool = λ (n : ℕ). not (is_in n priority_moves) in
+    subst (λ (xs : List ℕ). IsSkipped fact xs (matching_others_from p priority_moves capture code)) (sym (filter-both p priority_moves capture (legal_from p first)))
+    (subst (λ (ys : List ℕ). IsSkipped fact (filter t (matching_from p capture first)) ys) (sym (filter-both p priority_moves capture (legal_from p code)))
     (passed_filter fact t (matching_from p capture first) (matching_from p capture code) h))
 
 pub ruleset passing_others = (passed_others)
 
 -- drops take nothing
-pub no_drop_taken : (p : Shogi) (firsts : List ℕ) → matching_others_from p firsts true FIRST_DROP ≡ []
-no_drop_taken p firsts = other-none p firsts true (legal_from p FIRST_DROP) (no_captures p)
+pub no_drop_taken : (p : Shogi) (priority_moves : List ℕ) → matching_others_from p priority_moves true FIRST_DROP ≡ []
+no_drop_taken p priority_moves = other-none p priority_moves true (legal_from p FIRST_DROP) (no_captures p)
 
-pub captures_end : (p : Shogi) (firsts : List ℕ) (code : ℕ) (ys : List ℕ) → matching_others_from p firsts true code ≡ matching_others_from p firsts true FIRST_DROP → (matching_others_from p firsts true code ++ ys) ≡ ys
-captures_end p firsts code ys e = ap (λ (xs : List ℕ). xs ++ ys) (e ∙ no_drop_taken p firsts)
+pub captures_end : (p : Shogi) (priority_moves : List ℕ) (code : ℕ) (ys : List ℕ) → matching_others_from p priority_moves true code ≡ matching_others_from p priority_moves true FIRST_DROP → (matching_others_from p priority_moves true code ++ ys) ≡ ys
+captures_end p priority_moves code ys e = ap (λ (xs : List ℕ). xs ++ ys) (e ∙ no_drop_taken p priority_moves)
 
 pub ruleset no_capture_left = (captures_end)
 
@@ -172,18 +172,18 @@ filter_one_fewer g t u f tu tf uf (m ∷ xs) i =
     ]
 
 -- the numbers of the one list that are in the other, and those of the other that are not in the one, are no more than the other
-firsts_apart : (g : ℕ → ℕ) (fs : List ℕ) → is_distinct fs ≡ true → (xs : List ℕ) → sum_by g (filter (λ n. is_in n xs) fs) + sum_by g (filter (λ n. not (is_in n fs)) xs) ≤ sum_by g xs
-firsts_apart g [] distinct xs = omega (arith, filter_fewer g (λ n. not (is_in n [])) (λ n. true) (λ n _. refl) xs, filter_all xs)
+priority_moves_apart : (g : ℕ → ℕ) (fs : List ℕ) → is_distinct fs ≡ true → (xs : List ℕ) → sum_by g (filter (λ n. is_in n xs) fs) + sum_by g (filter (λ n. not (is_in n fs)) xs) ≤ sum_by g xs
+priority_moves_apart g [] distinct xs = omega (arith, filter_fewer g (λ n. not (is_in n [])) (λ n. true) (λ n _. refl) xs, filter_all xs)
   where
     filter_all : (xs : List ℕ) → sum_by g (filter (λ n. true) xs) ≡ sum_by g xs
     filter_all [] = refl
     filter_all (m ∷ xs) = omega (arith, filter_all xs, sum_by-cons g m xs, sum_by-cons g m (filter (λ n. true) xs))
-firsts_apart g (f ∷ fs) distinct xs =
+priority_moves_apart g (f ∷ fs) distinct xs =
     let parts = and_parts (not (is_in f fs)) (is_distinct fs) distinct in
     let t : ℕ → Bool = λ (n : ℕ). not (is_in n (f ∷ fs)) in
     let u : ℕ → Bool = λ (n : ℕ). not (is_in n fs) in
     let tu : (n : ℕ) → t n ≡ true → u n ≡ true = λ n h. elim (cases_Bool (is_in n fs)) [ inl i ↦ (let no : t n ≡ false = not_from_true _ (in_tail n f fs i) in absurd (cc)) | inr o ↦ not_from_false _ o ] in
-    let ih : sum_by g (filter (λ n. is_in n xs) fs) + sum_by g (filter u xs) ≤ sum_by g xs = firsts_apart g fs parts.1 xs in
+    let ih : sum_by g (filter (λ n. is_in n xs) fs) + sum_by g (filter u xs) ≤ sum_by g xs = priority_moves_apart g fs parts.1 xs in
     filter_sum g (λ n. is_in n xs) f fs (λ x. x + sum_by g (filter t xs) ≤ sum_by g xs)
     (λ i. (let less : g f + sum_by g (filter t xs) ≤ sum_by g (filter u xs) = filter_one_fewer g t u f tu (not_from_true _ (in_head f f fs (eq-eqb f f refl))) parts.0 xs i in omega arith))
     (λ _. (let less : sum_by g (filter t xs) ≤ sum_by g (filter u xs) = filter_fewer g t u tu xs in omega arith))
@@ -204,5 +204,5 @@ two_among g a b t apart (m ∷ xs) =
     (λ _. filter_sum g t m xs (λ z. sum_by g (filter at xs) + sum_by g (filter bt xs) ≤ z) (λ _. omega arith) (λ _. omega arith)))
 
 -- the first ones of a list, and what two tests apart keep of the others
-pub firsts_parts : (g : ℕ → ℕ) (a b : ℕ → Bool) → AreApart a b → (fs : List ℕ) → is_distinct fs ≡ true → (xs : List ℕ) → sum_by g (filter (λ n. is_in n xs) fs) + (sum_by g (filter (λ n. a n && not (is_in n fs)) xs) + sum_by g (filter (λ n. b n && not (is_in n fs)) xs)) ≤ sum_by g xs
-firsts_parts g a b apart fs distinct xs = omega (arith, firsts_apart g fs distinct xs, two_among g a b (λ n. not (is_in n fs)) apart xs)
+pub priority_move_parts : (g : ℕ → ℕ) (a b : ℕ → Bool) → AreApart a b → (fs : List ℕ) → is_distinct fs ≡ true → (xs : List ℕ) → sum_by g (filter (λ n. is_in n xs) fs) + (sum_by g (filter (λ n. a n && not (is_in n fs)) xs) + sum_by g (filter (λ n. b n && not (is_in n fs)) xs)) ≤ sum_by g xs
+priority_move_parts g a b apart fs distinct xs = omega (arith, priority_moves_apart g fs distinct xs, two_among g a b (λ n. not (is_in n fs)) apart xs)

@@ -10,14 +10,14 @@ use Rattle.shogi_core.specs.Validity.{IsValid}
 use Rattle.shogi_moves.specs.LegalMoves.{legal_codes}
 use Rattle.shogi_moves.specs.Rising.{is_in}
 use Rattle.shogi_eval.specs.declared.eval.Eval.{Eval}
-use Rattle.search_nodes.specs.declared.firsts.Firsts.{Firsts}
+use Rattle.search_nodes.specs.declared.priority_moves.PriorityMoves.{PriorityMoves}
 use Rattle.search_nodes.specs.declared.move_picker.MovePicker.{MovePicker}
 use Rattle.search_nodes.specs.declared.move_picker.MovePicker.TheVariants.{First, Done}
 use Rattle.minimax.specs.Minimax.{tree_size, sum_of_tree_sizes, value, worth, negated}
-use Rattle.minimax.specs.Window.{IsCovered, threshold}
+use Rattle.minimax.specs.Window.{IsCovered, move_alpha}
 use Rattle.search_nodes.specs.Order.{todo, IsKept}
-use Rattle.search_nodes.specs.declared.frame.Waiting.{Waiting}
-use Rattle.search_nodes.specs.declared.frame.Waiting.TheVariants.{Next, Asked, Cut}
+use Rattle.search_nodes.specs.declared.frame.NodeState.{NodeState}
+use Rattle.search_nodes.specs.declared.frame.NodeState.TheVariants.{Expanding, AwaitingChild, CutOff}
 use Rattle.search_nodes.specs.Visits.{moves_at, IsAsked, IsCurrent, WhereCurrent, IsOver, IsKnownWhile}
 use Rattle.minimax.proofs.MinimaxLaws.{tree_size-above, tree_size-leaf, worth_bounds, WorthWithin}
 use Rattle.search_nodes.proofs.OrderLaws.{IsWhole, whole, whole_covered}
@@ -35,39 +35,39 @@ waits_at f p zero m rest alpha best_value b c = let i : is_in m [] ≡ true = c.
 waits_at f p (suc d) m rest alpha best_value b c = record { deep = omega arith; is_listed = c.among m (or_left (m == m) (is_in m rest) (eq-eqb m m refl)); covered = c }
 
 -- some move is the current one, where something holds of it
-pub record HasCurrent (w : Waiting) (fact : Move → Type 0) : Type 0 where
+pub record HasCurrent (w : NodeState) (fact : Move → Type 0) : Type 0 where
   pub current : Move
   pub is : IsCurrent w current
   pub has : fact current
 
-pub has_current : (w : Waiting) (fact : Move → Type 0) → WhereCurrent w fact → HasCurrent w fact
-has_current Next fact h = absurd h
-has_current (Asked m) fact h = record { current = m; is = refl; has = h }
-has_current (Cut v) fact h = absurd h
+pub has_current : (w : NodeState) (fact : Move → Type 0) → WhereCurrent w fact → HasCurrent w fact
+has_current Expanding fact h = absurd h
+has_current (AwaitingChild m) fact h = record { current = m; is = refl; has = h }
+has_current (CutOff v) fact h = absurd h
 
 -- what holds of this move holds of the current one
-pub of_current : (w : Waiting) (fact : Move → Type 0) (m : Move) → IsCurrent w m → fact m → WhereCurrent w fact
-of_current Next fact m e h = absurd e
-of_current (Asked k) fact m e h = subst fact (sym e) h
-of_current (Cut v) fact m e h = absurd e
+pub of_current : (w : NodeState) (fact : Move → Type 0) (m : Move) → IsCurrent w m → fact m → WhereCurrent w fact
+of_current Expanding fact m e h = absurd e
+of_current (AwaitingChild k) fact m e h = subst fact (sym e) h
+of_current (CutOff v) fact m e h = absurd e
 
 -- the move that is asked for is the current one
-pub asked : (w : Waiting) (m : Move) → w ≡ Asked m → IsCurrent w m
-asked w m e = subst (λ (x : Waiting). IsCurrent x m) (sym e) refl
+pub asked : (w : NodeState) (m : Move) → w ≡ AwaitingChild m → IsCurrent w m
+asked w m e = subst (λ (x : NodeState). IsCurrent x m) (sym e) refl
 
-pub waits : (p : Shogi) (eval : Eval) (d : ℕ) (alpha beta best_value : ℤ) (b : Option ℕ) (ms : List ℕ) (w : Waiting) (m : Move) → IsCurrent w m → IsKnownWhile p eval d alpha beta best_value b ms w → IsWaiting (worth p eval (d - 1)) p d (code_of m) ms alpha best_value b
-waits p eval d alpha beta best_value b ms Next m e c = absurd e
-waits p eval d alpha beta best_value b ms (Asked k) m e c = waits_at (worth p eval (d - 1)) p d (code_of m) ms alpha best_value b (subst (λ (x : Move). IsCovered (worth p eval (d - 1)) (moves_at p d) (code_of x ∷ ms) alpha best_value b) e c)
-waits p eval d alpha beta best_value b ms (Cut v) m e c = absurd e
+pub waits : (p : Shogi) (eval : Eval) (d : ℕ) (alpha beta best_value : ℤ) (b : Option ℕ) (ms : List ℕ) (w : NodeState) (m : Move) → IsCurrent w m → IsKnownWhile p eval d alpha beta best_value b ms w → IsWaiting (worth p eval (d - 1)) p d (code_of m) ms alpha best_value b
+waits p eval d alpha beta best_value b ms Expanding m e c = absurd e
+waits p eval d alpha beta best_value b ms (AwaitingChild k) m e c = waits_at (worth p eval (d - 1)) p d (code_of m) ms alpha best_value b (subst (λ (x : Move). IsCovered (worth p eval (d - 1)) (moves_at p d) (code_of x ∷ ms) alpha best_value b) e c)
+waits p eval d alpha beta best_value b ms (CutOff v) m e c = absurd e
 
 -- what is known of a node that waits for the answer of a move does not depend on where its window ends
-pub known_under : (p : Shogi) (eval : Eval) (d : ℕ) (alpha beta bound best_value : ℤ) (b : Option ℕ) (ms : List ℕ) (w : Waiting) → IsAsked w → IsKnownWhile p eval d alpha beta best_value b ms w → IsKnownWhile p eval d alpha bound best_value b ms w
-known_under p eval d alpha beta bound best_value b ms Next a c = absurd a
-known_under p eval d alpha beta bound best_value b ms (Asked k) a c = c
-known_under p eval d alpha beta bound best_value b ms (Cut v) a c = absurd a
+pub known_under : (p : Shogi) (eval : Eval) (d : ℕ) (alpha beta bound best_value : ℤ) (b : Option ℕ) (ms : List ℕ) (w : NodeState) → IsAsked w → IsKnownWhile p eval d alpha beta best_value b ms w → IsKnownWhile p eval d alpha bound best_value b ms w
+known_under p eval d alpha beta bound best_value b ms Expanding a c = absurd a
+known_under p eval d alpha beta bound best_value b ms (AwaitingChild k) a c = c
+known_under p eval d alpha beta bound best_value b ms (CutOff v) a c = absurd a
 
 -- a move that is asked for is not taken in
-pub is_asked : (w : Waiting) (m : Move) → w ≡ Asked m → IsAsked w
+pub is_asked : (w : NodeState) (m : Move) → w ≡ AwaitingChild m → IsAsked w
 is_asked w m e = subst IsAsked (sym e) tt
 
 -- what a node knows whose moves are all gone through
@@ -75,10 +75,10 @@ pub record IsGone (p : Shogi) (eval : Eval) (d : ℕ) (alpha best_value : ℤ) (
   pub none : ms ≡ []
   pub covered : IsCovered (worth p eval (d - 1)) (moves_at p d) ms alpha best_value b
 
-pub gone : (p : Shogi) (eval : Eval) (d : ℕ) (alpha beta best_value : ℤ) (b : Option ℕ) (ms : List ℕ) (w : Waiting) → IsOver w ms → ((v : ℤ) → w ≡ Cut v → ⊥) → IsKnownWhile p eval d alpha beta best_value b ms w → IsGone p eval d alpha best_value b ms
-gone p eval d alpha beta best_value b ms Next o n c = record { none = o; covered = c }
-gone p eval d alpha beta best_value b ms (Asked k) o n c = absurd o
-gone p eval d alpha beta best_value b ms (Cut v) o n c = absurd (n v refl)
+pub gone : (p : Shogi) (eval : Eval) (d : ℕ) (alpha beta best_value : ℤ) (b : Option ℕ) (ms : List ℕ) (w : NodeState) → IsOver w ms → ((v : ℤ) → w ≡ CutOff v → ⊥) → IsKnownWhile p eval d alpha beta best_value b ms w → IsGone p eval d alpha best_value b ms
+gone p eval d alpha beta best_value b ms Expanding o n c = record { none = o; covered = c }
+gone p eval d alpha beta best_value b ms (AwaitingChild k) o n c = absurd o
+gone p eval d alpha beta best_value b ms (CutOff v) o n c = absurd (n v refl)
 
 -- and back, once the move has its answer
 pub at_depth : (f : ℕ → ℤ) (p : Shogi) (d : ℕ) (ms : List ℕ) (alpha best_value : ℤ) (b : Option ℕ) → 0 < d → IsCovered f (legal_codes p) ms alpha best_value b → IsCovered f (moves_at p d) ms alpha best_value b
@@ -97,16 +97,16 @@ pub record IsNew (f : ℕ → ℤ) (p : Shogi) (d : ℕ) (alpha : ℤ) (picker :
 new_leaf : (f : ℕ → ℤ) (p : Shogi) (alpha : ℤ) → IsNew f p 0 alpha Done
 new_leaf f p alpha = record { covered = IsCovered-start f [] alpha; counted = omega (arith, tree_size-leaf p); kept = tt }
 
-pub new_node : (f : ℕ → ℤ) (p : Shogi) (d : ℕ) (alpha : ℤ) (firsts : Firsts) (picker : MovePicker) → (d ≡ 0 → picker ≡ Done) → (0 < d → picker ≡ First firsts 0) → IsNew f p d alpha picker
-new_node f p zero alpha firsts picker a b = subst (λ (c : MovePicker). IsNew f p 0 alpha c) (sym (a refl)) (new_leaf f p alpha)
-new_node f p (suc d) alpha firsts picker a b =
+pub new_node : (f : ℕ → ℤ) (p : Shogi) (d : ℕ) (alpha : ℤ) (priority_moves : PriorityMoves) (picker : MovePicker) → (d ≡ 0 → picker ≡ Done) → (0 < d → picker ≡ First priority_moves 0) → IsNew f p d alpha picker
+new_node f p zero alpha priority_moves picker a b = subst (λ (c : MovePicker). IsNew f p 0 alpha c) (sym (a refl)) (new_leaf f p alpha)
+new_node f p (suc d) alpha priority_moves picker a b =
     let deep : 0 < suc d = omega arith in
-    let w : IsWhole p (suc d - 1) (First firsts 0) = whole p (suc d - 1) firsts in
+    let w : IsWhole p (suc d - 1) (First priority_moves 0) = whole p (suc d - 1) priority_moves in
     subst
     (λ (c : MovePicker). IsNew f p (suc d) alpha c)
     (sym (b deep))
     (record {
-      covered = whole_covered p (suc d - 1) (First firsts 0) f alpha w;
+      covered = whole_covered p (suc d - 1) (First priority_moves 0) f alpha w;
       counted = omega (arith, tree_size-above p (suc d) deep, w.counted);
       kept = tt;
     })
@@ -115,11 +115,11 @@ new_node f p (suc d) alpha firsts picker a b =
 pub cuts : (p : Shogi) (eval : Eval) (d : ℕ) (beta v v' : ℤ) → v' ≡ v → v ≤ℤ value p eval d → beta ≤ℤ v → (v' ≤ℤ value p eval d) × (beta ≤ℤ v')
 cuts p eval d beta v v' e l h = (subst (λ (y : ℤ). y ≤ℤ value p eval d) (sym e) l, subst (λ (y : ℤ). beta ≤ℤ y) (sym e) h)
 
-threshold_falls_one : (best_value : ℤ) (b m : ℕ) → negated INFINITY <ℤ best_value → negated INFINITY ≤ℤ threshold best_value (Some b) m
+threshold_falls_one : (best_value : ℤ) (b m : ℕ) → negated INFINITY <ℤ best_value → negated INFINITY ≤ℤ move_alpha best_value (Some b) m
 threshold_falls_one best_value b m t = grind (arith, ints, nat_tests)
 
 -- the threshold of a node is no less than what no position reaches
-pub threshold_least : (p : Shogi) (eval : Eval) (d : ℕ) (alpha best_value : ℤ) (rest : List ℕ) (b : Option ℕ) (m : ℕ) → IsValid p → d ≤ SEARCH_DEPTH_MAX → negated INFINITY ≤ℤ alpha → IsCovered (worth p eval (d - 1)) (legal_codes p) rest alpha best_value b → (negated INFINITY ≤ℤ best_value) × (negated INFINITY ≤ℤ threshold best_value b m)
+pub threshold_least : (p : Shogi) (eval : Eval) (d : ℕ) (alpha best_value : ℤ) (rest : List ℕ) (b : Option ℕ) (m : ℕ) → IsValid p → d ≤ SEARCH_DEPTH_MAX → negated INFINITY ≤ℤ alpha → IsCovered (worth p eval (d - 1)) (legal_codes p) rest alpha best_value b → (negated INFINITY ≤ℤ best_value) × (negated INFINITY ≤ℤ move_alpha best_value b m)
 threshold_least p eval d alpha best_value rest None m ok h l c = let e : best_value ≡ alpha = c.reached in (omega (arith, ints), omega (arith, ints))
 threshold_least p eval d alpha best_value rest (Some b) m ok h l c =
     let w : WorthWithin (d - 1) (worth p eval (d - 1) b) = worth_bounds (d - 1) p eval b ok c.reached.0 in

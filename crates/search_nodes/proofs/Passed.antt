@@ -24,18 +24,18 @@ use Rattle.shogi_core.proofs.CodesBack.{move_of-board, move_of-drop}
 use Rattle.shogi_moves.specs.After.{after, after_code}
 use Rattle.shogi_moves.specs.Legal.{is_legal}
 use Rattle.shogi_moves.specs.Captures.{is_matching}
-use Rattle.shogi_replies.specs.declared.row.Row.{Row}
-use Rattle.shogi_replies.specs.declared.row.TheConstants.{ALL_ROLES}
-use Rattle.shogi_replies.specs.Passes.{IsCertainMove, IsCertainDrop, IsPassed, LeavesReply}
-use Rattle.shogi_replies.specs.Replies.{IsCertain, quiet_codes}
+use Rattle.shogi_replies.specs.declared.move_filter.MoveFilter.{MoveFilter}
+use Rattle.shogi_replies.specs.declared.move_filter.TheConstants.{ALL_ROLES}
+use Rattle.shogi_replies.specs.Passes.{IsGuaranteedMove, IsGuaranteedDrop, IsSkipped, LeavesReply}
+use Rattle.shogi_replies.specs.ReplyInfo.{GuaranteesReply, quiet_codes}
 use Rattle.shogi_moves.proofs.DestinationLaws.{matching_move}
 use Rattle.shogi_moves.proofs.LegalLaws.{is_legal_code_of, after_code_of}
 use Rattle.shogi_eval.specs.declared.eval.Eval.{Eval}
 use Rattle.shogi_eval.specs.Material.{material_of, taken_gain, promotion_gain, value_of}
 use Rattle.shogi_eval.proofs.Gains.{material_at_board}
-use Rattle.search_nodes.specs.Frames.{DropsAreLost, FallsShort, LeavesAtLeast, MovesLeave, PromotesWithin}
+use Rattle.search_nodes.specs.Frames.{DropsFailLow, DropFailsLow, LeavesAtLeast, MovesLeave, PromotesWithin}
 use Rattle.minimax.specs.Minimax.{value, worth, negated, sum_of_tree_sizes}
-use Rattle.minimax.specs.Window.{threshold, code_at, IsCovered}
+use Rattle.minimax.specs.Window.{move_alpha, code_at, IsCovered}
 use Rattle.search_nodes.specs.Order.{todo}
 use Rattle.search_nodes.specs.Visits.{moves_at, IsKnownWhile}
 use Rattle.search_nodes.specs.Changes.{left_of_frame}
@@ -44,15 +44,15 @@ use Rattle.shogi_eval.specs.declared.gain.TheConstants.{PROMOTION_GAIN_MAX}
 use Rattle.search_nodes.specs.declared.frame.Frame.{Frame}
 use Rattle.search_nodes.specs.declared.pruning.TheConstants.{ALL_BUT_PAWN, SILVER, SILVER_AND_KNIGHT}
 use Rattle.search_nodes.specs.declared.move_picker.MovePicker.{MovePicker}
-use Rattle.search_nodes.specs.declared.frame.Waiting.{Waiting}
-use Rattle.search_nodes.specs.declared.frame.Waiting.TheVariants.{Next}
-use Rattle.minimax.proofs.Cover.{IsCovered-skip, threshold-best_value}
+use Rattle.search_nodes.specs.declared.frame.NodeState.{NodeState}
+use Rattle.search_nodes.specs.declared.frame.NodeState.TheVariants.{Expanding}
+use Rattle.minimax.proofs.Cover.{IsCovered-skip, move_alpha-best_value}
 use Rattle.search_nodes.proofs.Nodes.{threshold_least, gone_through}
 use Rattle.search_nodes.proofs.Ahead.{worth_leaving}
 use Rattle.minimax.proofs.MinimaxLaws.{sum_of_tree_sizes-next}
 
 -- moves that are all worth no more than their threshold
-covered_passed : (f : ℕ → ℤ) (fact : ℕ → Type 0) (all codes left : List ℕ) (alpha best_value : ℤ) (b : Option ℕ) → IsPassed fact codes left → ((c : ℕ) → fact c → f c ≤ℤ threshold best_value b c) → IsCovered f all codes alpha best_value b → IsCovered f all left alpha best_value b
+covered_passed : (f : ℕ → ℤ) (fact : ℕ → Type 0) (all codes left : List ℕ) (alpha best_value : ℤ) (b : Option ℕ) → IsSkipped fact codes left → ((c : ℕ) → fact c → f c ≤ℤ move_alpha best_value b c) → IsCovered f all codes alpha best_value b → IsCovered f all left alpha best_value b
 covered_passed f fact all [] left alpha best_value b p low h = subst (λ (xs : List ℕ). IsCovered f all xs alpha best_value b) p h
 covered_passed f fact all (c ∷ codes) left alpha best_value b p low h = elim p [
   | inl same ↦ subst (λ (xs : List ℕ). IsCovered f all xs alpha best_value b) same h
@@ -60,7 +60,7 @@ covered_passed f fact all (c ∷ codes) left alpha best_value b p low h = elim p
 ]
 
 -- with each of them its whole tree goes
-sum_passed : (p : Shogi) (d : ℕ) (fact : ℕ → Type 0) (codes left : List ℕ) → IsPassed fact codes left → sum_of_tree_sizes p d left ≤ sum_of_tree_sizes p d codes
+sum_passed : (p : Shogi) (d : ℕ) (fact : ℕ → Type 0) (codes left : List ℕ) → IsSkipped fact codes left → sum_of_tree_sizes p d left ≤ sum_of_tree_sizes p d codes
 sum_passed p d fact [] left h = omega (arith, ap (sum_of_tree_sizes p d) h)
 sum_passed p d fact (c ∷ codes) left h = elim h [
   | inl same ↦ omega (arith, ap (sum_of_tree_sizes p d) same)
@@ -68,13 +68,13 @@ sum_passed p d fact (c ∷ codes) left h = elim h [
 ]
 
 -- a threshold rises with the code
-pub threshold_rises : (best_value : ℤ) (b : Option ℕ) (first c : ℕ) → first ≤ c → threshold best_value b first ≤ℤ threshold best_value b c
+pub threshold_rises : (best_value : ℤ) (b : Option ℕ) (first c : ℕ) → first ≤ c → move_alpha best_value b first ≤ℤ move_alpha best_value b c
 threshold_rises best_value None first c up = omega (arith, ints)
 threshold_rises best_value (Some b) first c up = grind (arith, ints, nat_tests)
 
 -- a move that leaves such a reply is certain
-certain_move : (p : Shogi) (escapes c : ℕ) (m : Move) → after_code p c ≡ after p m → LeavesReply p escapes c → IsCertain p escapes m
-certain_move p escapes c m made leaves = (
+guaranteed_move : (p : Shogi) (escapes c : ℕ) (m : Move) → after_code p c ≡ after p m → LeavesReply p escapes c → GuaranteesReply p escapes m
+guaranteed_move p escapes c m made leaves = (
   λ _. subst (λ (q : Shogi). quiet_codes q ≢ []) made leaves.replied,
   λ none _. subst (λ (q : Shogi). in_check q.cells (opponent_of p.side) ≡ false) made (leaves.unchecked none),
 )
@@ -85,9 +85,9 @@ pub record IsDropAt (p : Shogi) (kind : Kind) (squares escapes c to : ℕ) : Typ
   pub is : c ≡ code_of (Drop kind to)
   pub set : has_bit squares to ≡ true
   pub legal : is_legal p (Drop kind to) ≡ true
-  pub certain : IsCertain p escapes (Drop kind to)
+  pub guaranteed : GuaranteesReply p escapes (Drop kind to)
 
-pub drop_at : (p : Shogi) (kind : Kind) (squares escapes first c : ℕ) → IsCertainDrop p kind squares escapes first c → IsDropAt p kind squares escapes c (c - FIRST_DROP - kind_number kind * 81)
+pub drop_at : (p : Shogi) (kind : Kind) (squares escapes first c : ℕ) → IsGuaranteedDrop p kind squares escapes first c → IsDropAt p kind squares escapes c (c - FIRST_DROP - kind_number kind * 81)
 drop_at p kind squares escapes first c k =
     let to : ℕ = c - FIRST_DROP - kind_number kind * 81 in
     let fits : to < 81 = omega (arith, k.low, k.high) in
@@ -98,16 +98,16 @@ drop_at p kind squares escapes first c k =
       is = is;
       set = k.among;
       legal = sym (is_legal_code_of p c (Drop kind to) (ap move_of is ∙ back)) ∙ k.legal;
-      certain = certain_move p escapes c (Drop kind to) (ap (after_code p) is ∙ after_code_of p (Drop kind to) back) k.leaves;
+      guaranteed = guaranteed_move p escapes c (Drop kind to) (ap (after_code p) is ∙ after_code_of p (Drop kind to) back) k.leaves;
     }
 
 -- a drop is worth no more than it leaves
-pub drop_worth : (f : Frame) (kind : Kind) (squares escapes first c to : ℕ) (loss : ℤ) → f.depth ≡ 2 → FallsShort f kind first loss → first ≤ c → IsDropAt f.node.position kind squares escapes c to → LeavesAtLeast f loss (Drop kind to)
-    → worth f.node.position f.node.eval (f.depth - 1) c ≤ℤ threshold f.best_value (code_at f.best_move) c
+pub drop_worth : (f : Frame) (kind : Kind) (squares escapes first c to : ℕ) (loss : ℤ) → f.depth ≡ 2 → DropFailsLow f kind first loss → first ≤ c → IsDropAt f.node.position kind squares escapes c to → LeavesAtLeast f loss (Drop kind to)
+    → worth f.node.position f.node.eval (f.depth - 1) c ≤ℤ move_alpha f.best_value (code_at f.best_move) c
 drop_worth f kind squares escapes first c to loss last short above at leaves =
     let most : worth f.node.position f.node.eval (f.depth - 1) (code_of (Drop kind to)) ≤ℤ negated (material_of (after f.node.position (Drop kind to)) f.node.eval -ℤ loss) = worth_leaving f.node.position f.node.eval f.depth loss (Drop kind to) (move_of-drop kind to at.fits) last leaves in
     let same : worth f.node.position f.node.eval (f.depth - 1) c ≡ worth f.node.position f.node.eval (f.depth - 1) (code_of (Drop kind to)) = ap (worth f.node.position f.node.eval (f.depth - 1)) at.is in
-    let up : threshold f.best_value (code_at f.best_move) first ≤ℤ threshold f.best_value (code_at f.best_move) c = threshold_rises f.best_value (code_at f.best_move) first c above in
+    let up : move_alpha f.best_value (code_at f.best_move) first ≤ℤ move_alpha f.best_value (code_at f.best_move) c = threshold_rises f.best_value (code_at f.best_move) first c above in
     omega (arith, ints, most, same, up, short to at.fits at.legal)
 
 -- no promotion gains more than that of a pawn
@@ -184,18 +184,18 @@ nothing_taken e None h = refl
 nothing_taken e (Some piece) h = cc
 
 -- a move that takes nothing is worth no more than it leaves, with what promotion adds
-quiet_at : (f : Frame) (row : Row) (first c most from to : ℕ) (promote : Bool) (loss : ℤ) → f.depth ≡ 2 → MovesLeave f loss row.pieces.bits row.squares.bits row.escapes.bits → IsCertainMove f.node.position false row first c → from < 81 → to < 81 → c ≡ code_of (Board from to promote) → has_bit row.pieces.bits from ≡ true → has_bit row.squares.bits to ≡ true → promotion_gain promote (piece_at f.node.position.cells from) ≤ most
+quiet_at : (f : Frame) (move_filter : MoveFilter) (first c most from to : ℕ) (promote : Bool) (loss : ℤ) → f.depth ≡ 2 → MovesLeave f loss move_filter.pieces.bits move_filter.squares.bits move_filter.escapes.bits → IsGuaranteedMove f.node.position false move_filter first c → from < 81 → to < 81 → c ≡ code_of (Board from to promote) → has_bit move_filter.pieces.bits from ≡ true → has_bit move_filter.squares.bits to ≡ true → promotion_gain promote (piece_at f.node.position.cells from) ≤ most
     → worth f.node.position f.node.eval (f.depth - 1) c ≤ℤ (material_of f.node.position f.node.eval +ℤ pos most +ℤ loss)
-quiet_at f row first c most from to promote loss last leave k from_fits to_fits is piece set more =
+quiet_at f move_filter first c most from to promote loss last leave k from_fits to_fits is piece set more =
     let back : move_of (code_of (Board from to promote)) ≡ Some (Board from to promote) = move_of-board from to promote from_fits to_fits in
     let parts : (is_legal f.node.position (Board from to promote) ≡ true) × (not (is_some (piece_at f.node.position.cells to)) ≡ true) = and_parts _ _ (sym (matching_move f.node.position false (Board from to promote) back) ∙ (ap (is_matching f.node.position false) (sym is) ∙ k.matching)) in
-    let certain : IsCertain f.node.position row.escapes.bits (Board from to promote) = certain_move f.node.position row.escapes.bits c (Board from to promote) (ap (after_code f.node.position) is ∙ after_code_of f.node.position (Board from to promote) back) k.leaves in
-    let worth_most : _ = gain_worth f.node.position f.node.eval f.depth c from to promote loss f.valid last from_fits to_fits is parts.0 (leave from to promote from_fits to_fits piece set parts.0 certain) in
+    let guaranteed : GuaranteesReply f.node.position move_filter.escapes.bits (Board from to promote) = guaranteed_move f.node.position move_filter.escapes.bits c (Board from to promote) (ap (after_code f.node.position) is ∙ after_code_of f.node.position (Board from to promote) back) k.leaves in
+    let worth_most : _ = gain_worth f.node.position f.node.eval f.depth c from to promote loss f.valid last from_fits to_fits is parts.0 (leave from to promote from_fits to_fits piece set parts.0 guaranteed) in
     omega (arith, ints, worth_most, nothing_taken f.node.eval (piece_at f.node.position.cells to) parts.1, more)
 
-quiet_worth : (f : Frame) (row : Row) (first c most : ℕ) (loss : ℤ) → f.depth ≡ 2 → MovesLeave f loss row.pieces.bits row.squares.bits row.escapes.bits → PromotesWithin most row.promoting → IsCertainMove f.node.position false row first c
+quiet_worth : (f : Frame) (move_filter : MoveFilter) (first c most : ℕ) (loss : ℤ) → f.depth ≡ 2 → MovesLeave f loss move_filter.pieces.bits move_filter.squares.bits move_filter.escapes.bits → PromotesWithin most move_filter.promoting → IsGuaranteedMove f.node.position false move_filter first c
     → worth f.node.position f.node.eval (f.depth - 1) c ≤ℤ (material_of f.node.position f.node.eval +ℤ pos most +ℤ loss)
-quiet_worth f row first c most loss last leave within k =
+quiet_worth f move_filter first c most loss last leave within k =
     let from : ℕ = c / SQUARE_CODES in
     let to : ℕ = c / 2 % 81 in
     let from_fits : from < 81 = omega (arith, k.on_board) in
@@ -203,35 +203,35 @@ quiet_worth f row first c most loss last leave within k =
     elim (cases_eq (c % 2) 0) [
       | inl even ↦ (
           let none : promotion_gain false (piece_at f.node.position.cells from) ≡ 0 = no_promotion (piece_at f.node.position.cells from) in
-          quiet_at f row first c most from to false loss last leave k from_fits to_fits (omega (arith, even)) k.piece k.end (omega (arith, none)))
-      | inr odd ↦ quiet_at f row first c most from to true loss last leave k from_fits to_fits (omega (arith, odd)) k.piece k.end (within (piece_at f.node.position.cells from) (k.promoting (omega (arith, odd))))
+          quiet_at f move_filter first c most from to false loss last leave k from_fits to_fits (omega (arith, even)) k.piece k.end (omega (arith, none)))
+      | inr odd ↦ quiet_at f move_filter first c most from to true loss last leave k from_fits to_fits (omega (arith, odd)) k.piece k.end (within (piece_at f.node.position.cells from) (k.promoting (omega (arith, odd))))
     ]
 
 -- what is known of a node that waits for nothing
-pub known_next : (p : Shogi) (e : Eval) (d : ℕ) (alpha beta best_value : ℤ) (b : Option ℕ) (codes : List ℕ) (w : Waiting) → w ≡ Next → IsKnownWhile p e d alpha beta best_value b codes w → IsCovered (worth p e (d - 1)) (moves_at p d) codes alpha best_value b
-known_next p e d alpha beta best_value b codes w next k = subst (λ (x : Waiting). IsKnownWhile p e d alpha beta best_value b codes x) next k
+pub known_next : (p : Shogi) (e : Eval) (d : ℕ) (alpha beta best_value : ℤ) (b : Option ℕ) (codes : List ℕ) (w : NodeState) → w ≡ Expanding → IsKnownWhile p e d alpha beta best_value b codes w → IsCovered (worth p e (d - 1)) (moves_at p d) codes alpha best_value b
+known_next p e d alpha beta best_value b codes w next k = subst (λ (x : NodeState). IsKnownWhile p e d alpha beta best_value b codes x) next k
 
-pub next_known : (p : Shogi) (e : Eval) (d : ℕ) (alpha beta best_value : ℤ) (b : Option ℕ) (codes : List ℕ) (w : Waiting) → w ≡ Next → IsCovered (worth p e (d - 1)) (moves_at p d) codes alpha best_value b → IsKnownWhile p e d alpha beta best_value b codes w
-next_known p e d alpha beta best_value b codes w next k = subst (λ (x : Waiting). IsKnownWhile p e d alpha beta best_value b codes x) (sym next) k
+pub next_known : (p : Shogi) (e : Eval) (d : ℕ) (alpha beta best_value : ℤ) (b : Option ℕ) (codes : List ℕ) (w : NodeState) → w ≡ Expanding → IsCovered (worth p e (d - 1)) (moves_at p d) codes alpha best_value b → IsKnownWhile p e d alpha beta best_value b codes w
+next_known p e d alpha beta best_value b codes w next k = subst (λ (x : NodeState). IsKnownWhile p e d alpha beta best_value b codes x) (sym next) k
 
 -- drops of one kind, each of which is lost
-pub drops_covered : (f : Frame) (kind : Kind) (squares escapes first : ℕ) (codes left : List ℕ) → DropsAreLost f kind squares escapes first → IsPassed (IsCertainDrop f.node.position kind squares escapes first) codes left
+pub drops_covered : (f : Frame) (kind : Kind) (squares escapes first : ℕ) (codes left : List ℕ) → DropsFailLow f kind squares escapes first → IsSkipped (IsGuaranteedDrop f.node.position kind squares escapes first) codes left
     → IsCovered (worth f.node.position f.node.eval (f.depth - 1)) (moves_at f.node.position f.depth) codes f.alpha f.best_value (code_at f.best_move) → IsCovered (worth f.node.position f.node.eval (f.depth - 1)) (moves_at f.node.position f.depth) left f.alpha f.best_value (code_at f.best_move)
-drops_covered f kind squares escapes first codes left lost passed k = covered_passed (worth f.node.position f.node.eval (f.depth - 1)) (IsCertainDrop f.node.position kind squares escapes first) (moves_at f.node.position f.depth) codes left f.alpha f.best_value (code_at f.best_move) passed lost k
+drops_covered f kind squares escapes first codes left lost passed k = covered_passed (worth f.node.position f.node.eval (f.depth - 1)) (IsGuaranteedDrop f.node.position kind squares escapes first) (moves_at f.node.position f.depth) codes left f.alpha f.best_value (code_at f.best_move) passed lost k
 
 -- and moves on the board that take nothing
-pub quiets_covered : (f : Frame) (row : Row) (first most : ℕ) (loss : ℤ) (codes left : List ℕ) → f.depth ≡ 2 → MovesLeave f loss row.pieces.bits row.squares.bits row.escapes.bits → PromotesWithin most row.promoting → (material_of f.node.position f.node.eval +ℤ pos most +ℤ loss) ≤ℤ threshold f.best_value (code_at f.best_move) first → IsPassed (IsCertainMove f.node.position false row first) codes left
+pub quiets_covered : (f : Frame) (move_filter : MoveFilter) (first most : ℕ) (loss : ℤ) (codes left : List ℕ) → f.depth ≡ 2 → MovesLeave f loss move_filter.pieces.bits move_filter.squares.bits move_filter.escapes.bits → PromotesWithin most move_filter.promoting → (material_of f.node.position f.node.eval +ℤ pos most +ℤ loss) ≤ℤ move_alpha f.best_value (code_at f.best_move) first → IsSkipped (IsGuaranteedMove f.node.position false move_filter first) codes left
     → IsCovered (worth f.node.position f.node.eval (f.depth - 1)) (moves_at f.node.position f.depth) codes f.alpha f.best_value (code_at f.best_move) → IsCovered (worth f.node.position f.node.eval (f.depth - 1)) (moves_at f.node.position f.depth) left f.alpha f.best_value (code_at f.best_move)
-quiets_covered f row first most loss codes left last leave within low passed k =
-    covered_passed (worth f.node.position f.node.eval (f.depth - 1)) (IsCertainMove f.node.position false row first) (moves_at f.node.position f.depth) codes left f.alpha f.best_value (code_at f.best_move) passed
+quiets_covered f move_filter first most loss codes left last leave within low passed k =
+    covered_passed (worth f.node.position f.node.eval (f.depth - 1)) (IsGuaranteedMove f.node.position false move_filter first) (moves_at f.node.position f.depth) codes left f.alpha f.best_value (code_at f.best_move) passed
     (λ c is.
-    let worth_most : worth f.node.position f.node.eval (f.depth - 1) c ≤ℤ (material_of f.node.position f.node.eval +ℤ pos most +ℤ loss) = quiet_worth f row first c most loss last leave within is in
-    let up : threshold f.best_value (code_at f.best_move) first ≤ℤ threshold f.best_value (code_at f.best_move) c = threshold_rises f.best_value (code_at f.best_move) first c is.above in
+    let worth_most : worth f.node.position f.node.eval (f.depth - 1) c ≤ℤ (material_of f.node.position f.node.eval +ℤ pos most +ℤ loss) = quiet_worth f move_filter first c most loss last leave within is in
+    let up : move_alpha f.best_value (code_at f.best_move) first ≤ℤ move_alpha f.best_value (code_at f.best_move) c = threshold_rises f.best_value (code_at f.best_move) first c is.above in
     omega (arith, ints, worth_most, up, low))
     k
 
 -- so what is left does not grow
-pub left_passed : (f : Frame) (picker : MovePicker) (fact : ℕ → Type 0) → IsPassed fact (todo f.node.position f.picker) (todo f.node.position picker)
+pub left_passed : (f : Frame) (picker : MovePicker) (fact : ℕ → Type 0) → IsSkipped fact (todo f.node.position f.picker) (todo f.node.position picker)
     → 1 + 2 * sum_of_tree_sizes f.node.position (f.depth - 1) (todo f.node.position picker) ≤ left_of_frame f
 left_passed f picker fact passed = omega (arith, sum_passed f.node.position (f.depth - 1) fact _ _ passed)
 
@@ -240,8 +240,8 @@ pub record IsWithin (v : ℤ) : Type 0 where
   pub least : negated INFINITY ≤ℤ v
   pub most : v ≤ℤ INFINITY
 
-pub threshold_within : (p : Shogi) (e : Eval) (d : ℕ) (alpha beta best_value : ℤ) (codes : List ℕ) (b : Option ℕ) (first : ℕ) → IsValid p → d ≤ SEARCH_DEPTH_MAX → 0 < d → negated INFINITY ≤ℤ alpha → best_value <ℤ beta → beta ≤ℤ INFINITY → IsCovered (worth p e (d - 1)) (moves_at p d) codes alpha best_value b → IsWithin best_value × IsWithin (threshold best_value b first)
+pub threshold_within : (p : Shogi) (e : Eval) (d : ℕ) (alpha beta best_value : ℤ) (codes : List ℕ) (b : Option ℕ) (first : ℕ) → IsValid p → d ≤ SEARCH_DEPTH_MAX → 0 < d → negated INFINITY ≤ℤ alpha → best_value <ℤ beta → beta ≤ℤ INFINITY → IsCovered (worth p e (d - 1)) (moves_at p d) codes alpha best_value b → IsWithin best_value × IsWithin (move_alpha best_value b first)
 threshold_within p e d alpha beta best_value codes b first valid shallow last least less most h =
-    let l : (negated INFINITY ≤ℤ best_value) × (negated INFINITY ≤ℤ threshold best_value b first) = threshold_least p e d alpha best_value codes b first valid shallow least (gone_through (worth p e (d - 1)) p d codes alpha best_value b last h) in
-    let u : threshold best_value b first ≤ℤ best_value = threshold-best_value best_value b first in
+    let l : (negated INFINITY ≤ℤ best_value) × (negated INFINITY ≤ℤ move_alpha best_value b first) = threshold_least p e d alpha best_value codes b first valid shallow least (gone_through (worth p e (d - 1)) p d codes alpha best_value b last h) in
+    let u : move_alpha best_value b first ≤ℤ best_value = move_alpha-best_value best_value b first in
     (record { least = l.0; most = omega (arith, ints, less, most) }, record { least = l.1; most = omega (arith, ints, less, most, u) })

@@ -17,97 +17,97 @@ use Rattle.shogi_core.proofs.BitLaws.{has_bit-none, has_bit-or}
 use Rattle.shogi_core.proofs.CodesBack.{move_of-board, move_of-drop}
 use Rattle.shogi_moves.specs.After.{after, after_code, dropped}
 use Rattle.shogi_moves.specs.Escapes.{AreEscapes}
-use Rattle.shogi_replies.specs.declared.row.Row.{Row}
-use Rattle.shogi_replies.specs.Passes.{IsCertainDrop, IsCertainMove, IsPassed}
+use Rattle.shogi_replies.specs.declared.move_filter.MoveFilter.{MoveFilter}
+use Rattle.shogi_replies.specs.Passes.{IsGuaranteedDrop, IsGuaranteedMove, IsSkipped}
 use Rattle.shogi_replies.proofs.ThreatLaws.{retake_drop, retake_unchecked, threat_board, threat_drop}
 use Rattle.shogi_eval.specs.Evaluated.{Evaluated}
 use Rattle.shogi_eval.specs.Material.{material_of, taken_gain}
 use Rattle.minimax.specs.Minimax.{sum_of_tree_sizes, worth}
-use Rattle.minimax.specs.Window.{IsCovered, code_at, threshold}
+use Rattle.minimax.specs.Window.{IsCovered, code_at, move_alpha}
 use Rattle.search_nodes.specs.declared.frame.Frame.{Frame}
-use Rattle.search_nodes.specs.declared.frame.Waiting.TheVariants.{Asked, Next}
+use Rattle.search_nodes.specs.declared.frame.NodeState.TheVariants.{AwaitingChild, Expanding}
 use Rattle.search_nodes.specs.declared.move_picker.MovePicker.{MovePicker}
 use Rattle.search_nodes.specs.declared.threat.Threat.{Threat}
 use Rattle.search_nodes.specs.declared.threat.Threats.{Threats}
-use Rattle.search_nodes.specs.Frames.{DropsAreLost, FallsShort, IsLost, LeavesAtLeast, MovesLeave, PromotesWithin, RepliesLoseAtMost, threshold_of, worth_of}
+use Rattle.search_nodes.specs.Frames.{DropsFailLow, DropFailsLow, IsLost, LeavesAtLeast, MovesLeave, PromotesWithin, RepliesLoseAtMost, move_alpha_of, worth_of}
 use Rattle.search_nodes.specs.Order.{todo}
-use Rattle.search_nodes.specs.Changes.{IsSame, KeepsMoves, PrunesRow, left_of_frame, steps_after}
-use Rattle.search_nodes.specs.Threats.{AreSpared, AreThreatsIn, IsAttacked, IsThreatIn, TakesAfter}
+use Rattle.search_nodes.specs.Changes.{IsSame, KeepsMoves, PrunesFiltered, left_of_frame, steps_after}
+use Rattle.search_nodes.specs.Threats.{AreNonInterfering, AreThreatsIn, IsAttacked, IsThreatIn, TakesAfter}
 use Rattle.search_nodes.specs.Visits.{IsKnownWhile, moves_at}
 use Rattle.minimax.proofs.MinimaxLaws.{sum_of_tree_sizes-next}
-use Rattle.shogi_eval.specs.Exchange.{settles}
+use Rattle.shogi_eval.specs.Exchange.{resolves_captures}
 use Rattle.search_nodes.proofs.Ahead.{material_left, retake_gain, standing_quiet, threat_gain, threat_left}
 use Rattle.search_nodes.proofs.Passing.{left_kept}
 use Rattle.search_nodes.proofs.Passed.{IsDropAt, IsWithin, drop_at, drop_worth, drops_covered, known_next, next_known, quiets_covered, threshold_within}
 
 -- what is known of the threshold of a node of depth 2 that waits for nothing
-pub within_of : (f : Frame) (first : ℕ) → f.waiting ≡ Next → f.depth ≡ 2 → IsWithin f.best_value × IsWithin (threshold f.best_value (code_at f.best_move) first)
+pub within_of : (f : Frame) (first : ℕ) → f.state ≡ Expanding → f.depth ≡ 2 → IsWithin f.best_value × IsWithin (move_alpha f.best_value (code_at f.best_move) first)
 within_of f first next last = threshold_within _ _ _ _ _ _ _ _ first f.valid f.shallow (omega (arith, last)) f.least f.open f.most (known_next _ _ _ _ _ _ _ _ _ next f.known)
 
 -- a row of moves that take nothing leaves what is known
-pub row_known : (f : Frame) (row : Row) (first most : ℕ) (loss : ℤ) (picker : MovePicker) → f.waiting ≡ Next → f.depth ≡ 2 → MovesLeave f loss row.pieces.bits row.squares.bits row.escapes.bits → PromotesWithin most row.promoting → (material_of f.node.position f.node.eval +ℤ pos most +ℤ loss) ≤ℤ threshold f.best_value (code_at f.best_move) first
-    → IsPassed (IsCertainMove f.node.position false row first) (todo f.node.position f.picker) (todo f.node.position picker) → IsKnownWhile f.node.position f.node.eval f.depth f.alpha f.beta f.best_value (code_at f.best_move) (todo f.node.position picker) f.waiting
-row_known f row first most loss picker next last leave within low passed = next_known _ _ _ _ _ _ _ _ _ next (quiets_covered f row first most loss _ _ last leave within low passed (known_next _ _ _ _ _ _ _ _ _ next f.known))
+pub row_known : (f : Frame) (move_filter : MoveFilter) (first most : ℕ) (loss : ℤ) (picker : MovePicker) → f.state ≡ Expanding → f.depth ≡ 2 → MovesLeave f loss move_filter.pieces.bits move_filter.squares.bits move_filter.escapes.bits → PromotesWithin most move_filter.promoting → (material_of f.node.position f.node.eval +ℤ pos most +ℤ loss) ≤ℤ move_alpha f.best_value (code_at f.best_move) first
+    → IsSkipped (IsGuaranteedMove f.node.position false move_filter first) (todo f.node.position f.picker) (todo f.node.position picker) → IsKnownWhile f.node.position f.node.eval f.depth f.alpha f.beta f.best_value (code_at f.best_move) (todo f.node.position picker) f.state
+row_known f move_filter first most loss picker next last leave within low passed = next_known _ _ _ _ _ _ _ _ _ next (quiets_covered f move_filter first most loss _ _ last leave within low passed (known_next _ _ _ _ _ _ _ _ _ next f.known))
 
 -- and so does one of drops
-pub drops_known : (f : Frame) (kind : Kind) (squares escapes first : ℕ) (picker : MovePicker) → f.waiting ≡ Next → DropsAreLost f kind squares escapes first
-    → IsPassed (IsCertainDrop f.node.position kind squares escapes first) (todo f.node.position f.picker) (todo f.node.position picker) → IsKnownWhile f.node.position f.node.eval f.depth f.alpha f.beta f.best_value (code_at f.best_move) (todo f.node.position picker) f.waiting
+pub drops_known : (f : Frame) (kind : Kind) (squares escapes first : ℕ) (picker : MovePicker) → f.state ≡ Expanding → DropsFailLow f kind squares escapes first
+    → IsSkipped (IsGuaranteedDrop f.node.position kind squares escapes first) (todo f.node.position f.picker) (todo f.node.position picker) → IsKnownWhile f.node.position f.node.eval f.depth f.alpha f.beta f.best_value (code_at f.best_move) (todo f.node.position picker) f.state
 drops_known f kind squares escapes first picker next lost passed = next_known _ _ _ _ _ _ _ _ _ next (drops_covered f kind squares escapes first _ _ lost passed (known_next _ _ _ _ _ _ _ _ _ next f.known))
 
 -- moves that leave a reply leave the other side its material, less what a reply may lose
 pub material_leaves : (f : Frame) (loss : ℤ) (pieces squares escapes : ℕ) → pos 0 ≤ℤ loss → RepliesLoseAtMost f loss → MovesLeave f loss pieces squares escapes
-material_leaves f loss pieces squares escapes least loses = λ from to promote hf ht piece set legal certain. material_left f.node.position f.node.eval loss (Board from to promote) f.valid (move_of-board from to promote hf ht) legal least loses (standing_quiet (after f.node.position (Board from to promote)) f.node.eval (certain.0 legal))
+material_leaves f loss pieces squares escapes least fails_low_by_threat = λ from to promote hf ht piece set legal guaranteed. material_left f.node.position f.node.eval loss (Board from to promote) f.valid (move_of-board from to promote hf ht) legal least fails_low_by_threat (standing_quiet (after f.node.position (Board from to promote)) f.node.eval (guaranteed.0 legal))
 
 -- so drops that do not suffice by that are lost
-pub material_drops : (f : Frame) (kind : Kind) (squares escapes first : ℕ) (loss : ℤ) → f.depth ≡ 2 → pos 0 ≤ℤ loss → RepliesLoseAtMost f loss → FallsShort f kind first loss → DropsAreLost f kind squares escapes first
-material_drops f kind squares escapes first loss last least loses short = λ code is.
+pub material_drops : (f : Frame) (kind : Kind) (squares escapes first : ℕ) (loss : ℤ) → f.depth ≡ 2 → pos 0 ≤ℤ loss → RepliesLoseAtMost f loss → DropFailsLow f kind first loss → DropsFailLow f kind squares escapes first
+material_drops f kind squares escapes first loss last least fails_low_by_threat short = λ code is.
     let at : _ = drop_at f.node.position kind squares escapes first code is in
-    drop_worth f kind squares escapes first code _ loss last short is.above at (material_left f.node.position f.node.eval loss (Drop kind (code - FIRST_DROP - kind_number kind * 81)) f.valid (move_of-drop kind (code - FIRST_DROP - kind_number kind * 81) at.fits) at.legal least loses
-    (standing_quiet (after f.node.position (Drop kind (code - FIRST_DROP - kind_number kind * 81))) f.node.eval (at.certain.0 at.legal)))
+    drop_worth f kind squares escapes first code _ loss last short is.above at (material_left f.node.position f.node.eval loss (Drop kind (code - FIRST_DROP - kind_number kind * 81)) f.valid (move_of-drop kind (code - FIRST_DROP - kind_number kind * 81) at.fits) at.legal least fails_low_by_threat
+    (standing_quiet (after f.node.position (Drop kind (code - FIRST_DROP - kind_number kind * 81))) f.node.eval (at.guaranteed.0 at.legal)))
 
 -- moves that let a threat be and give no check leave it its material and what that gains
-pub threat_leaves : (f : Frame) (plain : settles f.node.eval ≡ false) (threat : Threat) (loss : ℤ) (pieces aside : ℕ) → IsThreatIn f.node.position f.node.eval threat → loss ≡ pos 0 -ℤ pos threat.gain → ((n : ℕ) → has_bit pieces n ≡ true → n ≢ threat.target) → AreSpared threat true aside → MovesLeave f loss pieces aside 0
-threat_leaves f plain threat loss pieces aside is gains others spared = λ from to promote hf ht piece set legal certain.
-    let shut : in_check (after f.node.position (Board from to promote)).cells (opponent_of f.node.position.side) ≡ false = certain.1 refl legal in
+pub threat_leaves : (f : Frame) (plain : resolves_captures f.node.eval ≡ false) (threat : Threat) (loss : ℤ) (pieces aside : ℕ) → IsThreatIn f.node.position f.node.eval threat → loss ≡ pos 0 -ℤ pos threat.gain → ((n : ℕ) → has_bit pieces n ≡ true → n ≢ threat.target) → AreNonInterfering threat true aside → MovesLeave f loss pieces aside 0
+threat_leaves f plain threat loss pieces aside is gains others spared = λ from to promote hf ht piece set legal guaranteed.
+    let shut : in_check (after f.node.position (Board from to promote)).cells (opponent_of f.node.position.side) ≡ false = guaranteed.1 refl legal in
     let takes : TakesAfter f.node.position f.node.eval (Board from to promote) threat.gain = threat_gain f.node.position f.node.eval (Board from to promote) threat.from threat.target threat.gain threat.promote f.valid (move_of-board from to promote hf ht) legal is.gains.is_threat is.gains.gain_is
     (others from piece, spared to _ ht set (λ _. refl) f.node.position f.node.eval (Board from to promote) is refl refl) in
     let least : _ = threat_left f.node.position f.node.eval plain (Board from to promote) threat.gain (threat_board f.node.position from to promote f.valid hf ht legal shut) (retake_unchecked f.node.position from to promote f.valid hf ht legal shut) takes in
     subst (λ (x : ℤ). LeavesAtLeast f x (Board from to promote)) (sym gains) least
 
 -- and so do such drops
-pub drop_spared : (f : Frame) (plain : settles f.node.eval ≡ false) (threat : Threat) (loss : ℤ) (kind : Kind) (sliding : Bool) (aside squares c to : ℕ) → IsThreatIn f.node.position f.node.eval threat → loss ≡ pos 0 -ℤ pos threat.gain → AreSpared threat sliding aside → (is_slider (dropped f.node.position.side kind) ≡ true → sliding ≡ true) → has_bit aside to ≡ true → IsDropAt f.node.position kind squares 0 c to
+pub drop_survived : (f : Frame) (plain : resolves_captures f.node.eval ≡ false) (threat : Threat) (loss : ℤ) (kind : Kind) (sliding : Bool) (aside squares c to : ℕ) → IsThreatIn f.node.position f.node.eval threat → loss ≡ pos 0 -ℤ pos threat.gain → AreNonInterfering threat sliding aside → (is_slider (dropped f.node.position.side kind) ≡ true → sliding ≡ true) → has_bit aside to ≡ true → IsDropAt f.node.position kind squares 0 c to
     → LeavesAtLeast f loss (Drop kind to)
-drop_spared f plain threat loss kind sliding aside squares c to is gains spared slides set at =
-    let shut : in_check (after f.node.position (Drop kind to)).cells (opponent_of f.node.position.side) ≡ false = at.certain.1 refl at.legal in
+drop_survived f plain threat loss kind sliding aside squares c to is gains spared slides set at =
+    let shut : in_check (after f.node.position (Drop kind to)).cells (opponent_of f.node.position.side) ≡ false = at.guaranteed.1 refl at.legal in
     let takes : TakesAfter f.node.position f.node.eval (Drop kind to) threat.gain = threat_gain f.node.position f.node.eval (Drop kind to) threat.from threat.target threat.gain threat.promote f.valid (move_of-drop kind to at.fits) at.legal is.gains.is_threat is.gains.gain_is
     (spared to _ at.fits set slides f.node.position f.node.eval (Drop kind to) is refl refl) in
     let least : _ = threat_left f.node.position f.node.eval plain (Drop kind to) threat.gain (threat_drop f.node.position kind to f.valid at.fits shut) (retake_drop f.node.position kind to f.valid at.fits) takes in
     subst (λ (x : ℤ). LeavesAtLeast f x (Drop kind to)) (sym gains) least
 
 -- a drop that gives no check is taken where such a piece attacks its square
-pub drop_retaken : (f : Frame) (plain : settles f.node.eval ≡ false) (loss : ℤ) (kind : Kind) (gain squares c to : ℕ) → gain ≡ taken_gain f.node.eval (dropped f.node.position.side kind) → loss ≡ pos 0 -ℤ pos gain → ∥ IsAttacked f.node.position to ∥₁ → IsDropAt f.node.position kind squares 0 c to → LeavesAtLeast f loss (Drop kind to)
+pub drop_retaken : (f : Frame) (plain : resolves_captures f.node.eval ≡ false) (loss : ℤ) (kind : Kind) (gain squares c to : ℕ) → gain ≡ taken_gain f.node.eval (dropped f.node.position.side kind) → loss ≡ pos 0 -ℤ pos gain → ∥ IsAttacked f.node.position to ∥₁ → IsDropAt f.node.position kind squares 0 c to → LeavesAtLeast f loss (Drop kind to)
 drop_retaken f plain loss kind gain squares c to value gains attacked at =
-    let shut : in_check (after f.node.position (Drop kind to)).cells (opponent_of f.node.position.side) ≡ false = at.certain.1 refl at.legal in
+    let shut : in_check (after f.node.position (Drop kind to)).cells (opponent_of f.node.position.side) ≡ false = at.guaranteed.1 refl at.legal in
     let takes : TakesAfter f.node.position f.node.eval (Drop kind to) gain = λ plain keeps retakes. ∥∥₁_elim attacked (Prim.hlevel props) (λ here. retake_gain f.node.position f.node.eval (Drop kind to) to gain f.valid (move_of-drop kind to at.fits) at.legal refl here value plain keeps retakes) in
     let least : _ = threat_left f.node.position f.node.eval plain (Drop kind to) gain (threat_drop f.node.position kind to f.valid at.fits shut) (retake_drop f.node.position kind to f.valid at.fits) takes in
     subst (λ (x : ℤ). LeavesAtLeast f x (Drop kind to)) (sym gains) least
 
 -- so such drops are lost that do not suffice by it
-pub spared_drops : (f : Frame) (plain : settles f.node.eval ≡ false) (threat : Threat) (loss : ℤ) (kind : Kind) (sliding : Bool) (aside first : ℕ) → f.depth ≡ 2 → IsThreatIn f.node.position f.node.eval threat → loss ≡ pos 0 -ℤ pos threat.gain → AreSpared threat sliding aside → (is_slider (dropped f.node.position.side kind) ≡ true → sliding ≡ true) → FallsShort f kind first loss → DropsAreLost f kind aside 0 first
-spared_drops f plain threat loss kind sliding aside first last is gains spared slides short = λ code certain.
-    let at : _ = drop_at f.node.position kind aside 0 first code certain in
-    drop_worth f kind aside 0 first code _ loss last short certain.above at (drop_spared f plain threat loss kind sliding aside aside code _ is gains spared slides at.set at)
+pub surviving_drops : (f : Frame) (plain : resolves_captures f.node.eval ≡ false) (threat : Threat) (loss : ℤ) (kind : Kind) (sliding : Bool) (aside first : ℕ) → f.depth ≡ 2 → IsThreatIn f.node.position f.node.eval threat → loss ≡ pos 0 -ℤ pos threat.gain → AreNonInterfering threat sliding aside → (is_slider (dropped f.node.position.side kind) ≡ true → sliding ≡ true) → DropFailsLow f kind first loss → DropsFailLow f kind aside 0 first
+surviving_drops f plain threat loss kind sliding aside first last is gains spared slides short = λ code guaranteed.
+    let at : _ = drop_at f.node.position kind aside 0 first code guaranteed in
+    drop_worth f kind aside 0 first code _ loss last short guaranteed.above at (drop_survived f plain threat loss kind sliding aside aside code _ is gains spared slides at.set at)
 
-pub taken_drops : (f : Frame) (plain : settles f.node.eval ≡ false) (threats : Threats) (loss : ℤ) (kind : Kind) (gain first : ℕ) → f.depth ≡ 2 → AreThreatsIn f.node.position f.node.eval threats → gain ≡ taken_gain f.node.eval (dropped f.node.position.side kind) → loss ≡ pos 0 -ℤ pos gain → FallsShort f kind first loss → DropsAreLost f kind threats.takes.bits 0 first
-taken_drops f plain threats loss kind gain first last are value gains short = λ code certain.
-    let at : _ = drop_at f.node.position kind threats.takes.bits 0 first code certain in
-    drop_worth f kind threats.takes.bits 0 first code _ loss last short certain.above at (drop_retaken f plain loss kind gain threats.takes.bits code _ value gains (are.takes _ at.fits at.set) at)
+pub taken_drops : (f : Frame) (plain : resolves_captures f.node.eval ≡ false) (threats : Threats) (loss : ℤ) (kind : Kind) (gain first : ℕ) → f.depth ≡ 2 → AreThreatsIn f.node.position f.node.eval threats → gain ≡ taken_gain f.node.eval (dropped f.node.position.side kind) → loss ≡ pos 0 -ℤ pos gain → DropFailsLow f kind first loss → DropsFailLow f kind threats.takes.bits 0 first
+taken_drops f plain threats loss kind gain first last are value gains short = λ code guaranteed.
+    let at : _ = drop_at f.node.position kind threats.takes.bits 0 first code guaranteed in
+    drop_worth f kind threats.takes.bits 0 first code _ loss last short guaranteed.above at (drop_retaken f plain loss kind gain threats.takes.bits code _ value gains (are.takes _ at.fits at.set) at)
 
-pub no_drops : (f : Frame) (kind : Kind) (escapes first : ℕ) → DropsAreLost f kind 0 escapes first
-no_drops f kind escapes first = λ code certain. absurd (both_ways (has_bit 0 (code - FIRST_DROP - kind_number kind * 81)) (has_bit-none (code - FIRST_DROP - kind_number kind * 81)) certain.among)
+pub no_drops : (f : Frame) (kind : Kind) (escapes first : ℕ) → DropsFailLow f kind 0 escapes first
+no_drops f kind escapes first = λ code guaranteed. absurd (both_ways (has_bit 0 (code - FIRST_DROP - kind_number kind * 81)) (has_bit-none (code - FIRST_DROP - kind_number kind * 81)) guaranteed.among)
 
 -- on squares of two masks
-pub drops_of_either : (f : Frame) (kind : Kind) (a b escapes first : ℕ) → DropsAreLost f kind a escapes first → DropsAreLost f kind b escapes first → DropsAreLost f kind (bit_or a b) escapes first
+pub drops_of_either : (f : Frame) (kind : Kind) (a b escapes first : ℕ) → DropsFailLow f kind a escapes first → DropsFailLow f kind b escapes first → DropsFailLow f kind (bit_or a b) escapes first
 drops_of_either f kind a b escapes first lost more = λ code k. elim (or_cases (has_bit a (code - FIRST_DROP - kind_number kind * 81)) (has_bit b (code - FIRST_DROP - kind_number kind * 81)) (sym (has_bit-or a b (code - FIRST_DROP - kind_number kind * 81)) ∙ k.among)) [
   | inl one ↦ lost code (record { above = k.above; low = k.low; high = k.high; among = one; legal = k.legal; leaves = k.leaves })
   | inr other ↦ more code (record { above = k.above; low = k.low; high = k.high; among = other; legal = k.legal; leaves = k.leaves })
@@ -130,24 +130,24 @@ lost_kept f g m k lost =
     let same : worth_of g m ≡ worth_of f m =
     ap (λ (n : Evaluated). worth n.position n.eval (g.depth - 1) (code_of m)) k.0.0
     ∙ ap (λ (d : ℕ). worth f.node.position f.node.eval (d - 1) (code_of m)) k.0.1.0 in
-    let most : threshold_of g m ≡ threshold_of f m =
-    ap (λ (v : ℤ). threshold v (code_at g.best_move) (code_of m)) k.1.1.1.0
-    ∙ ap (λ (b : Option Move). threshold f.best_value (code_at b) (code_of m)) k.1.1.1.1 in
+    let most : move_alpha_of g m ≡ move_alpha_of f m =
+    ap (λ (v : ℤ). move_alpha v (code_at g.best_move) (code_of m)) k.1.1.1.0
+    ∙ ap (λ (b : Option Move). move_alpha f.best_value (code_at b) (code_of m)) k.1.1.1.1 in
     subst (λ (x : ℤ). worth_of g m ≤ℤ x) (sym most)
-    (subst (λ (x : ℤ). x ≤ℤ threshold_of f m) (sym same) lost)
+    (subst (λ (x : ℤ). x ≤ℤ move_alpha_of f m) (sym same) lost)
 
 -- the next move of the picker is asked for
-pub asked_known : (f : Frame) (m : Move) (picker : MovePicker) → f.waiting ≡ Next
+pub asked_known : (f : Frame) (m : Move) (picker : MovePicker) → f.state ≡ Expanding
     → todo f.node.position f.picker ≡ code_of m ∷ todo f.node.position picker
-    → IsKnownWhile f.node.position f.node.eval f.depth f.alpha f.beta f.best_value (code_at f.best_move) (todo f.node.position picker) (Asked m)
+    → IsKnownWhile f.node.position f.node.eval f.depth f.alpha f.beta f.best_value (code_at f.best_move) (todo f.node.position picker) (AwaitingChild m)
 asked_known f m picker next codes =
     subst (λ (xs : List ℕ). IsCovered (worth f.node.position f.node.eval (f.depth - 1)) (moves_at f.node.position f.depth) xs f.alpha f.best_value (code_at f.best_move))
     codes (known_next _ _ _ _ _ _ _ _ _ next f.known)
 
 -- the same moves are still to be visited
-pub turned_known : (f : Frame) (picker : MovePicker) → f.waiting ≡ Next
+pub turned_known : (f : Frame) (picker : MovePicker) → f.state ≡ Expanding
     → todo f.node.position picker ≡ todo f.node.position f.picker
-    → IsKnownWhile f.node.position f.node.eval f.depth f.alpha f.beta f.best_value (code_at f.best_move) (todo f.node.position picker) f.waiting
+    → IsKnownWhile f.node.position f.node.eval f.depth f.alpha f.beta f.best_value (code_at f.best_move) (todo f.node.position picker) f.state
 turned_known f picker next codes =
     next_known _ _ _ _ _ _ _ _ _ next
     (subst (λ (xs : List ℕ). IsCovered (worth f.node.position f.node.eval (f.depth - 1)) (moves_at f.node.position f.depth) xs f.alpha f.best_value (code_at f.best_move))
@@ -165,14 +165,14 @@ pub asked_left : (f : Frame) (m : Move) (picker : MovePicker)
 asked_left f m picker codes = omega (arith, sum_of_tree_sizes-next f.node.position (f.depth - 1) (code_of m) (after_code f.node.position (code_of m)) (todo f.node.position f.picker) (todo f.node.position picker) refl codes)
 
 -- where nothing changes, nothing is passed
-pub nothing_pruned : (f : Frame) → f.waiting ≡ Next → PrunesRow f f
+pub nothing_pruned : (f : Frame) → f.state ≡ Expanding → PrunesFiltered f f
 nothing_pruned f next = ((refl, (refl, (refl, refl))), (next, omega arith))
 
-pub kept_prunes : (f g : Frame) → f.waiting ≡ Next → KeepsMoves f g → PrunesRow f g
+pub kept_prunes : (f g : Frame) → f.state ≡ Expanding → KeepsMoves f g → PrunesFiltered f g
 kept_prunes f g next k = (k.0, (k.1.1.0 ∙ next, omega (arith, left_kept f g k.0 k.1.0)))
 
-pub prunes_after : (f g h : Frame) → KeepsMoves f g → PrunesRow g h → PrunesRow f h
+pub prunes_after : (f g h : Frame) → KeepsMoves f g → PrunesFiltered g h → PrunesFiltered f h
 prunes_after f g h k r = (same_again f g h k.0 r.0, (r.1.0, omega (arith, r.1.1, left_kept f g k.0 k.1.0)))
 
-pub prunes_again : (f g h : Frame) → PrunesRow f g → PrunesRow g h → PrunesRow f h
+pub prunes_again : (f g h : Frame) → PrunesFiltered f g → PrunesFiltered g h → PrunesFiltered f h
 prunes_again f g h r s = (same_again f g h r.0 s.0, (s.1.0, omega (arith, r.1.1, s.1.1)))

@@ -4,8 +4,8 @@ use Rattle.shogi_core.specs.declared.moves.Move.{Move}
 use Rattle.shogi_core.specs.Position.{Shogi}
 use Rattle.shogi_eval.specs.declared.eval.Eval.{Eval}
 use Rattle.search_nodes.specs.declared.frame.Frame.{Frame}
-use Rattle.search_nodes.specs.declared.frame.Waiting.{Waiting}
-use Rattle.search_nodes.specs.declared.frame.Waiting.TheVariants.{Next, Asked}
+use Rattle.search_nodes.specs.declared.frame.NodeState.{NodeState}
+use Rattle.search_nodes.specs.declared.frame.NodeState.TheVariants.{Expanding, AwaitingChild}
 use Rattle.search_nodes.specs.Frames.{position_after}
 use Rattle.minimax.specs.Minimax.{sum_of_tree_sizes, tree_size}
 use Rattle.search_nodes.specs.Order.{todo}
@@ -29,7 +29,7 @@ abbrev pub KeepsMoves : Frame → Frame → Type 0
 KeepsMoves old new =
     IsSame old new
     × ((new.picker ≡ old.picker)
-    × ((new.waiting ≡ old.waiting)
+    × ((new.state ≡ old.state)
     × ((new.best_value ≡ old.best_value) × (new.best_move ≡ old.best_move))))
 
 -- and waits for the answer of a move, but its window may end elsewhere
@@ -39,7 +39,7 @@ KeepsAsked old new =
     × ((new.depth ≡ old.depth)
     × ((new.alpha ≡ old.alpha)
     × ((new.picker ≡ old.picker)
-    × ((new.waiting ≡ old.waiting)
+    × ((new.state ≡ old.state)
     × ((new.best_value ≡ old.best_value) × (new.best_move ≡ old.best_move))))))
 
 -- what is left of a frame: itself, and twice the nodes after the moves neither entered nor answered
@@ -58,24 +58,24 @@ HandsOver asked old new =
     (λ m. steps_after new m + left_of_frame new ≤ left_of_frame old)
 
 -- it waits for the answer of this move, or to begin with its next one where there is none
-abbrev pub WaitsFor : Option Move → Waiting → Type 0
-WaitsFor asked waiting = MatchOption asked (waiting ≡ Next) (λ m. waiting ≡ Asked m)
+abbrev pub WaitsFor : Option Move → NodeState → Type 0
+WaitsFor asked state = MatchOption asked (state ≡ Expanding) (λ m. state ≡ AwaitingChild m)
 
 -- the next move is asked for, where there is one
 abbrev pub AsksFor : Option Move → Frame → Frame → Type 0
 AsksFor asked old new =
     IsSame old new
-    × (WaitsFor asked new.waiting
+    × (WaitsFor asked new.state
     × (HandsOver asked old new × IfNone asked (todo new.node.position new.picker ≡ [])))
 
 -- the current move is gone through, and the others are still to be visited
 abbrev pub EndsVisit : Frame → Frame → Type 0
 EndsVisit old new =
     IsSame old new
-    × ((new.picker ≡ old.picker) × IsFree new.waiting)
+    × ((new.picker ≡ old.picker) × IsFree new.state)
 
--- some moves to visit are passed before the next one is asked for
-abbrev pub PrunesRow : Frame → Frame → Type 0
-PrunesRow old new =
+-- some moves to visit are pruned before the next one is asked for
+abbrev pub PrunesFiltered : Frame → Frame → Type 0
+PrunesFiltered old new =
     IsSame old new
-    × ((new.waiting ≡ Next) × (left_of_frame new ≤ left_of_frame old))
+    × ((new.state ≡ Expanding) × (left_of_frame new ≤ left_of_frame old))

@@ -1,7 +1,7 @@
-pub mod Firsts
+pub mod PriorityMoves
 pub mod Order
 pub mod Visits
 pub mod Frames
 pub mod Changes
 pub mod Threats
-pub mod Counters
+pub mod CounterMoves

@@ -11,14 +11,14 @@ use Rattle.shogi_core.specs.Pieces.{opponent_of}
 use Rattle.shogi_core.specs.Position.{Shogi}
 use Rattle.shogi_core.specs.Rays.{direction_at, is_on_ray}
 use Rattle.shogi_moves.specs.After.{after}
-use Rattle.shogi_replies.specs.Replies.{is_aligned_with_king}
-use Rattle.shogi_replies.specs.Threats.{IsAttack, IsThreat, EndsAside, KeepsThreats, LeavesThreat, MayRetake, end_of, put_by}
+use Rattle.shogi_replies.specs.ReplyInfo.{is_aligned_with_king}
+use Rattle.shogi_replies.specs.Threats.{IsAttack, IsThreat, EndsNonInterfering, KeepsThreats, LeavesThreat, MayRetake, end_of, put_by}
 use Rattle.shogi_eval.specs.declared.eval.Eval.{Eval}
 use Rattle.shogi_eval.specs.Material.{material_of, promotion_gain, taken_gain}
-use Rattle.shogi_eval.specs.Exchange.{settles}
+use Rattle.shogi_eval.specs.Exchange.{resolves_captures}
 use Rattle.minimax.specs.Minimax.{value}
-use Rattle.search_nodes.specs.declared.threat.Prize.{Prize}
-use Rattle.search_nodes.specs.declared.threat.Prizes.{Prizes}
+use Rattle.search_nodes.specs.declared.threat.ThreatCandidate.{ThreatCandidate}
+use Rattle.search_nodes.specs.declared.threat.TopTwo.{TopTwo}
 use Rattle.search_nodes.specs.declared.threat.Threat.{Threat}
 use Rattle.search_nodes.specs.declared.threat.Threats.{Threats}
 
@@ -41,7 +41,7 @@ HoldsPinning p a squares = is_aligned_with_king p.cells (opponent_of p.side) a �
     → is_aligned_with_king p.cells (opponent_of p.side) n ≡ true → are_aligned a n ≡ false
 
 -- the square is neither of the two, and not between them
-pub record IsApart (a t n : ℕ) : Type 0 where
+pub record IsOffPath (a t n : ℕ) : Type 0 where
   pub attacker : n ≢ a
   pub target : n ≢ t
   pub way : (d : ℕ) → d < 8 → is_on_ray (direction_at d) a n ≡ true
@@ -51,22 +51,22 @@ pub record IsApart (a t n : ℕ) : Type 0 where
 pub record IsThreatIn (p : Shogi) (e : Eval) (threat : Threat) : Type 0 where
   pub gains : Gains p e threat.from threat.target threat.promote threat.gain
   pub way_is : (n : ℕ) → n < 81 → has_bit threat.way.bits n ≡ false
-      → IsApart threat.from threat.target n
+      → IsOffPath threat.from threat.target n
   pub line_is : HoldsPinning p threat.from threat.line.bits
 
 -- its move is a threat that gains so much, if it gains anything
-abbrev pub IsPrizeIn : Shogi → Eval → Prize → Type 0
-IsPrizeIn p e prize = 0 < prize.gain → Gains p e prize.from prize.target prize.promote prize.gain
+abbrev pub IsCandidateIn : Shogi → Eval → ThreatCandidate → Type 0
+IsCandidateIn p e candidate = 0 < candidate.gain → Gains p e candidate.from candidate.target candidate.promote candidate.gain
 
 -- both moves are
-pub record ArePrizesIn (p : Shogi) (e : Eval) (prizes : Prizes) : Type 0 where
-  pub greatest : IsPrizeIn p e prizes.greatest
-  pub second : IsPrizeIn p e prizes.second
+pub record AreTopTwoIn (p : Shogi) (e : Eval) (top_two : TopTwo) : Type 0 where
+  pub greatest : IsCandidateIn p e top_two.greatest
+  pub second : IsCandidateIn p e top_two.second
 
 -- each is this one or of those before
-pub record AddsPrize (old : Prizes) (prize : Prize) (new : Prizes) : Type 0 where
-  pub greatest : (new.greatest ≡ old.greatest) ⊎ (new.greatest ≡ prize)
-  pub second : (new.second ≡ old.second) ⊎ ((new.second ≡ old.greatest) ⊎ (new.second ≡ prize))
+pub record AddsCandidate (old : TopTwo) (candidate : ThreatCandidate) (new : TopTwo) : Type 0 where
+  pub greatest : (new.greatest ≡ old.greatest) ⊎ (new.greatest ≡ candidate)
+  pub second : (new.second ≡ old.second) ⊎ ((new.second ≡ old.greatest) ⊎ (new.second ≡ candidate))
 
 -- some unpinnable piece attacks the square and may go there without promotion
 abbrev pub IsAttacked : Shogi → ℕ → Type 0
@@ -87,26 +87,26 @@ abbrev pub AreSomeThreats : Shogi → Eval → Option Threats → Type 0
 AreSomeThreats p e threats = ForSome threats (AreThreatsIn p e)
 
 -- in each position that has it, a move that puts this on the square lets its piece, the way to the target and that square be
-abbrev pub IsSparedAt : Threat → Option Piece → ℕ → Type 0
-IsSparedAt threat put to = (p : Shogi) (e : Eval) (m : Move) → IsThreatIn p e threat
-    → put_by p m ≡ put → end_of m ≡ to → EndsAside p threat.from threat.target m
+abbrev pub SurvivesAt : Threat → Option Piece → ℕ → Type 0
+SurvivesAt threat put to = (p : Shogi) (e : Eval) (m : Move) → IsThreatIn p e threat
+    → put_by p m ≡ put → end_of m ≡ to → EndsNonInterfering p threat.from threat.target m
 
 -- and so does the move, which puts this on its square and moves nothing from the target
-abbrev pub IsSparedBy : Threat → Option Piece → Move → Type 0
-IsSparedBy threat put m = (p : Shogi) (e : Eval) → IsThreatIn p e threat → put_by p m ≡ put
+abbrev pub SurvivesMove : Threat → Option Piece → Move → Type 0
+SurvivesMove threat put m = (p : Shogi) (e : Eval) → IsThreatIn p e threat → put_by p m ≡ put
     → LeavesThreat p threat.from threat.target m
 
 -- the threat gains so much after such a move
 abbrev pub GainsAfter : Option Threat → Option Piece → Move → ℕ → Type 0
-GainsAfter (Some threat) put m gain = (threat.gain ≡ gain) × IsSparedBy threat put m
+GainsAfter (Some threat) put m gain = (threat.gain ≡ gain) × SurvivesMove threat put m
 GainsAfter None put m gain = ⊥
 
 -- after a move that ends on one of the squares, and puts something there that slides or not, that is so
-abbrev pub AreSpared : Threat → Bool → ℕ → Type 0
-AreSpared threat slides squares = (n : ℕ) (put : Option Piece) → n < 81 → has_bit squares n ≡ true
-    → (is_slider put ≡ true → slides ≡ true) → IsSparedAt threat put n
+abbrev pub AreNonInterfering : Threat → Bool → ℕ → Type 0
+AreNonInterfering threat slides squares = (n : ℕ) (put : Option Piece) → n < 81 → has_bit squares n ≡ true
+    → (is_slider put ≡ true → slides ≡ true) → SurvivesAt threat put n
 
 -- if the other side may carry out its threats after the move and nothing is settled, it is worth at least its material and this then, with one ply left
 abbrev pub TakesAfter : Shogi → Eval → Move → ℕ → Type 0
-TakesAfter p e m gain = settles e ≡ false → KeepsThreats p m → MayRetake p m
+TakesAfter p e m gain = resolves_captures e ≡ false → KeepsThreats p m → MayRetake p m
     → (material_of (after p m) e +ℤ pos gain) ≤ℤ value (after p m) e 1

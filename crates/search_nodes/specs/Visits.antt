@@ -7,8 +7,8 @@ use Rattle.shogi_core.specs.Position.{Shogi}
 use Rattle.shogi_moves.specs.LegalMoves.{legal_codes}
 use Rattle.shogi_eval.specs.declared.eval.Eval.{Eval}
 use Rattle.shogi_eval.specs.Evaluated.{Evaluated}
-use Rattle.search_nodes.specs.declared.frame.Waiting.{Waiting}
-use Rattle.search_nodes.specs.declared.frame.Waiting.TheVariants.{Next, Asked, Cut}
+use Rattle.search_nodes.specs.declared.frame.NodeState.{NodeState}
+use Rattle.search_nodes.specs.declared.frame.NodeState.TheVariants.{Expanding, AwaitingChild, CutOff}
 use Rattle.search_nodes.specs.declared.move_picker.MovePicker.{MovePicker}
 use Rattle.search_nodes.specs.Order.{todo}
 use Rattle.minimax.specs.Minimax.{value, worth}
@@ -20,54 +20,54 @@ moves_at p zero = []
 moves_at p (suc d) = legal_codes p
 
 -- what holds of the move that the node has asked for and not taken in
-abbrev pub WhereCurrent : Waiting → (Move → Type 0) → Type 0
-WhereCurrent Next fact = ⊥
-WhereCurrent (Asked m) fact = fact m
-WhereCurrent (Cut v) fact = ⊥
+abbrev pub WhereCurrent : NodeState → (Move → Type 0) → Type 0
+WhereCurrent Expanding fact = ⊥
+WhereCurrent (AwaitingChild m) fact = fact m
+WhereCurrent (CutOff v) fact = ⊥
 
 -- this move is that one
-abbrev pub IsCurrent : Waiting → Move → Type 0
-IsCurrent waiting m = WhereCurrent waiting (λ k. k ≡ m)
+abbrev pub IsCurrent : NodeState → Move → Type 0
+IsCurrent state m = WhereCurrent state (λ k. k ≡ m)
 
 -- the node has asked for a move and not taken it in
-abbrev pub IsAsked : Waiting → Type 0
-IsAsked waiting = WhereCurrent waiting (λ _. Unit {0})
+abbrev pub IsAsked : NodeState → Type 0
+IsAsked state = WhereCurrent state (λ _. Unit {0})
 
 -- between two steps no move is asked for
-abbrev pub IsFree : Waiting → Type 0
-IsFree Next = Unit {0}
-IsFree (Asked m) = ⊥
-IsFree (Cut v) = Unit {0}
+abbrev pub IsFree : NodeState → Type 0
+IsFree Expanding = Unit {0}
+IsFree (AwaitingChild m) = ⊥
+IsFree (CutOff v) = Unit {0}
 
 -- the node is cut off, or no move is to be visited
-abbrev pub IsOver : Waiting → List ℕ → Type 0
-IsOver Next codes = codes ≡ []
-IsOver (Asked m) codes = ⊥
-IsOver (Cut v) codes = Unit {0}
+abbrev pub IsOver : NodeState → List ℕ → Type 0
+IsOver Expanding codes = codes ≡ []
+IsOver (AwaitingChild m) codes = ⊥
+IsOver (CutOff v) codes = Unit {0}
 
 -- what is known of a node with these moves to visit: the worth of all others but the current one, or that the node is worth enough
-abbrev pub IsKnownWhile : Shogi → Eval → ℕ → ℤ → ℤ → ℤ → Option ℕ → List ℕ → Waiting → Type 0
-IsKnownWhile p e d alpha beta best_value best_move codes Next =
+abbrev pub IsKnownWhile : Shogi → Eval → ℕ → ℤ → ℤ → ℤ → Option ℕ → List ℕ → NodeState → Type 0
+IsKnownWhile p e d alpha beta best_value best_move codes Expanding =
     IsCovered (worth p e (d - 1)) (moves_at p d) codes alpha best_value best_move
-IsKnownWhile p e d alpha beta best_value best_move codes (Asked m) =
+IsKnownWhile p e d alpha beta best_value best_move codes (AwaitingChild m) =
     IsCovered (worth p e (d - 1)) (moves_at p d) (code_of m ∷ codes) alpha best_value best_move
-IsKnownWhile p e d alpha beta best_value best_move codes (Cut v) = (v ≤ℤ value p e d) × (beta ≤ℤ v)
+IsKnownWhile p e d alpha beta best_value best_move codes (CutOff v) = (v ≤ℤ value p e d) × (beta ≤ℤ v)
 
 -- it has one proof at most, so it may be a ghost field
 pub IsKnownWhile-prop :
     (p : Shogi) (e : Eval) (d : ℕ) (alpha beta best_value : ℤ) (best_move : Option ℕ)
-    (codes : List ℕ) (waiting : Waiting)
-    → IsProp (IsKnownWhile p e d alpha beta best_value best_move codes waiting)
-IsKnownWhile-prop p e d alpha beta best_value best_move codes Next = Prim.hlevel props
-IsKnownWhile-prop p e d alpha beta best_value best_move codes (Asked m) = Prim.hlevel props
-IsKnownWhile-prop p e d alpha beta best_value best_move codes (Cut v) = Prim.hlevel props
+    (codes : List ℕ) (state : NodeState)
+    → IsProp (IsKnownWhile p e d alpha beta best_value best_move codes state)
+IsKnownWhile-prop p e d alpha beta best_value best_move codes Expanding = Prim.hlevel props
+IsKnownWhile-prop p e d alpha beta best_value best_move codes (AwaitingChild m) = Prim.hlevel props
+IsKnownWhile-prop p e d alpha beta best_value best_move codes (CutOff v) = Prim.hlevel props
 
 -- the set for `by` after a ghost field of this
 pub ruleset known_props = (props, IsKnownWhile-prop)
 
 -- what is known of a node with the moves that its picker has still to visit
 abbrev pub IsKnownSoFar :
-    Evaluated → ℕ → ℤ → ℤ → ℤ → Option Move → MovePicker → Waiting → Type 0
-IsKnownSoFar node d alpha beta best_value best_move picker waiting =
+    Evaluated → ℕ → ℤ → ℤ → ℤ → Option Move → MovePicker → NodeState → Type 0
+IsKnownSoFar node d alpha beta best_value best_move picker state =
     IsKnownWhile node.position node.eval d alpha beta best_value (code_at best_move)
-    (todo node.position picker) waiting
+    (todo node.position picker) state

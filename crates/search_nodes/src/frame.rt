@@ -6,34 +6,34 @@ ghost use Rattle.std.proofs.Props.{props};
 ghost use Rattle.shogi_core.specs.Validity.{IsValid};
 ghost use Rattle.shogi_moves.specs.Escapes.{AreEscapes};
 ghost use Rattle.shogi_moves.specs.LegalMoves.{legal_codes};
-ghost use Rattle.shogi_replies.specs.Replies.{IsReplies};
+ghost use Rattle.shogi_replies.specs.ReplyInfo.{IsReplyInfo};
 ghost use Rattle.shogi_eval.specs.declared.points.TheConstants.{POINTS_MAX};
 ghost use Rattle.minimax.specs.Minimax.{value, negated};
-ghost use Rattle.minimax.specs.Entries.{IsCutoff};
+ghost use Rattle.minimax.specs.Entries.{IsConclusive};
 ghost use Rattle.search_nodes.specs.Threats.{AreSomeThreats};
 ghost use Rattle.search_nodes.specs.Order.{codes_of, IsWithinTree, IsKept, IsKept-prop};
 ghost use Rattle.search_nodes.specs.Visits.{IsKnownSoFar, known_props, IsCurrent};
 ghost use Rattle.minimax.specs.declared.bounds.TheConstants.{SEARCH_DEPTH_MAX, INFINITY, MATE};
 
-use crate::firsts::{Firsts, KILLERS, with_killer};
 use crate::move_picker::MovePicker;
+use crate::priority_moves::{KILLERS, PriorityMoves, with_killer};
 use crate::threat::Threats;
-use crate::window::threshold;
+use crate::window::move_alpha;
 use minimax::{Entry, MATE};
 use shogi_core::{Move, Squares};
 use shogi_eval::{Eval, Node};
 use shogi_moves::has_legal;
-use shogi_replies::Replies;
+use shogi_replies::ReplyInfo;
 
 /// What a node waits for.
 #[derive(Clone, Copy)]
-pub enum Waiting {
+pub enum NodeState {
     /// To begin with its next move.
-    Next,
+    Expanding,
     /// The answer of the current move.
-    Asked(Move),
+    AwaitingChild(Move),
     /// To be left: it is worth this much or more, which is enough.
-    Cut(i32),
+    CutOff(i32),
 }
 
 /// A node of any depth, and what is known of the moves gone through. The fields lie in memory in
@@ -42,7 +42,7 @@ pub enum Waiting {
 pub struct Frame {
     pub node: Node,
     pub picker: MovePicker,
-    pub replies: Replies,
+    pub replies: ReplyInfo,
     /// Squares to which the other side's king may go, once they were looked for.
     pub escapes: Option<Squares>,
     /// Captures that the other side may make after most moves, once they were looked for.
@@ -50,7 +50,7 @@ pub struct Frame {
     pub alpha: i32,
     pub beta: i32,
     pub best_value: i32,
-    pub waiting: Waiting,
+    pub state: NodeState,
     pub best_move: Option<Move>,
     pub depth: u8,
     /// Set once a move was gone through and not good enough, so that some move is legal.
@@ -64,10 +64,10 @@ pub struct Frame {
     ghost least: { negated INFINITY ≤ℤ alpha },
     ghost open: { best_value <ℤ beta },
     ghost most: { beta ≤ℤ INFINITY },
-    ghost known: { IsKnownSoFar node depth alpha beta best_value best_move picker waiting } by { Prim.hlevel known_props },
+    ghost known: { IsKnownSoFar node depth alpha beta best_value best_move picker state } by { Prim.hlevel known_props },
     ghost moves: { has_move ≡ true → legal_codes node.position ≢ [] } by { Prim.hlevel props },
     ghost kept: { IsKept node.position picker } by { IsKept-prop node.position picker },
-    ghost replied: { IsReplies node.position replies.sight.bits replies.spare.bits } by { Prim.hlevel props },
+    ghost replied: { IsReplyInfo node.position replies.king_view.bits replies.free_movers.bits } by { Prim.hlevel props },
     ghost escaping: { ForSome escapes (λ squares. AreEscapes node.position squares.bits) } by { Prim.hlevel props },
     ghost threatened: { AreSomeThreats node.position node.eval threats } by { Prim.hlevel props },
 }
@@ -90,7 +90,7 @@ pub fn leaf(node: &Node) -> i32
 }
 
 impl Frame {
-    ghost use Rattle.search_nodes.specs.Frames.{firsts_at, worth_of, threshold_of, FailsLow, IsTrueOf, IsTrueAfter, IsCutoffAfter, IsToBeLeft};
+    ghost use Rattle.search_nodes.specs.Frames.{priority_moves_at, worth_of, move_alpha_of, FailsLow, IsTrueOf, IsTrueAfter, IsConclusiveAfter, IsToBeLeft};
     ghost use Rattle.search_nodes.specs.Changes.{IsAt, EndsVisit, AsksFor, KeepsAsked};
     ghost use Rattle.search_nodes.specs.Visits.{IsAsked};
 
@@ -98,21 +98,33 @@ impl Frame {
     /// are given, the hash move, the best move of the node that stands here now or the move that cut
     /// it off, and from depth 3 on the killers: what refutes one move of a position often refutes the
     /// next one.
-    pub fn firsts(&self, given: Firsts, hash_move: Option<Move>, depth: u8) -> Firsts
-        ensures { codes_of result ≡ firsts_at (codes_of given) hash_move self.now depth }
+    pub fn priority_moves(
+        &self,
+        given: PriorityMoves,
+        hash_move: Option<Move>,
+        depth: u8,
+    ) -> PriorityMoves
+        ensures { codes_of result ≡ priority_moves_at (codes_of given) hash_move self.now depth }
     {
-        let mut firsts = given;
-        firsts.add_some(hash_move);
-        firsts.add_some(self.best_move);
+        let mut priority_moves = given;
+        priority_moves.add_some(hash_move);
+        priority_moves.add_some(self.best_move);
         if depth > 2 {
-            firsts.add_each(&self.killers);
+            priority_moves.add_each(&self.killers);
         }
-        firsts
+        priority_moves
     }
 
     /// The frame becomes that of a node that is entered, with the moves to visit first. The killers
     /// of its place stay.
-    pub fn enter(&mut self, node: &Node, depth: u8, alpha: i32, beta: i32, firsts: Firsts)
+    pub fn enter(
+        &mut self,
+        node: &Node,
+        depth: u8,
+        alpha: i32,
+        beta: i32,
+        priority_moves: PriorityMoves,
+    )
         requires shallow { depth ≤ SEARCH_DEPTH_MAX }
         requires deep { 1 < depth }
         requires least { negated INFINITY ≤ℤ alpha }
@@ -120,10 +132,10 @@ impl Frame {
         requires most { beta ≤ℤ INFINITY }
         ensures place { IsAt node.now.position node.now.eval depth alpha beta self.new }
         ensures counted { IsWithinTree node.now.position depth self.new.picker }
-        ensures waiting { self.new.waiting ≡ Waiting.Next }
-        ensures firsts { 0 < depth → self.new.picker ≡ MovePicker.First firsts 0 }
+        ensures state { self.new.state ≡ NodeState.Expanding }
+        ensures priority_moves { 0 < depth → self.new.picker ≡ MovePicker.First priority_moves 0 }
     {
-        node.as_position().validity();
+        node.as_position().reveal_invariant();
         self.node = *node;
         self.depth = depth;
         self.alpha = alpha;
@@ -131,9 +143,9 @@ impl Frame {
         self.best_value = alpha;
         self.best_move = None;
         self.has_move = false;
-        self.picker = MovePicker::new(depth, firsts);
-        self.waiting = Waiting::Next;
-        self.replies = Replies::unknown(node.as_position());
+        self.picker = MovePicker::new(depth, priority_moves);
+        self.state = NodeState::Expanding;
+        self.replies = ReplyInfo::unknown(node.as_position());
         self.has_replies = false;
         self.escapes = None;
         self.threats = None;
@@ -150,9 +162,9 @@ impl Frame {
     pub fn to_entry(&self) -> Entry
         requires over { IsToBeLeft self.now }
         ensures truth { IsTrueOf self.now result }
-        ensures cutoff { IsCutoff self.now.alpha self.now.beta result }
+        ensures conclusive { IsConclusive self.now.alpha self.now.beta result }
     {
-        if let Waiting::Cut(v) = self.waiting {
+        if let NodeState::CutOff(v) = self.state {
             return Entry::AtLeast(v);
         }
         if self.depth == 0 {
@@ -160,7 +172,7 @@ impl Frame {
         }
         match self.best_move {
             Some(m) => {
-                m.validity();
+                m.reveal_invariant();
                 Entry::Exact(self.best_value, self.best_move)
             }
             None => {
@@ -176,13 +188,13 @@ impl Frame {
     /// Asks for the answer of the next move, where there is one.
     #[inline(always)]
     pub(crate) fn pick_move(&mut self) -> Option<Move>
-        requires next { self.old.waiting ≡ Waiting.Next }
+        requires next { self.old.state ≡ NodeState.Expanding }
         ensures { AsksFor result self.old self.new }
     {
         match self.picker.next(self.node.as_position()) {
             Some(m) => {
                 let current = m;
-                self.waiting = Waiting::Asked(m);
+                self.state = NodeState::AwaitingChild(m);
                 Some(current)
             }
             None => None,
@@ -190,34 +202,34 @@ impl Frame {
     }
 
     /// What the current move has to be worth more than.
-    pub(crate) fn threshold(&self, current: &Move) -> i32
-        requires current { IsCurrent self.now.waiting current.now }
-        ensures threshold { result ≡ threshold_of self.now current.now }
+    pub(crate) fn move_alpha(&self, current: &Move) -> i32
+        requires current { IsCurrent self.now.state current.now }
+        ensures move_alpha { result ≡ move_alpha_of self.now current.now }
         ensures least { negated INFINITY ≤ℤ result }
         ensures open { result <ℤ self.now.beta }
     {
-        threshold(self.best_value, &self.best_move, current)
+        move_alpha(self.best_value, &self.best_move, current)
     }
 
     /// The window of the child after the current move.
     pub fn window(&self, current: &Move) -> (i32, i32)
-        requires current { IsCurrent self.now.waiting current.now }
+        requires current { IsCurrent self.now.state current.now }
         ensures alpha { result.0 ≡ negated self.now.beta }
-        ensures beta { result.1 ≡ negated (threshold_of self.now current.now) }
+        ensures beta { result.1 ≡ negated (move_alpha_of self.now current.now) }
         ensures least { negated INFINITY ≤ℤ result.0 }
         ensures open { result.0 <ℤ result.1 }
         ensures most { result.1 ≤ℤ INFINITY }
     {
-        let threshold = self.threshold(current);
-        (-self.beta, -threshold)
+        let move_alpha = self.move_alpha(current);
+        (-self.beta, -move_alpha)
     }
 
     /// Has its window end there while it waits for the answer of a move.
     pub fn end_at(&mut self, beta: i32)
-        requires asked { IsAsked self.old.waiting }
+        requires asked { IsAsked self.old.state }
         requires open { self.old.best_value <ℤ beta }
         requires most { beta ≤ℤ INFINITY }
-        ensures kept { KeepsAsked self.old self.new }
+        ensures unchanged { KeepsAsked self.old self.new }
         ensures beta { self.new.beta ≡ beta }
     {
         self.beta = beta;
@@ -225,20 +237,20 @@ impl Frame {
 
     /// Whether this worth makes the current move the best one.
     fn is_better(&self, current: &Move, worth: i32) -> bool
-        requires current { IsCurrent self.now.waiting current.now }
-        ensures above { result ≡ true → threshold_of self.now current.now <ℤ worth }
-        ensures below { result ≡ false → worth ≤ℤ threshold_of self.now current.now }
+        requires current { IsCurrent self.now.state current.now }
+        ensures above { result ≡ true → move_alpha_of self.now current.now <ℤ worth }
+        ensures below { result ≡ false → worth ≤ℤ move_alpha_of self.now current.now }
     {
-        worth > self.threshold(current)
+        worth > self.move_alpha(current)
     }
 
     /// Takes in what is known of the current move.
     #[inline(always)]
     pub fn back_up(&mut self, current: &Move, entry: &Entry)
         requires deep { 1 < self.old.depth }
-        requires current { IsCurrent self.old.waiting current.now }
+        requires current { IsCurrent self.old.state current.now }
         requires truth { IsTrueAfter self.old current.now entry.now }
-        requires cutoff { IsCutoffAfter self.old current.now entry.now }
+        requires conclusive { IsConclusiveAfter self.old current.now entry.now }
         ensures { EndsVisit self.old self.new }
     {
         match entry {
@@ -260,7 +272,7 @@ impl Frame {
     /// The current move is worth this much or more, which is enough. It is kept, and no longer the
     /// best one before it.
     fn cut_off(&mut self, current: &Move, value: i32)
-        requires current { IsCurrent self.old.waiting current.now }
+        requires current { IsCurrent self.old.state current.now }
         requires worth { value ≤ℤ worth_of self.old current.now }
         requires beta { self.old.beta ≤ℤ value }
         ensures { EndsVisit self.old self.new }
@@ -269,37 +281,37 @@ impl Frame {
             self.killers = with_killer(&self.killers, current.code());
         }
         self.best_move = Some(*current);
-        self.waiting = Waiting::Cut(value);
+        self.state = NodeState::CutOff(value);
     }
 
     /// The current move is not worth enough to become the best one.
     pub(crate) fn fail_low(&mut self)
         requires { FailsLow self.old }
         ensures ended { EndsVisit self.old self.new }
-        ensures next { self.new.waiting ≡ Waiting.Next }
+        ensures next { self.new.state ≡ NodeState.Expanding }
     {
         self.has_move = true;
-        self.waiting = Waiting::Next;
+        self.state = NodeState::Expanding;
     }
 
     /// Passes the current move, which is the best so far.
     fn raise_alpha(&mut self, current: &Move, value: i32)
-        requires current { IsCurrent self.old.waiting current.now }
+        requires current { IsCurrent self.old.state current.now }
         requires is { worth_of self.old current.now ≡ value }
-        requires above { threshold_of self.old current.now <ℤ value }
+        requires above { move_alpha_of self.old current.now <ℤ value }
         requires open { value <ℤ self.old.beta }
         ensures { EndsVisit self.old self.new }
     {
         self.best_value = value;
         self.best_move = Some(*current);
-        self.waiting = Waiting::Next;
+        self.state = NodeState::Expanding;
     }
 
     /// Whether the next move is to be begun with.
     pub fn is_next(&self) -> bool
-        ensures { IsTrue result ↔ (self.now.waiting ≡ Waiting.Next) }
+        ensures { IsTrue result ↔ (self.now.state ≡ NodeState.Expanding) }
     {
-        matches!(self.waiting, Waiting::Next)
+        matches!(self.state, NodeState::Expanding)
     }
 }
 
@@ -309,7 +321,7 @@ impl Default for Frame {
     #[inline(never)]
     fn default() -> Self {
         let node = Node::start(Eval::Plain);
-        node.as_position().validity();
+        node.as_position().reveal_invariant();
         Frame {
             node,
             depth: 0,
@@ -319,8 +331,8 @@ impl Default for Frame {
             best_move: None,
             has_move: false,
             picker: MovePicker::Done,
-            waiting: Waiting::Next,
-            replies: Replies::unknown(node.as_position()),
+            state: NodeState::Expanding,
+            replies: ReplyInfo::unknown(node.as_position()),
             has_replies: false,
             escapes: None,
             threats: None,

@@ -1,22 +1,22 @@
 //! The nodes of a search by alpha-beta: the order of their moves, and which are pruned.
 //!
 //! A `Frame` is a node under a window, while a search goes through its moves (`frame`). Their
-//! order is `MovePicker`: some moves first (`firsts`, the last of them from `counters`), then
-//! captures, then the other moves, each by rising code. Moves that cannot matter are passed in
+//! order is `MovePicker`: some moves first (`priority_moves`, the last of them from `counter_moves`), then
+//! captures, then the other moves, each by rising code. Moves that cannot matter are pruned in
 //! `pruning`, by the window of `window` and a `threat`. What a node is worth is `value` of
 //! `minimax`.
 #![tactic(auto)]
 
-mod counters;
-mod firsts;
+mod counter_moves;
 mod frame;
 mod move_picker;
+mod priority_moves;
 mod pruning;
 mod threat;
 mod window;
 
-pub use counters::Counters;
-pub use firsts::Firsts;
-pub use frame::{Frame, Waiting, leaf};
+pub use counter_moves::CounterMoves;
+pub use frame::{Frame, NodeState, leaf};
 pub use move_picker::MovePicker;
+pub use priority_moves::PriorityMoves;
 pub use threat::{Threat, Threats};

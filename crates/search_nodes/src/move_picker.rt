@@ -4,36 +4,41 @@ ghost use Rattle.std.specs.Prelude.{◌≡◌, ◌<◌, Some, None, IfSome, true
 ghost use Rattle.shogi_core.specs.Attack.{in_check};
 ghost use Rattle.shogi_core.specs.Codes.{code_of};
 ghost use Rattle.shogi_moves.specs.Escapes.{AreEscapes};
-ghost use Rattle.shogi_replies.specs.Replies.{IsReplies};
+ghost use Rattle.shogi_replies.specs.ReplyInfo.{IsReplyInfo};
 ghost use Rattle.shogi_moves.specs.Sweeps.{IsBoardSweep, IsDropSweep};
-ghost use Rattle.search_nodes.specs.Order.{codes_of, others_to_come, todo, todo_after, todo_from, IsAtDrops, IsAtQuiets, IsKept, PassesDrops, PassesQuiets, TakesBoardPick, TakesDropPick, TakesFirst, TakesFirstDrop, TakesFirstQuiet, TakesFromSweep};
+ghost use Rattle.search_nodes.specs.Order.{codes_of, others_to_come, todo, todo_after, todo_from, IsAtDrops, IsAtQuiets, IsKept, SkipsDrops, SkipsQuiets, TakesBoardPick, TakesDropPick, TakesPriorityMove, TakesFirstDrop, TakesFirstQuiet, TakesFromSweep};
 
-use crate::firsts::Firsts;
+use crate::priority_moves::PriorityMoves;
 use shogi_core::{Kind, Move, Position, Squares};
 use shogi_moves::{BoardSweep, DropSweep, KnownPosition, check_info_of};
-use shogi_replies::{Replies, Row};
+use shogi_replies::{MoveFilter, ReplyInfo};
 
-/// How far the visits of a node's moves have come: the first moves from a place on, and what is
+/// How far the visits of a node's moves have come: the priority moves from a place on, and what is
 /// still to come of the captures, of the quiet board moves and of the drops.
 #[derive(Clone, Copy, Debug)]
 pub enum MovePicker {
-    First(Firsts, usize),
-    Captures(Firsts, BoardSweep),
-    Quiets(Firsts, BoardSweep),
-    Drops(Firsts, DropSweep),
+    First(PriorityMoves, usize),
+    Captures(PriorityMoves, BoardSweep),
+    Quiets(PriorityMoves, BoardSweep),
+    Drops(PriorityMoves, DropSweep),
     Done,
 }
 
 /// The next pick of a sweep over the board.
 #[inline(always)]
 #[tactic(auto, using(crate::proofs::MatchingOthers::matching_others))]
-fn next_board(p: &Position, firsts: &Firsts, capture: bool, sweep: &mut BoardSweep) -> Option<Move>
-    requires kept { IsBoardSweep p.now capture sweep.old }
-    ensures kept { IsBoardSweep p.now capture sweep.new }
-    ensures next { TakesBoardPick p.now (codes_of firsts.now) capture result sweep.old sweep.new }
+fn next_board(
+    p: &Position,
+    priority_moves: &PriorityMoves,
+    capture: bool,
+    sweep: &mut BoardSweep,
+) -> Option<Move>
+    requires consistent { IsBoardSweep p.now capture sweep.old }
+    ensures consistent { IsBoardSweep p.now capture sweep.new }
+    ensures next { TakesBoardPick p.now (codes_of priority_moves.now) capture result sweep.old sweep.new }
 {
     'moves: while let Some(m) = sweep.next(p, capture) {
-        if !firsts.has_move(&m) {
+        if !priority_moves.has_move(&m) {
             return Some(m);
         }
     }
@@ -43,13 +48,13 @@ fn next_board(p: &Position, firsts: &Firsts, capture: bool, sweep: &mut BoardSwe
 /// The next pick of a sweep over the drops.
 #[inline(always)]
 #[tactic(auto, using(crate::proofs::MatchingOthers::matching_others))]
-fn next_drop(p: &Position, firsts: &Firsts, sweep: &mut DropSweep) -> Option<Move>
-    requires kept { IsDropSweep p.now sweep.old }
-    ensures kept { IsDropSweep p.now sweep.new }
-    ensures next { TakesDropPick p.now (codes_of firsts.now) result sweep.old sweep.new }
+fn next_drop(p: &Position, priority_moves: &PriorityMoves, sweep: &mut DropSweep) -> Option<Move>
+    requires consistent { IsDropSweep p.now sweep.old }
+    ensures consistent { IsDropSweep p.now sweep.new }
+    ensures next { TakesDropPick p.now (codes_of priority_moves.now) result sweep.old sweep.new }
 {
     'moves: while let Some(m) = sweep.next(p) {
-        if !firsts.has_move(&m) {
+        if !priority_moves.has_move(&m) {
             return Some(m);
         }
     }
@@ -58,26 +63,30 @@ fn next_drop(p: &Position, firsts: &Firsts, sweep: &mut DropSweep) -> Option<Mov
 
 impl MovePicker {
     /// The moves that a search at a depth goes through, these first.
-    pub(crate) fn new(depth: u8, firsts: Firsts) -> MovePicker
+    pub(crate) fn new(depth: u8, priority_moves: PriorityMoves) -> MovePicker
         ensures leaf { depth ≡ 0 → result ≡ MovePicker.Done }
-        ensures inner { 0 < depth → result ≡ MovePicker.First firsts 0 }
+        ensures inner { 0 < depth → result ≡ MovePicker.First priority_moves 0 }
     {
         if depth == 0 {
             return MovePicker::Done;
         }
-        MovePicker::First(firsts, 0)
+        MovePicker::First(priority_moves, 0)
     }
 
     /// Begins with the drops.
-    fn enter_drops(&mut self, known: &KnownPosition<'_>, firsts: Firsts) -> Option<Move>
-        ensures next { TakesFirstDrop known.now.position.now (codes_of firsts) result self.new }
-        ensures kept { IsKept known.now.position.now self.new }
+    fn enter_drops(
+        &mut self,
+        known: &KnownPosition<'_>,
+        priority_moves: PriorityMoves,
+    ) -> Option<Move>
+        ensures next { TakesFirstDrop known.now.position.now (codes_of priority_moves) result self.new }
+        ensures consistent { IsKept known.now.position.now self.new }
     {
         let p = known.position;
         let mut sweep = DropSweep::new(known);
-        match next_drop(p, &firsts, &mut sweep) {
+        match next_drop(p, &priority_moves, &mut sweep) {
             Some(m) => {
-                *self = MovePicker::Drops(firsts, sweep);
+                *self = MovePicker::Drops(priority_moves, sweep);
                 Some(m)
             }
             None => {
@@ -88,47 +97,56 @@ impl MovePicker {
     }
 
     /// Begins with the quiet moves.
-    fn enter_quiets(&mut self, known: &KnownPosition<'_>, firsts: Firsts) -> Option<Move>
-        ensures next { TakesFirstQuiet known.now.position.now (codes_of firsts) result self.new }
-        ensures kept { IsKept known.now.position.now self.new }
+    fn enter_quiets(
+        &mut self,
+        known: &KnownPosition<'_>,
+        priority_moves: PriorityMoves,
+    ) -> Option<Move>
+        ensures next { TakesFirstQuiet known.now.position.now (codes_of priority_moves) result self.new }
+        ensures consistent { IsKept known.now.position.now self.new }
     {
         let p = known.position;
         let mut sweep = BoardSweep::new(known, false);
-        match next_board(p, &firsts, false, &mut sweep) {
+        match next_board(p, &priority_moves, false, &mut sweep) {
             Some(m) => {
-                *self = MovePicker::Quiets(firsts, sweep);
+                *self = MovePicker::Quiets(priority_moves, sweep);
                 Some(m)
             }
-            None => self.enter_drops(known, firsts),
+            None => self.enter_drops(known, priority_moves),
         }
     }
 
     /// Begins with the captures.
     #[tactic(auto, using(crate::proofs::MatchingOthers::no_capture_left))]
-    fn enter_captures(&mut self, p: &Position, firsts: Firsts) -> Option<Move>
-        ensures next { TakesFirst p.now result (others_to_come p.now (codes_of firsts)) self.new }
-        ensures kept { IsKept p.now self.new }
+    fn enter_captures(&mut self, p: &Position, priority_moves: PriorityMoves) -> Option<Move>
+        ensures next { TakesPriorityMove p.now result (others_to_come p.now (codes_of priority_moves)) self.new }
+        ensures consistent { IsKept p.now self.new }
     {
         let known = check_info_of(p).at(p);
         let mut sweep = BoardSweep::new(&known, true);
-        match next_board(p, &firsts, true, &mut sweep) {
+        match next_board(p, &priority_moves, true, &mut sweep) {
             Some(m) => {
-                *self = MovePicker::Captures(firsts, sweep);
+                *self = MovePicker::Captures(priority_moves, sweep);
                 Some(m)
             }
-            None => self.enter_quiets(&known, firsts),
+            None => self.enter_quiets(&known, priority_moves),
         }
     }
 
-    /// The next of the first moves, from a place on, or else the first of the others.
-    fn next_first(&mut self, p: &Position, firsts: Firsts, passed: usize) -> Option<Move>
-        ensures next { TakesFirst p.now result (todo_from p.now firsts passed) self.new }
-        ensures kept { IsKept p.now self.new }
+    /// The next of the priority moves, from a place on, or else the first of the others.
+    fn next_priority_move(
+        &mut self,
+        p: &Position,
+        priority_moves: PriorityMoves,
+        passed: usize,
+    ) -> Option<Move>
+        ensures next { TakesPriorityMove p.now result (todo_from p.now priority_moves passed) self.new }
+        ensures consistent { IsKept p.now self.new }
     {
-        let Some((m, n)) = firsts.next_legal(p, passed) else {
-            return self.enter_captures(p, firsts);
+        let Some((m, n)) = priority_moves.next_legal(p, passed) else {
+            return self.enter_captures(p, priority_moves);
         };
-        *self = MovePicker::First(firsts, n);
+        *self = MovePicker::First(priority_moves, n);
         Some(m)
     }
 
@@ -136,18 +154,18 @@ impl MovePicker {
     #[inline(always)]
     #[tactic(auto, using(crate::proofs::MatchingOthers::no_capture_left))]
     fn next_in_sweep(&mut self, p: &Position) -> Option<Move>
-        requires kept { IsKept p.now self.old }
+        requires consistent { IsKept p.now self.old }
         ensures next { TakesFromSweep p.now result self.old self.new }
-        ensures kept { IsKept p.now self.new }
+        ensures consistent { IsKept p.now self.new }
     {
-        if let MovePicker::Drops(firsts, sweep) = self {
-            return next_drop(p, firsts, sweep);
+        if let MovePicker::Drops(priority_moves, sweep) = self {
+            return next_drop(p, priority_moves, sweep);
         }
-        if let MovePicker::Captures(firsts, sweep) = self {
-            return next_board(p, firsts, true, sweep);
+        if let MovePicker::Captures(priority_moves, sweep) = self {
+            return next_board(p, priority_moves, true, sweep);
         }
-        if let MovePicker::Quiets(firsts, sweep) = self {
-            return next_board(p, firsts, false, sweep);
+        if let MovePicker::Quiets(priority_moves, sweep) = self {
+            return next_board(p, priority_moves, false, sweep);
         }
         None
     }
@@ -155,7 +173,7 @@ impl MovePicker {
     /// Whether the moves of a sweep over the board are under way, and it is known with it that the
     /// side to move is in check.
     pub(crate) fn is_checked(&self, p: &Position) -> bool
-        requires kept { IsKept p.now self.now }
+        requires consistent { IsKept p.now self.now }
         ensures { result ≡ true → in_check p.now.cells p.now.side ≡ true }
     {
         let _ = p;
@@ -169,44 +187,44 @@ impl MovePicker {
     /// of them is looked for.
     #[tactic(auto, using(crate::proofs::MatchingOthers::matching_others, crate::proofs::MatchingOthers::no_capture_left))]
     pub(crate) fn turn_to_quiets(&mut self, p: &Position)
-        requires kept { IsKept p.now self.old }
-        ensures kept { IsKept p.now self.new }
-        ensures same { todo p.now self.new ≡ todo p.now self.old }
+        requires consistent { IsKept p.now self.old }
+        ensures consistent { IsKept p.now self.new }
+        ensures unchanged { todo p.now self.new ≡ todo p.now self.old }
     {
-        let MovePicker::Captures(firsts, sweep) = self else {
+        let MovePicker::Captures(priority_moves, sweep) = self else {
             return;
         };
         if sweep.fill(p, true) {
             return;
         }
-        let (firsts, known) = (*firsts, sweep.info.at(p));
-        *self = MovePicker::Quiets(firsts, BoardSweep::new(&known, false));
+        let (priority_moves, known) = (*priority_moves, sweep.info.at(p));
+        *self = MovePicker::Quiets(priority_moves, BoardSweep::new(&known, false));
     }
 
     /// Turns to the drops in the same way, where the quiet moves on the board are under way.
     #[tactic(auto, using(crate::proofs::MatchingOthers::matching_others))]
     pub(crate) fn turn_to_drops(&mut self, p: &Position)
-        requires kept { IsKept p.now self.old }
-        ensures kept { IsKept p.now self.new }
-        ensures same { todo p.now self.new ≡ todo p.now self.old }
+        requires consistent { IsKept p.now self.old }
+        ensures consistent { IsKept p.now self.new }
+        ensures unchanged { todo p.now self.new ≡ todo p.now self.old }
     {
-        let MovePicker::Quiets(firsts, sweep) = self else {
+        let MovePicker::Quiets(priority_moves, sweep) = self else {
             return;
         };
         if sweep.fill(p, false) {
             return;
         }
-        let (firsts, known) = (*firsts, sweep.info.at(p));
-        *self = MovePicker::Drops(firsts, DropSweep::new(&known));
+        let (priority_moves, known) = (*priority_moves, sweep.info.at(p));
+        *self = MovePicker::Drops(priority_moves, DropSweep::new(&known));
     }
 
     /// Turns to the next kind of drops where those of a kind are under way and none is left;
     /// whether there is one.
     #[tactic(auto, using(crate::proofs::MatchingOthers::matching_others))]
     pub(crate) fn turn_to_kind(&mut self, p: &Position) -> bool
-        requires kept { IsKept p.now self.old }
-        ensures kept { IsKept p.now self.new }
-        ensures same { todo p.now self.new ≡ todo p.now self.old }
+        requires consistent { IsKept p.now self.old }
+        ensures consistent { IsKept p.now self.new }
+        ensures unchanged { todo p.now self.new ≡ todo p.now self.old }
     {
         let MovePicker::Drops(_, sweep) = self else {
             return false;
@@ -227,18 +245,23 @@ impl MovePicker {
         }
     }
 
-    /// Passes the next moves to visit, as long as they are on the board, take nothing, are of the row,
+    /// Skips the next moves to visit, as long as they are on the board, take nothing, the filter has them,
     /// and the other side surely has a legal move after them.
     #[tactic(auto, using(crate::proofs::MatchingOthers::passing_others))]
-    pub(crate) fn pass_quiets(&mut self, p: &Position, row: &Row, replies: &Replies)
-        requires kept { IsKept p.now self.old }
-        requires replies { IsReplies p.now replies.now.sight.bits replies.now.spare.bits }
-        requires escapes { AreEscapes p.now row.now.escapes.bits }
-        ensures kept { IsKept p.now self.new }
-        ensures passed { PassesQuiets p.now row.now self.old self.new }
+    pub(crate) fn skip_quiets(
+        &mut self,
+        p: &Position,
+        move_filter: &MoveFilter,
+        replies: &ReplyInfo,
+    )
+        requires consistent { IsKept p.now self.old }
+        requires replies { IsReplyInfo p.now replies.now.king_view.bits replies.now.free_movers.bits }
+        requires escapes { AreEscapes p.now move_filter.now.escapes.bits }
+        ensures consistent { IsKept p.now self.new }
+        ensures passed { SkipsQuiets p.now move_filter.now self.old self.new }
     {
         if let MovePicker::Quiets(_, sweep) = self {
-            replies.pass_moves(p, false, row, sweep);
+            replies.skip_moves(p, false, move_filter, sweep);
         }
     }
 
@@ -255,35 +278,45 @@ impl MovePicker {
     /// Passes the next moves to visit, as long as they are drops of the kind that is under way on these
     /// squares and the other side surely has a legal move after them.
     #[tactic(auto, using(crate::proofs::MatchingOthers::passing_others))]
-    pub(crate) fn pass_drops(
+    pub(crate) fn skip_drops(
         &mut self,
         p: &Position,
         squares: Squares,
         escapes: Squares,
-        replies: &Replies,
+        replies: &ReplyInfo,
     )
-        requires kept { IsKept p.now self.old }
-        requires replies { IsReplies p.now replies.now.sight.bits replies.now.spare.bits }
+        requires consistent { IsKept p.now self.old }
+        requires replies { IsReplyInfo p.now replies.now.king_view.bits replies.now.free_movers.bits }
         requires escapes { AreEscapes p.now escapes.bits }
-        ensures kept { IsKept p.now self.new }
-        ensures passed { PassesDrops p.now squares.bits escapes.bits self.old self.new }
+        ensures consistent { IsKept p.now self.new }
+        ensures passed { SkipsDrops p.now squares.bits escapes.bits self.old self.new }
     {
         if let MovePicker::Drops(_, sweep) = self {
-            replies.pass_drops(p, squares, escapes, sweep);
+            replies.skip_drops(p, squares, escapes, sweep);
         }
     }
 
     /// The first move after the sweep that is under way.
     #[inline(never)]
     fn next_after_sweep(&mut self, p: &Position) -> Option<Move>
-        requires kept { IsKept p.now self.old }
-        ensures next { TakesFirst p.now result (todo_after p.now self.old) self.new }
-        ensures kept { IsKept p.now self.new }
+        requires consistent { IsKept p.now self.old }
+        ensures next { TakesPriorityMove p.now result (todo_after p.now self.old) self.new }
+        ensures consistent { IsKept p.now self.new }
     {
         match *self {
-            MovePicker::First(firsts, passed) => self.next_first(p, firsts, passed),
-            MovePicker::Captures(firsts, sweep) => self.enter_quiets(&sweep.info.at(p), firsts),
-            MovePicker::Quiets(firsts, sweep) => self.enter_drops(&sweep.info.at(p), firsts),
+            MovePicker::First(priority_moves, passed) => self.next_priority_move(
+                p,
+                priority_moves,
+                passed,
+            ),
+            MovePicker::Captures(priority_moves, sweep) => self.enter_quiets(
+                &sweep.info.at(p),
+                priority_moves,
+            ),
+            MovePicker::Quiets(priority_moves, sweep) => self.enter_drops(
+                &sweep.info.at(p),
+                priority_moves,
+            ),
             MovePicker::Drops(_, _) | MovePicker::Done => {
                 *self = MovePicker::Done;
                 None
@@ -294,9 +327,9 @@ impl MovePicker {
     /// The next move to visit.
     #[inline(always)]
     pub(crate) fn next(&mut self, p: &Position) -> Option<Move>
-        requires kept { IsKept p.now self.old }
-        ensures next { TakesFirst p.now result (todo p.now self.old) self.new }
-        ensures kept { IsKept p.now self.new }
+        requires consistent { IsKept p.now self.old }
+        ensures next { TakesPriorityMove p.now result (todo p.now self.old) self.new }
+        ensures consistent { IsKept p.now self.new }
     {
         let found = self.next_in_sweep(p);
         if found.is_some() {

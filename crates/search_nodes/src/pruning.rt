@@ -2,17 +2,19 @@
 
 ghost use Rattle.std.specs.Prelude.{◌≡◌, ◌≤ℤ◌, ◌-ℤ◌, pos, true, false};
 ghost use Rattle.shogi_moves.specs.Escapes.{AreEscapes};
-ghost use Rattle.shogi_eval.specs.Exchange.{settles};
+ghost use Rattle.shogi_eval.specs.Exchange.{resolves_captures};
 ghost use Rattle.search_nodes.specs.Frames.{PromotesWithin};
 
-use crate::frame::{Frame, Waiting};
+use crate::frame::{Frame, NodeState};
 use crate::move_picker::MovePicker;
 use crate::threat::{Threat, Threats, slides, threats_of};
-use crate::window::threshold_at;
+use crate::window::move_alpha_at;
 use shogi_core::{Kind, Move, Squares};
 use shogi_eval::{PROMOTION_GAIN_MAX, loss_of_drops, taken_gain};
 use shogi_moves::dropped;
-use shogi_replies::{ALL_ROLES, Replies, Row, escape_squares, king_takes, leaves_escape, put_by};
+use shogi_replies::{
+    ALL_ROLES, MoveFilter, ReplyInfo, escape_squares, king_takes, leaves_escape, put_by,
+};
 
 // Some roles, as masks of their places in the order in which they are declared.
 const ALL_BUT_PAWN: u32 = 16381;
@@ -43,9 +45,9 @@ fn roles_within(most: u32) -> u32
 }
 
 impl Frame {
-    ghost use Rattle.search_nodes.specs.Frames.{DropsAreLost, FallsShort, HasReply, IsLost, IsLostIfTaken, IsLostWhere, IsWorthAtMost, MovesLeave, RepliesLoseAtMost};
+    ghost use Rattle.search_nodes.specs.Frames.{DropsFailLow, DropFailsLow, HasReply, IsLost, FailsLowIfTaken, IsLostWhere, IsWorthAtMost, MovesLeave, RepliesLoseAtMost};
     ghost use Rattle.search_nodes.specs.Order.{IsAtDrops, IsAtQuiets};
-    ghost use Rattle.search_nodes.specs.Changes.{IsSame, KeepsMoves, AsksFor, PrunesRow};
+    ghost use Rattle.search_nodes.specs.Changes.{IsSame, KeepsMoves, AsksFor, PrunesFiltered};
     ghost use Rattle.shogi_replies.specs.Threats.{IsTaken};
     ghost use Rattle.search_nodes.specs.Threats.{AreThreatsIn, IsThreatIn};
     ghost use Rattle.search_nodes.specs.Visits.{IsCurrent};
@@ -55,7 +57,7 @@ impl Frame {
         ensures { KeepsMoves self.old self.new }
     {
         if !self.has_replies {
-            self.replies = Replies::of(self.node.as_position());
+            self.replies = ReplyInfo::of(self.node.as_position());
             self.has_replies = true;
         }
     }
@@ -63,7 +65,7 @@ impl Frame {
     /// The squares to which the other side's king may go, which are noted.
     fn look_for_escapes(&mut self) -> Squares
         ensures escapes { AreEscapes self.old.node.position result.bits }
-        ensures kept { KeepsMoves self.old self.new }
+        ensures unchanged { KeepsMoves self.old self.new }
     {
         if let Some(squares) = self.escapes {
             return squares;
@@ -88,13 +90,16 @@ impl Frame {
     /// Whether it is certain without making the current move that the other side has a legal move
     /// after it: one that it has where no check is given, or a step of its king out of that check.
     fn is_answered(&mut self, current: &Move) -> bool
-        requires current { IsCurrent self.old.waiting current.now }
+        requires current { IsCurrent self.old.state current.now }
         ensures some { result ≡ true → HasReply self.new current.now }
-        ensures kept { KeepsMoves self.old self.new }
+        ensures unchanged { KeepsMoves self.old self.new }
     {
         self.look_ahead();
-        current.validity();
-        if self.replies.is_certain(self.node.as_position(), current) {
+        current.reveal_invariant();
+        if self
+            .replies
+            .guarantees_reply(self.node.as_position(), current)
+        {
             return true;
         }
         let escapes = self.look_for_escapes();
@@ -118,11 +123,11 @@ impl Frame {
     /// less.
     #[inline(always)]
     fn most_after(&self, current: &Move) -> i32
-        requires current { IsCurrent self.now.waiting current.now }
+        requires current { IsCurrent self.now.state current.now }
         requires last { self.now.depth ≡ 2 }
         ensures most { HasReply self.now current.now → IsWorthAtMost self.now current.now result }
     {
-        current.validity();
+        current.reveal_invariant();
         self.loss_after() - self.node.score_after(current)
     }
 
@@ -140,7 +145,7 @@ impl Frame {
     /// are not looked for.
     fn known_threats(&mut self) -> Threats
         ensures threats { AreThreatsIn self.old.node.position self.old.node.eval result }
-        ensures kept { KeepsMoves self.old self.new }
+        ensures unchanged { KeepsMoves self.old self.new }
     {
         self.look_for_threats();
         self.look_ahead();
@@ -157,34 +162,34 @@ impl Frame {
     /// Whether a threat makes the current move of a node of depth 2 not worth enough, if it gives no
     /// check.
     #[inline(always)]
-    fn loses(&self, current: &Move) -> bool
-        requires current { IsCurrent self.now.waiting current.now }
+    fn fails_low_by_threat(&self, current: &Move) -> bool
+        requires current { IsCurrent self.now.state current.now }
         requires last { self.now.depth ≡ 2 }
-        requires plain { settles self.now.node.eval ≡ false }
+        requires plain { resolves_captures self.now.node.eval ≡ false }
         ensures { result ≡ true → IsLostWhere self.now current.now }
     {
         let Some(threats) = &self.threats else {
             return false;
         };
-        current.validity();
+        current.reveal_invariant();
         let p = self.node.as_position();
         let gain = threats.gain_after(p, self.node.eval(), current);
         if gain == 0 {
             return false;
         }
-        0 - self.node.score_after(current) - gain as i32 <= self.threshold(current)
+        0 - self.node.score_after(current) - gain as i32 <= self.move_alpha(current)
     }
 
     /// Whether the other side surely takes what the current move puts on its square, once its
     /// attackers were looked for: one that nothing pins does, or its king.
     fn is_retaken(&self, current: &Move) -> bool
-        requires current { IsCurrent self.now.waiting current.now }
+        requires current { IsCurrent self.now.state current.now }
         ensures { result ≡ true → ∥ IsTaken self.now.node.position current.now ∥₁ }
     {
         let Some(threats) = &self.threats else {
             return false;
         };
-        current.validity();
+        current.reveal_invariant();
         let p = self.node.as_position();
         if threats.has_retake(p, &self.replies, current) {
             return true;
@@ -195,14 +200,14 @@ impl Frame {
     /// Whether it is certain without making the current move that the other side has a legal move
     /// after it: it answers, or takes what the move puts on its square.
     fn has_reply(&mut self, current: &Move) -> bool
-        requires current { IsCurrent self.old.waiting current.now }
+        requires current { IsCurrent self.old.state current.now }
         ensures some { result ≡ true → HasReply self.new current.now }
-        ensures kept { KeepsMoves self.old self.new }
+        ensures unchanged { KeepsMoves self.old self.new }
     {
         if self.is_answered(current) {
             return true;
         }
-        if self.node.eval().settles() {
+        if self.node.eval().resolves_captures() {
             return false;
         }
         self.look_for_threats();
@@ -211,39 +216,39 @@ impl Frame {
 
     /// Whether the current move of a node of depth 2 is not worth enough, if the other side takes what
     /// it puts on its square.
-    fn loses_piece(&self, current: &Move) -> bool
-        requires current { IsCurrent self.now.waiting current.now }
+    fn fails_low_if_taken(&self, current: &Move) -> bool
+        requires current { IsCurrent self.now.state current.now }
         requires last { self.now.depth ≡ 2 }
-        requires plain { settles self.now.node.eval ≡ false }
-        ensures { result ≡ true → IsLostIfTaken self.now current.now }
+        requires plain { resolves_captures self.now.node.eval ≡ false }
+        ensures { result ≡ true → FailsLowIfTaken self.now current.now }
     {
-        current.validity();
+        current.reveal_invariant();
         let put = put_by(self.node.as_position(), current);
         let gain = taken_gain(self.node.eval(), put);
-        0 - self.node.score_after(current) - gain as i32 <= self.threshold(current)
+        0 - self.node.score_after(current) - gain as i32 <= self.move_alpha(current)
     }
 
     /// Whether it surely is not, since what it puts on its square is taken.
-    fn is_lost_piece(&self, current: &Move) -> bool
-        requires current { IsCurrent self.now.waiting current.now }
+    fn fails_low_by_capture(&self, current: &Move) -> bool
+        requires current { IsCurrent self.now.state current.now }
         requires last { self.now.depth ≡ 2 }
-        requires plain { settles self.now.node.eval ≡ false }
+        requires plain { resolves_captures self.now.node.eval ≡ false }
         ensures { result ≡ true → IsLost self.now current.now }
     {
-        self.loses_piece(current) && self.is_retaken(current)
+        self.fails_low_if_taken(current) && self.is_retaken(current)
     }
 
-    /// Passes the current move of a node of depth 2, where it is certain without making it that it
+    /// Prunes the current move of a node of depth 2, where it is certain without making it that it
     /// is not worth enough since it is taken or a threat stands after it, and returns whether it did.
     fn prune_under_threat(&mut self, current: &Move) -> bool
-        requires asked { self.old.waiting ≡ Waiting.Asked current.now }
+        requires asked { self.old.state ≡ NodeState.AwaitingChild current.now }
         requires last { self.old.depth ≡ 2 }
-        ensures next { result ≡ true → self.new.waiting ≡ Waiting.Next }
-        ensures asked { result ≡ false → self.new.waiting ≡ self.old.waiting }
+        ensures next { result ≡ true → self.new.state ≡ NodeState.Expanding }
+        ensures asked { result ≡ false → self.new.state ≡ self.old.state }
         ensures picker { self.new.picker ≡ self.old.picker }
-        ensures same { IsSame self.old self.new }
+        ensures unchanged { IsSame self.old self.new }
     {
-        if self.node.eval().settles() {
+        if self.node.eval().resolves_captures() {
             return false;
         }
         self.look_for_threats();
@@ -251,34 +256,36 @@ impl Frame {
             return false;
         }
         self.look_ahead();
-        if self.is_lost_piece(current) {
+        if self.fails_low_by_capture(current) {
             self.fail_low();
             return true;
         }
-        if !self.loses(current) {
+        if !self.fails_low_by_threat(current) {
             return false;
         }
-        current.validity();
-        let certain = self.replies.is_certain(self.node.as_position(), current);
-        if !certain {
+        current.reveal_invariant();
+        let guaranteed = self
+            .replies
+            .guarantees_reply(self.node.as_position(), current);
+        if !guaranteed {
             return false;
         }
         self.fail_low();
         true
     }
 
-    /// Passes the current move of a node of depth 2, where it is certain without making it that it
+    /// Prunes the current move of a node of depth 2, where it is certain without making it that it
     /// is not worth enough, and returns whether it did.
     #[inline(always)]
     fn prune(&mut self, current: &Move) -> bool
-        requires asked { self.old.waiting ≡ Waiting.Asked current.now }
+        requires asked { self.old.state ≡ NodeState.AwaitingChild current.now }
         requires last { self.old.depth ≡ 2 }
-        ensures next { result ≡ true → self.new.waiting ≡ Waiting.Next }
-        ensures asked { result ≡ false → self.new.waiting ≡ self.old.waiting }
+        ensures next { result ≡ true → self.new.state ≡ NodeState.Expanding }
+        ensures asked { result ≡ false → self.new.state ≡ self.old.state }
         ensures picker { self.new.picker ≡ self.old.picker }
-        ensures same { IsSame self.old self.new }
+        ensures unchanged { IsSame self.old self.new }
     {
-        if self.most_after(current) > self.threshold(current) {
+        if self.most_after(current) > self.move_alpha(current) {
             return self.prune_under_threat(current);
         }
         if !self.has_reply(current) {
@@ -288,11 +295,11 @@ impl Frame {
         true
     }
 
-    /// Passes the next moves of a node of depth 2 on the board that take nothing, of the pieces to the
+    /// Prunes the next moves of a node of depth 2 on the board that take nothing, of the pieces to the
     /// squares, while it is certain without making them that they leave the other side its material
     /// less this, where no such move is worth enough; those that promote only where no promotion is.
     /// Whether others are not.
-    fn prune_row(
+    fn prune_filtered(
         &mut self,
         code: u16,
         loss: i32,
@@ -300,99 +307,99 @@ impl Frame {
         squares: Squares,
         escapes: Squares,
     ) -> bool
-        requires next { self.old.waiting ≡ Waiting.Next }
+        requires next { self.old.state ≡ NodeState.Expanding }
         requires last { self.old.depth ≡ 2 }
         requires at { IsAtQuiets self.old.picker code }
         requires escapes { AreEscapes self.old.node.position escapes.bits }
         requires leave { MovesLeave self.old loss pieces.bits squares.bits escapes.bits }
         requires least { (pos 0 -ℤ pos 4000) ≤ℤ loss }
         requires most { loss ≤ℤ pos 100 }
-        ensures pruned { PrunesRow self.old self.new }
-        ensures same { result ≡ false → KeepsMoves self.old self.new }
+        ensures pruned { PrunesFiltered self.old self.new }
+        ensures unchanged { result ≡ false → KeepsMoves self.old self.new }
     {
-        let threshold = threshold_at(self.best_value, &self.best_move, code);
-        let room = threshold - loss - self.node.score();
+        let move_alpha = move_alpha_at(self.best_value, &self.best_move, code);
+        let room = move_alpha - loss - self.node.score();
         if room < 0 {
             return false;
         }
         let promoting = roles_within(room as u32);
-        let row = Row {
+        let move_filter = MoveFilter {
             pieces,
             squares,
             promoting,
             escapes,
         };
         self.picker
-            .pass_quiets(self.node.as_position(), &row, &self.replies);
+            .skip_quiets(self.node.as_position(), &move_filter, &self.replies);
         true
     }
 
-    /// Passes the next moves on the board that take nothing, while it is certain without making them
+    /// Prunes the next moves on the board that take nothing, while it is certain without making them
     /// that the threat stands, where that makes no such move worth enough.
-    fn prune_spared(&mut self, code: u16, threat: &Threat)
-        requires next { self.old.waiting ≡ Waiting.Next }
+    fn prune_quiets_under_threat(&mut self, code: u16, threat: &Threat)
+        requires next { self.old.state ≡ NodeState.Expanding }
         requires last { self.old.depth ≡ 2 }
-        requires plain { settles self.old.node.eval ≡ false }
+        requires plain { resolves_captures self.old.node.eval ≡ false }
         requires at { IsAtQuiets self.old.picker code }
         requires threat { IsThreatIn self.old.node.position self.old.node.eval threat.now }
-        ensures { PrunesRow self.old self.new }
+        ensures { PrunesFiltered self.old self.new }
     {
         let pieces = Squares::all().except(threat.target);
-        let aside = threat.squares_aside(true);
-        self.prune_row(code, 0 - threat.gain as i32, pieces, aside, Squares::none());
+        let aside = threat.non_interfering_squares(true);
+        self.prune_filtered(code, 0 - threat.gain as i32, pieces, aside, Squares::none());
     }
 
-    /// Passes the next moves on the board that take nothing, while it is certain without making them
+    /// Prunes the next moves on the board that take nothing, while it is certain without making them
     /// that the other side has a legal move, where no such move is worth enough, or else that the
     /// greatest threat stands.
     fn prune_quiets(&mut self)
-        requires next { self.old.waiting ≡ Waiting.Next }
+        requires next { self.old.state ≡ NodeState.Expanding }
         requires last { self.old.depth ≡ 2 }
-        ensures { PrunesRow self.old self.new }
+        ensures { PrunesFiltered self.old self.new }
     {
         let Some(code) = self.picker.quiets() else {
             return;
         };
         let (loss, escapes) = (self.loss_after(), self.known_escapes());
-        if self.prune_row(code, loss, Squares::all(), Squares::all(), escapes) {
+        if self.prune_filtered(code, loss, Squares::all(), Squares::all(), escapes) {
             return;
         }
-        if self.node.eval().settles() {
+        if self.node.eval().resolves_captures() {
             return;
         }
         let threats = self.known_threats();
         if let Some(threat) = &threats.greatest {
-            self.prune_spared(code, threat);
+            self.prune_quiets_under_threat(code, threat);
         }
     }
 
     /// Whether a drop of the kind is not worth enough that leaves the other side its material less
     /// this.
     #[inline(always)]
-    fn falls_short(&self, kind: Kind, code: u16, loss: i32) -> bool
-        requires next { self.now.waiting ≡ Waiting.Next }
+    fn drop_fails_low(&self, kind: Kind, code: u16, loss: i32) -> bool
+        requires next { self.now.state ≡ NodeState.Expanding }
         requires last { self.now.depth ≡ 2 }
         requires least { (pos 0 -ℤ pos 4000) ≤ℤ loss }
         requires most { loss ≤ℤ pos 100 }
-        ensures { result ≡ true → FallsShort self.now kind code loss }
+        ensures { result ≡ true → DropFailsLow self.now kind code loss }
     {
-        let threshold = threshold_at(self.best_value, &self.best_move, code);
-        self.node.score_after_drop(kind) >= loss - threshold
+        let move_alpha = move_alpha_at(self.best_value, &self.best_move, code);
+        self.node.score_after_drop(kind) >= loss - move_alpha
     }
 
     /// Squares on which a drop of the kind that gives no check is not worth enough, since it is taken
     /// there.
     #[inline(always)]
-    fn taken_squares(&self, threats: &Threats, kind: Kind, code: u16) -> Squares
-        requires next { self.now.waiting ≡ Waiting.Next }
+    fn futile_drop_squares_if_taken(&self, threats: &Threats, kind: Kind, code: u16) -> Squares
+        requires next { self.now.state ≡ NodeState.Expanding }
         requires last { self.now.depth ≡ 2 }
-        requires plain { settles self.now.node.eval ≡ false }
+        requires plain { resolves_captures self.now.node.eval ≡ false }
         requires threats { AreThreatsIn self.now.node.position self.now.node.eval threats.now }
-        ensures { DropsAreLost self.now kind result.bits 0 code }
+        ensures { DropsFailLow self.now kind result.bits 0 code }
     {
         let put = dropped(self.node.as_position().side(), kind);
         let gain = taken_gain(self.node.eval(), put);
-        if self.falls_short(kind, code, 0 - gain as i32) {
+        if self.drop_fails_low(kind, code, 0 - gain as i32) {
             return threats.takes;
         }
         Squares::none()
@@ -400,47 +407,47 @@ impl Frame {
 
     /// Squares on which it is not, since the threat stands.
     #[inline(always)]
-    fn spared_squares(&self, threat: &Threat, kind: Kind, code: u16) -> Squares
-        requires next { self.now.waiting ≡ Waiting.Next }
+    fn futile_drop_squares_under_threat(&self, threat: &Threat, kind: Kind, code: u16) -> Squares
+        requires next { self.now.state ≡ NodeState.Expanding }
         requires last { self.now.depth ≡ 2 }
-        requires plain { settles self.now.node.eval ≡ false }
+        requires plain { resolves_captures self.now.node.eval ≡ false }
         requires threat { IsThreatIn self.now.node.position self.now.node.eval threat.now }
-        ensures { DropsAreLost self.now kind result.bits 0 code }
+        ensures { DropsFailLow self.now kind result.bits 0 code }
     {
-        if self.falls_short(kind, code, 0 - threat.gain as i32) {
+        if self.drop_fails_low(kind, code, 0 - threat.gain as i32) {
             let put = dropped(self.node.as_position().side(), kind);
-            return threat.squares_aside(slides(put));
+            return threat.non_interfering_squares(slides(put));
         }
         Squares::none()
     }
 
     /// Squares on which it is not, for either.
-    fn lost_squares(&self, threats: &Threats, kind: Kind, code: u16) -> Squares
-        requires next { self.now.waiting ≡ Waiting.Next }
+    fn futile_drop_squares(&self, threats: &Threats, kind: Kind, code: u16) -> Squares
+        requires next { self.now.state ≡ NodeState.Expanding }
         requires last { self.now.depth ≡ 2 }
-        requires plain { settles self.now.node.eval ≡ false }
+        requires plain { resolves_captures self.now.node.eval ≡ false }
         requires threats { AreThreatsIn self.now.node.position self.now.node.eval threats.now }
-        ensures { DropsAreLost self.now kind result.bits 0 code }
+        ensures { DropsFailLow self.now kind result.bits 0 code }
     {
-        let taken = self.taken_squares(threats, kind, code);
+        let taken = self.futile_drop_squares_if_taken(threats, kind, code);
         match &threats.greatest {
-            Some(threat) => taken | self.spared_squares(threat, kind, code),
+            Some(threat) => taken | self.futile_drop_squares_under_threat(threat, kind, code),
             None => taken,
         }
     }
 
     /// Passes the next drops of a node of depth 2 of the kind that is under way, on these squares;
     /// whether none of that kind is left, and those of another one are under way.
-    fn pass_kind(&mut self, kind: Kind, code: u16, squares: Squares, escapes: Squares) -> bool
-        requires next { self.old.waiting ≡ Waiting.Next }
+    fn skip_kind(&mut self, kind: Kind, code: u16, squares: Squares, escapes: Squares) -> bool
+        requires next { self.old.state ≡ NodeState.Expanding }
         requires at { IsAtDrops self.old.picker kind code }
         requires escapes { AreEscapes self.old.node.position escapes.bits }
-        requires lost { DropsAreLost self.old kind squares.bits escapes.bits code }
-        ensures { PrunesRow self.old self.new }
+        requires lost { DropsFailLow self.old kind squares.bits escapes.bits code }
+        ensures { PrunesFiltered self.old self.new }
     {
         let _ = (kind, code);
         self.picker
-            .pass_drops(self.node.as_position(), squares, escapes, &self.replies);
+            .skip_drops(self.node.as_position(), squares, escapes, &self.replies);
         self.picker.turn_to_kind(self.node.as_position())
     }
 
@@ -448,33 +455,33 @@ impl Frame {
     /// move after them and they are not worth enough, or they are surely lost; whether none of that
     /// kind is left, and those of another one are under way.
     fn prune_kind(&mut self) -> bool
-        requires next { self.old.waiting ≡ Waiting.Next }
+        requires next { self.old.state ≡ NodeState.Expanding }
         requires last { self.old.depth ≡ 2 }
-        ensures { PrunesRow self.old self.new }
+        ensures { PrunesFiltered self.old self.new }
     {
         let Some((kind, code)) = self.picker.drops() else {
             return false;
         };
-        if self.falls_short(kind, code, self.loss_after()) {
+        if self.drop_fails_low(kind, code, self.loss_after()) {
             let escapes = self.known_escapes();
-            return self.pass_kind(kind, code, Squares::all(), escapes);
+            return self.skip_kind(kind, code, Squares::all(), escapes);
         }
-        if self.node.eval().settles() {
+        if self.node.eval().resolves_captures() {
             return false;
         }
         let threats = self.known_threats();
-        let squares = self.lost_squares(&threats, kind, code);
+        let squares = self.futile_drop_squares(&threats, kind, code);
         if squares.is_empty() {
             return false;
         }
-        self.pass_kind(kind, code, squares, Squares::none())
+        self.skip_kind(kind, code, squares, Squares::none())
     }
 
     /// The same of the drops, kind after kind.
     fn prune_drops(&mut self)
-        requires next { self.old.waiting ≡ Waiting.Next }
+        requires next { self.old.state ≡ NodeState.Expanding }
         requires last { self.old.depth ≡ 2 }
-        ensures { PrunesRow self.old self.new }
+        ensures { PrunesFiltered self.old self.new }
     {
         'kinds: for _ in 0..7u8 {
             if !self.prune_kind() {
@@ -485,28 +492,28 @@ impl Frame {
 
     /// Turns to the quiet moves where no capture is left.
     fn turn_to_quiets(&mut self)
-        requires next { self.old.waiting ≡ Waiting.Next }
-        ensures { PrunesRow self.old self.new }
+        requires next { self.old.state ≡ NodeState.Expanding }
+        ensures { PrunesFiltered self.old self.new }
     {
         self.picker.turn_to_quiets(self.node.as_position());
     }
 
     /// Turns to the drops where no quiet move on the board is left.
     fn turn_to_drops(&mut self)
-        requires next { self.old.waiting ≡ Waiting.Next }
-        ensures { PrunesRow self.old self.new }
+        requires next { self.old.state ≡ NodeState.Expanding }
+        ensures { PrunesFiltered self.old self.new }
     {
         self.picker.turn_to_drops(self.node.as_position());
     }
 
-    /// Passes the next moves of a node of depth 2 as these do, once a move was gone through and not
-    /// good enough; each row before the first of its moves is looked for. In check few of the moves
-    /// of a row are legal, and each of these is looked at by itself.
+    /// Prunes the next moves of a node of depth 2 as these do, once a move was gone through and not
+    /// good enough; each set before the first of its moves is looked for. In check few of the moves
+    /// of a set are legal, and each of these is looked at by itself.
     #[inline(always)]
-    fn prune_rows(&mut self)
-        requires next { self.old.waiting ≡ Waiting.Next }
+    fn prune_in_bulk(&mut self)
+        requires next { self.old.state ≡ NodeState.Expanding }
         requires last { self.old.depth ≡ 2 }
-        ensures { PrunesRow self.old self.new }
+        ensures { PrunesFiltered self.old self.new }
     {
         if !self.has_move || self.picker.is_checked(self.node.as_position()) {
             return;
@@ -520,31 +527,31 @@ impl Frame {
         self.prune_drops();
     }
 
-    /// The same at depth 2, where the moves that surely are not worth enough are passed.
-    fn worthy_move(&mut self) -> Option<Move>
-        requires next { self.old.waiting ≡ Waiting.Next }
+    /// The same at depth 2, where the moves that surely are not worth enough are pruned.
+    fn next_unpruned(&mut self) -> Option<Move>
+        requires next { self.old.state ≡ NodeState.Expanding }
         requires last { self.old.depth ≡ 2 }
         ensures { AsksFor result self.old self.new }
     {
-        self.prune_rows();
+        self.prune_in_bulk();
         'moves: while let Some(current) = self.pick_move() {
             if !self.prune(&current) {
                 return Some(current);
             }
-            self.prune_rows();
+            self.prune_in_bulk();
         }
         None
     }
 
     /// Asks for the answer of the next move, where there is one. At depth 2 the moves that surely are
-    /// not worth enough are passed.
+    /// not worth enough are pruned.
     #[inline(always)]
     pub fn next_move(&mut self) -> Option<Move>
-        requires next { self.old.waiting ≡ Waiting.Next }
+        requires next { self.old.state ≡ NodeState.Expanding }
         ensures { AsksFor result self.old self.new }
     {
         if self.depth == 2 {
-            return self.worthy_move();
+            return self.next_unpruned();
         }
         self.pick_move()
     }

@@ -7,22 +7,22 @@ ghost use Rattle.shogi_core.specs.Pieces.{opponent_of};
 ghost use Rattle.shogi_core.specs.Position.{Shogi};
 ghost use Rattle.shogi_moves.specs.Legal.{is_legal};
 ghost use Rattle.shogi_eval.specs.declared.eval.Eval.{Eval};
-ghost use Rattle.shogi_replies.specs.Replies.{Aligns, IsReplies};
+ghost use Rattle.shogi_replies.specs.ReplyInfo.{Aligns, IsReplyInfo};
 ghost use Rattle.shogi_replies.specs.Threats.{IsTaken, IsUnpinnable, end_of};
 ghost use Rattle.shogi_core.specs.Validity.{IsValid};
-ghost use Rattle.search_nodes.specs.Threats.{AddsPrize, AreAttacked, ArePrizesIn, AreSpared, AreThreatEnds, AreThreatsIn, GainsAfter, HoldsPinning, IsPrizeIn, IsThreatIn, IsSparedAt, IsSparedBy, TakesAfter};
+ghost use Rattle.search_nodes.specs.Threats.{AddsCandidate, AreAttacked, AreTopTwoIn, AreNonInterfering, AreThreatEnds, AreThreatsIn, GainsAfter, HoldsPinning, IsCandidateIn, IsThreatIn, SurvivesAt, SurvivesMove, TakesAfter};
 
 use shogi_core::bits::{lowest, without_lowest};
-use shogi_core::{Move, Piece, Position, Square, Squares, aligned_squares};
+use shogi_core::{Move, Piece, Position, Square, Squares, line_mask};
 use shogi_eval::{Eval, promotion_gain, taken_gain};
 use shogi_replies::{
-    Replies, attacks_of, line_squares, put_by, squares_between, unpinnable_pieces,
+    ReplyInfo, attacks_of, king_line_mask, put_by, squares_between, unpinnable_pieces,
 };
 
 /// A move by a piece of the side that is not to move that nothing pins, promoting or not, to a square
 /// without a piece of its side, and what it gains; none where that is 0. Squares are indexes.
 #[derive(Clone, Copy)]
-pub struct Prize {
+pub struct ThreatCandidate {
     pub gain: u32,
     pub from: u8,
     pub target: u8,
@@ -43,9 +43,9 @@ pub struct Threat {
 
 /// Such a move that gains most, and one that gains most of those to other squares.
 #[derive(Clone, Copy)]
-pub struct Prizes {
-    pub greatest: Prize,
-    pub second: Prize,
+pub struct TopTwo {
+    pub greatest: ThreatCandidate,
+    pub second: ThreatCandidate,
 }
 
 /// Squares on which some such piece takes what comes there, and those two moves, where they gain
@@ -57,19 +57,19 @@ pub struct Threats {
     pub second: Option<Threat>,
 }
 
-impl Prizes {
+impl TopTwo {
     /// None.
     #[inline(always)]
-    fn none() -> Prizes
-        ensures { (p : Shogi) (e : Eval) → ArePrizesIn p e result }
+    fn none() -> TopTwo
+        ensures { (p : Shogi) (e : Eval) → AreTopTwoIn p e result }
     {
-        let none = Prize {
+        let none = ThreatCandidate {
             gain: 0,
             from: 0,
             target: 0,
             promote: false,
         };
-        Prizes {
+        TopTwo {
             greatest: none,
             second: none,
         }
@@ -77,51 +77,51 @@ impl Prizes {
 
     /// These and one more.
     #[inline(always)]
-    fn with_prize(self, prize: Prize) -> Prizes
-        ensures { AddsPrize self prize result }
+    fn with_candidate(self, candidate: ThreatCandidate) -> TopTwo
+        ensures { AddsCandidate self candidate result }
     {
-        let same = prize.target == self.greatest.target;
-        if prize.gain > self.greatest.gain {
-            return Prizes {
-                greatest: prize,
+        let same = candidate.target == self.greatest.target;
+        if candidate.gain > self.greatest.gain {
+            return TopTwo {
+                greatest: candidate,
                 second: if same { self.second } else { self.greatest },
             };
         }
-        if same || prize.gain <= self.second.gain {
+        if same || candidate.gain <= self.second.gain {
             return self;
         }
-        Prizes {
+        TopTwo {
             greatest: self.greatest,
-            second: prize,
+            second: candidate,
         }
     }
 
     /// These and those of the piece's moves, promoting or not, to these squares.
     #[inline(always)]
-    fn with_ends(self, p: &Position, e: Eval, from: usize, promote: bool, ends: Squares) -> Prizes
+    fn with_ends(self, p: &Position, e: Eval, from: usize, promote: bool, ends: Squares) -> TopTwo
         requires from { from < 81 }
-        requires prizes { ArePrizesIn p.now e self }
+        requires top_two { AreTopTwoIn p.now e self }
         requires ends { AreThreatEnds p.now from promote ends.bits }
-        ensures { ArePrizesIn p.now e result }
+        ensures { AreTopTwoIn p.now e result }
     {
         if ends.is_empty() {
             return self;
         }
         let more = promotion_gain(p.at(Square::of_index(from)), promote);
         let mut left = ends.bits;
-        let mut prizes = self;
+        let mut top_two = self;
         'targets: while left != 0 {
             let target = lowest(left);
-            let prize = Prize {
+            let candidate = ThreatCandidate {
                 gain: taken_gain(e, p.at(Square::of_index(target))) + more,
                 from: from as u8,
                 target: target as u8,
                 promote,
             };
-            prizes = prizes.with_prize(prize);
+            top_two = top_two.with_candidate(candidate);
             left = without_lowest(left, target);
         }
-        prizes
+        top_two
     }
 }
 
@@ -133,9 +133,9 @@ fn pinning_squares(p: &Position, lines: Squares, from: Square) -> Squares
     ensures { HoldsPinning p.now from result.bits }
 {
     let _ = p;
-    from.validity();
+    from.reveal_invariant();
     if lines.has(from) {
-        lines & aligned_squares(from.index())
+        lines & line_mask(from.index())
     } else {
         Squares::none()
     }
@@ -143,25 +143,25 @@ fn pinning_squares(p: &Position, lines: Squares, from: Square) -> Squares
 
 /// The threat, if it gains something, where those are the lines of the king of its side.
 #[inline(always)]
-fn threat_by(p: &Position, e: Eval, prize: Prize, lines: Squares) -> Option<Threat>
-    requires prize { IsPrizeIn p.now e prize }
+fn threat_by(p: &Position, e: Eval, candidate: ThreatCandidate, lines: Squares) -> Option<Threat>
+    requires candidate { IsCandidateIn p.now e candidate }
     requires lines { Aligns p.now.cells (opponent_of p.now.side) 0 lines.bits }
     ensures { ForSome result (IsThreatIn p.now e) }
 {
     let _ = e;
-    if prize.gain == 0 {
+    if candidate.gain == 0 {
         return None;
     }
-    let from = Square::of_index(prize.from as usize);
-    let target = Square::of_index(prize.target as usize);
-    let between = squares_between(prize.from as usize, prize.target as usize);
+    let from = Square::of_index(candidate.from as usize);
+    let target = Square::of_index(candidate.target as usize);
+    let between = squares_between(candidate.from as usize, candidate.target as usize);
     Some(Threat {
         way: between.with(from).with(target),
         line: pinning_squares(p, lines, from),
-        gain: prize.gain,
+        gain: candidate.gain,
         from,
         target,
-        promote: prize.promote,
+        promote: candidate.promote,
     })
 }
 
@@ -169,26 +169,26 @@ fn threat_by(p: &Position, e: Eval, prize: Prize, lines: Squares) -> Option<Thre
 pub(crate) fn threats_of(p: &Position, e: Eval) -> Threats
     ensures { AreThreatsIn p.now e result }
 {
-    let lines = line_squares(p, p.side().opponent());
+    let lines = king_line_mask(p, p.side().opponent());
     let board = p.as_board();
     let own = board.own(p.side());
     let theirs = board.own(p.side().opponent());
     let mut left = unpinnable_pieces(p).bits;
     let mut takes = 0;
-    let mut prizes = Prizes::none();
+    let mut top_two = TopTwo::none();
     'attackers: while left != 0 {
         let from = lowest(left);
         let square = Square::of_index(from);
         let attacks = attacks_of(p, square, board.targets(square));
-        takes |= attacks.plain.bits;
-        prizes = prizes.with_ends(p, e, from, false, own & attacks.plain);
-        prizes = prizes.with_ends(p, e, from, true, attacks.promoting.without(theirs));
+        takes |= attacks.non_promoting.bits;
+        top_two = top_two.with_ends(p, e, from, false, own & attacks.non_promoting);
+        top_two = top_two.with_ends(p, e, from, true, attacks.promoting.without(theirs));
         left = without_lowest(left, from);
     }
     Threats {
         takes: Squares { bits: takes },
-        greatest: threat_by(p, e, prizes.greatest, lines),
-        second: threat_by(p, e, prizes.second, lines),
+        greatest: threat_by(p, e, top_two.greatest, lines),
+        second: threat_by(p, e, top_two.second, lines),
     }
 }
 
@@ -207,8 +207,8 @@ impl Threat {
     /// The squares on which a move lets the attacker and its way to the target be that puts something
     /// there that slides, or does not.
     #[inline(always)]
-    pub(crate) fn squares_aside(&self, sliding: bool) -> Squares
-        ensures { AreSpared self.now sliding result.bits }
+    pub(crate) fn non_interfering_squares(&self, sliding: bool) -> Squares
+        ensures { AreNonInterfering self.now sliding result.bits }
     {
         let line = if sliding { self.line } else { Squares::none() };
         Squares::all().without(self.way | line)
@@ -216,22 +216,22 @@ impl Threat {
 
     /// Whether a move that puts this on the square lets the attacker and its way to the target be.
     #[inline(always)]
-    fn is_aside(&self, to: Square, put: Option<Piece>) -> bool
-        ensures { result ≡ true → IsSparedAt self.now put to }
+    fn is_non_interfering(&self, to: Square, put: Option<Piece>) -> bool
+        ensures { result ≡ true → SurvivesAt self.now put to }
     {
-        self.squares_aside(slides(put)).has(to)
+        self.non_interfering_squares(slides(put)).has(to)
     }
 
     /// Whether the move, which puts this on its square, lets the attacker, the target and the way
     /// between them be.
     #[inline(always)]
-    fn stands_after(&self, m: &Move, put: Option<Piece>) -> bool
-        ensures { result ≡ true → IsSparedBy self.now put m.now }
+    fn survives(&self, m: &Move, put: Option<Piece>) -> bool
+        ensures { result ≡ true → SurvivesMove self.now put m.now }
     {
         match m {
             Move::Board { from, to, .. } => from.index() != self.target.index()
-                && self.is_aside(*to, put),
-            Move::Drop { to, .. } => self.is_aside(*to, put),
+                && self.is_non_interfering(*to, put),
+            Move::Drop { to, .. } => self.is_non_interfering(*to, put),
         }
     }
 }
@@ -254,7 +254,7 @@ fn gain_if_left(threat: &Option<Threat>, m: &Move, put: Option<Piece>, least: u3
     ensures { (result ≡ least) ⊎ GainsAfter threat.now put m.now result }
 {
     match threat {
-        Some(threat) if threat.gain > least && threat.stands_after(m, put) => threat.gain,
+        Some(threat) if threat.gain > least && threat.survives(m, put) => threat.gain,
         _ => least,
     }
 }
@@ -263,16 +263,16 @@ impl Threats {
     /// Whether such a piece surely takes what the legal move puts on its square, also where that
     /// gives check.
     #[inline(always)]
-    pub(crate) fn has_retake(&self, p: &Position, replies: &Replies, m: &Move) -> bool
+    pub(crate) fn has_retake(&self, p: &Position, replies: &ReplyInfo, m: &Move) -> bool
         requires takes { AreAttacked p.now self.now.takes.bits }
-        requires kept { IsReplies p.now replies.now.sight.bits replies.now.spare.bits }
+        requires consistent { IsReplyInfo p.now replies.now.king_view.bits replies.now.free_movers.bits }
         requires legal { is_legal p.now m.now ≡ true }
         ensures { result ≡ true → ∥ IsTaken p.now m.now ∥₁ }
     {
         if !self.takes.has(end_of(m)) {
             return false;
         }
-        replies.uncovers_nothing(p, m)
+        replies.discovers_no_check(p, m)
     }
 
     /// What the other side gains at least by one of these moves after the legal move, if that gives
@@ -285,7 +285,7 @@ impl Threats {
         ensures gain { 0 < result → TakesAfter p.now e m.now result }
         ensures fits { result ≤ 4000 }
     {
-        m.validity();
+        m.reveal_invariant();
         let put = put_by(p, m);
         let retake = if self.takes.has(end_of(m)) {
             taken_gain(e, put)

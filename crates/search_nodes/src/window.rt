@@ -2,16 +2,16 @@
 
 ghost use Rattle.std.specs.Prelude.{◌≡◌, ◌≤ℤ◌};
 ghost use Rattle.shogi_core.specs.Codes.{code_of};
-ghost use Rattle.minimax.specs.Window.{threshold, code_at};
+ghost use Rattle.minimax.specs.Window.{move_alpha, code_at};
 ghost use Rattle.minimax.specs.declared.bounds.TheConstants.{INFINITY};
 ghost use Rattle.minimax.specs.Minimax.{negated};
 
 use shogi_core::Move;
 
 /// The best so far, and one less for a code that is less than the best move's.
-pub(crate) fn threshold_at(best_value: i32, best_move: &Option<Move>, code: u16) -> i32
+pub(crate) fn move_alpha_at(best_value: i32, best_move: &Option<Move>, code: u16) -> i32
     requires { negated INFINITY ≤ℤ best_value }
-    ensures { result ≡ threshold best_value (code_at best_move.now) code }
+    ensures { result ≡ move_alpha best_value (code_at best_move.now) code }
 {
     match best_move {
         Some(best) if code < best.code() => best_value - 1,
@@ -20,9 +20,9 @@ pub(crate) fn threshold_at(best_value: i32, best_move: &Option<Move>, code: u16)
 }
 
 /// The best so far, and one less for a move of lesser code than the best move.
-pub(crate) fn threshold(best_value: i32, best_move: &Option<Move>, m: &Move) -> i32
+pub(crate) fn move_alpha(best_value: i32, best_move: &Option<Move>, m: &Move) -> i32
     requires { negated INFINITY ≤ℤ best_value }
-    ensures { result ≡ threshold best_value (code_at best_move.now) (code_of m.now) }
+    ensures { result ≡ move_alpha best_value (code_at best_move.now) (code_of m.now) }
 {
-    threshold_at(best_value, best_move, m.code())
+    move_alpha_at(best_value, best_move, m.code())
 }

@@ -63,7 +63,7 @@ impl<T, A: Allocator> Slots<T, A> {
 
     /// States that each id which finds a session has a generation below the next one, and that no more
     /// sessions are open than may be.
-    pub fn validity(&self)
+    pub fn reveal_invariant(&self)
         ensures below { IsBelow self.now }
         ensures few { count self.now ≤ SESSIONS_MAX }
     {
@@ -173,9 +173,9 @@ impl<T, A: Allocator> Slots<T, A> {
     /// on.
     pub fn close(&mut self, id: SessionId) -> Option<T>
         ensures value { result ≡ find self.old id }
-        ensures none { find self.new id ≡ None }
+        ensures if_none { find self.new id ≡ None }
         ensures others { OthersKept self.old self.new id }
-        ensures same { (self.new.max ≡ self.old.max) × (self.new.next ≡ self.old.next) }
+        ensures unchanged { (self.new.max ≡ self.old.max) × (self.new.next ≡ self.old.next) }
         ensures count { OnSome result (count self.new + 1 ≡ count self.old) }
         ensures spent { (other : SessionId) → IsSpent self.old other → IsSpent self.new other }
         ensures absent { IfNone result (self.new ≡ self.old) }

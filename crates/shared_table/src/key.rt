@@ -40,7 +40,7 @@ impl TableKey {
     pub fn of(position: &Position, eval: Eval, depth: u8) -> TableKey
         ensures { result ≡ key_of position.now eval depth }
     {
-        position.validity();
+        position.reveal_invariant();
         let board = position.as_board().words();
         let hands = position.hands();
         TableKey {
@@ -108,7 +108,7 @@ impl TableKey {
 
     /// Whether the position, the evaluation and the depth are the same: exactly where the words are.
     pub fn is_same(&self, other: &TableKey) -> bool
-        ensures same { IsTrue result ↔ (self.now ≡ other.now) }
+        ensures equal { IsTrue result ↔ (self.now ≡ other.now) }
         ensures words { IsTrue result ↔ (words_of self.now ≡ words_of other.now) }
     {
         self.words() == other.words()

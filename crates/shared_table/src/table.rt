@@ -72,7 +72,7 @@ impl<S: BuildHasher + Drop, A: Allocator + Clone> SharedTable<S, A> {
 impl<S: BuildHasher, A: Allocator> SharedTable<S, A> {
     /// Gives proofs that no key is held twice, that there are at most as many entries as the
     /// capacity, which is from 1 to 1,000,000, and that each entry is true.
-    pub fn validity(&self)
+    pub fn reveal_invariant(&self)
         ensures keys { IsDistinct is_same_key (keys_of self.now.pairs) }
         ensures fits { length self.now.pairs ≤ self.now.capacity }
         ensures least { 1 ≤ self.now.capacity }

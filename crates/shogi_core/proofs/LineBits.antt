@@ -20,7 +20,7 @@ use Rattle.shogi_core.specs.Movement.{Cells, away, slides_across, slides, piece_
 use Rattle.shogi_core.proofs.BitLaws.{has_bit-or, has_bit-and, has_bit-none, has_bit-above, has_bit-one, has_bit-mask, mask_fits}
 use Rattle.shogi_core.specs.Rays.{is_on_ray, ray_of, direction_at}
 use Rattle.shogi_core.proofs.Back.{away_is, away_on, leads_is}
-use Rattle.shogi_core.proofs.Uncovered.{some_below_which}
+use Rattle.shogi_core.proofs.Discovered.{some_below_which}
 use Rattle.shogi_core.proofs.RayLaws.{rises, falls, nearer, nearer_down, slides_free, slides_to_first, slides_rising}
 use Rattle.shogi_core.proofs.RayTable.{rays_right}
 use Rattle.shogi_core.specs.declared.ray_table.TheConstants.{RAYS}
@@ -240,7 +240,7 @@ or_one a e = both_ways (has_bit (bit_or a 1) 0) (ap (λ x. has_bit x 0) e ∙ ha
 pub or_one_fits : (a b : ℕ) → a < 2 ^ 81 → bit_or (bit_and a b) 1 < 2 ^ 81
 or_one_fits a b h = or_lt 81 (bit_and a b) 1 (omega (arith, and_le_l a b)) (omega arith)
 
-pub ruleset line_squares = (and_fits, or_one, or_one_fits)
+pub ruleset king_line_mask = (and_fits, or_one, or_one_fits)
 
 has_bit-all : (n : ℕ) → n < 81 → has_bit (2 ^ 81 - 1) n ≡ true
 unfolding has_bit

@@ -9,7 +9,7 @@ use Rattle.shogi_core.specs.Rays.{direction_at, ray_of}
 use Rattle.shogi_core.proofs.Back.{leads_is}
 use Rattle.shogi_core.proofs.Below.{all_below_at}
 use Rattle.shogi_core.proofs.BitLaws.{has_bit-none}
-use Rattle.shogi_core.proofs.Uncovered.{some_below_which}
+use Rattle.shogi_core.proofs.Discovered.{some_below_which}
 use Rattle.shogi_core.proofs.LineBits.{and_fits, bit_there, there_bit, lowest_reached, highest_reached, direction_rises, direction_falls}
 use Rattle.shogi_core.proofs.RayLaws.{slides_bare}
 

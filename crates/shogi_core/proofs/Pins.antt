@@ -20,12 +20,12 @@ use Rattle.shogi_core.specs.Rays.{direction_at, ray_of, is_on_ray}
 use Rattle.shogi_core.proofs.Back.{back_twice}
 use Rattle.shogi_core.proofs.Below.{some_below_at, some_below_no}
 use Rattle.shogi_core.proofs.BitLaws.{same_mask, has_bit-and, has_bit-or, has_bit-one, has_bit-none}
-use Rattle.shogi_core.proofs.Uncovered.{one_of, some_below_which, slides_was}
+use Rattle.shogi_core.proofs.Discovered.{one_of, some_below_which, slides_was}
 use Rattle.shogi_core.proofs.LineBits.{has_bit-ray, and_fits}
 use Rattle.shogi_core.proofs.Nearest.{one_piece}
 use Rattle.shogi_core.proofs.RayLaws.{slides_bare}
 use Rattle.shogi_core.proofs.SeenLaws.{slides_back, slides_back_around, slides_role}
-use Rattle.shogi_core.proofs.Shots.{direction_around, some_of, shot_by, slide_by}
+use Rattle.shogi_core.proofs.SliderAttacks.{direction_around, some_of, shot_by, slide_by}
 
 -- ---- the masks of one direction
 

@@ -9,7 +9,7 @@ use Rattle.shogi_core.specs.Movement.{Cells, away, leads, is_step_empty, is_empt
 use Rattle.shogi_core.proofs.Below.{all_below_at, all_below_yes, some_below_at, some_below_no, some_below_not}
 use Rattle.shogi_core.specs.Rays.{is_on_ray}
 use Rattle.shogi_core.proofs.Back.{away_on, away_is, leads_is, is_leads, times_zero, times_add, one_more, same_test}
-use Rattle.shogi_core.proofs.Uncovered.{some_below_which}
+use Rattle.shogi_core.proofs.Discovered.{some_below_which}
 
 -- indexes rise in the direction
 abbrev pub rises : Offset → Type 0

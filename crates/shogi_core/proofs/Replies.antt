@@ -9,10 +9,10 @@ use Rattle.shogi_core.specs.Lines.{are_lined, is_line_to_king, is_lined_with_kin
 use Rattle.shogi_core.specs.Movement.{Cells, piece_at, reaches, cell_reaches}
 use Rattle.shogi_core.specs.Pieces.{opponent_of}
 use Rattle.shogi_core.proofs.Below.{some_below_not}
-use Rattle.shogi_core.proofs.Uncovered.{check_was_but, reach_was}
+use Rattle.shogi_core.proofs.Discovered.{check_was_but, reach_was}
 
 module _ (old new : Cells) (Left : ℕ → Type 0) (opened : (x : ℕ) → is_none (piece_at new x) ≡ true → (is_none (piece_at old x) ≡ true) ⊎ Left x) where
-  -- where the new piece is seen from no king of the side, and none is uncovered, the side is in no check
+  -- where the new piece is seen from no king of the side, and none is discovered, the side is in no check
   pub no_check : (color : Color) (to : ℕ) → to < 81
       → ((a : ℕ) → is_piece_of (opponent_of color) (piece_at new a) ≡ true → (piece_at old a ≡ piece_at new a) ⊎ (a ≡ to))
       → ((k : ℕ) → is_king color (piece_at new k) ≡ true → piece_at old k ≡ piece_at new k)

@@ -22,7 +22,7 @@ use Rattle.shogi_core.proofs.LineBits.{and_fits, or_fits}
 use Rattle.shogi_core.proofs.RayLaws.{slides_bare}
 use Rattle.shogi_core.specs.Lines.{back, around, are_aligned, are_lined, is_jump, is_near, is_seen}
 use Rattle.shogi_core.proofs.Back.{away_back, leads_is, is_leads, slides_past_back}
-use Rattle.shogi_core.proofs.Uncovered.{same_way, list_any_among, list_any_kept, some_below_which}
+use Rattle.shogi_core.proofs.Discovered.{same_way, list_any_among, list_any_kept, some_below_which}
 
 -- ---- bits
 

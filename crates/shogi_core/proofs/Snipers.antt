@@ -17,7 +17,7 @@ use Rattle.shogi_core.specs.Pieces.{opponent_of}
 use Rattle.shogi_core.proofs.Back.{back_twice, same_test}
 use Rattle.shogi_core.proofs.Below.{some_below_at, some_below_no}
 use Rattle.shogi_core.proofs.BitLaws.{has_bit-or, has_bit-none}
-use Rattle.shogi_core.proofs.Uncovered.{same_way, one_of, some_below_which, slides_was}
+use Rattle.shogi_core.proofs.Discovered.{same_way, one_of, some_below_which, slides_was}
 use Rattle.shogi_core.proofs.SeenLaws.{slides_back, slides_back_around, slides_role, slide_seen, lined_aligned}
 
 -- ---- those on lines with the kings that are gone through

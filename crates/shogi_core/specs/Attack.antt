@@ -62,19 +62,19 @@ is_step_from cells color square from =
     is_piece_of color (piece_at cells from) && cell_steps (piece_at cells from) from square
 
 -- the piece on `from` is of the side, and slides to the square against the direction
-abbrev pub is_shot_from : Cells → Color → ℕ → Offset → ℕ → Bool
-is_shot_from cells color square o from =
+abbrev pub slider_attacks_from : Cells → Color → ℕ → Offset → ℕ → Bool
+slider_attacks_from cells color square o from =
     is_piece_of color (piece_at cells from) && cell_slides_back o (piece_at cells from)
     && slides cells o square from
 
 -- a piece of the side slides to the square against the direction of that number
-unfoldable pub is_shot_along : Cells → Color → ℕ → ℕ → Bool
-is_shot_along cells color square direction =
-    some_below 81 (is_shot_from cells color square (direction_at direction))
+unfoldable pub slider_attacks_along : Cells → Color → ℕ → ℕ → Bool
+slider_attacks_along cells color square direction =
+    some_below 81 (slider_attacks_from cells color square (direction_at direction))
 
 -- a piece of the side slides to the square
-abbrev pub is_shot : Cells → Color → ℕ → Bool
-is_shot cells color square = some_below 8 (is_shot_along cells color square)
+abbrev pub slider_attacks : Cells → Color → ℕ → Bool
+slider_attacks cells color square = some_below 8 (slider_attacks_along cells color square)
 
 -- the piece on `from`, a square of the mask, has a step or a jump to the square
 abbrev pub is_step_among : Cells → ℕ → ℕ → ℕ → Bool
@@ -107,15 +107,15 @@ TellsAttack cells among occupied square answer = (color : Color) (seen : Cells)
     → IsSeenAs cells among occupied color seen → answer ≡ is_attacked seen color square
 
 -- on each board that shows the snipers so, the answer is whether one of the side slides to the square
-abbrev pub TellsShot : Cells → ℕ → ℕ → ℕ → Bool → Type 0
-TellsShot cells square snipers occupied answer = (color : Color) (seen : Cells)
-    → ShowsSnipers cells square snipers occupied color seen → answer ≡ is_shot seen color square
+abbrev pub TellsSliderAttack : Cells → ℕ → ℕ → ℕ → Bool → Type 0
+TellsSliderAttack cells square snipers occupied answer = (color : Color) (seen : Cells)
+    → ShowsSnipers cells square snipers occupied color seen → answer ≡ slider_attacks seen color square
 
 -- the same of slides against the direction of that number
-abbrev pub TellsShotAlong : Cells → ℕ → ℕ → ℕ → ℕ → Bool → Type 0
-TellsShotAlong cells square direction snipers occupied answer = (color : Color) (seen : Cells)
+abbrev pub TellsSliderAttackAlong : Cells → ℕ → ℕ → ℕ → ℕ → Bool → Type 0
+TellsSliderAttackAlong cells square direction snipers occupied answer = (color : Color) (seen : Cells)
     → ShowsSnipers cells square snipers occupied color seen
-    → answer ≡ is_shot_along seen color square direction
+    → answer ≡ slider_attacks_along seen color square direction
 
 -- no piece stands in the direction: each square to which a slide leads is empty
 abbrev pub IsOpenLine : Cells → Offset → ℕ → Type 0

@@ -1,7 +1,7 @@
 //! Attacks and checks, seen from the square that is attacked.
 
 ghost use Rattle.std.specs.Prelude.{◌≡◌, ◌≢◌, ◌<◌, ◌≤◌, ◌^◌, ℕ, true, false, not, None, IfSome, IsNone};
-ghost use Rattle.shogi_core.specs.Attack.{is_attacked, is_open_king, in_check, is_sniper, is_sniping, cell_steps, cell_slides_back, is_step_from, is_step_among, is_shot_along, is_shot, FindsOccupied, FindsPiece, TellsAttack, TellsShot, TellsShotAlong, HasPinned, HasPinnedAlong, OthersAreUnpinned, HasNoStep, StaysIfAttacked, StaysInCheck};
+ghost use Rattle.shogi_core.specs.Attack.{is_attacked, is_open_king, in_check, is_sniper, is_sniping, cell_steps, cell_slides_back, is_step_from, is_step_among, slider_attacks_along, slider_attacks, FindsOccupied, FindsPiece, TellsAttack, TellsSliderAttack, TellsSliderAttackAlong, HasPinned, HasPinnedAlong, OthersAreUnpinned, HasNoStep, StaysIfAttacked, StaysInCheck};
 ghost use Rattle.shogi_core.specs.Below.{some_below};
 ghost use Rattle.shogi_core.specs.Bits.{HasBits, has_bit};
 ghost use Rattle.shogi_core.specs.Cell.{is_king};
@@ -13,7 +13,7 @@ ghost use Rattle.shogi_core.specs.Rays.{direction_at};
 use crate::bits::{has, highest, lowest, with, without_lowest};
 use crate::board::Board;
 use crate::cell::is_king;
-use crate::lines::{DOWN, UP, aligned_squares, slide_squares};
+use crate::lines::{DOWN, UP, line_mask, slide_squares};
 use crate::piece::{Color, Piece, Role};
 use crate::rays::ray;
 use crate::square::Square;
@@ -30,7 +30,7 @@ fn is_open_king(board: &Board, color: Color, square: Square) -> bool
 
 /// The squares on open lines with the square, the first piece on each line included.
 #[tactic(auto, using(crate::proofs::SeenLaws::seen))]
-fn lined_squares(board: &Board, from: usize) -> Squares
+fn open_line_squares(board: &Board, from: usize) -> Squares
     requires { from < 81 }
     ensures squares { HasBits result.bits (are_lined board.now from) }
 {
@@ -39,11 +39,11 @@ fn lined_squares(board: &Board, from: usize) -> Squares
 
 /// The squares from which a piece could reach the square: those on open lines, and knights' jumps.
 #[tactic(auto, using(crate::proofs::SeenLaws::seen))]
-fn seen_squares(board: &Board, from: usize) -> Squares
+fn queen_and_knight_squares(board: &Board, from: usize) -> Squares
     requires { from < 81 }
     ensures squares { HasBits result.bits (is_seen board.now from) }
 {
-    lined_squares(board, from) | jump_squares(from)
+    open_line_squares(board, from) | jump_squares(from)
 }
 
 /// The squares of pieces of the side that slide and are on a line with the square.
@@ -52,7 +52,7 @@ fn sniper_squares(board: &Board, by: Color, from: usize) -> Squares
     requires { from < 81 }
     ensures squares { HasBits result.bits (is_sniper board.now by from) }
 {
-    board.own(by) & board.sliders() & aligned_squares(from)
+    board.own(by) & board.sliders() & line_mask(from)
 }
 
 /// Whether a step or a jump of what stands on the one square leads to the other.
@@ -68,10 +68,10 @@ fn steps_to(cell: Option<Piece>, from: usize, to: usize) -> bool
 }
 
 /// A piece on one of the squares of which a step or a jump leads to the square, if there is one.
-#[tactic(auto, using(crate::proofs::Shots::stepping))]
+#[tactic(auto, using(crate::proofs::SliderAttacks::stepping))]
 fn first_stepper(board: &Board, among: Squares, square: usize) -> Option<usize>
     requires { square < 81 }
-    ensures none { IsNone result → HasNoStep board.now among.bits square }
+    ensures if_none { IsNone result → HasNoStep board.now among.bits square }
     ensures range { IfSome result (λ a. a < 81) }
     ensures steps { IfSome result (λ a. is_step_among board.now among.bits square a ≡ true) }
 {
@@ -106,7 +106,7 @@ fn is_stepped_on(board: &Board, by: Color, square: usize) -> bool
 }
 
 /// Whether what stands there slides against the direction.
-#[tactic(auto, using(crate::proofs::Shots::backing))]
+#[tactic(auto, using(crate::proofs::SliderAttacks::backing))]
 fn slides_back(cell: Option<Piece>, direction: usize) -> bool
     requires { direction < 8 }
     ensures { result ≡ cell_slides_back (direction_at direction) cell }
@@ -124,12 +124,18 @@ fn slides_back(cell: Option<Piece>, direction: usize) -> bool
 }
 
 /// Whether one of the snipers of the square slides to it against the direction.
-#[tactic(auto, using(crate::proofs::Shots::shooting))]
-fn is_shot_on(board: &Board, by: Color, square: usize, direction: usize, snipers: Squares) -> bool
+#[tactic(auto, using(crate::proofs::SliderAttacks::shooting))]
+fn slider_attacks_on(
+    board: &Board,
+    by: Color,
+    square: usize,
+    direction: usize,
+    snipers: Squares,
+) -> bool
     requires direction { direction < 8 }
     requires square { square < 81 }
     requires snipers { HasBits snipers.bits (is_sniper board.now by square) }
-    ensures { result ≡ is_shot_along board.now by square direction }
+    ensures { result ≡ slider_attacks_along board.now by square direction }
 {
     let mut left = slide_squares(board, direction, square).bits & snipers.bits;
     while left != 0 {
@@ -144,7 +150,7 @@ fn is_shot_on(board: &Board, by: Color, square: usize, direction: usize, snipers
 
 /// The same, as a call of its own: in most directions there is no sniper.
 #[inline(never)]
-fn is_shot_apart(
+fn slider_attacks_apart(
     board: &Board,
     by: Color,
     square: usize,
@@ -154,14 +160,14 @@ fn is_shot_apart(
     requires direction { direction < 8 }
     requires square { square < 81 }
     requires snipers { HasBits snipers.bits (is_sniper board.now by square) }
-    ensures { result ≡ is_shot_along board.now by square direction }
+    ensures { result ≡ slider_attacks_along board.now by square direction }
 {
-    is_shot_on(board, by, square, direction, snipers)
+    slider_attacks_on(board, by, square, direction, snipers)
 }
 
 /// The same, answered at once where there is no sniper in the direction.
-#[tactic(auto, using(crate::proofs::Shots::shooting))]
-fn is_shot_along(
+#[tactic(auto, using(crate::proofs::SliderAttacks::shooting))]
+fn slider_attacks_along(
     board: &Board,
     by: Color,
     square: usize,
@@ -171,22 +177,22 @@ fn is_shot_along(
     requires direction { direction < 8 }
     requires square { square < 81 }
     requires snipers { HasBits snipers.bits (is_sniper board.now by square) }
-    ensures { result ≡ is_shot_along board.now by square direction }
+    ensures { result ≡ slider_attacks_along board.now by square direction }
 {
     if ray(direction, square).bits & snipers.bits == 0 {
         return false;
     }
-    is_shot_apart(board, by, square, direction, snipers)
+    slider_attacks_apart(board, by, square, direction, snipers)
 }
 
 /// Whether one of the snipers of the square slides to it.
-fn is_shot(board: &Board, by: Color, square: usize, snipers: Squares) -> bool
+fn slider_attacks(board: &Board, by: Color, square: usize, snipers: Squares) -> bool
     requires square { square < 81 }
     requires snipers { HasBits snipers.bits (is_sniper board.now by square) }
-    ensures { result ≡ is_shot board.now by square }
+    ensures { result ≡ slider_attacks board.now by square }
 {
     for direction in 0..8 {
-        if is_shot_along(board, by, square, direction, snipers) {
+        if slider_attacks_along(board, by, square, direction, snipers) {
             return true;
         }
     }
@@ -238,7 +244,7 @@ fn first_piece(board: &Board, direction: usize, from: usize) -> Option<usize>
 /// Whether one of the snipers of the square slides to it against the direction, where pieces stand
 /// on the occupied squares.
 #[inline(never)]
-fn is_shot_past(
+fn slider_attacks_past(
     board: &Board,
     square: usize,
     direction: usize,
@@ -247,7 +253,7 @@ fn is_shot_past(
 ) -> bool
     requires square { square < 81 }
     requires direction { direction < 8 }
-    ensures { TellsShotAlong board.now square direction snipers.bits occupied.bits result }
+    ensures { TellsSliderAttackAlong board.now square direction snipers.bits occupied.bits result }
 {
     let Some(first) = first_occupied(occupied, direction, square) else {
         return false
@@ -259,7 +265,7 @@ fn is_shot_past(
 }
 
 /// The same, answered at once where there is no sniper in the direction.
-fn is_shot_past_along(
+fn slider_attacks_past_along(
     board: &Board,
     square: usize,
     direction: usize,
@@ -268,22 +274,22 @@ fn is_shot_past_along(
 ) -> bool
     requires square { square < 81 }
     requires direction { direction < 8 }
-    ensures { TellsShotAlong board.now square direction snipers.bits occupied.bits result }
+    ensures { TellsSliderAttackAlong board.now square direction snipers.bits occupied.bits result }
 {
     if ray(direction, square).bits & snipers.bits == 0 {
         return false;
     }
-    is_shot_past(board, square, direction, snipers, occupied)
+    slider_attacks_past(board, square, direction, snipers, occupied)
 }
 
 /// Whether one of the snipers of the square slides to it, where pieces stand on the occupied
 /// squares.
-fn is_shot_among(board: &Board, square: usize, snipers: Squares, occupied: Squares) -> bool
+fn slider_attacks_among(board: &Board, square: usize, snipers: Squares, occupied: Squares) -> bool
     requires { square < 81 }
-    ensures { TellsShot board.now square snipers.bits occupied.bits result }
+    ensures { TellsSliderAttack board.now square snipers.bits occupied.bits result }
 {
     for direction in 0..8 {
-        if is_shot_past_along(board, square, direction, snipers, occupied) {
+        if slider_attacks_past_along(board, square, direction, snipers, occupied) {
             return true;
         }
     }
@@ -293,7 +299,7 @@ fn is_shot_among(board: &Board, square: usize, snipers: Squares, occupied: Squar
 /// Whether one of the snipers of the square slides to it against the direction; where none does,
 /// the mask gets the piece of the side, if there is one, that stands alone before one of them.
 #[inline(never)]
-fn shot_or_pin(
+fn slider_check_or_pin(
     board: &Board,
     side: Color,
     square: usize,
@@ -305,7 +311,7 @@ fn shot_or_pin(
     requires square { square < 81 }
     requires snipers { HasBits snipers.bits (is_sniper board.now (opponent_of side) square) }
     requires fits { pinned.old < 2 ^ 81 }
-    ensures shot { result ≡ is_shot_along board.now (opponent_of side) square direction }
+    ensures shot { result ≡ slider_attacks_along board.now (opponent_of side) square direction }
     ensures fits { pinned.new < 2 ^ 81 }
     ensures kept { (n : ℕ) → has_bit pinned.old n ≡ true → has_bit pinned.new n ≡ true }
     ensures all { result ≡ false → HasPinnedAlong pinned.new board.now side square direction }
@@ -329,8 +335,8 @@ fn shot_or_pin(
 }
 
 /// The same, answered at once where there is no sniper in the direction.
-#[tactic(auto, using(crate::proofs::Shots::shooting))]
-fn shot_or_pin_along(
+#[tactic(auto, using(crate::proofs::SliderAttacks::shooting))]
+fn slider_check_or_pin_along(
     board: &Board,
     side: Color,
     square: usize,
@@ -342,7 +348,7 @@ fn shot_or_pin_along(
     requires square { square < 81 }
     requires snipers { HasBits snipers.bits (is_sniper board.now (opponent_of side) square) }
     requires fits { pinned.old < 2 ^ 81 }
-    ensures shot { result ≡ is_shot_along board.now (opponent_of side) square direction }
+    ensures shot { result ≡ slider_attacks_along board.now (opponent_of side) square direction }
     ensures fits { pinned.new < 2 ^ 81 }
     ensures kept { (n : ℕ) → has_bit pinned.old n ≡ true → has_bit pinned.new n ≡ true }
     ensures all { result ≡ false → HasPinnedAlong pinned.new board.now side square direction }
@@ -350,7 +356,7 @@ fn shot_or_pin_along(
     if ray(direction, square).bits & snipers.bits == 0 {
         return false;
     }
-    shot_or_pin(board, side, square, direction, snipers, pinned)
+    slider_check_or_pin(board, side, square, direction, snipers, pinned)
 }
 
 /// The squares of pieces of the side that stand alone between the square and one of its snipers, or
@@ -358,13 +364,13 @@ fn shot_or_pin_along(
 fn pinned_to(board: &Board, side: Color, square: usize, snipers: Squares) -> Option<Squares>
     requires square { square < 81 }
     requires snipers { HasBits snipers.bits (is_sniper board.now (opponent_of side) square) }
-    ensures shot { IsNone result → is_shot board.now (opponent_of side) square ≡ true }
-    ensures open { IfSome result (λ s. is_shot board.now (opponent_of side) square ≡ false) }
+    ensures shot { IsNone result → slider_attacks board.now (opponent_of side) square ≡ true }
+    ensures open { IfSome result (λ s. slider_attacks board.now (opponent_of side) square ≡ false) }
     ensures all { IfSome result (λ s. HasPinned s.bits board.now side square) }
 {
     let mut pinned = 0;
     for direction in 0..8 {
-        if shot_or_pin_along(board, side, square, direction, snipers, &mut pinned) {
+        if slider_check_or_pin_along(board, side, square, direction, snipers, &mut pinned) {
             return None;
         }
     }
@@ -372,7 +378,7 @@ fn pinned_to(board: &Board, side: Color, square: usize, snipers: Squares) -> Opt
 }
 
 /// The same of the snipers of the square, or `None` where the square is attacked.
-#[tactic(auto, using(crate::proofs::Shots::attacking, crate::proofs::Pins::unpinned))]
+#[tactic(auto, using(crate::proofs::SliderAttacks::attacking, crate::proofs::Pins::unpinned))]
 fn pinned_pieces(board: &Board, side: Color, square: usize) -> Option<Squares>
     requires square { square < 81 }
     ensures attacked { IsNone result → is_attacked board.now (opponent_of side) square ≡ true }
@@ -392,7 +398,7 @@ fn pinned_pieces(board: &Board, side: Color, square: usize) -> Option<Squares>
 
 /// The squares of which something has to come to stand on one where that ends an attack by the side:
 /// that of one attacker, and those on its way.
-fn answering_squares(board: &Board, by: Color, square: usize) -> Squares
+fn evasion_squares_on(board: &Board, by: Color, square: usize) -> Squares
     requires { square < 81 }
     ensures stays { StaysIfAttacked result.bits board.now by square }
 {
@@ -403,7 +409,7 @@ fn answering_squares(board: &Board, by: Color, square: usize) -> Squares
     }
     let snipers = sniper_squares(board, by, square);
     for direction in 0..8 {
-        if is_shot_along(board, by, square, direction, snipers) {
+        if slider_attacks_along(board, by, square, direction, snipers) {
             return slide_squares(board, direction, square);
         }
     }
@@ -413,24 +419,24 @@ fn answering_squares(board: &Board, by: Color, square: usize) -> Squares
 impl Board {
     /// The squares on open lines with the square: on its file, its rank or a diagonal, with no
     /// piece between.
-    pub fn lined(&self, square: Square) -> Squares
+    pub fn open_lines(&self, square: Square) -> Squares
         ensures squares { HasBits result.bits (are_lined self.now square) }
     {
-        square.validity();
-        lined_squares(self, square.index())
+        square.reveal_invariant();
+        open_line_squares(self, square.index())
     }
 
     /// The squares from which a piece could reach the square: those on open lines with it, and a
     /// knight's jump away.
-    pub fn seen(&self, square: Square) -> Squares
+    pub fn queen_and_knight_view(&self, square: Square) -> Squares
         ensures squares { HasBits result.bits (is_seen self.now square) }
     {
-        square.validity();
-        seen_squares(self, square.index())
+        square.reveal_invariant();
+        queen_and_knight_squares(self, square.index())
     }
 
     /// Whether a piece of the side reaches the square, whoever stands there.
-    #[tactic(auto, using(crate::proofs::Shots::attacking))]
+    #[tactic(auto, using(crate::proofs::SliderAttacks::attacking))]
     pub fn is_attacked(&self, by: Color, square: Square) -> bool
         ensures { result ≡ is_attacked self.now by square }
     {
@@ -442,7 +448,7 @@ impl Board {
         if snipers.bits == 0 {
             return false;
         }
-        is_shot(self, by, index, snipers)
+        slider_attacks(self, by, index, snipers)
     }
 
     /// Whether a piece on one of these squares reaches the square where the occupied squares are those
@@ -451,16 +457,16 @@ impl Board {
     pub fn is_attacked_among(&self, square: Square, among: Squares, occupied: Squares) -> bool
         ensures { TellsAttack self.now among.bits occupied.bits square result }
     {
-        square.validity();
+        square.reveal_invariant();
         let index = square.index();
         if is_stepped_on_among(self, among, index) {
             return true;
         }
-        let snipers = among & self.sliders() & aligned_squares(index);
+        let snipers = among & self.sliders() & line_mask(index);
         if snipers.bits == 0 {
             return false;
         }
-        is_shot_among(self, index, snipers, occupied)
+        slider_attacks_among(self, index, snipers, occupied)
     }
 
     /// Whether a king of the side is attacked; a side without a king is never in check.
@@ -482,14 +488,14 @@ impl Board {
     /// Where the side is in check: squares of which a move that moves no king has to end on one to
     /// answer it. They are that of one piece that gives check, and those on its way.
     #[tactic(auto, using(crate::proofs::SeenLaws::open_kings), unfolding(crate::specs::Attack::in_check))]
-    pub fn answers(&self, side: Color) -> Squares
+    pub fn evasion_squares(&self, side: Color) -> Squares
         ensures stays { in_check self.now side ≡ true → StaysInCheck result.bits self.now side }
     {
         let mut left = self.kings(side).bits;
         while left != 0 {
             let king = lowest(left);
             if is_open_king(self, side, Square::of_index(king)) {
-                return answering_squares(self, side.opponent(), king);
+                return evasion_squares_on(self, side.opponent(), king);
             }
             left = without_lowest(left, king);
         }

@@ -35,7 +35,7 @@ pub mod zones;
 pub use board::Board;
 pub use cell::{is_immobile, is_pawn, is_piece_of};
 pub use hands::Hands;
-pub use lines::aligned_squares;
+pub use lines::line_mask;
 pub use moves::{FIRST_DROP, MOVE_CODE_COUNT, Move, SQUARE_CODES};
 pub use piece::{Color, KINDS, Kind, Piece, Role};
 pub use position::Position;

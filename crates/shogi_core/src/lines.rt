@@ -30,7 +30,7 @@ pub const RIGHT: usize = 6;
 pub const UP_RIGHT: usize = 7;
 
 /// The squares on lines with the square, whatever stands between.
-pub fn aligned_squares(from: usize) -> Squares
+pub fn line_mask(from: usize) -> Squares
     requires { from < 81 }
     ensures squares { HasBits result.bits (are_aligned from) }
 {
@@ -40,7 +40,7 @@ pub fn aligned_squares(from: usize) -> Squares
 }
 
 /// The squares that a slide reaches in a direction in which indexes rise.
-#[tactic(auto, using(crate::proofs::LineBits::line_squares))]
+#[tactic(auto, using(crate::proofs::LineBits::king_line_mask))]
 pub fn rising_squares(board: &Board, direction: usize, from: usize) -> Squares
     requires direction { direction < 4 }
     requires from { from < 81 }
@@ -53,7 +53,7 @@ pub fn rising_squares(board: &Board, direction: usize, from: usize) -> Squares
 }
 
 /// The squares that a slide reaches in a direction in which indexes fall.
-#[tactic(auto, using(crate::proofs::LineBits::line_squares))]
+#[tactic(auto, using(crate::proofs::LineBits::king_line_mask))]
 pub fn falling_squares(board: &Board, direction: usize, from: usize) -> Squares
     requires direction { (4 ≤ direction) × (direction < 8) }
     requires from { from < 81 }

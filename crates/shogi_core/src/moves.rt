@@ -83,23 +83,23 @@ impl Move {
 
     /// Gives proofs that the code is that of this move and no other, and does nothing.
     #[tactic(auto, using(crate::proofs::CodesBack::codes_back))]
-    pub fn validity(&self)
+    pub fn reveal_invariant(&self)
         ensures range { code_of self.now < MOVE_CODE_COUNT }
         ensures back { move_of (code_of self.now) ≡ Some self.now }
     {
         match self {
             Move::Board { from, to, .. } => {
-                from.validity();
-                to.validity();
+                from.reveal_invariant();
+                to.reveal_invariant();
             }
-            Move::Drop { to, .. } => to.validity(),
+            Move::Drop { to, .. } => to.reveal_invariant(),
         }
     }
 
     /// The move of a code, or `None` from 13,689 up.
     pub fn of_code(code: u16) -> Option<Move>
         ensures value { result ≡ move_of code }
-        ensures none { IsNone result ↔ (MOVE_CODE_COUNT ≤ code) }
+        ensures if_none { IsNone result ↔ (MOVE_CODE_COUNT ≤ code) }
         ensures back { IfSome result (λ m. code_of m ≡ code) }
     {
         if code < FIRST_DROP {

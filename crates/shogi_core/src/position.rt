@@ -145,9 +145,9 @@ impl Position {
     pub fn king(&self, side: Color) -> Option<Square>
         ensures king { IfSome result (λ k. is_king side (piece_at self.now.cells k) ≡ true) }
         ensures lone { IfSome result (HasNoOtherKing self.now.cells side) }
-        ensures none { IsNone result → HasNoKing self.now.cells side }
+        ensures if_none { IsNone result → HasNoKing self.now.cells side }
     {
-        self.validity();
+        self.reveal_invariant();
         let kings = self.board.kings(side).bits;
         if kings == 0 {
             return None;
@@ -165,14 +165,14 @@ impl Position {
 
     /// Whether the other is the same position, to the last piece in hand.
     pub fn is_same(&self, other: &Position) -> bool
-        ensures same { IsTrue result ↔ (self.now ≡ other.now) }
+        ensures equal { IsTrue result ↔ (self.now ≡ other.now) }
         ensures test { result ≡ is_same_position self.now other.now }
     {
         self == other
     }
 
     /// Gives proofs that the position is valid, and does nothing.
-    pub fn validity(&self)
+    pub fn reveal_invariant(&self)
         ensures { IsValid self.now }
     {
         let _ = &self.board;

@@ -62,7 +62,7 @@ impl Squares {
     pub fn has(self, square: Square) -> bool
         ensures { result ≡ has_bit self.bits square }
     {
-        square.validity();
+        square.reveal_invariant();
         has(self.bits, square.index())
     }
 
@@ -70,7 +70,7 @@ impl Squares {
     pub fn with(self, square: Square) -> Squares
         ensures { (i : ℕ) → has_bit result.bits i ≡ (has_bit self.bits i || i == square) }
     {
-        square.validity();
+        square.reveal_invariant();
         Squares {
             bits: with(self.bits, square.index()),
         }
@@ -80,7 +80,7 @@ impl Squares {
     pub fn except(self, square: Square) -> Squares
         ensures { (i : ℕ) → has_bit result.bits i ≡ (has_bit self.bits i && not (i == square)) }
     {
-        square.validity();
+        square.reveal_invariant();
         Squares {
             bits: without(self.bits, square.index()),
         }
@@ -116,7 +116,7 @@ impl Squares {
     /// The first that passes the test, if there is one.
     pub fn find<F: Fn(Square) -> bool>(self, test: F) -> Option<Square>
         requires { F.IsAlwaysCallable test }
-        ensures none { IsNone result → NonePasses (F.post test) self.bits 81 }
+        ensures if_none { IsNone result → NonePasses (F.post test) self.bits 81 }
         ensures among { IfSome result (λ n. has_bit self.bits n ≡ true) }
         ensures passes { IfSome result (λ n. F.post test n true) }
         ensures first { IfSome result (NonePasses (F.post test) self.bits) }

@@ -62,7 +62,7 @@ impl Square {
 
 impl Square {
     /// Gives proofs that the index is below 81, and does nothing.
-    pub fn validity(&self)
+    pub fn reveal_invariant(&self)
         ensures { self.now < 81 }
     {
         let _ = &self.index;

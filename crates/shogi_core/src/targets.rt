@@ -118,7 +118,7 @@ impl Board {
     pub fn targets(&self, from: Square) -> Squares
         ensures squares { HasBits result.bits (reaches self.now from) }
     {
-        from.validity();
+        from.reveal_invariant();
         match self.at(from) {
             None => Squares { bits: 0 },
             Some(piece) => self.targets_of(piece, from),

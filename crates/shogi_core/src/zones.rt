@@ -190,7 +190,7 @@ pub fn pawn_files(p: &Position, side: Color) -> Squares
     ensures squares { HasBits result.bits
         (λ n. nat_lt 0 (pawns_on_file side (n / 9) p.now.cells)) }
 {
-    p.validity();
+    p.reveal_invariant();
     let board = p.as_board();
     let steppers = board.own(side).without(board.sliders() | board.kings(side));
     steppers.union(|square| pawn_file(p, side, square))

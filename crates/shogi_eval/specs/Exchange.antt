@@ -16,14 +16,14 @@ use Rattle.shogi_eval.specs.declared.eval.Eval.TheVariants.{Plain, Hand, Exchang
 use Rattle.shogi_eval.specs.Material.{value_of, material_of}
 
 -- what a piece is worth to send into an exchange: its value, a king last
-abbrev pub price_of : Role → ℕ
-price_of King = 10000
-price_of role = value_of role
+abbrev pub exchange_price : Role → ℕ
+exchange_price King = 10000
+exchange_price role = value_of role
 
 -- the same of what takes, twice, and one more where it does not promote
 abbrev pub price_with : Option Piece → Bool → ℕ
 price_with None promote = 0
-price_with (Some piece) promote = 2 * price_of piece.role + cond promote 0 1
+price_with (Some piece) promote = 2 * exchange_price piece.role + cond promote 0 1
 
 abbrev pub price : Shogi → Option Move → ℕ
 price p (Some (Board from to promote)) = price_with (piece_at p.cells from) promote
@@ -83,15 +83,15 @@ abbrev pub best_settled : Shogi → Eval → ℤ
 best_settled p e = most_settled p e captures_max 80
 
 -- what the side to move has after the move that ended a line: its material, and under Exchange, unless that move was quiet, what it has once it settled a square
-abbrev pub left_by : Shogi → Eval → ℕ → ℤ
-left_by p Plain code = material_of (after_code p code) Plain
-left_by p Hand code = material_of (after_code p code) Hand
-left_by p Exchange code =
+abbrev pub leaf_after : Shogi → Eval → ℕ → ℤ
+leaf_after p Plain code = material_of (after_code p code) Plain
+leaf_after p Hand code = material_of (after_code p code) Hand
+leaf_after p Exchange code =
     cond (is_quiet p (move_of code)) (material_of (after_code p code) Exchange)
     (best_settled (after_code p code) Exchange)
 
 -- whether the evaluation settles captures at the end of a line
-abbrev pub settles : Eval → Bool
-settles Plain = false
-settles Hand = false
-settles Exchange = true
+abbrev pub resolves_captures : Eval → Bool
+resolves_captures Plain = false
+resolves_captures Hand = false
+resolves_captures Exchange = true

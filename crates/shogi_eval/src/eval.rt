@@ -2,7 +2,7 @@
 
 ghost use Rattle.std.specs.Prelude.{◌≡◌, ◌↔◌, IsTrue};
 ghost use Rattle.shogi_eval.specs.Evaluated.{is_same_eval};
-ghost use Rattle.shogi_eval.specs.Exchange.{settles};
+ghost use Rattle.shogi_eval.specs.Exchange.{resolves_captures};
 
 /// The values that material is summed by (own choice).
 #[derive(Clone, Copy, Debug, PartialEq, Eq, Hash)]
@@ -18,8 +18,8 @@ pub enum Eval {
 
 impl Eval {
     /// Whether captures and promotions at the end of a line are settled.
-    pub fn settles(self) -> bool
-        ensures { result ≡ settles self }
+    pub fn resolves_captures(self) -> bool
+        ensures { result ≡ resolves_captures self }
     {
         match self {
             Eval::Plain | Eval::Hand => false,
@@ -30,7 +30,7 @@ impl Eval {
     /// Whether the two are one evaluation.
     pub fn is_same(self, other: Eval) -> bool
         ensures value { result ≡ is_same_eval self other }
-        ensures same { IsTrue result ↔ (self ≡ other) }
+        ensures equal { IsTrue result ↔ (self ≡ other) }
     {
         match (self, other) {
             (Eval::Plain, Eval::Plain) => true,

@@ -76,16 +76,16 @@ pub fn score_after(p: &Position, e: Eval, score: i32, m: &Move) -> i32
     requires score { score ≡ material_of p.now e }
     ensures { result ≡ material_of (after p.now m.now) e }
 {
-    p.validity();
+    p.reveal_invariant();
     match m {
         Move::Board { from, to, promote } => {
-            from.validity();
-            to.validity();
+            from.reveal_invariant();
+            to.reveal_invariant();
             let gain = taken_gain(e, p.at(*to)) + promotion_gain(p.at(*from), *promote);
             0 - (score + gain as i32)
         }
         Move::Drop { kind, to } => {
-            to.validity();
+            to.reveal_invariant();
             0 - (score + drop_gain(e, *kind))
         }
     }

@@ -131,7 +131,7 @@ impl Node {
         ensures { IsMaterialAfterDrops self.now kind result }
     {
         let p = self.as_position();
-        p.validity();
+        p.reveal_invariant();
         0 - (self.score() + drop_gain(self.eval(), kind))
     }
 
@@ -141,7 +141,7 @@ impl Node {
         ensures least { (pos 0 -ℤ pos POINTS_MAX) ≤ℤ result }
         ensures most { result ≤ℤ pos POINTS_MAX }
     {
-        self.position.validity();
+        self.position.reveal_invariant();
         self.score
     }
 }

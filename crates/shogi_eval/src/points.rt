@@ -108,7 +108,7 @@ fn points_of(p: &Position, e: Eval, color: Color) -> u32
     ensures value { result ≡ points_of p.now e color }
     ensures range { result ≤ POINTS_MAX }
 {
-    p.validity();
+    p.reveal_invariant();
     points_on_board(p.board().cells(), color) + points_in_hand(p, e, color)
 }
 

@@ -17,7 +17,7 @@ use Rattle.shogi_core.specs.Pieces.{opponent_of, is_same_color, role_of}
 use Rattle.shogi_core.specs.Position.{Shogi}
 use Rattle.shogi_core.proofs.Below.{some_below_no}
 use Rattle.shogi_core.proofs.BitLaws.{has_bit-or}
-use Rattle.shogi_core.proofs.Uncovered.{check_was, attacked_was}
+use Rattle.shogi_core.proofs.Discovered.{check_was, attacked_was}
 use Rattle.shogi_moves.specs.After.{cells_after, piece_moved, dropped}
 use Rattle.shogi_moves.specs.CheckInfo.{IsCheckInfo}
 use Rattle.shogi_moves.proofs.MovedPieces.{is_king-piece_moved}
@@ -46,7 +46,7 @@ own_some side (Some piece) e = refl
 
 -- a piece of the side on a square more opens no line
 pub filled : (cells : Cells) (side : Color) (to : ℕ) (v : Option Piece) → length cells ≡ 81 → to < 81 → is_piece_of side v ≡ true → is_king side v ≡ false → in_check cells side ≡ false → in_check (set cells to v) side ≡ false
-filled cells side to v len ht own plain safe =
+filled cells side to v len ht own non_promoting safe =
     check_was cells (set cells to v) (λ x. ⊥)
     (λ x e. elim (look x) [
       | inl there ↦ absurd (both_ways (is_none v) (own_some side v own) (ap is_none (sym there) ∙ e))
@@ -58,7 +58,7 @@ filled cells side to v len ht own plain safe =
       | inr same ↦ sym same
     ])
     (λ x e. elim (look x) [
-      | inl there ↦ absurd (both_ways (is_king side v) plain (ap (is_king side) (sym there) ∙ e))
+      | inl there ↦ absurd (both_ways (is_king side v) non_promoting (ap (is_king side) (sym there) ∙ e))
       | inr same ↦ sym same
     ])
     (λ x left. absurd left)
@@ -116,7 +116,7 @@ module _ (cells : Cells) (side : Color) (from to : ℕ) (v : Option Piece) (len 
   ]
 
   pub quiet_set : is_piece_of side v ≡ true → is_king side v ≡ false → is_lined_with_king cells side from ≡ false → in_check cells side ≡ false → in_check (set (set cells from None) to v) side ≡ false
-  quiet_set own plain free safe =
+  quiet_set own non_promoting free safe =
       check_was cells (set (set cells from None) to v) (λ x. x ≡ from)
       (λ x e. elim (look x) [
         | inl there ↦ absurd (both_ways (is_none v) (own_some side v own) (ap is_none (sym there.1) ∙ e))
@@ -128,7 +128,7 @@ module _ (cells : Cells) (side : Color) (from to : ℕ) (v : Option Piece) (len 
         | inr rest ↦ elim rest [ inl here ↦ absurd (let clash : false ≡ true = ap (is_piece_of (opponent_of side)) (sym here.1) ∙ e in cc) | inr same ↦ sym same ]
       ])
       (λ k e. elim (look k) [
-        | inl there ↦ absurd (both_ways (is_king side v) plain (ap (is_king side) (sym there.1) ∙ e))
+        | inl there ↦ absurd (both_ways (is_king side v) non_promoting (ap (is_king side) (sym there.1) ∙ e))
         | inr rest ↦ elim rest [ inl here ↦ absurd (let clash : false ≡ true = ap (is_king side) (sym here.1) ∙ e in cc) | inr same ↦ sym same ]
       ])
       (λ x left. subst (λ (y : ℕ). is_lined_with_king cells side y ≡ false) (sym left) free)
@@ -136,7 +136,7 @@ module _ (cells : Cells) (side : Color) (from to : ℕ) (v : Option Piece) (len 
 
   -- a move of no king that ends on none of the squares leaves the check
   pub stays_set : (m : ℕ) → StaysInCheck m cells side → has_bit m to ≡ false → is_piece_of side (piece_at cells from) ≡ true → is_king side (piece_at cells from) ≡ false → is_king side (piece_at cells to) ≡ false → in_check (set (set cells from None) to v) side ≡ true
-  stays_set m stays out own plain bare =
+  stays_set m stays out own non_promoting bare =
       stays (set (set cells from None) to v) to ht out
       (record {
         empty = λ x e. elim (look x) [
@@ -154,7 +154,7 @@ module _ (cells : Cells) (side : Color) (from to : ℕ) (v : Option Piece) (len 
       (λ k e. elim (look k) [
         | inl there ↦ absurd (both_ways (is_king side (piece_at cells to)) bare (subst (λ (y : ℕ). is_king side (piece_at cells y) ≡ true) there.0 e))
         | inr rest ↦ elim rest [
-          | inl here ↦ absurd (both_ways (is_king side (piece_at cells from)) plain (subst (λ (y : ℕ). is_king side (piece_at cells y) ≡ true) here.0 e))
+          | inl here ↦ absurd (both_ways (is_king side (piece_at cells from)) non_promoting (subst (λ (y : ℕ). is_king side (piece_at cells y) ≡ true) here.0 e))
           | inr same ↦ same
         ]
       ])
@@ -196,8 +196,8 @@ module _ (cells : Cells) (side : Color) (from to : ℕ) (v : Option Piece) (len 
 
 pub quiet_board : (cells : Cells) (side : Color) (from to : ℕ) (promote : Bool) → length cells ≡ 81 → from < 81 → to < 81 → is_piece_of side (piece_at cells from) ≡ true → is_king side (piece_at cells from) ≡ false
     → is_lined_with_king cells side from ≡ false → in_check cells side ≡ false → in_check (cells_after cells side (Board from to promote)) side ≡ false
-quiet_board cells side from to promote len hf ht own plain free safe =
-    quiet_set cells side from to (piece_moved promote (piece_at cells from)) len hf ht (is_piece_of-piece_moved side promote (piece_at cells from) ∙ own) (is_king-piece_moved side promote (piece_at cells from) ∙ plain) free safe
+quiet_board cells side from to promote len hf ht own non_promoting free safe =
+    quiet_set cells side from to (piece_moved promote (piece_at cells from)) len hf ht (is_piece_of-piece_moved side promote (piece_at cells from) ∙ own) (is_king-piece_moved side promote (piece_at cells from) ∙ non_promoting) free safe
 
 -- ---- a piece that is dropped
 

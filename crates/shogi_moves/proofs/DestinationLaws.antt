@@ -22,12 +22,12 @@ use Rattle.shogi_core.specs.Movement.{Cells, piece_at, reaches}
 use Rattle.shogi_core.specs.Pieces.{opponent_of, is_same_color, promoted}
 use Rattle.shogi_core.specs.Position.{Shogi, count_in_hand}
 use Rattle.shogi_core.proofs.BitLaws.{has_bit-and, has_bit-none, has_bit-or}
-use Rattle.shogi_core.proofs.Uncovered.{check_was}
+use Rattle.shogi_core.proofs.Discovered.{check_was}
 use Rattle.shogi_core.proofs.CodesBack.{move_of-board, move_of-drop}
 use Rattle.shogi_core.proofs.LineBits.{has_bit-not}
 use Rattle.shogi_moves.specs.After.{piece_moved, cells_after, dropped}
 use Rattle.shogi_moves.specs.Captures.{captures, matches, is_matching}
-use Rattle.shogi_moves.specs.Destinations.{is_destination, is_unchecked, AreDropSquares}
+use Rattle.shogi_moves.specs.Destinations.{is_destination, leaves_king_safe, AreDropSquares}
 use Rattle.shogi_moves.specs.CheckInfo.{IsCheckInfo}
 use Rattle.shogi_moves.specs.Legal.{is_safe, is_legal, is_legal_code, is_pseudo_legal_board_move, is_pawn_kind, is_pawn_drop_mate}
 use Rattle.shogi_core.specs.Zones.{may_promote, is_promotable, in_promotion_zone}
@@ -144,10 +144,10 @@ all_kept true b e = sym e
 all_kept false b e = refl
 
 pub unpinned_kept : (p : Shogi) (checked : Bool) (pinned_or_king destinations from n : ℕ) → IsCheckInfo p checked pinned_or_king → length p.cells ≡ 81 → from < 81 → n < 81 → is_piece_of p.side (piece_at p.cells from) ≡ true → (not checked && not (has_bit pinned_or_king from)) ≡ true
-    → has_bit destinations n ≡ (has_bit destinations n && is_unchecked p (Board from n false))
+    → has_bit destinations n ≡ (has_bit destinations n && leaves_king_safe p (Board from n false))
 unpinned_kept p checked pinned_or_king destinations from n g len hf hn own unpinned =
     let parts : (checked ≡ false) × (has_bit pinned_or_king from ≡ false) = unpinned_parts checked (has_bit pinned_or_king from) unpinned in
-    all_kept (has_bit destinations n) (is_unchecked p (Board from n false))
+    all_kept (has_bit destinations n) (leaves_king_safe p (Board from n false))
     (ap not (unpinned_safe p checked pinned_or_king from n false g len hf hn own parts.0 parts.1))
 
 moved_own : (side : Color) (promote : Bool) (cell : Option Piece) → is_piece_of side (piece_moved promote cell) ≡ is_piece_of side cell
@@ -169,10 +169,10 @@ other_side White (Some piece) e = go piece.color e
 
 -- a piece without which there is no check may end anywhere
 pub free_kept : (p : Shogi) (destinations from n : ℕ) → length p.cells ≡ 81 → from < 81 → n < 81 → is_piece_of p.side (piece_at p.cells from) ≡ true → is_king p.side (piece_at p.cells from) ≡ false → not (in_check (set p.cells from None) p.side) ≡ true
-    → has_bit destinations n ≡ (has_bit destinations n && is_unchecked p (Board from n false))
-free_kept p destinations from n len hf hn own plain free =
-    all_kept (has_bit destinations n) (is_unchecked p (Board from n false))
-    (ap not (filled (set p.cells from None) p.side n (piece_moved false (piece_at p.cells from)) (length-set p.cells from None ∙ len) hn (moved_own p.side false (piece_at p.cells from) ∙ own) (is_king-piece_moved p.side false (piece_at p.cells from) ∙ plain) (not-true _ free)))
+    → has_bit destinations n ≡ (has_bit destinations n && leaves_king_safe p (Board from n false))
+free_kept p destinations from n len hf hn own non_promoting free =
+    all_kept (has_bit destinations n) (leaves_king_safe p (Board from n false))
+    (ap not (filled (set p.cells from None) p.side n (piece_moved false (piece_at p.cells from)) (length-set p.cells from None ∙ len) hn (moved_own p.side false (piece_at p.cells from) ∙ own) (is_king-piece_moved p.side false (piece_at p.cells from) ∙ non_promoting) (not-true _ free)))
 
 -- ---- the king, and answers to a check
 
@@ -186,9 +186,9 @@ narrowed destinations pinned_or_king n u cut = rw (has_bit-and destinations pinn
     go false b u f = refl
 
 pub no_answer : (p : Shogi) (checked : Bool) (pinned_or_king from n : ℕ) → IsCheckInfo p checked pinned_or_king → checked ≡ true → length p.cells ≡ 81 → from < 81 → n < 81 → is_piece_of p.side (piece_at p.cells from) ≡ true → is_king p.side (piece_at p.cells from) ≡ false
-    → has_bit pinned_or_king n ≡ false → is_unchecked p (Board from n false) ≡ false
-no_answer p checked pinned_or_king from n g c len hf hn own plain out =
-    ap not (stays_set p.cells p.side from n (piece_moved false (piece_at p.cells from)) len hf hn pinned_or_king (g.stays c) out own plain (g.kings n hn out))
+    → has_bit pinned_or_king n ≡ false → leaves_king_safe p (Board from n false) ≡ false
+no_answer p checked pinned_or_king from n g c len hf hn own non_promoting out =
+    ap not (stays_set p.cells p.side from n (piece_moved false (piece_at p.cells from)) len hf hn pinned_or_king (g.stays c) out own non_promoting (g.kings n hn out))
 
 pub ruleset unpinned_destinations = (unpinned_kept, free_kept)
 
@@ -201,9 +201,9 @@ alone : (a : Bool) → (a && true) ≡ a
 alone true = refl
 alone false = refl
 
-pub legal_board : (p : Shogi) (from to : ℕ) (promote : Bool) → is_legal p (Board from to promote) ≡ (is_pseudo_legal_board_move p.cells p.side from to promote && is_unchecked p (Board from to promote))
+pub legal_board : (p : Shogi) (from to : ℕ) (promote : Bool) → is_legal p (Board from to promote) ≡ (is_pseudo_legal_board_move p.cells p.side from to promote && leaves_king_safe p (Board from to promote))
 unfolding is_legal is_safe
-legal_board p from to promote = alone (is_pseudo_legal_board_move p.cells p.side from to promote && is_unchecked p (Board from to promote))
+legal_board p from to promote = alone (is_pseudo_legal_board_move p.cells p.side from to promote && leaves_king_safe p (Board from to promote))
 
 matching_destination : (capture : Bool) (side : Color) (cell : Option Piece) → (not (is_piece_of side cell) && matches capture (is_some cell)) ≡ is_destination capture side cell
 matching_destination true side None = refl
@@ -310,7 +310,7 @@ same_tests false false f g = refl
 same_tests true false f g = g refl
 same_tests false true f g = sym (f refl)
 
-pub unchecked_either : (p : Shogi) (from to : ℕ) (promote : Bool) → length p.cells ≡ 81 → to < 81 → is_piece_of p.side (piece_at p.cells from) ≡ true → is_unchecked p (Board from to promote) ≡ is_unchecked p (Board from to false)
+pub unchecked_either : (p : Shogi) (from to : ℕ) (promote : Bool) → length p.cells ≡ 81 → to < 81 → is_piece_of p.side (piece_at p.cells from) ≡ true → leaves_king_safe p (Board from to promote) ≡ leaves_king_safe p (Board from to false)
 unchecked_either p from to promote len ht own = ap not (same_tests (in_check (cells_after p.cells p.side (Board from to promote)) p.side) (in_check (cells_after p.cells p.side (Board from to false)) p.side)
     (unchecked_if p.cells p.side from to promote false len ht own) (unchecked_if p.cells p.side from to false promote len ht own))
 
@@ -441,29 +441,29 @@ mix_all true true true true true = refl
 mix_all true true true true false = refl
 
 legal_board_code : (p : Shogi) (promote : Bool) (from to : ℕ) → length p.cells ≡ 81 → from < 81 → to < 81 → is_piece_of p.side (piece_at p.cells from) ≡ true
-    → is_legal_code p (code_of (Board from to promote)) ≡ (((reaches p.cells from to && not (is_piece_of p.side (piece_at p.cells to))) && is_unchecked p (Board from to false)) && ((not promote || may_promote (piece_at p.cells from) from to) && not (is_immobile to (piece_moved promote (piece_at p.cells from)))))
+    → is_legal_code p (code_of (Board from to promote)) ≡ (((reaches p.cells from to && not (is_piece_of p.side (piece_at p.cells to))) && leaves_king_safe p (Board from to false)) && ((not promote || may_promote (piece_at p.cells from) from to) && not (is_immobile to (piece_moved promote (piece_at p.cells from)))))
 legal_board_code p promote from to len hf ht own =
     is_legal_code_of p (code_of (Board from to promote)) (Board from to promote) (move_of-board from to promote hf ht)
     ∙ (rw (legal_board p from to promote, unchecked_either p from to promote len ht own, own)
-    (mix_all (not (is_piece_of p.side (piece_at p.cells to))) (reaches p.cells from to) (not promote || may_promote (piece_at p.cells from) from to) (not (is_immobile to (piece_moved promote (piece_at p.cells from)))) (is_unchecked p (Board from to false))))
+    (mix_all (not (is_piece_of p.side (piece_at p.cells to))) (reaches p.cells from to) (not promote || may_promote (piece_at p.cells from) from to) (not (is_immobile to (piece_moved promote (piece_at p.cells from)))) (leaves_king_safe p (Board from to false))))
 
 within : (on reach other safe rest : Bool) → (on ≡ true → (reach ≡ true) × (other ≡ false)) → (on && (((reach && not other) && safe) && rest)) ≡ ((on && safe) && rest)
 within false reach other safe rest h = refl
 within true reach other safe rest h = rw ((h refl).0, (h refl).1) refl
 
 legal_within : (p : Shogi) (promote : Bool) (from to among : ℕ) → length p.cells ≡ 81 → from < 81 → to < 81 → is_piece_of p.side (piece_at p.cells from) ≡ true → (has_bit among to ≡ true → (reaches p.cells from to ≡ true) × (is_piece_of p.side (piece_at p.cells to) ≡ false))
-    → (has_bit among to && is_legal_code p (code_of (Board from to promote))) ≡ ((has_bit among to && is_unchecked p (Board from to false)) && ((not promote || may_promote (piece_at p.cells from) from to) && not (is_immobile to (piece_moved promote (piece_at p.cells from)))))
+    → (has_bit among to && is_legal_code p (code_of (Board from to promote))) ≡ ((has_bit among to && leaves_king_safe p (Board from to false)) && ((not promote || may_promote (piece_at p.cells from) from to) && not (is_immobile to (piece_moved promote (piece_at p.cells from)))))
 legal_within p promote from to among len hf ht own way =
     ap (λ b. has_bit among to && b) (legal_board_code p promote from to len hf ht own)
-    ∙ within (has_bit among to) (reaches p.cells from to) (is_piece_of p.side (piece_at p.cells to)) (is_unchecked p (Board from to false)) _ way
+    ∙ within (has_bit among to) (reaches p.cells from to) (is_piece_of p.side (piece_at p.cells to)) (leaves_king_safe p (Board from to false)) _ way
 
-pub plain_destinations : (p : Shogi) (from n among destinations plain : ℕ) → length p.cells ≡ 81 → from < 81 → n < 81 → is_piece_of p.side (piece_at p.cells from) ≡ true → (has_bit among n ≡ true → (reaches p.cells from n ≡ true) × (is_piece_of p.side (piece_at p.cells n) ≡ false))
-    → has_bit destinations n ≡ (has_bit among n && is_unchecked p (Board from n false)) → has_bit plain n ≡ (has_bit destinations n && not (is_immobile n (piece_at p.cells from)))
-    → has_bit plain n ≡ (has_bit among n && is_legal_code p (code_of (Board from n false)))
-plain_destinations p from n among destinations plain len hf hn own way e d = d ∙ (rw e (sym (legal_within p false from n among len hf hn own way ∙ (rw (still n (piece_at p.cells from)) refl))))
+pub plain_destinations : (p : Shogi) (from n among destinations non_promoting : ℕ) → length p.cells ≡ 81 → from < 81 → n < 81 → is_piece_of p.side (piece_at p.cells from) ≡ true → (has_bit among n ≡ true → (reaches p.cells from n ≡ true) × (is_piece_of p.side (piece_at p.cells n) ≡ false))
+    → has_bit destinations n ≡ (has_bit among n && leaves_king_safe p (Board from n false)) → has_bit non_promoting n ≡ (has_bit destinations n && not (is_immobile n (piece_at p.cells from)))
+    → has_bit non_promoting n ≡ (has_bit among n && is_legal_code p (code_of (Board from n false)))
+plain_destinations p from n among destinations non_promoting len hf hn own way e d = d ∙ (rw e (sym (legal_within p false from n among len hf hn own way ∙ (rw (still n (piece_at p.cells from)) refl))))
 
 pub promoting_destinations : (p : Shogi) (from n among destinations promoting : ℕ) → length p.cells ≡ 81 → from < 81 → n < 81 → is_piece_of p.side (piece_at p.cells from) ≡ true → (has_bit among n ≡ true → (reaches p.cells from n ≡ true) × (is_piece_of p.side (piece_at p.cells n) ≡ false))
-    → has_bit destinations n ≡ (has_bit among n && is_unchecked p (Board from n false)) → has_bit promoting n ≡ (has_bit destinations n && may_promote (piece_at p.cells from) from n)
+    → has_bit destinations n ≡ (has_bit among n && leaves_king_safe p (Board from n false)) → has_bit promoting n ≡ (has_bit destinations n && may_promote (piece_at p.cells from) from n)
     → has_bit promoting n ≡ (has_bit among n && is_legal_code p (code_of (Board from n true)))
 promoting_destinations p from n among destinations promoting len hf hn own way e m = m ∙ (rw e (sym (legal_within p true from n among len hf hn own way ∙ (rw (alive from n (piece_at p.cells from)) refl))))
 
@@ -487,7 +487,7 @@ pub ruleset entering_bits = (entering_all)
 legal_way : (p : Shogi) (promote : Bool) (from to : ℕ) → from < 81 → to < 81 → is_legal_code p (code_of (Board from to promote)) ≡ true → (reaches p.cells from to ≡ true) × (is_piece_of p.side (piece_at p.cells to) ≡ false)
 legal_way p promote from to hf ht e =
     let legal = sym (is_legal_code_of p (code_of (Board from to promote)) (Board from to promote) (move_of-board from to promote hf ht) ∙ legal_board p from to promote) ∙ e in
-    let four = and_parts _ _ (and_parts (is_pseudo_legal_board_move p.cells p.side from to promote) (is_unchecked p (Board from to promote)) legal).0 in
+    let four = and_parts _ _ (and_parts (is_pseudo_legal_board_move p.cells p.side from to promote) (leaves_king_safe p (Board from to promote)) legal).0 in
     let three = and_parts _ _ four.0 in
     let two = and_parts _ _ three.0 in
     (two.1, not-true _ (and_parts _ _ two.0).1)
@@ -530,14 +530,14 @@ matching_among p capture promote from targets matching destinations hf t s e n h
 
 -- the legal destinations with a choice on promotion
 pub matching_board : (p : Shogi) (capture promote : Bool) (from to : ℕ) → length p.cells ≡ 81 → from < 81 → to < 81 → is_piece_of p.side (piece_at p.cells from) ≡ true
-    → is_matching p capture (code_of (Board from to promote)) ≡ (((reaches p.cells from to && is_destination capture p.side (piece_at p.cells to)) && is_unchecked p (Board from to false)) && ((not promote || may_promote (piece_at p.cells from) from to) && not (is_immobile to (piece_moved promote (piece_at p.cells from)))))
+    → is_matching p capture (code_of (Board from to promote)) ≡ (((reaches p.cells from to && is_destination capture p.side (piece_at p.cells to)) && leaves_king_safe p (Board from to false)) && ((not promote || may_promote (piece_at p.cells from) from to) && not (is_immobile to (piece_moved promote (piece_at p.cells from)))))
 matching_board p capture promote from to len hf ht own =
     let end = is_destination capture p.side (piece_at p.cells to) in
     let taken = legal_matching (reaches p.cells from to) end (is_legal_code p (code_of (Board from to promote))) (is_piece_of p.side (piece_at p.cells to)) (matches capture (is_some (piece_at p.cells to))) (legal_way p promote from to hf ht) (matching_destination capture p.side (piece_at p.cells to)) in
     rw (matches_kind_of p (code_of (Board from to promote)) (Board from to promote) (move_of-board from to promote hf ht))
     (sym taken
     ∙ (ap (λ b. (reaches p.cells from to && end) && b) (legal_board_code p promote from to len hf ht own)
-    ∙ within (reaches p.cells from to && end) (reaches p.cells from to) (is_piece_of p.side (piece_at p.cells to)) (is_unchecked p (Board from to false)) _
+    ∙ within (reaches p.cells from to && end) (reaches p.cells from to) (is_piece_of p.side (piece_at p.cells to)) (leaves_king_safe p (Board from to false)) _
     (λ on. (let both = and_parts (reaches p.cells from to) end on in (both.0, not_own capture p.side (piece_at p.cells to) both.1)))))
 
 -- ---- drops
@@ -550,11 +550,11 @@ squares_free p checked pinned_or_king free g len quiet f = λ kind some n h.
     ∙ (sym (alone (is_none (piece_at p.cells n))) ∙ ap (λ (u : Bool). is_none (piece_at p.cells n) && u) (sym (ap not (quiet_drop p.cells p.side kind n len h (sym g.check ∙ quiet)))))
 
 pub squares_tried : (p : Shogi) (checked : Bool) (pinned_or_king free kept : ℕ) → IsCheckInfo p checked pinned_or_king → length p.cells ≡ 81 → checked ≡ true → ((n : ℕ) → n < 81 → has_bit free n ≡ is_none (piece_at p.cells n))
-    → ((n : ℕ) → n < 81 → has_bit kept n ≡ (has_bit (bit_and free pinned_or_king) n && is_unchecked p (Drop kinds.Pawn n))) → AreDropSquares p kept
+    → ((n : ℕ) → n < 81 → has_bit kept n ≡ (has_bit (bit_and free pinned_or_king) n && leaves_king_safe p (Drop kinds.Pawn n))) → AreDropSquares p kept
 squares_tried p checked pinned_or_king free kept g len check f k = λ kind some n h.
     k n h
-    ∙ narrowed free pinned_or_king n (is_unchecked p (Drop kinds.Pawn n)) (λ e out. ap not (stays_drop pinned_or_king p.cells p.side kinds.Pawn n (g.stays check) out h (sym (f n h) ∙ e)))
-    ∙ ap (λ (b : Bool). b && is_unchecked p (Drop kinds.Pawn n)) (f n h)
+    ∙ narrowed free pinned_or_king n (leaves_king_safe p (Drop kinds.Pawn n)) (λ e out. ap not (stays_drop pinned_or_king p.cells p.side kinds.Pawn n (g.stays check) out h (sym (f n h) ∙ e)))
+    ∙ ap (λ (b : Bool). b && leaves_king_safe p (Drop kinds.Pawn n)) (f n h)
     ∙ ap (λ (c : Bool). is_none (piece_at p.cells n) && not c) (same_drop p.cells p.side kinds.Pawn kind n len h)
 
 five : (a b u c d : Bool) → a ≡ true → (((b && u) && c) && d) ≡ ((((a && b) && c) && d) && u)
@@ -580,7 +580,7 @@ unfolding is_safe
 drops_pawn p kind squares dead files n h some pawn s df d ff b =
     has_bit-and (bit_and squares (2 ^ 128 - 1 - dead)) (2 ^ 128 - 1 - files) n
     ∙ (rw (has_bit-and squares (2 ^ 128 - 1 - dead) n, has_bit-not dead n (omega arith) (omega arith), has_bit-not files n (omega arith) (omega arith), s kind some n h, d, b, pawn)
-    (five (nat_lt 0 (count_in_hand p.hands p.side kind)) (is_none (piece_at p.cells n)) (is_unchecked p (Drop kind n)) (not (is_immobile n (dropped p.side kind))) (not (nat_lt 0 (pawns_on_file p.side (n / 9) p.cells))) (lt-ltb 0 (count_in_hand p.hands p.side kind) some)))
+    (five (nat_lt 0 (count_in_hand p.hands p.side kind)) (is_none (piece_at p.cells n)) (leaves_king_safe p (Drop kind n)) (not (is_immobile n (dropped p.side kind))) (not (nat_lt 0 (pawns_on_file p.side (n / 9) p.cells))) (lt-ltb 0 (count_in_hand p.hands p.side kind) some)))
 
 pub drops_other : (p : Shogi) (kind : Kind) (squares dead n : ℕ) → n < 81 → 0 < count_in_hand p.hands p.side kind → is_pawn_kind kind ≡ false → AreDropSquares p squares → dead < 2 ^ 81 → has_bit dead n ≡ is_immobile n (dropped p.side kind)
     → has_bit (bit_and squares (2 ^ 128 - 1 - dead)) n ≡ is_safe p (Drop kind n)
@@ -588,8 +588,8 @@ unfolding is_safe
 drops_other p kind squares dead n h some other s df d =
     has_bit-and squares (2 ^ 128 - 1 - dead) n
     ∙ (rw (has_bit-not dead n (omega arith) (omega arith), s kind some n h, d, other)
-    (sym (alone ((is_none (piece_at p.cells n) && is_unchecked p (Drop kind n)) && not (is_immobile n (dropped p.side kind))))
-    ∙ five (nat_lt 0 (count_in_hand p.hands p.side kind)) (is_none (piece_at p.cells n)) (is_unchecked p (Drop kind n)) (not (is_immobile n (dropped p.side kind))) true (lt-ltb 0 (count_in_hand p.hands p.side kind) some)))
+    (sym (alone ((is_none (piece_at p.cells n) && leaves_king_safe p (Drop kind n)) && not (is_immobile n (dropped p.side kind))))
+    ∙ five (nat_lt 0 (count_in_hand p.hands p.side kind)) (is_none (piece_at p.cells n)) (leaves_king_safe p (Drop kind n)) (not (is_immobile n (dropped p.side kind))) true (lt-ltb 0 (count_in_hand p.hands p.side kind) some)))
 
 pub ruleset safe_dropping = (drops_none, drops_pawn, drops_other)
 

@@ -1,4 +1,4 @@
--- A drop uncovers nothing: the other king is attacked after it by the dropped piece or not at all.
+-- A drop discovers nothing: the other king is attacked after it by the dropped piece or not at all.
 use Rattle.std.proofs.Common.{◌≡◌, ℕ, ◌<◌, ◌⊎◌, Bool, true, false, None, refl, sym, ap, ◌∙◌, arith, inl, inr, length, subst, get_or-set_same, get_or-set_other}
 use Rattle.std.specs.Prelude.{is_none, ◌||◌}
 use Rattle.std.proofs.lemmas.Bool.{cases_eq, both_ways, false_from_ne_true}
@@ -18,7 +18,7 @@ use Rattle.shogi_core.specs.Pieces.{opponent_of}
 use Rattle.shogi_core.specs.Position.{Shogi}
 use Rattle.shogi_core.specs.Lines.{back}
 use Rattle.shogi_core.specs.declared.offset.Offset.{Offset}
-use Rattle.shogi_core.proofs.Uncovered.{check_was_but}
+use Rattle.shogi_core.proofs.Discovered.{check_was_but}
 use Rattle.shogi_core.proofs.SeenLaws.{leads_back}
 use Rattle.shogi_moves.specs.After.{cells_after, dropped}
 use Rattle.shogi_moves.specs.Legal.{is_pawn_drop_mate}

@@ -21,7 +21,7 @@ use Rattle.shogi_core.specs.Position.{Shogi, HandCounts}
 use Rattle.shogi_core.specs.Validity.{IsValid}
 use Rattle.shogi_core.proofs.BitLaws.{has_bit-and, has_bit-none}
 use Rattle.shogi_core.proofs.Faults.{faultless_from}
-use Rattle.shogi_core.proofs.Uncovered.{attacked_was_but, reach_was}
+use Rattle.shogi_core.proofs.Discovered.{attacked_was_but, reach_was}
 use Rattle.shogi_core.proofs.LineBits.{lowest_set, has_bit-not}
 use Rattle.shogi_moves.specs.After.{after, cells_after, piece_moved, dropped}
 use Rattle.shogi_moves.specs.Destinations.{is_mating_square}

@@ -28,7 +28,7 @@ use Rattle.shogi_core.proofs.Faults.{number_below}
 use Rattle.shogi_core.proofs.LineBits.{lowest_set, or_fits}
 use Rattle.shogi_moves.specs.Captures.{is_matching}
 use Rattle.shogi_moves.specs.declared.destinations.Destinations.{Destinations}
-use Rattle.shogi_moves.specs.Destinations.{is_unchecked, AreAllDestinations}
+use Rattle.shogi_moves.specs.Destinations.{leaves_king_safe, AreAllDestinations}
 use Rattle.shogi_moves.specs.CheckInfo.{IsCheckInfo}
 use Rattle.shogi_moves.specs.Legal.{is_safe, is_some_and_safe, is_safe_code, is_legal, is_legal_code, is_pawn_kind, is_pseudo_legal_board_move}
 use Rattle.shogi_moves.specs.LegalMoves.{legal_from, legal_codes}
@@ -49,11 +49,11 @@ check_info_rough p checked e = record {
 }
 
 -- a piece without an end has no move
-pub piece_without : (p : Shogi) (from : ℕ) (d : Destinations) → from < 81 → AreAllDestinations p from d → bit_or d.plain.bits d.promoting.bits ≡ 0 → legal_from p (from * SQUARE_CODES) ≡ legal_from p ((from + 1) * SQUARE_CODES)
+pub piece_without : (p : Shogi) (from : ℕ) (d : Destinations) → from < 81 → AreAllDestinations p from d → bit_or d.non_promoting.bits d.promoting.bits ≡ 0 → legal_from p (from * SQUARE_CODES) ≡ legal_from p ((from + 1) * SQUARE_CODES)
 piece_without p from d hf all none = run_without p (from * SQUARE_CODES) ((from + 1) * SQUARE_CODES) (omega arith) (omega arith) (λ c low high. (
-    let out = either d.plain.bits d.promoting.bits (c / 2 % 81) none in
+    let out = either d.non_promoting.bits d.promoting.bits (c / 2 % 81) none in
     elim (at_code from c low (omega arith)) [
-      | inl at ↦ ap (is_legal_code p) at ∙ (sym (all.plain (c / 2 % 81) (omega arith)) ∙ out.0)
+      | inl at ↦ ap (is_legal_code p) at ∙ (sym (all.non_promoting (c / 2 % 81) (omega arith)) ∙ out.0)
       | inr at ↦ ap (is_legal_code p) at ∙ (sym (all.promoting (c / 2 % 81) (omega arith)) ∙ out.1)
     ]))
 
@@ -74,12 +74,12 @@ pub some_legal : (p : Shogi) (code : ℕ) → is_legal_code p code ≡ true → 
 some_legal p code e none = let clash : false ≡ true = ap (λ codes. is_in code codes) (sym none) ∙ in_legal p 0 code (omega arith) e in cc
 
 -- a piece with an end has a move
-pub piece_with : (p : Shogi) (from : ℕ) (d : Destinations) → AreAllDestinations p from d → bit_or d.plain.bits d.promoting.bits ≢ 0 → legal_codes p ≢ []
+pub piece_with : (p : Shogi) (from : ℕ) (d : Destinations) → AreAllDestinations p from d → bit_or d.non_promoting.bits d.promoting.bits ≢ 0 → legal_codes p ≢ []
 piece_with p from d all some =
-    let to : ℕ = trailing_zeros w128 (bit_or d.plain.bits d.promoting.bits) in
-    let low = lowest_set (bit_or d.plain.bits d.promoting.bits) some (or_fits d.plain.bits d.promoting.bits d.plain.fits d.promoting.fits) in
-    elim (or_cases (has_bit d.plain.bits to) (has_bit d.promoting.bits to) (sym (has_bit-or d.plain.bits d.promoting.bits to) ∙ low.1)) [
-      | inl here ↦ some_legal p (code_of (Board from to false)) (sym (all.plain to low.0) ∙ here)
+    let to : ℕ = trailing_zeros w128 (bit_or d.non_promoting.bits d.promoting.bits) in
+    let low = lowest_set (bit_or d.non_promoting.bits d.promoting.bits) some (or_fits d.non_promoting.bits d.promoting.bits d.non_promoting.fits d.promoting.fits) in
+    elim (or_cases (has_bit d.non_promoting.bits to) (has_bit d.promoting.bits to) (sym (has_bit-or d.non_promoting.bits d.promoting.bits to) ∙ low.1)) [
+      | inl here ↦ some_legal p (code_of (Board from to false)) (sym (all.non_promoting to low.0) ∙ here)
       | inr here ↦ some_legal p (code_of (Board from to true)) (sym (all.promoting to low.0) ∙ here)
     ]
 
@@ -100,7 +100,7 @@ king_lives side (Some piece) t e = go piece.color piece.role (and_parts (is_same
     go color _ h = absurd (cc)
 
 -- a king that is not attacked on the square to which it goes has a legal move
-pub king_move : (p : Shogi) (from to : ℕ) → from < 81 → to < 81 → is_king p.side (piece_at p.cells from) ≡ true → (reaches p.cells from to ≡ true) × (is_piece_of p.side (piece_at p.cells to) ≡ false) → is_unchecked p (Board from to false) ≡ true → legal_codes p ≢ []
+pub king_move : (p : Shogi) (from to : ℕ) → from < 81 → to < 81 → is_king p.side (piece_at p.cells from) ≡ true → (reaches p.cells from to ≡ true) × (is_piece_of p.side (piece_at p.cells to) ≡ false) → leaves_king_safe p (Board from to false) ≡ true → legal_codes p ≢ []
 king_move p from to hf ht king way safe =
     let own : is_piece_of p.side (piece_at p.cells from) ≡ true = king_own p.side (piece_at p.cells from) king in
     let alive : is_immobile to (piece_at p.cells from) ≡ false = king_lives p.side (piece_at p.cells from) to king in

@@ -14,11 +14,11 @@ use Rattle.shogi_core.specs.Pieces.{opponent_of}
 use Rattle.shogi_core.specs.Position.{Shogi}
 use Rattle.shogi_core.specs.Rays.{direction_at}
 use Rattle.shogi_core.proofs.Below.{some_below_at, some_below_not}
-use Rattle.shogi_core.proofs.Uncovered.{attacked_was, attacked_was_but, slides_was, some_below_which}
+use Rattle.shogi_core.proofs.Discovered.{attacked_was, attacked_was_but, slides_was, some_below_which}
 use Rattle.shogi_core.proofs.SeenLaws.{lined_aligned, reaches_near, slides_back_around}
-use Rattle.shogi_core.proofs.Shots.{shot_by, slide_by}
+use Rattle.shogi_core.proofs.SliderAttacks.{shot_by, slide_by}
 use Rattle.shogi_moves.specs.After.{piece_moved}
-use Rattle.shogi_moves.specs.Destinations.{is_unchecked}
+use Rattle.shogi_moves.specs.Destinations.{leaves_king_safe}
 use Rattle.shogi_moves.proofs.CheckInfoLaws.{king_set, other_side}
 use Rattle.shogi_moves.proofs.MovedPieces.{is_king-piece_moved}
 
@@ -74,7 +74,7 @@ king_own side None e = e
 king_own side (Some piece) e = search rules
 
 pub king_steps : (p : Shogi) (from to : ℕ) (found : Bool) → length p.cells ≡ 81 → from < 81 → to < 81 → is_king p.side (piece_at p.cells from) ≡ true → ((x : ℕ) → x < 81 → x ≢ from → is_king p.side (piece_at p.cells x) ≡ false)
-    → found ≡ is_attacked (set p.cells from None) (opponent_of p.side) to → not found ≡ is_unchecked p (Board from to false)
+    → found ≡ is_attacked (set p.cells from None) (opponent_of p.side) to → not found ≡ leaves_king_safe p (Board from to false)
 king_steps p from to found len hf ht king lone is = ap not (which found is)
   where
     v : Option Piece

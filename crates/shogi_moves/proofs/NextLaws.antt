@@ -53,19 +53,19 @@ destinations_from p promote from code destinations less to bits low falls rises 
     first n true = omega arith
     first n false = omega arith
 
-module _ (p : Shogi) (from code plain promoting : ℕ) (hf : from < 81) (low : from * SQUARE_CODES ≤ code) (a : Keeps (is_legal_code p) (λ n. code_of (Board from n false)) code plain) (b : Keeps (is_legal_code p) (λ n. code_of (Board from n true)) code promoting) where
-  pub no_destination : code ≤ from * SQUARE_CODES + SQUARE_CODES → bit_or plain promoting ≡ 0 → legal_from p code ≡ legal_from p (from * SQUARE_CODES + SQUARE_CODES)
-  no_destination high none = run_without p code (from * SQUARE_CODES + SQUARE_CODES) high (omega arith) (fails_all (is_legal_code p) from code plain promoting low a b none)
+module _ (p : Shogi) (from code non_promoting promoting : ℕ) (hf : from < 81) (low : from * SQUARE_CODES ≤ code) (a : Keeps (is_legal_code p) (λ n. code_of (Board from n false)) code non_promoting) (b : Keeps (is_legal_code p) (λ n. code_of (Board from n true)) code promoting) where
+  pub no_destination : code ≤ from * SQUARE_CODES + SQUARE_CODES → bit_or non_promoting promoting ≡ 0 → legal_from p code ≡ legal_from p (from * SQUARE_CODES + SQUARE_CODES)
+  no_destination high none = run_without p code (from * SQUARE_CODES + SQUARE_CODES) high (omega arith) (fails_all (is_legal_code p) from code non_promoting promoting low a b none)
 
   -- without promotion first
-  pub least_destination : (to : ℕ) → to < 81 → ((n : ℕ) → has_bit (bit_or plain promoting) n ≡ true → to ≤ n) → has_bit (bit_or plain promoting) to ≡ true → IsLeast p code (Board from to (not (has_bit plain to)))
-  least_destination to ht least set = elim (cases_Bool (has_bit plain to)) [
+  pub least_destination : (to : ℕ) → to < 81 → ((n : ℕ) → has_bit (bit_or non_promoting promoting) n ≡ true → to ≤ n) → has_bit (bit_or non_promoting promoting) to ≡ true → IsLeast p code (Board from to (not (has_bit non_promoting to)))
+  least_destination to ht least set = elim (cases_Bool (has_bit non_promoting to)) [
     | inl here ↦ (
         let at : (code ≤ code_of (Board from to false)) × (is_legal_code p (code_of (Board from to false)) ≡ true) = a.set to ht here in
-        rw here (least_at p code (Board from to false) (move_of-board from to false hf ht) (omega arith) at.0 at.1 (fails_to_plain (is_legal_code p) from code plain promoting low a b to ht least)))
+        rw here (least_at p code (Board from to false) (move_of-board from to false hf ht) (omega arith) at.0 at.1 (fails_to_plain (is_legal_code p) from code non_promoting promoting low a b to ht least)))
     | inr out ↦ (
-        let at : (code ≤ code_of (Board from to true)) × (is_legal_code p (code_of (Board from to true)) ≡ true) = b.set to ht (elim (or_cases (has_bit plain to) (has_bit promoting to) (sym (has_bit-or plain promoting to) ∙ set)) [ inl one ↦ absurd (both_ways (has_bit plain to) out one) | inr other ↦ other ]) in
-        rw out (least_at p code (Board from to true) (move_of-board from to true hf ht) (omega arith) at.0 at.1 (fails_to_promoting (is_legal_code p) from code plain promoting low a b to ht least out)))
+        let at : (code ≤ code_of (Board from to true)) × (is_legal_code p (code_of (Board from to true)) ≡ true) = b.set to ht (elim (or_cases (has_bit non_promoting to) (has_bit promoting to) (sym (has_bit-or non_promoting promoting to) ∙ set)) [ inl one ↦ absurd (both_ways (has_bit non_promoting to) out one) | inr other ↦ other ]) in
+        rw out (least_at p code (Board from to true) (move_of-board from to true hf ht) (omega arith) at.0 at.1 (fails_to_promoting (is_legal_code p) from code non_promoting promoting low a b to ht least out)))
   ]
 
 pub on_board : (from to : ℕ) (promote : Bool) → from < 81 → to < 81 → code_of (Board from to promote) < FIRST_DROP

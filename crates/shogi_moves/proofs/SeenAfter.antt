@@ -14,7 +14,7 @@ use Rattle.shogi_core.specs.Pieces.{opponent_of}
 use Rattle.shogi_core.specs.Position.{Shogi}
 use Rattle.shogi_core.proofs.Below.{some_below_at, some_below_no}
 use Rattle.shogi_moves.specs.After.{piece_moved, dropped}
-use Rattle.shogi_moves.specs.Destinations.{is_unchecked}
+use Rattle.shogi_moves.specs.Destinations.{leaves_king_safe}
 use Rattle.shogi_moves.proofs.CheckInfoLaws.{other_side, own_some, is_piece_of-piece_moved, dropped_of, dropped_plain}
 use Rattle.shogi_moves.proofs.KingLaws.{king_own}
 use Rattle.shogi_moves.proofs.MovedPieces.{is_king-piece_moved}
@@ -96,8 +96,8 @@ module _ (cells new : Cells) (side : Color) (to : ℕ) (v : Option Piece) (gone 
   ]
 
   lone_kept : (k : ℕ) → is_king side v ≡ false → HasNoOtherKing cells side k → HasNoOtherKing new side k
-  lone_kept k plain lone x h other = elim (stands x) [
-    | inl there ↦ ap (is_king side) there.1 ∙ plain
+  lone_kept k non_promoting lone x h other = elim (stands x) [
+    | inl there ↦ ap (is_king side) there.1 ∙ non_promoting
     | inr off ↦ elim off.1 [ inl out ↦ ap (is_king side) out.1 | inr same ↦ ap (is_king side) same.1 ∙ lone x h other ]
   ]
 
@@ -141,14 +141,14 @@ module _ (p : Shogi) (from to : ℕ) (promote : Bool) (len : length p.cells ≡ 
     board_seen = seen_after p.cells (moved p from to promote) p.side to (mover p from promote) (λ x. x == from) v_own board_left board_stands theirs among occ lifted occupied t a o l f
 
   -- the only king moves
-  pub king_goes : (found : Bool) → is_king p.side (piece_at p.cells from) ≡ true → HasNoOtherKing p.cells p.side from → found ≡ is_attacked (moved p from to promote) (opponent_of p.side) to → not found ≡ is_unchecked p (Board from to promote)
+  pub king_goes : (found : Bool) → is_king p.side (piece_at p.cells from) ≡ true → HasNoOtherKing p.cells p.side from → found ≡ is_attacked (moved p from to promote) (opponent_of p.side) to → not found ≡ leaves_king_safe p (Board from to promote)
   king_goes found king lone e =
       ap not (e ∙ lone_attacked (moved p from to promote) p.side to ht (ap (is_king p.side) v_there ∙ (is_king-piece_moved p.side promote (piece_at p.cells from) ∙ king))
       (lone_moved p.cells (moved p from to promote) p.side to (mover p from promote) (λ x. x == from) v_own board_left board_stands from (eq-eqb from from refl) lone))
 
   -- another piece moves
   pub king_left : (k : ℕ) (found : Bool) → k < 81 → k ≢ from → is_king p.side (piece_at p.cells k) ≡ true → HasNoOtherKing p.cells p.side k → is_piece_of p.side (piece_at p.cells to) ≡ false
-      → found ≡ is_attacked (moved p from to promote) (opponent_of p.side) k → not found ≡ is_unchecked p (Board from to promote)
+      → found ≡ is_attacked (moved p from to promote) (opponent_of p.side) k → not found ≡ leaves_king_safe p (Board from to promote)
   king_left k found h apart king lone bare e =
       ap not (e ∙ lone_attacked (moved p from to promote) p.side k h
       (ap (is_king p.side) (king_kept p.cells (moved p from to promote) p.side to (mover p from promote) (λ x. x == from) v_own board_left board_stands k (ne_eqb k from apart)
@@ -182,7 +182,7 @@ module _ (p : Shogi) (kind : Kind) (to : ℕ) (len : length p.cells ≡ 81) (ht 
       ])
       o (λ n h. sym (and_true (has_bit occ n))) f
 
-  pub king_left_by_drop : (k : ℕ) (found : Bool) → k < 81 → is_king p.side (piece_at p.cells k) ≡ true → HasNoOtherKing p.cells p.side k → found ≡ is_attacked (with_drop p kind to) (opponent_of p.side) k → not found ≡ is_unchecked p (Drop kind to)
+  pub king_left_by_drop : (k : ℕ) (found : Bool) → k < 81 → is_king p.side (piece_at p.cells k) ≡ true → HasNoOtherKing p.cells p.side k → found ≡ is_attacked (with_drop p kind to) (opponent_of p.side) k → not found ≡ leaves_king_safe p (Drop kind to)
   king_left_by_drop k found h king lone e =
       ap not (e ∙ lone_attacked (with_drop p kind to) p.side k h
       (ap (is_king p.side) (king_kept p.cells (with_drop p kind to) p.side to (dropped p.side kind) (λ x. false) (dropped_of p.side kind) (λ x e. absurd (let clash : false ≡ true = e in cc)) drop_stands k refl

@@ -43,11 +43,11 @@ pub ruleset no_piece = (no_destinations)
 
 -- ---- the lowest end, without or with promotion
 
-pub least_plain : (plain promoting to : ℕ) → ((n : ℕ) → has_bit (bit_or plain promoting) n ≡ true → to ≤ n) → (n : ℕ) → has_bit plain n ≡ true → to ≤ n
-least_plain plain promoting to least n e = least n (has_bit-or plain promoting n ∙ or_left (has_bit plain n) (has_bit promoting n) e)
+pub least_plain : (non_promoting promoting to : ℕ) → ((n : ℕ) → has_bit (bit_or non_promoting promoting) n ≡ true → to ≤ n) → (n : ℕ) → has_bit non_promoting n ≡ true → to ≤ n
+least_plain non_promoting promoting to least n e = least n (has_bit-or non_promoting promoting n ∙ or_left (has_bit non_promoting n) (has_bit promoting n) e)
 
-pub least_promoting : (plain promoting to : ℕ) → ((n : ℕ) → has_bit (bit_or plain promoting) n ≡ true → to ≤ n) → (n : ℕ) → has_bit promoting n ≡ true → to ≤ n
-least_promoting plain promoting to least n e = least n (has_bit-or plain promoting n ∙ or_right (has_bit plain n) (has_bit promoting n) e)
+pub least_promoting : (non_promoting promoting to : ℕ) → ((n : ℕ) → has_bit (bit_or non_promoting promoting) n ≡ true → to ≤ n) → (n : ℕ) → has_bit promoting n ≡ true → to ≤ n
+least_promoting non_promoting promoting to least n e = least n (has_bit-or non_promoting promoting n ∙ or_right (has_bit non_promoting n) (has_bit promoting n) e)
 
 -- ---- what is kept of some squares
 
@@ -95,62 +95,62 @@ keeps_from test place code next mask less to k up falls rises same none = record
 
 -- ---- the destinations of a piece
 
-pub either : (plain promoting n : ℕ) → bit_or plain promoting ≡ 0 → (has_bit plain n ≡ false) × (has_bit promoting n ≡ false)
-either plain promoting n none = or_parts (has_bit plain n) (has_bit promoting n) (sym (has_bit-or plain promoting n) ∙ (ap (λ m. has_bit m n) none ∙ has_bit-none n))
+pub either : (non_promoting promoting n : ℕ) → bit_or non_promoting promoting ≡ 0 → (has_bit non_promoting n ≡ false) × (has_bit promoting n ≡ false)
+either non_promoting promoting n none = or_parts (has_bit non_promoting n) (has_bit promoting n) (sym (has_bit-or non_promoting promoting n) ∙ (ap (λ m. has_bit m n) none ∙ has_bit-none n))
 
 -- neither end below the first is one
-below : (plain promoting to : ℕ) → ((n : ℕ) → has_bit (bit_or plain promoting) n ≡ true → to ≤ n) → (n : ℕ) → n < to → (has_bit plain n ≡ false) × (has_bit promoting n ≡ false)
-below plain promoting to least n h = or_parts (has_bit plain n) (has_bit promoting n) (sym (has_bit-or plain promoting n) ∙ false_from_ne_true (has_bit (bit_or plain promoting) n) (λ e. (let le : to ≤ n = least n e in omega arith)))
+below : (non_promoting promoting to : ℕ) → ((n : ℕ) → has_bit (bit_or non_promoting promoting) n ≡ true → to ≤ n) → (n : ℕ) → n < to → (has_bit non_promoting n ≡ false) × (has_bit promoting n ≡ false)
+below non_promoting promoting to least n h = or_parts (has_bit non_promoting n) (has_bit promoting n) (sym (has_bit-or non_promoting promoting n) ∙ false_from_ne_true (has_bit (bit_or non_promoting promoting) n) (λ e. (let le : to ≤ n = least n e in omega arith)))
 
 -- a code of the piece is that of an end, without or with promotion
 pub at_code : (from c : ℕ) → from * SQUARE_CODES ≤ c → c < from * SQUARE_CODES + SQUARE_CODES → (c ≡ code_of (Board from (c / 2 % 81) false)) ⊎ (c ≡ code_of (Board from (c / 2 % 81) true))
 at_code from c low high = elim (cases_eq (c % 2) 0) [ inl even ↦ inl (omega arith) | inr odd ↦ inr (omega arith) ]
 
 -- the destinations of a piece from a code on, whose codes pass a test
-module _ (test : ℕ → Bool) (from code plain promoting : ℕ) (low : from * SQUARE_CODES ≤ code) (a : Keeps test (λ n. code_of (Board from n false)) code plain) (b : Keeps test (λ n. code_of (Board from n true)) code promoting) where
-  fails_at : (c : ℕ) → code ≤ c → c < from * SQUARE_CODES + SQUARE_CODES → (c ≡ code_of (Board from (c / 2 % 81) false) → has_bit plain (c / 2 % 81) ≡ false) → (c ≡ code_of (Board from (c / 2 % 81) true) → has_bit promoting (c / 2 % 81) ≡ false) → test c ≡ false
+module _ (test : ℕ → Bool) (from code non_promoting promoting : ℕ) (low : from * SQUARE_CODES ≤ code) (a : Keeps test (λ n. code_of (Board from n false)) code non_promoting) (b : Keeps test (λ n. code_of (Board from n true)) code promoting) where
+  fails_at : (c : ℕ) → code ≤ c → c < from * SQUARE_CODES + SQUARE_CODES → (c ≡ code_of (Board from (c / 2 % 81) false) → has_bit non_promoting (c / 2 % 81) ≡ false) → (c ≡ code_of (Board from (c / 2 % 81) true) → has_bit promoting (c / 2 % 81) ≡ false) → test c ≡ false
   fails_at c above under x y = elim (at_code from c (omega arith) under) [
     | inl at ↦ ap test at ∙ a.clear (c / 2 % 81) (omega arith) (x at) (omega arith)
     | inr at ↦ ap test at ∙ b.clear (c / 2 % 81) (omega arith) (y at) (omega arith)
   ]
 
   -- there is none
-  pub fails_all : bit_or plain promoting ≡ 0 → (c : ℕ) → code ≤ c → c < from * SQUARE_CODES + SQUARE_CODES → test c ≡ false
+  pub fails_all : bit_or non_promoting promoting ≡ 0 → (c : ℕ) → code ≤ c → c < from * SQUARE_CODES + SQUARE_CODES → test c ≡ false
   fails_all none c above under =
-      let out = either plain promoting (c / 2 % 81) none in
+      let out = either non_promoting promoting (c / 2 % 81) none in
       fails_at c above under (λ _. out.0) (λ _. out.1)
 
   -- none comes before the lowest
-  pub fails_to_plain : (to : ℕ) → to < 81 → ((n : ℕ) → has_bit (bit_or plain promoting) n ≡ true → to ≤ n) → (c : ℕ) → code ≤ c → c < code_of (Board from to false) → test c ≡ false
+  pub fails_to_plain : (to : ℕ) → to < 81 → ((n : ℕ) → has_bit (bit_or non_promoting promoting) n ≡ true → to ≤ n) → (c : ℕ) → code ≤ c → c < code_of (Board from to false) → test c ≡ false
   fails_to_plain to ht least c above under =
-      let out = below plain promoting to least (c / 2 % 81) (omega arith) in
+      let out = below non_promoting promoting to least (c / 2 % 81) (omega arith) in
       fails_at c above (omega arith) (λ _. out.0) (λ _. out.1)
 
-  pub fails_to_promoting : (to : ℕ) → to < 81 → ((n : ℕ) → has_bit (bit_or plain promoting) n ≡ true → to ≤ n) → has_bit plain to ≡ false → (c : ℕ) → code ≤ c → c < code_of (Board from to true) → test c ≡ false
+  pub fails_to_promoting : (to : ℕ) → to < 81 → ((n : ℕ) → has_bit (bit_or non_promoting promoting) n ≡ true → to ≤ n) → has_bit non_promoting to ≡ false → (c : ℕ) → code ≤ c → c < code_of (Board from to true) → test c ≡ false
   fails_to_promoting to ht least out c above under =
       fails_at c above (omega arith)
       (λ at. elim (cases_eq (c / 2 % 81) to) [
-        | inl same ↦ subst (λ (x : ℕ). has_bit plain x ≡ false) (sym same) out
-        | inr other ↦ (below plain promoting to least (c / 2 % 81) (omega arith)).0
+        | inl same ↦ subst (λ (x : ℕ). has_bit non_promoting x ≡ false) (sym same) out
+        | inr other ↦ (below non_promoting promoting to least (c / 2 % 81) (omega arith)).0
       ])
-      (λ at. (below plain promoting to least (c / 2 % 81) (omega arith)).1)
+      (λ at. (below non_promoting promoting to least (c / 2 % 81) (omega arith)).1)
 
-pub none_left : (p : Shogi) (capture : Bool) (from code plain promoting : ℕ) → KeepsBoard p capture from code plain promoting → bit_or plain promoting ≡ 0 → HasNoneMatching p capture code (from * SQUARE_CODES + SQUARE_CODES)
-none_left p capture from code plain promoting k none = record { none = fails_all (is_matching p capture) from code plain promoting k.low k.plains k.promotings none }
+pub none_left : (p : Shogi) (capture : Bool) (from code non_promoting promoting : ℕ) → KeepsBoard p capture from code non_promoting promoting → bit_or non_promoting promoting ≡ 0 → HasNoneMatching p capture code (from * SQUARE_CODES + SQUARE_CODES)
+none_left p capture from code non_promoting promoting k none = record { none = fails_all (is_matching p capture) from code non_promoting promoting k.low k.plains k.promotings none }
 
-pub keeps_square : (p : Shogi) (capture : Bool) (from plain promoting : ℕ) → ((n : ℕ) → n < 81 → has_bit plain n ≡ is_matching p capture (code_of (Board from n false))) → ((n : ℕ) → n < 81 → has_bit promoting n ≡ is_matching p capture (code_of (Board from n true)))
-    → KeepsBoard p capture from (from * SQUARE_CODES) plain promoting
-keeps_square p capture from plain promoting pb qb = record {
+pub keeps_square : (p : Shogi) (capture : Bool) (from non_promoting promoting : ℕ) → ((n : ℕ) → n < 81 → has_bit non_promoting n ≡ is_matching p capture (code_of (Board from n false))) → ((n : ℕ) → n < 81 → has_bit promoting n ≡ is_matching p capture (code_of (Board from n true)))
+    → KeepsBoard p capture from (from * SQUARE_CODES) non_promoting promoting
+keeps_square p capture from non_promoting promoting pb qb = record {
   low = omega arith;
   high = omega arith;
-  plains = keeps_first (is_matching p capture) (λ n. code_of (Board from n false)) (from * SQUARE_CODES) plain pb (λ n. omega arith);
+  plains = keeps_first (is_matching p capture) (λ n. code_of (Board from n false)) (from * SQUARE_CODES) non_promoting pb (λ n. omega arith);
   promotings = keeps_first (is_matching p capture) (λ n. code_of (Board from n true)) (from * SQUARE_CODES) promoting qb (λ n. omega arith);
 }
 
-pub keeps_matching : (p : Shogi) (capture : Bool) (from targets matching plain promoting : ℕ) → from < 81 → ((n : ℕ) → n < 81 → has_bit targets n ≡ reaches p.cells from n) → ((n : ℕ) → n < 81 → has_bit matching n ≡ is_destination capture p.side (piece_at p.cells n))
-    → ((n : ℕ) → n < 81 → has_bit plain n ≡ (has_bit (bit_and targets matching) n && is_legal_code p (code_of (Board from n false)))) → ((n : ℕ) → n < 81 → has_bit promoting n ≡ (has_bit (bit_and targets matching) n && is_legal_code p (code_of (Board from n true))))
-    → KeepsBoard p capture from (from * SQUARE_CODES) plain promoting
-keeps_matching p capture from targets matching plain promoting hf t s pb qb = keeps_square p capture from plain promoting (matching_among p capture false from targets matching plain hf t s pb) (matching_among p capture true from targets matching promoting hf t s qb)
+pub keeps_matching : (p : Shogi) (capture : Bool) (from targets matching non_promoting promoting : ℕ) → from < 81 → ((n : ℕ) → n < 81 → has_bit targets n ≡ reaches p.cells from n) → ((n : ℕ) → n < 81 → has_bit matching n ≡ is_destination capture p.side (piece_at p.cells n))
+    → ((n : ℕ) → n < 81 → has_bit non_promoting n ≡ (has_bit (bit_and targets matching) n && is_legal_code p (code_of (Board from n false)))) → ((n : ℕ) → n < 81 → has_bit promoting n ≡ (has_bit (bit_and targets matching) n && is_legal_code p (code_of (Board from n true))))
+    → KeepsBoard p capture from (from * SQUARE_CODES) non_promoting promoting
+keeps_matching p capture from targets matching non_promoting promoting hf t s pb qb = keeps_square p capture from non_promoting promoting (matching_among p capture false from targets matching non_promoting hf t s pb) (matching_among p capture true from targets matching promoting hf t s qb)
 
 pub record IsTaken (p : Shogi) (capture : Bool) (code : ℕ) (m : Move) : Type 0 where
   pub next : matching_from p capture code ≡ code_of m ∷ matching_from p capture (code_of m + 1)
@@ -162,49 +162,49 @@ taken_from p capture code m back small low matching none = record {
   legal = (and_parts (is_legal p m) (matches capture (captures p (Some m))) (sym (matching_move p capture m back) ∙ matching)).0;
 }
 
-module _ (p : Shogi) (capture : Bool) (from code plain promoting to : ℕ) (k : KeepsBoard p capture from code plain promoting) (hf : from < 81) (ht : to < 81) (least : (n : ℕ) → has_bit (bit_or plain promoting) n ≡ true → to ≤ n) where
-  plain_above : (n : ℕ) → has_bit plain n ≡ true → to ≤ n
-  plain_above n e = least n (has_bit-or plain promoting n ∙ or_left (has_bit plain n) (has_bit promoting n) e)
+module _ (p : Shogi) (capture : Bool) (from code non_promoting promoting to : ℕ) (k : KeepsBoard p capture from code non_promoting promoting) (hf : from < 81) (ht : to < 81) (least : (n : ℕ) → has_bit (bit_or non_promoting promoting) n ≡ true → to ≤ n) where
+  plain_above : (n : ℕ) → has_bit non_promoting n ≡ true → to ≤ n
+  plain_above n e = least n (has_bit-or non_promoting promoting n ∙ or_left (has_bit non_promoting n) (has_bit promoting n) e)
 
   promoting_above : (n : ℕ) → has_bit promoting n ≡ true → to ≤ n
-  promoting_above n e = least n (has_bit-or plain promoting n ∙ or_right (has_bit plain n) (has_bit promoting n) e)
+  promoting_above n e = least n (has_bit-or non_promoting promoting n ∙ or_right (has_bit non_promoting n) (has_bit promoting n) e)
 
-  pub plain_taken : has_bit plain to ≡ true → IsTaken p capture code (Board from to false)
+  pub plain_taken : has_bit non_promoting to ≡ true → IsTaken p capture code (Board from to false)
   plain_taken e =
       let low : from * SQUARE_CODES ≤ code = k.low in
       let here : (code ≤ code_of (Board from to false)) × (is_matching p capture (code_of (Board from to false)) ≡ true) = k.plains.set to ht e in
-      taken_from p capture code (Board from to false) (move_of-board from to false hf ht) (omega arith) here.0 here.1 (record { none = fails_to_plain (is_matching p capture) from code plain promoting low k.plains k.promotings to ht least })
+      taken_from p capture code (Board from to false) (move_of-board from to false hf ht) (omega arith) here.0 here.1 (record { none = fails_to_plain (is_matching p capture) from code non_promoting promoting low k.plains k.promotings to ht least })
 
-  pub plain_kept : (next : ℕ) → has_bit plain to ≡ true → ((i : ℕ) → has_bit next i ≡ (has_bit plain i && not (i == to))) → KeepsBoard p capture from (code_of (Board from to false) + 1) next promoting
+  pub plain_kept : (next : ℕ) → has_bit non_promoting to ≡ true → ((i : ℕ) → has_bit next i ≡ (has_bit non_promoting i && not (i == to))) → KeepsBoard p capture from (code_of (Board from to false) + 1) next promoting
   plain_kept next e bits =
       let low : from * SQUARE_CODES ≤ code = k.low in
       let here : code ≤ code_of (Board from to false) = (k.plains.set to ht e).0 in
       record {
         low = omega arith;
         high = omega arith;
-        plains = keeps_less (is_matching p capture) (λ n. code_of (Board from n false)) code (code_of (Board from to false) + 1) plain next to k.plains (omega arith) bits (λ n h set other. (let le : to ≤ n = plain_above n set in omega arith)) (omega arith);
+        plains = keeps_less (is_matching p capture) (λ n. code_of (Board from n false)) code (code_of (Board from to false) + 1) non_promoting next to k.plains (omega arith) bits (λ n h set other. (let le : to ≤ n = plain_above n set in omega arith)) (omega arith);
         promotings = keeps_later (is_matching p capture) (λ n. code_of (Board from n true)) code (code_of (Board from to false) + 1) promoting k.promotings (omega arith) (λ n h set. (let le : to ≤ n = promoting_above n set in omega arith));
       }
 
-  pub promoting_set : bit_or plain promoting ≢ 0 → has_bit (bit_or plain promoting) to ≡ true → has_bit plain to ≡ false → has_bit promoting to ≡ true
-  promoting_set some e out = elim (or_cases (has_bit plain to) (has_bit promoting to) (sym (has_bit-or plain promoting to) ∙ e)) [ inl one ↦ absurd (both_ways (has_bit plain to) out one) | inr other ↦ other ]
+  pub promoting_set : bit_or non_promoting promoting ≢ 0 → has_bit (bit_or non_promoting promoting) to ≡ true → has_bit non_promoting to ≡ false → has_bit promoting to ≡ true
+  promoting_set some e out = elim (or_cases (has_bit non_promoting to) (has_bit promoting to) (sym (has_bit-or non_promoting promoting to) ∙ e)) [ inl one ↦ absurd (both_ways (has_bit non_promoting to) out one) | inr other ↦ other ]
 
-  pub promoting_taken : has_bit plain to ≡ false → has_bit promoting to ≡ true → IsTaken p capture code (Board from to true)
+  pub promoting_taken : has_bit non_promoting to ≡ false → has_bit promoting to ≡ true → IsTaken p capture code (Board from to true)
   promoting_taken out e =
       let low : from * SQUARE_CODES ≤ code = k.low in
       let here : (code ≤ code_of (Board from to true)) × (is_matching p capture (code_of (Board from to true)) ≡ true) = k.promotings.set to ht e in
-      taken_from p capture code (Board from to true) (move_of-board from to true hf ht) (omega arith) here.0 here.1 (record { none = fails_to_promoting (is_matching p capture) from code plain promoting low k.plains k.promotings to ht least out })
+      taken_from p capture code (Board from to true) (move_of-board from to true hf ht) (omega arith) here.0 here.1 (record { none = fails_to_promoting (is_matching p capture) from code non_promoting promoting low k.plains k.promotings to ht least out })
 
-  pub promoting_kept : (next : ℕ) → has_bit plain to ≡ false → has_bit promoting to ≡ true → ((i : ℕ) → has_bit next i ≡ (has_bit promoting i && not (i == to))) → KeepsBoard p capture from (code_of (Board from to true) + 1) plain next
+  pub promoting_kept : (next : ℕ) → has_bit non_promoting to ≡ false → has_bit promoting to ≡ true → ((i : ℕ) → has_bit next i ≡ (has_bit promoting i && not (i == to))) → KeepsBoard p capture from (code_of (Board from to true) + 1) non_promoting next
   promoting_kept next out e bits =
       let low : from * SQUARE_CODES ≤ code = k.low in
       let here : code ≤ code_of (Board from to true) = (k.promotings.set to ht e).0 in
       record {
         low = omega arith;
         high = omega arith;
-        plains = keeps_later (is_matching p capture) (λ n. code_of (Board from n false)) code (code_of (Board from to true) + 1) plain k.plains (omega arith) (λ n h set. (
+        plains = keeps_later (is_matching p capture) (λ n. code_of (Board from n false)) code (code_of (Board from to true) + 1) non_promoting k.plains (omega arith) (λ n h set. (
             let le : to ≤ n = plain_above n set in
-            let ne : n ≢ to = λ same. both_ways (has_bit plain to) out (ap (has_bit plain) (sym same) ∙ set) in
+            let ne : n ≢ to = λ same. both_ways (has_bit non_promoting to) out (ap (has_bit non_promoting) (sym same) ∙ set) in
             omega arith));
         promotings = keeps_less (is_matching p capture) (λ n. code_of (Board from n true)) code (code_of (Board from to true) + 1) promoting next to k.promotings (omega arith) bits (λ n h set other. (let le : to ≤ n = promoting_above n set in omega arith)) (omega arith);
       }
@@ -212,14 +212,14 @@ module _ (p : Shogi) (capture : Bool) (from code plain promoting to : ℕ) (k : 
 -- ---- from one piece to the next
 
 -- the present piece has no move left
-pub on_first : (p : Shogi) (capture : Bool) (own left from code plain promoting : ℕ) → from < 81 → KeepsBoard p capture from code plain promoting → bit_or plain promoting ≡ 0
+pub on_first : (p : Shogi) (capture : Bool) (own left from code non_promoting promoting : ℕ) → from < 81 → KeepsBoard p capture from code non_promoting promoting → bit_or non_promoting promoting ≡ 0
     → ((n : ℕ) → n < 81 → has_bit own n ≡ is_piece_of p.side (piece_at p.cells n)) → ((n : ℕ) → n < 81 → from < n → has_bit left n ≡ has_bit own n) → HasMatchingOn p capture code left
-on_first p capture own left from code plain promoting hf k none bits above = record {
+on_first p capture own left from code non_promoting promoting hf k none bits above = record {
   on = λ c low high matching. elim (cases_lt from (c / SQUARE_CODES)) [
     | inl up ↦ (let h : c / SQUARE_CODES < 81 = omega arith in
         above (c / SQUARE_CODES) h up ∙ (bits (c / SQUARE_CODES) h ∙ true_from_ne_false (is_piece_of p.side (piece_at p.cells (c / SQUARE_CODES))) (λ e.
         both_ways (is_matching p capture c) ((none_square p capture (c / SQUARE_CODES) (c / SQUARE_CODES * SQUARE_CODES) (c / SQUARE_CODES * SQUARE_CODES + SQUARE_CODES) h (omega arith) (omega arith) e).none c (omega arith) (omega arith)) matching)))
-    | inr down ↦ absurd (both_ways (is_matching p capture c) ((none_left p capture from code plain promoting k none).none c low (omega arith)) matching)
+    | inr down ↦ absurd (both_ways (is_matching p capture c) ((none_left p capture from code non_promoting promoting k none).none c low (omega arith)) matching)
   ];
 }
 
@@ -231,11 +231,11 @@ mine_first p own left from bits above below n h set = elim (cases_lt from n) [
 ]
 
 -- one more piece that has none
-pub on_less : (p : Shogi) (capture : Bool) (left less from code plain promoting : ℕ) → HasMatchingOn p capture code left → KeepsBoard p capture from (from * SQUARE_CODES) plain promoting → bit_or plain promoting ≡ 0
+pub on_less : (p : Shogi) (capture : Bool) (left less from code non_promoting promoting : ℕ) → HasMatchingOn p capture code left → KeepsBoard p capture from (from * SQUARE_CODES) non_promoting promoting → bit_or non_promoting promoting ≡ 0
     → ((i : ℕ) → has_bit less i ≡ (has_bit left i && not (i == from))) → HasMatchingOn p capture code less
-on_less p capture left less from code plain promoting w k none bits = record {
+on_less p capture left less from code non_promoting promoting w k none bits = record {
   on = λ c low high matching. elim (cases_eq (c / SQUARE_CODES) from) [
-    | inl same ↦ absurd (both_ways (is_matching p capture c) ((none_left p capture from (from * SQUARE_CODES) plain promoting k none).none c (omega arith) (omega arith)) matching)
+    | inl same ↦ absurd (both_ways (is_matching p capture c) ((none_left p capture from (from * SQUARE_CODES) non_promoting promoting k none).none c (omega arith) (omega arith)) matching)
     | inr other ↦ bits (c / SQUARE_CODES) ∙ and_from (has_bit left (c / SQUARE_CODES)) (not (c / SQUARE_CODES == from)) (w.on c low high matching) (ap not (ne_eqb (c / SQUARE_CODES) from other))
   ];
 }
@@ -337,22 +337,22 @@ keeps_nothing test place code squares none over = record {
   clear = λ n h e l. absurd (let less : place n < code = over n h in omega arith);
 }
 
-pub ends_passed : (p : Shogi) (capture : Bool) (from code plain promoting less least to : ℕ) → KeepsBoard p capture from code plain promoting → to ≤ 81 → code ≤ from * SQUARE_CODES + 2 * to
-    → ((i : ℕ) → i < 81 → to ≤ i → has_bit less i ≡ has_bit plain i) → ((i : ℕ) → i < to → has_bit less i ≡ false)
+pub ends_passed : (p : Shogi) (capture : Bool) (from code non_promoting promoting less least to : ℕ) → KeepsBoard p capture from code non_promoting promoting → to ≤ 81 → code ≤ from * SQUARE_CODES + 2 * to
+    → ((i : ℕ) → i < 81 → to ≤ i → has_bit less i ≡ has_bit non_promoting i) → ((i : ℕ) → i < to → has_bit less i ≡ false)
     → ((i : ℕ) → i < 81 → to ≤ i → has_bit least i ≡ has_bit promoting i) → ((i : ℕ) → i < to → has_bit least i ≡ false)
     → KeepsBoard p capture from (from * SQUARE_CODES + 2 * to) less least
-ends_passed p capture from code plain promoting less least to k ht up same none same_promoting none_promoting = record {
+ends_passed p capture from code non_promoting promoting less least to k ht up same none same_promoting none_promoting = record {
   low = omega arith;
   high = omega arith;
-  plains = keeps_from (is_matching p capture) (λ n. code_of (Board from n false)) code (from * SQUARE_CODES + 2 * to) plain less to k.plains up (λ n h. omega arith) (λ n h. omega arith) same none;
+  plains = keeps_from (is_matching p capture) (λ n. code_of (Board from n false)) code (from * SQUARE_CODES + 2 * to) non_promoting less to k.plains up (λ n h. omega arith) (λ n h. omega arith) same none;
   promotings = keeps_from (is_matching p capture) (λ n. code_of (Board from n true)) code (from * SQUARE_CODES + 2 * to) promoting least to k.promotings up (λ n h. omega arith) (λ n h. omega arith) same_promoting none_promoting;
 }
 
-pub no_destinations_kept : (p : Shogi) (capture : Bool) (from plain promoting : ℕ) → plain ≡ 0 → promoting ≡ 0 → KeepsBoard p capture from (from * SQUARE_CODES + SQUARE_CODES) plain promoting
-no_destinations_kept p capture from plain promoting none none_promoting = record {
+pub no_destinations_kept : (p : Shogi) (capture : Bool) (from non_promoting promoting : ℕ) → non_promoting ≡ 0 → promoting ≡ 0 → KeepsBoard p capture from (from * SQUARE_CODES + SQUARE_CODES) non_promoting promoting
+no_destinations_kept p capture from non_promoting promoting none none_promoting = record {
   low = omega arith;
   high = omega arith;
-  plains = keeps_nothing (is_matching p capture) (λ n. code_of (Board from n false)) (from * SQUARE_CODES + SQUARE_CODES) plain none (λ n h. omega arith);
+  plains = keeps_nothing (is_matching p capture) (λ n. code_of (Board from n false)) (from * SQUARE_CODES + SQUARE_CODES) non_promoting none (λ n h. omega arith);
   promotings = keeps_nothing (is_matching p capture) (λ n. code_of (Board from n true)) (from * SQUARE_CODES + SQUARE_CODES) promoting none_promoting (λ n h. omega arith);
 }
 

@@ -88,31 +88,31 @@ pairs p from (suc k) s h l =
     let first = code_more p (from * SQUARE_CODES + s * 2) (omega arith) in
     let second = code_more p (from * SQUARE_CODES + s * 2 + 1) (omega arith) in
     let rest = pairs p from k (s + 1) h (omega arith) in
-    let plain : code_of (Board from (0 + s) false) ≡ from * SQUARE_CODES + s * 2 = omega arith in
+    let non_promoting : code_of (Board from (0 + s) false) ≡ from * SQUARE_CODES + s * 2 = omega arith in
     let promoting : code_of (Board from (0 + s) true) ≡ from * SQUARE_CODES + s * 2 + 1 = omega arith in
     let on : from * SQUARE_CODES + s * 2 + 1 + 1 ≡ from * SQUARE_CODES + (s + 1) * 2 = omega arith in
     let end : from * SQUARE_CODES + (s + 1 + k) * 2 ≡ from * SQUARE_CODES + (s + suc k) * 2 = omega arith in
     let onw = ap (λ (c : ℕ). length (legal_from p c)) on in
     let endw = ap (λ (c : ℕ). length (legal_from p c)) end in
-    let pw = ap (λ (c : ℕ). digit (is_legal_code p c)) plain in
+    let pw = ap (λ (c : ℕ). digit (is_legal_code p c)) non_promoting in
     let qw = ap (λ (c : ℕ). digit (is_legal_code p c)) promoting in
     let pt = tally_same k (λ i. is_legal_code p (code_of (Board from (i + (s + 1)) false))) (λ i. is_legal_code p (code_of (Board from (i + 1 + s) false))) (λ i l. ap (λ (n : ℕ). is_legal_code p (code_of (Board from n false))) (omega arith)) in
     let qt = tally_same k (λ i. is_legal_code p (code_of (Board from (i + (s + 1)) true))) (λ i. is_legal_code p (code_of (Board from (i + 1 + s) true))) (λ i l. ap (λ (n : ℕ). is_legal_code p (code_of (Board from n true))) (omega arith)) in
     omega (arith, first, second, rest, onw, endw, pw, qw, pt, qt)
 
 -- the moves of a piece are as many as the bits of its destinations
-pub counted_board : (p : Shogi) (from plain promoting : ℕ) → from < 81 → plain < 2 ^ 81 → promoting < 2 ^ 81
-    → ((n : ℕ) → n < 81 → has_bit plain n ≡ is_legal_code p (code_of (Board from n false))) → ((n : ℕ) → n < 81 → has_bit promoting n ≡ is_legal_code p (code_of (Board from n true)))
-    → length (legal_from p (from * SQUARE_CODES)) ≡ (count_ones plain + count_ones promoting) + length (legal_from p (from * SQUARE_CODES + SQUARE_CODES))
-counted_board p from plain promoting h pf qf pb qb =
+pub counted_board : (p : Shogi) (from non_promoting promoting : ℕ) → from < 81 → non_promoting < 2 ^ 81 → promoting < 2 ^ 81
+    → ((n : ℕ) → n < 81 → has_bit non_promoting n ≡ is_legal_code p (code_of (Board from n false))) → ((n : ℕ) → n < 81 → has_bit promoting n ≡ is_legal_code p (code_of (Board from n true)))
+    → length (legal_from p (from * SQUARE_CODES)) ≡ (count_ones non_promoting + count_ones promoting) + length (legal_from p (from * SQUARE_CODES + SQUARE_CODES))
+counted_board p from non_promoting promoting h pf qf pb qb =
     let all = pairs p from 81 0 h (omega arith) in
     let start : from * SQUARE_CODES + 0 * 2 ≡ from * SQUARE_CODES = omega arith in
     let startw = ap (λ (c : ℕ). length (legal_from p c)) start in
     let end : from * SQUARE_CODES + (0 + 81) * 2 ≡ from * SQUARE_CODES + SQUARE_CODES = omega arith in
     let endw = ap (λ (c : ℕ). length (legal_from p c)) end in
-    let a = ones_tally 81 plain pf in
+    let a = ones_tally 81 non_promoting pf in
     let b = ones_tally 81 promoting qf in
-    let c = tally_same 81 (has_bit plain) (λ i. is_legal_code p (code_of (Board from (i + 0) false))) (λ i l. pb i l ∙ ap (λ (n : ℕ). is_legal_code p (code_of (Board from n false))) (omega arith)) in
+    let c = tally_same 81 (has_bit non_promoting) (λ i. is_legal_code p (code_of (Board from (i + 0) false))) (λ i l. pb i l ∙ ap (λ (n : ℕ). is_legal_code p (code_of (Board from n false))) (omega arith)) in
     let d = tally_same 81 (has_bit promoting) (λ i. is_legal_code p (code_of (Board from (i + 0) true))) (λ i l. qb i l ∙ ap (λ (n : ℕ). is_legal_code p (code_of (Board from n true))) (omega arith)) in
     omega (arith, all, startw, endw, a, b, c, d)
 
@@ -162,16 +162,16 @@ pub record IsCounted (p : Shogi) (left total : ℕ) : Type 0 where
   pub range : total ≤ first * SQUARE_CODES
 
 -- the next piece is counted
-pub piece_counted : (p : Shogi) (left next total square plain promoting : ℕ) → IsCounted p left total → square < 81 → has_bit left square ≡ true → ((n : ℕ) → has_bit left n ≡ true → square ≤ n) → ((i : ℕ) → has_bit next i ≡ (has_bit left i && not (i == square)))
-    → plain < 2 ^ 81 → promoting < 2 ^ 81 → ((n : ℕ) → n < 81 → has_bit plain n ≡ is_legal_code p (code_of (Board square n false))) → ((n : ℕ) → n < 81 → has_bit promoting n ≡ is_legal_code p (code_of (Board square n true)))
-    → IsCounted p next (total + (count_ones plain + count_ones promoting))
-piece_counted p left next total square plain promoting h range on least less pf qf pb qb =
+pub piece_counted : (p : Shogi) (left next total square non_promoting promoting : ℕ) → IsCounted p left total → square < 81 → has_bit left square ≡ true → ((n : ℕ) → has_bit left n ≡ true → square ≤ n) → ((i : ℕ) → has_bit next i ≡ (has_bit left i && not (i == square)))
+    → non_promoting < 2 ^ 81 → promoting < 2 ^ 81 → ((n : ℕ) → n < 81 → has_bit non_promoting n ≡ is_legal_code p (code_of (Board square n false))) → ((n : ℕ) → n < 81 → has_bit promoting n ≡ is_legal_code p (code_of (Board square n true)))
+    → IsCounted p next (total + (count_ones non_promoting + count_ones promoting))
+piece_counted p left next total square non_promoting promoting h range on least less pf qf pb qb =
     let reached = next_piece p left h.first square h.pieces range on least in
     let same = ap length reached.2 in
-    let block = counted_board p square plain promoting range pf qf pb qb in
+    let block = counted_board p square non_promoting promoting range pf qf pb qb in
     let past : square * SQUARE_CODES + SQUARE_CODES ≡ (square + 1) * SQUARE_CODES = omega arith in
     let pastw = ap (λ (x : ℕ). length (legal_from p x)) past in
-    let a = ones_most plain pf in
+    let a = ones_most non_promoting pf in
     let b = ones_most promoting qf in
     record {
       first = square + 1;
@@ -237,12 +237,12 @@ low_own p low high total square fits above h range on least =
     (next_piece p (bit_or low high) h.first square h.pieces range next.1 next.2).1
 
 -- and is counted next
-pub low_counted : (p : Shogi) (low high next total square plain promoting : ℕ) → low < 2 ^ 64 → IsAbove high → IsCounted p (bit_or low high) total → square < 81 → has_bit low square ≡ true → ((n : ℕ) → has_bit low n ≡ true → square ≤ n) → ((i : ℕ) → has_bit next i ≡ (has_bit low i && not (i == square)))
-    → plain < 2 ^ 81 → promoting < 2 ^ 81 → ((n : ℕ) → n < 81 → has_bit plain n ≡ is_legal_code p (code_of (Board square n false))) → ((n : ℕ) → n < 81 → has_bit promoting n ≡ is_legal_code p (code_of (Board square n true)))
-    → IsCounted p (bit_or next high) (total + (count_ones plain + count_ones promoting))
-low_counted p low high next total square plain promoting fits above h range on least less pf qf pb qb =
+pub low_counted : (p : Shogi) (low high next total square non_promoting promoting : ℕ) → low < 2 ^ 64 → IsAbove high → IsCounted p (bit_or low high) total → square < 81 → has_bit low square ≡ true → ((n : ℕ) → has_bit low n ≡ true → square ≤ n) → ((i : ℕ) → has_bit next i ≡ (has_bit low i && not (i == square)))
+    → non_promoting < 2 ^ 81 → promoting < 2 ^ 81 → ((n : ℕ) → n < 81 → has_bit non_promoting n ≡ is_legal_code p (code_of (Board square n false))) → ((n : ℕ) → n < 81 → has_bit promoting n ≡ is_legal_code p (code_of (Board square n true)))
+    → IsCounted p (bit_or next high) (total + (count_ones non_promoting + count_ones promoting))
+low_counted p low high next total square non_promoting promoting fits above h range on least less pf qf pb qb =
     let lowest = low_next low high square fits above on least in
-    piece_counted p (bit_or low high) (bit_or next high) total square plain promoting h range lowest.1 lowest.2 (λ i. both_less low high next square i lowest.0 above (less i)) pf qf pb qb
+    piece_counted p (bit_or low high) (bit_or next high) total square non_promoting promoting h range lowest.1 lowest.2 (λ i. both_less low high next square i lowest.0 above (less i)) pf qf pb qb
 
 -- those above are left
 pub high_left : (p : Shogi) (low high total : ℕ) → low ≡ 0 → IsCounted p (bit_or low high) total → IsCounted p high total

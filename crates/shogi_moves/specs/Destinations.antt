@@ -38,17 +38,17 @@ abbrev pub is_own_king : Shogi → ℕ → Bool
 is_own_king p n = is_king p.side (piece_at p.cells n)
 
 -- the move leaves the mover's king unattacked
-abbrev pub is_unchecked : Shogi → Move → Bool
-is_unchecked p m = not (in_check (cells_after p.cells p.side m) p.side)
+abbrev pub leaves_king_safe : Shogi → Move → Bool
+leaves_king_safe p m = not (in_check (cells_after p.cells p.side m) p.side)
 
 -- the squares are those of the destinations at which the piece leaves its king unattacked
-abbrev pub AreUncheckedEnds : Shogi → ℕ → ℕ → ℕ → Type 0
-AreUncheckedEnds p from destinations squares =
-    HasThose squares destinations (λ n. is_unchecked p (Board from n false))
+abbrev pub AreKingSafeEnds : Shogi → ℕ → ℕ → ℕ → Type 0
+AreKingSafeEnds p from destinations squares =
+    HasThose squares destinations (λ n. leaves_king_safe p (Board from n false))
 
 -- they are the squares that pass, without promotion and with it
 pub record AreDestinations (test : ℕ → Bool → Bool) (destinations : Destinations) : Type 0 where
-  pub plain : HasBits destinations.plain.bits (λ n. test n false)
+  pub non_promoting : HasBits destinations.non_promoting.bits (λ n. test n false)
   pub promoting : HasBits destinations.promoting.bits (λ n. test n true)
 
 -- they are those of the destinations at which the move of the piece is legal, and all such destinations
@@ -60,9 +60,9 @@ abbrev pub AreAllDestinations : Shogi → ℕ → Destinations → Type 0
 AreAllDestinations p from = AreDestinations (λ n b. is_legal_code p (code_of (Board from n b)))
 
 -- they are those of the squares on which a dropped pawn leaves its king unattacked
-abbrev pub AreUncheckedDrops : Shogi → ℕ → ℕ → Type 0
-AreUncheckedDrops p squares unchecked =
-    HasThose unchecked squares (λ n. is_unchecked p (Drop Pawn n))
+abbrev pub AreKingSafeDrops : Shogi → ℕ → ℕ → Type 0
+AreKingSafeDrops p squares king_safety =
+    HasThose king_safety squares (λ n. leaves_king_safe p (Drop Pawn n))
 
 -- they are the squares on which a held piece of the kind may legally be dropped
 abbrev pub AreLegalDrops : Shogi → Kind → ℕ → Type 0
@@ -75,7 +75,7 @@ is_mating_square p n = is_pawn_drop_mate p (Drop Pawn n)
 -- for each kind that the side to move holds, they are the empty squares on which it leaves the king unattacked
 abbrev pub AreDropSquares : Shogi → ℕ → Type 0
 AreDropSquares p squares = (kind : Kind) → 0 < count_in_hand p.hands p.side kind
-    → HasBits squares (λ n. is_none (piece_at p.cells n) && is_unchecked p (Drop kind n))
+    → HasBits squares (λ n. is_none (piece_at p.cells n) && leaves_king_safe p (Drop kind n))
 
 -- the piece reaches each of the squares, and none of the side to move stands there
 abbrev pub AreEnterable : Shogi → ℕ → ℕ → Type 0

@@ -49,10 +49,10 @@ abbrev pub AreKept : Shogi → KeptDestinations → Type 0
 AreKept p kept = AreAllDestinations p kept.from kept.destinations
 
 -- the destinations still to come of the piece on a square
-pub record KeepsBoard (p : Shogi) (capture : Bool) (from code plain promoting : ℕ) : Type 0 where
+pub record KeepsBoard (p : Shogi) (capture : Bool) (from code non_promoting promoting : ℕ) : Type 0 where
   pub low : from * SQUARE_CODES ≤ code
   pub high : code ≤ from * SQUARE_CODES + SQUARE_CODES
-  pub plains : Keeps (is_matching p capture) (λ n. code_of (Board from n false)) code plain
+  pub plains : Keeps (is_matching p capture) (λ n. code_of (Board from n false)) code non_promoting
   pub promotings : Keeps (is_matching p capture) (λ n. code_of (Board from n true)) code promoting
 
 -- the destinations still to come of a held kind
@@ -65,7 +65,7 @@ pub record KeepsDrop (p : Shogi) (kind : Kind) (code destinations : ℕ) : Type 
 pub record IsBoardSweep (p : Shogi) (capture : Bool) (s : BoardSweep) : Type 0 where
   pub info : IsCheckInfoOf s.info p
   pub destinations : KeepsBoard p capture s.from s.code
-      s.destinations.plain.bits s.destinations.promoting.bits
+      s.destinations.non_promoting.bits s.destinations.promoting.bits
 
 pub record IsDropSweep (p : Shogi) (s : DropSweep) : Type 0 where
   pub squares : AreDropSquares p s.squares.bits
@@ -88,10 +88,10 @@ IsAtDrops p capture s = board_left p capture s ≡ matching_drops p capture
 
 -- no destination of the present piece is left, or one is
 abbrev pub HasNoDestination : BoardSweep → Type 0
-HasNoDestination s = bit_or s.destinations.plain.bits s.destinations.promoting.bits ≡ 0
+HasNoDestination s = bit_or s.destinations.non_promoting.bits s.destinations.promoting.bits ≡ 0
 
 abbrev pub HasDestination : BoardSweep → Type 0
-HasDestination s = bit_or s.destinations.plain.bits s.destinations.promoting.bits ≢ 0
+HasDestination s = bit_or s.destinations.non_promoting.bits s.destinations.promoting.bits ≢ 0
 
 -- the sweep continues at a piece, or a kind, that has a move, and no move is left out
 abbrev pub ContinuesBoard : Shogi → Bool → BoardSweep → BoardSweep → Type 0

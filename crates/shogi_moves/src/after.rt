@@ -83,9 +83,9 @@ fn make_board(p: &mut Position, from: Square, to: Square, promote: bool)
     requires { is_safe p.old (moves.Board from to promote) ≡ true }
     ensures { p.new ≡ after p.old (moves.Board from to promote) }
 {
-    p.validity();
-    from.validity();
-    to.validity();
+    p.reveal_invariant();
+    from.reveal_invariant();
+    to.reveal_invariant();
     let (piece, taken) = (p.at(from), p.at(to));
     let hands = with_captured(p.hands(), p.side(), taken);
     p.move_piece(from, to, piece_moved(piece, promote), hands);
@@ -97,8 +97,8 @@ fn make_drop(p: &mut Position, kind: Kind, to: Square)
     requires { is_safe p.old (moves.Drop kind to) ≡ true }
     ensures { p.new ≡ after p.old (moves.Drop kind to) }
 {
-    p.validity();
-    to.validity();
+    p.reveal_invariant();
+    to.reveal_invariant();
     let side = p.side();
     let hands = p.hands().with(side, kind, p.hand(side, kind) - 1);
     p.drop_piece(to, dropped(side, kind), hands);
@@ -134,8 +134,8 @@ pub fn advance(p: &mut Position, m: Move)
     ensures valid { IsValid (after p.old m) }
 {
     make_safe(p, &m);
-    p.validity();
-    m.validity();
+    p.reveal_invariant();
+    m.reveal_invariant();
 }
 
 /// The position after a legal move: a captured piece is in the mover's hand as its unpromoted

@@ -33,7 +33,7 @@ fn checked_info(p: &Position) -> CheckInfo
     let board = p.as_board();
     CheckInfo {
         checked: true,
-        pinned_or_king: board.kings(p.side()) | board.answers(p.side()),
+        pinned_or_king: board.kings(p.side()) | board.evasion_squares(p.side()),
     }
 }
 
@@ -98,7 +98,7 @@ impl CheckInfo {
 }
 
 /// Whether no move of the piece on the square can leave its king attacked.
-pub fn is_unpinned(info: &CheckInfo, from: Square) -> bool
+pub fn is_surely_not_pinned(info: &CheckInfo, from: Square) -> bool
     ensures { result ≡ (not info.now.checked && not (has_bit info.now.pinned_or_king.bits from)) }
 {
     !info.checked && !info.pinned_or_king.has(from)

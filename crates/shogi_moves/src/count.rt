@@ -18,9 +18,9 @@ use shogi_core::{Kind, Position, Square, Squares};
 
 /// How many moves lead to the destinations.
 fn count_of(found: Destinations) -> u64
-    ensures { result ≡ count_ones found.plain.bits + count_ones found.promoting.bits }
+    ensures { result ≡ count_ones found.non_promoting.bits + count_ones found.promoting.bits }
 {
-    (found.plain.bits.count_ones() + found.promoting.bits.count_ones()) as u64
+    (found.non_promoting.bits.count_ones() + found.promoting.bits.count_ones()) as u64
 }
 
 /// How many board moves are legal. The lower 64 squares, on which most pieces stand, are gone through
@@ -98,7 +98,7 @@ fn count_legal(p: &Position) -> u64
 pub fn perft(p: &Position, n: u8) -> Option<u64>
     requires { n ≤ 16 }
     ensures count { IfSome result (λ count. count ≡ perft p.now n) }
-    ensures none { IsNone result ↔ (2 ^ 64 ≤ perft p.now n) }
+    ensures if_none { IsNone result ↔ (2 ^ 64 ≤ perft p.now n) }
 {
     if n == 0 {
         return Some(1);

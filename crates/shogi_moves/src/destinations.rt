@@ -6,17 +6,17 @@ ghost use Rattle.shogi_core.specs.Attack.{in_check};
 ghost use Rattle.shogi_core.specs.Bits.{HasBits, HasThose};
 ghost use Rattle.shogi_core.specs.Cell.{is_immobile};
 ghost use Rattle.shogi_core.specs.Zones.{in_promotion_zone, may_promote};
-ghost use Rattle.shogi_moves.specs.Destinations.{is_own, is_own_king, is_unchecked, AreMatchingEnds, AreUncheckedEnds, AreLegalDestinations, AreAllDestinations, AreEnterable, AreMarked, ShowsAttack};
+ghost use Rattle.shogi_moves.specs.Destinations.{is_own, is_own_king, leaves_king_safe, AreMatchingEnds, AreKingSafeEnds, AreLegalDestinations, AreAllDestinations, AreEnterable, AreMarked, ShowsAttack};
 
-use crate::check_info::{CheckInfo, KnownPosition, is_unpinned};
-use crate::unchecked::is_unchecked;
+use crate::check_info::{CheckInfo, KnownPosition, is_surely_not_pinned};
+use crate::king_safety::leaves_king_safe_on_copy;
 use shogi_core::zones::{dead_squares, promoting_squares};
 use shogi_core::{Board, Move, Piece, Position, Square, Squares};
 
 /// The legal destinations of a piece, without and with promotion.
 #[derive(Clone, Copy, Debug)]
 pub struct Destinations {
-    pub plain: Squares,
+    pub non_promoting: Squares,
     pub promoting: Squares,
 }
 
@@ -33,7 +33,7 @@ pub fn matching_destinations(p: &Position, capture: bool) -> Squares
 
 /// Those of the destinations that leave the king unattacked, each of them tried.
 fn tried_destinations(p: &Position, from: Square, destinations: Squares) -> Squares
-    ensures squares { AreUncheckedEnds p.now from destinations.bits result.bits }
+    ensures squares { AreKingSafeEnds p.now from destinations.bits result.bits }
 {
     destinations.sift(|to| {
         let m = Move::Board {
@@ -41,13 +41,13 @@ fn tried_destinations(p: &Position, from: Square, destinations: Squares) -> Squa
             to,
             promote: false,
         };
-        is_unchecked(p, &m)
+        leaves_king_safe_on_copy(p, &m)
     })
 }
 
 /// Whether the king is unattacked once the piece is lifted off its square: there is no check, and
 /// the piece is not pinned.
-fn is_free(p: &Position, from: Square) -> bool
+fn is_not_pinned(p: &Position, from: Square) -> bool
     ensures { result ≡ not (in_check (slice_set p.now.cells from None) p.now.side) }
 {
     let mut board = *p.as_board();
@@ -57,14 +57,14 @@ fn is_free(p: &Position, from: Square) -> bool
 
 /// Whether the king of the side to move may go from the one square to the other: nothing attacks
 /// that square, as seen on a board where the king stands in no piece's way.
-pub fn is_king_safe(p: &Position, seen: &Board, from: Square, to: Square) -> bool
+pub fn is_safe_for_king(p: &Position, seen: &Board, from: Square, to: Square) -> bool
     requires king { is_own_king p.now from ≡ true }
     requires seen { ShowsAttack p.now seen.now from to }
-    ensures { result ≡ is_unchecked p.now (moves.Board from to false) }
+    ensures { result ≡ leaves_king_safe p.now (moves.Board from to false) }
 {
-    p.validity();
-    from.validity();
-    to.validity();
+    p.reveal_invariant();
+    from.reveal_invariant();
+    to.reveal_invariant();
     !seen.is_attacked(p.side().opponent(), to)
 }
 
@@ -78,20 +78,20 @@ fn seen_king_destinations(
 ) -> Squares
     requires king { is_own_king p.now from ≡ true }
     requires seen { (n : ℕ) → n < 81 → ShowsAttack p.now seen.now from n }
-    ensures squares { AreUncheckedEnds p.now from destinations.bits result.bits }
+    ensures squares { AreKingSafeEnds p.now from destinations.bits result.bits }
 {
-    destinations.sift(|to| is_king_safe(p, seen, from, to))
+    destinations.sift(|to| is_safe_for_king(p, seen, from, to))
 }
 
 /// Those of the destinations on which the king of the side to move is unattacked. Out of check, it
 /// stands in no piece's way; in check, the board is seen with the king lifted off its square.
 fn king_destinations(known: &KnownPosition<'_>, from: Square, destinations: Squares) -> Squares
     requires king { is_own_king known.now.position.now from ≡ true }
-    ensures squares { AreUncheckedEnds known.now.position.now from destinations.bits result.bits }
+    ensures squares { AreKingSafeEnds known.now.position.now from destinations.bits result.bits }
 {
     let p = known.position;
-    p.validity();
-    from.validity();
+    p.reveal_invariant();
+    from.reveal_invariant();
     if !known.info.checked {
         return seen_king_destinations(p, p.as_board(), from, destinations);
     }
@@ -110,18 +110,18 @@ fn may_be_pinned_destinations(
     destinations: Squares,
 ) -> Squares
     requires own { is_own known.now.position.now from ≡ true }
-    ensures squares { AreUncheckedEnds known.now.position.now from destinations.bits result.bits }
+    ensures squares { AreKingSafeEnds known.now.position.now from destinations.bits result.bits }
 {
     let p = known.position;
-    p.validity();
-    from.validity();
+    p.reveal_invariant();
+    from.reveal_invariant();
     if p.as_board().kings(p.side()).has(from) {
         return king_destinations(known, from, destinations);
     }
     if known.info.checked {
         return tried_destinations(p, from, destinations & known.info.pinned_or_king);
     }
-    if is_free(p, from) {
+    if is_not_pinned(p, from) {
         return destinations;
     }
     tried_destinations(p, from, destinations)
@@ -132,11 +132,11 @@ fn may_be_pinned_destinations(
 #[tactic(auto, using(crate::proofs::DestinationLaws::unpinned_destinations))]
 fn safe_destinations(known: &KnownPosition<'_>, from: Square, destinations: Squares) -> Squares
     requires own { is_own known.now.position.now from ≡ true }
-    ensures squares { AreUncheckedEnds known.now.position.now from destinations.bits result.bits }
+    ensures squares { AreKingSafeEnds known.now.position.now from destinations.bits result.bits }
 {
-    known.position.validity();
-    from.validity();
-    if is_unpinned(&known.info, from) {
+    known.position.reveal_invariant();
+    from.reveal_invariant();
+    if is_surely_not_pinned(&known.info, from) {
         return destinations;
     }
     may_be_pinned_destinations(known, from, destinations)
@@ -147,18 +147,18 @@ fn safe_destinations(known: &KnownPosition<'_>, from: Square, destinations: Squa
 #[inline(always)]
 #[tactic(auto, using(crate::proofs::DestinationLaws::promoting))]
 fn with_promotions(cell: Option<Piece>, from: Square, among: Squares) -> Destinations
-    ensures plain { HasThose result.plain.bits among.bits (λ n. not (is_immobile n cell)) }
+    ensures non_promoting { HasThose result.non_promoting.bits among.bits (λ n. not (is_immobile n cell)) }
     ensures promoting { HasThose result.promoting.bits among.bits (may_promote cell from) }
 {
     let zone = promoting_squares(cell, from);
     if zone.is_empty() || (among & zone).is_empty() {
         return Destinations {
-            plain: among,
+            non_promoting: among,
             promoting: Squares::none(),
         };
     }
     Destinations {
-        plain: among.without(dead_squares(cell)),
+        non_promoting: among.without(dead_squares(cell)),
         promoting: among & zone,
     }
 }
@@ -181,11 +181,11 @@ pub fn legal_destinations(known: &KnownPosition<'_>, from: Square, among: Square
     ensures { AreLegalDestinations known.now.position.now from among.bits result }
 {
     let p = known.position;
-    p.validity();
-    from.validity();
+    p.reveal_invariant();
+    from.reveal_invariant();
     if among.is_empty() {
         return Destinations {
-            plain: Squares::none(),
+            non_promoting: Squares::none(),
             promoting: Squares::none(),
         };
     }
@@ -201,7 +201,7 @@ pub fn all_destinations(known: &KnownPosition<'_>, from: Square, squares: Square
     requires squares { HasBits squares.bits (λ n. not (is_own known.now.position.now n)) }
     ensures { AreAllDestinations known.now.position.now from result }
 {
-    from.validity();
+    from.reveal_invariant();
     let among = known.position.as_board().targets(from) & squares;
     legal_destinations(known, from, among)
 }
@@ -234,12 +234,12 @@ pub fn all_by_marks(
     requires own { is_own known.now.position.now from ≡ true }
     ensures { AreAllDestinations known.now.position.now from result }
 {
-    known.position.validity();
-    from.validity();
+    known.position.reveal_invariant();
+    from.reveal_invariant();
     let among = known.position.as_board().targets(from) & squares;
     if (among & zone).is_empty() && !marked.has(from) {
         return Destinations {
-            plain: among,
+            non_promoting: among,
             promoting: Squares::none(),
         };
     }

@@ -5,12 +5,12 @@ ghost use Rattle.shogi_core.specs.declared.moves.Move.TheVariants as moves;
 ghost use Rattle.shogi_core.specs.declared.piece.Kind.{Kind};
 ghost use Rattle.shogi_core.specs.Bits.{HasBits};
 ghost use Rattle.shogi_core.specs.Position.{count_in_hand};
-ghost use Rattle.shogi_moves.specs.Destinations.{AreUncheckedDrops, AreDropSquares};
+ghost use Rattle.shogi_moves.specs.Destinations.{AreKingSafeDrops, AreDropSquares};
 ghost use Rattle.shogi_moves.specs.Legal.{is_pawn_kind, is_safe};
 
 use crate::after::dropped;
 use crate::check_info::KnownPosition;
-use crate::unchecked::is_unchecked;
+use crate::king_safety::leaves_king_safe_on_copy;
 use shogi_core::zones::{dead_squares, pawn_files};
 use shogi_core::{Kind, Move, Position, Square, Squares};
 
@@ -24,14 +24,14 @@ pub fn is_pawn_kind(kind: Kind) -> bool
 /// Those of the squares on which a dropped pawn leaves the king unattacked, each of them tried.
 #[inline(never)]
 fn tried_drops(p: &Position, squares: Squares) -> Squares
-    ensures squares { AreUncheckedDrops p.now squares.bits result.bits }
+    ensures squares { AreKingSafeDrops p.now squares.bits result.bits }
 {
     squares.sift(|to| {
         let m = Move::Drop {
             kind: Kind::Pawn,
             to,
         };
-        is_unchecked(p, &m)
+        leaves_king_safe_on_copy(p, &m)
     })
 }
 
@@ -54,7 +54,7 @@ pub fn drop_squares(known: &KnownPosition<'_>) -> Squares
     ensures { AreDropSquares known.now.position.now result.bits }
 {
     let p = known.position;
-    p.validity();
+    p.reveal_invariant();
     let free = p.as_board().free();
     if !known.info.checked {
         return free;

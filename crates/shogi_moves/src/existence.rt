@@ -12,7 +12,7 @@ use shogi_core::{Kind, Position};
 /// Whether a held pawn has a legal drop.
 fn has_pawn_drop(known: &KnownPosition<'_>) -> bool
     ensures some { result ≡ true → legal_codes known.now.position.now ≢ [] }
-    ensures none { result ≡ false → HasNoPawnDrop known.now.position.now }
+    ensures if_none { result ≡ false → HasNoPawnDrop known.now.position.now }
 {
     !drop_destinations(known.position, drop_squares(known), Kind::Pawn).is_empty()
 }

@@ -9,8 +9,8 @@ ghost use Rattle.shogi_moves.specs.Rising.{is_in};
 
 use crate::after::{advance, apply, dropped, piece_moved};
 use crate::drops::is_pawn_kind;
+use crate::king_safety::leaves_king_safe;
 use crate::pawn_drop::is_pawn_drop_mate;
-use crate::unchecked::leaves_unchecked;
 use shogi_core::zones::may_promote;
 use shogi_core::{Kind, Move, Position, Square, is_immobile, is_piece_of};
 
@@ -53,7 +53,7 @@ fn is_pseudo_legal(p: &Position, m: &Move) -> bool
 fn is_safe(p: &Position, m: &Move) -> bool
     ensures { result ≡ is_safe p.now m.now }
 {
-    is_pseudo_legal(p, m) && leaves_unchecked(p, m)
+    is_pseudo_legal(p, m) && leaves_king_safe(p, m)
 }
 
 /// As `is_legal`, of a move that is lent.
@@ -73,7 +73,7 @@ pub fn is_legal(p: &Position, m: Move) -> bool
     ensures listed { IsTrue result ↔ (is_in (code_of m) (legal_codes p.now) ≡ true) }
 {
     let legal = is_legal_move(p, &m);
-    m.validity();
+    m.reveal_invariant();
     legal
 }
 
@@ -93,7 +93,7 @@ pub fn play(p: &Position, m: Move) -> Option<Position>
 pub fn play_in_place(p: &mut Position, m: Move) -> bool
     ensures legal { result ≡ is_legal p.old m }
     ensures played { result ≡ true → p.new ≡ after p.old m }
-    ensures kept { result ≡ false → p.new ≡ p.old }
+    ensures unchanged { result ≡ false → p.new ≡ p.old }
 {
     if !is_legal_move(p, &m) {
         return false;

@@ -48,7 +48,7 @@ fn squares_near(squares: Squares) -> u128
 /// or stands near one of the other side's.
 pub fn matching_movers(p: &Position, capture: bool, pieces: Squares) -> Squares
     ensures within { IsWithin result.bits pieces.bits }
-    ensures none { HasMovers p.now capture pieces.bits result.bits }
+    ensures if_none { HasMovers p.now capture pieces.bits result.bits }
 {
     if !capture {
         return pieces;
@@ -63,7 +63,7 @@ pub fn matching_movers(p: &Position, capture: bool, pieces: Squares) -> Squares
 /// Those of the pieces that may take something.
 pub fn takers(p: &Position, pieces: Squares) -> Squares
     ensures within { IsWithin result.bits pieces.bits }
-    ensures none { HasMovers p.now true pieces.bits result.bits }
+    ensures if_none { HasMovers p.now true pieces.bits result.bits }
 {
     matching_movers(p, true, pieces)
 }

@@ -24,15 +24,15 @@ pub struct KeptDestinations {
 /// Those of what stands on the square: none, where that is no piece of the side to move.
 pub fn kept_at(known: &KnownPosition<'_>, from: Square) -> KeptDestinations
     ensures from { result.from ≡ from }
-    ensures kept { AreKept known.now.position.now result }
+    ensures consistent { AreKept known.now.position.now result }
 {
     let p = known.position;
-    from.validity();
+    from.reveal_invariant();
     if !is_piece_of(p.at(from), p.side()) {
         return KeptDestinations {
             from,
             destinations: Destinations {
-                plain: Squares::none(),
+                non_promoting: Squares::none(),
                 promoting: Squares::none(),
             },
         };
@@ -45,9 +45,9 @@ pub fn kept_at(known: &KnownPosition<'_>, from: Square) -> KeptDestinations
 
 /// Keeps those of what stands on the square, if it is another than before.
 fn keep(known: &KnownPosition<'_>, from: Square, kept: &mut KeptDestinations)
-    requires kept { AreKept known.now.position.now kept.old }
+    requires consistent { AreKept known.now.position.now kept.old }
     ensures from { kept.new.from ≡ from }
-    ensures kept { AreKept known.now.position.now kept.new }
+    ensures consistent { AreKept known.now.position.now kept.new }
 {
     if kept.from.index() != from.index() {
         *kept = kept_at(known, from);
@@ -56,17 +56,17 @@ fn keep(known: &KnownPosition<'_>, from: Square, kept: &mut KeptDestinations)
 
 /// The kept destinations whose moves are from a code on.
 fn destinations_left(p: &Position, kept: &KeptDestinations, code: u16) -> Destinations
-    requires kept { AreKept p.now kept.now }
+    requires consistent { AreKept p.now kept.now }
     requires code { IsAtSquare kept.now.from code }
-    ensures plain { KeepsLegal p.now kept.now.from false code result.plain.bits }
+    ensures non_promoting { KeepsLegal p.now kept.now.from false code result.non_promoting.bits }
     ensures promoting { KeepsLegal p.now kept.now.from true code result.promoting.bits }
 {
     let _ = p;
-    kept.from.validity();
+    kept.from.reveal_invariant();
     let passed = (code - kept.from.index() as u16 * SQUARE_CODES) as usize;
     Destinations {
-        plain: Squares {
-            bits: bits_from(kept.destinations.plain.bits, (passed + 1) / 2),
+        non_promoting: Squares {
+            bits: bits_from(kept.destinations.non_promoting.bits, (passed + 1) / 2),
         },
         promoting: Squares {
             bits: bits_from(kept.destinations.promoting.bits, passed / 2),
@@ -83,20 +83,20 @@ fn least_destination(
     kept: &mut KeptDestinations,
 ) -> Option<Move>
     requires code { IsAtSquare from code }
-    requires kept { AreKept known.now.position.now kept.old }
+    requires consistent { AreKept known.now.position.now kept.old }
     ensures next { IsLeastOn known.now.position.now result code from }
     ensures legal { IfSome result (λ m. is_legal known.now.position.now m ≡ true) }
     ensures on_board { IfSome result (λ m. code_of m < FIRST_DROP) }
-    ensures kept { AreKept known.now.position.now kept.new }
+    ensures consistent { AreKept known.now.position.now kept.new }
 {
     let p = known.position;
-    from.validity();
+    from.reveal_invariant();
     if !is_piece_of(p.at(from), p.side()) {
         return None;
     }
     keep(known, from, kept);
     let destinations = destinations_left(p, kept, code);
-    let both = destinations.plain | destinations.promoting;
+    let both = destinations.non_promoting | destinations.promoting;
     if both.is_empty() {
         return None;
     }
@@ -104,7 +104,7 @@ fn least_destination(
     Some(Move::Board {
         from,
         to,
-        promote: !destinations.plain.has(to),
+        promote: !destinations.non_promoting.has(to),
     })
 }
 
@@ -115,11 +115,11 @@ pub fn least_board(
     kept: &mut KeptDestinations,
 ) -> Option<Move>
     requires first { first ≤ FIRST_DROP }
-    requires kept { AreKept known.now.position.now kept.old }
+    requires consistent { AreKept known.now.position.now kept.old }
     ensures next { IsLeastFrom known.now.position.now result first FIRST_DROP }
     ensures legal { IfSome result (λ m. is_legal known.now.position.now m ≡ true) }
     ensures on_board { IfSome result (λ m. code_of m < FIRST_DROP) }
-    ensures kept { AreKept known.now.position.now kept.new }
+    ensures consistent { AreKept known.now.position.now kept.new }
 {
     let mut code = first;
     'squares: while code < FIRST_DROP {

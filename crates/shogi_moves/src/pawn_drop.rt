@@ -46,7 +46,7 @@ fn facing_squares(p: &Position) -> Squares
     ensures { (n : ℕ) → n < 81 → has_bit result.bits n ≡ false
         → is_mating_square p.now n ≡ false }
 {
-    p.validity();
+    p.reveal_invariant();
     let opponent = p.side().opponent();
     let Some(king) = p.king(opponent) else {
         return Squares::none()

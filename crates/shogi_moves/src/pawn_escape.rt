@@ -42,7 +42,7 @@ pub fn king_steps(p: &Position) -> Squares
 fn first_escape(p: &Position, closed: Squares) -> Squares
     ensures { AreEscapes p.now result.bits }
 {
-    p.validity();
+    p.reveal_invariant();
     first_unattacked(p.as_board(), p.side(), king_steps(p).without(closed))
 }
 
@@ -52,7 +52,7 @@ pub fn has_open(p: &Position, escapes: Squares, closed: Squares, to: Square) -> 
     requires { AreEscapes p.now escapes.bits }
     ensures { result ≡ true → HasOpenEscape p.now closed.bits to }
 {
-    to.validity();
+    to.reveal_invariant();
     let kings = p.as_board().kings(p.side().opponent());
     if kings.is_empty() || kings.has(to) {
         return false;
@@ -65,8 +65,8 @@ pub fn has_open(p: &Position, escapes: Squares, closed: Squares, to: Square) -> 
 pub fn leaves_pawn_escape(p: &Position, to: Square) -> bool
     ensures { result ≡ true → is_mating_square p.now to ≡ false }
 {
-    p.validity();
-    to.validity();
+    p.reveal_invariant();
+    to.reveal_invariant();
     let pawn = Piece {
         color: p.side(),
         role: Role::Pawn,

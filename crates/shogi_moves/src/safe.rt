@@ -9,7 +9,7 @@ ghost use Rattle.shogi_moves.specs.Legal.{is_safe_code};
 ghost use Rattle.shogi_moves.specs.LegalMoves.{legal_codes, HasNoBoardMove, HasNoPieceDrop};
 
 use crate::check_info::{KnownPosition, full_check_info};
-use crate::destinations::{all_destinations, enterable, is_king_safe};
+use crate::destinations::{all_destinations, enterable, is_safe_for_king};
 use crate::drops::{drop_squares, safe_drops};
 use shogi_core::bits::{lowest, without_lowest};
 use shogi_core::{Kind, Position, Square, Squares};
@@ -21,13 +21,13 @@ fn king_escapes(p: &Position, from: Square, destinations: Squares) -> bool
     requires destinations { AreEnterable p.now from destinations.bits }
     ensures { result ≡ true → legal_codes p.now ≢ [] }
 {
-    from.validity();
+    from.reveal_invariant();
     let mut lifted = *p.as_board();
     lifted.set(from, None);
-    let Some(to) = destinations.find(|to| is_king_safe(p, &lifted, from, to)) else {
+    let Some(to) = destinations.find(|to| is_safe_for_king(p, &lifted, from, to)) else {
         return false
     };
-    to.validity();
+    to.reveal_invariant();
     true
 }
 
@@ -35,7 +35,7 @@ fn king_escapes(p: &Position, from: Square, destinations: Squares) -> bool
 pub fn has_king_move(p: &Position) -> bool
     ensures { result ≡ true → legal_codes p.now ≢ [] }
 {
-    p.validity();
+    p.reveal_invariant();
     let board = p.as_board();
     let Some(from) = p.king(p.side()) else {
         return false
@@ -47,7 +47,7 @@ pub fn has_king_move(p: &Position) -> bool
 /// Whether a piece on the board has a legal move.
 fn has_board_move(known: &KnownPosition<'_>) -> bool
     ensures some { result ≡ true → legal_codes known.now.position.now ≢ [] }
-    ensures none { result ≡ false → HasNoBoardMove known.now.position.now }
+    ensures if_none { result ≡ false → HasNoBoardMove known.now.position.now }
 {
     let p = known.position;
     let squares = enterable(p);
@@ -56,7 +56,7 @@ fn has_board_move(known: &KnownPosition<'_>) -> bool
         let square = lowest(left);
         let from = Square::of_index(square);
         let destinations = all_destinations(known, from, squares);
-        if !(destinations.plain | destinations.promoting).is_empty() {
+        if !(destinations.non_promoting | destinations.promoting).is_empty() {
             return true;
         }
         left = without_lowest(left, square);
@@ -68,7 +68,7 @@ fn has_board_move(known: &KnownPosition<'_>) -> bool
 pub fn has_piece_drop(p: &Position, squares: Squares) -> bool
     requires { AreDropSquares p.now squares.bits }
     ensures some { result ≡ true → legal_codes p.now ≢ [] }
-    ensures none { result ≡ false → HasNoPieceDrop p.now }
+    ensures if_none { result ≡ false → HasNoPieceDrop p.now }
 {
     let mut kind = Kind::Pawn;
     'kinds: while let Some(next) = kind.next() {

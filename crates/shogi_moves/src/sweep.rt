@@ -43,13 +43,13 @@ fn destinations_on(known: &KnownPosition<'_>, capture: bool, from: Square) -> De
     ensures { AreMatchingDestinations known.now.position.now capture from result }
 {
     let p = known.position;
-    from.validity();
+    from.reveal_invariant();
     if is_piece_of(p.at(from), p.side()) {
         let among = p.as_board().targets(from) & matching_destinations(p, capture);
         legal_destinations(known, from, among)
     } else {
         Destinations {
-            plain: Squares::none(),
+            non_promoting: Squares::none(),
             promoting: Squares::none(),
         }
     }
@@ -59,7 +59,7 @@ impl BoardSweep {
     /// Through all board moves of the kind.
     #[tactic(auto, using(crate::proofs::SweepLaws::sweeping))]
     pub fn new(known: &KnownPosition<'_>, capture: bool) -> BoardSweep
-        ensures kept { IsBoardSweep known.now.position.now capture result }
+        ensures consistent { IsBoardSweep known.now.position.now capture result }
         ensures code { result.code ≡ 0 }
     {
         let from = Square::of_index(0);
@@ -74,30 +74,30 @@ impl BoardSweep {
     /// The next of the destinations of the present piece.
     #[inline(always)]
     #[tactic(auto, using(crate::proofs::SweepLaws::sweeping))]
-    fn take(&mut self, p: &Position, capture: bool) -> Move
-        requires kept { IsBoardSweep p.now capture self.old }
+    fn next_destination(&mut self, p: &Position, capture: bool) -> Move
+        requires consistent { IsBoardSweep p.now capture self.old }
         requires some { HasDestination self.old }
-        ensures kept { IsBoardSweep p.now capture self.new }
+        ensures consistent { IsBoardSweep p.now capture self.new }
         ensures next { TakesOnBoard p.now capture result self.old self.new }
         ensures legal { is_legal p.now result ≡ true }
     {
-        let (from, plain, promoting) = (
+        let (from, non_promoting, promoting) = (
             self.from,
-            self.destinations.plain,
+            self.destinations.non_promoting,
             self.destinations.promoting,
         );
-        from.validity();
-        let to = lowest((plain | promoting).bits);
+        from.reveal_invariant();
+        let to = lowest((non_promoting | promoting).bits);
         let end = Square::of_index(to);
-        if plain.has(end) {
+        if non_promoting.has(end) {
             let m = Move::Board {
                 from,
                 to: end,
                 promote: false,
             };
             let code = m.code_above();
-            self.destinations.plain = Squares {
-                bits: without_lowest(plain.bits, to),
+            self.destinations.non_promoting = Squares {
+                bits: without_lowest(non_promoting.bits, to),
             };
             self.code = code;
             return m;
@@ -119,14 +119,14 @@ impl BoardSweep {
     #[inline(never)]
     #[tactic(auto, using(crate::proofs::SweepLaws::sweeping))]
     fn refill(&mut self, p: &Position, capture: bool) -> bool
-        requires kept { IsBoardSweep p.now capture self.old }
-        requires none { HasNoDestination self.old }
-        ensures kept { IsBoardSweep p.now capture self.new }
+        requires consistent { IsBoardSweep p.now capture self.old }
+        requires if_none { HasNoDestination self.old }
+        ensures consistent { IsBoardSweep p.now capture self.new }
         ensures some { result ≡ true → ContinuesBoard p.now capture self.old self.new }
         ensures end { result ≡ false → IsAtDrops p.now capture self.old }
-        ensures same { result ≡ false → self.new.code ≡ self.old.code }
+        ensures unchanged { result ≡ false → self.new.code ≡ self.old.code }
     {
-        p.validity();
+        p.reveal_invariant();
         let known = self.info.at(p);
         let matching = matching_destinations(p, capture);
         let board = p.as_board();
@@ -140,7 +140,7 @@ impl BoardSweep {
             let among = board.targets(from) & matching;
             if !among.is_empty() {
                 let destinations = legal_destinations(&known, from, among);
-                if !(destinations.plain | destinations.promoting).is_empty() {
+                if !(destinations.non_promoting | destinations.promoting).is_empty() {
                     self.from = from;
                     self.destinations = destinations;
                     self.code = square as u16 * SQUARE_CODES;
@@ -156,13 +156,13 @@ impl BoardSweep {
     /// left; whether there is one.
     #[inline(always)]
     pub fn fill(&mut self, p: &Position, capture: bool) -> bool
-        requires kept { IsBoardSweep p.now capture self.old }
-        ensures kept { IsBoardSweep p.now capture self.new }
+        requires consistent { IsBoardSweep p.now capture self.old }
+        ensures consistent { IsBoardSweep p.now capture self.new }
         ensures some { result ≡ true → ContinuesBoard p.now capture self.old self.new }
         ensures end { result ≡ false → IsAtDrops p.now capture self.old }
-        ensures same { result ≡ false → self.new.code ≡ self.old.code }
+        ensures unchanged { result ≡ false → self.new.code ≡ self.old.code }
     {
-        if !(self.destinations.plain | self.destinations.promoting).is_empty() {
+        if !(self.destinations.non_promoting | self.destinations.promoting).is_empty() {
             return true;
         }
         self.refill(p, capture)
@@ -172,31 +172,31 @@ impl BoardSweep {
     #[inline(always)]
     #[tactic(auto, using(crate::proofs::SweepLaws::sweeping))]
     pub fn next(&mut self, p: &Position, capture: bool) -> Option<Move>
-        requires kept { IsBoardSweep p.now capture self.old }
-        ensures kept { IsBoardSweep p.now capture self.new }
+        requires consistent { IsBoardSweep p.now capture self.old }
+        ensures consistent { IsBoardSweep p.now capture self.new }
         ensures next { IsNextOnBoard p.now capture result self.old self.new }
         ensures legal { IfSome result (λ m. is_legal p.now m ≡ true) }
     {
         if !self.fill(p, capture) {
             return None;
         }
-        Some(self.take(p, capture))
+        Some(self.next_destination(p, capture))
     }
 
     /// Passes the moves of the present piece to squares below this one, and all where it is 81.
     #[inline(always)]
-    pub fn pass_ends(&mut self, p: &Position, capture: bool, to: usize)
-        requires kept { IsBoardSweep p.now capture self.old }
+    pub fn skip_destinations(&mut self, p: &Position, capture: bool, to: usize)
+        requires consistent { IsBoardSweep p.now capture self.old }
         requires to { to ≤ 81 }
         requires ahead { self.old.code ≤ self.old.from * SQUARE_CODES + 2 * to }
-        ensures kept { IsBoardSweep p.now capture self.new }
+        ensures consistent { IsBoardSweep p.now capture self.new }
         ensures code { self.new.code ≡ self.old.from * SQUARE_CODES + 2 * to }
     {
         let _ = p;
         let _ = capture;
-        self.from.validity();
-        self.destinations.plain = Squares {
-            bits: bits_from(self.destinations.plain.bits, to),
+        self.from.reveal_invariant();
+        self.destinations.non_promoting = Squares {
+            bits: bits_from(self.destinations.non_promoting.bits, to),
         };
         self.destinations.promoting = Squares {
             bits: bits_from(self.destinations.promoting.bits, to),
@@ -206,18 +206,18 @@ impl BoardSweep {
 
     /// Passes the moves of the pieces on squares below this one, and all where it is 81.
     #[inline(always)]
-    pub fn pass_pieces(&mut self, p: &Position, capture: bool, square: usize)
-        requires kept { IsBoardSweep p.now capture self.old }
+    pub fn skip_pieces(&mut self, p: &Position, capture: bool, square: usize)
+        requires consistent { IsBoardSweep p.now capture self.old }
         requires ahead { self.old.from < square }
         requires square { square ≤ 81 }
-        ensures kept { IsBoardSweep p.now capture self.new }
+        ensures consistent { IsBoardSweep p.now capture self.new }
         ensures code { self.new.code ≡ square * SQUARE_CODES }
     {
         let _ = p;
         let _ = capture;
         self.from = Square::of_index(square - 1);
         self.destinations = Destinations {
-            plain: Squares::none(),
+            non_promoting: Squares::none(),
             promoting: Squares::none(),
         };
         self.code = square as u16 * SQUARE_CODES;
@@ -228,7 +228,7 @@ impl DropSweep {
     /// Through all drops.
     #[tactic(auto, using(crate::proofs::SweepLaws::keeps_kind))]
     pub fn new(known: &KnownPosition<'_>) -> DropSweep
-        ensures kept { IsDropSweep known.now.position.now result }
+        ensures consistent { IsDropSweep known.now.position.now result }
         ensures code { result.code ≡ FIRST_DROP }
     {
         let squares = drop_squares(known);
@@ -242,10 +242,10 @@ impl DropSweep {
 
     /// Through the drops above one.
     pub fn above(known: &KnownPosition<'_>, kind: Kind, to: Square) -> DropSweep
-        ensures kept { IsDropSweep known.now.position.now result }
+        ensures consistent { IsDropSweep known.now.position.now result }
         ensures code { result.code ≡ code_of (moves.Drop kind to) + 1 }
     {
-        to.validity();
+        to.reveal_invariant();
         let squares = drop_squares(known);
         DropSweep {
             squares,
@@ -262,10 +262,10 @@ impl DropSweep {
 
     /// The next of the destinations of the present kind.
     #[inline(always)]
-    fn take(&mut self, p: &Position) -> Move
-        requires kept { IsDropSweep p.now self.old }
+    fn next_destination(&mut self, p: &Position) -> Move
+        requires consistent { IsDropSweep p.now self.old }
         requires some { self.old.destinations.bits ≢ 0 }
-        ensures kept { IsDropSweep p.now self.new }
+        ensures consistent { IsDropSweep p.now self.new }
         ensures next { drops_left p.now self.old ≡ code_of result ∷ drops_left p.now self.new }
         ensures code { self.new.code ≡ code_of result + 1 }
         ensures legal { is_legal p.now result ≡ true }
@@ -285,12 +285,12 @@ impl DropSweep {
     /// Continues with the next kind that has a legal drop, if there is one.
     #[inline(never)]
     fn refill(&mut self, p: &Position) -> bool
-        requires kept { IsDropSweep p.now self.old }
-        requires none { self.old.destinations.bits ≡ 0 }
-        ensures kept { IsDropSweep p.now self.new }
+        requires consistent { IsDropSweep p.now self.old }
+        requires if_none { self.old.destinations.bits ≡ 0 }
+        ensures consistent { IsDropSweep p.now self.new }
         ensures some { result ≡ true → ContinuesDrops p.now self.old self.new }
         ensures end { result ≡ false → drops_left p.now self.old ≡ [] }
-        ensures same { result ≡ false → self.new.code ≡ self.old.code }
+        ensures unchanged { result ≡ false → self.new.code ≡ self.old.code }
     {
         let squares = self.squares;
         let mut kind = self.kind;
@@ -311,11 +311,11 @@ impl DropSweep {
     /// whether there is one.
     #[inline(always)]
     pub fn fill(&mut self, p: &Position) -> bool
-        requires kept { IsDropSweep p.now self.old }
-        ensures kept { IsDropSweep p.now self.new }
+        requires consistent { IsDropSweep p.now self.old }
+        ensures consistent { IsDropSweep p.now self.new }
         ensures some { result ≡ true → ContinuesDrops p.now self.old self.new }
         ensures end { result ≡ false → drops_left p.now self.old ≡ [] }
-        ensures same { result ≡ false → self.new.code ≡ self.old.code }
+        ensures unchanged { result ≡ false → self.new.code ≡ self.old.code }
     {
         if !self.destinations.is_empty() {
             return true;
@@ -326,8 +326,8 @@ impl DropSweep {
     /// The next of the drops, or `None` where none is left.
     #[inline(always)]
     pub fn next(&mut self, p: &Position) -> Option<Move>
-        requires kept { IsDropSweep p.now self.old }
-        ensures kept { IsDropSweep p.now self.new }
+        requires consistent { IsDropSweep p.now self.old }
+        ensures consistent { IsDropSweep p.now self.new }
         ensures next { IsNextDrop p.now result self.old self.new }
         ensures code { IfSome result (λ m. self.new.code ≡ code_of m + 1) }
         ensures end { IsNone result → drops_left p.now self.new ≡ [] }
@@ -336,16 +336,16 @@ impl DropSweep {
         if !self.fill(p) {
             return None;
         }
-        Some(self.take(p))
+        Some(self.next_destination(p))
     }
 
     /// Passes the drops of the present kind on squares below this one, and all where it is 81.
     #[inline(always)]
-    pub fn pass_ends(&mut self, p: &Position, to: usize)
-        requires kept { IsDropSweep p.now self.old }
+    pub fn skip_destinations(&mut self, p: &Position, to: usize)
+        requires consistent { IsDropSweep p.now self.old }
         requires to { to ≤ 81 }
         requires ahead { self.old.code ≤ FIRST_DROP + kind_number self.old.kind * 81 + to }
-        ensures kept { IsDropSweep p.now self.new }
+        ensures consistent { IsDropSweep p.now self.new }
         ensures code { self.new.code ≡ FIRST_DROP + kind_number self.old.kind * 81 + to }
     {
         let _ = p;

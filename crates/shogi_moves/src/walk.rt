@@ -64,7 +64,7 @@ fn place_behind(p: &Position, passed: Option<Move>) -> Place
     let Some(m) = passed else {
         return board_place(&known, 0, Square::of_index(0))
     };
-    m.validity();
+    m.reveal_invariant();
     match m {
         Move::Board { from, .. } => board_place(&known, m.code_above(), from),
         Move::Drop { kind, to } => Place::Drops(DropSweep::above(&known, kind, to)),

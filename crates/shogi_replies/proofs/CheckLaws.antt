@@ -15,9 +15,9 @@ use Rattle.shogi_core.specs.Lines.{back}
 use Rattle.shogi_core.specs.Movement.{Cells, piece_at, cell_reaches, has_step, has_slide, leads, slides, for_side, steps_of, slides_of}
 use Rattle.shogi_core.specs.Pieces.{opponent_of}
 use Rattle.shogi_core.proofs.BitLaws.{has_bit-and, has_bit-none, has_bit-or}
-use Rattle.shogi_core.proofs.Uncovered.{same_way, same_way_is, list_any_kept}
+use Rattle.shogi_core.proofs.Discovered.{same_way, same_way_is, list_any_kept}
 use Rattle.shogi_core.proofs.SeenLaws.{leads_back, slides_back}
-use Rattle.shogi_replies.specs.Replies.{IsHarmless, Sees}
+use Rattle.shogi_replies.specs.ReplyInfo.{IsHarmless, Sees}
 use Rattle.shogi_replies.proofs.ReplyLaws.{harmless_far}
 
 -- from a square that is not in the set the piece attacks none of the kings of the side that are not left
@@ -89,12 +89,12 @@ checks_done cells side cell checks c n h out = λ k l king. c.harmless k n l h k
 -- ---- squares on which a piece may give check
 
 -- those of some squares that are not seen
-pub unseen_squares : (destinations sight n : ℕ) → has_bit destinations n ≡ true → has_bit (bit_and destinations sight) n ≡ false → has_bit sight n ≡ false
-unseen_squares destinations sight n set out = false_from_ne_true (has_bit sight n) (λ seen. both_ways (has_bit (bit_and destinations sight) n) out (has_bit-and destinations sight n ∙ and_from _ _ set seen))
+pub unseen_squares : (destinations king_view n : ℕ) → has_bit destinations n ≡ true → has_bit (bit_and destinations king_view) n ≡ false → has_bit king_view n ≡ false
+unseen_squares destinations king_view n set out = false_from_ne_true (has_bit king_view n) (λ seen. both_ways (has_bit (bit_and destinations king_view) n) out (has_bit-and destinations king_view n ∙ and_from _ _ set seen))
 
 -- seen or not, there it gives none
-pub not_checking : (cells : Cells) (side : Color) (cell : Option Piece) (destinations sight checks n : ℕ) → Sees cells side 0 sight → ((i : ℕ) → i < 81 → has_bit checks i ≡ false → IsHarmless cells side cell i) → n < 81 → has_bit destinations n ≡ true → has_bit (bit_and (bit_and destinations sight) checks) n ≡ false → IsHarmless cells side cell n
-not_checking cells side cell destinations sight checks n s c h set out = elim (cases_Bool (has_bit sight n)) [
-  | inl seen ↦ c n h (false_from_ne_true (has_bit checks n) (λ check. both_ways (has_bit (bit_and (bit_and destinations sight) checks) n) out (has_bit-and (bit_and destinations sight) checks n ∙ and_from _ _ (has_bit-and destinations sight n ∙ and_from _ _ set seen) check)))
-  | inr unseen ↦ harmless_far cells side sight cell n s h unseen
+pub not_checking : (cells : Cells) (side : Color) (cell : Option Piece) (destinations king_view checks n : ℕ) → Sees cells side 0 king_view → ((i : ℕ) → i < 81 → has_bit checks i ≡ false → IsHarmless cells side cell i) → n < 81 → has_bit destinations n ≡ true → has_bit (bit_and (bit_and destinations king_view) checks) n ≡ false → IsHarmless cells side cell n
+not_checking cells side cell destinations king_view checks n s c h set out = elim (cases_Bool (has_bit king_view n)) [
+  | inl seen ↦ c n h (false_from_ne_true (has_bit checks n) (λ check. both_ways (has_bit (bit_and (bit_and destinations king_view) checks) n) out (has_bit-and (bit_and destinations king_view) checks n ∙ and_from _ _ (has_bit-and destinations king_view n ∙ and_from _ _ set seen) check)))
+  | inr unseen ↦ harmless_far cells side king_view cell n s h unseen
 ]

@@ -20,8 +20,8 @@ use Rattle.shogi_core.specs.Validity.{IsValid}
 use Rattle.shogi_core.proofs.BitLaws.{has_bit-and, has_bit-none, has_bit-or}
 use Rattle.shogi_core.proofs.CodesBack.{move_of-board}
 use Rattle.shogi_core.proofs.RayLaws.{slides_bare}
-use Rattle.shogi_core.proofs.Shots.{direction_of}
-use Rattle.shogi_core.proofs.Uncovered.{attacked_was_but, reach_was, same_way, same_way_is, slides_around, slides_was}
+use Rattle.shogi_core.proofs.SliderAttacks.{direction_of}
+use Rattle.shogi_core.proofs.Discovered.{attacked_was_but, reach_was, same_way, same_way_is, slides_around, slides_was}
 use Rattle.shogi_core.proofs.LineBits.{has_bit-not, has_bit-ray}
 use Rattle.shogi_core.proofs.SeenLaws.{lined_aligned, lined_back, slide_seen}
 use Rattle.shogi_moves.specs.After.{after, cells_after, piece_moved, dropped}
@@ -35,7 +35,7 @@ use Rattle.shogi_moves.proofs.MovedPieces.{opponent_twice}
 use Rattle.shogi_moves.proofs.DestinationLaws.{legal_board}
 use Rattle.shogi_moves.proofs.DropChecks as drops
 use Rattle.shogi_moves.proofs.EscapeLaws.{crowned, kept, king_reach, opened, still_out}
-use Rattle.shogi_replies.specs.Replies.{quiet_codes}
+use Rattle.shogi_replies.specs.ReplyInfo.{quiet_codes}
 use Rattle.shogi_replies.proofs.ReplyLaws.{king_lives, left_board, left_drop, legal_own, reply_by, right_step, some_quiet}
 use Rattle.shogi_replies.proofs.SlideOrigins.{attacked_from_origin}
 

@@ -18,7 +18,7 @@ use Rattle.shogi_core.proofs.LineBits.{has_bit-not}
 use Rattle.shogi_core.proofs.SeenLaws.{reaches_near, slides_role, step_near}
 use Rattle.shogi_core.specs.Zones.{in_promotion_zone, is_promotable, may_promote, is_around, is_near_zone}
 use Rattle.shogi_moves.specs.After.{piece_moved}
-use Rattle.shogi_replies.specs.Replies.{HasAroundKings, IsFarMove}
+use Rattle.shogi_replies.specs.ReplyInfo.{HasAroundKings, IsFarMove}
 
 -- what does not slide goes to a square near by
 near_step : (cells : Cells) (cell : Option Piece) (a b : ℕ) → a < 81 → is_slider cell ≡ false → cell_reaches cells cell a b ≡ true → is_near b a ≡ true
@@ -110,10 +110,10 @@ moves_still promote None e = e
 moves_still false (Some piece) e = e
 moves_still true (Some piece) e = stays_still piece.role e
 
-pub far_move : (p : Shogi) (sight around : ℕ) (promotes : Bool) (a n : ℕ) → a < 81 → n < 81 → HasAroundKings p.cells (opponent_of p.side) around
-    → is_piece_of p.side (piece_at p.cells a) ≡ true → is_slider (piece_at p.cells a) ≡ false → has_bit sight a ≡ false → has_bit around a ≡ false → (promotes ≡ false → is_near_zone p.side a ≡ false)
-    → reaches p.cells a n ≡ true → IsFarMove p sight promotes a n
-far_move p sight around promotes a n ha hn kings own still unseen apart zone r =
+pub far_move : (p : Shogi) (king_view around : ℕ) (promotes : Bool) (a n : ℕ) → a < 81 → n < 81 → HasAroundKings p.cells (opponent_of p.side) around
+    → is_piece_of p.side (piece_at p.cells a) ≡ true → is_slider (piece_at p.cells a) ≡ false → has_bit king_view a ≡ false → has_bit around a ≡ false → (promotes ≡ false → is_near_zone p.side a ≡ false)
+    → reaches p.cells a n ≡ true → IsFarMove p king_view promotes a n
+far_move p king_view around promotes a n ha hn kings own still unseen apart zone r =
     let step : is_near n a ≡ true = elim (reaches_near p.cells a n ha r) [ inl beside ↦ beside | inr far ↦ absurd (both_ways (is_slider (piece_at p.cells a)) still far.0) ] in
     let close : IsClose a n = near_close a n ha hn step in
     record {
@@ -121,7 +121,7 @@ far_move p sight around promotes a n ha hn kings own still unseen apart zone r =
       harmless = λ promote k l king. false_from_ne_true (cell_reaches p.cells (piece_moved promote (piece_at p.cells a)) n k) (λ hit. (
           let next : IsClose n k = near_close n k hn l (near_step p.cells (piece_moved promote (piece_at p.cells a)) n k hn (moves_still promote (piece_at p.cells a) still) hit) in
           both_ways (has_bit around a) apart (kings k a l ha king (close_twice k n a close next))));
-      plain = λ never. stays_plain p.side (piece_at p.cells a) a n own (off_zone_near p.side a a (zone never) (omega arith) (omega arith)) (off_zone_near p.side a n (zone never) close.above close.below);
+      non_promoting = λ never. stays_plain p.side (piece_at p.cells a) a n own (off_zone_near p.side a a (zone never) (omega arith) (omega arith)) (off_zone_near p.side a n (zone never) close.above close.below);
     }
 
 -- what does not slide and is far from the zone cannot promote

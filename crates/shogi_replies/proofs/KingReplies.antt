@@ -1,4 +1,4 @@
--- A king that is given check goes away where what moves uncovers nothing, or takes what moved.
+-- A king that is given check goes away where what moves discovers nothing, or takes what moved.
 use Rattle.std.proofs.Common.{◌≡◌, ◌≢◌, ◌^◌, ℕ, ◌<◌, Bool, true, false, not, Option, Some, None, [], sym, ap, subst, ◌∙◌, arith, inl, inr, set, length, length-set, get_or-set_same, get_or-set_other, bit_and}
 use Rattle.std.specs.Prelude.{is_none}
 use Rattle.std.specs.Int.{trailing_zeros, w128}
@@ -20,7 +20,7 @@ use Rattle.shogi_core.specs.Validity.{IsValid}
 use Rattle.shogi_core.proofs.BitLaws.{has_bit-none}
 use Rattle.shogi_core.proofs.LineBits.{lowest_set}
 use Rattle.shogi_core.proofs.SeenLaws.{slides_role, sniper_bits}
-use Rattle.shogi_core.proofs.Uncovered.{attacked_was_but}
+use Rattle.shogi_core.proofs.Discovered.{attacked_was_but}
 use Rattle.shogi_moves.specs.After.{after, cells_after, piece_moved, dropped}
 use Rattle.shogi_moves.specs.Escapes.{IsEscape, AreEscapes, HasOpenEscape}
 use Rattle.shogi_replies.specs.Escapes.{HasNoSniper}

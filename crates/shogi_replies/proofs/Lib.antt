@@ -1,5 +1,5 @@
 pub mod ReplyLaws
-pub mod UncoverLaws
+pub mod DiscoverLaws
 pub mod CheckLaws
 pub mod FarLaws
 pub mod SlideOrigins

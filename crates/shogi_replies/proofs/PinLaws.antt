@@ -18,8 +18,8 @@ use Rattle.shogi_core.proofs.BitLaws.{has_bit-and, has_bit-or, has_bit-none}
 use Rattle.shogi_core.proofs.LineBits.{has_bit-ray}
 use Rattle.shogi_core.proofs.RayLaws.{slides_bare}
 use Rattle.shogi_core.proofs.SeenLaws.{slides_back, slides_back_around, slides_role, slide_seen, lined_aligned}
-use Rattle.shogi_core.proofs.Shots.{shot_by, slide_by}
-use Rattle.shogi_core.proofs.Uncovered.{slides_was, some_below_which}
+use Rattle.shogi_core.proofs.SliderAttacks.{shot_by, slide_by}
+use Rattle.shogi_core.proofs.Discovered.{slides_was, some_below_which}
 use Rattle.shogi_replies.specs.Threats.{HasBetween, HasBeforeSnipers, IsOffPins}
 
 -- ---- the squares between two

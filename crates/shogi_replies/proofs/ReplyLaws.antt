@@ -25,7 +25,7 @@ use Rattle.shogi_core.specs.Validity.{IsValid}
 use Rattle.shogi_core.proofs.Below.{some_below_no, some_below_not, some_below_at}
 use Rattle.shogi_core.proofs.BitLaws.{has_bit-and, has_bit-or, has_bit-none}
 use Rattle.shogi_core.proofs.CodesBack.{move_of-board, move_of-drop}
-use Rattle.shogi_core.proofs.Uncovered.{some_below_which, reach_was}
+use Rattle.shogi_core.proofs.Discovered.{some_below_which, reach_was}
 use Rattle.shogi_core.proofs.Faults.{faultless_from, number_below}
 use Rattle.shogi_core.proofs.LineBits.{lowest_set, and_fits, has_bit-not}
 use Rattle.shogi_core.proofs.Replies.{no_check}
@@ -35,7 +35,7 @@ use Rattle.shogi_moves.specs.After.{after, cells_after, piece_moved, dropped, wi
 use Rattle.shogi_moves.specs.Legal.{is_legal, is_safe, is_pseudo_legal_board_move, is_pseudo_legal_drop, is_pawn_kind, is_mated_by_drop}
 use Rattle.shogi_moves.specs.LegalMoves.{legal_codes}
 use Rattle.shogi_moves.specs.Rising.{is_in}
-use Rattle.shogi_replies.specs.Replies.{holds_free, is_quiet, is_quiet_code, quiet_codes, is_line_of_king, is_aligned_with_king, is_quiet_step, is_step_beside, is_unbound, is_spare, is_way, HasOthers, AreQuietSteps, LeaveSpare, Sees, Aligns, IsReplies, IsHarmless, IsHarmlessFrom, StaysCovered, UncoversNothing, UncoversWithin, IsOpen, IsAnswered, IsQuietlyAnswered, IsCertain}
+use Rattle.shogi_replies.specs.ReplyInfo.{holds_free, is_quiet, is_quiet_code, quiet_codes, is_line_of_king, is_aligned_with_king, is_quiet_step, is_step_beside, is_unbound, is_spare, is_way, HasOthers, AreQuietSteps, LeaveFreeMovers, Sees, Aligns, IsReplyInfo, IsHarmless, IsHarmlessFrom, StaysCovered, DiscoversNothing, DiscoversWithin, IsOpen, IsAnswered, IsQuietlyAnswered, GuaranteesReply}
 use Rattle.shogi_moves.proofs.DropChecks as drops
 use Rattle.shogi_moves.proofs.DestinationLaws.{legal_board, legal_drop, drop_matching, still}
 use Rattle.shogi_moves.proofs.ExistenceLaws.{some_legal}
@@ -54,16 +54,16 @@ is_free_kind _ = false
 -- ---- moves that take nothing and do not promote
 
 kept_in : (t : ℕ → Bool) (c : ℕ) (codes : List ℕ) → is_in c codes ≡ true → t c ≡ true → is_in c (filter t codes) ≡ true
-kept_in t c [] i passes = absurd (cc)
-kept_in t c (code ∷ codes) i passes =
+kept_in t c [] i skips = absurd (cc)
+kept_in t c (code ∷ codes) i skips =
     cond_both (t code) (code ∷ filter t codes) (filter t codes) (λ (xs : List ℕ). is_in c xs ≡ true)
     (λ _. elim (or_cases (c == code) (is_in c codes) i) [
       | inl same ↦ or_left (c == code) (is_in c (filter t codes)) same
-      | inr later ↦ or_right (c == code) (is_in c (filter t codes)) (kept_in t c codes later passes)
+      | inr later ↦ or_right (c == code) (is_in c (filter t codes)) (kept_in t c codes later skips)
     ])
     (λ fails. elim (or_cases (c == code) (is_in c codes) i) [
-      | inl same ↦ absurd (both_ways (t code) fails (subst (λ (n : ℕ). t n ≡ true) (eqb-true c code same) passes))
-      | inr later ↦ kept_in t c codes later passes
+      | inl same ↦ absurd (both_ways (t code) fails (subst (λ (n : ℕ). t n ≡ true) (eqb-true c code same) skips))
+      | inr later ↦ kept_in t c codes later skips
     ])
 
 -- a legal one is among them
@@ -94,12 +94,12 @@ sees_first cells side m bits = record {
   squares = λ k n h l e out seen. absurd (both_ways (has_bit m k) out (bits k h ∙ e));
 }
 
-pub sees_more : (cells : Cells) (side : Color) (left next sight king squares : ℕ) → Sees cells side left sight → ((i : ℕ) → has_bit next i ≡ (has_bit left i && not (i == king)))
-    → ((n : ℕ) → n < 81 → has_bit squares n ≡ is_seen cells king n) → Sees cells side next (bit_or sight squares)
-sees_more cells side left next sight king squares h bits seen = record {
-  kings = λ n l e. has_bit-or sight squares n ∙ or_left _ _ (h.kings n l e);
-  squares = λ k n l r e out on. has_bit-or sight squares n ∙ elim (cases_eq k king) [
-    | inl same ↦ or_right (has_bit sight n) (has_bit squares n) (seen n r ∙ subst (λ (j : ℕ). is_seen cells j n ≡ true) same on)
+pub sees_more : (cells : Cells) (side : Color) (left next king_view king squares : ℕ) → Sees cells side left king_view → ((i : ℕ) → has_bit next i ≡ (has_bit left i && not (i == king)))
+    → ((n : ℕ) → n < 81 → has_bit squares n ≡ is_seen cells king n) → Sees cells side next (bit_or king_view squares)
+sees_more cells side left next king_view king squares h bits seen = record {
+  kings = λ n l e. has_bit-or king_view squares n ∙ or_left _ _ (h.kings n l e);
+  squares = λ k n l r e out on. has_bit-or king_view squares n ∙ elim (cases_eq k king) [
+    | inl same ↦ or_right (has_bit king_view n) (has_bit squares n) (seen n r ∙ subst (λ (j : ℕ). is_seen cells j n ≡ true) same on)
     | inr other ↦ or_left _ _ (h.squares k n l r e (false_from_ne_true (has_bit left k) (λ set. both_ways (has_bit next k) out (bits k ∙ and_from _ _ set (not_from_false _ (ne_eqb k king other))))) on)
   ];
 }
@@ -174,18 +174,18 @@ still_moved promote (Some piece) e = go promote piece.role e
     go true Dragon e = absurd (cc)
 
 -- off the sight of the kings: on no open line with one
-unlined : (cells : Cells) (side : Color) (sight n : ℕ) → Sees cells side 0 sight → n < 81 → has_bit sight n ≡ false → is_lined_with_king cells side n ≡ false
+unlined : (cells : Cells) (side : Color) (king_view n : ℕ) → Sees cells side 0 king_view → n < 81 → has_bit king_view n ≡ false → is_lined_with_king cells side n ≡ false
 unfolding is_lined_with_king is_seen
-unlined cells side sight n s h out = some_below_no 81 (is_line_to_king cells side n) (λ k l. false_from_ne_true (is_line_to_king cells side n k) (λ e. (
+unlined cells side king_view n s h out = some_below_no 81 (is_line_to_king cells side n) (λ k l. false_from_ne_true (is_line_to_king cells side n k) (λ e. (
     let parts : (is_king side (piece_at cells k) ≡ true) × (are_lined cells n k ≡ true) = and_parts _ _ e in
-    both_ways (has_bit sight n) out (s.squares k n l h parts.0 (has_bit-none k) (or_left (are_lined cells k n) (is_jump k n) (lined_back cells n k h parts.1))))))
+    both_ways (has_bit king_view n) out (s.squares k n l h parts.0 (has_bit-none k) (or_left (are_lined cells k n) (is_jump k n) (lined_back cells n k h parts.1))))))
 
-unseen : (cells : Cells) (side : Color) (sight n : ℕ) → Sees cells side 0 sight → n < 81 → has_bit sight n ≡ false → (k : ℕ) → k < 81 → is_king side (piece_at cells k) ≡ true → is_seen cells k n ≡ false
-unseen cells side sight n s h out k l king = false_from_ne_true (is_seen cells k n) (λ e. both_ways (has_bit sight n) out (s.squares k n l h king (has_bit-none k) e))
+unseen : (cells : Cells) (side : Color) (king_view n : ℕ) → Sees cells side 0 king_view → n < 81 → has_bit king_view n ≡ false → (k : ℕ) → k < 81 → is_king side (piece_at cells k) ≡ true → is_seen cells k n ≡ false
+unseen cells side king_view n s h out k l king = false_from_ne_true (is_seen cells k n) (λ e. both_ways (has_bit king_view n) out (s.squares k n l h king (has_bit-none k) e))
 
 -- off the sight of the kings nothing does
-pub harmless_far : (cells : Cells) (side : Color) (sight : ℕ) (cell : Option Piece) (to : ℕ) → Sees cells side 0 sight → to < 81 → has_bit sight to ≡ false → IsHarmless cells side cell to
-harmless_far cells side sight cell to s h out k l king = false_from_ne_true (cell_reaches cells cell to k) (λ r. both_ways (is_seen cells k to) (unseen cells side sight to s h out k l king) (cell_seen cells cell to k h r))
+pub harmless_far : (cells : Cells) (side : Color) (king_view : ℕ) (cell : Option Piece) (to : ℕ) → Sees cells side 0 king_view → to < 81 → has_bit king_view to ≡ false → IsHarmless cells side cell to
+harmless_far cells side king_view cell to s h out k l king = false_from_ne_true (cell_reaches cells cell to k) (λ r. both_ways (is_seen cells k to) (unseen cells side king_view to s h out k l king) (cell_seen cells cell to k h r))
 
 -- nor does a piece that reaches none of them
 pub harmless_here : (cells : Cells) (side : Color) (piece : Piece) (to squares kings : ℕ) → ((n : ℕ) → n < 81 → has_bit squares n ≡ cell_reaches cells (Some piece) to n) → ((n : ℕ) → n < 81 → has_bit kings n ≡ is_king side (piece_at cells n)) → bit_and squares kings ≡ 0 → IsHarmless cells side (Some piece) to
@@ -234,12 +234,12 @@ free_drop : (cells : Cells) (hands : HandCounts) (color : Color) (kind : Kind) (
 unfolding is_safe
 free_drop cells hands color kind a len ha kin held empty shut =
     let q : Shogi = record { cells = cells; hands = hands; side = color } in
-    let plain : is_pawn_kind kind ≡ false = free_plain kind kin in
+    let non_promoting : is_pawn_kind kind ≡ false = free_plain kind kin in
     let lands : is_immobile a (dropped color kind) ≡ false = free_lands color kind a kin in
-    let allowed : is_pseudo_legal_drop cells hands color kind a ≡ true = rw (held, empty, lands, plain) refl in
+    let allowed : is_pseudo_legal_drop cells hands color kind a ≡ true = rw (held, empty, lands, non_promoting) refl in
     let safe : is_safe (record { cells = cells; hands = hands; side = color }) (Drop kind a) ≡ true = and_from _ _ allowed (ap not (quiet_drop cells color kind a len ha shut)) in
     some_quiet q (Drop kind a) (move_of-drop kind a ha)
-    (sym (is_legal_code_of q (code_of (Drop kind a)) (Drop kind a) (move_of-drop kind a ha)) ∙ (sym (drop_matching q kind a ha) ∙ (legal_drop q kind a ha ∙ and_from _ _ safe (ap (λ b. not (b && is_mated_by_drop (after q (Drop kind a)))) plain))))
+    (sym (is_legal_code_of q (code_of (Drop kind a)) (Drop kind a) (move_of-drop kind a ha)) ∙ (sym (drop_matching q kind a ha) ∙ (legal_drop q kind a ha ∙ and_from _ _ safe (ap (λ b. not (b && is_mated_by_drop (after q (Drop kind a)))) non_promoting))))
     refl
 
 -- a move changes nothing in the other side's hand
@@ -267,7 +267,7 @@ still_holds p m e = rw (other_counts p m kinds.Silver, other_counts p m kinds.Go
 
 way_after : (p : Shogi) (m : Move) (to a : ℕ) → is_way p (opponent_of p.side) to a ≡ true → (is_spare p.cells (opponent_of p.side) to a ≡ true) ⊎ ((a ≢ to) × (is_none (piece_at p.cells a) ≡ true) × (holds_free (after p m).hands (opponent_of p.side) ≡ true))
 way_after p m to a e = elim (or_cases (is_spare p.cells (opponent_of p.side) to a) (not (a == to) && is_none (piece_at p.cells a) && holds_free p.hands (opponent_of p.side)) e) [
-  | inl spare ↦ inl spare
+  | inl free_movers ↦ inl free_movers
   | inr held ↦ (
       let parts = and_parts (not (a == to) && is_none (piece_at p.cells a)) (holds_free p.hands (opponent_of p.side)) held in
       let two : (not (a == to) ≡ true) × (is_none (piece_at p.cells a) ≡ true) = and_parts (not (a == to)) (is_none (piece_at p.cells a)) parts.0 in
@@ -309,11 +309,11 @@ module _ (old new : Cells) (hands : HandCounts) (color : Color) where
       let bare : is_none (piece_at new which.0) ≡ true = k.empty which.0 walk.1 (λ at. both_ways _ (ap not (eq-eqb which.0 to at)) beside.1) in
       let reach : reaches new a which.0 ≡ true = ap (λ cell. cell_reaches new cell a which.0) same ∙ steps_reach new (piece_at old a) a which.0 walk.0 in
       let alive : is_immobile which.0 (piece_at new a) ≡ false = ap (is_immobile which.0) same ∙ not-true _ step.1 in
-      let plain : is_king color (piece_at new a) ≡ false = ap (is_king color) same ∙ not-true _ two.1 in
+      let non_promoting : is_king color (piece_at new a) ≡ false = ap (is_king color) same ∙ not-true _ two.1 in
       let off : is_lined_with_king new color a ≡ false = stays_unlined old new color a ha k.kings (not-true _ three.1) in
       some_quiet q (Board a which.0 false) (move_of-board a which.0 false ha which.1)
       (legal_board q a which.0 false
-      ∙ and_from _ _ (right_step new color a which.0 own (unowned color (piece_at new which.0) bare) reach alive) (ap not (quiet_board new color a which.0 false k.len ha which.1 own plain off shut)))
+      ∙ and_from _ _ (right_step new color a which.0 own (unowned color (piece_at new which.0) bare) reach alive) (ap not (quiet_board new color a which.0 false k.len ha which.1 own non_promoting off shut)))
       bare
 
   replied : (to : ℕ) → LeavesStanding old new color to → in_check new color ≡ false → (a : ℕ) → a < 81 → (is_spare old color to a ≡ true) ⊎ ((a ≢ to) × (is_none (piece_at old a) ≡ true) × (holds_free hands color ≡ true)) → quiet_codes (record { cells = new; hands = hands; side = color }) ≢ []
@@ -336,11 +336,11 @@ harmless_unaligned cells side lines from (Some piece) n a h out off k l e = fals
   | inr slide ↦ both_ways (has_bit lines n) out (a.squares k n l h e (has_bit-none k) (lined_aligned (set cells from None) k n (slide_seen (set cells from None) piece n k h slide)))
 ])
 
-pub uncovers_anywhere : (cells : Cells) (side : Color) (sight from mask : ℕ) → ((n : ℕ) → n < 81 → has_bit mask n ≡ true) → UncoversWithin cells side sight from mask
-uncovers_anywhere cells side sight from mask all promote n h off far = absurd (both_ways (has_bit mask n) off (all n h))
+pub discovers_anywhere : (cells : Cells) (side : Color) (king_view from mask : ℕ) → ((n : ℕ) → n < 81 → has_bit mask n ≡ true) → DiscoversWithin cells side king_view from mask
+discovers_anywhere cells side king_view from mask all promote n h off far = absurd (both_ways (has_bit mask n) off (all n h))
 
-pub uncovers_by_lines : (cells : Cells) (side : Color) (sight from lines : ℕ) → StaysCovered cells side from → Aligns cells side 0 lines → UncoversWithin cells side sight from lines
-uncovers_by_lines cells side sight from lines covered a promote n h off far = inr (harmless_unaligned cells side lines from (piece_moved promote (piece_at cells from)) n a h off far, covered)
+pub discovers_by_lines : (cells : Cells) (side : Color) (king_view from lines : ℕ) → StaysCovered cells side from → Aligns cells side 0 lines → DiscoversWithin cells side king_view from lines
+discovers_by_lines cells side king_view from lines covered a promote n h off far = inr (harmless_unaligned cells side lines from (piece_moved promote (piece_at cells from)) n a h off far, covered)
 
 -- ---- after a board move, and after a drop
 
@@ -381,15 +381,15 @@ module _ (p : Shogi) (from to : ℕ) (promote : Bool) (v : IsValid p) (hf : from
     | inr other ↦ inl (ap is_none (sym (get_or-set_other (set p.cells from None) to x what_moved None other)) ∙ e)
   ]
 
-  -- a move that uncovers nothing and attacks no king from where it ends gives no check
-  pub shut_board : (sight spare : ℕ) → IsReplies p sight spare → UncoversNothing p.cells (opponent_of p.side) sight from (piece_moved promote (piece_at p.cells from)) to → IsHarmless p.cells (opponent_of p.side) (piece_moved promote (piece_at p.cells from)) to
+  -- a move that discovers nothing and attacks no king from where it ends gives no check
+  pub shut_board : (king_view free_movers : ℕ) → IsReplyInfo p king_view free_movers → DiscoversNothing p.cells (opponent_of p.side) king_view from (piece_moved promote (piece_at p.cells from)) to → IsHarmless p.cells (opponent_of p.side) (piece_moved promote (piece_at p.cells from)) to
       → in_check (cells_after p.cells p.side (Board from to promote)) (opponent_of p.side) ≡ false
-  shut_board sight spare r (inl unseen_from) off =
+  shut_board king_view free_movers r (inl unseen_from) off =
       no_check p.cells (set (set p.cells from None) to (piece_moved promote (piece_at p.cells from))) (λ x. x ≡ from) opened_board (opponent_of p.side) to ht theirs_board crown_board
-      (λ x left. subst (λ (y : ℕ). is_lined_with_king p.cells (opponent_of p.side) y ≡ false) (sym left) (unlined p.cells (opponent_of p.side) sight from r.sees hf unseen_from))
+      (λ x left. subst (λ (y : ℕ). is_lined_with_king p.cells (opponent_of p.side) y ≡ false) (sym left) (unlined p.cells (opponent_of p.side) king_view from r.sees hf unseen_from))
       (λ k l e. ap (λ cell. cell_reaches p.cells cell to k) lands_board ∙ off k l e)
       (faultless_from p v.no_fault).shut
-  shut_board sight spare r (inr covering) off =
+  shut_board king_view free_movers r (inr covering) off =
       left_unpinned p.cells (set (set p.cells from None) to (piece_moved promote (piece_at p.cells from))) from opened_board (opponent_of p.side) to theirs_board crown_board
       (λ k l e. ap (λ cell. cell_reaches (set (set p.cells from None) to (piece_moved promote (piece_at p.cells from))) cell to k) lands_board
       ∙ false_from_ne_true (cell_reaches (set (set p.cells from None) to (piece_moved promote (piece_at p.cells from))) (piece_moved promote (piece_at p.cells from)) to k) (λ reach. both_ways (cell_reaches (set p.cells from None) what_moved to k) (covering.0 k l e)
@@ -454,27 +454,27 @@ module _ (p : Shogi) (from to : ℕ) (v : IsValid p) (hf : from < 81) (own : is_
   }
 
   -- it has no check where no king sees the square, or what stands there covers none
-  pub shut_lifted : (sight : ℕ) → Sees p.cells (opponent_of p.side) 0 sight → (has_bit sight from ≡ false) ⊎ StaysCovered p.cells (opponent_of p.side) from → in_check (set p.cells from None) (opponent_of p.side) ≡ false
-  shut_lifted sight sees (inl unseen_from) =
+  pub shut_lifted : (king_view : ℕ) → Sees p.cells (opponent_of p.side) 0 king_view → (has_bit king_view from ≡ false) ⊎ StaysCovered p.cells (opponent_of p.side) from → in_check (set p.cells from None) (opponent_of p.side) ≡ false
+  shut_lifted king_view sees (inl unseen_from) =
       no_check p.cells (set p.cells from None) (λ x. x ≡ from) opened_lifted (opponent_of p.side) from hf theirs_lifted crown_lifted
-      (λ x left. subst (λ (y : ℕ). is_lined_with_king p.cells (opponent_of p.side) y ≡ false) (sym left) (unlined p.cells (opponent_of p.side) sight from sees hf unseen_from))
+      (λ x left. subst (λ (y : ℕ). is_lined_with_king p.cells (opponent_of p.side) y ≡ false) (sym left) (unlined p.cells (opponent_of p.side) king_view from sees hf unseen_from))
       (λ k l e. ap (λ cell. cell_reaches p.cells cell from k) bare)
       (faultless_from p v.no_fault).shut
-  shut_lifted sight sees (inr covered) =
+  shut_lifted king_view sees (inr covered) =
       left_unpinned p.cells (set p.cells from None) from opened_lifted (opponent_of p.side) from theirs_lifted crown_lifted
       (λ k l e. ap (λ cell. cell_reaches (set p.cells from None) cell from k) bare)
       (faultless_from p v.no_fault).shut covered
 
-replied_shut : (p : Shogi) (from to : ℕ) (promote : Bool) (sight spare a : ℕ) → IsValid p → IsReplies p sight spare → from < 81 → to < 81 → is_piece_of p.side (piece_at p.cells from) ≡ true → in_check (after p (Board from to promote)).cells (opponent_of p.side) ≡ false
-    → a < 81 → has_bit spare a ≡ true → a ≢ to → quiet_codes (after p (Board from to promote)) ≢ []
-replied_shut p from to promote sight spare a v r hf ht own shut ha some other =
+replied_shut : (p : Shogi) (from to : ℕ) (promote : Bool) (king_view free_movers a : ℕ) → IsValid p → IsReplyInfo p king_view free_movers → from < 81 → to < 81 → is_piece_of p.side (piece_at p.cells from) ≡ true → in_check (after p (Board from to promote)).cells (opponent_of p.side) ≡ false
+    → a < 81 → has_bit free_movers a ≡ true → a ≢ to → quiet_codes (after p (Board from to promote)) ≢ []
+replied_shut p from to promote king_view free_movers a v r hf ht own shut ha some other =
     let which = some_below_which 81 (is_way p (opponent_of p.side) to) (r.spares a to ha some other) in
     replied p.cells (cells_after p.cells p.side (Board from to promote)) (after p (Board from to promote)).hands (opponent_of p.side)
     to (left_board p from to promote v hf ht own) shut which.0 which.1 (way_after p (Board from to promote) to which.0 which.2)
 
-pub replied_board : (p : Shogi) (from to : ℕ) (promote : Bool) (sight spare a : ℕ) → IsValid p → IsReplies p sight spare → from < 81 → to < 81 → is_piece_of p.side (piece_at p.cells from) ≡ true → UncoversNothing p.cells (opponent_of p.side) sight from (piece_moved promote (piece_at p.cells from)) to → IsHarmless p.cells (opponent_of p.side) (piece_moved promote (piece_at p.cells from)) to
-    → a < 81 → has_bit spare a ≡ true → a ≢ to → quiet_codes (after p (Board from to promote)) ≢ []
-replied_board p from to promote sight spare a v r hf ht own out off = replied_shut p from to promote sight spare a v r hf ht own (shut_board p from to promote v hf ht own sight spare r out off)
+pub replied_board : (p : Shogi) (from to : ℕ) (promote : Bool) (king_view free_movers a : ℕ) → IsValid p → IsReplyInfo p king_view free_movers → from < 81 → to < 81 → is_piece_of p.side (piece_at p.cells from) ≡ true → DiscoversNothing p.cells (opponent_of p.side) king_view from (piece_moved promote (piece_at p.cells from)) to → IsHarmless p.cells (opponent_of p.side) (piece_moved promote (piece_at p.cells from)) to
+    → a < 81 → has_bit free_movers a ≡ true → a ≢ to → quiet_codes (after p (Board from to promote)) ≢ []
+replied_board p from to promote king_view free_movers a v r hf ht own out off = replied_shut p from to promote king_view free_movers a v r hf ht own (shut_board p from to promote v hf ht own king_view free_movers r out off)
 
 module _ (p : Shogi) (kind : Kind) (to : ℕ) (v : IsValid p) (ht : to < 81) where
   see_drop : (x : ℕ) → ((x ≡ to) × (piece_at (cells_after p.cells p.side (Drop kind to)) x ≡ dropped p.side kind)) ⊎ (piece_at (cells_after p.cells p.side (Drop kind to)) x ≡ piece_at p.cells x)
@@ -511,9 +511,9 @@ module _ (p : Shogi) (kind : Kind) (to : ℕ) (v : IsValid p) (ht : to < 81) whe
     empty = λ x e ne. elim (see_drop x) [ inl there ↦ absurd (ne there.0) | inr same ↦ ap is_none same ∙ e ];
   }
 
-pub replied_drop : (p : Shogi) (kind : Kind) (to sight spare a : ℕ) → IsValid p → IsReplies p sight spare → to < 81 → IsHarmless p.cells (opponent_of p.side) (dropped p.side kind) to
-    → a < 81 → has_bit spare a ≡ true → a ≢ to → quiet_codes (after p (Drop kind to)) ≢ []
-replied_drop p kind to sight spare a v r ht off ha some other =
+pub replied_drop : (p : Shogi) (kind : Kind) (to king_view free_movers a : ℕ) → IsValid p → IsReplyInfo p king_view free_movers → to < 81 → IsHarmless p.cells (opponent_of p.side) (dropped p.side kind) to
+    → a < 81 → has_bit free_movers a ≡ true → a ≢ to → quiet_codes (after p (Drop kind to)) ≢ []
+replied_drop p kind to king_view free_movers a v r ht off ha some other =
     let which = some_below_which 81 (is_way p (opponent_of p.side) to) (r.spares a to ha some other) in
     replied p.cells (cells_after p.cells p.side (Drop kind to)) (after p (Drop kind to)).hands (opponent_of p.side)
     to (left_drop p kind to v ht) (shut_drop p kind to v ht off) which.0 which.1 (way_after p (Drop kind to) to which.0 which.2)
@@ -529,7 +529,7 @@ pub record IsMover (cells : Cells) (side : Color) (a : ℕ) : Type 0 where
 pub record IsSifted (cells : Cells) (side : Color) (lines left kept ends : ℕ) : Type 0 where
   pub own : (a : ℕ) → a < 81 → has_bit left a ≡ true → (is_piece_of side (piece_at cells a) ≡ true) × (has_bit lines a ≡ false)
   pub within : (a : ℕ) → has_bit left a ≡ true → has_bit kept a ≡ true
-  pub spare : (a : ℕ) → a < 81 → has_bit kept a ≡ true → (has_bit left a ≡ true) ⊎ IsMover cells side a
+  pub free_movers : (a : ℕ) → a < 81 → has_bit kept a ≡ true → (has_bit left a ≡ true) ⊎ IsMover cells side a
   pub end : (t : ℕ) → t < 81 → has_bit ends t ≡ true → (a : ℕ) × (a < 81) × (is_unbound cells side a ≡ true) × (is_quiet_step cells a t ≡ true)
 
 pub sifted_first : (cells : Cells) (side : Color) (lines own : ℕ) → lines < 2 ^ 128 → ((n : ℕ) → n < 81 → has_bit own n ≡ is_piece_of side (piece_at cells n)) → IsSifted cells side lines (bit_and own (2 ^ 128 - 1 - lines)) (bit_and own (2 ^ 128 - 1 - lines)) 0
@@ -538,7 +538,7 @@ sifted_first cells side lines own fits bits = record {
       let parts : (has_bit own a ≡ true) × (has_bit (2 ^ 128 - 1 - lines) a ≡ true) = and_parts _ _ (sym (has_bit-and own (2 ^ 128 - 1 - lines) a) ∙ e) in
       (sym (bits a h) ∙ parts.0, not-true _ (sym (has_bit-not lines a fits (omega arith)) ∙ parts.1)));
   within = λ a e. e;
-  spare = λ a h e. inl e;
+  free_movers = λ a h e. inl e;
   end = λ t h e. absurd (both_ways (has_bit 0 t) (has_bit-none t) e);
 }
 
@@ -560,11 +560,11 @@ sifted_found cells side lines left kept ends next from steps s f hf here fits ar
     record {
       own = λ a h e. f.own a h ((and_parts (has_bit left a) (not (a == from)) (sym (bits a) ∙ e)).0);
       within = λ a e. f.within a ((and_parts (has_bit left a) (not (a == from)) (sym (bits a) ∙ e)).0);
-      spare = λ a h e. elim (cases_eq a from) [
+      free_movers = λ a h e. elim (cases_eq a from) [
         | inl same ↦ inr (subst (IsMover cells side) (sym same) (record { unbound = unbound; steps = some_step cells from steps fits are some }))
-        | inr other ↦ elim (f.spare a h e) [
+        | inr other ↦ elim (f.free_movers a h e) [
           | inl still ↦ inl (bits a ∙ and_from _ _ still (not_from_false _ (ne_eqb a from other)))
-          | inr spare ↦ inr spare
+          | inr free_movers ↦ inr free_movers
         ]
       ];
       end = λ t h e. elim (or_cases (has_bit ends t) (has_bit steps t) (sym (has_bit-or ends steps t) ∙ e)) [
@@ -577,11 +577,11 @@ pub sifted_dropped : (cells : Cells) (side : Color) (lines left kept ends next l
 sifted_dropped cells side lines left kept ends next less from f bits gone = record {
   own = λ a h e. f.own a h ((and_parts (has_bit left a) (not (a == from)) (sym (bits a) ∙ e)).0);
   within = λ a e. (let parts = and_parts (has_bit left a) (not (a == from)) (sym (bits a) ∙ e) in gone a ∙ and_from _ _ (f.within a parts.0) parts.1);
-  spare = λ a h e. (
+  free_movers = λ a h e. (
       let parts = and_parts (has_bit kept a) (not (a == from)) (sym (gone a) ∙ e) in
-      elim (f.spare a h parts.0) [
+      elim (f.free_movers a h parts.0) [
         | inl still ↦ inl (bits a ∙ and_from _ _ still parts.1)
-        | inr spare ↦ inr spare
+        | inr free_movers ↦ inr free_movers
       ]);
   end = f.end;
 }
@@ -602,14 +602,14 @@ steps_beside cells side to a t unbound step same =
     both_ways (is_piece_of side (piece_at cells to)) (unowned side (piece_at cells to) (subst (λ (n : ℕ). is_none (piece_at cells n) ≡ true) same bare)) own
 
 -- with two ends, each piece leaves a step: its own or that of another one
-pub sifted_done : (cells : Cells) (side : Color) (lines left kept ends : ℕ) → left < 2 ^ 128 → HasOthers ends → IsSifted cells side lines left kept ends → LeaveSpare cells side (bit_and kept (2 ^ 128 - 1 - left))
+pub sifted_done : (cells : Cells) (side : Color) (lines left kept ends : ℕ) → left < 2 ^ 128 → HasOthers ends → IsSifted cells side lines left kept ends → LeaveFreeMovers cells side (bit_and kept (2 ^ 128 - 1 - left))
 sifted_done cells side lines left kept ends fits two f a to h set stays =
     let parts : (has_bit kept a ≡ true) × (has_bit (2 ^ 128 - 1 - left) a ≡ true) = and_parts _ _ (sym (has_bit-and kept (2 ^ 128 - 1 - left) a) ∙ set) in
     let end = two to in
     let by = f.end end.0 end.1 end.2 in
     elim (cases_eq by.0 to) [
       | inr off ↦ spare_at cells side to by.0 end.0 by.1 end.1 off end.3 by.2 by.3
-      | inl at ↦ elim (f.spare a h parts.0) [
+      | inl at ↦ elim (f.free_movers a h parts.0) [
         | inl still ↦ absurd (both_ways (has_bit left a) (not-true _ (sym (has_bit-not left a fits (omega arith)) ∙ parts.1)) still)
         | inr mover ↦ (
             let step = some_below_which 81 (is_quiet_step cells a) mover.steps in
@@ -633,7 +633,7 @@ pub ways_free : (p : Shogi) (side : Color) (free : ℕ) → holds_free p.hands s
 ways_free p side free held bits a to h set other =
     some_below_at 81 (is_way p side to) a h (or_right (is_spare p.cells side to a) _ (and_from _ _ (and_from _ _ (not_from_false _ (ne_eqb a to other)) (sym (bits a h) ∙ set)) held))
 
-pub ways_spare : (p : Shogi) (side : Color) (squares : ℕ) → LeaveSpare p.cells side squares → (a to : ℕ) → a < 81 → has_bit squares a ≡ true → a ≢ to → some_below 81 (is_way p side to) ≡ true
+pub ways_spare : (p : Shogi) (side : Color) (squares : ℕ) → LeaveFreeMovers p.cells side squares → (a to : ℕ) → a < 81 → has_bit squares a ≡ true → a ≢ to → some_below 81 (is_way p side to) ≡ true
 ways_spare p side squares leave a to h set other =
     let which = some_below_which 81 (is_spare p.cells side to) (leave a to h set other) in
     some_below_at 81 (is_way p side to) which.0 which.1 (or_left (is_spare p.cells side to which.0) _ which.2)
@@ -651,23 +651,23 @@ legal_own p from to promote e =
     (and_parts _ _ two.0).0
 
 -- one of the squares that give a move is another than that where the move ends
-another_than : (spare free to : ℕ) → free < 2 ^ 81 → ((i : ℕ) → has_bit free i ≡ (has_bit spare i && not (i == to))) → free ≢ 0 → (a : ℕ) × (a < 81) × (has_bit spare a ≡ true) × (a ≢ to)
-another_than spare free to fits bits some =
+another_than : (free_movers free to : ℕ) → free < 2 ^ 81 → ((i : ℕ) → has_bit free i ≡ (has_bit free_movers i && not (i == to))) → free ≢ 0 → (a : ℕ) × (a < 81) × (has_bit free_movers a ≡ true) × (a ≢ to)
+another_than free_movers free to fits bits some =
     let low = lowest_set free some fits in
-    let parts : (has_bit spare (trailing_zeros w128 free) ≡ true) × (not (trailing_zeros w128 free == to) ≡ true) = and_parts _ _ (sym (bits (trailing_zeros w128 free)) ∙ low.1) in
+    let parts : (has_bit free_movers (trailing_zeros w128 free) ≡ true) × (not (trailing_zeros w128 free == to) ≡ true) = and_parts _ _ (sym (bits (trailing_zeros w128 free)) ∙ low.1) in
     (trailing_zeros w128 free, low.0, parts.0, λ e. both_ways _ (ap not (eq-eqb _ to e)) parts.1)
 
-pub certain_board : (p : Shogi) (from to : ℕ) (promote : Bool) (sight spare free : ℕ) → IsValid p → IsReplies p sight spare → free < 2 ^ 81 → from < 81 → to < 81 → is_legal p (Board from to promote) ≡ true → in_check (after p (Board from to promote)).cells (opponent_of p.side) ≡ false
-    → ((i : ℕ) → has_bit free i ≡ (has_bit spare i && not (i == to))) → free ≢ 0 → quiet_codes (after p (Board from to promote)) ≢ []
-certain_board p from to promote sight spare free v r fits hf ht legal shut bits some =
-    let a = another_than spare free to fits bits some in
-    replied_shut p from to promote sight spare a.0 v r hf ht (legal_own p from to promote legal) shut a.1 a.2 a.3
+pub guaranteed_board : (p : Shogi) (from to : ℕ) (promote : Bool) (king_view free_movers free : ℕ) → IsValid p → IsReplyInfo p king_view free_movers → free < 2 ^ 81 → from < 81 → to < 81 → is_legal p (Board from to promote) ≡ true → in_check (after p (Board from to promote)).cells (opponent_of p.side) ≡ false
+    → ((i : ℕ) → has_bit free i ≡ (has_bit free_movers i && not (i == to))) → free ≢ 0 → quiet_codes (after p (Board from to promote)) ≢ []
+guaranteed_board p from to promote king_view free_movers free v r fits hf ht legal shut bits some =
+    let a = another_than free_movers free to fits bits some in
+    replied_shut p from to promote king_view free_movers a.0 v r hf ht (legal_own p from to promote legal) shut a.1 a.2 a.3
 
-pub certain_drop : (p : Shogi) (kind : Kind) (to sight spare free : ℕ) → IsValid p → IsReplies p sight spare → free < 2 ^ 81 → to < 81 → IsHarmless p.cells (opponent_of p.side) (dropped p.side kind) to
-    → ((i : ℕ) → has_bit free i ≡ (has_bit spare i && not (i == to))) → free ≢ 0 → quiet_codes (after p (Drop kind to)) ≢ []
-certain_drop p kind to sight spare free v r fits ht off bits some =
-    let a = another_than spare free to fits bits some in
-    replied_drop p kind to sight spare a.0 v r ht off a.1 a.2 a.3
+pub guaranteed_drop : (p : Shogi) (kind : Kind) (to king_view free_movers free : ℕ) → IsValid p → IsReplyInfo p king_view free_movers → free < 2 ^ 81 → to < 81 → IsHarmless p.cells (opponent_of p.side) (dropped p.side kind) to
+    → ((i : ℕ) → has_bit free i ≡ (has_bit free_movers i && not (i == to))) → free ≢ 0 → quiet_codes (after p (Drop kind to)) ≢ []
+guaranteed_drop p kind to king_view free_movers free v r fits ht off bits some =
+    let a = another_than free_movers free to fits bits some in
+    replied_drop p kind to king_view free_movers a.0 v r ht off a.1 a.2 a.3
 
 -- what is answered quietly is answered
 pub answered : (p : Shogi) (m : Move) → IsQuietlyAnswered p m → IsAnswered p m
@@ -676,20 +676,20 @@ answered p m quietly legal = quiet_legal (after p m) (quietly legal)
 -- ---- squares in a row
 
 -- of two squares that give a move one is another
-pub one_of_two : (spare one rest n : ℕ) → spare < 2 ^ 81 → one < 81 → has_bit spare one ≡ true → ((i : ℕ) → has_bit rest i ≡ (has_bit spare i && not (i == one))) → rest ≢ 0 → rest < spare → (a : ℕ) × (a < 81) × (has_bit spare a ≡ true) × (a ≢ n)
-one_of_two spare one rest n fits h set bits some less = elim (cases_eq n one) [
+pub one_of_two : (free_movers one rest n : ℕ) → free_movers < 2 ^ 81 → one < 81 → has_bit free_movers one ≡ true → ((i : ℕ) → has_bit rest i ≡ (has_bit free_movers i && not (i == one))) → rest ≢ 0 → rest < free_movers → (a : ℕ) × (a < 81) × (has_bit free_movers a ≡ true) × (a ≢ n)
+one_of_two free_movers one rest n fits h set bits some less = elim (cases_eq n one) [
   | inl same ↦ (
       let low = lowest_set rest some (omega arith) in
-      let parts : (has_bit spare (trailing_zeros w128 rest) ≡ true) × (not (trailing_zeros w128 rest == one) ≡ true) = and_parts _ _ (sym (bits (trailing_zeros w128 rest)) ∙ low.1) in
+      let parts : (has_bit free_movers (trailing_zeros w128 rest) ≡ true) × (not (trailing_zeros w128 rest == one) ≡ true) = and_parts _ _ (sym (bits (trailing_zeros w128 rest)) ∙ low.1) in
       (trailing_zeros w128 rest, low.0, parts.0, λ e. both_ways _ (ap not (eq-eqb _ one (e ∙ same))) parts.1))
   | inr other ↦ (one, h, set, λ e. other (sym e))
 ]
 
-pub other_than : (spare one n : ℕ) → one < 81 → has_bit spare one ≡ true → not (n == one) ≡ true → (a : ℕ) × (a < 81) × (has_bit spare a ≡ true) × (a ≢ n)
-other_than spare one n h set other = (one, h, set, λ e. both_ways _ (ap not (eq-eqb n one (sym e))) other)
+pub other_than : (free_movers one n : ℕ) → one < 81 → has_bit free_movers one ≡ true → not (n == one) ≡ true → (a : ℕ) × (a < 81) × (has_bit free_movers a ≡ true) × (a ≢ n)
+other_than free_movers one n h set other = (one, h, set, λ e. both_ways _ (ap not (eq-eqb n one (sym e))) other)
 
-pub unseen_bit : (sight n : ℕ) → sight < 2 ^ 128 → n < 81 → has_bit (2 ^ 128 - 1 - sight) n ≡ true → has_bit sight n ≡ false
-unseen_bit sight n fits h e = false_from_ne_true (has_bit sight n) (λ seen. both_ways (has_bit (2 ^ 128 - 1 - sight) n) (has_bit-not sight n fits (omega arith) ∙ ap not seen) e)
+pub unseen_bit : (king_view n : ℕ) → king_view < 2 ^ 128 → n < 81 → has_bit (2 ^ 128 - 1 - king_view) n ≡ true → has_bit king_view n ≡ false
+unseen_bit king_view n fits h e = false_from_ne_true (has_bit king_view n) (λ seen. both_ways (has_bit (2 ^ 128 - 1 - king_view) n) (has_bit-not king_view n fits (omega arith) ∙ ap not seen) e)
 
 pub not_closed : (all closed n : ℕ) → closed < 2 ^ 128 → n < 81 → has_bit (bit_and all (2 ^ 128 - 1 - closed)) n ≡ true → has_bit closed n ≡ false
 not_closed all closed n fits h e = unseen_bit closed n fits h (and_parts _ _ (sym (has_bit-and all (2 ^ 128 - 1 - closed) n) ∙ e)).1
@@ -707,27 +707,27 @@ among_either destinations free more n e = elim (or_cases (has_bit (bit_and desti
 ]
 
 -- what moves to an open square without a check, or is dropped there, is answered
-pub open_far : (p : Shogi) (escapes from n : ℕ) (promote : Bool) (sight closed spare : ℕ) → IsValid p → IsReplies p sight spare → from < 81 → n < 81 → has_bit sight from ≡ false → IsHarmless p.cells (opponent_of p.side) (piece_moved promote (piece_at p.cells from)) n → IsOpen closed spare n → IsCertain p escapes (Board from n promote)
-open_far p escapes from n promote sight closed spare v r hf hn unseen_from far o = (
-  λ legal. replied_board p from n promote sight spare o.way.0 v r hf hn (legal_own p from n promote legal) (inl unseen_from) far o.way.1 o.way.2 o.way.3,
-  λ none legal. shut_board p from n promote v hf hn (legal_own p from n promote legal) sight spare r (inl unseen_from) far,
+pub open_far : (p : Shogi) (escapes from n : ℕ) (promote : Bool) (king_view closed free_movers : ℕ) → IsValid p → IsReplyInfo p king_view free_movers → from < 81 → n < 81 → has_bit king_view from ≡ false → IsHarmless p.cells (opponent_of p.side) (piece_moved promote (piece_at p.cells from)) n → IsOpen closed free_movers n → GuaranteesReply p escapes (Board from n promote)
+open_far p escapes from n promote king_view closed free_movers v r hf hn unseen_from far o = (
+  λ legal. replied_board p from n promote king_view free_movers o.way.0 v r hf hn (legal_own p from n promote legal) (inl unseen_from) far o.way.1 o.way.2 o.way.3,
+  λ none legal. shut_board p from n promote v hf hn (legal_own p from n promote legal) king_view free_movers r (inl unseen_from) far,
 )
 
 -- a piece that does not promote stays what it is
 pub harmless_unmoved : (p : Shogi) (from n : ℕ) → IsHarmless p.cells (opponent_of p.side) (piece_at p.cells from) n → IsHarmless p.cells (opponent_of p.side) (piece_moved false (piece_at p.cells from)) n
 harmless_unmoved p from n far = subst (λ (cell : Option Piece). IsHarmless p.cells (opponent_of p.side) cell n) (sym (unmoved (piece_at p.cells from))) far
 
-pub open_board : (p : Shogi) (escapes from n : ℕ) (promote : Bool) (sight checking uncovering spare : ℕ) → IsValid p → IsReplies p sight spare → from < 81 → n < 81 → UncoversWithin p.cells (opponent_of p.side) sight from uncovering
-    → (has_bit checking n ≡ false → IsHarmless p.cells (opponent_of p.side) (piece_moved promote (piece_at p.cells from)) n) → IsOpen (bit_or checking uncovering) spare n → IsCertain p escapes (Board from n promote)
-open_board p escapes from n promote sight checking uncovering spare v r hf hn within far o =
-    let parts : (has_bit checking n ≡ false) × (has_bit uncovering n ≡ false) = or_parts (has_bit checking n) (has_bit uncovering n) (sym (has_bit-or checking uncovering n) ∙ o.unclosed) in
+pub open_board : (p : Shogi) (escapes from n : ℕ) (promote : Bool) (king_view checking discovering free_movers : ℕ) → IsValid p → IsReplyInfo p king_view free_movers → from < 81 → n < 81 → DiscoversWithin p.cells (opponent_of p.side) king_view from discovering
+    → (has_bit checking n ≡ false → IsHarmless p.cells (opponent_of p.side) (piece_moved promote (piece_at p.cells from)) n) → IsOpen (bit_or checking discovering) free_movers n → GuaranteesReply p escapes (Board from n promote)
+open_board p escapes from n promote king_view checking discovering free_movers v r hf hn within far o =
+    let parts : (has_bit checking n ≡ false) × (has_bit discovering n ≡ false) = or_parts (has_bit checking n) (has_bit discovering n) (sym (has_bit-or checking discovering n) ∙ o.unclosed) in
     let off : IsHarmless p.cells (opponent_of p.side) (piece_moved promote (piece_at p.cells from)) n = far parts.0 in (
-      λ legal. replied_board p from n promote sight spare o.way.0 v r hf hn (legal_own p from n promote legal) (within promote n hn parts.1 off) off o.way.1 o.way.2 o.way.3,
-      λ none legal. shut_board p from n promote v hf hn (legal_own p from n promote legal) sight spare r (within promote n hn parts.1 off) off,
+      λ legal. replied_board p from n promote king_view free_movers o.way.0 v r hf hn (legal_own p from n promote legal) (within promote n hn parts.1 off) off o.way.1 o.way.2 o.way.3,
+      λ none legal. shut_board p from n promote v hf hn (legal_own p from n promote legal) king_view free_movers r (within promote n hn parts.1 off) off,
     )
 
-pub open_drop : (p : Shogi) (escapes : ℕ) (kind : Kind) (n sight closed spare : ℕ) → IsValid p → IsReplies p sight spare → n < 81 → IsHarmless p.cells (opponent_of p.side) (dropped p.side kind) n → IsOpen closed spare n → IsCertain p escapes (Drop kind n)
-open_drop p escapes kind n sight closed spare v r hn off o = (
-  λ legal. replied_drop p kind n sight spare o.way.0 v r hn off o.way.1 o.way.2 o.way.3,
+pub open_drop : (p : Shogi) (escapes : ℕ) (kind : Kind) (n king_view closed free_movers : ℕ) → IsValid p → IsReplyInfo p king_view free_movers → n < 81 → IsHarmless p.cells (opponent_of p.side) (dropped p.side kind) n → IsOpen closed free_movers n → GuaranteesReply p escapes (Drop kind n)
+open_drop p escapes kind n king_view closed free_movers v r hn off o = (
+  λ legal. replied_drop p kind n king_view free_movers o.way.0 v r hn off o.way.1 o.way.2 o.way.3,
   λ none legal. shut_drop p kind n v hn off,
 )

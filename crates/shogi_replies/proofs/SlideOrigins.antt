@@ -16,7 +16,7 @@ use Rattle.shogi_core.proofs.Back.{away_back, away_between, leads_is, is_leads}
 use Rattle.shogi_core.proofs.Below.{all_below_at, all_below_yes, some_below_at, some_below_not, some_below_no}
 use Rattle.shogi_core.proofs.RayLaws.{slides_bare}
 use Rattle.shogi_core.proofs.SeenLaws.{lined_back, slides_role}
-use Rattle.shogi_core.proofs.Uncovered.{same_way, one_of, slides_around, slides_was, some_below_which}
+use Rattle.shogi_core.proofs.Discovered.{same_way, one_of, slides_around, slides_was, some_below_which}
 
 -- ---- two squares of one line
 

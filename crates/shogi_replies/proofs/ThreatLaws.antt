@@ -23,13 +23,13 @@ use Rattle.shogi_core.proofs.Back.{away_on, is_leads, leads_is}
 use Rattle.shogi_core.proofs.Below.{some_below_at, some_below_not, all_below_at, all_below_yes}
 use Rattle.shogi_core.proofs.BitLaws.{has_bit-and}
 use Rattle.shogi_core.proofs.LineBits.{has_bit-not}
-use Rattle.shogi_core.proofs.Shots.{direction_around, direction_of}
-use Rattle.shogi_core.proofs.Uncovered.{list_any_kept, one_of, some_below_which, same_way, same_way_is, slides_around}
+use Rattle.shogi_core.proofs.SliderAttacks.{direction_around, direction_of}
+use Rattle.shogi_core.proofs.Discovered.{list_any_kept, one_of, some_below_which, same_way, same_way_is, slides_around}
 use Rattle.shogi_moves.specs.After.{after, cells_after, piece_moved, dropped}
 use Rattle.shogi_moves.specs.Legal.{is_legal, is_pseudo_legal_board_move}
 use Rattle.shogi_core.specs.Zones.{may_promote}
-use Rattle.shogi_replies.specs.Replies.{is_aligned_with_king, is_line_of_king}
-use Rattle.shogi_replies.specs.Threats.{IsOffPins, IsUnpinnable, IsAttack, IsThreat, EndsAside, LeavesThreat, MayTake, end_of, put_by}
+use Rattle.shogi_replies.specs.ReplyInfo.{is_aligned_with_king, is_line_of_king}
+use Rattle.shogi_replies.specs.Threats.{IsOffPins, IsUnpinnable, IsAttack, IsThreat, EndsNonInterfering, LeavesThreat, MayTake, end_of, put_by}
 use Rattle.shogi_core.proofs.RayLaws.{slides_bare}
 use Rattle.shogi_moves.proofs.DestinationLaws.{alive, legal_board, still}
 use Rattle.shogi_moves.proofs.CheckInfoLaws.{dropped_of, filled, is_piece_of-piece_moved, look, other_side, quiet_board}
@@ -135,8 +135,8 @@ reach_to old new to clear (Some piece) a e = elim (or_cases (has_step piece a to
 -- a piece between its king and no piece that slides, but that on the square where it takes, leaves the king in no check
 unpinned_take : (cells : Cells) (side : Color) (a t : ℕ) (v : Option Piece) → length cells ≡ 81 → a < 81 → t < 81 → a ≢ t → is_piece_of side v ≡ true → is_king side v ≡ false → is_king side (piece_at cells a) ≡ false → is_piece_of side (piece_at cells a) ≡ true → in_check cells side ≡ false
     → ((k x d : ℕ) → k < 81 → x < 81 → d < 8 → x ≢ t → is_sniper_of_king cells side x k ≡ true → is_on_ray (direction_at d) k a ≡ true → is_on_ray (direction_at d) a x ≡ false) → in_check (set (set cells a None) t v) side ≡ false
-unpinned_take cells side a t v len ha ht other own plain bare mine safe apart =
-    left_off_pins (set cells t v) (set (set cells a None) t v) a ha opened side theirs crown (filled cells side t v len ht own plain safe) off_pins
+unpinned_take cells side a t v len ha ht other own non_promoting bare mine safe apart =
+    left_off_pins (set cells t v) (set (set cells a None) t v) a ha opened side theirs crown (filled cells side t v len ht own non_promoting safe) off_pins
   where
     placed : piece_at (set cells t v) t ≡ v
     placed = get_or-set_same cells t v None (omega (arith, len))
@@ -177,7 +177,7 @@ unpinned_take cells side a t v len ha ht other own plain bare mine safe apart =
         let inner = and_parts (is_piece_of (opponent_of side) (piece_at (set cells t v) x) && is_slider (piece_at (set cells t v) x)) (are_aligned k x) two.1 in
         let foe = and_parts (is_piece_of (opponent_of side) (piece_at (set cells t v) x)) (is_slider (piece_at (set cells t v) x)) inner.0 in
         let off : x ≢ t = λ (there : x ≡ t). both_ways (is_piece_of (opponent_of side) v) (other_side side v own) (subst (λ (cell : Option Piece). is_piece_of (opponent_of side) cell ≡ true) (ap (piece_at (set cells t v)) there ∙ placed) foe.0) in
-        let king_off : k ≢ t = λ (there : k ≡ t). both_ways (is_king side v) plain (subst (λ (cell : Option Piece). is_king side cell ≡ true) (ap (piece_at (set cells t v)) there ∙ placed) two.0) in
+        let king_off : k ≢ t = λ (there : k ≡ t). both_ways (is_king side v) non_promoting (subst (λ (cell : Option Piece). is_king side cell ≡ true) (ap (piece_at (set cells t v)) there ∙ placed) two.0) in
         let king : is_king side (piece_at cells k) ≡ true = ap (is_king side) (sym (before k king_off)) ∙ two.0 in
         let slides : is_sniper cells (opponent_of side) k x ≡ true = and_from _ _ (and_from _ _ (ap (is_piece_of (opponent_of side)) (sym (before x off)) ∙ foe.0) (ap is_slider (sym (before x off)) ∙ foe.1)) inner.1 in
         apart k x d hk hx hd off (and_from _ _ king slides) on
@@ -215,9 +215,9 @@ takes_safely p new a t to promote k shut adds free ht other away pins =
     let color : Color = opponent_of p.side in
     let same : piece_at new a ≡ piece_at p.cells a = k.stays a free.theirs away in
     let own : is_piece_of color (piece_at new a) ≡ true = ap (is_piece_of color) same ∙ free.theirs in
-    let plain : is_king color (piece_at new a) ≡ false = ap (is_king color) same ∙ free.no_king in
+    let non_promoting : is_king color (piece_at new a) ≡ false = ap (is_king color) same ∙ free.no_king in
     elim (cases_Bool (is_aligned_with_king p.cells (opponent_of p.side) a)) [
-      | inl lined ↦ unpinned_take new color a t (piece_moved promote (piece_at new a)) k.len free.on_board ht other (is_piece_of-piece_moved color promote (piece_at new a) ∙ own) (is_king-piece_moved color promote (piece_at new a) ∙ plain) plain own shut
+      | inl lined ↦ unpinned_take new color a t (piece_moved promote (piece_at new a)) k.len free.on_board ht other (is_piece_of-piece_moved color promote (piece_at new a) ∙ own) (is_king-piece_moved color promote (piece_at new a) ∙ non_promoting) non_promoting own shut
           (λ king x d hk hx hd off sniping on. elim (sniper_before p.cells new color to king x adds k.kings hk sniping) [
             | inl was ↦ free.unpinned king x d hk hx hd was on
             | inr came ↦ elim pins [
@@ -225,7 +225,7 @@ takes_safely p new a t to promote k shut adds free ht other away pins =
               | inr harmless ↦ off_ray a x d hd (subst (λ (y : ℕ). are_aligned a y ≡ false) (sym came.0) (harmless (subst (λ (y : ℕ). is_slider (piece_at new y) ≡ true) came.0 came.1) lined (subst (λ (y : ℕ). is_aligned_with_king p.cells (opponent_of p.side) y ≡ true) came.0 came.2)))
             ]
           ])
-      | inr off ↦ quiet_board new color a t promote k.len free.on_board ht own plain (stays_unlined p.cells new color a free.on_board k.kings off) shut
+      | inr off ↦ quiet_board new color a t promote k.len free.on_board ht own non_promoting (stays_unlined p.cells new color a free.on_board k.kings off) shut
     ]
 
 -- so it is legal where the piece still reaches the square
@@ -252,7 +252,7 @@ takes_legally p new hands a t to promote k attack away open_end reach safe =
     pseudo own free reach promotes mobile = rw (own, free, reach, promotes, mobile) refl
 
 -- by a threat that the move leaves
-still_takes : (p : Shogi) (m : Move) (a t : ℕ) (promote : Bool) → LeavesStanding p.cells (after p m).cells (opponent_of p.side) (end_of m) → in_check (after p m).cells (opponent_of p.side) ≡ false → AddsOne p.cells (after p m).cells (opponent_of p.side) (end_of m) → piece_at (after p m).cells (end_of m) ≡ put_by p m → IsThreat p a t promote → EndsAside p a t m
+still_takes : (p : Shogi) (m : Move) (a t : ℕ) (promote : Bool) → LeavesStanding p.cells (after p m).cells (opponent_of p.side) (end_of m) → in_check (after p m).cells (opponent_of p.side) ≡ false → AddsOne p.cells (after p m).cells (opponent_of p.side) (end_of m) → piece_at (after p m).cells (end_of m) ≡ put_by p m → IsThreat p a t promote → EndsNonInterfering p a t m
     → is_legal (record { cells = (after p m).cells; hands = (after p m).hands; side = opponent_of p.side }) (Board a t promote) ≡ true
 unfolding reaches
 still_takes p m a t promote k shut adds put threat aside =

@@ -1,4 +1,4 @@
-pub mod Replies
+pub mod ReplyInfo
 pub mod Escapes
 pub mod Threats
 pub mod Passes

@@ -15,7 +15,7 @@ use Rattle.shogi_core.specs.Rays.{direction_at, is_on_ray}
 use Rattle.shogi_moves.specs.After.{after, piece_moved, dropped}
 use Rattle.shogi_moves.specs.Legal.{is_legal}
 use Rattle.shogi_core.specs.Zones.{may_promote}
-use Rattle.shogi_replies.specs.Replies.{is_aligned_with_king}
+use Rattle.shogi_replies.specs.ReplyInfo.{is_aligned_with_king}
 
 -- the set has the squares to which one direction leads from the one square and from which it leads on to the other, whatever stands between
 abbrev pub HasBetween : ℕ → ℕ → ℕ → Type 0
@@ -70,7 +70,7 @@ put_by p (Board from to promote) = piece_moved promote (piece_at p.cells from)
 put_by p (Drop kind to) = dropped p.side kind
 
 -- a move that ends neither on the attacker nor on the target nor between them, and puts nothing there that slides and is on lines with the attacker and with a king of the other side, as the attacker is
-pub record EndsAside (p : Shogi) (a t : ℕ) (m : Move) : Type 0 where
+pub record EndsNonInterfering (p : Shogi) (a t : ℕ) (m : Move) : Type 0 where
   pub attacker_stays : end_of m ≢ a
   pub target_stays : end_of m ≢ t
   pub way_stays : (d : ℕ) → d < 8 → is_on_ray (direction_at d) a (end_of m) ≡ true
@@ -83,8 +83,8 @@ pub record EndsAside (p : Shogi) (a t : ℕ) (m : Move) : Type 0 where
 -- a move that lets the attacker, the target and the way between them be
 abbrev pub LeavesThreat : Shogi → ℕ → ℕ → Move → Type 0
 LeavesThreat p a t (Board from to promote) =
-    (from ≢ t) × EndsAside p a t (Board from to promote)
-LeavesThreat p a t (Drop kind to) = EndsAside p a t (Drop kind to)
+    (from ≢ t) × EndsNonInterfering p a t (Board from to promote)
+LeavesThreat p a t (Drop kind to) = EndsNonInterfering p a t (Drop kind to)
 
 -- the side to move may go to t, where this stands, if anything, with the piece on a, promoting or not
 pub record MayTake (q : Shogi) (a t : ℕ) (promote : Bool) (cell : Option Piece) : Type 0 where

@@ -6,12 +6,12 @@ ghost use Rattle.shogi_moves.specs.Destinations.{IsWithin};
 ghost use Rattle.shogi_moves.specs.Escapes.{AreEscapes};
 ghost use Rattle.shogi_moves.specs.Legal.{is_legal};
 ghost use Rattle.shogi_replies.specs.Escapes.{AreAllUnattacked, AreUnattacked, IsSafeWithoutBoth, HasRaysBehind, HasKingsRays, ReachesWithin, HasNoSniper};
-ghost use Rattle.shogi_replies.specs.Replies.{IsAnswered, IsQuietlyAnswered, AreAnswered, AreDropsAnswered};
+ghost use Rattle.shogi_replies.specs.ReplyInfo.{IsAnswered, IsQuietlyAnswered, AreAnswered, AreDropsAnswered};
 ghost use Rattle.shogi_replies.specs.Threats.{IsTaken};
 
 use shogi_core::bits::{cleared, lowest, without_lowest};
 use shogi_core::{
-    Board, Color, Kind, Move, Piece, Position, Square, Squares, aligned_squares, ray, step_squares,
+    Board, Color, Kind, Move, Piece, Position, Square, Squares, line_mask, ray, step_squares,
 };
 use shogi_moves::{dropped, has_open, king_steps, piece_moved};
 
@@ -59,7 +59,7 @@ fn some_unattacked(board: &Board, by: Color, squares: Squares) -> Squares
 pub fn escape_squares(p: &Position) -> Squares
     ensures { AreEscapes p.now result.bits }
 {
-    p.validity();
+    p.reveal_invariant();
     unattacked(p.as_board(), p.side(), king_steps(p))
 }
 
@@ -67,7 +67,7 @@ pub fn escape_squares(p: &Position) -> Squares
 pub fn some_escapes(p: &Position) -> Squares
     ensures { AreEscapes p.now result.bits }
 {
-    p.validity();
+    p.reveal_invariant();
     some_unattacked(p.as_board(), p.side(), king_steps(p))
 }
 
@@ -103,11 +103,11 @@ fn behind_king(p: &Position, from: usize) -> Squares
 fn slider_reach(p: &Position, piece: Piece, to: Square, among: Squares) -> Squares
     ensures { ReachesWithin p.now (Some piece) to result.bits }
 {
-    to.validity();
+    to.reveal_invariant();
     let index = to.index();
     let left = among.except(to);
     let steps = step_squares(piece, index);
-    let wide = steps | aligned_squares(index);
+    let wide = steps | line_mask(index);
     if left.without(steps).is_empty() || !left.without(wide).is_empty() {
         return wide;
     }
@@ -123,7 +123,7 @@ fn within_reach(p: &Position, cell: Option<Piece>, to: Square, among: Squares) -
     let Some(piece) = cell else {
         return Squares::none()
     };
-    to.validity();
+    to.reveal_invariant();
     if piece.role.is_sliding() {
         slider_reach(p, piece, to, among)
     } else {
@@ -138,13 +138,13 @@ pub fn leaves_escape(p: &Position, escapes: Squares, m: &Move) -> bool
     requires { AreEscapes p.now escapes.bits }
     ensures { result ≡ true → IsQuietlyAnswered p.now m.now }
 {
-    p.validity();
+    p.reveal_invariant();
     let occupied = p.as_board().occupied();
     match m {
         Move::Board { from, to, promote } => {
-            from.validity();
-            to.validity();
-            let lines = aligned_squares(from.index());
+            from.reveal_invariant();
+            to.reveal_invariant();
+            let lines = line_mask(from.index());
             let left = escapes.without(lines);
             if left.is_empty() {
                 return false;
@@ -153,7 +153,7 @@ pub fn leaves_escape(p: &Position, escapes: Squares, m: &Move) -> bool
             has_open(p, escapes, reach | lines | occupied, *to)
         }
         Move::Drop { kind, to } => {
-            to.validity();
+            to.reveal_invariant();
             let reach = within_reach(p, dropped(p.side(), *kind), *to, escapes);
             has_open(p, escapes, reach | occupied, *to)
         }
@@ -165,15 +165,15 @@ pub fn leaves_escape(p: &Position, escapes: Squares, m: &Move) -> bool
 fn has_no_sniper(p: &Position, square: Square) -> bool
     ensures { result ≡ true → HasNoSniper p.now.cells p.now.side square }
 {
-    square.validity();
+    square.reveal_invariant();
     let board = p.as_board();
-    let snipers = board.own(p.side()) & board.sliders() & aligned_squares(square.index());
+    let snipers = board.own(p.side()) & board.sliders() & line_mask(square.index());
     snipers.is_empty()
 }
 
 /// Whether one of the squares is surely left to the king after the legal move, should that give it
 /// check, as `leaves_escape` does not see it: on the board what moves does not slide on, and leaves
-/// a square on no line with a piece of its side that slides, so that it uncovers nothing; what is
+/// a square on no line with a piece of its side that slides, so that it discovers nothing; what is
 /// dropped on such a square, the king takes.
 pub fn leaves_king_move(p: &Position, escapes: Squares, m: &Move) -> bool
     requires { AreEscapes p.now escapes.bits }
@@ -182,21 +182,21 @@ pub fn leaves_king_move(p: &Position, escapes: Squares, m: &Move) -> bool
     if escapes.is_empty() {
         return false;
     }
-    p.validity();
+    p.reveal_invariant();
     match m {
         Move::Board { from, to, promote } => {
             let Some(piece) = piece_moved(p.at(*from), *promote) else {
                 return false
             };
-            from.validity();
-            to.validity();
+            from.reveal_invariant();
+            to.reveal_invariant();
             if piece.role.is_sliding() || !has_no_sniper(p, *from) {
                 return false;
             }
             has_open(p, escapes, step_squares(piece, to.index()), *to)
         }
         Move::Drop { to, .. } => {
-            to.validity();
+            to.reveal_invariant();
             escapes.has(*to) && !p.as_board().kings(p.side().opponent()).is_empty()
         }
     }
@@ -208,7 +208,7 @@ fn is_unprotected(p: &Position, king: Square, from: Square, to: Square) -> bool
     ensures reached { result ≡ true → reaches p.now.cells king to ≡ true }
     ensures safe { result ≡ true → IsSafeWithoutBoth p.now from king to }
 {
-    to.validity();
+    to.reveal_invariant();
     let board = p.as_board();
     if !board.targets(king).has(to) {
         return false;
@@ -225,19 +225,19 @@ pub fn king_takes(p: &Position, m: &Move) -> bool
     ensures answered { result ≡ true → IsAnswered p.now m.now }
     ensures taken { result ≡ true → is_legal p.now m.now ≡ true → IsTaken p.now m.now }
 {
-    p.validity();
+    p.reveal_invariant();
     let Some(king) = p.king(p.side().opponent()) else {
         return false
     };
-    king.validity();
+    king.reveal_invariant();
     match m {
         Move::Board { from, to, .. } => {
-            from.validity();
-            to.validity();
+            from.reveal_invariant();
+            to.reveal_invariant();
             is_unprotected(p, king, *from, *to)
         }
         Move::Drop { to, .. } => {
-            to.validity();
+            to.reveal_invariant();
             is_unprotected(p, king, *to, *to)
         }
     }

@@ -1,7 +1,7 @@
 //! The pieces whose moves give the other side no check and, where promotions are not allowed,
 //! cannot promote, found all at once.
 
-ghost use Rattle.shogi_replies.specs.Replies.{AreFarPieces, HasAroundKings};
+ghost use Rattle.shogi_replies.specs.ReplyInfo.{AreNonChecking, HasAroundKings};
 
 use shogi_core::bits::{cleared, lowest};
 use shogi_core::zones::{squares_around, squares_near_zone};
@@ -27,13 +27,13 @@ fn around_kings(board: &Board, side: Color) -> Squares
 /// too far from the kings of the other side to attack them; those alone that are far
 /// from the zone, too, where none may promote.
 #[inline(always)]
-pub fn far_pieces(p: &Position, sight: Squares, promotes: bool) -> Squares
-    ensures { AreFarPieces p.now sight.bits promotes result.bits }
+pub fn non_checking_pieces(p: &Position, king_view: Squares, promotes: bool) -> Squares
+    ensures { AreNonChecking p.now king_view.bits promotes result.bits }
 {
-    p.validity();
+    p.reveal_invariant();
     let side = p.side();
     let board = p.as_board();
-    let near = board.sliders() | sight | around_kings(board, side.opponent());
+    let near = board.sliders() | king_view | around_kings(board, side.opponent());
     if promotes {
         return board.own(side).without(near);
     }

@@ -7,17 +7,15 @@ ghost use Rattle.shogi_moves.specs.After.{after};
 ghost use Rattle.shogi_moves.specs.Destinations.{IsWithin};
 ghost use Rattle.shogi_moves.specs.Escapes.{AreEscapes};
 ghost use Rattle.shogi_moves.specs.Legal.{is_legal};
-ghost use Rattle.shogi_replies.specs.Replies.{AreQuietSteps, ChecksAmong, HasOthers, LeaveSpare, holds_free, quiet_codes, Sees, Aligns, IsReplies, IsHarmless, StaysCovered, UncoversNoCheck, AreCertain, AreDropsCertain, AreRemote, HasCertainMoves, PromotesWithin, UncoversChecksWithin, AreOpen, AreAmong, ChecksWithin, HaveCertainMoves, AreAlwaysCertain};
+ghost use Rattle.shogi_replies.specs.ReplyInfo.{AreQuietSteps, ChecksAmong, HasOthers, LeaveFreeMovers, holds_free, quiet_codes, Sees, Aligns, IsReplyInfo, IsHarmless, StaysCovered, DiscoversNoCheck, AreGuaranteed, AreDropsGuaranteed, AreDistant, GuaranteesReplies, PromotesWithin, DiscoversChecksWithin, AreOpen, AreAmong, ChecksWithin, GuaranteeReplies, AreAlwaysGuaranteed};
 ghost use Rattle.shogi_replies.specs.Threats.{KeepsThreats, MayRetake};
 
 use crate::escapes::{escaped_destinations, escaped_drops};
-use crate::far::far_pieces;
-use crate::row::{ALL_ROLES, Row};
+use crate::far::non_checking_pieces;
+use crate::move_filter::{ALL_ROLES, MoveFilter};
 use shogi_core::bits::{cleared, lowest, without_lowest};
 use shogi_core::zones::{dead_squares, promoting_squares};
-use shogi_core::{
-    Color, Kind, Move, Piece, Position, Square, Squares, aligned_squares, step_squares,
-};
+use shogi_core::{Color, Kind, Move, Piece, Position, Square, Squares, line_mask, step_squares};
 use shogi_moves::{dropped, matching_destinations, piece_moved};
 
 /// What is kept of a position to decide that after most of its moves the other side is in no check
@@ -26,37 +24,37 @@ use shogi_moves::{dropped, matching_destinations, piece_moved};
 /// each of them. Wherever a move ends that leaves one of these squares, the side has such a step or
 /// drop to another square than that.
 #[derive(Clone, Copy, Debug)]
-pub struct Replies {
-    pub sight: Squares,
-    pub spare: Squares,
+pub struct ReplyInfo {
+    pub king_view: Squares,
+    pub free_movers: Squares,
 }
 
 /// The squares of kings of the side, of open lines with them, and a knight's jump away.
 #[tactic(auto, using(crate::proofs::ReplyLaws::seeing))]
-fn sight_squares(p: &Position, side: Color) -> Squares
+fn king_view_squares(p: &Position, side: Color) -> Squares
     ensures { Sees p.now.cells side 0 result.bits }
 {
     let board = p.as_board();
     let mut left = board.kings(side).bits;
-    let mut sight = left;
+    let mut king_view = left;
     while left != 0 {
         let king = lowest(left);
-        sight |= board.seen(Square::of_index(king)).bits;
+        king_view |= board.queen_and_knight_view(Square::of_index(king)).bits;
         left = without_lowest(left, king);
     }
-    Squares { bits: sight }
+    Squares { bits: king_view }
 }
 
 /// The squares of kings of the side, and of lines with them, whatever stands between.
 #[tactic(auto, using(crate::proofs::ReplyLaws::aligning))]
-pub fn line_squares(p: &Position, side: Color) -> Squares
+pub fn king_line_mask(p: &Position, side: Color) -> Squares
     ensures { Aligns p.now.cells side 0 result.bits }
 {
     let mut left = p.as_board().kings(side).bits;
     let mut lines = left;
     while left != 0 {
         let king = lowest(left);
-        lines |= aligned_squares(king).bits;
+        lines |= line_mask(king).bits;
         left = without_lowest(left, king);
     }
     Squares { bits: lines }
@@ -64,27 +62,27 @@ pub fn line_squares(p: &Position, side: Color) -> Squares
 
 /// Whether what stands on the square may stand in the way of a piece that slides to a king of the
 /// side: such a piece is on a line with the king and on an open line with the square.
-fn may_uncover(p: &Position, side: Color, from: Square) -> bool
+fn may_discover_check(p: &Position, side: Color, from: Square) -> bool
     ensures { result ≡ false → StaysCovered p.now.cells side from }
 {
-    from.validity();
-    let snipers = p.as_board().snipers(side) & aligned_squares(from.index());
-    !snipers.is_empty() && !(p.as_board().lined(from) & snipers).is_empty()
+    from.reveal_invariant();
+    let snipers = p.as_board().snipers(side) & line_mask(from.index());
+    !snipers.is_empty() && !(p.as_board().open_lines(from) & snipers).is_empty()
 }
 
 /// Whether another piece of the side to move reaches the other side's king once what stands on the
 /// one square has gone to the other.
 #[inline(never)]
-fn is_uncovered(p: &Position, from: Square, to: Square) -> bool
-    ensures { result ≡ false → UncoversNoCheck p.now from to }
+fn discovers_check(p: &Position, from: Square, to: Square) -> bool
+    ensures { result ≡ false → DiscoversNoCheck p.now from to }
 {
-    p.validity();
-    from.validity();
-    to.validity();
+    p.reveal_invariant();
+    from.reveal_invariant();
+    to.reveal_invariant();
     match p.king(p.side().opponent()) {
         None => false,
         Some(king) => {
-            king.validity();
+            king.reveal_invariant();
             let board = p.as_board();
             let others = board.own(p.side()).except(from);
             let occupied = board.occupied().except(from).with(to);
@@ -102,7 +100,7 @@ fn quiet_steps(p: &Position, from: Square) -> Squares
     match cell {
         None => Squares::none(),
         Some(piece) => {
-            from.validity();
+            from.reveal_invariant();
             let steps = step_squares(piece, from.index()) & p.as_board().free();
             steps.without(dead_squares(cell))
         }
@@ -122,9 +120,9 @@ fn has_two(squares: Squares) -> bool
 /// Pieces of the side that are on no line with a king of their own and have a step to an empty
 /// square, two at least with two such squares between them; none where there are not that many
 /// squares, and one where there is no second piece.
-fn spare_pieces(p: &Position, side: Color, lines: Squares) -> Squares
+fn free_moving_pieces(p: &Position, side: Color, lines: Squares) -> Squares
     requires { Aligns p.now.cells side 0 lines.bits }
-    ensures { LeaveSpare p.now.cells side result.bits }
+    ensures { LeaveFreeMovers p.now.cells side result.bits }
 {
     let mut left = p.as_board().own(side).without(lines).bits;
     let mut kept = left;
@@ -200,11 +198,17 @@ fn holds_free(p: &Position, side: Color) -> bool
 /// Whether each of the ends of moves from the square is among the squares for moves without
 /// promotion, and each at which such a move may promote among those for moves with it.
 #[inline(always)]
-fn are_among(p: &Position, from: Square, ends: Squares, plain: Squares, promoting: Squares) -> bool
-    ensures plain { result ≡ true → AreAmong ends.bits plain.bits }
+fn are_among(
+    p: &Position,
+    from: Square,
+    ends: Squares,
+    non_promoting: Squares,
+    promoting: Squares,
+) -> bool
+    ensures non_promoting { result ≡ true → AreAmong ends.bits non_promoting.bits }
     ensures promoting { result ≡ true → PromotesWithin p.now.cells from ends.bits promoting.bits }
 {
-    if !ends.without(plain).is_empty() {
+    if !ends.without(non_promoting).is_empty() {
         return false;
     }
     if ends.without(promoting).is_empty() {
@@ -214,79 +218,82 @@ fn are_among(p: &Position, from: Square, ends: Squares, plain: Squares, promotin
     promoted.without(promoting).is_empty()
 }
 
-impl Replies {
+impl ReplyInfo {
     /// Whether what comes to stand on the square surely gives no check to the other side.
     #[inline(always)]
     fn is_harmless(&self, p: &Position, cell: Option<Piece>, to: Square) -> bool
-        requires kept { IsReplies p.now self.now.sight.bits self.now.spare.bits }
+        requires consistent { IsReplyInfo p.now self.now.king_view.bits self.now.free_movers.bits }
         ensures { result ≡ true → IsHarmless p.now.cells (opponent_of p.now.side) cell to }
     {
-        to.validity();
-        if self.sight.has(to) {
+        to.reveal_invariant();
+        if self.king_view.has(to) {
             return !attacks_king(p, p.side().opponent(), cell, to);
         }
         true
     }
 
-    /// The squares to which a move of what stands on the square may uncover a check: none where no
+    /// The squares to which a move of what stands on the square may discover a check: none where no
     /// king sees it, all where it may cover one, and else the lines of the king for a piece that
     /// slides.
     #[inline(always)]
-    fn uncovering_squares(&self, p: &Position, from: Square) -> Squares
-        ensures { UncoversChecksWithin p.now self.now.sight.bits from result.bits }
+    fn discovering_squares(&self, p: &Position, from: Square) -> Squares
+        ensures { DiscoversChecksWithin p.now self.now.king_view.bits from result.bits }
     {
-        from.validity();
-        if !self.sight.has(from) {
+        from.reveal_invariant();
+        if !self.king_view.has(from) {
             return Squares::none();
         }
         let side = p.side().opponent();
-        if may_uncover(p, side, from) {
+        if may_discover_check(p, side, from) {
             return Squares::all();
         }
         if p.as_board().sliders().has(from) {
-            line_squares(p, side)
+            king_line_mask(p, side)
         } else {
             Squares::none()
         }
     }
 
-    /// Whether what stands on the one square may uncover a check on its way to the other.
+    /// Whether what stands on the one square may discover a check on its way to the other.
     #[inline(always)]
-    fn uncovers(&self, p: &Position, from: Square, to: Square) -> bool
-        requires kept { IsReplies p.now self.now.sight.bits self.now.spare.bits }
-        ensures { result ≡ false → UncoversNoCheck p.now from to }
+    fn discovers(&self, p: &Position, from: Square, to: Square) -> bool
+        requires consistent { IsReplyInfo p.now self.now.king_view.bits self.now.free_movers.bits }
+        ensures { result ≡ false → DiscoversNoCheck p.now from to }
     {
-        p.validity();
-        from.validity();
-        to.validity();
-        if self.uncovering_squares(p, from).has(to) {
-            return is_uncovered(p, from, to);
+        p.reveal_invariant();
+        from.reveal_invariant();
+        to.reveal_invariant();
+        if self.discovering_squares(p, from).has(to) {
+            return discovers_check(p, from, to);
         }
         false
     }
 
     /// What is kept of the position.
-    pub fn of(p: &Position) -> Replies
-        ensures { IsReplies p.now result.sight.bits result.spare.bits }
+    pub fn of(p: &Position) -> ReplyInfo
+        ensures { IsReplyInfo p.now result.king_view.bits result.free_movers.bits }
     {
         let opponent = p.side().opponent();
-        let sight = sight_squares(p, opponent);
-        let spare = if holds_free(p, opponent) {
+        let king_view = king_view_squares(p, opponent);
+        let free_movers = if holds_free(p, opponent) {
             p.as_board().free()
         } else {
-            spare_pieces(p, opponent, line_squares(p, opponent))
+            free_moving_pieces(p, opponent, king_line_mask(p, opponent))
         };
-        Replies { sight, spare }
+        ReplyInfo {
+            king_view,
+            free_movers,
+        }
     }
 
     /// Nothing is known: each square is held to be seen.
-    pub fn unknown(p: &Position) -> Replies
-        ensures { IsReplies p.now result.sight.bits result.spare.bits }
+    pub fn unknown(p: &Position) -> ReplyInfo
+        ensures { IsReplyInfo p.now result.king_view.bits result.free_movers.bits }
     {
         let _ = p;
-        Replies {
-            sight: Squares::all(),
-            spare: Squares::none(),
+        ReplyInfo {
+            king_view: Squares::all(),
+            free_movers: Squares::none(),
         }
     }
 
@@ -294,52 +301,52 @@ impl Replies {
     /// legal move that takes nothing and does not promote. Then it may carry out each of its threats that the move leaves, and take what the
     /// move puts on its square.
     #[inline(always)]
-    pub fn is_certain(&self, p: &Position, m: &Move) -> bool
-        requires kept { IsReplies p.now self.now.sight.bits self.now.spare.bits }
+    pub fn guarantees_reply(&self, p: &Position, m: &Move) -> bool
+        requires consistent { IsReplyInfo p.now self.now.king_view.bits self.now.free_movers.bits }
         requires legal { is_legal p.now m.now ≡ true }
         ensures replied { result ≡ true → quiet_codes (after p.now m.now) ≢ [] }
         ensures threats { result ≡ true → KeepsThreats p.now m.now }
         ensures retakes { result ≡ true → MayRetake p.now m.now }
     {
-        p.validity();
+        p.reveal_invariant();
         match m {
             Move::Board { from, to, promote } => {
-                from.validity();
-                to.validity();
+                from.reveal_invariant();
+                to.reveal_invariant();
                 if !self.is_harmless(p, piece_moved(p.at(*from), *promote), *to) {
                     return false;
                 }
-                if self.uncovers(p, *from, *to) {
+                if self.discovers(p, *from, *to) {
                     return false;
                 }
-                !self.spare.except(*to).is_empty()
+                !self.free_movers.except(*to).is_empty()
             }
             Move::Drop { kind, to } => {
-                to.validity();
+                to.reveal_invariant();
                 if !self.is_harmless(p, dropped(p.side(), *kind), *to) {
                     return false;
                 }
-                !self.spare.except(*to).is_empty()
+                !self.free_movers.except(*to).is_empty()
             }
         }
     }
 
-    /// Whether the legal move surely uncovers no check: what it puts on its square may then be taken
+    /// Whether the legal move surely discovers no check: what it puts on its square may then be taken
     /// by each such attack, also where that gives check.
-    pub fn uncovers_nothing(&self, p: &Position, m: &Move) -> bool
-        requires kept { IsReplies p.now self.now.sight.bits self.now.spare.bits }
+    pub fn discovers_no_check(&self, p: &Position, m: &Move) -> bool
+        requires consistent { IsReplyInfo p.now self.now.king_view.bits self.now.free_movers.bits }
         requires legal { is_legal p.now m.now ≡ true }
         ensures { result ≡ true → MayRetake p.now m.now }
     {
-        p.validity();
+        p.reveal_invariant();
         match m {
             Move::Board { from, to, .. } => {
-                from.validity();
-                to.validity();
-                !self.sight.has(*from) || !may_uncover(p, p.side().opponent(), *from)
+                from.reveal_invariant();
+                to.reveal_invariant();
+                !self.king_view.has(*from) || !may_discover_check(p, p.side().opponent(), *from)
             }
             Move::Drop { to, .. } => {
-                to.validity();
+                to.reveal_invariant();
                 true
             }
         }
@@ -347,10 +354,10 @@ impl Replies {
 
     /// Those of the squares on which what comes to stand may give check.
     fn checking_squares(&self, p: &Position, cell: Option<Piece>, destinations: Squares) -> Squares
-        requires kept { IsReplies p.now self.now.sight.bits self.now.spare.bits }
+        requires consistent { IsReplyInfo p.now self.now.king_view.bits self.now.free_movers.bits }
         ensures { ChecksAmong p.now cell destinations.bits result.bits }
     {
-        let seen = destinations & self.sight;
+        let seen = destinations & self.king_view;
         if seen.is_empty() {
             return Squares::none();
         }
@@ -359,83 +366,100 @@ impl Replies {
 
     /// The squares that are not closed and leave the other side one that gives it a move.
     fn open_squares(&self, closed: Squares) -> Squares
-        ensures { AreOpen closed.bits self.now.spare.bits result.bits }
+        ensures { AreOpen closed.bits self.now.free_movers.bits result.bits }
     {
-        if self.spare.is_empty() {
+        if self.free_movers.is_empty() {
             return Squares::none();
         }
         let open = Squares::all().without(closed);
-        let one = lowest(self.spare.bits);
-        if without_lowest(self.spare.bits, one) != 0 {
+        let one = lowest(self.free_movers.bits);
+        if without_lowest(self.free_movers.bits, one) != 0 {
             return open;
         }
         open.except(Square::of_index(one))
     }
 
-    /// Pieces of the side to move of which the row has each move of the kind, and each leaves the
+    /// Pieces of the side to move of which the filter has each move of the kind, and each leaves the
     /// other side a legal move and gives no check, since they are far from its kings; none where the
-    /// row has not all squares for moves without promotion.
-    pub fn far_pieces(&self, p: &Position, capture: bool, row: &Row) -> Squares
-        requires kept { IsReplies p.now self.now.sight.bits self.now.spare.bits }
-        ensures { HaveCertainMoves p.now capture row.now result.bits }
+    /// filter has not all squares for moves without promotion.
+    pub fn non_checking_pieces(
+        &self,
+        p: &Position,
+        capture: bool,
+        move_filter: &MoveFilter,
+    ) -> Squares
+        requires consistent { IsReplyInfo p.now self.now.king_view.bits self.now.free_movers.bits }
+        ensures { GuaranteeReplies p.now capture move_filter.now result.bits }
     {
-        p.validity();
+        p.reveal_invariant();
         let open = self.open_squares(Squares::none());
         if !Squares::all().without(open).is_empty() {
             return Squares::none();
         }
         let ends = matching_destinations(p, capture);
-        if !ends.without(row.squares).is_empty() {
+        if !ends.without(move_filter.squares).is_empty() {
             return Squares::none();
         }
-        let promotes = row.promoting == ALL_ROLES;
-        far_pieces(p, self.sight, promotes) & row.pieces
+        let promotes = move_filter.promoting == ALL_ROLES;
+        non_checking_pieces(p, self.king_view, promotes) & move_filter.pieces
     }
 
     /// Pieces of the side to move of which each move, promoting or not, leaves the other side a legal
     /// move, since they are far from its kings.
-    pub fn remote_pieces(&self, p: &Position) -> Squares
-        requires kept { IsReplies p.now self.now.sight.bits self.now.spare.bits }
-        ensures { AreRemote p.now result.bits }
+    pub fn distant_pieces(&self, p: &Position) -> Squares
+        requires consistent { IsReplyInfo p.now self.now.king_view.bits self.now.free_movers.bits }
+        ensures { AreDistant p.now result.bits }
     {
-        p.validity();
+        p.reveal_invariant();
         let open = self.open_squares(Squares::none());
         if !Squares::all().without(open).is_empty() {
             return Squares::none();
         }
-        far_pieces(p, self.sight, true)
+        non_checking_pieces(p, self.king_view, true)
     }
 
-    /// Whether the row has each move of the kind of what stands on the square, and each surely leaves
-    /// the other side a legal move and, where the row has no escapes, gives no check. Which of the
+    /// Whether the filter has each move of the kind of what stands on the square, and each surely leaves
+    /// the other side a legal move and, where the filter has no escapes, gives no check. Which of the
     /// moves are legal need not be known.
     #[inline(always)]
-    pub fn has_certain_moves(&self, p: &Position, capture: bool, row: &Row, from: Square) -> bool
-        requires kept { IsReplies p.now self.now.sight.bits self.now.spare.bits }
-        requires escapes { AreEscapes p.now row.now.escapes.bits }
-        ensures { result ≡ true → HasCertainMoves p.now capture row.now from }
+    pub fn guarantees_replies(
+        &self,
+        p: &Position,
+        capture: bool,
+        move_filter: &MoveFilter,
+        from: Square,
+    ) -> bool
+        requires consistent { IsReplyInfo p.now self.now.king_view.bits self.now.free_movers.bits }
+        requires escapes { AreEscapes p.now move_filter.now.escapes.bits }
+        ensures { result ≡ true → GuaranteesReplies p.now capture move_filter.now from }
     {
-        p.validity();
-        from.validity();
-        if !row.pieces.has(from) {
+        p.reveal_invariant();
+        from.reveal_invariant();
+        if !move_filter.pieces.has(from) {
             return false;
         }
-        let promotions = row.promotions(p.at(from));
+        let promotions = move_filter.promotions(p.at(from));
         let ends = p.as_board().targets(from) & matching_destinations(p, capture);
-        if (ends & self.sight).is_empty() && !self.sight.has(from) {
-            let certain = self.unseen_destinations(p, from, ends);
-            return are_among(p, from, ends, row.squares & certain, promotions & certain);
+        if (ends & self.king_view).is_empty() && !self.king_view.has(from) {
+            let guaranteed = self.unseen_destinations(p, from, ends);
+            return are_among(
+                p,
+                from,
+                ends,
+                move_filter.squares & guaranteed,
+                promotions & guaranteed,
+            );
         }
         let promoting = ends & promoting_squares(p.at(from), from);
-        if !(ends.without(row.squares) | promoting.without(promotions)).is_empty() {
+        if !(ends.without(move_filter.squares) | promoting.without(promotions)).is_empty() {
             return false;
         }
-        let certain = self.certain_destinations(p, row.escapes, from, false, ends);
-        if !ends.without(certain).is_empty() {
+        let guaranteed = self.guaranteed_destinations(p, move_filter.escapes, from, false, ends);
+        if !ends.without(guaranteed).is_empty() {
             return false;
         }
-        let promoted = self.certain_destinations(p, row.escapes, from, true, promoting);
-        let uncertain = ends.without(row.squares & certain)
+        let promoted = self.guaranteed_destinations(p, move_filter.escapes, from, true, promoting);
+        let uncertain = ends.without(move_filter.squares & guaranteed)
             | promoting.without(promotions & promoted);
         uncertain.is_empty()
     }
@@ -444,14 +468,14 @@ impl Replies {
     /// has a legal move after it and is in no check, where no king sees that square or one of these.
     #[inline(always)]
     fn unseen_destinations(&self, p: &Position, from: Square, destinations: Squares) -> Squares
-        requires kept { IsReplies p.now self.now.sight.bits self.now.spare.bits }
-        requires unseen { has_bit self.now.sight.bits from ≡ false }
-        requires off { bit_and destinations.bits self.now.sight.bits ≡ 0 }
+        requires consistent { IsReplyInfo p.now self.now.king_view.bits self.now.free_movers.bits }
+        requires unseen { has_bit self.now.king_view.bits from ≡ false }
+        requires off { bit_and destinations.bits self.now.king_view.bits ≡ 0 }
         ensures among { IsWithin result.bits destinations.bits }
-        ensures certain { AreAlwaysCertain p.now from result.bits }
+        ensures guaranteed { AreAlwaysGuaranteed p.now from result.bits }
     {
-        p.validity();
-        from.validity();
+        p.reveal_invariant();
+        from.reveal_invariant();
         destinations & self.open_squares(Squares::none())
     }
 
@@ -459,7 +483,7 @@ impl Replies {
     /// the other side surely has a legal move after it: it is in no check, or its king has one of
     /// the escapes left, where there are some.
     #[inline(always)]
-    pub fn certain_destinations(
+    pub fn guaranteed_destinations(
         &self,
         p: &Position,
         escapes: Squares,
@@ -468,24 +492,24 @@ impl Replies {
         destinations: Squares,
     ) -> Squares
         requires escapes { AreEscapes p.now escapes.bits }
-        requires kept { IsReplies p.now self.now.sight.bits self.now.spare.bits }
+        requires consistent { IsReplyInfo p.now self.now.king_view.bits self.now.free_movers.bits }
         ensures among { IsWithin result.bits destinations.bits }
-        ensures certain { AreCertain p.now escapes.bits from promote result.bits }
+        ensures guaranteed { AreGuaranteed p.now escapes.bits from promote result.bits }
     {
-        p.validity();
-        from.validity();
+        p.reveal_invariant();
+        from.reveal_invariant();
         if destinations.is_empty() {
             return Squares::none();
         }
-        if (destinations & self.sight).is_empty() && !self.sight.has(from) {
+        if (destinations & self.king_view).is_empty() && !self.king_view.has(from) {
             return self.unseen_destinations(p, from, destinations);
         }
-        self.certain_among(p, escapes, from, promote, destinations)
+        self.guaranteed_among(p, escapes, from, promote, destinations)
     }
 
     /// The same, where a king sees some of the squares.
     #[inline(never)]
-    fn certain_among(
+    fn guaranteed_among(
         &self,
         p: &Position,
         escapes: Squares,
@@ -494,14 +518,14 @@ impl Replies {
         destinations: Squares,
     ) -> Squares
         requires escapes { AreEscapes p.now escapes.bits }
-        requires kept { IsReplies p.now self.now.sight.bits self.now.spare.bits }
+        requires consistent { IsReplyInfo p.now self.now.king_view.bits self.now.free_movers.bits }
         ensures among { IsWithin result.bits destinations.bits }
-        ensures certain { AreCertain p.now escapes.bits from promote result.bits }
+        ensures guaranteed { AreGuaranteed p.now escapes.bits from promote result.bits }
     {
-        p.validity();
-        from.validity();
+        p.reveal_invariant();
+        from.reveal_invariant();
         let closed = self.checking_squares(p, piece_moved(p.at(from), promote), destinations)
-            | self.uncovering_squares(p, from);
+            | self.discovering_squares(p, from);
         let open = destinations & self.open_squares(closed);
         if open.bits == destinations.bits || escapes.is_empty() {
             return open;
@@ -512,7 +536,7 @@ impl Replies {
     /// Those of the squares on which a piece of the kind may be dropped so that the other side
     /// surely has a legal move after it: it is in no check, or its king has one of the escapes
     /// left, where there are some.
-    pub fn certain_drops(
+    pub fn guaranteed_drops(
         &self,
         p: &Position,
         escapes: Squares,
@@ -520,11 +544,11 @@ impl Replies {
         destinations: Squares,
     ) -> Squares
         requires escapes { AreEscapes p.now escapes.bits }
-        requires kept { IsReplies p.now self.now.sight.bits self.now.spare.bits }
+        requires consistent { IsReplyInfo p.now self.now.king_view.bits self.now.free_movers.bits }
         ensures among { IsWithin result.bits destinations.bits }
-        ensures certain { AreDropsCertain p.now escapes.bits kind result.bits }
+        ensures guaranteed { AreDropsGuaranteed p.now escapes.bits kind result.bits }
     {
-        p.validity();
+        p.reveal_invariant();
         let checking = self.checking_squares(p, dropped(p.side(), kind), destinations);
         let open = destinations & self.open_squares(checking);
         if open.bits == destinations.bits || escapes.is_empty() {

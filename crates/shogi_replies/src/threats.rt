@@ -7,7 +7,7 @@ ghost use Rattle.shogi_replies.specs.Threats.{AreAttacks, HasBetween, HasBeforeS
 
 use shogi_core::bits::{lowest, without_lowest};
 use shogi_core::zones::{dead_squares, promoting_squares};
-use shogi_core::{Color, Move, Piece, Position, Square, Squares, aligned_squares, ray};
+use shogi_core::{Color, Move, Piece, Position, Square, Squares, line_mask, ray};
 use shogi_moves::{Destinations, dropped, piece_moved};
 
 /// The squares between the two on a line, whatever stands there.
@@ -31,7 +31,7 @@ fn squares_before_king(p: &Position, side: Color, king: usize) -> Squares
     ensures { HasBeforeSnipers p.now.cells side king 0 result.bits }
 {
     let board = p.as_board();
-    let snipers = board.own(side.opponent()) & board.sliders() & aligned_squares(king);
+    let snipers = board.own(side.opponent()) & board.sliders() & line_mask(king);
     let mut left = snipers.bits;
     let mut squares = 0;
     while left != 0 {
@@ -50,7 +50,7 @@ fn pinnable_squares(p: &Position, side: Color) -> Squares
     match p.king(side) {
         None => Squares::none(),
         Some(king) => {
-            king.validity();
+            king.reveal_invariant();
             squares_before_king(p, side, king.index())
         }
     }
@@ -73,13 +73,13 @@ pub fn unpinnable_pieces(p: &Position) -> Squares
 pub fn attacks_of(p: &Position, from: Square, reach: Squares) -> Destinations
     requires from { IsUnpinnable p.now from }
     requires reach { (n : ℕ) → n < 81 → has_bit reach.bits n ≡ reaches p.now.cells from n }
-    ensures plain { AreAttacks p.now from result.plain.bits false }
+    ensures non_promoting { AreAttacks p.now from result.non_promoting.bits false }
     ensures promoting { AreAttacks p.now from result.promoting.bits true }
 {
     let cell = p.at(from);
     let others = reach.except(from);
     Destinations {
-        plain: others.without(dead_squares(cell)),
+        non_promoting: others.without(dead_squares(cell)),
         promoting: others & promoting_squares(cell, from),
     }
 }

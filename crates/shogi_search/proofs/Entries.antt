@@ -9,19 +9,19 @@ use Rattle.minimax.specs.declared.entry.Entry.{Entry}
 use Rattle.minimax.specs.declared.entry.Entry.TheVariants.{Exact, AtLeast, AtMost}
 use Rattle.minimax.specs.Minimax.{value, best, IsTrueEntry, negated}
 use Rattle.shogi_search.specs.declared.found.Found.{Found}
-use Rattle.minimax.specs.Entries.{IsCutoff}
+use Rattle.minimax.specs.Entries.{IsConclusive}
 use Rattle.shogi_search.specs.Progress.{IsFoundBelow}
 use Rattle.minimax.proofs.MinimaxLaws.{value_within, Within}
 use Rattle.minimax.specs.declared.bounds.TheConstants.{SEARCH_DEPTH_MAX, INFINITY}
 
-pub same_window : (alpha alpha' beta beta' : ℤ) (e : Entry) → alpha ≡ alpha' → beta ≡ beta' → IsCutoff alpha beta e → IsCutoff alpha' beta' e
-same_window alpha alpha' beta beta' e p q s = subst (λ (x : ℤ). IsCutoff alpha' x e) q (subst (λ (x : ℤ). IsCutoff x beta e) p s)
+pub same_window : (alpha alpha' beta beta' : ℤ) (e : Entry) → alpha ≡ alpha' → beta ≡ beta' → IsConclusive alpha beta e → IsConclusive alpha' beta' e
+same_window alpha alpha' beta beta' e p q s = subst (λ (x : ℤ). IsConclusive alpha' x e) q (subst (λ (x : ℤ). IsConclusive x beta e) p s)
 
 -- a true value at or below the whole window there is not
-pub not_at_most : (p : Shogi) (eval : Eval) (d : ℕ) (e : Entry) (v beta : ℤ) → IsValid p → d ≤ SEARCH_DEPTH_MAX → IsTrueEntry p eval d e → IsCutoff (negated INFINITY) beta e → e ≡ AtMost v → ⊥
+pub not_at_most : (p : Shogi) (eval : Eval) (d : ℕ) (e : Entry) (v beta : ℤ) → IsValid p → d ≤ SEARCH_DEPTH_MAX → IsTrueEntry p eval d e → IsConclusive (negated INFINITY) beta e → e ≡ AtMost v → ⊥
 not_at_most p eval d e v beta ok h t s q =
     let k : value p eval d ≤ℤ v = subst (λ (x : Entry). IsTrueEntry p eval d x) q t in
-    let l : v ≤ℤ negated INFINITY = subst (λ (x : Entry). IsCutoff (negated INFINITY) beta x) q s in
+    let l : v ≤ℤ negated INFINITY = subst (λ (x : Entry). IsConclusive (negated INFINITY) beta x) q s in
     let w : Within d (value p eval d) = value_within d p eval ok in
     omega (arith, ints)
 
@@ -35,10 +35,10 @@ exact_found p eval d e v beta m f ok h t q a b =
     record { value_is = λ _. a ∙ sym same; best_is = λ _. sym first; lower = omega (arith, ints); best_is_true = λ n q. first ∙ q; least = omega (arith, ints); most = omega (arith, ints) }
 
 -- and what a true bound that is at or above the window
-pub at_least_found : (p : Shogi) (eval : Eval) (d : ℕ) (e : Entry) (v beta : ℤ) (f : Found) → IsValid p → d ≤ SEARCH_DEPTH_MAX → negated INFINITY <ℤ beta → IsTrueEntry p eval d e → IsCutoff (negated INFINITY) beta e → e ≡ AtLeast v → f.value ≡ v → f.best ≡ None → IsFoundBelow p eval d beta f
+pub at_least_found : (p : Shogi) (eval : Eval) (d : ℕ) (e : Entry) (v beta : ℤ) (f : Found) → IsValid p → d ≤ SEARCH_DEPTH_MAX → negated INFINITY <ℤ beta → IsTrueEntry p eval d e → IsConclusive (negated INFINITY) beta e → e ≡ AtLeast v → f.value ≡ v → f.best ≡ None → IsFoundBelow p eval d beta f
 at_least_found p eval d e v beta f ok h above t s q a b =
     let k : v ≤ℤ value p eval d = subst (λ (x : Entry). IsTrueEntry p eval d x) q t in
-    let l : beta ≤ℤ v = subst (λ (x : Entry). IsCutoff (negated INFINITY) beta x) q s in
+    let l : beta ≤ℤ v = subst (λ (x : Entry). IsConclusive (negated INFINITY) beta x) q s in
     let w : Within d (value p eval d) = value_within d p eval ok in
     record {
       value_is = λ lt. absurd (omega (arith, ints));

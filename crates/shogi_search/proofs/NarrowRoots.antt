@@ -12,7 +12,7 @@ use Rattle.shogi_eval.specs.Evaluated.{Evaluated}
 use Rattle.minimax.specs.Minimax.{negated, sum_of_tree_sizes, tree_size}
 use Rattle.minimax.specs.declared.bounds.TheConstants.{INFINITY}
 use Rattle.search_nodes.specs.declared.frame.Frame.{Frame}
-use Rattle.search_nodes.specs.declared.frame.Waiting.TheVariants.{Asked}
+use Rattle.search_nodes.specs.declared.frame.NodeState.TheVariants.{AwaitingChild}
 use Rattle.search_nodes.specs.declared.move_picker.MovePicker.{MovePicker}
 use Rattle.shogi_search.specs.declared.stack.Stack.{Stack}
 use Rattle.search_nodes.specs.Frames.{position_after}
@@ -114,7 +114,7 @@ pub record IsRootBelow (s : Stack) (m : Move) (f : Frame) : Type 0 where
   pub parents : parents_of s ≡ take (s.height - 1) s.frames ++ f ∷ []
   pub child : IsChild f top m
 
-pub root_below : (s : Stack) (d : Frame) (m : Move) → IsStack s → IsNarrow s → s.height < length s.frames → (get_or s.frames (s.height - 1) d).waiting ≡ Asked m → IsRootBelow s m (get_or s.frames (s.height - 1) d)
+pub root_below : (s : Stack) (d : Frame) (m : Move) → IsStack s → IsNarrow s → s.height < length s.frames → (get_or s.frames (s.height - 1) d).state ≡ AwaitingChild m → IsRootBelow s m (get_or s.frames (s.height - 1) d)
 root_below s d m k narrow fits asks =
     let f : Frame = get_or s.frames (s.height - 1) d in
     let r : IsBelow s f = below s d k (omega (arith, narrow.0)) fits in

@@ -8,14 +8,14 @@ use Rattle.shogi_core.specs.declared.moves.Move.{Move}
 use Rattle.shogi_core.specs.Codes.{code_of}
 use Rattle.shogi_moves.specs.After.{after_code}
 use Rattle.search_nodes.specs.declared.frame.Frame.{Frame}
-use Rattle.search_nodes.specs.declared.frame.Waiting.{Waiting}
-use Rattle.search_nodes.specs.declared.frame.Waiting.TheVariants.{Asked, Next, Cut}
+use Rattle.search_nodes.specs.declared.frame.NodeState.{NodeState}
+use Rattle.search_nodes.specs.declared.frame.NodeState.TheVariants.{AwaitingChild, Expanding, CutOff}
 use Rattle.minimax.specs.declared.entry.Entry.{Entry}
 use Rattle.shogi_search.specs.declared.stack.Stack.{Stack}
 use Rattle.minimax.specs.Minimax.{negated, IsTrueEntry, tree_size, sum_of_tree_sizes}
-use Rattle.minimax.specs.Entries.{IsCutoff}
-use Rattle.minimax.specs.Window.{threshold, code_at}
-use Rattle.search_nodes.specs.Frames.{position_after, threshold_of}
+use Rattle.minimax.specs.Entries.{IsConclusive}
+use Rattle.minimax.specs.Window.{move_alpha, code_at}
+use Rattle.search_nodes.specs.Frames.{position_after, move_alpha_of}
 use Rattle.search_nodes.specs.Changes.{IsAt, IsSame, left_of_frame, steps_after}
 use Rattle.shogi_search.specs.Stack.{IsChain, IsStack, OnTop, UsesSteps, frames_of, parents_of, left_at, steps_left, steps_for}
 use Rattle.shogi_search.proofs.Again.{left_root, left_pushed, left_stays, left_taken, left_whole}
@@ -152,7 +152,7 @@ below s d k h fits =
     let e : parents_of s ≡ take (s.height - 1) s.frames ++ f ∷ [] = parents_are s f h (slice_get-get_or s.frames (s.height - 1) d (omega arith)) in
     record { top = t.top; is = t.is; parents = e; popped = popped _ _ _ _ _ (parents_of s) (take (s.height - 1) s.frames) f t.top e t.has }
 
-pub asked_below : (s : Stack) (d : Frame) → IsStack s → 0 < s.height → s.height < length s.frames → ((m : Move) → (get_or s.frames (s.height - 1) d).waiting ≡ Asked m → ⊥) → ⊥
+pub asked_below : (s : Stack) (d : Frame) → IsStack s → 0 < s.height → s.height < length s.frames → ((m : Move) → (get_or s.frames (s.height - 1) d).state ≡ AwaitingChild m → ⊥) → ⊥
 asked_below s d k h fits none = let r : IsBelow s (get_or s.frames (s.height - 1) d) = below s d k h fits in none r.popped.by r.popped.child.asks
 
 -- the node on top has two plies left or more, and so has the one below it
@@ -163,17 +163,17 @@ pub below_deep : (s : Stack) (d : Frame) → IsStack s → 0 < s.height → s.he
 below_deep s d k h fits = chain_deep _ _ _ _ _ _ _ (below s d k h fits).popped.chain
 
 -- what is known of the node on top is known of the child that the one below it has asked for
-pub truth_below : (s : Stack) (d : Frame) (m : Move) (entry : Entry) → IsStack s → 0 < s.height → s.height < length s.frames → (get_or s.frames (s.height - 1) d).waiting ≡ Asked m → OnTop s (λ top. IsTrueEntry top.node.position top.node.eval top.depth entry) → IsTrueEntry (after_code (get_or s.frames (s.height - 1) d).node.position (code_of m)) (get_or s.frames (s.height - 1) d).node.eval ((get_or s.frames (s.height - 1) d).depth - 1) entry
+pub truth_below : (s : Stack) (d : Frame) (m : Move) (entry : Entry) → IsStack s → 0 < s.height → s.height < length s.frames → (get_or s.frames (s.height - 1) d).state ≡ AwaitingChild m → OnTop s (λ top. IsTrueEntry top.node.position top.node.eval top.depth entry) → IsTrueEntry (after_code (get_or s.frames (s.height - 1) d).node.position (code_of m)) (get_or s.frames (s.height - 1) d).node.eval ((get_or s.frames (s.height - 1) d).depth - 1) entry
 truth_below s d m entry k h fits asks truth =
     let r : IsBelow s (get_or s.frames (s.height - 1) d) = below s d k h fits in
     let q : IsChild (get_or s.frames (s.height - 1) d) r.top m = same_asked _ _ _ _ r.popped.child asks in
     same_truth _ _ _ _ _ _ _ q.at_child.position q.at_child.eval q.at_child.depth (on_top s r.top (λ (top : Frame). IsTrueEntry top.node.position top.node.eval top.depth entry) r.is truth)
 
-pub cutoff_below : (s : Stack) (d : Frame) (m : Move) (entry : Entry) → IsStack s → 0 < s.height → s.height < length s.frames → (get_or s.frames (s.height - 1) d).waiting ≡ Asked m → OnTop s (λ top. IsCutoff top.alpha top.beta entry) → IsCutoff (negated (get_or s.frames (s.height - 1) d).beta) (negated (threshold (get_or s.frames (s.height - 1) d).best_value (code_at (get_or s.frames (s.height - 1) d).best_move) (code_of m))) entry
-cutoff_below s d m entry k h fits asks cutoff =
+pub conclusive_below : (s : Stack) (d : Frame) (m : Move) (entry : Entry) → IsStack s → 0 < s.height → s.height < length s.frames → (get_or s.frames (s.height - 1) d).state ≡ AwaitingChild m → OnTop s (λ top. IsConclusive top.alpha top.beta entry) → IsConclusive (negated (get_or s.frames (s.height - 1) d).beta) (negated (move_alpha (get_or s.frames (s.height - 1) d).best_value (code_at (get_or s.frames (s.height - 1) d).best_move) (code_of m))) entry
+conclusive_below s d m entry k h fits asks conclusive =
     let r : IsBelow s (get_or s.frames (s.height - 1) d) = below s d k h fits in
     let q : IsChild (get_or s.frames (s.height - 1) d) r.top m = same_asked _ _ _ _ r.popped.child asks in
-    same_window _ _ _ _ _ q.at_child.alpha_is q.at_child.beta_is (on_top s r.top (λ (top : Frame). IsCutoff top.alpha top.beta entry) r.is cutoff)
+    same_window _ _ _ _ _ q.at_child.alpha_is q.at_child.beta_is (on_top s r.top (λ (top : Frame). IsConclusive top.alpha top.beta entry) r.is conclusive)
 
 -- the node below takes in what is known, and is on top
 pub stack_popped : (s : Stack) (d g : Frame) → IsStack s → 0 < s.height → s.height < length s.frames → IsSame (get_or s.frames (s.height - 1) d) g → IsStack (with_frame s (s.height - 1) g)
@@ -196,7 +196,7 @@ left_positive s k =
     omega (arith, left_read s t.top t.is)
 
 -- the child after the move that the node on top has asked for is entered above it
-pub stack_entered : (s : Stack) (f g : Frame) (m : Move) → IsTop s f → IsStack s → f.waiting ≡ Asked m → 0 < f.depth → s.height + 1 < SEARCH_DEPTH_MAX → s.height + 1 < length s.frames → IsAt (position_after f m) f.node.eval (f.depth - 1) (negated f.beta) (negated (threshold_of f m)) g → IsStack (with_frame s (s.height + 1) g)
+pub stack_entered : (s : Stack) (f g : Frame) (m : Move) → IsTop s f → IsStack s → f.state ≡ AwaitingChild m → 0 < f.depth → s.height + 1 < SEARCH_DEPTH_MAX → s.height + 1 < length s.frames → IsAt (position_after f m) f.node.eval (f.depth - 1) (negated f.beta) (negated (move_alpha_of f m)) g → IsStack (with_frame s (s.height + 1) g)
 stack_entered s f g m is k asks more low fits place =
     stack_with s (s.height + 1) g fits low k.shallow k.within k.most
     (pushed _ _ _ _ _ (frames_of s) (parents_of s) f g m (frames_are s f is) (on_top s f _ is k.chain) (record { deep = omega (arith, more); asks = asks; at_child = place }))
@@ -245,14 +245,14 @@ left_passed s f g is same less =
     omega (arith, left_changed s f g is, left_taken s.depth s.bound s.beta f g 0 same (omega (arith, less)))
 
 -- no move is left to ask for
-pub over_next : (g : Frame) → g.waiting ≡ Next → todo g.node.position g.picker ≡ [] → IsOver g.waiting (todo g.node.position g.picker)
-over_next g next none = subst (λ (w : Waiting). IsOver w (todo g.node.position g.picker)) (sym next) none
+pub over_next : (g : Frame) → g.state ≡ Expanding → todo g.node.position g.picker ≡ [] → IsOver g.state (todo g.node.position g.picker)
+over_next g next none = subst (λ (w : NodeState). IsOver w (todo g.node.position g.picker)) (sym next) none
 
 -- what waits neither for its next move nor for an answer is cut off
-pub over_cut : (w : Waiting) (codes : List ℕ) → (w ≡ Next → ⊥) → IsFree w → IsOver w codes
-over_cut Next codes waits free = absurd (waits refl)
-over_cut (Asked m) codes waits free = absurd free
-over_cut (Cut v) codes waits free = tt
+pub over_cut : (w : NodeState) (codes : List ℕ) → (w ≡ Expanding → ⊥) → IsFree w → IsOver w codes
+over_cut Expanding codes waits free = absurd (waits refl)
+over_cut (AwaitingChild m) codes waits free = absurd free
+over_cut (CutOff v) codes waits free = tt
 
-pub free_next : (w : Waiting) → w ≡ Next → IsFree w
+pub free_next : (w : NodeState) → w ≡ Expanding → IsFree w
 free_next w e = subst IsFree (sym e) tt

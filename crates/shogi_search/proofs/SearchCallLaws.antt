@@ -3,7 +3,7 @@ use Rattle.std.proofs.Common.{◌≡◌, ◌∙◌, ◌<◌, ◌+◌, ℕ, ℤ, 
 use Rattle.std.specs.Prelude.{IfSome}
 use Rattle.std.proofs.lemmas.List.{length-map, length-take-le}
 use Rattle.std.proofs.lemmas.Option.{slice_get_within}
-use Rattle.minimax.specs.Entries.{IsCutoff}
+use Rattle.minimax.specs.Entries.{IsConclusive}
 use Rattle.minimax.specs.Minimax.{negated}
 use Rattle.minimax.specs.declared.bounds.TheConstants.{INFINITY}
 use Rattle.minimax.specs.declared.entry.Entry.{Entry}
@@ -53,9 +53,9 @@ pub same_note : (s t : Stack) (entry : Entry) → KeepsGoal s t → note_of_root
 same_note s t entry k = cc
 
 -- an entry says enough for the same window
-pub cutoff_as : (a b a' b' : ℤ) (entry : Entry) → IsCutoff a b entry → a ≡ a' → b ≡ b' → IsCutoff a' b' entry
-cutoff_as a b a' b' entry k e f =
-    subst (λ (x : ℤ). IsCutoff a' x entry) f (subst (λ (x : ℤ). IsCutoff x b entry) e k)
+pub conclusive_as : (a b a' b' : ℤ) (entry : Entry) → IsConclusive a b entry → a ≡ a' → b ≡ b' → IsConclusive a' b' entry
+conclusive_as a b a' b' entry k e f =
+    subst (λ (x : ℤ). IsConclusive a' x entry) f (subst (λ (x : ℤ). IsConclusive x b entry) e k)
 
 -- the root is told of after further calls
 pub told_after : {M : Type 0} (called : M → Call → M → Type 0) (a b c : M) (s t x y p : ℕ)
@@ -66,7 +66,7 @@ told_after called a b c s t x y p search later None first same told = tt
 told_after called a b c s t x y p search later (Some f) first same told = record {
   entry = told.entry;
   says = told.says;
-  enough = subst (λ (beta : ℤ). IsCutoff (negated INFINITY) beta told.entry) same.1.1.1 told.enough;
+  enough = subst (λ (beta : ℤ). IsConclusive (negated INFINITY) beta told.entry) same.1.1.1 told.enough;
   last = elim told.last [
     | inl note ↦ inl (ends_after called a b c s t x y p _ first
         (subst (λ (call : Call). EndsWith called b c call) (same_call_note told.entry) note))

@@ -6,7 +6,7 @@ use Rattle.shogi_moves.specs.Rising.{is_in}
 use Rattle.shogi_eval.specs.declared.eval.Eval.{Eval}
 use Rattle.minimax.specs.Minimax.{value, worth, negated}
 use Rattle.search_nodes.specs.Visits.{moves_at}
-use Rattle.minimax.specs.Window.{IsCovered, threshold}
+use Rattle.minimax.specs.Window.{IsCovered, move_alpha}
 
 -- a node that was entered and not left: its position, under which evaluation, and the plies left; its window; the greatest worth so far, or alpha, and the code of the best move so far; the codes of the moves that are still to be searched, and which of them is being searched; and what the node is worth at least, where a child has cut it off
 pub record Entered : Type 0 where
@@ -19,7 +19,7 @@ pub record Entered : Type 0 where
   pub best_code : Option ℕ
   pub unsearched : List ℕ
   pub current : Option ℕ
-  pub cutoff : Option ℤ
+  pub conclusive : Option ℤ
 
 -- each move but the unsearched ones is worth no more than the best so far, and less where its code is less than that of the best move, which is worth exactly that
 abbrev pub IsSearchedSoFar : Entered → Type 0
@@ -28,12 +28,12 @@ IsSearchedSoFar n =
     n.alpha n.best_value n.best_code
 
 -- the node is worth at least this, which is enough
-abbrev pub IsCutOffAt : Entered → ℤ → Type 0
-IsCutOffAt n v = (n.beta ≤ℤ v) × (v ≤ℤ value n.position n.eval n.depth)
+abbrev pub IsConclusiveAt : Entered → ℤ → Type 0
+IsConclusiveAt n v = (n.beta ≤ℤ v) × (v ≤ℤ value n.position n.eval n.depth)
 
 -- what is known of a node, cut off by a child or not
 abbrev pub IsKnownNode : Entered → Type 0
-IsKnownNode n = MatchOption n.cutoff (IsSearchedSoFar n) (IsCutOffAt n)
+IsKnownNode n = MatchOption n.conclusive (IsSearchedSoFar n) (IsConclusiveAt n)
 
 -- a node of a position under an evaluation at a depth, under a window
 pub record IsNodeAt (p : Shogi) (e : Eval) (d : ℕ) (low high : ℤ) (n : Entered) : Type 0 where
@@ -53,4 +53,4 @@ IsPath p e d low high (n ∷ m ∷ more) =
     × IsSomeAnd n.current (λ code.
     (is_in code n.unsearched ≡ true)
     × IsPath (after_code p code) e (d - 1) (negated high)
-    (negated (threshold n.best_value n.best_code code)) (m ∷ more)))
+    (negated (move_alpha n.best_value n.best_code code)) (m ∷ more)))

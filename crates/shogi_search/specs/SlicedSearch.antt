@@ -3,8 +3,8 @@ use Rattle.std.specs.Prelude.{◌≡◌, ℕ, ℤ, ◌+◌, ◌*◌, ◌≤◌, 
 use Rattle.std.specs.Option.{ForSome}
 use Rattle.shogi_core.specs.Codes.{code_of}
 use Rattle.search_nodes.specs.declared.frame.Frame.{Frame}
-use Rattle.search_nodes.specs.declared.frame.Waiting.{Waiting}
-use Rattle.search_nodes.specs.declared.frame.Waiting.TheVariants.{Next, Asked, Cut}
+use Rattle.search_nodes.specs.declared.frame.NodeState.{NodeState}
+use Rattle.search_nodes.specs.declared.frame.NodeState.TheVariants.{Expanding, AwaitingChild, CutOff}
 use Rattle.shogi_search.specs.declared.found.Found.{Found}
 use Rattle.shogi_search.specs.declared.sliced_search.Search.TheInside.{Inside}
 use Rattle.shogi_search.specs.declared.stack.Stack.{Stack}
@@ -28,16 +28,16 @@ left_in None false whole rest = whole
 left_in None true whole rest = rest
 
 -- the move whose child is being searched or was just valued
-abbrev pub current_in : Waiting → Option ℕ
-current_in Next = None
-current_in (Asked m) = Some (code_of m)
-current_in (Cut v) = None
+abbrev pub current_in : NodeState → Option ℕ
+current_in Expanding = None
+current_in (AwaitingChild m) = Some (code_of m)
+current_in (CutOff v) = None
 
 -- what the node is worth at least, where a child has cut it off
-abbrev pub cutoff_in : Waiting → Option ℤ
-cutoff_in Next = None
-cutoff_in (Asked m) = None
-cutoff_in (Cut v) = Some v
+abbrev pub conclusive_in : NodeState → Option ℤ
+conclusive_in Expanding = None
+conclusive_in (AwaitingChild m) = None
+conclusive_in (CutOff v) = Some v
 
 -- the current move, and then those to be visited
 abbrev pub and_current : Option ℕ → List ℕ → List ℕ
@@ -54,9 +54,9 @@ entered_of f = record {
   beta = f.beta;
   best_value = f.best_value;
   best_code = code_at f.best_move;
-  unsearched = and_current (current_in f.waiting) (todo f.node.position f.picker);
-  current = current_in f.waiting;
-  cutoff = cutoff_in f.waiting;
+  unsearched = and_current (current_in f.state) (todo f.node.position f.picker);
+  current = current_in f.state;
+  conclusive = conclusive_in f.state;
 }
 
 -- the nodes of the stack once the root is entered, and none once it has found
@@ -92,7 +92,7 @@ pub record IsSearch (s : Inside) : Type 0 where
   pub known : ForSome s.found (IsKnown s)
   pub chain : s.found ≡ None → s.started ≡ true → IsStack s.stack
   pub whole : s.found ≡ None → s.started ≡ true → IsWhole s.stack
-  pub free : s.found ≡ None → s.started ≡ true → OnTop s.stack (λ top. IsFree top.waiting)
+  pub free : s.found ≡ None → s.started ≡ true → OnTop s.stack (λ top. IsFree top.state)
   pub counted :
       s.steps + left_in s.found s.started (steps_of_tree s.stack) (steps_left s.stack)
       ≤ steps_of_tree s.stack

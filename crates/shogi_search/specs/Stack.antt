@@ -8,22 +8,22 @@ use Rattle.shogi_core.specs.Validity.{IsValid}
 use Rattle.shogi_moves.specs.After.{after_code}
 use Rattle.shogi_eval.specs.declared.eval.Eval.{Eval}
 use Rattle.search_nodes.specs.declared.frame.Frame.{Frame}
-use Rattle.search_nodes.specs.declared.frame.Waiting.{Waiting}
-use Rattle.search_nodes.specs.declared.frame.Waiting.TheVariants.{Next, Asked, Cut}
+use Rattle.search_nodes.specs.declared.frame.NodeState.{NodeState}
+use Rattle.search_nodes.specs.declared.frame.NodeState.TheVariants.{Expanding, AwaitingChild, CutOff}
 use Rattle.minimax.specs.declared.entry.Entry.{Entry}
 use Rattle.shogi_search.specs.declared.memo.Memo.{Ghosts}
 use Rattle.shogi_search.specs.declared.stack.Stack.{Stack}
-use Rattle.search_nodes.specs.Frames.{position_after, threshold_of}
+use Rattle.search_nodes.specs.Frames.{position_after, move_alpha_of}
 use Rattle.minimax.specs.Minimax.{negated, tree_size, IsTrueEntry}
 use Rattle.shogi_search.specs.Calls.{Asks, Call, CallsInSteps, EndsWith, Note}
 use Rattle.minimax.specs.declared.bounds.TheConstants.{SEARCH_DEPTH_MAX, INFINITY}
 use Rattle.search_nodes.specs.Changes.{IsAt, left_of_frame, steps_after}
 
 -- what holds of the move that a node has asked for
-abbrev pub WhereAsked : Waiting → (Move → Type 0) → Type 0
-WhereAsked Next fact = ⊥
-WhereAsked (Asked m) fact = fact m
-WhereAsked (Cut v) fact = ⊥
+abbrev pub WhereAsked : NodeState → (Move → Type 0) → Type 0
+WhereAsked Expanding fact = ⊥
+WhereAsked (AwaitingChild m) fact = fact m
+WhereAsked (CutOff v) fact = ⊥
 
 -- each frame is the child that the one below it has asked for
 abbrev pub IsChain : Shogi → Eval → ℕ → ℤ → ℤ → List Frame → Frame → Type 0
@@ -31,8 +31,8 @@ IsChain p e d alpha beta [] top = IsAt p e d alpha beta top
 IsChain p e d alpha beta (f ∷ fs) top =
     IsAt p e d alpha beta f
     × ((0 < d)
-    × WhereAsked f.waiting (λ m.
-    IsChain (after_code p (code_of m)) e (d - 1) (negated beta) (negated (threshold_of f m))
+    × WhereAsked f.state (λ m.
+    IsChain (after_code p (code_of m)) e (d - 1) (negated beta) (negated (move_alpha_of f m))
     fs top))
 
 -- the root, the depth, the evaluation and the bound are what they were

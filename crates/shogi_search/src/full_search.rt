@@ -53,7 +53,7 @@ pub fn search<M: Memo>(p: &Position, e: Eval, d: u8, memo: &mut M) -> Found
     ensures least { lost_value SEARCH_DEPTH_MAX ≤ℤ result.value }
     ensures most { result.value ≤ℤ negated (lost_value SEARCH_DEPTH_MAX) }
     ensures best { result.best ≡ best p.now e d }
-    ensures none { IsNone result.best ↔ ((d ≡ 0) ⊎ (legal_codes p.now ≡ [])) }
+    ensures if_none { IsNone result.best ↔ ((d ≡ 0) ⊎ (legal_codes p.now ≡ [])) }
     ensures legal { IfSome result.best (λ m. is_legal p.now m ≡ true) }
     ensures steps { result.steps ≤ 4 * tree_size p.now d }
     ensures known { IsExactly (M.answers memo.old p.now e d) → result.steps ≡ 0 }
@@ -61,6 +61,6 @@ pub fn search<M: Memo>(p: &Position, e: Eval, d: u8, memo: &mut M) -> Found
     ensures told { TellsRoot M.called memo.old memo.new (untouched p.now e d) result }
     ensures capacity { M.capacity memo.new ≡ M.capacity memo.old }
 {
-    p.validity();
+    p.reveal_invariant();
     search_below(p, e, d, INFINITY, memo)
 }

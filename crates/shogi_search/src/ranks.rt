@@ -87,7 +87,7 @@ impl Ranks {
 
     /// What a move has to be worth more than to be listed, if its code is greater than those of all
     /// moves offered so far: the value on the last line. `None` where a line is free.
-    pub fn threshold(&self) -> Option<i32>
+    pub fn move_alpha(&self) -> Option<i32>
         ensures { result ≡ value_to_pass self.now }
     {
         let (_, value) = self.pairs.as_slice().get(self.lines - 1)?;
@@ -103,7 +103,7 @@ impl Ranks {
         ensures open { negated INFINITY <ℤ result }
         ensures end { result ≤ℤ INFINITY }
     {
-        match self.threshold() {
+        match self.move_alpha() {
             Some(value) => -value,
             None => INFINITY,
         }

@@ -5,7 +5,7 @@ ghost use Rattle.std.specs.List.{All};
 ghost use Rattle.std.specs.Option.{ForSome};
 ghost use Rattle.minimax.specs.Minimax.{IsTrueEntry, negated};
 ghost use Rattle.shogi_search.specs.Entered.{IsKnownNode};
-ghost use Rattle.minimax.specs.Entries.{IsCutoff};
+ghost use Rattle.minimax.specs.Entries.{IsConclusive};
 ghost use Rattle.shogi_search.specs.Calls.{Asks};
 ghost use Rattle.shogi_search.specs.SearchCalls.{CallsBetween, CallsOfSearch, Says, TellsFound, TellsRoot};
 ghost use Rattle.shogi_search.specs.Progress.{untouched, untouched_below, left_of, HasPath, IsAnsweredBy, EndsWhereAnswered, EndsWhereKnown, KeepsQuestion, IsFoundBelow, IsFoundBy, FindsValue, FindsBest, FitsTree};
@@ -15,7 +15,7 @@ use crate::found::Found;
 use crate::memo::Memo;
 use crate::stack::{Stack, answer_at_once, hash_move_of, probe};
 use minimax::{Entry, INFINITY};
-use search_nodes::{Counters, Firsts, Frame};
+use search_nodes::{CounterMoves, Frame, PriorityMoves};
 use shogi_core::{Move, Position};
 use shogi_eval::{Eval, Node};
 use std::marker::Model;
@@ -39,8 +39,8 @@ pub struct Search {
     started: bool,
     steps: u64,
     found: Option<Found>,
-    advised: Firsts,
-    counters: Counters,
+    advised: PriorityMoves,
+    counter_moves: CounterMoves,
 }
 
 impl Model for Search {
@@ -60,12 +60,12 @@ fn found_of(entry: &Entry, root: &Position, e: Eval, depth: u8, beta: i32, steps
     requires shallow { depth ≤ SEARCH_DEPTH_MAX }
     requires open { negated INFINITY <ℤ beta }
     requires truth { IsTrueEntry root.now e depth entry.now }
-    requires cutoff { IsCutoff (negated INFINITY) beta entry.now }
+    requires conclusive { IsConclusive (negated INFINITY) beta entry.now }
     ensures below { IsFoundBelow root.now e depth beta result }
     ensures steps { result.steps ≡ steps }
     ensures says { Says entry.now result }
 {
-    root.validity();
+    root.reveal_invariant();
     match entry {
         Entry::Exact(value, best) => Found {
             value: *value,
@@ -112,8 +112,8 @@ impl Search {
             started: false,
             steps: 0,
             found: None,
-            advised: Firsts::none(),
-            counters: Counters::none(),
+            advised: PriorityMoves::none(),
+            counter_moves: CounterMoves::none(),
         }
     }
 
@@ -141,7 +141,7 @@ impl Search {
         self.started = false;
         self.steps = 0;
         self.found = None;
-        self.advised = Firsts::none();
+        self.advised = PriorityMoves::none();
     }
 
     /// Has the root visit these moves first once it is entered, in this order, where they are legal: as
@@ -150,7 +150,7 @@ impl Search {
     pub fn advise(&mut self, moves: [Option<Move>; 2])
         ensures { self.new ≡ self.old }
     {
-        let mut advised = Firsts::none();
+        let mut advised = PriorityMoves::none();
         'moves: for m in moves {
             advised.add_some(m);
         }
@@ -161,7 +161,7 @@ impl Search {
     /// entered and not left, each the child of the one before, and what they are worth so far. Of
     /// any search it states that each such node is worth its greatest searched move so far, or
     /// enough to be cut off.
-    pub fn validity(&self)
+    pub fn reveal_invariant(&self)
         ensures path { self.now.started ≡ true → self.now.found ≡ None → HasPath self.now }
         ensures known { All IsKnownNode self.now.entered }
     {
@@ -182,7 +182,7 @@ impl Search {
         requires deep { 2 ≤ self.old.depth }
         ensures begun { self.new.started ≡ true }
         ensures found { self.new.found ≡ None }
-        ensures same { KeepsQuestion self.old self.new }
+        ensures unchanged { KeepsQuestion self.old self.new }
         ensures calls { CallsBetween M.called memo.old memo.new self.old self.new 0 }
         ensures capacity { M.capacity memo.new ≡ M.capacity memo.old }
         ensures steps { self.new.steps ≡ min (self.old.steps + 1) (2 ^ 64 - 1) }
@@ -194,8 +194,8 @@ impl Search {
         let node = Node::of(*root, e);
         let beta = self.stack.beta;
         self.stack.bound = beta;
-        let firsts = self.stack.frames[0].firsts(self.advised, hash_move, depth);
-        self.stack.frames[0].enter(&node, depth, -INFINITY, beta, firsts);
+        let priority_moves = self.stack.frames[0].priority_moves(self.advised, hash_move, depth);
+        self.stack.frames[0].enter(&node, depth, -INFINITY, beta, priority_moves);
         self.started = true;
         self.steps = self.steps.saturating_add(1);
     }
@@ -211,7 +211,7 @@ impl Search {
         ensures some { IsSome result }
         ensures counted { IfSome result (λ f. f.steps ≡ self.new.steps) }
         ensures range { IfSome result (FitsTree self.old) }
-        ensures same { KeepsQuestion self.old self.new }
+        ensures unchanged { KeepsQuestion self.old self.new }
         ensures calls { CallsBetween M.called memo.old memo.new self.old self.new 0 }
         ensures told { IfSome result (TellsRoot M.called memo.old memo.new self.old) }
         ensures capacity { M.capacity memo.new ≡ M.capacity memo.old }
@@ -240,7 +240,7 @@ impl Search {
         ensures best { IfSome result (FindsBest self.old) }
         ensures counted { IfSome result (λ f. f.steps ≡ self.new.steps) }
         ensures range { IfSome result (FitsTree self.old) }
-        ensures same { KeepsQuestion self.old self.new }
+        ensures unchanged { KeepsQuestion self.old self.new }
         ensures calls { CallsBetween M.called memo.old memo.new self.old self.new 0 }
         ensures told { IfSome result (TellsRoot M.called memo.old memo.new self.old) }
         ensures capacity { M.capacity memo.new ≡ M.capacity memo.old }
@@ -259,7 +259,7 @@ impl Search {
     {
         let entry = self
             .stack
-            .run(&mut self.counters, memo, budget, &mut self.steps)?;
+            .run(&mut self.counter_moves, memo, budget, &mut self.steps)?;
         let (root, e, depth) = (&self.stack.root, self.stack.eval, self.stack.depth);
         let beta = self.stack.beta;
         self.found = Some(found_of(&entry, root, e, depth, beta, self.steps));

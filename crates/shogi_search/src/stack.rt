@@ -2,7 +2,7 @@
 
 ghost use Rattle.std.specs.Prelude.{◌≡◌, ◌≤◌, ◌<ℤ◌, ◌<◌, ◌+◌, ◌*◌, ◌-◌, ◌^◌, true, false, None, Some, IfSome, IfNone, OnSome, IsSome, min, IsTrue, ◌↔◌};
 ghost use Rattle.minimax.specs.Minimax.{negated, IsTrueEntry};
-ghost use Rattle.minimax.specs.Entries.{IsCutoff, IsEnough, move_in};
+ghost use Rattle.minimax.specs.Entries.{IsConclusive, IsEnough, move_in};
 ghost use Rattle.search_nodes.specs.Visits.{IsAsked, IsFree};
 ghost use Rattle.search_nodes.specs.Frames.{IsTrueOf, IsToBeLeft};
 ghost use Rattle.search_nodes.specs.Changes.{KeepsAsked};
@@ -13,7 +13,7 @@ ghost use Rattle.minimax.specs.declared.bounds.TheConstants.{SEARCH_DEPTH_MAX, I
 use crate::memo::Memo;
 use last_ply::last_ply;
 use minimax::{Entry, MATE};
-use search_nodes::{Counters, Firsts, Frame, Waiting, leaf};
+use search_nodes::{CounterMoves, Frame, NodeState, PriorityMoves, leaf};
 use shogi_core::{Move, Position};
 use shogi_eval::{Eval, Node};
 use shogi_moves::is_legal;
@@ -38,8 +38,8 @@ pub struct Stack {
 }
 
 /// Whether an entry says enough for a window.
-fn is_cutoff(entry: &Entry, alpha: i32, beta: i32) -> bool
-    ensures { IsTrue result ↔ IsCutoff alpha beta entry.now }
+fn is_conclusive(entry: &Entry, alpha: i32, beta: i32) -> bool
+    ensures { IsTrue result ↔ IsConclusive alpha beta entry.now }
 {
     match entry {
         Entry::Exact(_, _) => true,
@@ -58,14 +58,14 @@ pub fn probe<M: Memo>(
     memo: &mut M,
 ) -> Option<Entry>
     ensures truth { IfSome result (IsTrueEntry p.now e depth) }
-    ensures cutoff { IfSome result (IsCutoff alpha beta) }
+    ensures conclusive { IfSome result (IsConclusive alpha beta) }
     ensures enough { IsSome result ↔ IsEnough alpha beta (M.answers memo.old p.now e depth) }
     ensures asked { M.called memo.old (probe_of (M.answers memo.old) p.now e depth) memo.new }
     ensures answer { OnSome result (result ≡ M.answers memo.old p.now e depth) }
     ensures capacity { M.capacity memo.new ≡ M.capacity memo.old }
 {
     let entry = memo.probe(p, e, depth)?;
-    if is_cutoff(&entry, alpha, beta) {
+    if is_conclusive(&entry, alpha, beta) {
         return Some(entry);
     }
     None
@@ -76,7 +76,7 @@ pub fn answer_at_once(node: &Node, depth: u8, alpha: i32, beta: i32) -> Entry
     requires last { depth < 2 }
     requires open { alpha <ℤ beta }
     ensures truth { IsTrueEntry node.now.position node.now.eval depth result }
-    ensures cutoff { IsCutoff alpha beta result }
+    ensures conclusive { IsConclusive alpha beta result }
 {
     if depth == 0 {
         return Entry::Exact(leaf(node), None);
@@ -85,10 +85,10 @@ pub fn answer_at_once(node: &Node, depth: u8, alpha: i32, beta: i32) -> Entry
 }
 
 /// What every node of the depth is worth at least or at most, where that is enough for the window.
-fn far_answer(depth: u8, alpha: i32, beta: i32) -> Option<Entry>
+fn mate_distance_bound(depth: u8, alpha: i32, beta: i32) -> Option<Entry>
     requires shallow { depth ≤ SEARCH_DEPTH_MAX }
     ensures truth { IfSome result (IsTrueAnywhere depth) }
-    ensures cutoff { IfSome result (IsCutoff alpha beta) }
+    ensures conclusive { IfSome result (IsConclusive alpha beta) }
 {
     let least = -MATE - depth as i32;
     if least >= beta {
@@ -107,7 +107,7 @@ fn far_answer(depth: u8, alpha: i32, beta: i32) -> Option<Entry>
 fn answer_of<M: Memo>(node: &Node, depth: u8, alpha: i32, beta: i32, memo: &mut M) -> Option<Entry>
     requires open { alpha <ℤ beta }
     ensures truth { IfSome result (IsTrueEntry node.now.position node.now.eval depth) }
-    ensures cutoff { IfSome result (IsCutoff alpha beta) }
+    ensures conclusive { IfSome result (IsConclusive alpha beta) }
     ensures deep { IfNone result (2 ≤ depth) }
     ensures asked { Asks M.called memo.old memo.new 1 }
     ensures capacity { M.capacity memo.new ≡ M.capacity memo.old }
@@ -155,12 +155,12 @@ impl Stack {
     /// what that is worth: a child that is worth more is only known to be, and is entered again.
     fn narrow(&mut self)
         requires stack { IsStack self.old }
-        requires asked { OnTop self.old (λ top. IsAsked top.waiting) }
+        requires asked { OnTop self.old (λ top. IsAsked top.state) }
         ensures stack { IsStack self.new }
         ensures height { self.new.height ≡ self.old.height }
         ensures top { OnTop self.old (λ old. OnTop self.new (λ new. KeepsAsked old new)) }
         ensures left { steps_left self.new ≡ steps_left self.old }
-        ensures same { KeepsGoal self.old self.new }
+        ensures unchanged { KeepsGoal self.old self.new }
     {
         if self.height > 0 || self.depth < DEEP_ROOT_MIN {
             return;
@@ -181,16 +181,16 @@ impl Stack {
         ensures stack { IsStack self.new }
         ensures whole { self.new.bound ≡ self.new.beta }
         ensures root { self.new.height ≡ 0 }
-        ensures asked { OnTop self.new (λ root. root.waiting ≡ Waiting.Asked result) }
+        ensures asked { OnTop self.new (λ root. root.state ≡ NodeState.AwaitingChild result) }
         ensures child { OnTop self.old (λ child. OnTop self.new (IsChildAfter child result)) }
         ensures left { LeavesStepsFor self.old self.new result }
-        ensures same { KeepsGoal self.old self.new }
+        ensures unchanged { KeepsGoal self.old self.new }
     {
         self.height -= 1;
         let beta = self.beta;
         self.bound = beta;
         let root = &mut self.frames[self.height];
-        let Waiting::Asked(current) = root.waiting else {
+        let NodeState::AwaitingChild(current) = root.state else {
             unreachable!();
         };
         root.end_at(beta);
@@ -199,20 +199,26 @@ impl Stack {
 
     /// Enters the child after the current move of the node on top, which is on top then.
     #[inline(always)]
-    fn push<M: Memo>(&mut self, current: &Move, node: &Node, counters: &Counters, memo: &mut M)
+    fn push<M: Memo>(
+        &mut self,
+        current: &Move,
+        node: &Node,
+        counter_moves: &CounterMoves,
+        memo: &mut M,
+    )
         requires stack { IsStack self.old }
-        requires asked { OnTop self.old (λ top. top.waiting ≡ Waiting.Asked current.now) }
+        requires asked { OnTop self.old (λ top. top.state ≡ NodeState.AwaitingChild current.now) }
         requires room { self.old.height + 1 < SEARCH_DEPTH_MAX }
         requires deep { OnTop self.old (λ top. 2 < top.depth) }
         requires position { IsPositionAfter self.old current.now node.now.position }
         requires eval { OnTop self.old (λ top. node.now.eval ≡ top.node.eval) }
         ensures stack { IsStack self.new }
-        ensures free { OnTop self.new (λ top. IsFree top.waiting) }
+        ensures free { OnTop self.new (λ top. IsFree top.state) }
         ensures height { self.new.height ≡ self.old.height + 1 }
         ensures bound { self.new.bound ≡ self.old.bound }
         ensures left { UsesSteps self.old self.new current.now 1 }
         ensures once { UsesStepsOnce self.old self.new current.now }
-        ensures same { KeepsGoal self.old self.new }
+        ensures unchanged { KeepsGoal self.old self.new }
         ensures asked { Asks M.called memo.old memo.new 1 }
         ensures capacity { M.capacity memo.new ≡ M.capacity memo.old }
     {
@@ -221,56 +227,60 @@ impl Stack {
         let depth = top.depth - 1;
         let hash_move = child_hash_move_of(node.as_position(), node.eval(), depth, memo);
         self.height += 1;
-        let mut firsts = self.frames[self.height].firsts(Firsts::none(), hash_move, depth);
-        firsts.add(counters.reply_to(node.as_position(), current));
-        self.frames[self.height].enter(node, depth, alpha, beta, firsts);
+        let mut priority_moves = self.frames[self.height].priority_moves(
+            PriorityMoves::none(),
+            hash_move,
+            depth,
+        );
+        priority_moves.add(counter_moves.reply_to(node.as_position(), current));
+        self.frames[self.height].enter(node, depth, alpha, beta, priority_moves);
     }
 
     /// The root takes in what is known of the child on top, where that is enough for its whole
     /// window; else that child is entered again under it.
     #[inline(never)]
-    fn leave_narrow<M: Memo>(&mut self, entry: &Entry, counters: &Counters, memo: &mut M)
+    fn leave_narrow<M: Memo>(&mut self, entry: &Entry, counter_moves: &CounterMoves, memo: &mut M)
         requires stack { IsStack self.old }
         requires narrow { IsNarrow self.old }
         requires truth { OnTop self.old (λ top. IsTrueOf top entry.now) }
         ensures stack { IsStack self.new }
         ensures whole { self.new.bound ≡ self.new.beta }
-        ensures free { OnTop self.new (λ top. IsFree top.waiting) }
+        ensures free { OnTop self.new (λ top. IsFree top.state) }
         ensures height { self.new.height ≤ 1 }
         ensures left { steps_left self.new < steps_left self.old }
-        ensures same { KeepsGoal self.old self.new }
+        ensures unchanged { KeepsGoal self.old self.new }
         ensures asked { Asks M.called memo.old memo.new self.new.height }
         ensures capacity { M.capacity memo.new ≡ M.capacity memo.old }
     {
         let node = self.frames[self.height].node;
         let current = self.widen();
         let (alpha, beta) = self.frames[self.height].window(&current);
-        if is_cutoff(entry, alpha, beta) {
+        if is_conclusive(entry, alpha, beta) {
             self.frames[self.height].back_up(&current, entry);
             return;
         }
-        self.push(&current, &node, counters, memo);
+        self.push(&current, &node, counter_moves, memo);
     }
 
     /// The node below the top takes in what is known of the node on top, where there is one. A child
     /// of the root that was asked under a narrow window may be entered again.
-    fn pop<M: Memo>(&mut self, entry: &Entry, counters: &Counters, memo: &mut M) -> bool
+    fn pop<M: Memo>(&mut self, entry: &Entry, counter_moves: &CounterMoves, memo: &mut M) -> bool
         requires stack { IsStack self.old }
         requires whole { IsWhole self.old }
         requires truth { OnTop self.old (λ top. IsTrueOf top entry.now) }
-        requires cutoff { OnTop self.old (λ top. IsCutoff top.alpha top.beta entry.now) }
+        requires conclusive { OnTop self.old (λ top. IsConclusive top.alpha top.beta entry.now) }
         ensures stack { IsStack self.new }
         ensures whole { IsWhole self.new }
-        ensures free { result ≡ true → OnTop self.new (λ top. IsFree top.waiting) }
+        ensures free { result ≡ true → OnTop self.new (λ top. IsFree top.state) }
         ensures left { result ≡ true → steps_left self.new < steps_left self.old }
         ensures truth { result ≡ false → IsTrueOfRoot self.old entry.now }
-        ensures cutoff { result ≡ false → IsCutoff (negated INFINITY) self.old.beta entry.now }
-        ensures none { result ≡ false → memo.new ≡ memo.old }
+        ensures conclusive { result ≡ false → IsConclusive (negated INFINITY) self.old.beta entry.now }
+        ensures if_none { result ≡ false → memo.new ≡ memo.old }
         ensures below { result ≡ true → self.old.height ≤ self.new.height + 1 }
         ensures above { result ≡ true → self.new.height ≤ self.old.height }
         ensures some { result ≡ true → 0 < self.old.height }
         ensures root { result ≡ false → self.old.height ≡ 0 }
-        ensures same { KeepsGoal self.old self.new }
+        ensures unchanged { KeepsGoal self.old self.new }
         ensures asked { result ≡ true → AsksForEach M.called memo.old memo.new self.old self.new }
         ensures capacity { M.capacity memo.new ≡ M.capacity memo.old }
     {
@@ -278,12 +288,12 @@ impl Stack {
             return false;
         }
         if self.height == 1 && self.bound < self.beta {
-            self.leave_narrow(entry, counters, memo);
+            self.leave_narrow(entry, counter_moves, memo);
             return true;
         }
         self.height -= 1;
         let below = &mut self.frames[self.height];
-        let Waiting::Asked(current) = below.waiting else {
+        let NodeState::AwaitingChild(current) = below.state else {
             unreachable!();
         };
         below.back_up(&current, entry);
@@ -293,34 +303,34 @@ impl Stack {
     /// Continues with the current move of the node on top: by the answer of its child, or into the
     /// child, which is on top then.
     #[inline(never)]
-    fn enter_child<M: Memo>(&mut self, current: &Move, counters: &Counters, memo: &mut M)
+    fn enter_child<M: Memo>(&mut self, current: &Move, counter_moves: &CounterMoves, memo: &mut M)
         requires stack { IsStack self.old }
         requires whole { IsWhole self.old }
-        requires asked { OnTop self.old (λ top. top.waiting ≡ Waiting.Asked current.now) }
+        requires asked { OnTop self.old (λ top. top.state ≡ NodeState.AwaitingChild current.now) }
         ensures stack { IsStack self.new }
         ensures whole { IsWhole self.new }
-        ensures free { OnTop self.new (λ top. IsFree top.waiting) }
+        ensures free { OnTop self.new (λ top. IsFree top.state) }
         ensures left { UsesSteps self.old self.new current.now 1 }
-        ensures same { KeepsGoal self.old self.new }
+        ensures unchanged { KeepsGoal self.old self.new }
         ensures calls { CallsOnStack M.called memo.old memo.new 0 1 self.old None self.new }
         ensures capacity { M.capacity memo.new ≡ M.capacity memo.old }
     {
         let top = &self.frames[self.height];
         let (alpha, beta) = top.window(current);
         let depth = top.depth - 1;
-        if let Some(entry) = far_answer(depth, alpha, beta) {
+        if let Some(entry) = mate_distance_bound(depth, alpha, beta) {
             self.frames[self.height].back_up(current, &entry);
             return;
         }
         let mut node = top.node;
-        current.validity();
+        current.reveal_invariant();
         node.advance(*current);
         if let Some(entry) = answer_of(&node, depth, alpha, beta, memo) {
             self.frames[self.height].back_up(current, &entry);
             return;
         }
         self.narrow();
-        self.push(current, &node, counters, memo);
+        self.push(current, &node, counter_moves, memo);
     }
 
     /// Asks the memo for the nodes along the best line so far, so that they stay in use.
@@ -351,7 +361,7 @@ impl Stack {
     }
 
     /// Tells the memo what is known of the node on top, where that is the root or serves the memo.
-    fn note_top<M: Memo>(&self, entry: &Entry, memo: &mut M)
+    fn store_top<M: Memo>(&self, entry: &Entry, memo: &mut M)
         requires stack { IsStack self.now }
         requires truth { OnTop self.now (λ top. IsTrueOf top entry.now) }
         ensures root { NotesRoot M.called memo.old memo.new self.now entry.now }
@@ -366,45 +376,45 @@ impl Stack {
 
     /// Where the node on top is cut off, keeps the move that cut it off as the reply to the one that
     /// led to it.
-    fn keep_counter(&self, counters: &mut Counters)
+    fn keep_counter_move(&self, counter_moves: &mut CounterMoves)
         requires { self.now.height < SEARCH_DEPTH_MAX }
     {
         if self.height == 0 {
             return;
         }
         let top = &self.frames[self.height];
-        let Waiting::Cut(_) = top.waiting else {
+        let NodeState::CutOff(_) = top.state else {
             return;
         };
         let Some(reply) = top.best_move else {
             return;
         };
-        if let Waiting::Asked(current) = self.frames[self.height - 1].waiting {
-            counters.keep(top.node.as_position(), &current, reply.code());
+        if let NodeState::AwaitingChild(current) = self.frames[self.height - 1].state {
+            counter_moves.keep(top.node.as_position(), &current, reply.code());
         }
     }
 
     /// Leaves the node on top, and gives what is known of the root where that was it.
     #[inline(always)]
-    fn leave<M: Memo>(&mut self, counters: &mut Counters, memo: &mut M) -> Option<Entry>
+    fn leave<M: Memo>(&mut self, counter_moves: &mut CounterMoves, memo: &mut M) -> Option<Entry>
         requires stack { IsStack self.old }
         requires whole { IsWhole self.old }
         requires over { OnTop self.old (λ top. IsToBeLeft top) }
         ensures stack { IfNone result (IsStack self.new) }
         ensures whole { IfNone result (IsWhole self.new) }
-        ensures free { IfNone result (OnTop self.new (λ top. IsFree top.waiting)) }
+        ensures free { IfNone result (OnTop self.new (λ top. IsFree top.state)) }
         ensures left { IfNone result (steps_left self.new < steps_left self.old) }
         ensures truth { IfSome result (IsTrueOfRoot self.old) }
-        ensures cutoff { IfSome result (IsCutoff (negated INFINITY) self.old.beta) }
-        ensures same { KeepsGoal self.old self.new }
+        ensures conclusive { IfSome result (IsConclusive (negated INFINITY) self.old.beta) }
+        ensures unchanged { KeepsGoal self.old self.new }
         ensures calls { CallsOnStack M.called memo.old memo.new 0 1 self.old result self.new }
         ensures told { IfSome result (EndsWithRoot M.called memo.old memo.new self.old) }
         ensures capacity { M.capacity memo.new ≡ M.capacity memo.old }
     {
         let entry = self.frames[self.height].to_entry();
-        self.note_top(&entry, memo);
-        self.keep_counter(counters);
-        if !self.pop(&entry, counters, memo) {
+        self.store_top(&entry, memo);
+        self.keep_counter_move(counter_moves);
+        if !self.pop(&entry, counter_moves, memo) {
             return Some(entry);
         }
         if self.height == 0 {
@@ -415,17 +425,17 @@ impl Stack {
     }
 
     /// Makes one step; gives what is known of the root where that was left.
-    fn step<M: Memo>(&mut self, counters: &mut Counters, memo: &mut M) -> Option<Entry>
+    fn step<M: Memo>(&mut self, counter_moves: &mut CounterMoves, memo: &mut M) -> Option<Entry>
         requires stack { IsStack self.old }
         requires whole { IsWhole self.old }
-        requires free { OnTop self.old (λ top. IsFree top.waiting) }
+        requires free { OnTop self.old (λ top. IsFree top.state) }
         ensures stack { IfNone result (IsStack self.new) }
         ensures whole { IfNone result (IsWhole self.new) }
-        ensures free { IfNone result (OnTop self.new (λ top. IsFree top.waiting)) }
+        ensures free { IfNone result (OnTop self.new (λ top. IsFree top.state)) }
         ensures left { IfNone result (steps_left self.new < steps_left self.old) }
         ensures truth { IfSome result (IsTrueOfRoot self.old) }
-        ensures cutoff { IfSome result (IsCutoff (negated INFINITY) self.old.beta) }
-        ensures same { KeepsGoal self.old self.new }
+        ensures conclusive { IfSome result (IsConclusive (negated INFINITY) self.old.beta) }
+        ensures unchanged { KeepsGoal self.old self.new }
         ensures calls { CallsOnStack M.called memo.old memo.new 0 1 self.old result self.new }
         ensures told { IfSome result (EndsWithRoot M.called memo.old memo.new self.old) }
         ensures capacity { M.capacity memo.new ≡ M.capacity memo.old }
@@ -433,36 +443,36 @@ impl Stack {
         let top = &mut self.frames[self.height];
         if top.is_next() {
             let Some(current) = top.next_move() else {
-                return self.leave(counters, memo);
+                return self.leave(counter_moves, memo);
             };
-            self.enter_child(&current, counters, memo);
+            self.enter_child(&current, counter_moves, memo);
             return None;
         }
-        self.leave(counters, memo)
+        self.leave(counter_moves, memo)
     }
 
     /// Makes so many steps, or fewer where the root was left, and counts them.
     pub fn run<M: Memo>(
         &mut self,
-        counters: &mut Counters,
+        counter_moves: &mut CounterMoves,
         memo: &mut M,
         budget: u64,
         steps: &mut u64,
     ) -> Option<Entry>
         requires stack { IsStack self.old }
         requires whole { IsWhole self.old }
-        requires free { OnTop self.old (λ top. IsFree top.waiting) }
+        requires free { OnTop self.old (λ top. IsFree top.state) }
         ensures stack { IfNone result (IsStack self.new) }
         ensures whole { IfNone result (IsWhole self.new) }
-        ensures free { IfNone result (OnTop self.new (λ top. IsFree top.waiting)) }
+        ensures free { IfNone result (OnTop self.new (λ top. IsFree top.state)) }
         ensures left { IfNone result (steps_left self.new + budget ≤ steps_left self.old) }
         ensures all { IfNone result (steps.new ≡ min (steps.old + budget) (2 ^ 64 - 1)) }
         ensures rises { steps.old ≤ steps.new }
         ensures most { steps.new ≤ steps.old + budget }
         ensures fell { IfSome result (λ _. steps.new ≤ steps.old + steps_left self.old) }
         ensures truth { IfSome result (IsTrueOfRoot self.old) }
-        ensures cutoff { IfSome result (IsCutoff (negated INFINITY) self.old.beta) }
-        ensures same { KeepsGoal self.old self.new }
+        ensures conclusive { IfSome result (IsConclusive (negated INFINITY) self.old.beta) }
+        ensures unchanged { KeepsGoal self.old self.new }
         ensures calls { Runs M.Memo memo.old memo.new steps.old steps.new self.old result self.new }
         ensures told { IfSome result (EndsWithRoot M.called memo.old memo.new self.old) }
         ensures capacity { M.capacity memo.new ≡ M.capacity memo.old }
@@ -470,7 +480,7 @@ impl Stack {
         let mut made = 0;
         'steps: while made < budget {
             made += 1;
-            if let Some(entry) = self.step(counters, memo) {
+            if let Some(entry) = self.step(counter_moves, memo) {
                 *steps = steps.saturating_add(made);
                 return Some(entry);
             }

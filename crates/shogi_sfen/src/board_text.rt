@@ -107,7 +107,7 @@ fn read_rank(part: &[u8]) -> Option<Rank>
 }
 
 /// The squares of a board in the order of a text.
-pub type Squares = ArrayVec<Option<Piece>, BOARD_SQUARES>;
+pub type BoardCells = ArrayVec<Option<Piece>, BOARD_SQUARES>;
 
 /// Where the first slash stands.
 fn first_slash(text: &[u8]) -> Option<usize>
@@ -126,7 +126,7 @@ fn part_len(text: &[u8]) -> usize
 }
 
 /// The squares of a rank behind others.
-fn push_rank(squares: &mut Squares, rank: &[Option<Piece>])
+fn push_rank(squares: &mut BoardCells, rank: &[Option<Piece>])
     requires { length squares.old.items + length rank.now ≤ BOARD_SQUARES }
     ensures { squares.new.items ≡ squares.old.items ++ rank.now }
 {
@@ -145,7 +145,7 @@ fn skip(text: &[u8], count: usize) -> &[u8]
 }
 
 /// The squares of nine ranks, if the bytes say them.
-fn read_squares(word: &[u8]) -> Option<Squares>
+fn read_cells(word: &[u8]) -> Option<BoardCells>
     ensures value { squares_of (slice_split is_slash word.now)
         ≡ option_map (λ s. s.items) result }
     ensures len { IfSome result (λ squares. length squares.items ≡ BOARD_SQUARES) }
@@ -191,6 +191,6 @@ fn arrange(squares: &[Option<Piece>]) -> [Option<Piece>; BOARD_SQUARES]
 pub fn read_board(word: &[u8]) -> Option<[Option<Piece>; BOARD_SQUARES]>
     ensures { result ≡ board_of word.now }
 {
-    let squares = read_squares(word)?;
+    let squares = read_cells(word)?;
     Some(arrange(squares.as_slice()))
 }

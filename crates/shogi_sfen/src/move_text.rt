@@ -93,7 +93,7 @@ pub fn write_move(m: Move) -> ArrayVec<u8, 5>
     ensures back { move_of_text (text_of m) ≡ Some m }
 {
     // For the proof: the move has a code, so that it is one of those whose text is looked for.
-    m.validity();
+    m.reveal_invariant();
     let mut text = ArrayVec::new();
     match m {
         Move::Board { from, to, promote } => {

@@ -176,7 +176,7 @@ pub fn write_position(position: &Position) -> ArrayVec<u8, TEXT_BYTES>
     ensures spelled { SpellsAtStart (position_text position.now) position.now }
 {
     // For the proof: the position is valid, so that no side holds 100 of a kind.
-    position.validity();
+    position.reveal_invariant();
     let mut text = ArrayVec::new();
     push_board(&mut text, &position.board());
     text.push(SPACE);

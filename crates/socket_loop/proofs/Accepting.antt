@@ -20,14 +20,14 @@ use Rattle.socket_loop.specs.declared.tally.Arrivals.{Arrivals}
 use Rattle.socket_loop.specs.declared.tally.Admission.{Admission}
 use Rattle.socket_loop.specs.Tallies.{AreArrivals, full_of, fulls, unopened_of, unopeneds, with_one}
 use Rattle.socket_loop.specs.declared.connection.Connection.{Connection}
-use Rattle.wires.specs.declared.wire.WireFault.{WireFault}
-use Rattle.wires.specs.Report.{Report, KeepsConnection, KeepsAll, Writes, Shuts, bytes_written, GivesNumber}
-use Rattle.socket_loop.specs.Links.{Ties, IsTied, IsAmong, IsApart, links_of}
+use Rattle.transport.specs.declared.wire.WireFault.{WireFault}
+use Rattle.transport.specs.Report.{Report, KeepsConnection, KeepsAll, Writes, Shuts, bytes_written, GivesNumber}
+use Rattle.socket_loop.specs.Links.{Ties, IsOneToOne, IsAmong, IsNotAmong, links_of}
 use Rattle.socket_loop.specs.Parts.{IsAdmission}
-use Rattle.wires.specs.Moves.{AllMove}
-use Rattle.socket_loop.specs.Turns.{Fits, Accepted, AreNumbered, HasSession, HaveSessions, IsOneOf, IsRejected, IsAway, IsNew, Accepts, Admits, openings, rejection_text}
-use Rattle.wires.proofs.Reported.{kept_same, kept_then, all_kept, moves_then, away_moves, stays_raised, rises_then, stays_rise, reported_failure, raised_rises, Consumes-none, Appends-none, Keeps-Appends}
-use Rattle.wires.specs.Asked.{Call, Accept, Asks}
+use Rattle.transport.specs.Moves.{AllMove}
+use Rattle.socket_loop.specs.Turns.{Fits, Accepted, AreNumbered, HasSession, HaveSessions, IsOneOf, IsRejected, IsShutAfterPrefix, IsNew, Accepts, Admits, openings, rejection_text}
+use Rattle.transport.proofs.Reported.{kept_same, kept_then, all_kept, moves_then, away_moves, stays_raised, rises_then, stays_rise, reported_failure, raised_rises, Consumes-none, Appends-none, Keeps-Appends}
+use Rattle.transport.specs.Asked.{Call, Accept, Asks}
 use Rattle.socket_loop.specs.Calls.{AllAccepted, AsksAdmission, AsksAll, GivesNobody}
 use Rattle.socket_loop.proofs.Calls.{AsksAccepts, asks_accept, asks_full, asks_no_accept, asks_on, asks_stop}
 use Rattle.socket_loop.proofs.Left.{once_insert}
@@ -40,7 +40,7 @@ written_prefix (Ok n) bytes = (drop n bytes, take-append-drop n bytes)
 written_prefix (Err e) bytes = (bytes, refl)
 
 -- a text was written, as far as it went, and the connection shut
-pub away : (a b c : Report) (bound number : ℕ) (r : Result ℕ WireFault) (bytes text : List ℕ) → bytes ≡ text → Writes a b number r bytes → Shuts bound b c number → IsAway bound text a c number
+pub away : (a b c : Report) (bound number : ℕ) (r : Result ℕ WireFault) (bytes text : List ℕ) → bytes ≡ text → Writes a b number r bytes → Shuts bound b c number → IsShutAfterPrefix bound text a c number
 away a b c bound number r bytes text e w s = record {
   unread = Keeps-trans _ _ _ w.unread s.unread;
   bytes = bytes_written r bytes;
@@ -53,7 +53,7 @@ away a b c bound number r bytes text e w s = record {
 }
 
 -- it was shut without a word
-pub away_mute : (a b : Report) (bound number : ℕ) (text : List ℕ) → Shuts bound a b number → IsAway bound text a b number
+pub away_mute : (a b : Report) (bound number : ℕ) (text : List ℕ) → Shuts bound a b number → IsShutAfterPrefix bound text a b number
 away_mute a b bound number text s = record {
   unread = s.unread;
   bytes = [];
@@ -65,7 +65,7 @@ away_mute a b bound number text s = record {
   others = s.others;
 }
 
-away_move : (a b : Report) (bound number : ℕ) (text : List ℕ) → IsAway bound text a b number → AllMove a b
+away_move : (a b : Report) (bound number : ℕ) (text : List ℕ) → IsShutAfterPrefix bound text a b number → AllMove a b
 away_move a b bound number text w = away_moves a b number [] w.bytes w.only_rises w.failed (Consumes-none _ _ w.unread) w.appended w.others
 
 -- ---- nothing new is held
@@ -100,7 +100,7 @@ accepts_none ls from to a b h rises k = record {
 pub accepts_start : (ls : List Link) (from : ℕ) (a : Report) (h : HostState) → Accepts ls from a h ls from a h
 accepts_start ls from a h = accepts_none ls from from a a h (omega arith) (kept_same a)
 
-away_one : (a b c : Report) (from number to : ℕ) (o : HostFault) → KeepsAll a b → from ≤ number → number < to → IsAway to (rejection_text o) b c number → IsRejected from to (record { number = number; outcome = Refused o } ∷ []) a c number
+away_one : (a b c : Report) (from number to : ℕ) (o : HostFault) → KeepsAll a b → from ≤ number → number < to → IsShutAfterPrefix to (rejection_text o) b c number → IsRejected from to (record { number = number; outcome = Refused o } ∷ []) a c number
 away_one a b c from number to o k least most w = record {
   least = least;
   most = most;
@@ -114,7 +114,7 @@ away_one a b c from number to o k least most w = record {
   failed = rises_then _ _ _ (stays_rise _ _ (k number).failed) w.failed;
 }
 
-away_each : (a b c : Report) (from number to n : ℕ) (o : HostFault) → KeepsAll a b → from ≤ number → number < to → IsAway to (rejection_text o) b c number → KeepsConnection a c n ⊎ IsRejected from to (record { number = number; outcome = Refused o } ∷ []) a c n
+away_each : (a b c : Report) (from number to n : ℕ) (o : HostFault) → KeepsAll a b → from ≤ number → number < to → IsShutAfterPrefix to (rejection_text o) b c number → KeepsConnection a c n ⊎ IsRejected from to (record { number = number; outcome = Refused o } ∷ []) a c n
 away_each a b c from number to n o k least most w =
     elim (cases_eq n number) [
       | inl same ↦ inr (rw same (away_one a b c from number to o k least most w))
@@ -122,17 +122,17 @@ away_each a b c from number to n o k least most w =
     ]
 
 -- each of these has another number
-pub apart_each : (ls : List Link) (n : ℕ) → ((l : Link) → IsAmong ls l → l.number ≢ n) → IsApart ls n
+pub apart_each : (ls : List Link) (n : ℕ) → ((l : Link) → IsAmong ls l → l.number ≢ n) → IsNotAmong ls n
 apart_each [] n f = tt
 apart_each (x ∷ xs) n f = (f x (inl refl), apart_each xs n (λ l m. f l (inr m)))
 
-pub each_apart : (ls : List Link) (n : ℕ) (l : Link) → IsApart ls n → IsAmong ls l → l.number ≢ n
+pub each_apart : (ls : List Link) (n : ℕ) (l : Link) → IsNotAmong ls n → IsAmong ls l → l.number ≢ n
 each_apart [] n l p m = absurd m
 each_apart (x ∷ xs) n l p (inl e) = λ same. p.0 (ap (λ (k : Link). k.number) (sym e) ∙ same)
 each_apart (x ∷ xs) n l p (inr m) = each_apart xs n l p.1 m
 
 -- its session was not opened
-pub admits_away : (ls : List Link) (a b : Report) (h i : HostState) (number to : ℕ) (o : HostFault) → IsAway to (rejection_text o) a b number → IsStep h (record { event = Open; outcome = Refused o }) i → Admits ls a h number (Refused o) to ls b i
+pub admits_away : (ls : List Link) (a b : Report) (h i : HostState) (number to : ℕ) (o : HostFault) → IsShutAfterPrefix to (rejection_text o) a b number → IsStep h (record { event = Open; outcome = Refused o }) i → Admits ls a h number (Refused o) to ls b i
 admits_away ls a b h i number to o w s = λ from old kept least most.
     record {
       items_are = refl;
@@ -181,19 +181,19 @@ insert_in [] (suc i) c = inl refl
 insert_in (x ∷ xs) zero c = inl refl
 insert_in (x ∷ xs) (suc i) c = inr (insert_in xs i c)
 
-tied_insert : (held : List Connection) (place : ℕ) (c : Connection) (l : Link) → Ties c.link l → IsTied (links_of held) l → IsTied (links_of (insert held place c)) l
+tied_insert : (held : List Connection) (place : ℕ) (c : Connection) (l : Link) → Ties c.link l → IsOneToOne (links_of held) l → IsOneToOne (links_of (insert held place c)) l
 tied_insert [] zero c l t u = (t, tt)
 tied_insert [] (suc i) c l t u = (t, tt)
 tied_insert (x ∷ xs) zero c l t u = (t, u)
 tied_insert (x ∷ xs) (suc i) c l t u = (u.0, tied_insert xs i c l t u.1)
 
 -- a link that none of these has
-pub fresh_tied : (ls : List Link) (k : Link) → ((l : Link) → IsAmong ls l → Ties l k) → IsTied ls k
+pub fresh_tied : (ls : List Link) (k : Link) → ((l : Link) → IsAmong ls l → Ties l k) → IsOneToOne ls k
 fresh_tied [] k f = tt
 fresh_tied (x ∷ xs) k f = (f x (inl refl), fresh_tied xs k (λ l m. f l (inr m)))
 
 -- what the link is tied to
-pub tied_of : (ls : List Link) (k l : Link) → IsTied ls k → IsAmong ls l → Ties l k
+pub tied_of : (ls : List Link) (k l : Link) → IsOneToOne ls k → IsAmong ls l → Ties l k
 tied_of [] k l t m = absurd m
 tied_of (x ∷ xs) k l t (inl e) = rw e t.0
 tied_of (x ∷ xs) k l t (inr m) = tied_of xs k l t.1 m
@@ -388,17 +388,17 @@ accepts_then ls ms ns f m t a b c h i j p q =
       once = λ fit o. q.once (p.fits fit) (p.once fit o);
     }
   where
-    still_apart : (p_ : Accepts ls f a h ms m b i) (q_ : Accepts ms m b i ns t c j) (n : ℕ) (l : Link) → n < m → IsApart ms n → IsAmong ms l ⊎ IsNew m t q_.accepted i.slots.next b c q_.steps l → l.number ≢ n
+    still_apart : (p_ : Accepts ls f a h ms m b i) (q_ : Accepts ms m b i ns t c j) (n : ℕ) (l : Link) → n < m → IsNotAmong ms n → IsAmong ms l ⊎ IsNew m t q_.accepted i.slots.next b c q_.steps l → l.number ≢ n
     still_apart p_ q_ n l lt apart (inl mid) = each_apart ms n l apart mid
     still_apart p_ q_ n l lt apart (inr new) = λ e. (let y : m ≤ l.number = new.least in let z : l.number ≡ n = e in absurd (omega arith))
 
-    first_accounted : (p_ : Accepts ls f a h ms m b i) (q_ : Accepts ms m b i ns t c j) (new : Accepted) → HasSession ms new ⊎ (IsRejected f m p_.accepted a b new.number × IsApart ms new.number)
-        → HasSession ns new ⊎ (IsRejected f t (p_.accepted ++ q_.accepted) a c new.number × IsApart ns new.number)
+    first_accounted : (p_ : Accepts ls f a h ms m b i) (q_ : Accepts ms m b i ns t c j) (new : Accepted) → HasSession ms new ⊎ (IsRejected f m p_.accepted a b new.number × IsNotAmong ms new.number)
+        → HasSession ns new ⊎ (IsRejected f t (p_.accepted ++ q_.accepted) a c new.number × IsNotAmong ns new.number)
     first_accounted p_ q_ new (inl s) = inl (s.0, (q_.stay s.0 s.1.0, s.1.1))
     first_accounted p_ q_ new (inr s) = inr (turned_then f m t p_.accepted q_.accepted a b c new.number q_.rises s.0 (q_.kept new.number s.0.most), apart_each ns new.number (λ l among. still_apart p_ q_ new.number l s.0.most s.1 (q_.are l among)))
 
-    second_accounted : (p_ : Accepts ls f a h ms m b i) (q_ : Accepts ms m b i ns t c j) (new : Accepted) → f ≤ m → HasSession ns new ⊎ (IsRejected m t q_.accepted b c new.number × IsApart ns new.number)
-        → HasSession ns new ⊎ (IsRejected f t (p_.accepted ++ q_.accepted) a c new.number × IsApart ns new.number)
+    second_accounted : (p_ : Accepts ls f a h ms m b i) (q_ : Accepts ms m b i ns t c j) (new : Accepted) → f ≤ m → HasSession ns new ⊎ (IsRejected m t q_.accepted b c new.number × IsNotAmong ns new.number)
+        → HasSession ns new ⊎ (IsRejected f t (p_.accepted ++ q_.accepted) a c new.number × IsNotAmong ns new.number)
     second_accounted p_ q_ new lt (inl s) = inl s
     second_accounted p_ q_ new lt (inr s) = inr (then_away f m t p_.accepted q_.accepted a b c new.number lt (kept_before f m p_.accepted a b new.number s.0.least (p_.each new.number)) s.0, s.1)
 

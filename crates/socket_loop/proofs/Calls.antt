@@ -7,10 +7,10 @@ use Rattle.host_core.specs.Steps.{HostState}
 use Rattle.host_core.specs.Events.{Event, Outcome, Opened, Done, Worked, Gave, Refused, Close}
 use Rattle.host_core.specs.Runs.{IsStep}
 use Rattle.host_core.proofs.Chains.{run-start}
-use Rattle.wires.specs.declared.wire.WireFault.{WireFault}
-use Rattle.wires.proofs.Asked.{asks_none, asks_then}
+use Rattle.transport.specs.declared.wire.WireFault.{WireFault}
+use Rattle.transport.proofs.Asked.{asks_none, asks_then}
 use Rattle.socket_loop.specs.declared.connection.Connection.{Connection}
-use Rattle.wires.specs.Asked.{Call, Accept, Read, Write, Shut, Asks, IsCalled}
+use Rattle.transport.specs.Asked.{Call, Accept, Read, Write, Shut, Asks, IsCalled}
 use Rattle.socket_loop.specs.declared.connection.Link.{Link}
 use Rattle.socket_loop.specs.Links.{links_of, IsAmong}
 use Rattle.socket_loop.specs.Parts.{IsClosing}

@@ -3,10 +3,10 @@ use Rattle.std.proofs.Common.{◌≡◌, ◌⊎◌, ℕ, ◌+◌, ◌<◌, ◌�
 use Rattle.std.specs.Prelude.{◌||◌}
 use Rattle.host_core.specs.Steps.{HostState}
 use Rattle.host_core.specs.Events.{Event}
-use Rattle.wires.specs.Asked.{Call}
-use Rattle.wires.specs.Moves.{AllMove, IsEmptied}
-use Rattle.wires.proofs.Asked.{asks_none}
-use Rattle.wires.proofs.Reported.{kept_same}
+use Rattle.transport.specs.Asked.{Call}
+use Rattle.transport.specs.Moves.{AllMove, IsEmptied}
+use Rattle.transport.proofs.Asked.{asks_none}
+use Rattle.transport.proofs.Reported.{kept_same}
 use Rattle.socket_loop.specs.declared.connection.Connection.{Connection}
 use Rattle.socket_loop.specs.Scenes.{Scene}
 use Rattle.socket_loop.specs.Calls.{IsVisit}

@@ -7,7 +7,7 @@ use Rattle.host_core.specs.ById.{queued_of, pending_of}
 use Rattle.host_core.specs.Headline.{OverFrom}
 use Rattle.host_core.specs.Steps.{HostState}
 use Rattle.host_core.proofs.Overs.{over_settled}
-use Rattle.wires.specs.declared.wire.WireFault.{WireFault}
+use Rattle.transport.specs.declared.wire.WireFault.{WireFault}
 use Rattle.socket_loop.specs.declared.connection.Link.{Link}
 use Rattle.socket_loop.specs.declared.connection.Connection.{Connection}
 use Rattle.socket_loop.specs.Links.{IsAmong, AreOnce, links_of}

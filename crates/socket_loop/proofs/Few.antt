@@ -9,8 +9,8 @@ use Rattle.usi_session.specs.Due.{SessionView}
 use Rattle.session_slots.proofs.Finds.{IsAt, found_at}
 use Rattle.host_core.specs.Steps.{HostState}
 use Rattle.socket_loop.specs.declared.connection.Link.{Link}
-use Rattle.socket_loop.specs.Links.{AreOnce, IsAmong, IsStrange}
-use Rattle.wires.specs.Report.{Report}
+use Rattle.socket_loop.specs.Links.{AreOnce, IsAmong, IsUnknownId}
+use Rattle.transport.specs.Report.{Report}
 use Rattle.socket_loop.specs.Turns.{Accepts, Fits, HaveSessions, IsNew}
 use Rattle.socket_loop.proofs.Endings.{Found, found, opened_stays, stays_open}
 use Rattle.socket_loop.proofs.Runs.{closes-admissions}
@@ -39,7 +39,7 @@ one_slot s a b some_a some_b same =
     let generation : a.generation ≡ b.generation = sym x.generation_is ∙ (ap (λ (o : OpenSession SessionView). o.generation) opened ∙ y.generation_is) in
     λ k. record { slot = same k; generation = generation k }
 
-strange_of : (ls : List Link) (id : SessionId) (l : Link) → IsStrange ls id → IsAmong ls l → l.id ≢ id
+strange_of : (ls : List Link) (id : SessionId) (l : Link) → IsUnknownId ls id → IsAmong ls l → l.id ≢ id
 strange_of [] id l p m = absurd m
 strange_of (x ∷ xs) id l p (inl e) = λ same. p.0 (ap (λ (k : Link). k.id) (sym e) ∙ same)
 strange_of (x ∷ xs) id l p (inr m) = strange_of xs id l p.1 m

@@ -14,7 +14,7 @@ use Rattle.host_core.proofs.Kept.{keeps_others}
 use Rattle.host_core.proofs.Ids.{apart_ids}
 use Rattle.socket_loop.specs.declared.connection.Link.{Link}
 use Rattle.socket_loop.specs.declared.connection.Connection.{Connection}
-use Rattle.socket_loop.specs.Links.{AreOnce, IsAmong, IsStrange, links_of}
+use Rattle.socket_loop.specs.Links.{AreOnce, IsAmong, IsUnknownId, links_of}
 use Rattle.socket_loop.specs.Parts.{AreAll, is_finished_with}
 use Rattle.socket_loop.specs.Calls.{IsOf, Visits}
 use Rattle.socket_loop.specs.Turns.{AreLeft, NoneFinished}
@@ -37,7 +37,7 @@ finds_other h i id other (step ∷ rest) p r f =
 
 -- ---- one after the other
 
-strange_get : (xs : List Connection) (i : ℕ) (d : Connection) (id : SessionId) → i < length xs → IsStrange (links_of xs) id → (get_or xs i d).link.id ≢ id
+strange_get : (xs : List Connection) (i : ℕ) (d : Connection) (id : SessionId) → i < length xs → IsUnknownId (links_of xs) id → (get_or xs i d).link.id ≢ id
 strange_get [] i d id lt p = absurd (omega arith)
 strange_get (x ∷ xs) zero d id lt p = p.0
 strange_get (x ∷ xs) (suc i) d id lt p = strange_get xs i d id (omega arith) p.1
@@ -79,10 +79,10 @@ none_finished h (x ∷ xs) left = none_at x.is_shut h x xs refl left (none_finis
 
 -- ---- each id once
 
-strange_filter : (p : Connection → Bool) (xs : List Connection) (id : SessionId) → IsStrange (links_of xs) id → IsStrange (links_of (filter p xs)) id
+strange_filter : (p : Connection → Bool) (xs : List Connection) (id : SessionId) → IsUnknownId (links_of xs) id → IsUnknownId (links_of (filter p xs)) id
 strange_filter p [] id s = tt
 strange_filter p (x ∷ xs) id s =
-    cond_both (p x) (x ∷ filter p xs) (filter p xs) (λ (ys : List Connection). IsStrange (links_of ys) id)
+    cond_both (p x) (x ∷ filter p xs) (filter p xs) (λ (ys : List Connection). IsUnknownId (links_of ys) id)
     (λ yes. (s.0, strange_filter p xs id s.1)) (λ no. strange_filter p xs id s.1)
 
 pub once_filter : (p : Connection → Bool) (xs : List Connection) → AreOnce (links_of xs) → AreOnce (links_of (filter p xs))
@@ -91,7 +91,7 @@ once_filter p (x ∷ xs) o =
     cond_both (p x) (x ∷ filter p xs) (filter p xs) (λ (ys : List Connection). AreOnce (links_of ys))
     (λ yes. (strange_filter p xs x.link.id o.0, once_filter p xs o.1)) (λ no. once_filter p xs o.1)
 
-strange_insert : (xs : List Connection) (place : ℕ) (c : Connection) (id : SessionId) → c.link.id ≢ id → IsStrange (links_of xs) id → IsStrange (links_of (insert xs place c)) id
+strange_insert : (xs : List Connection) (place : ℕ) (c : Connection) (id : SessionId) → c.link.id ≢ id → IsUnknownId (links_of xs) id → IsUnknownId (links_of (insert xs place c)) id
 strange_insert [] zero c id n s = (n, s)
 strange_insert [] (suc i) c id n s = (n, s)
 strange_insert (x ∷ xs) zero c id n s = (n, s)
@@ -103,7 +103,7 @@ once_insert [] zero c f o = (tt, tt)
 once_insert [] (suc i) c f o = (tt, tt)
 once_insert (x ∷ xs) zero c f o = (strange_all (x ∷ xs) f, o)
   where
-    strange_all : (ys : List Connection) → ((l : Link) → IsAmong (links_of ys) l → l.id ≢ c.link.id) → IsStrange (links_of ys) c.link.id
+    strange_all : (ys : List Connection) → ((l : Link) → IsAmong (links_of ys) l → l.id ≢ c.link.id) → IsUnknownId (links_of ys) c.link.id
     strange_all [] g = tt
     strange_all (y ∷ ys) g = (g y.link (inl refl), strange_all ys (λ l m. g l (inr m)))
 once_insert (x ∷ xs) (suc i) c f o = (strange_insert xs i c x.link.id (λ e. f x.link (inl refl) (sym e)) o.0, once_insert xs i c (λ l m. f l (inr m)) o.1)

@@ -16,11 +16,11 @@ use Rattle.host_core.proofs.OneSession.{ends_more, kept, gone, IsGone as IsOut}
 use Rattle.host_core.proofs.Overs.{kept_over, over_more, over_none}
 use Rattle.socket_loop.specs.declared.connection.Link.{Link}
 use Rattle.socket_loop.specs.declared.connection.Connection.{Connection}
-use Rattle.wires.specs.Report.{Report, KeepsConnection}
-use Rattle.socket_loop.specs.Links.{IsAmong, IsStrange}
-use Rattle.socket_loop.specs.Parts.{Carried, LeavesAlone}
+use Rattle.transport.specs.Report.{Report, KeepsConnection}
+use Rattle.socket_loop.specs.Links.{IsAmong, IsUnknownId}
+use Rattle.socket_loop.specs.Parts.{Transferred, LeavesUntouched}
 use Rattle.socket_loop.specs.Turns.{Served}
-use Rattle.wires.proofs.Reported.{Consumes-none, Appends-none}
+use Rattle.transport.proofs.Reported.{Consumes-none, Appends-none}
 use Rattle.socket_loop.proofs.Parts.{lost_order}
 use Rattle.socket_loop.proofs.Turning.{not_lost, some_none}
 
@@ -59,12 +59,12 @@ served_then owes a b c h m n id steps lost lt r s u w whole = record {
 }
 
 -- it was met
-abbrev pub served_on : (owes : List ℕ → List ℕ) (marks : List Connection) (bound : ℕ) (a b c : Report) (h m : HostState) (steps : List Step) (l : Link) → l.id.generation < h.slots.next → IsRun h steps m → Served owes a b l.number (find h.slots l.id) → Carried marks bound b h steps c m l → Served owes a c l.number (find m.slots l.id)
+abbrev pub served_on : (owes : List ℕ → List ℕ) (marks : List Connection) (bound : ℕ) (a b c : Report) (h m : HostState) (steps : List Step) (l : Link) → l.id.generation < h.slots.next → IsRun h steps m → Served owes a b l.number (find h.slots l.id) → Transferred marks bound b h steps c m l → Served owes a c l.number (find m.slots l.id)
 served_on owes marks bound a b c h m steps l lt r s k =
     served_then owes a b c h m l.number l.id steps k.lost lt r s k.consumed k.appended (λ some. not_lost m l.id k.lost k.whole some)
 
 -- it was not met
-abbrev pub served_aside : (owes : List ℕ → List ℕ) (a b c : Report) (h m : HostState) (n : ℕ) (id : SessionId) (steps : List Step) → id.generation < h.slots.next → IsRun h steps m → Served owes a b n (find h.slots id) → LeavesAlone id steps → KeepsConnection b c n → Served owes a c n (find m.slots id)
+abbrev pub served_aside : (owes : List ℕ → List ℕ) (a b c : Report) (h m : HostState) (n : ℕ) (id : SessionId) (steps : List Step) → id.generation < h.slots.next → IsRun h steps m → Served owes a b n (find h.slots id) → LeavesUntouched id steps → KeepsConnection b c n → Served owes a c n (find m.slots id)
 served_aside owes a b c h m n id steps lt r s alone k =
     served_then owes a b c h m n id steps [] lt r s (rw alone.stored (Consumes-none _ _ k.unread)) (rw alone.passed (Appends-none _ _ k.written)) (λ some. refl)
 
@@ -87,6 +87,6 @@ all_written owes read written (Some t) h settled none =
 
 -- ---- links
 
-pub strange_each : (ls : List Link) (id : SessionId) → ((l : Link) → IsAmong ls l → l.id ≡ id → ⊥) → IsStrange ls id
+pub strange_each : (ls : List Link) (id : SessionId) → ((l : Link) → IsAmong ls l → l.id ≡ id → ⊥) → IsUnknownId ls id
 strange_each [] id f = tt
 strange_each (x ∷ xs) id f = (f x (inl refl), strange_each xs id (λ l m. f l (inr m)))

@@ -19,7 +19,7 @@ use Rattle.host_core.specs.ById.{pending_of}
 use Rattle.host_core.proofs.Ids.{same_id, other_id, is_same_id-refl}
 use Rattle.host_core.proofs.OneSession.{gone}
 use Rattle.host_core.proofs.Rounds.{is_in, pending_in}
-use Rattle.socket_loop.specs.Parts.{AreAll, IsAdmission, IsInput, IsOutput, IsEnd, refuses, refuses_by}
+use Rattle.socket_loop.specs.Parts.{AreAll, IsAdmission, IsInput, IsOutput, IsEnd, work_failed, work_failed_by}
 use Rattle.socket_loop.specs.Scenes.{Scene}
 use Rattle.socket_loop.specs.Turns.{IsTurn}
 use Rattle.socket_loop.proofs.Runs.{step_rises, next_rises, all_append}
@@ -64,7 +64,7 @@ wants_or false true room e f = absurd (cc)
 wants_or false false room e f = absurd (cc)
 
 feeds_load : (chunk : List ℕ) (s : SessionView) (o : Outcome) (t : SessionView) → is_pending s ≡ true → Feeds chunk s o t → (is_pending t ≡ is_pending s) × (load t ≡ load s)
-feeds_load chunk s Done t p f = absurd (wants_or s.state.is_over (is_some s.running_go || has_line (ahead s.input [])) (nat_lt (length s.queued) QUEUE_FULL) f.could.0 p)
+feeds_load chunk s Done t p f = absurd (wants_or s.state.is_over (is_some s.go_task || has_line (ahead s.input [])) (nat_lt (length s.queued) QUEUE_FULL) f.could.0 p)
 feeds_load chunk s (Opened id) t p f = absurd f
 feeds_load chunk s (Worked n) t p f = absurd f
 feeds_load chunk s (Gave bytes) t p f = absurd f
@@ -162,7 +162,7 @@ record WorksOnce (budget : ℕ) (s : SessionView) (new : HostState) (id : Sessio
   pub worked : WorkedOn s budget steps after
   pub finds : find new.slots id ≡ Some after
 
-once_worked : (budget : ℕ) (old new : HostState) (at id : SessionId) (o : Outcome) (s : SessionView) (found_ : Option SessionView) → at ≡ id → find old.slots id ≡ Some s → find old.slots at ≡ found_ → OnSession (Works budget) old at found_ o new → (refuses_by id (Work at budget) o ≡ true) ⊎ WorksOnce budget s new id
+once_worked : (budget : ℕ) (old new : HostState) (at id : SessionId) (o : Outcome) (s : SessionView) (found_ : Option SessionView) → at ≡ id → find old.slots id ≡ Some s → find old.slots at ≡ found_ → OnSession (Works budget) old at found_ o new → (work_failed_by id (Work at budget) o ≡ true) ⊎ WorksOnce budget s new id
 once_worked budget old new at id o s None is f h u = (let n : Some s ≡ None = sym f ∙ (ap (find old.slots) (sym is) ∙ h) in absurd (cc))
 once_worked budget old new at id (Worked n) s (Some t) is f h c =
     let both : Some t ≡ Some s = sym h ∙ (ap (find old.slots) is ∙ f) in
@@ -181,20 +181,20 @@ worked_no_more : (budget n : ℕ) (s t : SessionView) → WorkedOn s budget n t 
 worked_no_more budget n s t w = (let m : n + load t ≤ load s = w.made in omega arith, λ e. rw ((w.idle e).1) e)
 
 later_by : (budget : ℕ) (at : SessionId) (ids : List SessionId) (o : Outcome) (os : List Outcome) (h mid i : HostState) (id : SessionId) (s : SessionView) (same : Bool) → is_same_id at id ≡ same → find h.slots id ≡ Some s → Stepped h (Work at budget) o mid
-    → ((t : SessionView) → find mid.slots id ≡ Some t → (refuses id (works budget ids os) ≡ true) ⊎ NoMore t (find i.slots id)) → (refuses id (works budget (at ∷ ids) (o ∷ os)) ≡ true) ⊎ NoMore s (find i.slots id)
+    → ((t : SessionView) → find mid.slots id ≡ Some t → (work_failed id (works budget ids os) ≡ true) ⊎ NoMore t (find i.slots id)) → (work_failed id (works budget (at ∷ ids) (o ∷ os)) ≡ true) ⊎ NoMore s (find i.slots id)
 later_by budget at ids o os h mid i id s true e f p more = elim (once_worked budget h mid at id o s (find h.slots at) (same_id at id e) f refl p.0) [
-  | inl refused ↦ inl (or_left (refuses_by id (Work at budget) o) (refuses id (works budget ids os)) refused)
+  | inl refused ↦ inl (or_left (work_failed_by id (Work at budget) o) (work_failed id (works budget ids os)) refused)
   | inr w ↦ elim (more w.after w.finds) [
-    | inl refused ↦ inl (or_right (refuses_by id (Work at budget) o) (refuses id (works budget ids os)) refused)
+    | inl refused ↦ inl (or_right (work_failed_by id (Work at budget) o) (work_failed id (works budget ids os)) refused)
     | inr q ↦ inr (no_more_then s w.after (find i.slots id) (worked_no_more budget w.steps s w.after w.worked) q)
   ]
 ]
 later_by budget at ids o os h mid i id s false e f p more = elim (more s (other_worked budget h mid at id o (find h.slots at) e refl p.0 ∙ f)) [
-  | inl refused ↦ inl (or_right (refuses_by id (Work at budget) o) (refuses id (works budget ids os)) refused)
+  | inl refused ↦ inl (or_right (work_failed_by id (Work at budget) o) (work_failed id (works budget ids os)) refused)
   | inr q ↦ inr q
 ]
 
-later_works : (budget : ℕ) (ids : List SessionId) (os : List Outcome) (h i : HostState) (id : SessionId) (s : SessionView) → find h.slots id ≡ Some s → IsRun h (works budget ids os) i → (refuses id (works budget ids os) ≡ true) ⊎ NoMore s (find i.slots id)
+later_works : (budget : ℕ) (ids : List SessionId) (os : List Outcome) (h i : HostState) (id : SessionId) (s : SessionView) → find h.slots id ≡ Some s → IsRun h (works budget ids os) i → (work_failed id (works budget ids os) ≡ true) ⊎ NoMore s (find i.slots id)
 unfolding IsRun
 later_works budget [] os h i id s f r = inr (no_more_some s s (find i.slots id) (ap (λ (x : HostState). find x.slots id) r ∙ f) (omega arith, λ e. e))
 later_works budget (at ∷ ids) [] h i id s f r = inr (no_more_some s s (find i.slots id) (ap (λ (x : HostState). find x.slots id) r ∙ f) (omega arith, λ e. e))
@@ -211,22 +211,22 @@ nearer_by budget n s t true (Some u) e w q =
 nearer_by budget n s t false (Some u) e w q = inl (q.1 e)
 
 works_near_by : (budget : ℕ) (at : SessionId) (ids : List SessionId) (o : Outcome) (os : List Outcome) (h mid i : HostState) (id : SessionId) (s : SessionView) (same : Bool) → is_same_id at id ≡ same → (is_same_id at id || is_in id ids) ≡ true → find h.slots id ≡ Some s → Stepped h (Work at budget) o mid → IsRun mid (works budget ids os) i
-    → (is_in id ids ≡ true → find mid.slots id ≡ Some s → (refuses id (works budget ids os) ≡ true) ⊎ Nearer budget s (find i.slots id)) → (refuses id (works budget (at ∷ ids) (o ∷ os)) ≡ true) ⊎ Nearer budget s (find i.slots id)
+    → (is_in id ids ≡ true → find mid.slots id ≡ Some s → (work_failed id (works budget ids os) ≡ true) ⊎ Nearer budget s (find i.slots id)) → (work_failed id (works budget (at ∷ ids) (o ∷ os)) ≡ true) ⊎ Nearer budget s (find i.slots id)
 works_near_by budget at ids o os h mid i id s true e there f p r more = elim (once_worked budget h mid at id o s (find h.slots at) (same_id at id e) f refl p.0) [
-  | inl refused ↦ inl (or_left (refuses_by id (Work at budget) o) (refuses id (works budget ids os)) refused)
+  | inl refused ↦ inl (or_left (work_failed_by id (Work at budget) o) (work_failed id (works budget ids os)) refused)
   | inr w ↦ elim (later_works budget ids os mid i id w.after w.finds r) [
-    | inl refused ↦ inl (or_right (refuses_by id (Work at budget) o) (refuses id (works budget ids os)) refused)
+    | inl refused ↦ inl (or_right (work_failed_by id (Work at budget) o) (work_failed id (works budget ids os)) refused)
     | inr q ↦ inr (nearer_by budget w.steps s w.after (is_pending w.after) (find i.slots id) refl w.worked q)
   ]
 ]
 works_near_by budget at ids o os h mid i id s false e there f p r more =
     let rest : is_in id ids ≡ true = ap (λ (b : Bool). b || is_in id ids) (sym e) ∙ there in
     elim (more rest (other_worked budget h mid at id o (find h.slots at) e refl p.0 ∙ f)) [
-      | inl refused ↦ inl (or_right (refuses_by id (Work at budget) o) (refuses id (works budget ids os)) refused)
+      | inl refused ↦ inl (or_right (work_failed_by id (Work at budget) o) (work_failed id (works budget ids os)) refused)
       | inr q ↦ inr q
     ]
 
-works_near : (budget : ℕ) (ids : List SessionId) (os : List Outcome) (h i : HostState) (id : SessionId) (s : SessionView) → length ids ≡ length os → is_in id ids ≡ true → find h.slots id ≡ Some s → IsRun h (works budget ids os) i → (refuses id (works budget ids os) ≡ true) ⊎ Nearer budget s (find i.slots id)
+works_near : (budget : ℕ) (ids : List SessionId) (os : List Outcome) (h i : HostState) (id : SessionId) (s : SessionView) → length ids ≡ length os → is_in id ids ≡ true → find h.slots id ≡ Some s → IsRun h (works budget ids os) i → (work_failed id (works budget ids os) ≡ true) ⊎ Nearer budget s (find i.slots id)
 unfolding IsRun
 works_near budget [] os h i id s len there f r = absurd (cc)
 works_near budget (at ∷ ids) [] h i id s len there f r = absurd (omega arith)
@@ -273,16 +273,16 @@ end_quiet (Work id n) k = absurd k
 end_quiet (Take id n) k = absurd k
 end_quiet (Close id) k = (refl, refl)
 
-refuses_left : (id : SessionId) (a b : List Step) → refuses id a ≡ true → refuses id (a ++ b) ≡ true
+refuses_left : (id : SessionId) (a b : List Step) → work_failed id a ≡ true → work_failed id (a ++ b) ≡ true
 refuses_left id [] b e = absurd (cc)
-refuses_left id (s ∷ rest) b e = elim (or_cases (refuses_by id s.event s.outcome) (refuses id rest) e) [
-  | inl now ↦ or_left (refuses_by id s.event s.outcome) (refuses id (rest ++ b)) now
-  | inr later ↦ or_right (refuses_by id s.event s.outcome) (refuses id (rest ++ b)) (refuses_left id rest b later)
+refuses_left id (s ∷ rest) b e = elim (or_cases (work_failed_by id s.event s.outcome) (work_failed id rest) e) [
+  | inl now ↦ or_left (work_failed_by id s.event s.outcome) (work_failed id (rest ++ b)) now
+  | inr later ↦ or_right (work_failed_by id s.event s.outcome) (work_failed id (rest ++ b)) (refuses_left id rest b later)
 ]
 
-refuses_right : (id : SessionId) (a b : List Step) → refuses id b ≡ true → refuses id (a ++ b) ≡ true
+refuses_right : (id : SessionId) (a b : List Step) → work_failed id b ≡ true → work_failed id (a ++ b) ≡ true
 refuses_right id [] b e = e
-refuses_right id (s ∷ rest) b e = or_right (refuses_by id s.event s.outcome) (refuses id (rest ++ b)) (refuses_right id rest b e)
+refuses_right id (s ∷ rest) b e = or_right (work_failed_by id s.event s.outcome) (work_failed id (rest ++ b)) (refuses_right id rest b e)
 
 nearer_kept : (budget : ℕ) (s t u : SessionView) (found_ : Option SessionView) → load t ≡ load s → (is_pending u ≡ false) ⊎ (budget + load u ≤ load t) → KeepsLoad u found_ → Nearer budget s found_
 nearer_kept budget s t u None e p k = tt
@@ -299,7 +299,7 @@ near_late budget end after id late s t (Some u) e lt all r f n =
     nearer_kept budget s t u (find after.slots id) e n (load_run IsQuietEvent end after id late u (λ e_ k. k.0) (λ e_ k feed. absurd (both_ways (is_feed e_) k.1 feed)) all lt f r)
 
 near_round : (slice : ℕ) (start end after : HostState) (id : SessionId) (late : List Step) (s : SessionView) (worked refused : ℕ) (r : IsRound start slice (pending_ids start) worked refused end) (found_ : Option SessionView) → is_pending s ≡ true → id.generation < start.slots.next → AreAll IsQuietEvent late → IsRun end late after → find start.slots id ≡ found_ → KeepsLoad s found_
-    → (refuses id (works slice (pending_ids start) r.outcomes) ≡ true) ⊎ Nearer slice s (find after.slots id)
+    → (work_failed id (works slice (pending_ids start) r.outcomes) ≡ true) ⊎ Nearer slice s (find after.slots id)
 near_round slice start end after id late s worked refused r None p lt all q f k =
     let u : start.slots.next ≤ end.slots.next = next_rises start end (works slice (pending_ids start) r.outcomes) r.run in
     inr (nearer_none slice s (find after.slots id) (gone end after id late (gone start end id (works slice (pending_ids start) r.outcomes) f lt r.run).none (omega arith) q).none)
@@ -312,7 +312,7 @@ near_round slice start end after id late s worked refused r (Some t) p lt all q 
     ]
 
 -- a session that is pending before a turn: a work of it is refused; or after the turn it is closed, has nothing pending, or a whole slice less to do
-pub near_turn : (slice : ℕ) (moved : Bool) (x y : Scene) (turn : IsTurn slice moved x y) (id : SessionId) (s : SessionView) → id.generation < x.host.slots.next → find x.host.slots id ≡ Some s → is_pending s ≡ true → (refuses id turn.steps ≡ true) ⊎ Nearer slice s (find y.host.slots id)
+pub near_turn : (slice : ℕ) (moved : Bool) (x y : Scene) (turn : IsTurn slice moved x y) (id : SessionId) (s : SessionView) → id.generation < x.host.slots.next → find x.host.slots id ≡ Some s → is_pending s ≡ true → (work_failed id turn.steps ≡ true) ⊎ Nearer slice s (find y.host.slots id)
 near_turn slice moved x y turn id s lt e p =
     let early : List Step = turn.admissions ++ turn.inputs in
     let late : List Step = turn.outputs ++ turn.ends in

@@ -4,11 +4,11 @@ use Rattle.std.specs.Prelude.{filter, insert, not}
 use Rattle.std.proofs.lemmas.Bool.{both_ways, cond_both}
 use Rattle.socket_loop.specs.declared.connection.Link.{Link}
 use Rattle.socket_loop.specs.declared.connection.Connection.{Connection}
-use Rattle.wires.specs.Report.{Report, IsRaised}
+use Rattle.transport.specs.Report.{Report, IsRaised}
 use Rattle.socket_loop.specs.Links.{IsAmong, IsHeld, IsMarked, links_of, reads_ended, was_shut}
 use Rattle.socket_loop.specs.Parts.{KeepsAllMarks, AddsNoMark, Grows, HoldsMore}
-use Rattle.wires.specs.Moves.{AllMove, IsEmptied}
-use Rattle.wires.proofs.Reported.{emptied_move, move_emptied, raised_rises, rises_raised}
+use Rattle.transport.specs.Moves.{AllMove, IsEmptied}
+use Rattle.transport.proofs.Reported.{emptied_move, move_emptied, raised_rises, rises_raised}
 
 marked_set : (mark : Connection → Bool) (items : List Connection) (i : ℕ) (y : Connection) (n : ℕ) → IsMarked mark (set items i y) n → ((y.link.number ≡ n) × (mark y ≡ true)) ⊎ IsMarked mark items n
 marked_set mark [] i y n m = inr m

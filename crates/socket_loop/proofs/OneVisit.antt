@@ -8,13 +8,13 @@ use Rattle.usi_session.specs.declared.limits.TheConstants.{CHUNK_MAX}
 use Rattle.host_core.specs.Events.{Event}
 use Rattle.host_core.specs.Steps.{HostState}
 use Rattle.host_core.specs.ById.{IsQueue, queued_of}
-use Rattle.wires.specs.declared.wire.Got.TheVariants.{Bytes, Nothing}
-use Rattle.wires.specs.Asked.{Call, Read, Write, Shut, Asks}
-use Rattle.wires.specs.Report.{Report, KeepsAll, Reads, Shuts, Stays, Writes}
-use Rattle.wires.specs.Moves.{IsEmptied}
-use Rattle.wires.proofs.Asked.{asks_none}
-use Rattle.wires.proofs.Reported.{Keeps-nothing, nothing_keeps, stays_raised}
-use Rattle.wires.proofs.Transfers.{read_shorter, write_longer}
+use Rattle.transport.specs.declared.wire.Got.TheVariants.{Bytes, Nothing}
+use Rattle.transport.specs.Asked.{Call, Read, Write, Shut, Asks}
+use Rattle.transport.specs.Report.{Report, KeepsAll, Reads, Shuts, Stays, Writes}
+use Rattle.transport.specs.Moves.{IsEmptied}
+use Rattle.transport.proofs.Asked.{asks_none}
+use Rattle.transport.proofs.Reported.{Keeps-nothing, nothing_keeps, stays_raised}
+use Rattle.transport.proofs.Transfers.{read_shorter, write_longer}
 use Rattle.socket_loop.specs.declared.connection.Connection.{Connection}
 use Rattle.socket_loop.specs.Scenes.{Scene}
 use Rattle.socket_loop.specs.Parts.{IsEnd, IsInput, IsOutput, is_finished}

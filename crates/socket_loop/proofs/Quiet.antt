@@ -3,9 +3,9 @@ use Rattle.std.proofs.Common.{◌≡◌, ℕ, Bool, true, false, List, get_or, s
 use Rattle.std.specs.Prelude.{◌||◌, filter}
 use Rattle.std.proofs.lemmas.List.{set-get_or}
 use Rattle.socket_loop.specs.declared.connection.Connection.{Connection}
-use Rattle.wires.specs.Report.{Report, KeepsAll}
+use Rattle.transport.specs.Report.{Report, KeepsAll}
 use Rattle.socket_loop.specs.Turns.{IsQuiet}
-use Rattle.wires.proofs.Reported.{kept_then}
+use Rattle.transport.proofs.Reported.{kept_then}
 
 -- neither of the two
 pub record Neither (x y : Bool) : Type 0 where

@@ -11,7 +11,7 @@ use Rattle.host_core.specs.Made.{Step, own, taken, own_by, taken_by, opens, is_o
 use Rattle.host_core.specs.Runs.{IsStep, IsRun}
 use Rattle.host_core.specs.Rounds.{works}
 use Rattle.host_core.proofs.Sees.{rises}
-use Rattle.socket_loop.specs.Parts.{IsGone, AreAll, IsAdmission, LeavesAlone, closes, closes_by, starves, starves_by}
+use Rattle.socket_loop.specs.Parts.{IsGone, AreAll, IsAdmission, LeavesUntouched, closes, closes_by, feed_out_of_memory, feed_out_of_memory_by}
 use Rattle.socket_loop.specs.Turns.{openings, openings_by}
 
 pub run-one : (old new : HostState) (step : Step) → IsStep old step new → IsRun old (step ∷ []) new
@@ -82,31 +82,31 @@ closes_either id (s ∷ rest) b e = elim (or_cases (closes_by id s.event) (close
   | inr later ↦ elim (closes_either id rest b later) [ inl first ↦ inl (or_right (closes_by id s.event) (closes id rest) first) | inr second ↦ inr second ]
 ]
 
-pub starves_left : (id : SessionId) (a b : List Step) → starves id a ≡ true → starves id (a ++ b) ≡ true
+pub starves_left : (id : SessionId) (a b : List Step) → feed_out_of_memory id a ≡ true → feed_out_of_memory id (a ++ b) ≡ true
 starves_left id [] b e = absurd (cc)
-starves_left id (s ∷ rest) b e = either_left (starves_by id s.event s.outcome) (starves id rest) (starves id (rest ++ b)) (starves_left id rest b) e
+starves_left id (s ∷ rest) b e = either_left (feed_out_of_memory_by id s.event s.outcome) (feed_out_of_memory id rest) (feed_out_of_memory id (rest ++ b)) (starves_left id rest b) e
 
-pub starves_right : (id : SessionId) (a b : List Step) → starves id b ≡ true → starves id (a ++ b) ≡ true
+pub starves_right : (id : SessionId) (a b : List Step) → feed_out_of_memory id b ≡ true → feed_out_of_memory id (a ++ b) ≡ true
 starves_right id [] b e = e
-starves_right id (s ∷ rest) b e = or_right (starves_by id s.event s.outcome) (starves id (rest ++ b)) (starves_right id rest b e)
+starves_right id (s ∷ rest) b e = or_right (feed_out_of_memory_by id s.event s.outcome) (feed_out_of_memory id (rest ++ b)) (starves_right id rest b e)
 
-pub starves_either : (id : SessionId) (a b : List Step) → starves id (a ++ b) ≡ true → (starves id a ≡ true) ⊎ (starves id b ≡ true)
+pub starves_either : (id : SessionId) (a b : List Step) → feed_out_of_memory id (a ++ b) ≡ true → (feed_out_of_memory id a ≡ true) ⊎ (feed_out_of_memory id b ≡ true)
 starves_either id [] b e = inr e
-starves_either id (s ∷ rest) b e = elim (or_cases (starves_by id s.event s.outcome) (starves id (rest ++ b)) e) [
-  | inl now ↦ inl (or_left (starves_by id s.event s.outcome) (starves id rest) now)
-  | inr later ↦ elim (starves_either id rest b later) [ inl first ↦ inl (or_right (starves_by id s.event s.outcome) (starves id rest) first) | inr second ↦ inr second ]
+starves_either id (s ∷ rest) b e = elim (or_cases (feed_out_of_memory_by id s.event s.outcome) (feed_out_of_memory id (rest ++ b)) e) [
+  | inl now ↦ inl (or_left (feed_out_of_memory_by id s.event s.outcome) (feed_out_of_memory id rest) now)
+  | inr later ↦ elim (starves_either id rest b later) [ inl first ↦ inl (or_right (feed_out_of_memory_by id s.event s.outcome) (feed_out_of_memory id rest) first) | inr second ↦ inr second ]
 ]
 
-pub starves_neither : (id : SessionId) (a b : List Step) → starves id a ≡ false → starves id b ≡ false → starves id (a ++ b) ≡ false
+pub starves_neither : (id : SessionId) (a b : List Step) → feed_out_of_memory id a ≡ false → feed_out_of_memory id b ≡ false → feed_out_of_memory id (a ++ b) ≡ false
 starves_neither id [] b e f = f
-starves_neither id (s ∷ rest) b e f = closes_more (starves_by id s.event s.outcome) (starves id rest) (starves id (rest ++ b)) (λ g. starves_neither id rest b g f) e
+starves_neither id (s ∷ rest) b e f = closes_more (feed_out_of_memory_by id s.event s.outcome) (feed_out_of_memory id rest) (feed_out_of_memory id (rest ++ b)) (λ g. starves_neither id rest b g f) e
 
-pub starves-works : (id : SessionId) (budget : ℕ) (ids : List SessionId) (os : List Outcome) → starves id (works budget ids os) ≡ false
-starves-works id budget [] os = refl
-starves-works id budget (i ∷ ids) [] = refl
-starves-works id budget (i ∷ ids) (o ∷ os) = starves-works id budget ids os
+pub feed_out_of_memory-works : (id : SessionId) (budget : ℕ) (ids : List SessionId) (os : List Outcome) → feed_out_of_memory id (works budget ids os) ≡ false
+feed_out_of_memory-works id budget [] os = refl
+feed_out_of_memory-works id budget (i ∷ ids) [] = refl
+feed_out_of_memory-works id budget (i ∷ ids) (o ∷ os) = feed_out_of_memory-works id budget ids os
 
-starves_admission : (id : SessionId) (event : Event) (o : Outcome) → IsAdmission event → starves_by id event o ≡ false
+starves_admission : (id : SessionId) (event : Event) (o : Outcome) → IsAdmission event → feed_out_of_memory_by id event o ≡ false
 starves_admission id Open o k = refl
 starves_admission id (Feed other chunk) o k = absurd k
 starves_admission id (Work other n) o k = absurd k
@@ -114,9 +114,9 @@ starves_admission id (Take other n) o k = absurd k
 starves_admission id (Close other) o k = absurd k
 
 -- no opening starves
-pub starves-admissions : (id : SessionId) (steps : List Step) → AreAll IsAdmission steps → starves id steps ≡ false
-starves-admissions id [] k = refl
-starves-admissions id (s ∷ rest) k = or_from (starves_by id s.event s.outcome) (starves id rest) (starves_admission id s.event s.outcome k.0) (starves-admissions id rest k.1)
+pub feed_out_of_memory-admissions : (id : SessionId) (steps : List Step) → AreAll IsAdmission steps → feed_out_of_memory id steps ≡ false
+feed_out_of_memory-admissions id [] k = refl
+feed_out_of_memory-admissions id (s ∷ rest) k = or_from (feed_out_of_memory_by id s.event s.outcome) (feed_out_of_memory id rest) (starves_admission id s.event s.outcome k.0) (feed_out_of_memory-admissions id rest k.1)
 
 closes_admission : (id : SessionId) (event : Event) → IsAdmission event → closes_by id event ≡ false
 closes_admission id Open k = refl
@@ -130,7 +130,7 @@ pub closes-admissions : (id : SessionId) (steps : List Step) → AreAll IsAdmiss
 closes-admissions id [] k = refl
 closes-admissions id (s ∷ rest) k = or_from (closes_by id s.event) (closes id rest) (closes_admission id s.event k.0) (closes-admissions id rest k.1)
 
-pub alone_then : (id : SessionId) (a b : List Step) → LeavesAlone id a → LeavesAlone id b → LeavesAlone id (a ++ b)
+pub alone_then : (id : SessionId) (a b : List Step) → LeavesUntouched id a → LeavesUntouched id b → LeavesUntouched id (a ++ b)
 alone_then id a b p q = record {
   stored = own-append id a b ∙ rw (p.stored, q.stored) refl;
   passed = taken-append id a b ∙ rw (p.passed, q.passed) refl;

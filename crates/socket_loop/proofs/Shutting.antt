@@ -9,7 +9,7 @@ use Rattle.host_core.proofs.Chains.{run-start}
 use Rattle.host_core.proofs.OneSession.{gone}
 use Rattle.socket_loop.specs.declared.connection.Link.{Link}
 use Rattle.socket_loop.specs.declared.connection.Connection.{Connection}
-use Rattle.wires.specs.Asked.{Call}
+use Rattle.transport.specs.Asked.{Call}
 use Rattle.socket_loop.specs.Links.{Ties, IsAmong, IsMarked, links_of, was_shut}
 use Rattle.socket_loop.specs.Parts.{IsGone, AddsNoMark, IsInput, IsOutput, IsEnd}
 use Rattle.socket_loop.specs.Calls.{IsVisit, Visits, AreVisitedTo, AsksEach, reads_of, writes_of, ends_of}

@@ -4,12 +4,12 @@ use Rattle.std.specs.Prelude.{filter, not, ◌||◌}
 use Rattle.std.proofs.lemmas.Bool.{or_cases, both_ways}
 use Rattle.host_core.specs.Steps.{HostState}
 use Rattle.socket_loop.specs.declared.connection.Connection.{Connection}
-use Rattle.wires.specs.Report.{Report, KeepsAll}
+use Rattle.transport.specs.Report.{Report, KeepsAll}
 use Rattle.socket_loop.specs.Links.{links_of, IsAmong}
-use Rattle.wires.specs.Moves.{AllMove, Transfers}
-use Rattle.wires.proofs.Reported.{all_kept}
+use Rattle.transport.specs.Moves.{AllMove, Transfers}
+use Rattle.transport.proofs.Reported.{all_kept}
 use Rattle.socket_loop.specs.Turns.{KeepsMade, EndsOrShuts, AllKeepMade, OneEndsOrShuts, Stirs, StirsHeld, IsQuiet, any_pending}
-use Rattle.wires.proofs.Transfers.{transfers_then, then_transfers}
+use Rattle.transport.proofs.Transfers.{transfers_then, then_transfers}
 
 -- ---- marks
 

@@ -16,19 +16,19 @@ use Rattle.host_core.specs.Headline.{EndsFrom}
 use Rattle.host_core.proofs.OneSession.{kept, opened_under}
 use Rattle.socket_loop.specs.declared.connection.Link.{Link}
 use Rattle.socket_loop.specs.declared.connection.Connection.{Connection}
-use Rattle.wires.specs.Report.{Report, KeepsConnection}
-use Rattle.socket_loop.specs.Links.{IsTied, IsAmong, IsApart, IsMarked, IsRising, links_of, reads_ended, unshut_of, was_shut}
-use Rattle.socket_loop.specs.Parts.{IsGone, closes, Carried, Carries, CarriesBy, IsInput, IsOutput, IsEnd, KeepsAllMarks, AddsNoMark, Grows}
-use Rattle.wires.specs.Moves.{IsEmptied, AllMove}
-use Rattle.wires.specs.Asked.{Call}
+use Rattle.transport.specs.Report.{Report, KeepsConnection}
+use Rattle.socket_loop.specs.Links.{IsOneToOne, IsAmong, IsNotAmong, IsMarked, IsRising, links_of, reads_ended, unshut_of, was_shut}
+use Rattle.socket_loop.specs.Parts.{IsGone, closes, Transferred, Carries, CarriesBy, IsInput, IsOutput, IsEnd, KeepsAllMarks, AddsNoMark, Grows}
+use Rattle.transport.specs.Moves.{IsEmptied, AllMove}
+use Rattle.transport.specs.Asked.{Call}
 use Rattle.socket_loop.specs.Calls.{AllAccepted, AsksAll, AsksEach, AsksTurn, Turns, reads_of, writes_of, ends_of}
 use Rattle.socket_loop.specs.Turns.{FitsOne, Fits, Accepted, HasSession, Joins, IsRejected, IsNew, Accepts, HasMoved, IsQuiet, IsTurn, IsRemoved, Served, ContinuesServing, ServesNew}
 use Rattle.socket_loop.specs.Scenes.{Scene}
 use Rattle.socket_loop.specs.declared.tally.Tally.{Tally}
 use Rattle.socket_loop.specs.declared.tally.Arrivals.{Arrivals}
 use Rattle.socket_loop.specs.Tallies.{IsTally}
-use Rattle.wires.proofs.Reported.{kept_then, moves_then, emptied_move, raised_rises, rises_then, stays_rise}
-use Rattle.socket_loop.proofs.Runs.{run-append, next_rises, opened_left, starves-admissions, closes-admissions, alone_then}
+use Rattle.transport.proofs.Reported.{kept_then, moves_then, emptied_move, raised_rises, rises_then, stays_rise}
+use Rattle.socket_loop.proofs.Runs.{run-append, next_rises, opened_left, feed_out_of_memory-admissions, closes-admissions, alone_then}
 use Rattle.socket_loop.proofs.Parts.{carried_nothing, carried_then, carries_then, carries_round}
 use Rattle.socket_loop.proofs.Marks.{marks_none, marks_then, marked_filter, remove_shut}
 use Rattle.socket_loop.proofs.Quiet.{either_false}
@@ -99,11 +99,11 @@ pub not_lost : (host : HostState) (id : SessionId) (lost : List ℕ) {P : Type 0
 not_lost host id lost (inl e) some = e
 not_lost host id lost (inr g) some = some_none (find host.slots id) lost g.0.none some
 
-served : (owes : List ℕ → List ℕ) (marks : List Connection) (bound : ℕ) (a b : Report) (h m : HostState) (steps : List Step) (l : Link) → Carried marks bound a h steps b m l → EndsFrom owes (own l.id steps) (taken l.id steps) (find m.slots l.id) → Served owes a b l.number (find m.slots l.id)
+served : (owes : List ℕ → List ℕ) (marks : List Connection) (bound : ℕ) (a b : Report) (h m : HostState) (steps : List Step) (l : Link) → Transferred marks bound a h steps b m l → EndsFrom owes (own l.id steps) (taken l.id steps) (find m.slots l.id) → Served owes a b l.number (find m.slots l.id)
 served owes marks bound a b h m steps l c ends =
     record { read = own l.id steps; lost = c.lost; written = taken l.id steps; consumed = c.consumed; appended = c.appended; ends = ends; whole = λ some. not_lost m l.id c.lost c.whole some }
 
-starts_one : (ls : List Link) (f t : ℕ) (x : List Accepted) (g : ℕ) (marks : List Connection) (a b : Report) (h m : HostState) (first steps : List Step) (l : Link) → IsRun h steps m → Carried marks t a h steps b m l → ((is_opened l.id first ≡ true) → is_opened l.id steps ≡ true) → IsAmong ls l ⊎ Joins f t x g m.slots.next first l → IsAmong ls l ⊎ Served (replies_under h.setup) a b l.number (find m.slots l.id)
+starts_one : (ls : List Link) (f t : ℕ) (x : List Accepted) (g : ℕ) (marks : List Connection) (a b : Report) (h m : HostState) (first steps : List Step) (l : Link) → IsRun h steps m → Transferred marks t a h steps b m l → ((is_opened l.id first ≡ true) → is_opened l.id steps ≡ true) → IsAmong ls l ⊎ Joins f t x g m.slots.next first l → IsAmong ls l ⊎ Served (replies_under h.setup) a b l.number (find m.slots l.id)
 starts_one ls f t x g marks a b h m first steps l r c up (inl old) = inl old
 starts_one ls f t x g marks a b h m first steps l r c up (inr new) = inr (served (replies_under h.setup) marks t a b h m steps l c (opened_under h.setup h m l.id steps refl (up new.opened) r))
 
@@ -136,12 +136,12 @@ turned slice p q r s w held accepted_ read_ written_ last f t a b c d e h i j k 
     let to_end : IsRun h steps_ m = run-append h j m first (middle ++ second) (run-append h i j accepts.steps reads.steps accepts.chain reads.carries.chain) late.chain in
     let are_ : (x : Link) → IsAmong ms x → IsAmong (links_of held) x ⊎ Joins f t accepts.accepted h.slots.next m.slots.next accepts.steps x =
     (λ x among. met_are (links_of held) f t accepts.accepted h.slots.next m.slots.next a b accepts.steps x (last_below x (accepts.fits fit x among).opened) (closes-admissions x.id accepts.steps accepts.kinds) (accepts.are x among)) in
-    let carried_ : (x : Link) → IsAmong ms x → Carried written_ t a h steps_ e m x =
+    let carried_ : (x : Link) → IsAmong ms x → Transferred written_ t a h steps_ e m x =
     (λ x among.
-    let tied : IsTied ms x = (accepts.fits fit x among).tied in
-    let one : Carried written_ t a h accepts.steps b i x =
-    carried_nothing written_ t a b h i accepts.steps x (accepts.no_own x.id) (accepts.no_taken x.id) (closes-admissions x.id accepts.steps accepts.kinds) (starves-admissions x.id accepts.steps accepts.kinds) (met_keeps (links_of held) f t accepts.accepted h.slots.next a b h accepts.steps x fit accepts.kept (accepts.are x among)) in
-    let two : Carried written_ t a h first c j x = carried_then written_ t a b c h i j x accepts.steps reads.steps accepts.all reads.carries.all accepts.chain reads.carries.chain one (reads.carries.carried x tied) in
+    let tied : IsOneToOne ms x = (accepts.fits fit x among).tied in
+    let one : Transferred written_ t a h accepts.steps b i x =
+    carried_nothing written_ t a b h i accepts.steps x (accepts.no_own x.id) (accepts.no_taken x.id) (closes-admissions x.id accepts.steps accepts.kinds) (feed_out_of_memory-admissions x.id accepts.steps accepts.kinds) (met_keeps (links_of held) f t accepts.accepted h.slots.next a b h accepts.steps x fit accepts.kept (accepts.are x among)) in
+    let two : Transferred written_ t a h first c j x = carried_then written_ t a b c h i j x accepts.steps reads.steps accepts.all reads.carries.all accepts.chain reads.carries.chain one (reads.carries.carried x tied) in
     carried_then written_ t a c e h j m x first (middle ++ second) to_c late.all (run-append h i j accepts.steps reads.steps accepts.chain reads.carries.chain) late.chain two (late.carried x tied)) in
     record {
       met = ms;
@@ -193,7 +193,7 @@ turned slice p q r s w held accepted_ read_ written_ last f t a b c d e h i j k 
         let z : l.slots.next ≤ m.slots.next = next_rises l m shuts.steps shuts.carries.chain in
         omega arith
 
-    over_accounted : (x : Accepted) → ((n : ℕ) → IsApart (links_of accepted_) n → KeepsConnection b e n) → HasSession (links_of accepted_) x ⊎ (IsRejected f t some.accepts.accepted a b x.number × IsApart (links_of accepted_) x.number)
+    over_accounted : (x : Accepted) → ((n : ℕ) → IsNotAmong (links_of accepted_) n → KeepsConnection b e n) → HasSession (links_of accepted_) x ⊎ (IsRejected f t some.accepts.accepted a b x.number × IsNotAmong (links_of accepted_) x.number)
         → HasSession (links_of accepted_) x ⊎ IsRejected f t some.accepts.accepted a e x.number
     over_accounted x keep (inl met) = inl met
     over_accounted x keep (inr away) = inr (away_kept f t some.accepts.accepted a b e x.number away.0 (keep x.number away.1))
@@ -267,10 +267,10 @@ turns slice moved tally before after asked moves quiet =
 
 -- ---- what is removed
 
-tied_filter : (p : Connection → Bool) (held : List Connection) (l : Link) → IsTied (links_of held) l → IsTied (links_of (filter p held)) l
+tied_filter : (p : Connection → Bool) (held : List Connection) (l : Link) → IsOneToOne (links_of held) l → IsOneToOne (links_of (filter p held)) l
 tied_filter p [] l t = t
 tied_filter p (x ∷ xs) l t =
-    cond_both (p x) (x ∷ filter p xs) (filter p xs) (λ (ys : List Connection). IsTied (links_of ys) l)
+    cond_both (p x) (x ∷ filter p xs) (filter p xs) (λ (ys : List Connection). IsOneToOne (links_of ys) l)
     (λ yes. (t.0, tied_filter p xs l t.1)) (λ no. tied_filter p xs l t.1)
 
 -- the numbers and ids that are left

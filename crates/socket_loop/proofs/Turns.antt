@@ -1,7 +1,7 @@
 -- One turn after others.
 use Rattle.std.proofs.Common.{◌≡◌, ◌<◌, ◌+◌, ℕ, suc, Result, Ok, Err, IfErr, refl, arith}
-use Rattle.wires.specs.declared.wire.WireFault.{WireFault}
-use Rattle.wires.specs.Report.{HasCause}
+use Rattle.transport.specs.declared.wire.WireFault.{WireFault}
+use Rattle.transport.specs.Report.{HasCause}
 use Rattle.socket_loop.specs.Scenes.{Scene}
 use Rattle.socket_loop.specs.Serving.{AreTurns, IsTurnTo, IsTurnAndWait, IsWait, Stops}
 

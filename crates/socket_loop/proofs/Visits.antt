@@ -22,13 +22,13 @@ use Rattle.host_core.proofs.Chains.{run-start}
 use Rattle.host_core.proofs.Ids.{apart_ids, is_same_id-refl}
 use Rattle.socket_loop.specs.declared.connection.Link.{Link}
 use Rattle.socket_loop.specs.declared.connection.Connection.{Connection}
-use Rattle.wires.specs.declared.wire.Got.TheVariants.{Bytes}
-use Rattle.wires.specs.declared.wire.WireFault.{WireFault}
-use Rattle.wires.specs.Report.{Report, KeepsConnection, Stays, IsRaised, Reads, Writes, Shuts}
+use Rattle.transport.specs.declared.wire.Got.TheVariants.{Bytes}
+use Rattle.transport.specs.declared.wire.WireFault.{WireFault}
+use Rattle.transport.specs.Report.{Report, KeepsConnection, Stays, IsRaised, Reads, Writes, Shuts}
 use Rattle.socket_loop.specs.Links.{Ties, IsMarked, reads_ended}
-use Rattle.socket_loop.specs.Parts.{IsGone, IsClosing, AreAll, IsInput, IsOutput, IsEnd, closes, starves, Cause, Carried, CarriesBy, is_finished_with}
-use Rattle.wires.specs.Moves.{GaveBytes}
-use Rattle.wires.proofs.Reported.{kept_same, kept_then, moves_then, writes_move, shuts_move, gave_move, stays_rise, raised_rise, stays_raised, raised_rises, stays-refl, rises-refl, Consumes-none, Keeps-nothing, Appends-none}
+use Rattle.socket_loop.specs.Parts.{IsGone, IsClosing, AreAll, IsInput, IsOutput, IsEnd, closes, feed_out_of_memory, Cause, Transferred, CarriesBy, is_finished_with}
+use Rattle.transport.specs.Moves.{GaveBytes}
+use Rattle.transport.proofs.Reported.{kept_same, kept_then, moves_then, writes_move, shuts_move, gave_move, stays_rise, raised_rise, stays_raised, raised_rises, stays-refl, rises-refl, Consumes-none, Keeps-nothing, Appends-none}
 use Rattle.socket_loop.proofs.Runs.{run-one, run-two, step_rises}
 use Rattle.socket_loop.proofs.Parts.{carried_nothing}
 
@@ -74,7 +74,7 @@ write_fault a b number e buf w = record { consumed = Consumes-none _ _ w.unread;
 pub gave_nothing : (a : Report) (number : ℕ) → GaveBytes a a number []
 gave_nothing a number = record { consumed = Consumes-nil _; written = Keeps-refl _; shut = stays-refl _; failed = rises-refl _; others = λ x apart. kept_same a x }
 
-carried_fed : (m : List Connection) (bound : ℕ) (h : Link) (a b : Report) (before after : HostState) (chunk : List ℕ) (l : Link) → Ties h l → GaveBytes a b h.number chunk → Stays (a.has_failed h.number) (b.has_failed h.number) → Carried m bound a before (record { event = Feed h.id chunk; outcome = Done } ∷ []) b after l
+carried_fed : (m : List Connection) (bound : ℕ) (h : Link) (a b : Report) (before after : HostState) (chunk : List ℕ) (l : Link) → Ties h l → GaveBytes a b h.number chunk → Stays (a.has_failed h.number) (b.has_failed h.number) → Transferred m bound a before (record { event = Feed h.id chunk; outcome = Done } ∷ []) b after l
 carried_fed m bound h a b before after chunk l t g none =
     elim (cases_eq h.number l.number) [
       | inl same ↦
@@ -125,9 +125,9 @@ record Closing (id : SessionId) (steps : List Step) : Type 0 where
   pub no_taken : (other : SessionId) → taken other steps ≡ []
   pub this : (other : SessionId) → id ≡ other → closes other steps ≡ true
   pub no_other : (other : SessionId) → (id ≡ other → ⊥) → closes other steps ≡ false
-  pub no_hunger : (other : SessionId) → (id ≡ other → ⊥) → starves other steps ≡ false
+  pub no_hunger : (other : SessionId) → (id ≡ other → ⊥) → feed_out_of_memory other steps ≡ false
 
-shut_ends : (m : List Connection) (bound : ℕ) (h : Link) (a b c : Report) (before after : HostState) (steps : List Step) (chunk : List ℕ) (l : Link) → Ties h l → GaveBytes a b h.number chunk → Shuts bound b c h.number → Closing h.id steps → (chunk ≡ []) ⊎ (IsGone after h.id × (starves h.id steps ≡ true)) → (starves h.id steps ≡ true → chunk ≢ []) → Cause m a before steps c after h → Carried m bound a before steps c after l
+shut_ends : (m : List Connection) (bound : ℕ) (h : Link) (a b c : Report) (before after : HostState) (steps : List Step) (chunk : List ℕ) (l : Link) → Ties h l → GaveBytes a b h.number chunk → Shuts bound b c h.number → Closing h.id steps → (chunk ≡ []) ⊎ (IsGone after h.id × (feed_out_of_memory h.id steps ≡ true)) → (feed_out_of_memory h.id steps ≡ true → chunk ≢ []) → Cause m a before steps c after h → Transferred m bound a before steps c after l
 shut_ends m bound h a b c before after steps chunk l t g s closing whole fed why =
     elim (cases_eq h.number l.number) [
       | inl same ↦
@@ -150,7 +150,7 @@ shut_ends m bound h a b c before after steps chunk l t g s closing whole fed why
           carried_nothing m bound a c before after steps l (closing.no_own l.id) (closing.no_taken l.id) (closing.no_other l.id (λ e. apart (t.by_id e))) (closing.no_hunger l.id (λ e. apart (t.by_id e))) kept
     ]
 
-carries_by_closing : (kind : Event → Type 0) (m : List Connection) (bound : ℕ) (h : Link) (a b c : Report) (before after : HostState) (steps : List Step) (chunk : List ℕ) → AreAll kind steps → IsRun before steps after → GaveBytes a b h.number chunk → Shuts bound b c h.number → Closing h.id steps → (chunk ≡ []) ⊎ (IsGone after h.id × (starves h.id steps ≡ true)) → (starves h.id steps ≡ true → chunk ≢ []) → Cause m a before steps c after h → CarriesBy kind m bound (h ∷ []) a before c after
+carries_by_closing : (kind : Event → Type 0) (m : List Connection) (bound : ℕ) (h : Link) (a b c : Report) (before after : HostState) (steps : List Step) (chunk : List ℕ) → AreAll kind steps → IsRun before steps after → GaveBytes a b h.number chunk → Shuts bound b c h.number → Closing h.id steps → (chunk ≡ []) ⊎ (IsGone after h.id × (feed_out_of_memory h.id steps ≡ true)) → (feed_out_of_memory h.id steps ≡ true → chunk ≢ []) → Cause m a before steps c after h → CarriesBy kind m bound (h ∷ []) a before c after
 carries_by_closing kind m bound h a b c before after steps chunk kinds chain g s closing whole fed why = record {
   steps = steps;
   kinds = kinds;
@@ -236,7 +236,7 @@ is_open (Some t) bytes p = refl
 pub has_session : (host : HostState) (id : SessionId) (bytes : Bor (List ℕ)) → IsQueue (find host.slots id) (Some bytes) → IsSome (find host.slots id)
 has_session host id bytes p = is_open (find host.slots id) bytes p
 
-carried_passed : (m : List Connection) (bound : ℕ) (h : Link) (a b : Report) (before after : HostState) (n : ℕ) (bytes : List ℕ) (l : Link) → Ties h l → Writes a b h.number (Ok n) bytes → Carried m bound a before (record { event = Take h.id n; outcome = Gave (take n bytes) } ∷ []) b after l
+carried_passed : (m : List Connection) (bound : ℕ) (h : Link) (a b : Report) (before after : HostState) (n : ℕ) (bytes : List ℕ) (l : Link) → Ties h l → Writes a b h.number (Ok n) bytes → Transferred m bound a before (record { event = Take h.id n; outcome = Gave (take n bytes) } ∷ []) b after l
 carried_passed m bound h a b before after n bytes l t w =
     elim (cases_eq h.number l.number) [
       | inl same ↦

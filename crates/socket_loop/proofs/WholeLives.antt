@@ -9,19 +9,19 @@ use Rattle.usi_session.specs.WholeStream.{replies_under, is_over_after_under}
 use Rattle.host_core.specs.Events.{Close}
 use Rattle.host_core.specs.Headline.{EndsFrom, OverFrom}
 use Rattle.socket_loop.specs.declared.connection.Link.{Link}
-use Rattle.wires.specs.declared.wire.WireFault.{WireFault}
-use Rattle.wires.specs.Report.{KeepsConnection}
-use Rattle.socket_loop.specs.Links.{Ties, IsAmong, IsApart, IsMarked, links_of, reads_ended, was_shut}
+use Rattle.transport.specs.declared.wire.WireFault.{WireFault}
+use Rattle.transport.specs.Report.{KeepsConnection}
+use Rattle.socket_loop.specs.Links.{Ties, IsAmong, IsNotAmong, IsMarked, links_of, reads_ended, was_shut}
 use Rattle.socket_loop.specs.Turns.{FitsOne, Fits, IsTurn, IsRemoved, IsRejected, Joins, Served}
 use Rattle.socket_loop.proofs.Accepting.{apart_each, each_apart, fresh_tied, tied_of, ties_apart}
 use Rattle.socket_loop.proofs.Lives.{served_on, served_aside, then_ends, over_then, Keeps-Consumes, prefix_written, all_written, strange_each}
-use Rattle.wires.proofs.Reported.{kept_same, kept_then, all_kept, moves_then, emptied_move, move_emptied, rises_raised, Keeps-Appends, stays_raised, raised_rises, stays_rise}
+use Rattle.transport.proofs.Reported.{kept_same, kept_then, all_kept, moves_then, emptied_move, move_emptied, rises_raised, Keeps-Appends, stays_raised, raised_rises, stays_rise}
 use Rattle.socket_loop.proofs.Runs.{next_rises, opened_left}
 use Rattle.socket_loop.proofs.Parts.{some_lost}
 use Rattle.socket_loop.proofs.Turning.{not_lost}
 use Rattle.socket_loop.proofs.Endings.{some_of, not_none, found, Found, stays_open, opened_stays, opened_before, ending, Ending, EndsBy}
-use Rattle.socket_loop.specs.Parts.{Carried, Cause, Finished, IsSpared, IsShutDown, LeavesAlone}
-use Rattle.wires.specs.Moves.{AllMove}
+use Rattle.socket_loop.specs.Parts.{Transferred, Cause, Finished, Survives, IsShutDown, LeavesUntouched}
+use Rattle.transport.specs.Moves.{AllMove}
 use Rattle.host_core.specs.Made.{Step, own, taken, is_opened}
 use Rattle.host_core.specs.Rounds.{works, pending_ids}
 use Rattle.host_core.proofs.Ids.{is_same_id-refl}
@@ -43,7 +43,7 @@ record Numbered (ls : List Link) (n : ℕ) : Type 0 where
   pub among : IsAmong ls link
   pub same : link.number ≡ n
 
-find_number : (ls : List Link) (n : ℕ) → IsApart ls n ⊎ Numbered ls n
+find_number : (ls : List Link) (n : ℕ) → IsNotAmong ls n ⊎ Numbered ls n
 find_number [] n = inl tt
 find_number (x ∷ xs) n = elim (cases_eq x.number n) [
   | inl same ↦ inr (record { link = x; among = inl refl; same = same })
@@ -126,7 +126,7 @@ lives_start s fit = record {
 -- ---- a turn
 
 -- the links that are left are among those that were met
-still_apart : (met now : List Link) (n : ℕ) → ((l : Link) → IsAmong now l → IsAmong met l) → IsApart met n → IsApart now n
+still_apart : (met now : List Link) (n : ℕ) → ((l : Link) → IsAmong now l → IsAmong met l) → IsNotAmong met n → IsNotAmong now n
 still_apart met now n left p = apart_each now n (λ l m. each_apart met n l p (left l m))
 
 next_turned : (slice : ℕ) (moved : Bool) (b c : Scene) → IsTurn slice moved b c → b.host.slots.next ≤ c.host.slots.next
@@ -163,7 +163,7 @@ fits_new slice moved b c t l among new = record {
 
 -- ---- a connection that was not met
 
-strange_met : (slice : ℕ) (moved : Bool) (b c : Scene) (t : IsTurn slice moved b c) (k l : Link) → FitsOne (links_of b.held) b.bound b.host l → IsApart t.met l.number → IsAmong t.met k → IsAmong (links_of b.held) k ⊎ Joins b.bound c.bound t.accepted b.host.slots.next c.host.slots.next t.admissions k → k.id ≡ l.id → ⊥
+strange_met : (slice : ℕ) (moved : Bool) (b c : Scene) (t : IsTurn slice moved b c) (k l : Link) → FitsOne (links_of b.held) b.bound b.host l → IsNotAmong t.met l.number → IsAmong t.met k → IsAmong (links_of b.held) k ⊎ Joins b.bound c.bound t.accepted b.host.slots.next c.host.slots.next t.admissions k → k.id ≡ l.id → ⊥
 strange_met slice moved b c t k l f p among (inl old) e = each_apart t.met l.number k p among ((tied_of (links_of b.held) l k f.tied old).by_id e)
 strange_met slice moved b c t k l f p among (inr new) e =
     let v : l.id.generation < b.host.slots.next = f.opened in
@@ -190,14 +190,14 @@ ended_before duty a b c n read lost written more_read more_lost more_written mov
 ended_or : (duty : Duty) (a c : Scene) (n : ℕ) (read lost written : List ℕ) → (lost ≡ [] → HasEnded duty a c n read lost written) → HasEnded duty a c n read lost written
 ended_or duty a c n read lost written f = elim (nil_or lost) [ inl none ↦ f none | inr some ↦ inr (inl some) ]
 
-ended_aside : (slice : ℕ) (moved : Bool) (a b c : Scene) (t : IsTurn slice moved b c) (duty : Duty) (l : Link) (x : IsAnswered duty a b l) (found_ : Option SessionView) → find b.host.slots l.id ≡ found_ → LeavesAlone l.id t.steps → x.served.lost ++ [] ≡ [] → find c.host.slots l.id ≡ None
+ended_aside : (slice : ℕ) (moved : Bool) (a b c : Scene) (t : IsTurn slice moved b c) (duty : Duty) (l : Link) (x : IsAnswered duty a b l) (found_ : Option SessionView) → find b.host.slots l.id ≡ found_ → LeavesUntouched l.id t.steps → x.served.lost ++ [] ≡ [] → find c.host.slots l.id ≡ None
     → HasEnded duty a c l.number (x.served.read ++ own l.id t.steps) (x.served.lost ++ []) (x.served.written ++ taken l.id t.steps)
 ended_aside slice moved a b c t duty l x None e alone g none = ended_before duty a b c l.number x.served.read x.served.lost x.served.written (own l.id t.steps) [] (taken l.id t.steps) t.all alone.stored alone.passed g (x.ended e)
 ended_aside slice moved a b c t duty l x (Some s) e alone g none =
     absurd (not_none (find c.host.slots l.id) (stays_open b.host c.host l.id t.steps t.chain alone.kept (some_of (find b.host.slots l.id) s e)) none)
 
 -- one that was not met is as it was
-kept_aside : (slice : ℕ) (moved : Bool) (a b c : Scene) (t : IsTurn slice moved b c) (l : Link) → IsApart t.met l.number → FitsOne (links_of b.held) b.bound b.host l → IsHeldOrGone a b l → IsHeldOrGone a c l
+kept_aside : (slice : ℕ) (moved : Bool) (a b c : Scene) (t : IsTurn slice moved b c) (l : Link) → IsNotAmong t.met l.number → FitsOne (links_of b.held) b.bound b.host l → IsHeldOrGone a b l → IsHeldOrGone a c l
 kept_aside slice moved a b c t l p f (inl held) = absurd (each_apart t.met l.number l p (t.stay l held) refl)
 kept_aside slice moved a b c t l p f (inr (inl marked)) = inr (inl marked)
 kept_aside slice moved a b c t l p f (inr (inr g)) = inr (inr (record {
@@ -205,9 +205,9 @@ kept_aside slice moved a b c t l p f (inr (inr g)) = inr (inr (record {
   closed = (gone b.host c.host l.id t.steps g.closed f.opened t.chain).none;
 }))
 
-answered_aside : (slice : ℕ) (moved : Bool) (a b c : Scene) (t : IsTurn slice moved b c) (duty : Duty) (l : Link) → IsApart t.met l.number → KeepsConnection b.report c.report l.number → IsAnswered duty a b l → IsAnswered duty a c l
+answered_aside : (slice : ℕ) (moved : Bool) (a b c : Scene) (t : IsTurn slice moved b c) (duty : Duty) (l : Link) → IsNotAmong t.met l.number → KeepsConnection b.report c.report l.number → IsAnswered duty a b l → IsAnswered duty a c l
 answered_aside slice moved a b c t duty l p k x =
-    let alone : LeavesAlone l.id t.steps = t.foreign l.id x.fits.opened (strange_each t.met l.id (λ j m. strange_met slice moved b c t j l x.fits p m (t.are j m))) in
+    let alone : LeavesUntouched l.id t.steps = t.foreign l.id x.fits.opened (strange_each t.met l.id (λ j m. strange_met slice moved b c t j l x.fits p m (t.are j m))) in
     answered duty a c l
     (served_aside duty.owes a.report b.report c.report b.host c.host l.number l.id t.steps x.fits.opened t.chain x.served alone k)
     (over_then duty.ends b.host c.host l.id t.steps x.served.read (find b.host.slots l.id) refl x.fits.opened t.chain x.over)
@@ -215,7 +215,7 @@ answered_aside slice moved a b c t duty l p k x =
     (kept_aside slice moved a b c t l p x.fits x.kept)
     (fits_kept slice moved b c t l x.fits)
 
-served_apart : (slice : ℕ) (moved : Bool) (a b c : Scene) (t : IsTurn slice moved b c) (l : Link) → IsApart t.met l.number → KeepsConnection b.report c.report l.number → IsServed a b l → IsServed a c l
+served_apart : (slice : ℕ) (moved : Bool) (a b c : Scene) (t : IsTurn slice moved b c) (l : Link) → IsNotAmong t.met l.number → KeepsConnection b.report c.report l.number → IsServed a b l → IsServed a c l
 served_apart slice moved a b c t l p k (inl s) = inl (s.0, answered_aside slice moved a b c t (duty_of (find a.host.slots l.id)) l p k s.1)
 served_apart slice moved a b c t l p k (inr s) = inr (s.0, answered_aside slice moved a b c t (new_duty a.host.setup) l p k s.1)
 
@@ -228,7 +228,7 @@ accounted_below a b n (inl w) = w.most
 accounted_below a b n (inr s) = (served_fits a b (record { number = n; id = s.0 }) s.1).number
 
 -- one that was accepted in the turn, and rejected
-rejected_now : (slice : ℕ) (moved : Bool) (a b c : Scene) (t : IsTurn slice moved b c) (n : ℕ) → a.bound ≤ b.bound → IsApart t.met n → IsRejected b.bound c.bound t.accepted b.report c.report n → Life a b n → IsAccountedFor a c n
+rejected_now : (slice : ℕ) (moved : Bool) (a b c : Scene) (t : IsTurn slice moved b c) (n : ℕ) → a.bound ≤ b.bound → IsNotAmong t.met n → IsRejected b.bound c.bound t.accepted b.report c.report n → Life a b n → IsAccountedFor a c n
 rejected_now slice moved a b c t n le p w (inl u) =
     let v : b.bound ≤ n = w.least in
     inl (record {
@@ -247,7 +247,7 @@ rejected_now slice moved a b c t n le p w (inr h) =
     let v : b.bound ≤ n = w.least in
     absurd (omega arith)
 
-accounted_apart : (slice : ℕ) (moved : Bool) (a b c : Scene) (t : IsTurn slice moved b c) (n : ℕ) → IsApart t.met n → KeepsConnection b.report c.report n ⊎ IsRejected b.bound c.bound t.accepted b.report c.report n → IsAccountedFor a b n → IsAccountedFor a c n
+accounted_apart : (slice : ℕ) (moved : Bool) (a b c : Scene) (t : IsTurn slice moved b c) (n : ℕ) → IsNotAmong t.met n → KeepsConnection b.report c.report n ⊎ IsRejected b.bound c.bound t.accepted b.report c.report n → IsAccountedFor a b n → IsAccountedFor a c n
 accounted_apart slice moved a b c t n p (inl k) (inl w) =
     let v : n < b.bound = w.most in
     let x : b.bound ≤ c.bound = t.rises in
@@ -268,7 +268,7 @@ accounted_apart slice moved a b c t n p (inr away) h =
     let v : b.bound ≤ n = away.least in
     absurd (omega arith)
 
-life_apart : (slice : ℕ) (moved : Bool) (a b c : Scene) (t : IsTurn slice moved b c) (n : ℕ) → a.bound ≤ b.bound → IsApart t.met n → KeepsConnection b.report c.report n ⊎ IsRejected b.bound c.bound t.accepted b.report c.report n → Life a b n → Life a c n
+life_apart : (slice : ℕ) (moved : Bool) (a b c : Scene) (t : IsTurn slice moved b c) (n : ℕ) → a.bound ≤ b.bound → IsNotAmong t.met n → KeepsConnection b.report c.report n ⊎ IsRejected b.bound c.bound t.accepted b.report c.report n → Life a b n → Life a c n
 life_apart slice moved a b c t n le p (inl k) (inl u) = inl (record { kept = kept_then a.report b.report c.report n u.kept k; unheld = still_apart t.met (links_of c.held) n t.left p })
 life_apart slice moved a b c t n le p (inr w) (inl u) = inr (rejected_now slice moved a b c t n le p w (inl u))
 life_apart slice moved a b c t n le p q (inr h) = inr (accounted_apart slice moved a b c t n p q h)
@@ -298,7 +298,7 @@ ending_why : (duty : Duty) (slice : ℕ) (moved : Bool) (a b c : Scene) (t : IsT
 ending_why duty slice moved a b c t n has_ended read written lives f (inl e) = inl (reads_met slice moved a b c t n lives (f e))
 ending_why duty slice moved a b c t n has_ended read written lives f (inr w) = inr (record { over = w.over; no_more = w.no_more })
 
-ended_cause : (slice : ℕ) (moved : Bool) (a b c : Scene) (t : IsTurn slice moved b c) (duty : Duty) (l : Link) (x : IsAnswered duty a b l) (s : SessionView) (k : Carried t.marks c.bound b.report b.host t.steps c.report c.host l) → Lives a b → find b.host.slots l.id ≡ Some s → x.served.lost ++ k.lost ≡ [] → Cause t.marks b.report b.host t.steps c.report c.host l
+ended_cause : (slice : ℕ) (moved : Bool) (a b c : Scene) (t : IsTurn slice moved b c) (duty : Duty) (l : Link) (x : IsAnswered duty a b l) (s : SessionView) (k : Transferred t.marks c.bound b.report b.host t.steps c.report c.host l) → Lives a b → find b.host.slots l.id ≡ Some s → x.served.lost ++ k.lost ≡ [] → Cause t.marks b.report b.host t.steps c.report c.host l
     → HasEnded duty a c l.number (x.served.read ++ own l.id t.steps) (x.served.lost ++ k.lost) (x.served.written ++ taken l.id t.steps)
 ended_cause slice moved a b c t duty l x s k lives e g (inl failed) = inl (rises_raised _ _ _ (lives.all l.number).failed failed)
 ended_cause slice moved a b c t duty l x s k lives e g (inr (inl starved)) =
@@ -313,13 +313,13 @@ ended_cause slice moved a b c t duty l x s k lives e g (inr (inr f)) =
     let end : Ending duty.owes duty.ends l.id x.served.read x.served.written t.steps f.has_ended = ending duty.owes duty.ends t.marks b.host c.host t.steps l x.served.read x.served.written f there.session there.is left over in
     inr (inr (record { none_lost = g; all = end.all; why = ending_why duty slice moved a b c t l.number f.has_ended (x.served.read ++ own l.id t.steps) (x.served.written ++ taken l.id t.steps) lives f.marked end.why }))
 
-ended_ends : (slice : ℕ) (moved : Bool) (a b c : Scene) (t : IsTurn slice moved b c) (duty : Duty) (l : Link) (x : IsAnswered duty a b l) (s : SessionView) (k : Carried t.marks c.bound b.report b.host t.steps c.report c.host l) → Lives a b → find b.host.slots l.id ≡ Some s → x.served.lost ++ k.lost ≡ [] → find c.host.slots l.id ≡ None → IsSpared b.report t.steps c.report l ⊎ IsShutDown t.marks c.bound b.report b.host t.steps c.report c.host l
+ended_ends : (slice : ℕ) (moved : Bool) (a b c : Scene) (t : IsTurn slice moved b c) (duty : Duty) (l : Link) (x : IsAnswered duty a b l) (s : SessionView) (k : Transferred t.marks c.bound b.report b.host t.steps c.report c.host l) → Lives a b → find b.host.slots l.id ≡ Some s → x.served.lost ++ k.lost ≡ [] → find c.host.slots l.id ≡ None → Survives b.report t.steps c.report l ⊎ IsShutDown t.marks c.bound b.report b.host t.steps c.report c.host l
     → HasEnded duty a c l.number (x.served.read ++ own l.id t.steps) (x.served.lost ++ k.lost) (x.served.written ++ taken l.id t.steps)
 ended_ends slice moved a b c t duty l x s k lives e g none (inl spared) =
     absurd (not_none (find c.host.slots l.id) (stays_open b.host c.host l.id t.steps t.chain spared.closed (some_of (find b.host.slots l.id) s e)) none)
 ended_ends slice moved a b c t duty l x s k lives e g none (inr d) = ended_cause slice moved a b c t duty l x s k lives e g d.cause
 
-ended_on : (slice : ℕ) (moved : Bool) (a b c : Scene) (t : IsTurn slice moved b c) (duty : Duty) (l : Link) (x : IsAnswered duty a b l) (k : Carried t.marks c.bound b.report b.host t.steps c.report c.host l) (found_ : Option SessionView) → Lives a b → find b.host.slots l.id ≡ found_ → x.served.lost ++ k.lost ≡ [] → find c.host.slots l.id ≡ None
+ended_on : (slice : ℕ) (moved : Bool) (a b c : Scene) (t : IsTurn slice moved b c) (duty : Duty) (l : Link) (x : IsAnswered duty a b l) (k : Transferred t.marks c.bound b.report b.host t.steps c.report c.host l) (found_ : Option SessionView) → Lives a b → find b.host.slots l.id ≡ found_ → x.served.lost ++ k.lost ≡ [] → find c.host.slots l.id ≡ None
     → HasEnded duty a c l.number (x.served.read ++ own l.id t.steps) (x.served.lost ++ k.lost) (x.served.written ++ taken l.id t.steps)
 ended_on slice moved a b c t duty l x k None lives e g none =
     let out : IsOut l.id t.steps c.host = gone b.host c.host l.id t.steps e x.fits.opened t.chain in
@@ -328,7 +328,7 @@ ended_on slice moved a b c t duty l x k (Some s) lives e g none = ended_ends sli
 
 answered_on : (slice : ℕ) (moved : Bool) (a b c : Scene) (t : IsTurn slice moved b c) (duty : Duty) (l : Link) → Lives a b → IsAmong t.met l → IsAnswered duty a b l → IsAnswered duty a c l
 answered_on slice moved a b c t duty l lives among x =
-    let k : Carried t.marks c.bound b.report b.host t.steps c.report c.host l = t.carried l among in
+    let k : Transferred t.marks c.bound b.report b.host t.steps c.report c.host l = t.carried l among in
     answered duty a c l
     (served_on duty.owes t.marks c.bound a.report b.report c.report b.host c.host t.steps l x.fits.opened t.chain x.served k)
     (over_then duty.ends b.host c.host l.id t.steps x.served.read (find b.host.slots l.id) refl x.fits.opened t.chain x.over)
@@ -364,7 +364,7 @@ opened_earlier slice moved b c t l new f =
     let same : t.admissions ++ (t.inputs ++ rest) ≡ f.earlier ++ (last ∷ f.later) = sym (append_assoc t.admissions t.inputs rest) ∙ (sym t.steps_are ∙ f.steps_are) in
     opened_before l.id t.admissions (t.inputs ++ rest) f.earlier f.later last same new.unclosed (is_same_id-refl l.id) new.opened
 
-new_cause : (slice : ℕ) (moved : Bool) (a b c : Scene) (t : IsTurn slice moved b c) (l : Link) (k : Carried t.marks c.bound b.report b.host t.steps c.report c.host l) → Lives a b → Joins b.bound c.bound t.accepted b.host.slots.next c.host.slots.next t.admissions l → k.lost ≡ [] → Cause t.marks b.report b.host t.steps c.report c.host l
+new_cause : (slice : ℕ) (moved : Bool) (a b c : Scene) (t : IsTurn slice moved b c) (l : Link) (k : Transferred t.marks c.bound b.report b.host t.steps c.report c.host l) → Lives a b → Joins b.bound c.bound t.accepted b.host.slots.next c.host.slots.next t.admissions l → k.lost ≡ [] → Cause t.marks b.report b.host t.steps c.report c.host l
     → HasEnded (new_duty a.host.setup) a c l.number (own l.id t.steps) k.lost (taken l.id t.steps)
 new_cause slice moved a b c t l k lives new g (inl failed) = inl (rises_raised _ _ _ (lives.all l.number).failed failed)
 new_cause slice moved a b c t l k lives new g (inr (inl starved)) = absurd (k.fed starved g)
@@ -376,7 +376,7 @@ new_cause slice moved a b c t l k lives new g (inr (inr f)) =
     let end : Ending (replies_under a.host.setup) (is_over_after_under a.host.setup) l.id [] [] t.steps f.has_ended = ending (replies_under a.host.setup) (is_over_after_under a.host.setup) t.marks b.host c.host t.steps l [] [] f there.session there.is left over in
     inr (inr (record { none_lost = g; all = end.all; why = ending_why (new_duty a.host.setup) slice moved a b c t l.number f.has_ended (own l.id t.steps) (taken l.id t.steps) lives f.marked end.why }))
 
-new_ends : (slice : ℕ) (moved : Bool) (a b c : Scene) (t : IsTurn slice moved b c) (l : Link) (k : Carried t.marks c.bound b.report b.host t.steps c.report c.host l) → Lives a b → Joins b.bound c.bound t.accepted b.host.slots.next c.host.slots.next t.admissions l → k.lost ≡ [] → find c.host.slots l.id ≡ None → IsSpared b.report t.steps c.report l ⊎ IsShutDown t.marks c.bound b.report b.host t.steps c.report c.host l
+new_ends : (slice : ℕ) (moved : Bool) (a b c : Scene) (t : IsTurn slice moved b c) (l : Link) (k : Transferred t.marks c.bound b.report b.host t.steps c.report c.host l) → Lives a b → Joins b.bound c.bound t.accepted b.host.slots.next c.host.slots.next t.admissions l → k.lost ≡ [] → find c.host.slots l.id ≡ None → Survives b.report t.steps c.report l ⊎ IsShutDown t.marks c.bound b.report b.host t.steps c.report c.host l
     → HasEnded (new_duty a.host.setup) a c l.number (own l.id t.steps) k.lost (taken l.id t.steps)
 new_ends slice moved a b c t l k lives new g none (inl spared) =
     absurd (not_none (find c.host.slots l.id) (opened_stays b.host c.host l.id t.steps t.chain spared.closed (opened_all slice moved b c t l new)) none)
@@ -384,7 +384,7 @@ new_ends slice moved a b c t l k lives new g none (inr d) = new_cause slice move
 
 new_answered : (slice : ℕ) (moved : Bool) (a b c : Scene) (t : IsTurn slice moved b c) (l : Link) → Lives a b → IsAmong t.met l → Joins b.bound c.bound t.accepted b.host.slots.next c.host.slots.next t.admissions l → KeepsConnection a.report b.report l.number → IsAnswered (new_duty a.host.setup) a c l
 new_answered slice moved a b c t l lives among new kept_ =
-    let k : Carried t.marks c.bound b.report b.host t.steps c.report c.host l = t.carried l among in
+    let k : Transferred t.marks c.bound b.report b.host t.steps c.report c.host l = t.carried l among in
     answered (new_duty a.host.setup) a c l
     (record {
       read = own l.id t.steps;

@@ -7,16 +7,16 @@ use Rattle.host_core.specs.Steps.{HostState}
 use Rattle.host_core.specs.ById.{wants_input_of, queued_of}
 use Rattle.host_core.specs.Events.{Event, Outcome, Opened, Refused, Open, Feed, Work, Take, Close}
 use Rattle.host_core.specs.Made.{Step}
-use Rattle.wires.specs.Report.{Report}
+use Rattle.transport.specs.Report.{Report}
 use Rattle.host_core.specs.Runs.{IsRun}
-use Rattle.wires.specs.declared.wire.Wire.{Ghosts}
-use Rattle.wires.specs.declared.wire.WireFault.{WireFault}
+use Rattle.transport.specs.declared.wire.Wire.{Ghosts}
+use Rattle.transport.specs.declared.wire.WireFault.{WireFault}
 use Rattle.socket_loop.specs.declared.connection.Link.{Link}
 use Rattle.socket_loop.specs.declared.connection.Connection.{Connection}
 use Rattle.socket_loop.specs.declared.turn.Turn.{Turn}
 use Rattle.socket_loop.specs.declared.turn.TheConstants.{ACCEPTS}
 use Rattle.usi_session.specs.declared.limits.TheConstants.{CHUNK_MAX}
-use Rattle.wires.specs.Asked.{Call, Accept, Read, Write, Shut, Asks, IsCalled}
+use Rattle.transport.specs.Asked.{Call, Accept, Read, Write, Shut, Asks, IsCalled}
 use Rattle.socket_loop.specs.Links.{links_of, unshut_of, IsRising}
 use Rattle.socket_loop.specs.Scenes.{Scene}
 use Rattle.socket_loop.specs.declared.tally.Tally.{Tally}

@@ -10,9 +10,9 @@ use Rattle.host_core.specs.declared.event.HostFault.{HostFault}
 use Rattle.host_core.specs.ById.{queued_of, pending_of}
 use Rattle.host_core.specs.Headline.{IsPrefixOf, IsSettled, OverFrom, is_over_due}
 use Rattle.socket_loop.specs.declared.connection.Link.{Link}
-use Rattle.wires.specs.Report.{KeepsConnection, IsRaised}
-use Rattle.socket_loop.specs.Links.{links_of, reads_ended, was_shut, IsAmong, IsApart, IsMarked}
-use Rattle.wires.specs.Moves.{AllMove, IsEmptied}
+use Rattle.transport.specs.Report.{KeepsConnection, IsRaised}
+use Rattle.socket_loop.specs.Links.{links_of, reads_ended, was_shut, IsAmong, IsNotAmong, IsMarked}
+use Rattle.transport.specs.Moves.{AllMove, IsEmptied}
 use Rattle.socket_loop.specs.Turns.{FitsOne, Served, rejection_text}
 use Rattle.socket_loop.specs.Scenes.{Scene}
 
@@ -88,7 +88,7 @@ IsServed before after link =
 -- it was not held and is not, and all that is reported of it stays
 pub record IsUntouched (before after : Scene) (number : ℕ) : Type 0 where
   pub kept : KeepsConnection before.report after.report number
-  pub unheld : IsApart (links_of after.held) number
+  pub unheld : IsNotAmong (links_of after.held) number
 
 -- it was accepted since, and rejected, as its `Open` was refused: it was read nothing from, written a prefix of `info string host full` where the host was full and else nothing, and shut
 pub record WasRejected (before after : Scene) (number : ℕ) : Type 0 where
@@ -100,7 +100,7 @@ pub record WasRejected (before after : Scene) (number : ℕ) : Type 0 where
   pub prefix : IsPrefixOf bytes (rejection_text fault)
   pub appended : Appends (before.report.written number) (after.report.written number) bytes
   pub shut : IsRaised (before.report.is_shut number) (after.report.is_shut number)
-  pub unheld : IsApart (links_of after.held) number
+  pub unheld : IsNotAmong (links_of after.held) number
 
 -- the connection of a number was rejected, or it was served, with one session
 abbrev pub IsAccountedFor : Scene → Scene → ℕ → Type 0

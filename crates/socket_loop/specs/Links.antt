@@ -10,24 +10,24 @@ pub record Ties (a b : Link) : Type 0 where
   pub by_id : a.id ≡ b.id → a.number ≡ b.number
 
 -- none of these has the number with another id, or the id with another number
-abbrev pub IsTied : List Link → Link → Type 0
-IsTied [] link = ⊤
-IsTied (first ∷ rest) link = Ties first link × IsTied rest link
+abbrev pub IsOneToOne : List Link → Link → Type 0
+IsOneToOne [] link = ⊤
+IsOneToOne (first ∷ rest) link = Ties first link × IsOneToOne rest link
 
 -- none of these has the number
-abbrev pub IsApart : List Link → ℕ → Type 0
-IsApart [] number = ⊤
-IsApart (first ∷ rest) number = (first.number ≢ number) × IsApart rest number
+abbrev pub IsNotAmong : List Link → ℕ → Type 0
+IsNotAmong [] number = ⊤
+IsNotAmong (first ∷ rest) number = (first.number ≢ number) × IsNotAmong rest number
 
 -- none of these has the id
-abbrev pub IsStrange : List Link → SessionId → Type 0
-IsStrange [] id = ⊤
-IsStrange (first ∷ rest) id = (first.id ≢ id) × IsStrange rest id
+abbrev pub IsUnknownId : List Link → SessionId → Type 0
+IsUnknownId [] id = ⊤
+IsUnknownId (first ∷ rest) id = (first.id ≢ id) × IsUnknownId rest id
 
 -- each of these has an id of its own
 abbrev pub AreOnce : List Link → Type 0
 AreOnce [] = ⊤
-AreOnce (first ∷ rest) = IsStrange rest first.id × AreOnce rest
+AreOnce (first ∷ rest) = IsUnknownId rest first.id × AreOnce rest
 
 -- the link is one of these
 abbrev pub IsAmong : List Link → Link → Type 0

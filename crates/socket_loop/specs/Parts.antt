@@ -12,9 +12,9 @@ use Rattle.host_core.specs.Made.{Step, own, taken, is_same_id}
 use Rattle.host_core.specs.Runs.{IsStep, IsRun}
 use Rattle.socket_loop.specs.declared.connection.Link.{Link}
 use Rattle.socket_loop.specs.declared.connection.Connection.{Connection}
-use Rattle.wires.specs.Report.{Report, KeepsConnection, Stays, IsRaised}
-use Rattle.wires.specs.Moves.{AllMove, IsEmptied}
-use Rattle.socket_loop.specs.Links.{IsTied, IsApart, IsStrange, IsHeld, IsMarked, IsRising, links_of, reads_ended, was_shut}
+use Rattle.transport.specs.Report.{Report, KeepsConnection, Stays, IsRaised}
+use Rattle.transport.specs.Moves.{AllMove, IsEmptied}
+use Rattle.socket_loop.specs.Links.{IsOneToOne, IsNotAmong, IsUnknownId, IsHeld, IsMarked, IsRising, links_of, reads_ended, was_shut}
 use Rattle.socket_loop.specs.Scenes.{Scene}
 
 -- ---- steps of a host
@@ -82,26 +82,26 @@ abbrev pub closes : SessionId → List Step → Bool
 closes id [] = false
 closes id (step ∷ rest) = closes_by id step.event || closes id rest
 
-abbrev pub starves_by : SessionId → Event → Outcome → Bool
-starves_by id (Feed other chunk) (Refused OutOfMemory) = is_same_id other id
-starves_by id _ _ = false
+abbrev pub feed_out_of_memory_by : SessionId → Event → Outcome → Bool
+feed_out_of_memory_by id (Feed other chunk) (Refused OutOfMemory) = is_same_id other id
+feed_out_of_memory_by id _ _ = false
 
 -- a `Feed` of a session is refused for memory in the steps
-abbrev pub starves : SessionId → List Step → Bool
-starves id [] = false
-starves id (step ∷ rest) = starves_by id step.event step.outcome || starves id rest
+abbrev pub feed_out_of_memory : SessionId → List Step → Bool
+feed_out_of_memory id [] = false
+feed_out_of_memory id (step ∷ rest) = feed_out_of_memory_by id step.event step.outcome || feed_out_of_memory id rest
 
-abbrev pub refuses_by : SessionId → Event → Outcome → Bool
-refuses_by id (Work other budget) (Refused fault) = is_same_id other id
-refuses_by id _ _ = false
+abbrev pub work_failed_by : SessionId → Event → Outcome → Bool
+work_failed_by id (Work other budget) (Refused fault) = is_same_id other id
+work_failed_by id _ _ = false
 
 -- a `Work` of a session is refused in the steps
-abbrev pub refuses : SessionId → List Step → Bool
-refuses id [] = false
-refuses id (step ∷ rest) = refuses_by id step.event step.outcome || refuses id rest
+abbrev pub work_failed : SessionId → List Step → Bool
+work_failed id [] = false
+work_failed id (step ∷ rest) = work_failed_by id step.event step.outcome || work_failed id rest
 
 -- nothing is stored for a session, nothing is taken from it, and it is not closed
-pub record LeavesAlone (id : SessionId) (steps : List Step) : Type 0 where
+pub record LeavesUntouched (id : SessionId) (steps : List Step) : Type 0 where
   pub stored : own id steps ≡ []
   pub passed : taken id steps ≡ []
   pub kept : closes id steps ≡ false
@@ -139,14 +139,14 @@ abbrev pub Cause : List Connection → Report → HostState → List Step → Re
     → Type 0
 Cause marks old before steps new after link =
     IsRaised (old.has_failed link.number) (new.has_failed link.number)
-    ⊎ ((starves link.id steps ≡ true) ⊎ Finished marks before steps after link)
+    ⊎ ((feed_out_of_memory link.id steps ≡ true) ⊎ Finished marks before steps after link)
 
 -- a connection is not shut, and its session is not closed; no call of it failed, and no `Feed` of its session was refused for memory
-pub record IsSpared (old : Report) (steps : List Step) (new : Report) (link : Link) : Type 0 where
+pub record Survives (old : Report) (steps : List Step) (new : Report) (link : Link) : Type 0 where
   pub shut : Stays (old.is_shut link.number) (new.is_shut link.number)
   pub closed : closes link.id steps ≡ false
   pub failed : Stays (old.has_failed link.number) (new.has_failed link.number)
-  pub fed : starves link.id steps ≡ false
+  pub fed : feed_out_of_memory link.id steps ≡ false
 
 -- a connection is shut and its session is closed, for a cause of its own
 pub record IsShutDown (marks : List Connection) (bound : ℕ) (old : Report) (before : HostState)
@@ -156,15 +156,15 @@ pub record IsShutDown (marks : List Connection) (bound : ℕ) (old : Report) (be
   pub cause : Cause marks old before steps new after link
 
 -- a connection gave the bytes that were stored for its session and took those that were taken from it; it lost bytes exactly where a `Feed` was refused for memory, and its session is gone then; it is shut only for a cause of its own
-pub record Carried (marks : List Connection) (bound : ℕ) (old : Report) (before : HostState)
+pub record Transferred (marks : List Connection) (bound : ℕ) (old : Report) (before : HostState)
     (steps : List Step) (new : Report) (after : HostState) (link : Link) : Type 0 where
   pub lost : List ℕ
   pub consumed : Consumes (old.unread link.number) (new.unread link.number)
       (own link.id steps ++ lost)
   pub appended : Appends (old.written link.number) (new.written link.number) (taken link.id steps)
-  pub whole : (lost ≡ []) ⊎ (IsGone after link.id × (starves link.id steps ≡ true))
-  pub fed : starves link.id steps ≡ true → lost ≢ []
-  pub ends : IsSpared old steps new link ⊎ IsShutDown marks bound old before steps new after link
+  pub whole : (lost ≡ []) ⊎ (IsGone after link.id × (feed_out_of_memory link.id steps ≡ true))
+  pub fed : feed_out_of_memory link.id steps ≡ true → lost ≢ []
+  pub ends : Survives old steps new link ⊎ IsShutDown marks bound old before steps new after link
 
 -- ---- many connections
 
@@ -172,10 +172,10 @@ pub record Carried (marks : List Connection) (bound : ℕ) (old : Report) (befor
 pub record Carries (marks : List Connection) (bound : ℕ) (links : List Link) (old : Report)
     (before : HostState) (steps : List Step) (new : Report) (after : HostState) : Type 0 where
   pub chain : IsRun before steps after
-  pub carried : (link : Link) → IsTied links link
-      → Carried marks bound old before steps new after link
-  pub others : (number : ℕ) → IsApart links number → KeepsConnection old new number
-  pub foreign : (id : SessionId) → IsStrange links id → LeavesAlone id steps
+  pub carried : (link : Link) → IsOneToOne links link
+      → Transferred marks bound old before steps new after link
+  pub others : (number : ℕ) → IsNotAmong links number → KeepsConnection old new number
+  pub foreign : (id : SessionId) → IsUnknownId links id → LeavesUntouched id steps
   pub all : AllMove old new
 
 -- some steps of this kind, with these connections
@@ -187,8 +187,8 @@ pub record CarriesBy (kind : Event → Type 0) (marks : List Connection) (bound 
   pub carries : Carries marks bound links old before steps new after
 
 -- the same of the connections that are held
-abbrev pub CarriesHeld : (Event → Type 0) → List Connection → Scene → Scene → Type 0
-CarriesHeld kind marks before after =
+abbrev pub TransfersHeld : (Event → Type 0) → List Connection → Scene → Scene → Type 0
+TransfersHeld kind marks before after =
     CarriesBy kind marks before.bound (links_of before.held) before.report before.host
     after.report after.host
 

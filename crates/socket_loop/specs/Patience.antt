@@ -6,7 +6,7 @@ use Rattle.usi_session.specs.Due.{SessionView, is_pending, load}
 use Rattle.host_core.specs.ById.{pending_of}
 use Rattle.socket_loop.specs.declared.connection.Link.{Link}
 use Rattle.socket_loop.specs.Links.{links_of, IsAmong}
-use Rattle.socket_loop.specs.Parts.{refuses}
+use Rattle.socket_loop.specs.Parts.{work_failed}
 use Rattle.socket_loop.specs.Scenes.{Scene}
 use Rattle.socket_loop.specs.Serving.{AreTurns, IsTurnAndWait}
 
@@ -15,7 +15,7 @@ abbrev pub IsThrough : (slice : ℕ) (before after : Scene) → IsTurnAndWait sl
     → SessionId → Type 0
 IsThrough slice before after turn id =
     (pending_of (find after.host.slots id) ≡ false)
-    ⊎ (refuses id turn.turn.turned.asked.turn.steps ≡ true)
+    ⊎ (work_failed id turn.turn.turned.asked.turn.steps ≡ true)
 
 -- the scene before the last so many of the turns
 abbrev pub before_last : (slice n more : ℕ) (before after : Scene) → AreTurns slice n before after

@@ -1,8 +1,8 @@
 -- All that is promised of a serving (own choice).
 use Rattle.std.specs.Prelude.{◌≤◌, ◌⊎◌, ℕ, Result, IfOk, IfErr}
 use Rattle.host_core.specs.Steps.{HostState}
-use Rattle.wires.specs.declared.wire.Wire.{Ghosts}
-use Rattle.wires.specs.declared.wire.WireFault.{WireFault}
+use Rattle.transport.specs.declared.wire.Wire.{Ghosts}
+use Rattle.transport.specs.declared.wire.WireFault.{WireFault}
 use Rattle.socket_loop.specs.Links.{links_of, AreOnce}
 use Rattle.socket_loop.specs.Scenes.{Scene}
 use Rattle.socket_loop.specs.Turns.{LoopState, Over}

@@ -2,9 +2,9 @@
 use Rattle.std.specs.Prelude.{ℕ, List, Option}
 use Rattle.host_core.specs.Steps.{HostState}
 use Rattle.socket_loop.specs.declared.connection.Connection.{Connection}
-use Rattle.wires.specs.Asked.{Call}
-use Rattle.wires.specs.Report.{Report}
-use Rattle.wires.specs.declared.wire.Wire.{Ghosts}
+use Rattle.transport.specs.Asked.{Call}
+use Rattle.transport.specs.Report.{Report}
+use Rattle.transport.specs.declared.wire.Wire.{Ghosts}
 
 -- some connections, what their wire gave, reports, was asked for and counts, and the host of their sessions
 pub record Scene : Type 0 where

@@ -1,9 +1,9 @@
 -- A loop that takes turns and waits after each of them (own choice).
 use Rattle.std.specs.Prelude.{◌≡◌, ◌≤◌, ◌<◌, ◌⊎◌, ℕ, zero, suc, List, [], ◌∷◌, Bool, false, Result, Ok, Err, not}
-use Rattle.wires.specs.declared.wire.WireFault.{WireFault}
-use Rattle.wires.specs.Asked.{Wait, Asks}
-use Rattle.wires.specs.Report.{HasCause, KeepsAll}
-use Rattle.wires.specs.Moves.{StaysKnown}
+use Rattle.transport.specs.declared.wire.WireFault.{WireFault}
+use Rattle.transport.specs.Asked.{Wait, Asks}
+use Rattle.transport.specs.Report.{HasCause, KeepsAll}
+use Rattle.transport.specs.Moves.{StaysKnown}
 use Rattle.socket_loop.specs.Links.{links_of, AreOnce, IsRising}
 use Rattle.socket_loop.specs.Scenes.{Scene}
 use Rattle.socket_loop.specs.declared.tally.Tally.{Tally}

@@ -5,7 +5,7 @@ use Rattle.socket_loop.specs.Links.{links_of}
 use Rattle.socket_loop.specs.Turns.{LoopState}
 use Rattle.socket_loop.specs.Tallies.{pending_count}
 use Rattle.socket_loop.specs.declared.tally.Tally.{Tally}
-use Rattle.stream_wire.specs.declared.wire.StreamWire.{StreamWire}
+use Rattle.stream_transport.specs.declared.wire.StreamWire.{StreamWire}
 use Rattle.socket_loop.specs.declared.status.Limits.{Limits}
 use Rattle.socket_loop.specs.declared.status.Totals.{Totals}
 use Rattle.socket_loop.specs.declared.status.Status.{Status}

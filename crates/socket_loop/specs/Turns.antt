@@ -16,12 +16,12 @@ use Rattle.host_core.specs.Rounds.{IsRound, works, pending_ids}
 use Rattle.host_core.specs.Headline.{EndsFrom, IsPrefixOf}
 use Rattle.socket_loop.specs.declared.connection.Link.{Link}
 use Rattle.socket_loop.specs.declared.connection.Connection.{Connection}
-use Rattle.wires.specs.Report.{Report, KeepsConnection, KeepsOthers, KeepsAll, IsRaised, OnlyRises}
-use Rattle.socket_loop.specs.Links.{AreOnce, IsTied, IsAmong, IsApart, IsStrange, IsMarked, links_of, reads_ended, unshut_of, was_shut}
-use Rattle.socket_loop.specs.Parts.{AreAll, IsAdmission, IsInput, IsOutput, IsEnd, Carried, IsGone, LeavesAlone, closes, is_finished}
-use Rattle.wires.specs.Moves.{AllMove, IsEmptied, Transfers}
+use Rattle.transport.specs.Report.{Report, KeepsConnection, KeepsOthers, KeepsAll, IsRaised, OnlyRises}
+use Rattle.socket_loop.specs.Links.{AreOnce, IsOneToOne, IsAmong, IsNotAmong, IsUnknownId, IsMarked, links_of, reads_ended, unshut_of, was_shut}
+use Rattle.socket_loop.specs.Parts.{AreAll, IsAdmission, IsInput, IsOutput, IsEnd, Transferred, IsGone, LeavesUntouched, closes, is_finished}
+use Rattle.transport.specs.Moves.{AllMove, IsEmptied, Transfers}
 use Rattle.socket_loop.specs.Scenes.{Scene, scene}
-use Rattle.wires.specs.declared.wire.Wire.{Ghosts}
+use Rattle.transport.specs.declared.wire.Wire.{Ghosts}
 
 -- the budget of each round, and the connections
 pub record LoopState : Type 0 where
@@ -39,7 +39,7 @@ pub record Over {W : Type 0} (wires : Ghosts W) (Relates : Scene → Scene → T
 
 -- a number that was given by the wire, and an id that was opened by the host; each number has one id
 pub record FitsOne (links : List Link) (bound : ℕ) (host : HostState) (link : Link) : Type 0 where
-  pub tied : IsTied links link
+  pub tied : IsOneToOne links link
   pub number : link.number < bound
   pub opened : link.id.generation < host.slots.next
 
@@ -89,7 +89,7 @@ rejection_text Full = host_full
 rejection_text _ = []
 
 -- a connection was written a prefix of a text, and shut
-pub record IsAway (bound : ℕ) (text : List ℕ) (old new : Report) (number : ℕ) : Type 0 where
+pub record IsShutAfterPrefix (bound : ℕ) (text : List ℕ) (old new : Report) (number : ℕ) : Type 0 where
   pub unread : Keeps (old.unread number) (new.unread number)
   pub bytes : List ℕ
   pub prefix : IsPrefixOf bytes text
@@ -102,7 +102,7 @@ pub record IsAway (bound : ℕ) (text : List ℕ) (old new : Report) (number : �
 -- a connection of a wire of the code was written a prefix of `info string host full`, and shut
 abbrev pub FindsHostFull : {W : Type 0} → Ghosts W → (old new : W) → ℕ → Type 0
 FindsHostFull wires old new number =
-    IsAway (wires.bound old) host_full (wires.report old) (wires.report new) number
+    IsShutAfterPrefix (wires.bound old) host_full (wires.report old) (wires.report new) number
 
 -- a new connection was rejected, since its `Open` was refused: it was written a prefix of what it is due, and shut
 pub record IsRejected (from to : ℕ) (accepted : List Accepted) (old new : Report) (number : ℕ)
@@ -151,7 +151,7 @@ pub record Accepts (links : List Link) (from : ℕ) (old : Report) (before : Hos
   pub all : AllMove old new
   pub accounted : Fits links from before → (new_one : Accepted) → IsOneOf accepted new_one
       → HasSession met new_one
-      ⊎ (IsRejected from to accepted old new new_one.number × IsApart met new_one.number)
+      ⊎ (IsRejected from to accepted old new new_one.number × IsNotAmong met new_one.number)
   pub stay : (link : Link) → IsAmong links link → IsAmong met link
   pub are : (link : Link) → IsAmong met link
       → IsAmong links link ⊎ IsNew from to accepted before.slots.next old new steps link
@@ -254,7 +254,7 @@ pub record IsTurn (slice : ℕ) (moved : Bool) (before after : Scene) : Type 0 w
       → IsMarked reads_ended marks number
   pub unshut : (number : ℕ) → IsMarked was_shut after.held number → ⊥
   pub rises : before.bound ≤ after.bound
-  pub tied : (link : Link) → IsAmong met link → IsTied met link
+  pub tied : (link : Link) → IsAmong met link → IsOneToOne met link
   pub stay : (link : Link) → IsAmong (links_of before.held) link → IsAmong met link
   pub are : (link : Link) → IsAmong met link
       → IsAmong (links_of before.held) link
@@ -270,12 +270,12 @@ pub record IsTurn (slice : ℕ) (moved : Bool) (before after : Scene) : Type 0 w
       ⊎ (IsMarked was_shut before.held link.number
       ⊎ IsRemoved after.bound before.report after.report after.host link)
   pub carried : (link : Link) → IsAmong met link
-      → Carried marks after.bound before.report before.host steps after.report after.host link
-  pub others : (number : ℕ) → IsApart met number
+      → Transferred marks after.bound before.report before.host steps after.report after.host link
+  pub others : (number : ℕ) → IsNotAmong met number
       → KeepsConnection before.report after.report number
       ⊎ IsRejected before.bound after.bound accepted before.report after.report number
-  pub foreign : (id : SessionId) → id.generation < before.host.slots.next → IsStrange met id
-      → LeavesAlone id steps
+  pub foreign : (id : SessionId) → id.generation < before.host.slots.next → IsUnknownId met id
+      → LeavesUntouched id steps
   pub all : AllMove before.report after.report
 
 -- the connection was shut, or is not finished with

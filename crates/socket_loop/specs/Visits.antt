@@ -7,13 +7,13 @@ use Rattle.host_core.specs.Steps.{HostState}
 use Rattle.socket_loop.specs.declared.connection.Link.{Link}
 use Rattle.socket_loop.specs.declared.connection.Connection.{Connection}
 use Rattle.socket_loop.specs.declared.tally.Visited.{Visited}
-use Rattle.wires.specs.Asked.{Call, Asks}
-use Rattle.wires.specs.Moves.{GaveBytes, IsEmptied, Transfers}
-use Rattle.wires.specs.Report.{Report, IsRaised, Stays}
-use Rattle.wires.specs.declared.wire.Wire.{Ghosts}
+use Rattle.transport.specs.Asked.{Call, Asks}
+use Rattle.transport.specs.Moves.{GaveBytes, IsEmptied, Transfers}
+use Rattle.transport.specs.Report.{Report, IsRaised, Stays}
+use Rattle.transport.specs.declared.wire.Wire.{Ghosts}
 use Rattle.socket_loop.specs.Links.{links_of, reads_ended, AreOnce, IsMarked}
 use Rattle.socket_loop.specs.Scenes.{Scene, scene}
-use Rattle.socket_loop.specs.Parts.{IsEnd, IsInput, IsOutput, KeepsAllMarks, CarriesHeld, CarriesBy}
+use Rattle.socket_loop.specs.Parts.{IsEnd, IsInput, IsOutput, KeepsAllMarks, TransfersHeld, CarriesBy}
 use Rattle.socket_loop.specs.Turns.{AllKeepMade, AreLeft, EndsOrShuts, IsQuiet, KeepsMade, LoopState, Over, Stirs}
 use Rattle.socket_loop.specs.Calls.{AsksTo, Visits, ends_of, reads_of, shuts_of, writes_of}
 
@@ -70,7 +70,7 @@ EndsEmptied old new before after =
 pub record CarriesOne (due : HostState → Connection → Connection → List Call) (kind : Event → Type 0)
     (moved : Bool) (old new : Connection) (before after : Scene) : Type 0 where
   pub visited : VisitsOne due kind moved old new before after
-  pub carries : (marks : List Connection) → CarriesHeld kind marks before after
+  pub carries : (marks : List Connection) → TransfersHeld kind marks before after
 
 abbrev pub ReadsOne : Bool → Connection → Connection → Scene → Scene → Type 0
 ReadsOne moved old new before after = CarriesOne reads_of IsInput moved old new before after
@@ -83,7 +83,7 @@ pub record EndsOne (moved : Bool) (old new : Connection) (before after : Scene) 
   pub visited : VisitsOne ends_of IsEnd moved old new before after
   pub carries : (marks : List Connection)
       → (old.has_ended ≡ true → IsMarked reads_ended marks old.link.number)
-      → CarriesHeld IsEnd marks before after
+      → TransfersHeld IsEnd marks before after
 
 -- ---- the same of a connection, a host and a wire of the code
 
@@ -136,7 +136,7 @@ VisitsEach due kind moved before after = VisitsTo (length before.held) due kind 
 pub record CarriesEach (due : HostState → Connection → Connection → List Call)
     (kind : Event → Type 0) (moved : Bool) (before after : Scene) : Type 0 where
   pub visited : VisitsEach due kind moved before after
-  pub carries : (marks : List Connection) → CarriesHeld kind marks before after
+  pub carries : (marks : List Connection) → TransfersHeld kind marks before after
 
 abbrev pub ReadsEach : Bool → Scene → Scene → Type 0
 ReadsEach moved before after = CarriesEach reads_of IsInput moved before after
@@ -147,7 +147,7 @@ WritesEach moved before after = CarriesEach writes_of IsOutput moved before afte
 -- each was shut that was finished with, and no other; no reads end
 pub record EndsEach (moved : Bool) (before after : Scene) : Type 0 where
   pub visited : VisitsEach ends_of IsEnd moved before after
-  pub carries : CarriesHeld IsEnd before.held before after
+  pub carries : TransfersHeld IsEnd before.held before after
   pub ended : (number : ℕ) → IsMarked reads_ended after.held number
       → IsMarked reads_ended before.held number
   pub left : AreOnce (links_of before.held) → AreLeft after.host after.held

@@ -14,7 +14,7 @@ mod visit;
 
 pub use connection::{Connection, Link};
 pub use laws::{answers_as_alone, isolation};
-pub use monitor::{Monitor, Unseen};
+pub use monitor::{Monitor, NoMonitor};
 pub use serving::serve;
 pub use status::{Limits, Status, Totals, status_of};
 pub use status_line::{LINE_MAX, write_line};

@@ -8,22 +8,22 @@ use std::hash::BuildHasher;
 /// Is shown each turn of a host, and what it left, before the wait that follows.
 pub trait Monitor<W, S: BuildHasher, A: Allocator + Copy> {
     /// A turn was taken, of this host, these connections and this wire.
-    fn see(&mut self, turn: &Turn, host: &Host<S, A>, connections: &Loop<A>, wire: &W);
+    fn after_turn(&mut self, turn: &Turn, host: &Host<S, A>, connections: &Loop<A>, wire: &W);
 }
 
 /// A monitor that looks at nothing.
 #[derive(Clone, Copy, Debug, PartialEq, Eq)]
-pub struct Unseen;
+pub struct NoMonitor;
 
-impl<W, S: BuildHasher, A: Allocator + Copy> Monitor<W, S, A> for Unseen {
-    fn see(&mut self, _turn: &Turn, _host: &Host<S, A>, _connections: &Loop<A>, _wire: &W) {}
+impl<W, S: BuildHasher, A: Allocator + Copy> Monitor<W, S, A> for NoMonitor {
+    fn after_turn(&mut self, _turn: &Turn, _host: &Host<S, A>, _connections: &Loop<A>, _wire: &W) {}
 }
 
 /// A monitor, where there is one.
 impl<W, S: BuildHasher, A: Allocator + Copy, M: Monitor<W, S, A>> Monitor<W, S, A> for Option<M> {
-    fn see(&mut self, turn: &Turn, host: &Host<S, A>, connections: &Loop<A>, wire: &W) {
+    fn after_turn(&mut self, turn: &Turn, host: &Host<S, A>, connections: &Loop<A>, wire: &W) {
         if let Some(monitor) = self {
-            monitor.see(turn, host, connections, wire);
+            monitor.after_turn(turn, host, connections, wire);
         }
     }
 }

@@ -9,7 +9,7 @@ use crate::turn::Loop;
 use host_core::Host;
 use std::alloc::Allocator;
 use std::hash::BuildHasher;
-use wires::{Wire, WireFault};
+use transport::{Wire, WireFault};
 
 /// Takes so many turns, shows each to the monitor, and waits after each of them, the last one too:
 /// until something may be ready where the turn did not move, and not at all where it did. A wait that
@@ -28,7 +28,7 @@ pub fn serve<W: Wire, S: BuildHasher, A: Allocator + Copy, M: Monitor<W, S, A>>(
 {
     for _ in 0..turns {
         let turn = links.turn(host, wire);
-        monitor.see(&turn, host, links, wire);
+        monitor.after_turn(&turn, host, links, wire);
         wire.wait(!turn.moved)?;
     }
     Ok(())

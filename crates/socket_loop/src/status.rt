@@ -8,9 +8,9 @@ use crate::turn::Loop;
 use host_core::Host;
 use std::alloc::Allocator;
 use std::hash::BuildHasher;
-use stream_wire::MioWire;
+use stream_transport::MioWire;
+use transport::Wire;
 use usi_texts::Setup;
-use wires::Wire;
 
 /// What a host was started with.
 #[derive(Clone, Copy, Debug, PartialEq, Eq)]

@@ -2,7 +2,7 @@
 
 ghost use Rattle.std.specs.Prelude.{◌≡◌, [], Err, IfOk};
 ghost use Rattle.socket_loop.specs.Status.{counted, no_totals};
-ghost use Rattle.wires.specs.declared.wire.WireFault.TheVariants.{Device};
+ghost use Rattle.transport.specs.declared.wire.WireFault.TheVariants.{Device};
 
 use crate::monitor::Monitor;
 use crate::status::{Limits, Totals, status_of};
@@ -16,8 +16,8 @@ use std::fs::Files;
 use std::hash::BuildHasher;
 use std::io::Write;
 use std::net::Net;
-use stream_wire::{MioWire, watch_again};
-use wires::WireFault;
+use stream_transport::{MioWire, watch_again};
+use transport::WireFault;
 
 /// How many are answered after a turn.
 const ANSWERS: usize = 16;
@@ -64,7 +64,7 @@ impl<A: Allocator + Copy> StatusSocket<A> {
     ) -> Result<StatusSocket<A>, WireFault>
         ensures unnamed { path.now ≡ [] → result ≡ Err Device }
         ensures limits { IfOk result (λ socket. socket.limits ≡ limits) }
-        ensures none { IfOk result (λ socket. socket.totals ≡ no_totals) }
+        ensures if_none { IfOk result (λ socket. socket.totals ≡ no_totals) }
     {
         if path.is_empty() {
             return Err(WireFault::Device);
@@ -98,7 +98,13 @@ impl<A: Allocator + Copy> StatusSocket<A> {
 }
 
 impl<S: BuildHasher, A: Allocator + Copy> Monitor<MioWire<A>, S, A> for StatusSocket<A> {
-    fn see(&mut self, turn: &Turn, host: &Host<S, A>, connections: &Loop<A>, wire: &MioWire<A>)
+    fn after_turn(
+        &mut self,
+        turn: &Turn,
+        host: &Host<S, A>,
+        connections: &Loop<A>,
+        wire: &MioWire<A>,
+    )
         ensures limits { self.new.limits ≡ self.old.limits }
         ensures totals { self.new.totals ≡ counted self.old.totals turn.now.tally }
     {

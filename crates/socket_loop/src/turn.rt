@@ -5,9 +5,9 @@ ghost use Rattle.socket_loop.specs.Links.{links_of, new_connection, place_for, u
 ghost use Rattle.socket_loop.specs.Turns.{any_pending, host_full, FindsHostFull, NoneFinished, NonePending, Fits, Over};
 ghost use Rattle.socket_loop.specs.Tallies.{pending_count, shut_count};
 ghost use Rattle.socket_loop.specs.Visits.{EndedAll, ReadAll, WroteAll};
-ghost use Rattle.wires.specs.Moves.{StaysKnown};
-ghost use Rattle.wires.specs.Asked.{Write, Shut};
-ghost use Rattle.wires.specs.Wires.{IsAsked};
+ghost use Rattle.transport.specs.Moves.{StaysKnown};
+ghost use Rattle.transport.specs.Asked.{Write, Shut};
+ghost use Rattle.transport.specs.Wires.{IsAsked};
 ghost use Rattle.socket_loop.specs.Calls.{AcceptedAll, AdmitsOne, Turned};
 ghost use Rattle.socket_loop.specs.declared.turn.TheConstants.{ACCEPTS};
 ghost use Rattle.session_slots.specs.declared.limits.TheConstants.{SESSIONS_MAX};
@@ -20,8 +20,8 @@ use session_slots::SESSIONS_MAX;
 use std::alloc::{AllocError, Allocator};
 use std::hash::BuildHasher;
 use std::marker::Model;
+use transport::Wire;
 use usi_session::CHUNK_MAX;
-use wires::Wire;
 
 /// The most connections that are accepted in a turn.
 pub const ACCEPTS: usize = 16;
@@ -69,7 +69,7 @@ fn place_of(held: &[Connection], slot: usize) -> usize
 }
 
 /// Drops the connections that were shut.
-fn drop_shut<A: Allocator>(held: &mut Vec<Connection, A>)
+fn retain_open<A: Allocator>(held: &mut Vec<Connection, A>)
     ensures left { held.new.items ≡ unshut_of held.old.items }
     ensures capacity { vec_capacity held.new ≡ vec_capacity held.old }
 {
@@ -100,7 +100,7 @@ impl<A: Allocator + Copy> Loop<A> {
     }
 
     /// Holds a new connection with its session, where there is a place.
-    fn hold(&mut self, link: Link)
+    fn add_connection(&mut self, link: Link)
         requires room { length self.old.held ≤ SESSIONS_MAX }
         ensures held { self.new.held ≡ with_connection self.old.held (new_connection link) }
         ensures slice { self.new.slice ≡ self.old.slice }
@@ -131,7 +131,7 @@ impl<A: Allocator + Copy> Loop<A> {
     {
         match host.open() {
             Ok(id) => {
-                self.hold(Link { number, id });
+                self.add_connection(Link { number, id });
                 Admission {
                     full: 0,
                     unopened: 0,
@@ -172,7 +172,7 @@ impl<A: Allocator + Copy> Loop<A> {
         };
         for _ in 0..ACCEPTS {
             if self.held.len() > SESSIONS_MAX {
-                host.validity();
+                host.reveal_invariant();
                 return arrivals;
             }
             let Ok(Some(number)) = wire.accept() else {
@@ -243,7 +243,7 @@ impl<A: Allocator + Copy> Loop<A> {
         ensures held { self.new.held ≡ unshut_of self.old.held }
         ensures slice { self.new.slice ≡ self.old.slice }
     {
-        drop_shut(&mut self.held);
+        retain_open(&mut self.held);
     }
 
     /// Whether the session of a connection is pending.

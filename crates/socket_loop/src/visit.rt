@@ -4,8 +4,8 @@ ghost use Rattle.std.specs.Prelude.{◌≡◌, ◌<◌, ◌≤◌, [], ◌∷◌
 ghost use Rattle.session_slots.specs.Slots.{find};
 ghost use Rattle.usi_session.specs.declared.limits.TheConstants.{CHUNK_MAX};
 ghost use Rattle.socket_loop.specs.Parts.{IsClosing, IsGone, WantsInput, is_finished};
-ghost use Rattle.wires.specs.Report.{Shuts};
-ghost use Rattle.wires.specs.Asked.{Shut, Asks};
+ghost use Rattle.transport.specs.Report.{Shuts};
+ghost use Rattle.transport.specs.Asked.{Shut, Asks};
 ghost use Rattle.socket_loop.specs.Calls.{is_to_read, is_to_write, is_to_shut};
 ghost use Rattle.socket_loop.specs.Turns.{IsLeft};
 ghost use Rattle.socket_loop.specs.Visits.{Ends, EndsEmptiedOver, Feeds, Reads, Writes};
@@ -14,8 +14,8 @@ use crate::connection::{Connection, Link};
 use host_core::Host;
 use std::alloc::Allocator;
 use std::hash::BuildHasher;
+use transport::{Got, Wire};
 use usi_session::CHUNK_MAX;
-use wires::{Got, Wire};
 
 /// Shuts a connection and closes its session.
 pub fn shut_down<W: Wire, S: BuildHasher, A: Allocator + Copy>(
@@ -27,7 +27,7 @@ pub fn shut_down<W: Wire, S: BuildHasher, A: Allocator + Copy>(
     ensures asked { Asks (W.asked wire.old) (W.asked wire.new) (Shut link.number ∷ []) }
     ensures closed { IsClosing host.old link.id host.new }
     ensures gone { link.id.generation < host.old.slots.next → IsGone host.new link.id }
-    ensures none { find host.new.slots link.id ≡ None }
+    ensures if_none { find host.new.slots link.id ≡ None }
     ensures bound { W.bound wire.new ≡ W.bound wire.old }
     ensures faults { W.failed wire.old ≤ W.failed wire.new }
     ensures next { host.old.slots.next ≤ host.new.slots.next }

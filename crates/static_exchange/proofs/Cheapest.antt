@@ -23,7 +23,7 @@ use Rattle.shogi_core.proofs.BitLaws.{has_bit-and, has_bit-or}
 use Rattle.shogi_core.proofs.CodesBack.{move_of-board, code_of-board}
 use Rattle.shogi_core.proofs.SeenLaws.{lined_aligned, reaches_near}
 use Rattle.shogi_moves.specs.After.{piece_moved}
-use Rattle.shogi_moves.specs.Destinations.{is_own, is_unchecked, HasMovers}
+use Rattle.shogi_moves.specs.Destinations.{is_own, leaves_king_safe, HasMovers}
 use Rattle.shogi_moves.specs.Legal.{is_legal, is_legal_code, is_pseudo_legal_board_move}
 use Rattle.shogi_moves.specs.LegalMoves.{legal_codes}
 use Rattle.shogi_moves.specs.Rising.{is_in, IsRising}
@@ -139,11 +139,11 @@ pub record IsLegalTaking (p : Shogi) (from s : ℕ) (promote : Bool) : Type 0 wh
   pub free : is_own p s ≡ false
   pub reached : reaches p.cells from s ≡ true
   pub promotion : (not promote || may_promote (piece_at p.cells from) from s) ≡ true
-  pub safe : is_unchecked p (Board from s promote) ≡ true
+  pub safe : leaves_king_safe p (Board from s promote) ≡ true
 
 pub legal_taking : (p : Shogi) (from s : ℕ) (promote : Bool) → is_legal p (Board from s promote) ≡ true → IsLegalTaking p from s promote
 legal_taking p from s promote l =
-    let all = and_parts (is_pseudo_legal_board_move p.cells p.side from s promote) (is_unchecked p (Board from s promote)) (sym (legal_board p from s promote) ∙ l) in
+    let all = and_parts (is_pseudo_legal_board_move p.cells p.side from s promote) (leaves_king_safe p (Board from s promote)) (sym (legal_board p from s promote) ∙ l) in
     let four = and_parts _ _ all.0 in
     let three = and_parts _ _ four.0 in
     let two = and_parts _ _ three.0 in

@@ -5,7 +5,7 @@ use Rattle.shogi_core.specs.Codes.{move_of}
 use Rattle.shogi_core.specs.Position.{Shogi}
 use Rattle.shogi_moves.specs.After.{after_code}
 use Rattle.shogi_eval.specs.declared.eval.Eval.TheVariants.{Exchange}
-use Rattle.shogi_eval.specs.Exchange.{best_settled, is_quiet, left_by}
+use Rattle.shogi_eval.specs.Exchange.{best_settled, is_quiet, leaf_after}
 use Rattle.shogi_eval.specs.Material.{material_of}
 use Rattle.minimax.proofs.Settling.{best_least, left_loud, left_quiet}
 use Rattle.shogi_eval.specs.Exchange.{captures_max}
@@ -17,10 +17,10 @@ wins_least p = best_least p Exchange captures_max 80
 
 -- after a quiet move nothing is won
 pub reprisal_quiet : (p : Shogi) (code : ℕ) → is_quiet p (move_of code) ≡ true → IsReprisal p code 0
-reprisal_quiet p code q = let is : left_by p Exchange code ≡ material_of (after_code p code) Exchange = left_quiet p Exchange code q in omega (arith, ints, is)
+reprisal_quiet p code q = let is : leaf_after p Exchange code ≡ material_of (after_code p code) Exchange = left_quiet p Exchange code q in omega (arith, ints, is)
 
 pub enough_quiet : (p : Shogi) (code enough : ℕ) → is_quiet p (move_of code) ≡ true → enough ≤ 0 → IsEnough p code enough
-enough_quiet p code enough q h = let is : left_by p Exchange code ≡ material_of (after_code p code) Exchange = left_quiet p Exchange code q in omega (arith, ints, is, h)
+enough_quiet p code enough q h = let is : leaf_after p Exchange code ≡ material_of (after_code p code) Exchange = left_quiet p Exchange code q in omega (arith, ints, is, h)
 
 -- and after another one what the other side wins
 pub reprisal_loud : (p q : Shogi) (code won : ℕ) → is_quiet p (move_of code) ≡ false → q ≡ after_code p code → IsWon q won → IsReprisal p code won

@@ -4,7 +4,7 @@ use Rattle.shogi_core.specs.Bits.{has_bit}
 use Rattle.shogi_core.specs.Position.{Shogi}
 use Rattle.shogi_moves.specs.After.{after_code}
 use Rattle.shogi_eval.specs.declared.eval.Eval.TheVariants.{Exchange}
-use Rattle.shogi_eval.specs.Exchange.{best_settled, captures_max, left_by, settled}
+use Rattle.shogi_eval.specs.Exchange.{best_settled, captures_max, leaf_after, settled}
 use Rattle.shogi_eval.specs.Material.{material_of}
 
 -- the move of a code gains its side so much
@@ -40,9 +40,9 @@ IsWonAtLeast p won = (material_of p Exchange +ℤ pos won) ≤ℤ best_settled p
 -- after the move of a code the other side wins exactly so much
 abbrev pub IsReprisal : Shogi → ℕ → ℕ → Type 0
 IsReprisal p code won =
-    left_by p Exchange code ≡ material_of (after_code p code) Exchange +ℤ pos won
+    leaf_after p Exchange code ≡ material_of (after_code p code) Exchange +ℤ pos won
 
 -- it wins no less
 abbrev pub IsEnough : Shogi → ℕ → ℕ → Type 0
 IsEnough p code won =
-    (material_of (after_code p code) Exchange +ℤ pos won) ≤ℤ left_by p Exchange code
+    (material_of (after_code p code) Exchange +ℤ pos won) ≤ℤ leaf_after p Exchange code

@@ -23,8 +23,8 @@ fn gain_by(p: &Position, square: Square, from: Square) -> u32
     ensures gain { IsGain p.now (taking_code p.now square from) result }
     ensures range { result ≤ 3100 }
 {
-    p.validity();
-    square.validity();
+    p.reveal_invariant();
+    square.reveal_invariant();
     let cell = p.at(from);
     let promote = may_promote(cell, from, square);
     taken_gain(Eval::Exchange, p.at(square)) + promotion_gain(cell, promote)
@@ -38,8 +38,8 @@ fn most_back(p: &Position, square: Square, from: Square) -> u32
         WinsAtMostOn (after_code p.now (taking_code p.now square from)) square n result }
     ensures range { result ≤ 3100 }
 {
-    p.validity();
-    square.validity();
+    p.reveal_invariant();
+    square.reveal_invariant();
     let cell = p.at(from);
     let moved = piece_moved(cell, may_promote(cell, from, square));
     taken_gain(Eval::Exchange, moved) + PROMOTION_GAIN_MAX
@@ -48,12 +48,12 @@ fn most_back(p: &Position, square: Square, from: Square) -> u32
 /// Whether a piece of the other side then reaches the square.
 fn is_reached_back(p: &Position, square: Square, from: Square) -> bool
     requires { TakesFirst p.now square from }
-    ensures none { result ≡ false →
+    ensures if_none { result ≡ false →
         None ≡ taker (after_code p.now (taking_code p.now square from)) square }
 {
-    p.validity();
-    square.validity();
-    from.validity();
+    p.reveal_invariant();
+    square.reveal_invariant();
+    from.reveal_invariant();
     let board = p.as_board();
     let theirs = board.own(p.side().opponent());
     let among = theirs.except(square);
@@ -108,8 +108,8 @@ fn more_on(p: &Position, square: Square, floor: u32, enough: u32) -> u32
     ensures won { IsWonAtLeast p.now result }
     ensures range { result ≤ 3100 }
 {
-    p.validity();
-    square.validity();
+    p.reveal_invariant();
+    square.reveal_invariant();
     if taken_gain(Eval::Exchange, p.at(square)) + PROMOTION_GAIN_MAX <= floor {
         return floor;
     }

@@ -31,12 +31,12 @@ fn end_of(m: &Move) -> Square {
 /// What the other side wins, in points under `Eval::Exchange`, by its best exchange on one square
 /// after the legal move, and 0 after a quiet one: exactly where it is less than `enough`, and else
 /// a number from `enough` on (own choice).
-pub fn reprisal(p: &Position, m: Move, enough: u32) -> u32
+pub fn best_exchange(p: &Position, m: Move, enough: u32) -> u32
     requires { is_legal p.now m ≡ true }
     ensures below { result < enough → IsReprisal p.now (code_of m) result }
     ensures enough { enough ≤ result → IsEnough p.now (code_of m) enough }
 {
-    m.validity();
+    m.reveal_invariant();
     if is_quiet(p, &m) {
         return 0;
     }

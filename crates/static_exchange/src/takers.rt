@@ -6,19 +6,17 @@ ghost use Rattle.shogi_core.specs.Codes.{code_of};
 ghost use Rattle.shogi_core.specs.Movement.{reaches};
 ghost use Rattle.shogi_moves.specs.Destinations.{is_own};
 ghost use Rattle.shogi_moves.specs.Legal.{is_legal};
-ghost use Rattle.shogi_eval.specs.Exchange.{price_of, price_with, taker};
+ghost use Rattle.shogi_eval.specs.Exchange.{exchange_price, price_with, taker};
 ghost use Rattle.static_exchange.specs.Takers.{code_in, rank_on, taking, IsFirst, IsLegalIn, NoneTakenOff, OthersTakeNot, TakesFirst};
 
 use shogi_core::bits::{cleared, lowest, without_lowest};
 use shogi_core::zones::may_promote;
-use shogi_core::{
-    Board, Move, Piece, Position, Role, Square, Squares, aligned_squares, near_squares,
-};
+use shogi_core::{Board, Move, Piece, Position, Role, Square, Squares, line_mask, near_squares};
 use shogi_moves::{is_legal, takers};
 
 /// What a piece is worth to send into an exchange: its value, a king last.
-fn price_of(role: Role) -> u32
-    ensures value { result ≡ price_of role }
+fn exchange_price(role: Role) -> u32
+    ensures value { result ≡ exchange_price role }
     ensures range { result ≤ 10000 }
 {
     match role {
@@ -45,7 +43,7 @@ fn price_with(cell: Option<Piece>, promote: bool) -> u32
     match cell {
         None => 0,
         Some(piece) => {
-            let twice = 2 * price_of(piece.role);
+            let twice = 2 * exchange_price(piece.role);
             if promote { twice } else { twice + 1 }
         }
     }
@@ -78,9 +76,9 @@ pub fn taking(p: &Position, square: Square, from: Square) -> Move
 fn reachers(p: &Position, square: Square) -> Squares
     ensures squares { HasBits result.bits (λ n. is_own p.now n && reaches p.now.cells n square) }
 {
-    square.validity();
+    square.reveal_invariant();
     let board = p.as_board();
-    let lined = board.sliders() & aligned_squares(square.index());
+    let lined = board.sliders() & line_mask(square.index());
     let near = near_squares(square.index()) | lined;
     (board.own(p.side()) & near).sift(|from| board.reaches(from, square))
 }
@@ -110,11 +108,11 @@ fn first_of(p: &Position, square: Square, pieces: u128) -> usize
 
 /// The square of the cheapest piece that legally takes on the square, the least where several do.
 pub fn first_taker(p: &Position, square: Square) -> Option<Square>
-    ensures none { IsNone result → None ≡ taker p.now square }
+    ensures if_none { IsNone result → None ≡ taker p.now square }
     ensures first { IfSome result (TakesFirst p.now square) }
 {
-    p.validity();
-    square.validity();
+    p.reveal_invariant();
+    square.reveal_invariant();
     if p.at(square).is_none() {
         return None;
     }
@@ -146,7 +144,7 @@ pub fn taker(p: &Position, square: Square) -> Option<Move>
 pub fn targets(p: &Position) -> Squares
     ensures { NoneTakenOff p.now result.bits }
 {
-    p.validity();
+    p.reveal_invariant();
     let board = p.as_board();
     let movers = takers(p, board.own(p.side()));
     let reached = movers.union(|from| board.targets(from));

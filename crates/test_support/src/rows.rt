@@ -1,5 +1,5 @@
 //! Worked rows that tests name: what a fresh session is sent, and what it answers. All rows stand in the
-//! files of the crate `rows`.
+//! files of the crate `test_rows`.
 
 use std::alloc::{AllocError, Global};
 

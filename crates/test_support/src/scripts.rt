@@ -1,5 +1,5 @@
 //! Worked scripts that tests name: their lines, and what is written for them. All scripts stand in a file of
-//! the crate `rows`.
+//! the crate `test_rows`.
 
 use crate::rows::INFO_AND_BEST_ONE;
 

@@ -231,7 +231,7 @@ For more information, try '--help'.
 /// The job that the command names, where its numbers lie in their ranges.
 fn named_job(alloc: Global, matches: &ArgMatches<'_>) -> Result<Option<Job>, AllocError>
     ensures some { IfOk result (λ named. IfSome named (IsJobIn (subcommand_rows_of matches.now))) }
-    ensures none { IfOk result (λ job. IfNone job (NamesNoJob (subcommand_rows_of matches.now))) }
+    ensures if_none { IfOk result (λ job. IfNone job (NamesNoJob (subcommand_rows_of matches.now))) }
 {
     let Some((name, options)) = matches.subcommand() else {
         return Ok(Some(usual_job()));
@@ -260,7 +260,7 @@ fn usual_job() -> Job
 
 fn stdio_job(options: &ArgMatches<'_>) -> Option<Job>
     ensures some { IfSome result (λ job. HasRanges job × IsStdioOf (options_in options.now) job) }
-    ensures none { IfNone result (NamesNoStdio (options_in options.now)) }
+    ensures if_none { IfNone result (NamesNoStdio (options_in options.now)) }
 {
     let entries = number_of(options, "entries", ENTRIES_MAX)?;
     let setup = setup_of(options)?;
@@ -269,7 +269,7 @@ fn stdio_job(options: &ArgMatches<'_>) -> Option<Job>
 
 fn replay_job(options: &ArgMatches<'_>) -> Option<Job>
     ensures some { IfSome result (λ job. HasRanges job × IsReplayOf (options_in options.now) job) }
-    ensures none { IfNone result (NamesNoReplay (options_in options.now)) }
+    ensures if_none { IfNone result (NamesNoReplay (options_in options.now)) }
 {
     let slots = number_of(options, "slots", SLOTS_MAX)?;
     let entries = number_of(options, "entries", ENTRIES_MAX)?;
@@ -285,7 +285,7 @@ fn replay_job(options: &ArgMatches<'_>) -> Option<Job>
 
 fn serve_job(alloc: Global, options: &ArgMatches<'_>) -> Result<Option<Job>, AllocError>
     ensures some { IfOk result (λ named. IfSome named (IsServeIn (options_in options.now))) }
-    ensures none { IfOk result (λ named. IfNone named (NamesNoServe (options_in options.now))) }
+    ensures if_none { IfOk result (λ named. IfNone named (NamesNoServe (options_in options.now))) }
 {
     let Some(text) = options.get_str("socket") else {
         return Ok(None);
@@ -322,7 +322,7 @@ fn status_path(alloc: Global, options: &ArgMatches<'_>) -> Result<Option<String>
 /// The slots, the entries, the slice and the turns.
 fn serve_numbers(options: &ArgMatches<'_>) -> Option<(usize, usize, u64, u64)>
     ensures some { IfSome result (λ n. AreServeNumbers (options_in options.now) n.0 n.1 n.2 n.3) }
-    ensures none { IfNone result (HasNoNumbers (options_in options.now)) }
+    ensures if_none { IfNone result (HasNoNumbers (options_in options.now)) }
 {
     let slots = number_of(options, "slots", SLOTS_MAX)?;
     let entries = number_of(options, "entries", ENTRIES_MAX)?;

@@ -44,7 +44,7 @@ pub struct SetupOptions {
 /// and the word of its evaluation is known.
 pub(crate) fn setup_of(options: &ArgMatches<'_>) -> Option<SetupOptions>
     ensures some { IfSome result (AreSetupOptions (options_in options.now)) }
-    ensures none { IfNone result (HasNoSetup (options_in options.now)) }
+    ensures if_none { IfNone result (HasNoSetup (options_in options.now)) }
 {
     let max_depth = number_of(options, "max-depth", DEPTH_MAX)?;
     let depth = depth_of(options, max_depth)?;
@@ -62,7 +62,7 @@ pub(crate) fn setup_of(options: &ArgMatches<'_>) -> Option<SetupOptions>
 fn depth_of(options: &ArgMatches<'_>, most: usize) -> Option<usize>
     requires { IsFromOne 16 most }
     ensures some { IfSome result (HasDepth (options_in options.now) most) }
-    ensures none { IfNone result (HasNoDepth (options_in options.now) most) }
+    ensures if_none { IfNone result (HasNoDepth (options_in options.now) most) }
 {
     match options.get_str("depth") {
         Some(_) => number_of(options, "depth", DEPTH_MAX),
@@ -83,14 +83,14 @@ fn usual_depth(most: usize) -> usize
 /// The evaluation that `--eval` names.
 pub(crate) fn evaluation_of(options: &ArgMatches<'_>) -> Option<Evaluation>
     ensures some { IfSome result (NamesEvaluation (options_in options.now)) }
-    ensures none { IfNone result (HasNoEvaluation (options_in options.now)) }
+    ensures if_none { IfNone result (HasNoEvaluation (options_in options.now)) }
 {
     evaluation_named(options.get_str("eval")?)
 }
 
 fn evaluation_named(word: &str) -> Option<Evaluation>
     ensures some { IfSome result (λ evaluation. word.now ≡ evaluation_word evaluation) }
-    ensures none { IfNone result ((e : Evaluation) → word.now ≡ evaluation_word e → ⊥) }
+    ensures if_none { IfNone result ((e : Evaluation) → word.now ≡ evaluation_word e → ⊥) }
 {
     if word == "plain" {
         return Some(Evaluation::Plain);

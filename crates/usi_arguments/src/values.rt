@@ -7,7 +7,7 @@ use clap::ArgMatches;
 /// The number that a text writes in decimal digits alone, where it is below 2 to the power 64.
 fn digits_alone(text: &str) -> Option<usize>
     ensures some { IfSome result (λ n. IsNumber text.now n) }
-    ensures none { IfNone result ((n : ℕ) → n < 2 ^ 64 → IsNumber text.now n → ⊥) }
+    ensures if_none { IfNone result ((n : ℕ) → n < 2 ^ 64 → IsNumber text.now n → ⊥) }
 {
     if text.as_bytes().first() == Some(&b'+') {
         return None;
@@ -18,7 +18,7 @@ fn digits_alone(text: &str) -> Option<usize>
 /// The number of an option, where it is written in digits alone and lies from 1 to `most`.
 pub(crate) fn number_of(options: &ArgMatches<'_>, name: &str, most: usize) -> Option<usize>
     ensures some { IfSome result (HasNumber name.now most (options_in options.now)) }
-    ensures none { IfNone result (HasNone name.now most (options_in options.now)) }
+    ensures if_none { IfNone result (HasNone name.now most (options_in options.now)) }
 {
     let text = options.get_str(name)?;
     let n = digits_alone(text)?;

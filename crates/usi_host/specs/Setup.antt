@@ -6,7 +6,7 @@ use Rattle.shogi_eval.specs.declared.eval.Eval.TheVariants as evals
 use Rattle.usi_arguments.specs.declared.setup.Evaluation.{Evaluation}
 use Rattle.usi_arguments.specs.declared.setup.Evaluation.TheVariants as named
 use Rattle.usi_arguments.specs.declared.setup.SetupOptions.{SetupOptions}
-use Rattle.usi_runs.specs.Runs.{IsReplay, IsSession}
+use Rattle.usi_app.specs.Runs.{IsReplay, IsSession}
 use Rattle.usi_stdio.specs.Calls.{Report}
 use Rattle.usi_texts.specs.Setup.{IsSetupOf}
 use Rattle.usi_texts.specs.declared.setup.Setup.{Setup}

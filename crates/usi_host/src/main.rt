@@ -15,11 +15,11 @@ use std::alloc::Global;
 use std::hash::RandomState;
 use std::io;
 use std::process::ExitCode;
-use stream_wire::MioWire;
+use stream_transport::MioWire;
+use transport::WireFault;
+use usi_app::{DONE, ServeFault, print_out, socket_fault, status_fault};
 use usi_arguments::{Job, SetupOptions, asked, complaint, status, version_text};
-use usi_runs::{DONE, ServeFault, print_out, socket_fault, status_fault};
 use usi_stdio::Duplex;
-use wires::WireFault;
 
 /// Writes the text to standard error, and gives the status.
 fn complain(rt: &HostRuntime, text: &str, status: u8) -> u8

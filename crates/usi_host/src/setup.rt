@@ -9,8 +9,8 @@ use host_core::{Host, HostFault};
 use shogi_eval::Eval;
 use std::alloc::Global;
 use std::hash::RandomState;
+use usi_app::{script, session};
 use usi_arguments::{Evaluation, SetupOptions};
-use usi_runs::{script, session};
 use usi_stdio::FrontEnd;
 use usi_texts::Setup;
 

@@ -33,7 +33,7 @@ closed_answer = record { status = USI_CLOSED; count = 0 }
 -- it owes what it owed for the bytes and what follows, and nothing else changed
 abbrev pub IsFed : List ℕ → SessionView → SessionView → Type 0
 IsFed bytes old new = IsSameAfter due bytes old new × IsSameAfter state_due bytes old new
-    × (new.queued ≡ old.queued) × (new.state ≡ old.state) × (new.running_go ≡ old.running_go)
+    × (new.queued ≡ old.queued) × (new.state ≡ old.state) × (new.go_task ≡ old.go_task)
 
 -- where the status is `USI_OK` the bytes were fed
 abbrev pub IsFedOnOk : List ℕ → ℕ → SessionView → SessionView → Type 0
@@ -80,7 +80,7 @@ WhereOpen old new holds = HoldsOf (open_in old) (open_in new) holds
 abbrev pub IsTaken : ℕ → SessionView → SessionView → Type 0
 IsTaken n old new = ((x : List ℕ) → due old x ≡ take n old.queued ++ due new x)
     × (new.queued ≡ drop n old.queued) × (new.state ≡ old.state)
-    × (new.running_go ≡ old.running_go) × (new.input ≡ old.input)
+    × (new.go_task ≡ old.go_task) × (new.input ≡ old.input)
 
 -- so many queued bytes, as many as there are and as there is room for, were taken, and are the front of a buffer now, whose rest is
 -- as it was

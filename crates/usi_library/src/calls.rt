@@ -222,7 +222,7 @@ pub extern "C" fn usi_take(session: &mut UsiSession, buffer: &mut [u8]) -> UsiAn
 pub extern "C" fn usi_look(session: &mut UsiSession) -> UsiLook
     ensures closed { open_in session.old ≡ None → IsNothing result }
     ensures open { WhereOpen session.old session.new (λ old new. IsSeen old result) }
-    ensures same { open_in session.new ≡ open_in session.old }
+    ensures unchanged { open_in session.new ≡ open_in session.old }
 {
     let Some(open) = session.take_out() else {
         return UsiLook {

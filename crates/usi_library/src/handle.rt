@@ -22,7 +22,7 @@ impl UsiSession {
     /// What is open, which leaves the session closed.
     pub(crate) fn take_out(&mut self) -> Option<Box<Opened, Global>>
         ensures was { IfSome result (λ opened. self.old.hand.value ≡ Some opened.value) }
-        ensures none { IfNone result (self.old.hand.value ≡ None) }
+        ensures if_none { IfNone result (self.old.hand.value ≡ None) }
         ensures closed { self.new.hand.value ≡ None }
     {
         if !self.is_open {

@@ -108,7 +108,7 @@ impl<A: Allocator> LineBuffer<A> {
 
     /// The first unread line, which stays unread; `None` where no line has ended yet.
     pub fn next_line(&self) -> Option<Line<'_>>
-        ensures none { IsNone result ↔ (ahead self.now [] ≡ []) }
+        ensures if_none { IsNone result ↔ (ahead self.now [] ≡ []) }
         ensures first { IfSome result (λ line. IsFirstAhead self.now (line_of line)) }
     {
         if self.closed {

@@ -16,7 +16,7 @@ pub struct FirstLine<'a> {
 /// The first line of a stream that is all there; `None` where none has ended. After a line that is
 /// too long no bytes are left.
 pub fn first_line(bytes: &[u8]) -> Option<FirstLine<'_>>
-    ensures none { IfNone result (lines bytes.now ≡ []) }
+    ensures if_none { IfNone result (lines bytes.now ≡ []) }
     ensures first { IfSome result (λ f. lines bytes.now ≡ line_of f.line ∷ lines f.rest.now) }
     ensures shorter { IfSome result (λ f. length f.rest.now < length bytes.now) }
 {

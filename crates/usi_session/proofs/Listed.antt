@@ -23,10 +23,10 @@ use Rattle.minimax.proofs.Best.{best_none}
 use Rattle.minimax.proofs.Lines.{pv-above}
 use Rattle.minimax.proofs.MinimaxLaws.{best-code, best_code-above}
 use Rattle.shogi_search.proofs.RankedLaws.{best_ranked, in_ranked, first_in}
-use Rattle.usi_session.specs.declared.question.Question.{Question}
+use Rattle.usi_session.specs.declared.go_request.GoRequest.{GoRequest}
 use Rattle.usi_session.specs.Costs.{pvs_cost}
 use Rattle.usi_session.specs.GoInfos.{listed, pv_by}
-use Rattle.usi_session.specs.RunningGo.{listed_at}
+use Rattle.usi_session.specs.GoTaskView.{listed_at}
 use Rattle.usi_session.specs.Walked.{Walked, IsFirst, IsRanked, IsRankedTo, IsLine}
 
 -- what is left of a list begins with this one
@@ -100,26 +100,26 @@ pub first_some : (p : Shogi) (m : Move) → IsFirst p m → legal_codes p ≢ []
 first_some p m e n = let q : code_of m ∷ legal_above p (Some m) ≡ [] = sym e ∙ n in cc
 
 -- where there is a root move some move is legal
-pub root_move_some : (question : Question) (depths_done : ℕ) (m : Move) (r : Ranking) → IsRankedTo question depths_done m r → legal_codes question.position ≢ []
-root_move_some question depths_done m r h =
-    some_in (legal_codes question.position) (code_of m)
-    (legal_above_in question.position h.passed (code_of m) (ap (is_in (code_of m)) h.next ∙ first_in (code_of m) (legal_above question.position (Some m))))
+pub root_move_some : (go_request : GoRequest) (depths_done : ℕ) (m : Move) (r : Ranking) → IsRankedTo go_request depths_done m r → legal_codes go_request.position ≢ []
+root_move_some go_request depths_done m r h =
+    some_in (legal_codes go_request.position) (code_of m)
+    (legal_above_in go_request.position h.passed (code_of m) (ap (is_in (code_of m)) h.next ∙ first_in (code_of m) (legal_above go_request.position (Some m))))
 
 -- the pairs are those of the listed moves
-top_listed : (question : Question) (depths_done : ℕ) (r : Ranking) → IsRanked question depths_done r → map coded r.pairs ≡ map (with_worth (worth question.position question.eval depths_done)) (listed_at question depths_done)
-top_listed question depths_done r h =
+top_listed : (go_request : GoRequest) (depths_done : ℕ) (r : Ranking) → IsRanked go_request depths_done r → map coded r.pairs ≡ map (with_worth (worth go_request.position go_request.eval depths_done)) (listed_at go_request depths_done)
+top_listed go_request depths_done r h =
     let n : depths_done + 1 - 1 ≡ depths_done = omega arith in
-    h.top ∙ ap (λ (k : ℕ). map (with_worth (worth question.position question.eval depths_done)) (take k (ranked (worth question.position question.eval depths_done) (legal_codes question.position)))) h.most
-    ∙ ap (λ (k : ℕ). map (with_worth (worth question.position question.eval depths_done)) (take question.multi_pv (ranked (worth question.position question.eval k) (legal_codes question.position)))) (sym n)
+    h.top ∙ ap (λ (k : ℕ). map (with_worth (worth go_request.position go_request.eval depths_done)) (take k (ranked (worth go_request.position go_request.eval depths_done) (legal_codes go_request.position)))) h.most
+    ∙ ap (λ (k : ℕ). map (with_worth (worth go_request.position go_request.eval depths_done)) (take go_request.multi_pv (ranked (worth go_request.position go_request.eval k) (legal_codes go_request.position)))) (sym n)
 
-pub ranked_length : (question : Question) (depths_done : ℕ) (r : Ranking) → IsRanked question depths_done r → length r.pairs ≡ length (listed_at question depths_done)
-ranked_length question depths_done r h =
-    sym (length-map r.pairs coded) ∙ ap length (top_listed question depths_done r h) ∙ length-map (listed_at question depths_done) (with_worth (worth question.position question.eval depths_done))
+pub ranked_length : (go_request : GoRequest) (depths_done : ℕ) (r : Ranking) → IsRanked go_request depths_done r → length r.pairs ≡ length (listed_at go_request depths_done)
+ranked_length go_request depths_done r h =
+    sym (length-map r.pairs coded) ∙ ap length (top_listed go_request depths_done r h) ∙ length-map (listed_at go_request depths_done) (with_worth (worth go_request.position go_request.eval depths_done))
 
 -- of a pair
-pub record IsPair (question : Question) (depths_done lines_done : ℕ) (m : Move) (v : ℤ) : Type 0 where
-  pub listed_as : slice_get (listed_at question depths_done) lines_done ≡ Some (code_of m)
-  pub value_is : v ≡ worth question.position question.eval depths_done (code_of m)
+pub record IsPair (go_request : GoRequest) (depths_done lines_done : ℕ) (m : Move) (v : ℤ) : Type 0 where
+  pub listed_as : slice_get (listed_at go_request depths_done) lines_done ≡ Some (code_of m)
+  pub value_is : v ≡ worth go_request.position go_request.eval depths_done (code_of m)
 
 pair_at : (f : ℕ → ℤ) (x : Move × ℤ) (o : Option ℕ) → Some (coded x) ≡ option_map (with_worth f) o → (o ≡ Some (code_of x.0)) × (x.1 ≡ f (code_of x.0))
 pair_at f x None e = absurd (cc)
@@ -129,11 +129,11 @@ pair_at f x (Some c) e =
     let w : x.1 ≡ f c = ap (λ (y : ℕ × ℤ). y.1) q in
     (ap Some (sym k), w ∙ ap f (sym k))
 
-pub ranked_pair : (question : Question) (depths_done lines_done : ℕ) (r : Ranking) (x : Move × ℤ) → IsRanked question depths_done r → slice_get r.pairs lines_done ≡ Some x → IsPair question depths_done lines_done x.0 x.1
-ranked_pair question depths_done lines_done r x h e =
-    let at : Some (coded x) ≡ option_map (with_worth (worth question.position question.eval depths_done)) (slice_get (listed_at question depths_done) lines_done) =
-    sym (ap (option_map coded) e) ∙ sym (slice_get-map coded r.pairs lines_done) ∙ ap (λ (l : List (ℕ × ℤ)). slice_get l lines_done) (top_listed question depths_done r h) ∙ slice_get-map (with_worth (worth question.position question.eval depths_done)) (listed_at question depths_done) lines_done in
-    let both : (slice_get (listed_at question depths_done) lines_done ≡ Some (code_of x.0)) × (x.1 ≡ worth question.position question.eval depths_done (code_of x.0)) = pair_at (worth question.position question.eval depths_done) x (slice_get (listed_at question depths_done) lines_done) at in
+pub ranked_pair : (go_request : GoRequest) (depths_done lines_done : ℕ) (r : Ranking) (x : Move × ℤ) → IsRanked go_request depths_done r → slice_get r.pairs lines_done ≡ Some x → IsPair go_request depths_done lines_done x.0 x.1
+ranked_pair go_request depths_done lines_done r x h e =
+    let at : Some (coded x) ≡ option_map (with_worth (worth go_request.position go_request.eval depths_done)) (slice_get (listed_at go_request depths_done) lines_done) =
+    sym (ap (option_map coded) e) ∙ sym (slice_get-map coded r.pairs lines_done) ∙ ap (λ (l : List (ℕ × ℤ)). slice_get l lines_done) (top_listed go_request depths_done r h) ∙ slice_get-map (with_worth (worth go_request.position go_request.eval depths_done)) (listed_at go_request depths_done) lines_done in
+    let both : (slice_get (listed_at go_request depths_done) lines_done ≡ Some (code_of x.0)) × (x.1 ≡ worth go_request.position go_request.eval depths_done (code_of x.0)) = pair_at (worth go_request.position go_request.eval depths_done) x (slice_get (listed_at go_request depths_done) lines_done) at in
     record { listed_as = both.0; value_is = both.1 }
 
 -- the pv after a listed move
@@ -145,31 +145,31 @@ pv_by_move p next eval depths_done m b a =
     ∙ ap (then_pv (λ q. pv q eval (depths_done + 1 - 1)) p) (sym b)
 
 -- the walk of the first line has the value and the pv of the position
-pub line_first : (question : Question) (depths_done : ℕ) (w : Walked) → IsLine question depths_done 0 w → 1 ≤ question.multi_pv → legal_codes question.position ≢ []
-    → (w.value ≡ value question.position question.eval (depths_done + 1)) × (w.pv ≡ pv question.position question.eval (depths_done + 1))
-line_first question depths_done w l h ne =
-    let f : IsFirstLine question.position question.eval (depths_done + 1) = first_line question.position question.eval (depths_done + 1) (omega arith) ne in
-    let s : Some l.code ≡ Some f.code = sym l.listed_as ∙ first_listed question.position question.eval question.multi_pv (depths_done + 1) f h in
+pub line_first : (go_request : GoRequest) (depths_done : ℕ) (w : Walked) → IsLine go_request depths_done 0 w → 1 ≤ go_request.multi_pv → legal_codes go_request.position ≢ []
+    → (w.value ≡ value go_request.position go_request.eval (depths_done + 1)) × (w.pv ≡ pv go_request.position go_request.eval (depths_done + 1))
+line_first go_request depths_done w l h ne =
+    let f : IsFirstLine go_request.position go_request.eval (depths_done + 1) = first_line go_request.position go_request.eval (depths_done + 1) (omega arith) ne in
+    let s : Some l.code ≡ Some f.code = sym l.listed_as ∙ first_listed go_request.position go_request.eval go_request.multi_pv (depths_done + 1) f h in
     let c : l.code ≡ f.code = cc in
     let n : depths_done + 1 - 1 ≡ depths_done = omega arith in (
-      l.value_is ∙ ap (worth question.position question.eval depths_done) c ∙ sym (f.value_is ∙ ap (λ (k : ℕ). worth question.position question.eval k f.code) n),
-      l.pv_is ∙ ap (pv_by question.position question.eval (depths_done + 1)) c ∙ sym f.pv_is,
+      l.value_is ∙ ap (worth go_request.position go_request.eval depths_done) c ∙ sym (f.value_is ∙ ap (λ (k : ℕ). worth go_request.position go_request.eval k f.code) n),
+      l.pv_is ∙ ap (pv_by go_request.position go_request.eval (depths_done + 1)) c ∙ sym f.pv_is,
     )
 
 -- the current line is one of those listed
-pub line_within : (question : Question) (depths_done lines_done : ℕ) (w : Walked) → IsLine question depths_done lines_done w → lines_done < length (listed_at question depths_done)
-line_within question depths_done lines_done w l = slice_get_within (listed_at question depths_done) lines_done l.code l.listed_as
+pub line_within : (go_request : GoRequest) (depths_done lines_done : ℕ) (w : Walked) → IsLine go_request depths_done lines_done w → lines_done < length (listed_at go_request depths_done)
+line_within go_request depths_done lines_done w l = slice_get_within (listed_at go_request depths_done) lines_done l.code l.listed_as
 
 take_below : (xs : List ℕ) (n : ℕ) → length (take n xs) ≤ n
 take_below xs zero = omega arith
 take_below [] (suc n) = omega arith
 take_below (x ∷ xs) (suc n) = omega (arith, take_below xs n)
 
-pub line_below : (question : Question) (depths_done lines_done : ℕ) (w : Walked) → IsLine question depths_done lines_done w → lines_done < question.multi_pv
-line_below question depths_done lines_done w l = omega (arith, line_within question depths_done lines_done w l, take_below (ranked_codes question.position question.eval (depths_done + 1)) question.multi_pv)
+pub line_below : (go_request : GoRequest) (depths_done lines_done : ℕ) (w : Walked) → IsLine go_request depths_done lines_done w → lines_done < go_request.multi_pv
+line_below go_request depths_done lines_done w l = omega (arith, line_within go_request depths_done lines_done w l, take_below (ranked_codes go_request.position go_request.eval (depths_done + 1)) go_request.multi_pv)
 
 -- some move is listed
-pub some_listed : (question : Question) (depths_done : ℕ) → 1 ≤ question.multi_pv → legal_codes question.position ≢ [] → 0 < length (listed_at question depths_done)
-some_listed question depths_done h ne =
-    let f : IsFirstLine question.position question.eval (depths_done + 1) = first_line question.position question.eval (depths_done + 1) (omega arith) ne in
-    slice_get_within (listed_at question depths_done) 0 f.code (first_listed question.position question.eval question.multi_pv (depths_done + 1) f h)
+pub some_listed : (go_request : GoRequest) (depths_done : ℕ) → 1 ≤ go_request.multi_pv → legal_codes go_request.position ≢ [] → 0 < length (listed_at go_request depths_done)
+some_listed go_request depths_done h ne =
+    let f : IsFirstLine go_request.position go_request.eval (depths_done + 1) = first_line go_request.position go_request.eval (depths_done + 1) (omega arith) ne in
+    slice_get_within (listed_at go_request depths_done) 0 f.code (first_listed go_request.position go_request.eval go_request.multi_pv (depths_done + 1) f h)

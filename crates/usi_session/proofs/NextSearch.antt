@@ -21,11 +21,11 @@ use Rattle.minimax.proofs.Lines.{pv_cost-above}
 use Rattle.minimax.proofs.MinimaxLaws.{worth_plain, tree_size-positive, sum_of_tree_sizes-next}
 use Rattle.shogi_search.proofs.RankedLaws.{first_in}
 use Rattle.shogi_search.proofs.RankedUse.{IsGoneThrough, gone_all, gone_window}
-use Rattle.usi_session.specs.declared.question.Question.{Question}
+use Rattle.usi_session.specs.declared.go_request.GoRequest.{GoRequest}
 use Rattle.usi_session.specs.declared.state.HeldBestmove.{HeldBestmove}
 use Rattle.usi_session.specs.Costs.{pvs_cost}
 use Rattle.usi_session.specs.GoInfos.{listed}
-use Rattle.usi_session.specs.RunningGo.{listed_at, bestmove_to, cost_of_depths, load_of, load_after_root_move}
+use Rattle.usi_session.specs.GoTaskView.{listed_at, bestmove_to, cost_of_depths, load_of, load_after_root_move}
 use Rattle.usi_session.specs.Walked.{Walked, walk_from, IsQuestionInRange, IsFirst, IsUnder, IsLine, IsRanked, IsRankedTo, IsRankedUpTo, IsAtDepth, first_root_move, first_search, is_settled, load_at, running_go_of}
 use Rattle.usi_session.proofs.Listed.{IsFirstLine, first_line, first_listed, first_some, one_listed}
 use Rattle.usi_session.proofs.RunningGoLaws.{cost_of_depths-more}
@@ -43,113 +43,113 @@ under_start s p eval d beta e =
     }
 
 -- a pv that is whole
-pub record IsWholeLine (question : Question) (depths_done lines_done : ℕ) (root_move : Option Move) (ranks : Ranking) (walk : Walked) (kept : HeldBestmove) : Type 0 where
-  pub line : IsLine question depths_done lines_done walk
-  pub ranked : question.multi_pv ≢ 1 → IsRanked question depths_done ranks
-  pub kept_is : 0 < lines_done → kept ≡ bestmove_to question (depths_done + 1)
+pub record IsWholeLine (go_request : GoRequest) (depths_done lines_done : ℕ) (root_move : Option Move) (ranks : Ranking) (walk : Walked) (kept : HeldBestmove) : Type 0 where
+  pub line : IsLine go_request depths_done lines_done walk
+  pub ranked : go_request.multi_pv ≢ 1 → IsRanked go_request depths_done ranks
+  pub kept_is : 0 < lines_done → kept ≡ bestmove_to go_request (depths_done + 1)
   pub none : root_move ≡ None
   pub plies_is : walk.plies ≡ 0
 
 pub not_above : (n : ℕ) → nat_lt 0 n ≡ false → n ≡ 0
 not_above n e = let l : n ≤ 0 = ltb-false 0 n e in omega arith
 
-pub whole_line : (question : Question) (depths_done lines_done : ℕ) (root_move : Option Move) (ranks : Ranking) (walk : Walked) (kept : HeldBestmove) (search : Progress) → IsAtDepth question depths_done lines_done root_move ranks walk kept search → (is_some root_move || nat_lt 0 walk.plies) ≡ false → IsWholeLine question depths_done lines_done root_move ranks walk kept
-whole_line question depths_done lines_done (Some m) ranks walk kept search h e = absurd (cc)
-whole_line question depths_done lines_done None ranks walk kept search h e = record { line = h.line; ranked = h.ranked; kept_is = h.kept_is; none = refl; plies_is = not_above walk.plies e }
+pub whole_line : (go_request : GoRequest) (depths_done lines_done : ℕ) (root_move : Option Move) (ranks : Ranking) (walk : Walked) (kept : HeldBestmove) (search : Progress) → IsAtDepth go_request depths_done lines_done root_move ranks walk kept search → (is_some root_move || nat_lt 0 walk.plies) ≡ false → IsWholeLine go_request depths_done lines_done root_move ranks walk kept
+whole_line go_request depths_done lines_done (Some m) ranks walk kept search h e = absurd (cc)
+whole_line go_request depths_done lines_done None ranks walk kept search h e = record { line = h.line; ranked = h.ranked; kept_is = h.kept_is; none = refl; plies_is = not_above walk.plies e }
 
 -- what was ranked, as the laws of ranks say it, and back
-pub gone : (question : Question) (depths_done : ℕ) (passed : Option Move) (ranks : Ranking) → IsRankedUpTo question depths_done passed ranks → IsGoneThrough question.position (worth question.position question.eval depths_done) passed ranks
-gone question depths_done passed ranks h = record { seen = h.seen; whole = h.whole; top = h.top }
+pub gone : (go_request : GoRequest) (depths_done : ℕ) (passed : Option Move) (ranks : Ranking) → IsRankedUpTo go_request depths_done passed ranks → IsGoneThrough go_request.position (worth go_request.position go_request.eval depths_done) passed ranks
+gone go_request depths_done passed ranks h = record { seen = h.seen; whole = h.whole; top = h.top }
 
-pub ranked_up_to : (question : Question) (depths_done : ℕ) (passed : Option Move) (ranks : Ranking) → IsGoneThrough question.position (worth question.position question.eval depths_done) passed ranks → ranks.lines ≡ question.multi_pv → IsRankedUpTo question depths_done passed ranks
-ranked_up_to question depths_done passed ranks g most = record { seen = g.seen; whole = g.whole; top = g.top; most = most }
+pub ranked_up_to : (go_request : GoRequest) (depths_done : ℕ) (passed : Option Move) (ranks : Ranking) → IsGoneThrough go_request.position (worth go_request.position go_request.eval depths_done) passed ranks → ranks.lines ≡ go_request.multi_pv → IsRankedUpTo go_request depths_done passed ranks
+ranked_up_to go_request depths_done passed ranks g most = record { seen = g.seen; whole = g.whole; top = g.top; most = most }
 
 -- where a depth begins
-begun_at : (question : Question) (first : Move) (depths_done : ℕ) (ranks : Ranking) (kept : HeldBestmove) (one : Bool) → (question.multi_pv == 1) ≡ one → IsQuestionInRange question → IsFirst question.position first → ranks.lines ≡ question.multi_pv → IsTop (worth question.position question.eval depths_done) [] ranks → child_beta ranks ≡ INFINITY
-    → IsAtDepth question depths_done 0 (cond one None (Some first)) ranks (walk_from question.position question.eval (depths_done + 1)) kept (cond one (untouched question.position question.eval (depths_done + 1)) (untouched (after question.position first) question.eval depths_done))
-begun_at question first depths_done ranks kept true e a f l t b =
-    let n : question.multi_pv ≡ 1 = eqb-true question.multi_pv 1 e in
-    let w : IsFirstLine question.position question.eval (depths_done + 1) = first_line question.position question.eval (depths_done + 1) (omega arith) (first_some question.position first f) in
+begun_at : (go_request : GoRequest) (first : Move) (depths_done : ℕ) (ranks : Ranking) (kept : HeldBestmove) (one : Bool) → (go_request.multi_pv == 1) ≡ one → IsQuestionInRange go_request → IsFirst go_request.position first → ranks.lines ≡ go_request.multi_pv → IsTop (worth go_request.position go_request.eval depths_done) [] ranks → child_beta ranks ≡ INFINITY
+    → IsAtDepth go_request depths_done 0 (cond one None (Some first)) ranks (walk_from go_request.position go_request.eval (depths_done + 1)) kept (cond one (untouched go_request.position go_request.eval (depths_done + 1)) (untouched (after go_request.position first) go_request.eval depths_done))
+begun_at go_request first depths_done ranks kept true e a f l t b =
+    let n : go_request.multi_pv ≡ 1 = eqb-true go_request.multi_pv 1 e in
+    let w : IsFirstLine go_request.position go_request.eval (depths_done + 1) = first_line go_request.position go_request.eval (depths_done + 1) (omega arith) (first_some go_request.position first f) in
     let k : depths_done + 1 - 1 ≡ depths_done = omega arith in
     record {
       line = record {
         code = w.code;
-        listed_as = first_listed question.position question.eval question.multi_pv (depths_done + 1) w (omega arith);
+        listed_as = first_listed go_request.position go_request.eval go_request.multi_pv (depths_done + 1) w (omega arith);
         pv_is = w.pv_is;
-        value_is = w.value_is ∙ ap (λ (d : ℕ). worth question.position question.eval d w.code) k;
+        value_is = w.value_is ∙ ap (λ (d : ℕ). worth go_request.position go_request.eval d w.code) k;
         eval_is = refl;
       };
       ranked = λ ne. absurd (ne n);
       kept_is = λ h. absurd (omega arith);
-      searched = λ h. under_start _ question.position question.eval (depths_done + 1) INFINITY refl;
+      searched = λ h. under_start _ go_request.position go_request.eval (depths_done + 1) INFINITY refl;
     }
-begun_at question first depths_done ranks kept false e a f l t b = record {
+begun_at go_request first depths_done ranks kept false e a f l t b = record {
   several = λ n. both_ways _ e (ap (λ (k : ℕ). k == 1) n);
   none_done = refl;
   ranked = record { passed = None; next = f; ranked = record { seen = []; whole = refl; top = t; most = l } };
-  searched = under_start _ (after question.position first) question.eval depths_done (child_beta ranks) (ap (untouched_below (after question.position first) question.eval depths_done) (sym b));
+  searched = under_start _ (after go_request.position first) go_request.eval depths_done (child_beta ranks) (ap (untouched_below (after go_request.position first) go_request.eval depths_done) (sym b));
 }
 
-pub begun : (question : Question) (first : Move) (depths_done : ℕ) (ranks : Ranking) (kept : HeldBestmove) → IsQuestionInRange question → IsFirst question.position first → ranks.lines ≡ question.multi_pv → IsTop (worth question.position question.eval depths_done) [] ranks → child_beta ranks ≡ INFINITY
-    → IsAtDepth question depths_done 0 (first_root_move question first) ranks (walk_from question.position question.eval (depths_done + 1)) kept (first_search question first depths_done)
-begun question first depths_done ranks kept a f l t b = begun_at question first depths_done ranks kept (question.multi_pv == 1) refl a f l t b
+pub begun : (go_request : GoRequest) (first : Move) (depths_done : ℕ) (ranks : Ranking) (kept : HeldBestmove) → IsQuestionInRange go_request → IsFirst go_request.position first → ranks.lines ≡ go_request.multi_pv → IsTop (worth go_request.position go_request.eval depths_done) [] ranks → child_beta ranks ≡ INFINITY
+    → IsAtDepth go_request depths_done 0 (first_root_move go_request first) ranks (walk_from go_request.position go_request.eval (depths_done + 1)) kept (first_search go_request first depths_done)
+begun go_request first depths_done ranks kept a f l t b = begun_at go_request first depths_done ranks kept (go_request.multi_pv == 1) refl a f l t b
 
-begun_cost_at : (question : Question) (first : Move) (depths_done : ℕ) (above : ℕ) (one : Bool) → (question.multi_pv == 1) ≡ one → IsFirst question.position first → move_of (code_of first) ≡ Some first → above ≡ cost_of_depths question (depths_done + 1) (question.depth - (depths_done + 1))
-    → load_at question depths_done (cond one None (Some first)) (walk_from question.position question.eval (depths_done + 1)) (cond one (untouched question.position question.eval (depths_done + 1)) (untouched (after question.position first) question.eval depths_done))
-    ≤ cond one (pv_cost question.position question.eval (depths_done + 1)) (4 * sum_of_tree_sizes question.position (depths_done + 1 - 1) (legal_codes question.position) + pvs_cost question.position question.eval (depths_done + 1 - 1) (listed question.position question.eval question.multi_pv (depths_done + 1))) + above
-begun_cost_at question first depths_done above true e f b a =
-    let n : question.multi_pv ≡ 1 = eqb-true question.multi_pv 1 e in
-    let l : length (listed_at question depths_done) ≡ 1 = one_listed question.position question.eval question.multi_pv (depths_done + 1) n (omega arith) (first_some question.position first f) in
-    let d : drop (0 + 1) (listed_at question depths_done) ≡ [] = drop_all (0 + 1) (listed_at question depths_done) (omega arith) in
-    let z : pvs_cost question.position question.eval depths_done (drop (0 + 1) (listed_at question depths_done)) ≡ 0 = ap (pvs_cost question.position question.eval depths_done) d in
-    omega (arith, pv_cost-above question.position question.eval (depths_done + 1) (omega arith))
-begun_cost_at question first depths_done above false e f b a =
+begun_cost_at : (go_request : GoRequest) (first : Move) (depths_done : ℕ) (above : ℕ) (one : Bool) → (go_request.multi_pv == 1) ≡ one → IsFirst go_request.position first → move_of (code_of first) ≡ Some first → above ≡ cost_of_depths go_request (depths_done + 1) (go_request.depth - (depths_done + 1))
+    → load_at go_request depths_done (cond one None (Some first)) (walk_from go_request.position go_request.eval (depths_done + 1)) (cond one (untouched go_request.position go_request.eval (depths_done + 1)) (untouched (after go_request.position first) go_request.eval depths_done))
+    ≤ cond one (pv_cost go_request.position go_request.eval (depths_done + 1)) (4 * sum_of_tree_sizes go_request.position (depths_done + 1 - 1) (legal_codes go_request.position) + pvs_cost go_request.position go_request.eval (depths_done + 1 - 1) (listed go_request.position go_request.eval go_request.multi_pv (depths_done + 1))) + above
+begun_cost_at go_request first depths_done above true e f b a =
+    let n : go_request.multi_pv ≡ 1 = eqb-true go_request.multi_pv 1 e in
+    let l : length (listed_at go_request depths_done) ≡ 1 = one_listed go_request.position go_request.eval go_request.multi_pv (depths_done + 1) n (omega arith) (first_some go_request.position first f) in
+    let d : drop (0 + 1) (listed_at go_request depths_done) ≡ [] = drop_all (0 + 1) (listed_at go_request depths_done) (omega arith) in
+    let z : pvs_cost go_request.position go_request.eval depths_done (drop (0 + 1) (listed_at go_request depths_done)) ≡ 0 = ap (pvs_cost go_request.position go_request.eval depths_done) d in
+    omega (arith, pv_cost-above go_request.position go_request.eval (depths_done + 1) (omega arith))
+begun_cost_at go_request first depths_done above false e f b a =
     let k : depths_done + 1 - 1 ≡ depths_done = omega arith in
-    let c : sum_of_tree_sizes question.position depths_done (legal_codes question.position) ≡ tree_size (after question.position first) depths_done + sum_of_tree_sizes question.position depths_done (legal_above question.position (Some first)) =
-    sum_of_tree_sizes-next question.position depths_done (code_of first) (after question.position first) (legal_codes question.position) (legal_above question.position (Some first)) (sym (after_code_of question.position first b)) f in
+    let c : sum_of_tree_sizes go_request.position depths_done (legal_codes go_request.position) ≡ tree_size (after go_request.position first) depths_done + sum_of_tree_sizes go_request.position depths_done (legal_above go_request.position (Some first)) =
+    sum_of_tree_sizes-next go_request.position depths_done (code_of first) (after go_request.position first) (legal_codes go_request.position) (legal_above go_request.position (Some first)) (sym (after_code_of go_request.position first b)) f in
     rw k (omega arith)
 
 -- a depth that begins costs it and the depths above it
-pub begun_cost : (question : Question) (first : Move) (depths_done : ℕ) → depths_done < question.depth → IsFirst question.position first → move_of (code_of first) ≡ Some first
-    → load_at question depths_done (first_root_move question first) (walk_from question.position question.eval (depths_done + 1)) (first_search question first depths_done) ≤ cost_of_depths question depths_done (question.depth - depths_done)
-begun_cost question first depths_done h f b =
-    rw (cost_of_depths-more question depths_done h) (begun_cost_at question first depths_done (cost_of_depths question (depths_done + 1) (question.depth - (depths_done + 1))) (question.multi_pv == 1) refl f b refl)
+pub begun_cost : (go_request : GoRequest) (first : Move) (depths_done : ℕ) → depths_done < go_request.depth → IsFirst go_request.position first → move_of (code_of first) ≡ Some first
+    → load_at go_request depths_done (first_root_move go_request first) (walk_from go_request.position go_request.eval (depths_done + 1)) (first_search go_request first depths_done) ≤ cost_of_depths go_request depths_done (go_request.depth - depths_done)
+begun_cost go_request first depths_done h f b =
+    rw (cost_of_depths-more go_request depths_done h) (begun_cost_at go_request first depths_done (cost_of_depths go_request (depths_done + 1) (go_request.depth - (depths_done + 1))) (go_request.multi_pv == 1) refl f b refl)
 
 -- the bound of a child is one that a search may be given
-pub child_window : (question : Question) (depths_done : ℕ) (root_move : Move) (ranks : Ranking) → IsValid question.position → IsQuestionInRange question → depths_done < question.depth → IsRankedTo question depths_done root_move ranks → (negated INFINITY <ℤ child_beta ranks) × (child_beta ranks ≤ℤ INFINITY)
-child_window question depths_done root_move ranks ok a h r =
-    gone_window question.position question.eval depths_done r.passed ranks ok (let d = a.depth_fits.most in omega arith) (gone question depths_done r.passed ranks r.ranked)
+pub child_window : (go_request : GoRequest) (depths_done : ℕ) (root_move : Move) (ranks : Ranking) → IsValid go_request.position → IsQuestionInRange go_request → depths_done < go_request.depth → IsRankedTo go_request depths_done root_move ranks → (negated INFINITY <ℤ child_beta ranks) × (child_beta ranks ≤ℤ INFINITY)
+child_window go_request depths_done root_move ranks ok a h r =
+    gone_window go_request.position go_request.eval depths_done r.passed ranks ok (let d = a.depth_fits.most in omega arith) (gone go_request depths_done r.passed ranks r.ranked)
 
 -- a move that is not settled is worth what the search after it finds
-pub child_worth : (question : Question) (depths_done code : ℕ) → is_settled question depths_done ≡ false → worth question.position question.eval depths_done code ≡ negated (value (after_code question.position code) question.eval depths_done)
-child_worth question zero code h = worth_plain question.position question.eval 0 code h
-child_worth question (suc d) code h = refl
+pub child_worth : (go_request : GoRequest) (depths_done code : ℕ) → is_settled go_request depths_done ≡ false → worth go_request.position go_request.eval depths_done code ≡ negated (value (after_code go_request.position code) go_request.eval depths_done)
+child_worth go_request zero code h = worth_plain go_request.position go_request.eval 0 code h
+child_worth go_request (suc d) code h = refl
 
-pub child_legal : (question : Question) (depths_done : ℕ) (root_move : Move) (ranks : Ranking) → move_of (code_of root_move) ≡ Some root_move → IsRankedTo question depths_done root_move ranks → is_legal question.position root_move ≡ true
-child_legal question depths_done root_move ranks b r =
-    listed_to_legal question.position root_move b (legal_above_in question.position r.passed (code_of root_move) (ap (is_in (code_of root_move)) r.next ∙ first_in (code_of root_move) (legal_above question.position (Some root_move))))
+pub child_legal : (go_request : GoRequest) (depths_done : ℕ) (root_move : Move) (ranks : Ranking) → move_of (code_of root_move) ≡ Some root_move → IsRankedTo go_request depths_done root_move ranks → is_legal go_request.position root_move ≡ true
+child_legal go_request depths_done root_move ranks b r =
+    listed_to_legal go_request.position root_move b (legal_above_in go_request.position r.passed (code_of root_move) (ap (is_in (code_of root_move)) r.next ∙ first_in (code_of root_move) (legal_above go_request.position (Some root_move))))
 
 -- the root move was ranked, and the next one is searched
-pub ranked_on : (question : Question) (depths_done : ℕ) (root_move m : Move) (new : Ranking) → IsRankedUpTo question depths_done (Some root_move) new
-    → legal_above question.position (Some root_move) ≡ code_of m ∷ legal_above question.position (Some m) → IsRankedTo question depths_done m new
-ranked_on question depths_done root_move m new h n = record { passed = Some root_move; next = n; ranked = h }
+pub ranked_on : (go_request : GoRequest) (depths_done : ℕ) (root_move m : Move) (new : Ranking) → IsRankedUpTo go_request depths_done (Some root_move) new
+    → legal_above go_request.position (Some root_move) ≡ code_of m ∷ legal_above go_request.position (Some m) → IsRankedTo go_request depths_done m new
+ranked_on go_request depths_done root_move m new h n = record { passed = Some root_move; next = n; ranked = h }
 
 -- or it was the last one
-pub ranked_all : (question : Question) (depths_done : ℕ) (root_move : Move) (new : Ranking) → IsRankedUpTo question depths_done (Some root_move) new → legal_above question.position (Some root_move) ≡ [] → IsRanked question depths_done new
-ranked_all question depths_done root_move new h n = record {
-  top = gone_all question.position (worth question.position question.eval depths_done) (Some root_move) new (gone question depths_done (Some root_move) new h) n;
+pub ranked_all : (go_request : GoRequest) (depths_done : ℕ) (root_move : Move) (new : Ranking) → IsRankedUpTo go_request depths_done (Some root_move) new → legal_above go_request.position (Some root_move) ≡ [] → IsRanked go_request depths_done new
+ranked_all go_request depths_done root_move new h n = record {
+  top = gone_all go_request.position (worth go_request.position go_request.eval depths_done) (Some root_move) new (gone go_request depths_done (Some root_move) new h) n;
   most = h.most;
 }
 
-pub next_child_cost : (question : Question) (depths_done : ℕ) (root_move m : Move) (w : Walked) (s : Progress) (beta : ℤ) → s ≡ untouched_below (after question.position m) question.eval depths_done beta → after question.position m ≡ after_code question.position (code_of m)
-    → legal_above question.position (Some root_move) ≡ code_of m ∷ legal_above question.position (Some m) → load_at question depths_done (Some m) w s ≤ load_after_root_move question depths_done root_move
-next_child_cost question depths_done root_move m w s beta e a n =
-    let l : s.left ≡ 4 * tree_size (after question.position m) depths_done = ap (λ (x : Progress). x.left) e in
-    let c : sum_of_tree_sizes question.position depths_done (legal_above question.position (Some root_move)) ≡ tree_size (after question.position m) depths_done + sum_of_tree_sizes question.position depths_done (legal_above question.position (Some m)) =
-    sum_of_tree_sizes-next question.position depths_done (code_of m) (after question.position m) (legal_above question.position (Some root_move)) (legal_above question.position (Some m)) a n in
+pub next_child_cost : (go_request : GoRequest) (depths_done : ℕ) (root_move m : Move) (w : Walked) (s : Progress) (beta : ℤ) → s ≡ untouched_below (after go_request.position m) go_request.eval depths_done beta → after go_request.position m ≡ after_code go_request.position (code_of m)
+    → legal_above go_request.position (Some root_move) ≡ code_of m ∷ legal_above go_request.position (Some m) → load_at go_request depths_done (Some m) w s ≤ load_after_root_move go_request depths_done root_move
+next_child_cost go_request depths_done root_move m w s beta e a n =
+    let l : s.left ≡ 4 * tree_size (after go_request.position m) depths_done = ap (λ (x : Progress). x.left) e in
+    let c : sum_of_tree_sizes go_request.position depths_done (legal_above go_request.position (Some root_move)) ≡ tree_size (after go_request.position m) depths_done + sum_of_tree_sizes go_request.position depths_done (legal_above go_request.position (Some m)) =
+    sum_of_tree_sizes-next go_request.position depths_done (code_of m) (after go_request.position m) (legal_above go_request.position (Some root_move)) (legal_above go_request.position (Some m)) a n in
     omega arith
 
 -- the next depth, and those above it, cost no more
-pub next_depth_cost : (question : Question) (first : Move) (depths_done lines_done : ℕ) (root_move : Option Move) (w : Walked) (s : Progress) → depths_done + 1 < question.depth → IsFirst question.position first → move_of (code_of first) ≡ Some first
-    → load_at question (depths_done + 1) (first_root_move question first) (walk_from question.position question.eval (depths_done + 1 + 1)) (first_search question first (depths_done + 1)) ≤ load_of (running_go_of question depths_done lines_done root_move w s)
-next_depth_cost question first depths_done lines_done root_move w s h f b = omega (arith, begun_cost question first (depths_done + 1) h f b)
+pub next_depth_cost : (go_request : GoRequest) (first : Move) (depths_done lines_done : ℕ) (root_move : Option Move) (w : Walked) (s : Progress) → depths_done + 1 < go_request.depth → IsFirst go_request.position first → move_of (code_of first) ≡ Some first
+    → load_at go_request (depths_done + 1) (first_root_move go_request first) (walk_from go_request.position go_request.eval (depths_done + 1 + 1)) (first_search go_request first (depths_done + 1)) ≤ load_of (running_go_of go_request depths_done lines_done root_move w s)
+next_depth_cost go_request first depths_done lines_done root_move w s h f b = omega (arith, begun_cost go_request first (depths_done + 1) h f b)

@@ -8,10 +8,10 @@ use Rattle.shogi_core.specs.Position.{Shogi}
 use Rattle.shogi_moves.specs.LegalMoves.{legal_codes}
 use Rattle.shogi_eval.specs.declared.eval.Eval.{Eval}
 use Rattle.minimax.specs.Minimax.{value, worth, pv}
-use Rattle.usi_session.specs.declared.question.Question.{Question}
+use Rattle.usi_session.specs.declared.go_request.GoRequest.{GoRequest}
 use Rattle.usi_texts.specs.Texts.{info_line, info_text, numbered_info_text}
 use Rattle.usi_session.specs.GoInfos.{numbered_line, numbered_lines}
-use Rattle.usi_session.specs.RunningGo.{listed_at, infos_of_depths, deeper_infos, rest_of_depth, infos_to_come, infos_after_line, ends_depth}
+use Rattle.usi_session.specs.GoTaskView.{listed_at, infos_of_depths, deeper_infos, rest_of_depth, infos_to_come, infos_after_line, ends_depth}
 use Rattle.usi_session.specs.Walked.{Walked, IsLine}
 use Rattle.usi_session.specs.WholeLines.{GrowsByLines}
 use Rattle.usi_session.proofs.WholeReplies.{info_whole, numbered_info_whole, grows_by_text}
@@ -27,58 +27,58 @@ unfolding numbered_lines
 numbered_lines-none p eval depth number = refl
 
 -- with one line the value and the pv are reported, and the depth ends
-pub reported_one : (question : Question) (depths_done lines_done : ℕ) (w : Walked) (old new : List ℕ) (v : ℤ) (moves : List Move) → IsLine question depths_done lines_done w → question.multi_pv ≡ 1 → legal_codes question.position ≢ []
-    → v ≡ w.value → moves ≡ w.pv → new ≡ old ++ info_text (depths_done + 1) v moves → new ++ infos_after_line question depths_done lines_done ≡ old ++ infos_to_come question depths_done lines_done
-reported_one question depths_done lines_done w old new v moves l n ne value_is moves_are e =
-    let z : lines_done ≡ 0 = omega (arith, line_below question depths_done lines_done w l, n) in
-    let both : (w.value ≡ value question.position question.eval (depths_done + 1)) × (w.pv ≡ pv question.position question.eval (depths_done + 1)) = line_first question depths_done w (subst (λ (k : ℕ). IsLine question depths_done k w) z l) (omega (arith, n)) ne in
-    let len : length (listed_at question depths_done) ≡ 1 = one_listed question.position question.eval question.multi_pv (depths_done + 1) n (omega arith) ne in
-    let ends : ends_depth question depths_done lines_done ≡ true = eq-eqb (lines_done + 1) (length (listed_at question depths_done)) (omega (arith, z, len)) in
-    let left : rest_of_depth question depths_done lines_done ≡ info_line question.position question.eval (depths_done + 1) =
-    cond-true (question.multi_pv == 1) (info_line question.position question.eval (depths_done + 1)) (numbered_lines question.position question.eval (depths_done + 1) (lines_done + 1) (drop lines_done (listed_at question depths_done))) (eq-eqb question.multi_pv 1 n) in
-    let text : info_text (depths_done + 1) v moves ≡ info_line question.position question.eval (depths_done + 1) =
-    ap (λ (x : ℤ). info_text (depths_done + 1) x moves) (value_is ∙ both.0) ∙ ap (λ (ms : List Move). info_text (depths_done + 1) (value question.position question.eval (depths_done + 1)) ms) (moves_are ∙ both.1) in
-    let after : infos_after_line question depths_done lines_done ≡ deeper_infos question depths_done = cond-true (ends_depth question depths_done lines_done) (deeper_infos question depths_done) (infos_to_come question depths_done (lines_done + 1)) ends in
-    ap (λ (xs : List ℕ). xs ++ infos_after_line question depths_done lines_done) e
+pub reported_one : (go_request : GoRequest) (depths_done lines_done : ℕ) (w : Walked) (old new : List ℕ) (v : ℤ) (moves : List Move) → IsLine go_request depths_done lines_done w → go_request.multi_pv ≡ 1 → legal_codes go_request.position ≢ []
+    → v ≡ w.value → moves ≡ w.pv → new ≡ old ++ info_text (depths_done + 1) v moves → new ++ infos_after_line go_request depths_done lines_done ≡ old ++ infos_to_come go_request depths_done lines_done
+reported_one go_request depths_done lines_done w old new v moves l n ne value_is moves_are e =
+    let z : lines_done ≡ 0 = omega (arith, line_below go_request depths_done lines_done w l, n) in
+    let both : (w.value ≡ value go_request.position go_request.eval (depths_done + 1)) × (w.pv ≡ pv go_request.position go_request.eval (depths_done + 1)) = line_first go_request depths_done w (subst (λ (k : ℕ). IsLine go_request depths_done k w) z l) (omega (arith, n)) ne in
+    let len : length (listed_at go_request depths_done) ≡ 1 = one_listed go_request.position go_request.eval go_request.multi_pv (depths_done + 1) n (omega arith) ne in
+    let ends : ends_depth go_request depths_done lines_done ≡ true = eq-eqb (lines_done + 1) (length (listed_at go_request depths_done)) (omega (arith, z, len)) in
+    let left : rest_of_depth go_request depths_done lines_done ≡ info_line go_request.position go_request.eval (depths_done + 1) =
+    cond-true (go_request.multi_pv == 1) (info_line go_request.position go_request.eval (depths_done + 1)) (numbered_lines go_request.position go_request.eval (depths_done + 1) (lines_done + 1) (drop lines_done (listed_at go_request depths_done))) (eq-eqb go_request.multi_pv 1 n) in
+    let text : info_text (depths_done + 1) v moves ≡ info_line go_request.position go_request.eval (depths_done + 1) =
+    ap (λ (x : ℤ). info_text (depths_done + 1) x moves) (value_is ∙ both.0) ∙ ap (λ (ms : List Move). info_text (depths_done + 1) (value go_request.position go_request.eval (depths_done + 1)) ms) (moves_are ∙ both.1) in
+    let after : infos_after_line go_request depths_done lines_done ≡ deeper_infos go_request depths_done = cond-true (ends_depth go_request depths_done lines_done) (deeper_infos go_request depths_done) (infos_to_come go_request depths_done (lines_done + 1)) ends in
+    ap (λ (xs : List ℕ). xs ++ infos_after_line go_request depths_done lines_done) e
     ∙ ap (λ (xs : List ℕ). (old ++ info_text (depths_done + 1) v moves) ++ xs) after
-    ∙ append_assoc old (info_text (depths_done + 1) v moves) (deeper_infos question depths_done)
-    ∙ ap (λ (xs : List ℕ). old ++ (xs ++ deeper_infos question depths_done)) (text ∙ sym left)
+    ∙ append_assoc old (info_text (depths_done + 1) v moves) (deeper_infos go_request depths_done)
+    ∙ ap (λ (xs : List ℕ). old ++ (xs ++ deeper_infos go_request depths_done)) (text ∙ sym left)
 
 -- what is said after a line, of several: the lines after it, and the depths above
-after_at : (question : Question) (depths_done lines_done : ℕ) (ends : Bool) → ends_depth question depths_done lines_done ≡ ends → (question.multi_pv == 1) ≡ false
-    → cond ends (deeper_infos question depths_done) (infos_to_come question depths_done (lines_done + 1)) ≡ numbered_lines question.position question.eval (depths_done + 1) (lines_done + 1 + 1) (drop (lines_done + 1) (listed_at question depths_done)) ++ deeper_infos question depths_done
-after_at question depths_done lines_done true e n =
-    let len : lines_done + 1 ≡ length (listed_at question depths_done) = eqb-true (lines_done + 1) (length (listed_at question depths_done)) e in
-    let none : drop (lines_done + 1) (listed_at question depths_done) ≡ [] = drop_all (lines_done + 1) (listed_at question depths_done) (omega (arith, len)) in
-    sym (ap (λ (xs : List ℕ). numbered_lines question.position question.eval (depths_done + 1) (lines_done + 1 + 1) xs ++ deeper_infos question depths_done) none
-    ∙ ap (λ (xs : List ℕ). xs ++ deeper_infos question depths_done) (numbered_lines-none question.position question.eval (depths_done + 1) (lines_done + 1 + 1)))
-after_at question depths_done lines_done false e n =
-    ap (λ (xs : List ℕ). xs ++ deeper_infos question depths_done)
-    (cond-false (question.multi_pv == 1) (info_line question.position question.eval (depths_done + 1)) (numbered_lines question.position question.eval (depths_done + 1) (lines_done + 1 + 1) (drop (lines_done + 1) (listed_at question depths_done))) n)
+after_at : (go_request : GoRequest) (depths_done lines_done : ℕ) (ends : Bool) → ends_depth go_request depths_done lines_done ≡ ends → (go_request.multi_pv == 1) ≡ false
+    → cond ends (deeper_infos go_request depths_done) (infos_to_come go_request depths_done (lines_done + 1)) ≡ numbered_lines go_request.position go_request.eval (depths_done + 1) (lines_done + 1 + 1) (drop (lines_done + 1) (listed_at go_request depths_done)) ++ deeper_infos go_request depths_done
+after_at go_request depths_done lines_done true e n =
+    let len : lines_done + 1 ≡ length (listed_at go_request depths_done) = eqb-true (lines_done + 1) (length (listed_at go_request depths_done)) e in
+    let none : drop (lines_done + 1) (listed_at go_request depths_done) ≡ [] = drop_all (lines_done + 1) (listed_at go_request depths_done) (omega (arith, len)) in
+    sym (ap (λ (xs : List ℕ). numbered_lines go_request.position go_request.eval (depths_done + 1) (lines_done + 1 + 1) xs ++ deeper_infos go_request depths_done) none
+    ∙ ap (λ (xs : List ℕ). xs ++ deeper_infos go_request depths_done) (numbered_lines-none go_request.position go_request.eval (depths_done + 1) (lines_done + 1 + 1)))
+after_at go_request depths_done lines_done false e n =
+    ap (λ (xs : List ℕ). xs ++ deeper_infos go_request depths_done)
+    (cond-false (go_request.multi_pv == 1) (info_line go_request.position go_request.eval (depths_done + 1)) (numbered_lines go_request.position go_request.eval (depths_done + 1) (lines_done + 1 + 1) (drop (lines_done + 1) (listed_at go_request depths_done))) n)
 
 not_one : (n : ℕ) → n ≢ 1 → (n == 1) ≡ false
 not_one n ne = false_from_ne_true (n == 1) (λ e. ne (eqb-true n 1 e))
 
 -- with several lines the current one is reported by its number
-pub reported_several : (question : Question) (depths_done lines_done : ℕ) (w : Walked) (old new : List ℕ) (v : ℤ) (moves : List Move) → IsLine question depths_done lines_done w → question.multi_pv ≢ 1
-    → v ≡ w.value → moves ≡ w.pv → new ≡ old ++ numbered_info_text (depths_done + 1) (lines_done + 1) v moves → new ++ infos_after_line question depths_done lines_done ≡ old ++ infos_to_come question depths_done lines_done
-reported_several question depths_done lines_done w old new v moves l ne value_is moves_are e =
-    let several : (question.multi_pv == 1) ≡ false = not_one question.multi_pv ne in
-    let more : List ℕ = numbered_lines question.position question.eval (depths_done + 1) (lines_done + 1 + 1) (drop (lines_done + 1) (listed_at question depths_done)) in
-    let line : List ℕ = numbered_line question.position question.eval (depths_done + 1) (lines_done + 1) l.code in
+pub reported_several : (go_request : GoRequest) (depths_done lines_done : ℕ) (w : Walked) (old new : List ℕ) (v : ℤ) (moves : List Move) → IsLine go_request depths_done lines_done w → go_request.multi_pv ≢ 1
+    → v ≡ w.value → moves ≡ w.pv → new ≡ old ++ numbered_info_text (depths_done + 1) (lines_done + 1) v moves → new ++ infos_after_line go_request depths_done lines_done ≡ old ++ infos_to_come go_request depths_done lines_done
+reported_several go_request depths_done lines_done w old new v moves l ne value_is moves_are e =
+    let several : (go_request.multi_pv == 1) ≡ false = not_one go_request.multi_pv ne in
+    let more : List ℕ = numbered_lines go_request.position go_request.eval (depths_done + 1) (lines_done + 1 + 1) (drop (lines_done + 1) (listed_at go_request depths_done)) in
+    let line : List ℕ = numbered_line go_request.position go_request.eval (depths_done + 1) (lines_done + 1) l.code in
     let k : depths_done + 1 - 1 ≡ depths_done = omega arith in
     let text : numbered_info_text (depths_done + 1) (lines_done + 1) v moves ≡ line =
-    ap (λ (x : ℤ). numbered_info_text (depths_done + 1) (lines_done + 1) x moves) (value_is ∙ l.value_is ∙ ap (λ (d : ℕ). worth question.position question.eval d l.code) (sym k))
-    ∙ ap (λ (ms : List Move). numbered_info_text (depths_done + 1) (lines_done + 1) (worth question.position question.eval (depths_done + 1 - 1) l.code) ms) (moves_are ∙ l.pv_is) in
-    let left : rest_of_depth question depths_done lines_done ≡ line ++ more =
-    cond-false (question.multi_pv == 1) (info_line question.position question.eval (depths_done + 1)) (numbered_lines question.position question.eval (depths_done + 1) (lines_done + 1) (drop lines_done (listed_at question depths_done))) several
-    ∙ ap (numbered_lines question.position question.eval (depths_done + 1) (lines_done + 1)) (drop_at (listed_at question depths_done) lines_done l.code l.listed_as)
-    ∙ numbered_lines-next question.position question.eval (depths_done + 1) (lines_done + 1) l.code (drop (lines_done + 1) (listed_at question depths_done)) in
-    ap (λ (xs : List ℕ). xs ++ infos_after_line question depths_done lines_done) (e ∙ ap (λ (xs : List ℕ). old ++ xs) text)
-    ∙ ap (λ (xs : List ℕ). (old ++ line) ++ xs) (after_at question depths_done lines_done (ends_depth question depths_done lines_done) refl several)
-    ∙ append_assoc old line (more ++ deeper_infos question depths_done)
-    ∙ ap (λ (xs : List ℕ). old ++ xs) (sym (append_assoc line more (deeper_infos question depths_done)))
-    ∙ ap (λ (xs : List ℕ). old ++ (xs ++ deeper_infos question depths_done)) (sym left)
+    ap (λ (x : ℤ). numbered_info_text (depths_done + 1) (lines_done + 1) x moves) (value_is ∙ l.value_is ∙ ap (λ (d : ℕ). worth go_request.position go_request.eval d l.code) (sym k))
+    ∙ ap (λ (ms : List Move). numbered_info_text (depths_done + 1) (lines_done + 1) (worth go_request.position go_request.eval (depths_done + 1 - 1) l.code) ms) (moves_are ∙ l.pv_is) in
+    let left : rest_of_depth go_request depths_done lines_done ≡ line ++ more =
+    cond-false (go_request.multi_pv == 1) (info_line go_request.position go_request.eval (depths_done + 1)) (numbered_lines go_request.position go_request.eval (depths_done + 1) (lines_done + 1) (drop lines_done (listed_at go_request depths_done))) several
+    ∙ ap (numbered_lines go_request.position go_request.eval (depths_done + 1) (lines_done + 1)) (drop_at (listed_at go_request depths_done) lines_done l.code l.listed_as)
+    ∙ numbered_lines-next go_request.position go_request.eval (depths_done + 1) (lines_done + 1) l.code (drop (lines_done + 1) (listed_at go_request depths_done)) in
+    ap (λ (xs : List ℕ). xs ++ infos_after_line go_request depths_done lines_done) (e ∙ ap (λ (xs : List ℕ). old ++ xs) text)
+    ∙ ap (λ (xs : List ℕ). (old ++ line) ++ xs) (after_at go_request depths_done lines_done (ends_depth go_request depths_done lines_done) refl several)
+    ∙ append_assoc old line (more ++ deeper_infos go_request depths_done)
+    ∙ ap (λ (xs : List ℕ). old ++ xs) (sym (append_assoc line more (deeper_infos go_request depths_done)))
+    ∙ ap (λ (xs : List ℕ). old ++ (xs ++ deeper_infos go_request depths_done)) (sym left)
 
 -- a line is whole, the only one of a depth
 pub one_grows : (old new : List ℕ) (depth : ℕ) (v : ℤ) (moves : List Move) → new ≡ old ++ info_text depth v moves → GrowsByLines old new
@@ -89,7 +89,7 @@ pub several_grow : (old new : List ℕ) (depth number : ℕ) (v : ℤ) (moves : 
 several_grow old new depth number v moves e = grows_by_text old new (numbered_info_text depth number v moves) e (numbered_info_whole depth number v moves)
 
 -- after the last line of a depth comes the next depth
-pub reported_depth : (question : Question) (depths_done : ℕ) → depths_done + 1 < question.depth → infos_to_come question (depths_done + 1) 0 ≡ deeper_infos question depths_done
-reported_depth question depths_done h =
-    let n : question.depth - (depths_done + 1) ≡ suc (question.depth - (depths_done + 1 + 1)) = omega arith in
-    sym (ap (infos_of_depths question (depths_done + 1)) n ∙ infos_of_depths-suc question (depths_done + 1) (question.depth - (depths_done + 1 + 1)))
+pub reported_depth : (go_request : GoRequest) (depths_done : ℕ) → depths_done + 1 < go_request.depth → infos_to_come go_request (depths_done + 1) 0 ≡ deeper_infos go_request depths_done
+reported_depth go_request depths_done h =
+    let n : go_request.depth - (depths_done + 1) ≡ suc (go_request.depth - (depths_done + 1 + 1)) = omega arith in
+    sym (ap (infos_of_depths go_request (depths_done + 1)) n ∙ infos_of_depths-suc go_request (depths_done + 1) (go_request.depth - (depths_done + 1 + 1)))

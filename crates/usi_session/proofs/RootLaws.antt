@@ -11,11 +11,11 @@ use Rattle.shogi_eval.specs.declared.eval.Eval.{Eval}
 use Rattle.minimax.specs.Minimax.{best}
 use Rattle.shogi_search.specs.Progress.{Progress}
 use Rattle.shogi_search.specs.Ranked.{Ranking}
-use Rattle.usi_session.specs.declared.question.Question.{Question}
+use Rattle.usi_session.specs.declared.go_request.GoRequest.{GoRequest}
 use Rattle.usi_session.specs.declared.state.HeldBestmove.{HeldBestmove}
 use Rattle.usi_session.specs.GoInfos.{listed}
 use Rattle.usi_session.specs.Roots.{Root, root_of, pv_roots, pvs_roots, then_pv_roots, depth_roots, roots_of_depths, roots_where}
-use Rattle.usi_session.specs.RunningGo.{RunningGo, current_roots, deeper_roots, ends_depth, is_last, is_last_of_depth, is_searching, lines_roots, listed_at, roots_of}
+use Rattle.usi_session.specs.GoTaskView.{GoTaskView, current_roots, deeper_roots, ends_depth, is_last, is_last_of_depth, is_searching, lines_roots, listed_at, roots_of}
 use Rattle.usi_session.specs.Walked.{IsAtDepth, IsFirst, LeavesRoots, Walked, first_root_move, roots_after, running_go_of, walk_from, walk_roots}
 use Rattle.usi_session.proofs.Listed.{drop_at, first_some, one_listed}
 use Rattle.usi_session.proofs.NextSearch.{not_above}
@@ -55,63 +55,63 @@ unfolding roots_of_depths
 roots_of_depths-suc p eval multi_pv depths_done more = refl
 
 -- a depth, and those above it
-depth_and_deeper : (question : Question) (depths_done : ℕ) → depths_done < question.depth
-    → depth_roots question.position question.eval question.multi_pv (depths_done + 1) ++ deeper_roots question depths_done
-    ≡ roots_of_depths question.position question.eval question.multi_pv depths_done (question.depth - depths_done)
-depth_and_deeper question depths_done h =
-    let n : question.depth - depths_done ≡ suc (question.depth - (depths_done + 1)) = omega arith in
-    rw n (sym (roots_of_depths-suc question.position question.eval question.multi_pv depths_done (question.depth - (depths_done + 1))))
+depth_and_deeper : (go_request : GoRequest) (depths_done : ℕ) → depths_done < go_request.depth
+    → depth_roots go_request.position go_request.eval go_request.multi_pv (depths_done + 1) ++ deeper_roots go_request depths_done
+    ≡ roots_of_depths go_request.position go_request.eval go_request.multi_pv depths_done (go_request.depth - depths_done)
+depth_and_deeper go_request depths_done h =
+    let n : go_request.depth - depths_done ≡ suc (go_request.depth - (depths_done + 1)) = omega arith in
+    rw n (sym (roots_of_depths-suc go_request.position go_request.eval go_request.multi_pv depths_done (go_request.depth - (depths_done + 1))))
 
 -- behind the last line none is left
-lines_roots-none : (question : Question) (depths_done lines_done : ℕ) → lines_done ≡ length (listed_at question depths_done) → lines_roots question depths_done lines_done ≡ []
-lines_roots-none question depths_done lines_done e =
-    ap (pvs_roots question.position question.eval depths_done) (drop_all lines_done (listed_at question depths_done) (omega arith))
+lines_roots-none : (go_request : GoRequest) (depths_done lines_done : ℕ) → lines_done ≡ length (listed_at go_request depths_done) → lines_roots go_request depths_done lines_done ≡ []
+lines_roots-none go_request depths_done lines_done e =
+    ap (pvs_roots go_request.position go_request.eval depths_done) (drop_all lines_done (listed_at go_request depths_done) (omega arith))
 
-begun_at : (question : Question) (first : Move) (depths_done : ℕ) (search : Progress) (one : Bool) → (question.multi_pv == 1) ≡ one → IsFirst question.position first
-    → current_roots (cond one None (Some first)) (running_go_of question depths_done 0 (cond one None (Some first)) (walk_from question.position question.eval (depths_done + 1)) search)
-    ≡ cond one (pv_roots question.position question.eval (depths_done + 1)) (pvs_roots question.position question.eval (depths_done + 1 - 1) (listed question.position question.eval question.multi_pv (depths_done + 1)))
-begun_at question first depths_done search true e f =
-    let len : length (listed_at question depths_done) ≡ 1 = one_listed question.position question.eval question.multi_pv (depths_done + 1) (eqb-true question.multi_pv 1 e) (omega arith) (first_some question.position first f) in
-    ap (λ (roots : List Root). pv_roots question.position question.eval (depths_done + 1) ++ roots) (lines_roots-none question depths_done 1 (sym len))
-    ∙ append-nil (pv_roots question.position question.eval (depths_done + 1))
-begun_at question first depths_done search false e f =
+begun_at : (go_request : GoRequest) (first : Move) (depths_done : ℕ) (search : Progress) (one : Bool) → (go_request.multi_pv == 1) ≡ one → IsFirst go_request.position first
+    → current_roots (cond one None (Some first)) (running_go_of go_request depths_done 0 (cond one None (Some first)) (walk_from go_request.position go_request.eval (depths_done + 1)) search)
+    ≡ cond one (pv_roots go_request.position go_request.eval (depths_done + 1)) (pvs_roots go_request.position go_request.eval (depths_done + 1 - 1) (listed go_request.position go_request.eval go_request.multi_pv (depths_done + 1)))
+begun_at go_request first depths_done search true e f =
+    let len : length (listed_at go_request depths_done) ≡ 1 = one_listed go_request.position go_request.eval go_request.multi_pv (depths_done + 1) (eqb-true go_request.multi_pv 1 e) (omega arith) (first_some go_request.position first f) in
+    ap (λ (roots : List Root). pv_roots go_request.position go_request.eval (depths_done + 1) ++ roots) (lines_roots-none go_request depths_done 1 (sym len))
+    ∙ append-nil (pv_roots go_request.position go_request.eval (depths_done + 1))
+begun_at go_request first depths_done search false e f =
     let k : depths_done + 1 - 1 ≡ depths_done = omega arith in rw k refl
 
 -- before a depth it and those above it are searched
-pub begun_roots : (question : Question) (first : Move) (depths_done : ℕ) (search : Progress) → depths_done < question.depth → IsFirst question.position first
-    → roots_of (running_go_of question depths_done 0 (first_root_move question first) (walk_from question.position question.eval (depths_done + 1)) search)
-    ≡ roots_of_depths question.position question.eval question.multi_pv depths_done (question.depth - depths_done)
-begun_roots question first depths_done search h f =
-    ap (λ (roots : List Root). roots ++ deeper_roots question depths_done) (begun_at question first depths_done search (question.multi_pv == 1) refl f)
-    ∙ depth_and_deeper question depths_done h
+pub begun_roots : (go_request : GoRequest) (first : Move) (depths_done : ℕ) (search : Progress) → depths_done < go_request.depth → IsFirst go_request.position first
+    → roots_of (running_go_of go_request depths_done 0 (first_root_move go_request first) (walk_from go_request.position go_request.eval (depths_done + 1)) search)
+    ≡ roots_of_depths go_request.position go_request.eval go_request.multi_pv depths_done (go_request.depth - depths_done)
+begun_roots go_request first depths_done search h f =
+    ap (λ (roots : List Root). roots ++ deeper_roots go_request depths_done) (begun_at go_request first depths_done search (go_request.multi_pv == 1) refl f)
+    ∙ depth_and_deeper go_request depths_done h
 
-current_whole : (go : RunningGo) (root_move : Option Move) → (is_some root_move || nat_lt 0 go.walk_plies) ≡ false
-    → current_roots root_move go ≡ lines_roots go.question go.depths_done (go.lines_done + 1)
+current_whole : (go : GoTaskView) (root_move : Option Move) → (is_some root_move || nat_lt 0 go.walk_plies) ≡ false
+    → current_roots root_move go ≡ lines_roots go.go_request go.depths_done (go.lines_done + 1)
 current_whole go (Some m) e = absurd (cc)
 current_whole go None e =
-    ap (λ (k : ℕ). pv_roots go.walk_position go.question.eval k ++ lines_roots go.question go.depths_done (go.lines_done + 1)) (not_above go.walk_plies e)
-    ∙ ap (λ (roots : List Root). roots ++ lines_roots go.question go.depths_done (go.lines_done + 1)) (pv_roots-leaf go.walk_position go.question.eval)
+    ap (λ (k : ℕ). pv_roots go.walk_position go.go_request.eval k ++ lines_roots go.go_request go.depths_done (go.lines_done + 1)) (not_above go.walk_plies e)
+    ∙ ap (λ (roots : List Root). roots ++ lines_roots go.go_request go.depths_done (go.lines_done + 1)) (pv_roots-leaf go.walk_position go.go_request.eval)
 
 -- once a pv is whole, those along the pvs behind it are left, and those of the depths above
-pub whole_roots : (go : RunningGo) → is_searching go ≡ false
-    → roots_of go ≡ lines_roots go.question go.depths_done (go.lines_done + 1) ++ deeper_roots go.question go.depths_done
-whole_roots go whole = ap (λ (roots : List Root). roots ++ deeper_roots go.question go.depths_done) (current_whole go go.root_move whole)
+pub whole_roots : (go : GoTaskView) → is_searching go ≡ false
+    → roots_of go ≡ lines_roots go.go_request go.depths_done (go.lines_done + 1) ++ deeper_roots go.go_request go.depths_done
+whole_roots go whole = ap (λ (roots : List Root). roots ++ deeper_roots go.go_request go.depths_done) (current_whole go go.root_move whole)
 
 -- and where it is the last one of its depth, those of the depths above
-pub ended_roots : (go : RunningGo) → is_searching go ≡ false → is_last_of_depth go ≡ true → roots_of go ≡ deeper_roots go.question go.depths_done
+pub ended_roots : (go : GoTaskView) → is_searching go ≡ false → is_last_of_depth go ≡ true → roots_of go ≡ deeper_roots go.go_request go.depths_done
 ended_roots go whole last =
     whole_roots go whole
-    ∙ ap (λ (roots : List Root). roots ++ deeper_roots go.question go.depths_done) (lines_roots-none go.question go.depths_done (go.lines_done + 1) (eqb-true (go.lines_done + 1) (length (listed_at go.question go.depths_done)) last))
+    ∙ ap (λ (roots : List Root). roots ++ deeper_roots go.go_request go.depths_done) (lines_roots-none go.go_request go.depths_done (go.lines_done + 1) (eqb-true (go.lines_done + 1) (length (listed_at go.go_request go.depths_done)) last))
 
 -- above the last depth none is left
-deeper_roots-none : (question : Question) (depths_done : ℕ) → depths_done + 1 ≡ question.depth → deeper_roots question depths_done ≡ []
-deeper_roots-none question depths_done e = let n : question.depth - (depths_done + 1) ≡ 0 = omega arith in rw n (roots_of_depths-start question.position question.eval question.multi_pv (depths_done + 1))
+deeper_roots-none : (go_request : GoRequest) (depths_done : ℕ) → depths_done + 1 ≡ go_request.depth → deeper_roots go_request depths_done ≡ []
+deeper_roots-none go_request depths_done e = let n : go_request.depth - (depths_done + 1) ≡ 0 = omega arith in rw n (roots_of_depths-start go_request.position go_request.eval go_request.multi_pv (depths_done + 1))
 
 -- once its last line is whole none is left
-pub roots_of-last : (go : RunningGo) → is_searching go ≡ false → is_last go ≡ true → roots_of go ≡ []
+pub roots_of-last : (go : GoTaskView) → is_searching go ≡ false → is_last go ≡ true → roots_of go ≡ []
 roots_of-last go whole last =
-    let parts = and_parts (ends_depth go.question go.depths_done go.lines_done) (go.depths_done + 1 == go.question.depth) last in
-    ended_roots go whole parts.0 ∙ deeper_roots-none go.question go.depths_done (eqb-true (go.depths_done + 1) go.question.depth parts.1)
+    let parts = and_parts (ends_depth go.go_request go.depths_done go.lines_done) (go.depths_done + 1 == go.go_request.depth) last in
+    ended_roots go whole parts.0 ∙ deeper_roots-none go.go_request go.depths_done (eqb-true (go.depths_done + 1) go.go_request.depth parts.1)
 
 -- where a move is legal each depth is searched
 pub roots_begun : (position : Shogi) (eval : Eval) (multi_pv depth code : ℕ) (codes : List ℕ) → legal_codes position ≡ code ∷ codes
@@ -132,19 +132,19 @@ walked_roots eval old new h k some e =
     ∙ ap (λ (roots : List Root). root_of old.at old.eval old.plies ∷ roots) (sym e ∙ ap (λ (v : Eval). pv_roots new.at v new.plies) k))
 
 -- the search of a root move is none of those along a pv
-pub ranking_roots : (question : Question) (depths_done lines_done : ℕ) (was now : Option Move) (m : Move) (ranks : Ranking) (old new : Walked) (kept : HeldBestmove) (before after : Progress)
-    → was ≡ Some m → IsAtDepth question depths_done lines_done was ranks old kept before → LeavesRoots question depths_done now new after
-    → roots_of (running_go_of question depths_done lines_done now new after) ≡ roots_of (running_go_of question depths_done lines_done was old before)
-ranking_roots question depths_done lines_done None now m ranks old new kept before after e h leaves = absurd (cc)
-ranking_roots question depths_done lines_done (Some k) now m ranks old new kept before after e h leaves =
-    ap (λ (l : ℕ). roots_of (running_go_of question depths_done l now new after)) h.none_done
-    ∙ ap (λ (roots : List Root). roots ++ deeper_roots question depths_done) leaves
+pub ranking_roots : (go_request : GoRequest) (depths_done lines_done : ℕ) (was now : Option Move) (m : Move) (ranks : Ranking) (old new : Walked) (kept : HeldBestmove) (before after : Progress)
+    → was ≡ Some m → IsAtDepth go_request depths_done lines_done was ranks old kept before → LeavesRoots go_request depths_done now new after
+    → roots_of (running_go_of go_request depths_done lines_done now new after) ≡ roots_of (running_go_of go_request depths_done lines_done was old before)
+ranking_roots go_request depths_done lines_done None now m ranks old new kept before after e h leaves = absurd (cc)
+ranking_roots go_request depths_done lines_done (Some k) now m ranks old new kept before after e h leaves =
+    ap (λ (l : ℕ). roots_of (running_go_of go_request depths_done l now new after)) h.none_done
+    ∙ ap (λ (roots : List Root). roots ++ deeper_roots go_request depths_done) leaves
 
 -- how far a search is does not matter
-pub same_roots : (question : Question) (depths_done lines_done : ℕ) (root_move : Option Move) (walk : Walked) (before after : Progress)
-    → roots_of (running_go_of question depths_done lines_done root_move walk after) ≡ roots_of (running_go_of question depths_done lines_done root_move walk before)
-same_roots question depths_done lines_done None walk before after = refl
-same_roots question depths_done lines_done (Some m) walk before after = refl
+pub same_roots : (go_request : GoRequest) (depths_done lines_done : ℕ) (root_move : Option Move) (walk : Walked) (before after : Progress)
+    → roots_of (running_go_of go_request depths_done lines_done root_move walk after) ≡ roots_of (running_go_of go_request depths_done lines_done root_move walk before)
+same_roots go_request depths_done lines_done None walk before after = refl
+same_roots go_request depths_done lines_done (Some m) walk before after = refl
 
 pub searching_plies : (root_move : Option Move) (n : ℕ) → (is_some root_move || nat_lt 0 n) ≡ true → root_move ≡ None → 0 < n
 searching_plies None n e h = ltb-true 0 n e

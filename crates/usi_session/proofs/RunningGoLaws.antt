@@ -7,48 +7,48 @@ use Rattle.shogi_core.specs.declared.moves.Move.{Move}
 use Rattle.shogi_moves.specs.LegalMoves.{legal_codes, legal_above}
 use Rattle.usi_lines.specs.declared.command.Hold.{Hold}
 use Rattle.usi_lines.specs.declared.command.Hold.TheVariants.{Nothing, UntilStop, UntilHit}
-use Rattle.usi_session.specs.declared.question.Question.{Question}
+use Rattle.usi_session.specs.declared.go_request.GoRequest.{GoRequest}
 use Rattle.usi_session.specs.declared.state.State.{State}
 use Rattle.usi_session.specs.declared.state.HeldBestmove.{HeldBestmove}
 use Rattle.usi_session.specs.GoInfos.{info_lines, depth_lines, go_infos}
 use Rattle.usi_session.specs.Costs.{depth_cost, cost_to_depth}
 use Rattle.usi_session.specs.Answer.{write_or_hold, answer_go}
 use Rattle.usi_session.specs.Walked.{IsFirst}
-use Rattle.usi_session.specs.RunningGo.{RunningGo, infos_of_depths, deeper_infos, infos_to_come, infos_left, infos_after, bestmove_to, rest_of_go, ends_depth, is_last, cost_of_depths}
+use Rattle.usi_session.specs.GoTaskView.{GoTaskView, infos_of_depths, deeper_infos, infos_to_come, infos_left, infos_after, bestmove_to, rest_of_go, ends_depth, is_last, cost_of_depths}
 use Rattle.usi_session.proofs.Infos.{info_lines-start, info_lines-more, go_infos-some, not_empty}
 
-infos_of_depths-start : (question : Question) (depths_done : ℕ) → infos_of_depths question depths_done 0 ≡ []
+infos_of_depths-start : (go_request : GoRequest) (depths_done : ℕ) → infos_of_depths go_request depths_done 0 ≡ []
 unfolding infos_of_depths
-infos_of_depths-start question depths_done = refl
+infos_of_depths-start go_request depths_done = refl
 
-pub infos_of_depths-suc : (question : Question) (depths_done more : ℕ) → infos_of_depths question depths_done (suc more) ≡ depth_lines question.position question.eval question.multi_pv (depths_done + 1) ++ infos_of_depths question (depths_done + 1) more
+pub infos_of_depths-suc : (go_request : GoRequest) (depths_done more : ℕ) → infos_of_depths go_request depths_done (suc more) ≡ depth_lines go_request.position go_request.eval go_request.multi_pv (depths_done + 1) ++ infos_of_depths go_request (depths_done + 1) more
 unfolding infos_of_depths
-infos_of_depths-suc question depths_done more = refl
+infos_of_depths-suc go_request depths_done more = refl
 
 -- the depths that are done, and so many above them
-infos_of_depths-from : (question : Question) (more depths_done : ℕ) → info_lines question.position question.eval question.multi_pv (depths_done + more) ≡ info_lines question.position question.eval question.multi_pv depths_done ++ infos_of_depths question depths_done more
-infos_of_depths-from question zero depths_done = let n : depths_done + 0 ≡ depths_done = omega arith in rw (n, infos_of_depths-start question depths_done, append-nil (info_lines question.position question.eval question.multi_pv depths_done)) refl
-infos_of_depths-from question (suc more) depths_done =
+infos_of_depths-from : (go_request : GoRequest) (more depths_done : ℕ) → info_lines go_request.position go_request.eval go_request.multi_pv (depths_done + more) ≡ info_lines go_request.position go_request.eval go_request.multi_pv depths_done ++ infos_of_depths go_request depths_done more
+infos_of_depths-from go_request zero depths_done = let n : depths_done + 0 ≡ depths_done = omega arith in rw (n, infos_of_depths-start go_request depths_done, append-nil (info_lines go_request.position go_request.eval go_request.multi_pv depths_done)) refl
+infos_of_depths-from go_request (suc more) depths_done =
     let n : depths_done + suc more ≡ (depths_done + 1) + more = omega arith in
-    rw (n, infos_of_depths-suc question depths_done more, infos_of_depths-from question more (depths_done + 1), info_lines-more question.position question.eval question.multi_pv depths_done) (append_assoc (info_lines question.position question.eval question.multi_pv depths_done) (depth_lines question.position question.eval question.multi_pv (depths_done + 1)) (infos_of_depths question (depths_done + 1) more))
+    rw (n, infos_of_depths-suc go_request depths_done more, infos_of_depths-from go_request more (depths_done + 1), info_lines-more go_request.position go_request.eval go_request.multi_pv depths_done) (append_assoc (info_lines go_request.position go_request.eval go_request.multi_pv depths_done) (depth_lines go_request.position go_request.eval go_request.multi_pv (depths_done + 1)) (infos_of_depths go_request (depths_done + 1) more))
 
 -- above the last depth nothing is said
-deeper_infos-none : (question : Question) (depths_done : ℕ) → depths_done + 1 ≡ question.depth → deeper_infos question depths_done ≡ []
-deeper_infos-none question depths_done e = let n : question.depth - (depths_done + 1) ≡ 0 = omega arith in rw n (infos_of_depths-start question (depths_done + 1))
+deeper_infos-none : (go_request : GoRequest) (depths_done : ℕ) → depths_done + 1 ≡ go_request.depth → deeper_infos go_request depths_done ≡ []
+deeper_infos-none go_request depths_done e = let n : go_request.depth - (depths_done + 1) ≡ 0 = omega arith in rw n (infos_of_depths-start go_request (depths_done + 1))
 
 -- before the first line of a depth the whole depth is still to be said, and those above it
-pub infos_to_come-start : (question : Question) (depths_done : ℕ) → depths_done < question.depth → infos_to_come question depths_done 0 ≡ infos_of_depths question depths_done (question.depth - depths_done)
-infos_to_come-start question depths_done h =
-    let n : question.depth - depths_done ≡ suc (question.depth - (depths_done + 1)) = omega arith in rw n (sym (infos_of_depths-suc question depths_done (question.depth - (depths_done + 1))))
+pub infos_to_come-start : (go_request : GoRequest) (depths_done : ℕ) → depths_done < go_request.depth → infos_to_come go_request depths_done 0 ≡ infos_of_depths go_request depths_done (go_request.depth - depths_done)
+infos_to_come-start go_request depths_done h =
+    let n : go_request.depth - depths_done ≡ suc (go_request.depth - (depths_done + 1)) = omega arith in rw n (sym (infos_of_depths-suc go_request depths_done (go_request.depth - (depths_done + 1))))
 
 -- before the first depth all is still to be said
-pub infos_to_come-all : (question : Question) → 0 < question.depth → legal_codes question.position ≢ [] → infos_to_come question 0 0 ≡ go_infos question.position question.eval question.multi_pv question.depth
-infos_to_come-all question some h =
-    let n : question.depth - 0 ≡ question.depth = omega arith in
-    let m : 0 + question.depth ≡ question.depth = omega arith in
-    let whole : info_lines question.position question.eval question.multi_pv (0 + question.depth) ≡ info_lines question.position question.eval question.multi_pv 0 ++ infos_of_depths question 0 question.depth = infos_of_depths-from question question.depth 0 in
-    let same : info_lines question.position question.eval question.multi_pv question.depth ≡ infos_of_depths question 0 question.depth = ap (info_lines question.position question.eval question.multi_pv) (sym m) ∙ whole ∙ ap (λ xs. xs ++ infos_of_depths question 0 question.depth) (info_lines-start question.position question.eval question.multi_pv) in
-    infos_to_come-start question 0 some ∙ (rw n (sym same ∙ sym (go_infos-some question.position question.eval question.multi_pv question.depth h)))
+pub infos_to_come-all : (go_request : GoRequest) → 0 < go_request.depth → legal_codes go_request.position ≢ [] → infos_to_come go_request 0 0 ≡ go_infos go_request.position go_request.eval go_request.multi_pv go_request.depth
+infos_to_come-all go_request some h =
+    let n : go_request.depth - 0 ≡ go_request.depth = omega arith in
+    let m : 0 + go_request.depth ≡ go_request.depth = omega arith in
+    let whole : info_lines go_request.position go_request.eval go_request.multi_pv (0 + go_request.depth) ≡ info_lines go_request.position go_request.eval go_request.multi_pv 0 ++ infos_of_depths go_request 0 go_request.depth = infos_of_depths-from go_request go_request.depth 0 in
+    let same : info_lines go_request.position go_request.eval go_request.multi_pv go_request.depth ≡ infos_of_depths go_request 0 go_request.depth = ap (info_lines go_request.position go_request.eval go_request.multi_pv) (sym m) ∙ whole ∙ ap (λ xs. xs ++ infos_of_depths go_request 0 go_request.depth) (info_lines-start go_request.position go_request.eval go_request.multi_pv) in
+    infos_to_come-start go_request 0 some ∙ (rw n (sym same ∙ sym (go_infos-some go_request.position go_request.eval go_request.multi_pv go_request.depth h)))
 
 both : (a b : Bool) → (a && b) ≡ true → (a ≡ true) × (b ≡ true)
 both true true e = (refl, refl)
@@ -56,44 +56,44 @@ both true false e = absurd (cc)
 both false b e = absurd (cc)
 
 -- nothing is said after the last line
-pub infos_after_line-last : (go : RunningGo) → is_last go ≡ true → infos_after go ≡ []
+pub infos_after_line-last : (go : GoTaskView) → is_last go ≡ true → infos_after go ≡ []
 infos_after_line-last go e =
-    let parts : (ends_depth go.question go.depths_done go.lines_done ≡ true) × ((go.depths_done + 1 == go.question.depth) ≡ true) = both (ends_depth go.question go.depths_done go.lines_done) (go.depths_done + 1 == go.question.depth) e in
-    ap (λ (b : Bool). cond b (deeper_infos go.question go.depths_done) (infos_to_come go.question go.depths_done (go.lines_done + 1))) parts.0 ∙ deeper_infos-none go.question go.depths_done (eqb-true (go.depths_done + 1) go.question.depth parts.1)
+    let parts : (ends_depth go.go_request go.depths_done go.lines_done ≡ true) × ((go.depths_done + 1 == go.go_request.depth) ≡ true) = both (ends_depth go.go_request go.depths_done go.lines_done) (go.depths_done + 1 == go.go_request.depth) e in
+    ap (λ (b : Bool). cond b (deeper_infos go.go_request go.depths_done) (infos_to_come go.go_request go.depths_done (go.lines_done + 1))) parts.0 ∙ deeper_infos-none go.go_request go.depths_done (eqb-true (go.depths_done + 1) go.go_request.depth parts.1)
 
-cost_of_depths-start : (question : Question) (depths_done : ℕ) → cost_of_depths question depths_done 0 ≡ 0
+cost_of_depths-start : (go_request : GoRequest) (depths_done : ℕ) → cost_of_depths go_request depths_done 0 ≡ 0
 unfolding cost_of_depths
-cost_of_depths-start question depths_done = refl
+cost_of_depths-start go_request depths_done = refl
 
-cost_of_depths-suc : (question : Question) (depths_done more : ℕ) → cost_of_depths question depths_done (suc more) ≡ depth_cost question.position question.eval question.multi_pv (depths_done + 1) + cost_of_depths question (depths_done + 1) more
+cost_of_depths-suc : (go_request : GoRequest) (depths_done more : ℕ) → cost_of_depths go_request depths_done (suc more) ≡ depth_cost go_request.position go_request.eval go_request.multi_pv (depths_done + 1) + cost_of_depths go_request (depths_done + 1) more
 unfolding cost_of_depths
-cost_of_depths-suc question depths_done more = refl
+cost_of_depths-suc go_request depths_done more = refl
 
-cost_to_depth-start : (question : Question) → cost_to_depth question.position question.eval question.multi_pv 0 ≡ 0
+cost_to_depth-start : (go_request : GoRequest) → cost_to_depth go_request.position go_request.eval go_request.multi_pv 0 ≡ 0
 unfolding cost_to_depth
-cost_to_depth-start question = refl
+cost_to_depth-start go_request = refl
 
-cost_to_depth-more : (question : Question) (depths_done : ℕ) → cost_to_depth question.position question.eval question.multi_pv (depths_done + 1) ≡ cost_to_depth question.position question.eval question.multi_pv depths_done + depth_cost question.position question.eval question.multi_pv (depths_done + 1)
+cost_to_depth-more : (go_request : GoRequest) (depths_done : ℕ) → cost_to_depth go_request.position go_request.eval go_request.multi_pv (depths_done + 1) ≡ cost_to_depth go_request.position go_request.eval go_request.multi_pv depths_done + depth_cost go_request.position go_request.eval go_request.multi_pv (depths_done + 1)
 unfolding cost_to_depth
-cost_to_depth-more question depths_done = rw add-one refl
+cost_to_depth-more go_request depths_done = rw add-one refl
 
 -- a depth, and those above it
-pub cost_of_depths-more : (question : Question) (depths_done : ℕ) → depths_done < question.depth → cost_of_depths question depths_done (question.depth - depths_done) ≡ depth_cost question.position question.eval question.multi_pv (depths_done + 1) + cost_of_depths question (depths_done + 1) (question.depth - (depths_done + 1))
-cost_of_depths-more question depths_done h =
-    let n : question.depth - depths_done ≡ suc (question.depth - (depths_done + 1)) = omega arith in rw n (cost_of_depths-suc question depths_done (question.depth - (depths_done + 1)))
+pub cost_of_depths-more : (go_request : GoRequest) (depths_done : ℕ) → depths_done < go_request.depth → cost_of_depths go_request depths_done (go_request.depth - depths_done) ≡ depth_cost go_request.position go_request.eval go_request.multi_pv (depths_done + 1) + cost_of_depths go_request (depths_done + 1) (go_request.depth - (depths_done + 1))
+cost_of_depths-more go_request depths_done h =
+    let n : go_request.depth - depths_done ≡ suc (go_request.depth - (depths_done + 1)) = omega arith in rw n (cost_of_depths-suc go_request depths_done (go_request.depth - (depths_done + 1)))
 
-cost_of_depths-from : (question : Question) (more depths_done : ℕ) → cost_to_depth question.position question.eval question.multi_pv (depths_done + more) ≡ cost_to_depth question.position question.eval question.multi_pv depths_done + cost_of_depths question depths_done more
-cost_of_depths-from question zero depths_done = let n : depths_done + 0 ≡ depths_done = omega arith in rw (n, cost_of_depths-start question depths_done) (omega arith)
-cost_of_depths-from question (suc more) depths_done =
+cost_of_depths-from : (go_request : GoRequest) (more depths_done : ℕ) → cost_to_depth go_request.position go_request.eval go_request.multi_pv (depths_done + more) ≡ cost_to_depth go_request.position go_request.eval go_request.multi_pv depths_done + cost_of_depths go_request depths_done more
+cost_of_depths-from go_request zero depths_done = let n : depths_done + 0 ≡ depths_done = omega arith in rw (n, cost_of_depths-start go_request depths_done) (omega arith)
+cost_of_depths-from go_request (suc more) depths_done =
     let n : depths_done + suc more ≡ (depths_done + 1) + more = omega arith in
-    rw (n, cost_of_depths-suc question depths_done more, cost_of_depths-from question more (depths_done + 1), cost_to_depth-more question depths_done) (omega arith)
+    rw (n, cost_of_depths-suc go_request depths_done more, cost_of_depths-from go_request more (depths_done + 1), cost_to_depth-more go_request depths_done) (omega arith)
 
 -- above no depth is each depth
-pub cost_of_depths-all : (question : Question) → cost_of_depths question 0 question.depth ≡ cost_to_depth question.position question.eval question.multi_pv question.depth
-cost_of_depths-all question =
-    let m : 0 + question.depth ≡ question.depth = omega arith in
-    let whole : cost_to_depth question.position question.eval question.multi_pv (0 + question.depth) ≡ cost_to_depth question.position question.eval question.multi_pv 0 + cost_of_depths question 0 question.depth = cost_of_depths-from question question.depth 0 in
-    sym (ap (cost_to_depth question.position question.eval question.multi_pv) (sym m) ∙ whole ∙ omega (arith, cost_to_depth-start question))
+pub cost_of_depths-all : (go_request : GoRequest) → cost_of_depths go_request 0 go_request.depth ≡ cost_to_depth go_request.position go_request.eval go_request.multi_pv go_request.depth
+cost_of_depths-all go_request =
+    let m : 0 + go_request.depth ≡ go_request.depth = omega arith in
+    let whole : cost_to_depth go_request.position go_request.eval go_request.multi_pv (0 + go_request.depth) ≡ cost_to_depth go_request.position go_request.eval go_request.multi_pv 0 + cost_of_depths go_request 0 go_request.depth = cost_of_depths-from go_request go_request.depth 0 in
+    sym (ap (cost_to_depth go_request.position go_request.eval go_request.multi_pv) (sym m) ∙ whole ∙ omega (arith, cost_to_depth-start go_request))
 
 -- what is said before the bestmove, and then the bestmove
 pub write_or_hold-bytes : (s : State) (infos : List ℕ) (held : HeldBestmove) (hold : Hold) → (write_or_hold s infos held hold).bytes ≡ infos ++ (write_or_hold s [] held hold).bytes
@@ -113,13 +113,13 @@ write_or_hold-over s infos held UntilStop = refl
 write_or_hold-over s infos held UntilHit = refl
 
 -- what a `go` asks in a state
-abbrev pub question_of : State → ℕ → Hold → Question
+abbrev pub question_of : State → ℕ → Hold → GoRequest
 question_of s depth hold = record { position = s.position; eval = s.options.eval; multi_pv = s.options.multi_pv; depth = depth; hold = hold }
 
 -- before its first line all of its answer is still to be said
-pub begins-rest : (s : State) (depth : ℕ) (hold : Hold) (first : Move) (go : RunningGo) → 0 < depth → IsFirst s.position first → go.question ≡ question_of s depth hold → go.depths_done ≡ 0 → go.lines_done ≡ 0 → rest_of_go s go ≡ answer_go s depth hold
+pub begins-rest : (s : State) (depth : ℕ) (hold : Hold) (first : Move) (go : GoTaskView) → 0 < depth → IsFirst s.position first → go.go_request ≡ question_of s depth hold → go.depths_done ≡ 0 → go.lines_done ≡ 0 → rest_of_go s go ≡ answer_go s depth hold
 begins-rest s depth hold first go some f q t h =
     let all : infos_to_come (question_of s depth hold) 0 0 ≡ go_infos s.position s.options.eval s.options.multi_pv depth = infos_to_come-all (question_of s depth hold) some (not_empty (legal_codes s.position) (legal_above s.position (Some first)) (code_of first) f) in
     let left : infos_left go ≡ go_infos s.position s.options.eval s.options.multi_pv depth = rw (q, t, h) all in
-    ap (λ xs. write_or_hold s xs (bestmove_to go.question go.question.depth) go.question.hold) left
-    ∙ ap (λ (question : Question). write_or_hold s (go_infos s.position s.options.eval s.options.multi_pv depth) (bestmove_to question question.depth) question.hold) q
+    ap (λ xs. write_or_hold s xs (bestmove_to go.go_request go.go_request.depth) go.go_request.hold) left
+    ∙ ap (λ (go_request : GoRequest). write_or_hold s (go_infos s.position s.options.eval s.options.multi_pv depth) (bestmove_to go_request go_request.depth) go_request.hold) q

@@ -15,9 +15,9 @@ use Rattle.shogi_search.specs.Progress.{Progress, FindsBest, FindsValue, IsFound
 use Rattle.shogi_search.specs.SearchCalls.{Says, TellsRoot}
 use Rattle.shogi_search.specs.declared.found.Found.{Found}
 use Rattle.shogi_search.proofs.CallLaws.{calls_and_calls, no_calls, one_call}
-use Rattle.usi_session.specs.declared.question.Question.{Question}
+use Rattle.usi_session.specs.declared.go_request.GoRequest.{GoRequest}
 use Rattle.usi_session.specs.Roots.{Root, pv_roots, root_of}
-use Rattle.usi_session.specs.RunningGo.{deeper_roots, lines_roots, roots_of}
+use Rattle.usi_session.specs.GoTaskView.{deeper_roots, lines_roots, roots_of}
 use Rattle.usi_session.specs.Walked.{IsUnder, Walked, roots_after, running_go_of, walk_roots}
 use Rattle.usi_session.specs.Told.{AreTold, IsCalled, TellsEnded, TellsValue, entry_of_root}
 use Rattle.usi_session.proofs.RootLaws.{walked_roots}
@@ -159,12 +159,12 @@ ended_on called a b root old new behind deeper told e =
     one_ended called a b root _ _ told (ap (λ roots. (roots ++ behind) ++ deeper) e)
 
 -- a walk went on by a search that ended
-pub walked_told : {M : Type 0} (called : M → Call → M → Type 0) (a b : M) (question : Question) (depths_done lines_done : ℕ) (root_move : Option Move)
+pub walked_told : {M : Type 0} (called : M → Call → M → Type 0) (a b : M) (go_request : GoRequest) (depths_done lines_done : ℕ) (root_move : Option Move)
     (old new : Walked) (before after : Progress)
-    → root_move ≡ None → old.eval ≡ question.eval → new.eval ≡ question.eval → 0 < old.plies → walk_roots new ≡ roots_after old
+    → root_move ≡ None → old.eval ≡ go_request.eval → new.eval ≡ go_request.eval → 0 < old.plies → walk_roots new ≡ roots_after old
     → TellsValue called a b (root_of old.at old.eval old.plies)
-    → TellsEnded called a b (roots_of (running_go_of question depths_done lines_done root_move old before)) (roots_of (running_go_of question depths_done lines_done root_move new after))
-walked_told called a b question depths_done lines_done None old new before after none h k some e told =
-    ended_on called a b (root_of old.at old.eval old.plies) (pv_roots old.at question.eval old.plies) (pv_roots new.at question.eval new.plies)
-    (lines_roots question depths_done (lines_done + 1)) (deeper_roots question depths_done) told (walked_roots question.eval old new h k some e)
-walked_told called a b question depths_done lines_done (Some m) old new before after none h k some e told = absurd (cc)
+    → TellsEnded called a b (roots_of (running_go_of go_request depths_done lines_done root_move old before)) (roots_of (running_go_of go_request depths_done lines_done root_move new after))
+walked_told called a b go_request depths_done lines_done None old new before after none h k some e told =
+    ended_on called a b (root_of old.at old.eval old.plies) (pv_roots old.at go_request.eval old.plies) (pv_roots new.at go_request.eval new.plies)
+    (lines_roots go_request depths_done (lines_done + 1)) (deeper_roots go_request depths_done) told (walked_roots go_request.eval old new h k some e)
+walked_told called a b go_request depths_done lines_done (Some m) old new before after none h k some e told = absurd (cc)

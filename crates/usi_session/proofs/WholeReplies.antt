@@ -24,7 +24,7 @@ use Rattle.usi_texts.specs.declared.setup.Setup.{Setup}
 use Rattle.usi_texts.specs.Setup.{offers}
 use Rattle.usi_session.specs.Answer.{answer, answer_with, set_options, depth_of_go, answer_position, write_or_hold, answer_stop, answer_ponderhit_held, answer_ponderhit, held_line, bestmove_at}
 use Rattle.usi_session.specs.WholeStream.{answer_to}
-use Rattle.usi_session.specs.RunningGo.{RunningGo, with_rest}
+use Rattle.usi_session.specs.GoTaskView.{GoTaskView, with_rest}
 use Rattle.usi_session.specs.WholeLines.{last_byte, AreWholeLines, GrowsByLines}
 use Rattle.usi_lines.specs.declared.line.TheConstants.{LINE_FEED}
 
@@ -152,7 +152,7 @@ answer_to-whole s (Text text) = answer-whole s (command_of text)
 answer_to-whole s TooLong = refl
 
 -- a line is answered at once, or nothing is said yet of the `go` that starts
-pub reply_whole : (s next : State) (reply : List ℕ) (running_go : Option RunningGo) (line : Line) → with_rest reply next running_go ≡ (answer_to s line).bytes → OnSome running_go (reply ≡ []) → AreWholeLines reply
+pub reply_whole : (s next : State) (reply : List ℕ) (go_task : Option GoTaskView) (line : Line) → with_rest reply next go_task ≡ (answer_to s line).bytes → OnSome go_task (reply ≡ []) → AreWholeLines reply
 reply_whole s next reply None line e quiet = ap (last_byte LINE_FEED) e ∙ answer_to-whole s line
 reply_whole s next reply (Some go) line e quiet = ap (last_byte LINE_FEED) quiet
 

@@ -6,7 +6,7 @@ use Rattle.usi_session.specs.declared.state.State.{State}
 use Rattle.usi_session.specs.Answer.{Answer, initial_state_under}
 use Rattle.usi_texts.specs.declared.setup.Setup.{Setup}
 use Rattle.usi_texts.specs.Setup.{default_setup}
-use Rattle.usi_session.specs.RunningGo.{RunningGo, IsBegun, WritesLine, rest_of_go, rest_of_go_if, load_of_if, roots_of_if, is_searching, reports_of_if, most_reports}
+use Rattle.usi_session.specs.GoTaskView.{GoTaskView, IsBegun, WritesLine, rest_of_go, rest_of_go_if, load_of_if, roots_of_if, is_searching, reports_of_if, most_reports}
 use Rattle.usi_session.specs.WholeStream.{answer_to, replies_from, state_from}
 use Rattle.usi_session.specs.Costs.{cost_to, costs_from}
 use Rattle.usi_session.specs.Roots.{Root, roots_from, roots_to}
@@ -17,7 +17,7 @@ use Rattle.usi_session.specs.declared.limits.TheConstants.{QUEUE_FULL}
 -- the state after the lines that were answered, the running `go`, the replies not yet taken, and what was fed and not yet answered
 pub record SessionView : Type 0 where
   pub state : State
-  pub running_go : Option RunningGo
+  pub go_task : Option GoTaskView
   pub queued : List ℕ
   pub input : Buffer
 
@@ -26,19 +26,19 @@ abbrev pub owed_after : Answer → List Line → List ℕ
 owed_after answer ahead = answer.bytes ++ replies_from answer.state ahead
 
 -- nothing, where the session is over
-abbrev pub owed : State → Option RunningGo → List Line → List ℕ
-owed state running_go ahead =
-    cond state.is_over [] (owed_after (rest_of_go_if state running_go) ahead)
+abbrev pub owed : State → Option GoTaskView → List Line → List ℕ
+owed state go_task ahead =
+    cond state.is_over [] (owed_after (rest_of_go_if state go_task) ahead)
 
 -- what is owed once these further bytes were fed: the queued bytes, the rest of the running `go`, and the replies to the lines ahead
 abbrev pub due : SessionView → List ℕ → List ℕ
 due session further =
-    session.queued ++ owed session.state session.running_go (ahead session.input further)
+    session.queued ++ owed session.state session.go_task (ahead session.input further)
 
 -- the state once these further bytes were fed and all was answered
 abbrev pub state_due : SessionView → List ℕ → State
 state_due session further =
-    state_from (rest_of_go_if session.state session.running_go).state (ahead session.input further)
+    state_from (rest_of_go_if session.state session.go_task).state (ahead session.input further)
 
 -- this of a session, by what further bytes are fed, is what it was for the chunk and then these
 abbrev pub IsSameAfter : {A : Type 0} → (SessionView → List ℕ → A) → List ℕ → SessionView
@@ -46,22 +46,22 @@ abbrev pub IsSameAfter : {A : Type 0} → (SessionView → List ℕ → A) → L
 IsSameAfter what chunk old new = (x : List ℕ) → what new x ≡ what old (chunk ++ x)
 
 -- the steps that may still be made: for the running `go`, and for each `go` in these lines
-abbrev pub load_ahead : State → Option RunningGo → List Line → ℕ
-load_ahead state running_go ahead =
-    load_of_if running_go + costs_from (rest_of_go_if state running_go).state ahead
+abbrev pub load_ahead : State → Option GoTaskView → List Line → ℕ
+load_ahead state go_task ahead =
+    load_of_if go_task + costs_from (rest_of_go_if state go_task).state ahead
 
 -- the load of a session: the steps that may still be made for the running `go` and for the unread lines
 abbrev pub load : SessionView → ℕ
-load session = load_ahead session.state session.running_go (ahead session.input [])
+load session = load_ahead session.state session.go_task (ahead session.input [])
 
 -- the searches along pvs that are still to end: of the running `go`, and of each `go` in these lines
-abbrev pub roots_ahead : State → Option RunningGo → List Line → List Root
-roots_ahead state running_go ahead =
-    roots_of_if running_go ++ roots_from (rest_of_go_if state running_go).state ahead
+abbrev pub roots_ahead : State → Option GoTaskView → List Line → List Root
+roots_ahead state go_task ahead =
+    roots_of_if go_task ++ roots_from (rest_of_go_if state go_task).state ahead
 
 -- the searches along pvs that a session has still to end
 abbrev pub roots_left : SessionView → List Root
-roots_left session = roots_ahead session.state session.running_go (ahead session.input [])
+roots_left session = roots_ahead session.state session.go_task (ahead session.input [])
 
 -- of the searches that a session has still to end, a memory was told the first, and the others are left to a later state of it
 abbrev pub EndsSearches : {M : Type 0} → (M → Call → M → Type 0) → M → M → SessionView → SessionView
@@ -79,23 +79,23 @@ pub record KeepsDue (old new : SessionView) : Type 0 where
 
 -- the answer to a line was queued, and the state is the one after it; or its `go` was started
 pub record QueuesAnswer (old : State) (line : Line) (new : State) (before after : List ℕ)
-    (running_go : Option RunningGo) : Type 0 where
+    (go_task : Option GoTaskView) : Type 0 where
   pub reply : List ℕ
   pub after_reply : after ≡ before ++ reply
   pub begun :
-      IsBegun (answer_to old line) (cost_to old line) (roots_to old line) [] reply new running_go
+      IsBegun (answer_to old line) (cost_to old line) (roots_to old line) [] reply new go_task
   pub whole : AreWholeLines reply
-  pub idle : new.is_over ≡ true → running_go ≡ None
+  pub idle : new.is_over ≡ true → go_task ≡ None
 
 -- the current line of a running `go` was queued
-pub record QueuesLine (go : RunningGo) (before after : List ℕ) : Type 0 where
+pub record QueuesLine (go : GoTaskView) (before after : List ℕ) : Type 0 where
   pub line : List ℕ
   pub after_line : after ≡ before ++ line
   pub writes : WritesLine go [] line
   pub whole : AreWholeLines line
 
 -- all that a running `go` still says was queued, and the state is the one after it
-pub record QueuesEnd (go : RunningGo) (old new : State) (before after : List ℕ) : Type 0 where
+pub record QueuesEnd (go : GoTaskView) (old new : State) (before after : List ℕ) : Type 0 where
   pub after_end : after ≡ before ++ (rest_of_go old go).bytes
   pub state_is : new ≡ (rest_of_go old go).state
   pub whole : AreWholeLines (rest_of_go old go).bytes
@@ -107,24 +107,24 @@ has_line (line ∷ rest) = true
 
 -- a running `go` or an unread line
 abbrev pub has_work : SessionView → Bool
-has_work session = is_some session.running_go || has_line (ahead session.input [])
+has_work session = is_some session.go_task || has_line (ahead session.input [])
 
 -- alive, with a running `go` or an unread line
 abbrev pub is_pending : SessionView → Bool
 is_pending session = not session.state.is_over && has_work session
 
 -- a `go` is running, and a search of it is not at its end
-abbrev pub IsMidSearch : Option RunningGo → Type 0
+abbrev pub IsMidSearch : Option GoTaskView → Type 0
 IsMidSearch None = ⊥
 IsMidSearch (Some go) = (is_searching go ≡ true) × (0 < go.steps_left)
 
 -- where something is still pending, the budget was used up and a search is running
 abbrev pub HasSpent : SessionView → ℕ → ℕ → Type 0
 HasSpent session budget made =
-    is_pending session ≡ true → (made ≡ budget) × IsMidSearch session.running_go
+    is_pending session ≡ true → (made ≡ budget) × IsMidSearch session.go_task
 
 -- the pv of the current line is whole
-abbrev pub IsPvWhole : Option RunningGo → Type 0
+abbrev pub IsPvWhole : Option GoTaskView → Type 0
 IsPvWhole None = ⊥
 IsPvWhole (Some go) = is_searching go ≡ false
 
@@ -132,7 +132,7 @@ IsPvWhole (Some go) = is_searching go ≡ false
 abbrev pub turns : SessionView → ℕ
 turns session =
     load session
-    + ((most_reports + 1) * length (ahead session.input []) + reports_of_if session.running_go)
+    + ((most_reports + 1) * length (ahead session.input []) + reports_of_if session.go_task)
 
 -- alive, nothing pending, and fewer than 65,536 bytes queued
 abbrev pub wants_input : SessionView → Bool
@@ -144,7 +144,7 @@ wants_input session =
 abbrev pub new_session_under : Setup → SessionView
 new_session_under setup = record {
   state = initial_state_under setup;
-  running_go = None;
+  go_task = None;
   queued = [];
   input = record { unread = []; closed = false };
 }

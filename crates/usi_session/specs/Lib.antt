@@ -4,9 +4,9 @@ pub mod WholeStream
 pub mod Costs
 pub mod Roots
 pub mod Told
-pub mod RunningGo
+pub mod GoTaskView
 pub mod Walked
-pub mod GoCommand
+pub mod GoTask
 pub mod Due
 pub mod WholeLines
 pub mod Numbers

@@ -7,7 +7,7 @@ use Rattle.shogi_core.specs.declared.moves.Move.{Move}
 use Rattle.shogi_moves.specs.After.{after}
 use Rattle.shogi_moves.specs.LegalMoves.{legal_codes, legal_above}
 use Rattle.shogi_eval.specs.declared.eval.Eval.{Eval}
-use Rattle.shogi_eval.specs.Exchange.{settles}
+use Rattle.shogi_eval.specs.Exchange.{resolves_captures}
 use Rattle.minimax.specs.Minimax.{value, worth, best, pv, pv_cost, then_pv_cost}
 use Rattle.shogi_search.specs.Progress.{Progress, untouched, untouched_below, IsFoundBelow}
 use Rattle.shogi_search.specs.Ranked.{Ranking, IsTop, child_beta}
@@ -15,11 +15,11 @@ use Rattle.minimax.specs.declared.bounds.TheConstants.{INFINITY}
 use Rattle.shogi_search.specs.declared.found.Found.{Found}
 use Rattle.usi_lines.specs.Options.{IsDepth, IsMultiPv}
 use Rattle.usi_lines.specs.declared.options.TheConstants.{DEPTH_MAX}
-use Rattle.usi_session.specs.declared.question.Question.{Question}
+use Rattle.usi_session.specs.declared.go_request.GoRequest.{GoRequest}
 use Rattle.usi_session.specs.declared.state.HeldBestmove.{HeldBestmove}
 use Rattle.usi_session.specs.GoInfos.{pv_by}
 use Rattle.usi_session.specs.Roots.{Root, pv_roots, then_pv_roots}
-use Rattle.usi_session.specs.RunningGo.{RunningGo, listed_at, bestmove_to, lines_cost, lines_roots, current_roots, load_of, load_after_root_move}
+use Rattle.usi_session.specs.GoTaskView.{GoTaskView, listed_at, bestmove_to, lines_cost, lines_roots, current_roots, load_of, load_after_root_move}
 
 -- the evaluation, the position after the moves so far, the plies that are left, and the whole pv
 -- with its value
@@ -75,9 +75,9 @@ roots_after walk =
     (best walk.at walk.eval walk.plies)
 
 -- the depth and the number of lines lie in their ranges
-pub record IsQuestionInRange (question : Question) : Type 0 where
-  pub depth_fits : IsDepth question.depth
-  pub multi_pv_fits : IsMultiPv question.multi_pv
+pub record IsQuestionInRange (go_request : GoRequest) : Type 0 where
+  pub depth_fits : IsDepth go_request.depth
+  pub multi_pv_fits : IsMultiPv go_request.multi_pv
 
 -- the first legal move after the one that was passed last
 abbrev pub IsNext : Shogi → Option Move → Move → Type 0
@@ -89,30 +89,30 @@ abbrev pub IsFirst : Shogi → Move → Type 0
 IsFirst position first = IsNext position None first
 
 -- where a depth begins: with one line at the root, with several after the first root move
-abbrev pub first_root_move : Question → Move → Option Move
-first_root_move question first = cond (question.multi_pv == 1) None (Some first)
+abbrev pub first_root_move : GoRequest → Move → Option Move
+first_root_move go_request first = cond (go_request.multi_pv == 1) None (Some first)
 
 -- the search that a depth begins with
-abbrev pub first_search : Question → Move → ℕ → Progress
-first_search question first depths_done =
-    cond (question.multi_pv == 1) (untouched question.position question.eval (depths_done + 1))
-    (untouched (after question.position first) question.eval depths_done)
+abbrev pub first_search : GoRequest → Move → ℕ → Progress
+first_search go_request first depths_done =
+    cond (go_request.multi_pv == 1) (untouched go_request.position go_request.eval (depths_done + 1))
+    (untouched (after go_request.position first) go_request.eval depths_done)
 
 -- the search after a root move, below the bound that its place in the list needs
-abbrev pub child_search : Question → ℕ → Move → Ranking → Progress
-child_search question depths_done root_move ranks =
-    untouched_below (after question.position root_move) question.eval depths_done (child_beta ranks)
+abbrev pub child_search : GoRequest → ℕ → Move → Ranking → Progress
+child_search go_request depths_done root_move ranks =
+    untouched_below (after go_request.position root_move) go_request.eval depths_done (child_beta ranks)
 
 -- it was found by that search
-abbrev pub IsFoundOfChild : Question → ℕ → Move → Ranking → Found → Type 0
-IsFoundOfChild question depths_done root_move ranks found =
-    IsFoundBelow (after question.position root_move) question.eval depths_done
+abbrev pub IsFoundOfChild : GoRequest → ℕ → Move → Ranking → Found → Type 0
+IsFoundOfChild go_request depths_done root_move ranks found =
+    IsFoundBelow (after go_request.position root_move) go_request.eval depths_done
     (child_beta ranks) found
 
 -- what callers see of a running `go`
-abbrev pub running_go_of : Question → ℕ → ℕ → Option Move → Walked → Progress → RunningGo
-running_go_of question depths_done lines_done root_move walk search = record {
-  question = question;
+abbrev pub running_go_of : GoRequest → ℕ → ℕ → Option Move → Walked → Progress → GoTaskView
+running_go_of go_request depths_done lines_done root_move walk search = record {
+  go_request = go_request;
   depths_done = depths_done;
   lines_done = lines_done;
   root_move = root_move;
@@ -122,21 +122,21 @@ running_go_of question depths_done lines_done root_move walk search = record {
 }
 
 -- the load at a depth of which no line is done
-abbrev pub load_at : Question → ℕ → Option Move → Walked → Progress → ℕ
-load_at question depths_done root_move walk search =
-    load_of (running_go_of question depths_done 0 root_move walk search)
+abbrev pub load_at : GoRequest → ℕ → Option Move → Walked → Progress → ℕ
+load_at go_request depths_done root_move walk search =
+    load_of (running_go_of go_request depths_done 0 root_move walk search)
 
 -- where the search of a root move has ended, no more is left than the searches after it cost
-abbrev pub LeavesLoad : Question → ℕ → Move → Option Move → Walked → Progress → Type 0
-LeavesLoad question depths_done ended root_move walk search =
-    load_at question depths_done root_move walk search
-    ≤ load_after_root_move question depths_done ended
+abbrev pub LeavesLoad : GoRequest → ℕ → Move → Option Move → Walked → Progress → Type 0
+LeavesLoad go_request depths_done ended root_move walk search =
+    load_at go_request depths_done root_move walk search
+    ≤ load_after_root_move go_request depths_done ended
 
 -- where the search of a root move has ended, the searches along each pv listed are still to end
-abbrev pub LeavesRoots : Question → ℕ → Option Move → Walked → Progress → Type 0
-LeavesRoots question depths_done root_move walk search =
-    current_roots root_move (running_go_of question depths_done 0 root_move walk search)
-    ≡ lines_roots question depths_done 0
+abbrev pub LeavesRoots : GoRequest → ℕ → Option Move → Walked → Progress → Type 0
+LeavesRoots go_request depths_done root_move walk search =
+    current_roots root_move (running_go_of go_request depths_done 0 root_move walk search)
+    ≡ lines_roots go_request depths_done 0
 
 -- a search that is not at its end, for values below a bound
 pub record IsUnder (search : Progress) (position : Shogi) (eval : Eval) (depth : ℕ) (beta : ℤ)
@@ -152,89 +152,89 @@ abbrev pub IsSearchedAlong : Walked → Progress → Type 0
 IsSearchedAlong walk search = 0 < walk.plies → IsUnder search walk.at walk.eval walk.plies INFINITY
 
 -- what a move is worth at the current depth, by its code
-abbrev pub worth_at : Question → ℕ → ℕ → ℤ
-worth_at question depths_done = worth question.position question.eval depths_done
+abbrev pub worth_at : GoRequest → ℕ → ℕ → ℤ
+worth_at go_request depths_done = worth go_request.position go_request.eval depths_done
 
 -- a move ends a line and is settled, so that it is not worth what the search after it finds
-abbrev pub is_settled : Question → ℕ → Bool
-is_settled question depths_done = depths_done == 0 && settles question.eval
+abbrev pub is_settled : GoRequest → ℕ → Bool
+is_settled go_request depths_done = depths_done == 0 && resolves_captures go_request.eval
 
 -- the legal moves up to the one that was passed last were ranked
-pub record IsRankedUpTo (question : Question) (depths_done : ℕ) (passed : Option Move)
+pub record IsRankedUpTo (go_request : GoRequest) (depths_done : ℕ) (passed : Option Move)
     (ranks : Ranking) : Type 0 where
   pub seen : List ℕ
-  pub whole : seen ++ legal_above question.position passed ≡ legal_codes question.position
-  pub top : IsTop (worth_at question depths_done) seen ranks
-  pub most : ranks.lines ≡ question.multi_pv
+  pub whole : seen ++ legal_above go_request.position passed ≡ legal_codes go_request.position
+  pub top : IsTop (worth_at go_request depths_done) seen ranks
+  pub most : ranks.lines ≡ go_request.multi_pv
 
 -- all legal moves before this one were ranked
-pub record IsRankedTo (question : Question) (depths_done : ℕ) (root_move : Move)
+pub record IsRankedTo (go_request : GoRequest) (depths_done : ℕ) (root_move : Move)
     (ranks : Ranking) : Type 0 where
   pub passed : Option Move
-  pub next : IsNext question.position passed root_move
-  pub ranked : IsRankedUpTo question depths_done passed ranks
+  pub next : IsNext go_request.position passed root_move
+  pub ranked : IsRankedUpTo go_request depths_done passed ranks
 
 -- all legal moves were ranked
-pub record IsRanked (question : Question) (depths_done : ℕ) (ranks : Ranking) : Type 0 where
-  pub top : IsTop (worth_at question depths_done) (legal_codes question.position) ranks
-  pub most : ranks.lines ≡ question.multi_pv
+pub record IsRanked (go_request : GoRequest) (depths_done : ℕ) (ranks : Ranking) : Type 0 where
+  pub top : IsTop (worth_at go_request depths_done) (legal_codes go_request.position) ranks
+  pub most : ranks.lines ≡ go_request.multi_pv
 
 -- the walk is along the pv of the line of this number, from 0
-pub record IsLine (question : Question) (depths_done lines_done : ℕ) (walk : Walked) : Type 0 where
+pub record IsLine (go_request : GoRequest) (depths_done lines_done : ℕ) (walk : Walked) : Type 0 where
   pub code : ℕ
-  pub listed_as : slice_get (listed_at question depths_done) lines_done ≡ Some code
-  pub pv_is : walk.pv ≡ pv_by question.position question.eval (depths_done + 1) code
-  pub value_is : walk.value ≡ worth_at question depths_done code
-  pub eval_is : walk.eval ≡ question.eval
+  pub listed_as : slice_get (listed_at go_request depths_done) lines_done ≡ Some code
+  pub pv_is : walk.pv ≡ pv_by go_request.position go_request.eval (depths_done + 1) code
+  pub value_is : walk.value ≡ worth_at go_request depths_done code
+  pub eval_is : walk.eval ≡ go_request.eval
 
 -- the walk has made the first move of that line, and the rest of it is all that it costs
-pub record BeginsLine (question : Question) (depths_done lines_done : ℕ) (walk : Walked)
+pub record BeginsLine (go_request : GoRequest) (depths_done lines_done : ℕ) (walk : Walked)
     : Type 0 where
-  pub line : IsLine question depths_done lines_done walk
+  pub line : IsLine go_request depths_done lines_done walk
   pub cost :
-      walk_cost walk + lines_cost question depths_done (lines_done + 1)
-      ≡ lines_cost question depths_done lines_done
+      walk_cost walk + lines_cost go_request depths_done (lines_done + 1)
+      ≡ lines_cost go_request depths_done lines_done
   pub roots :
-      pv_roots walk.at question.eval walk.plies ++ lines_roots question depths_done (lines_done + 1)
-      ≡ lines_roots question depths_done lines_done
+      pv_roots walk.at go_request.eval walk.plies ++ lines_roots go_request depths_done (lines_done + 1)
+      ≡ lines_roots go_request depths_done lines_done
 
 -- the pv of the current line is walked
-pub record IsWalking (question : Question) (depths_done lines_done : ℕ) (ranks : Ranking)
+pub record IsWalking (go_request : GoRequest) (depths_done lines_done : ℕ) (ranks : Ranking)
     (walk : Walked) (kept : HeldBestmove) (search : Progress) : Type 0 where
-  pub line : IsLine question depths_done lines_done walk
-  pub ranked : question.multi_pv ≢ 1 → IsRanked question depths_done ranks
-  pub kept_is : 0 < lines_done → kept ≡ bestmove_to question (depths_done + 1)
+  pub line : IsLine go_request depths_done lines_done walk
+  pub ranked : go_request.multi_pv ≢ 1 → IsRanked go_request depths_done ranks
+  pub kept_is : 0 < lines_done → kept ≡ bestmove_to go_request (depths_done + 1)
   pub searched : IsSearchedAlong walk search
 
 -- the position after a root move is searched for what the move is worth, below the bound that its
 -- place in the list needs
-pub record IsRanking (question : Question) (depths_done lines_done : ℕ) (root_move : Move)
+pub record IsRanking (go_request : GoRequest) (depths_done lines_done : ℕ) (root_move : Move)
     (ranks : Ranking) (search : Progress) : Type 0 where
-  pub several : question.multi_pv ≢ 1
+  pub several : go_request.multi_pv ≢ 1
   pub none_done : lines_done ≡ 0
-  pub ranked : IsRankedTo question depths_done root_move ranks
+  pub ranked : IsRankedTo go_request depths_done root_move ranks
   pub searched :
-      IsUnder search (after question.position root_move) question.eval depths_done
+      IsUnder search (after go_request.position root_move) go_request.eval depths_done
       (child_beta ranks)
 
 -- what is known at a depth: while a root move is searched, or while a pv is walked
-abbrev pub IsAtDepth : Question → ℕ → ℕ → Option Move → Ranking → Walked → HeldBestmove
+abbrev pub IsAtDepth : GoRequest → ℕ → ℕ → Option Move → Ranking → Walked → HeldBestmove
     → Progress → Type 0
-IsAtDepth question depths_done lines_done (Some root_move) ranks walk kept search =
-    IsRanking question depths_done lines_done root_move ranks search
-IsAtDepth question depths_done lines_done None ranks walk kept search =
-    IsWalking question depths_done lines_done ranks walk kept search
+IsAtDepth go_request depths_done lines_done (Some root_move) ranks walk kept search =
+    IsRanking go_request depths_done lines_done root_move ranks search
+IsAtDepth go_request depths_done lines_done None ranks walk kept search =
+    IsWalking go_request depths_done lines_done ranks walk kept search
 
 -- what is known before a line of the depth is done, when no bestmove is kept
-abbrev pub IsAtFirstLine : Question → ℕ → Option Move → Ranking → Walked → Progress → Type 0
-IsAtFirstLine question depths_done root_move ranks walk search =
-    (kept : HeldBestmove) → IsAtDepth question depths_done 0 root_move ranks walk kept search
+abbrev pub IsAtFirstLine : GoRequest → ℕ → Option Move → Ranking → Walked → Progress → Type 0
+IsAtFirstLine go_request depths_done root_move ranks walk search =
+    (kept : HeldBestmove) → IsAtDepth go_request depths_done 0 root_move ranks walk kept search
 
 -- what holds of a running `go`
-pub record IsRunningGo (question : Question) (first : Move) (depths_done lines_done : ℕ)
+pub record IsRunningGo (go_request : GoRequest) (first : Move) (depths_done lines_done : ℕ)
     (root_move : Option Move) (ranks : Ranking) (walk : Walked) (kept : HeldBestmove)
     (search : Progress) : Type 0 where
-  pub range : IsQuestionInRange question
-  pub first_is : IsFirst question.position first
-  pub left : depths_done < question.depth
-  pub at_depth : IsAtDepth question depths_done lines_done root_move ranks walk kept search
+  pub range : IsQuestionInRange go_request
+  pub first_is : IsFirst go_request.position first
+  pub left : depths_done < go_request.depth
+  pub at_depth : IsAtDepth go_request depths_done lines_done root_move ranks walk kept search

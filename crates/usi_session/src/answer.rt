@@ -6,10 +6,10 @@ ghost use Rattle.usi_lines.specs.declared.options.TheConstants.{DEPTH_MIN, DEPTH
 ghost use Rattle.usi_lines.specs.Options.{IsInRange};
 ghost use Rattle.usi_texts.specs.Options.{AreInRange};
 ghost use Rattle.usi_session.specs.Answer.{Gives, allowed_depth, depth_of_go, answer_eval, answer_position, answer_bestmove, answer_stop, answer_ponderhit};
-ghost use Rattle.usi_session.specs.RunningGo.{Answers, AnswersLine, BeginsGo, EndsIdle};
+ghost use Rattle.usi_session.specs.GoTaskView.{Answers, AnswersLine, BeginsGo, EndsIdle};
 
-use crate::go_command::GoCommand;
-use crate::question::Question;
+use crate::go_request::GoRequest;
+use crate::go_task::GoTask;
 use crate::state::{HeldBestmove, State};
 use shogi_core::Position;
 use shogi_eval::Eval;
@@ -87,7 +87,7 @@ fn answer_go<A: Allocator + Copy>(
     state: &mut State,
     depth: u8,
     hold: Hold,
-) -> Result<Option<GoCommand<A>>, AllocError>
+) -> Result<Option<GoTask<A>>, AllocError>
     requires options { AreInRange state.old.options }
     requires least { DEPTH_MIN ≤ depth }
     requires most { depth ≤ DEPTH_MAX }
@@ -104,15 +104,15 @@ fn answer_go<A: Allocator + Copy>(
         write_or_hold(out, state, bestmove)?;
         return Ok(None);
     };
-    let question = Question {
+    let go_request = GoRequest {
         position: state.position,
         eval: state.options.eval,
         multi_pv: state.options.multi_pv,
         depth,
         hold,
     };
-    let running_go = GoCommand::start(alloc, question, first)?;
-    Ok(Some(running_go))
+    let go_task = GoTask::start(alloc, go_request, first)?;
+    Ok(Some(go_task))
 }
 
 /// Writes the held bestmove, if there is one, and holds nothing any more.
@@ -146,7 +146,7 @@ pub fn answer<A: Allocator + Copy>(
     out: &mut Vec<u8, A>,
     state: &mut State,
     command: Command<'_>,
-) -> Result<Option<GoCommand<A>>, AllocError>
+) -> Result<Option<GoTask<A>>, AllocError>
     requires options { AreInRange state.old.options }
     requires range { IsInRange (meaning_of command) }
     ensures begun { Answers state.old (meaning_of command.entry) out.old out.new state.new result }
@@ -192,7 +192,7 @@ pub fn answer_line<A: Allocator + Copy>(
     out: &mut Vec<u8, A>,
     state: &mut State,
     line: Line<'_>,
-) -> Result<Option<GoCommand<A>>, AllocError>
+) -> Result<Option<GoTask<A>>, AllocError>
     requires options { AreInRange state.old.options }
     ensures begun { AnswersLine state.old (line_of line.entry) out.old out.new state.new result }
     ensures over { IfOk result (EndsIdle state.old state.new) }

@@ -2,11 +2,11 @@
 #![tactic(auto)]
 
 mod answer;
-mod go_command;
+mod go_request;
+mod go_task;
 mod laws;
 mod limits;
 mod pv_walk;
-mod question;
 mod queue;
 mod session;
 mod state;

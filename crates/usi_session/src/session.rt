@@ -2,7 +2,7 @@
 
 ghost use Rattle.std.specs.Prelude.{◌≡◌, ◌≤◌, ◌++◌, ℕ, List, true, false, OnOk, OnErr, IfOk, OnSome, IfSome, IfNone, None, length, take, drop, ◌<◌, ◌+◌};
 ghost use Rattle.usi_session.specs.Due.{due, state_due, load, roots_left, turns, is_pending, wants_input, new_session, new_session_under, EndsSearches, HasSpent, IsMidSearch, IsPvWhole, IsSameAfter, KeepsDue, QueuesAnswer, QueuesEnd, QueuesLine};
-ghost use Rattle.usi_session.specs.RunningGo.{is_last, is_searching};
+ghost use Rattle.usi_session.specs.GoTaskView.{is_last, is_searching};
 ghost use Rattle.usi_session.specs.WholeStream.{replies, replies_under, state_from};
 ghost use Rattle.usi_session.specs.Answer.{initial_state, initial_state_under};
 ghost use Rattle.usi_session.specs.WholeLines.{GrowsByLines};
@@ -12,7 +12,7 @@ ghost use Rattle.usi_texts.specs.Options.{AreInRange};
 ghost use Rattle.usi_session.specs.declared.limits.TheConstants.{CHUNK_MAX};
 
 use crate::answer::{answer_line, write_or_hold};
-use crate::go_command::GoCommand;
+use crate::go_task::GoTask;
 use crate::limits::QUEUE_FULL;
 use crate::queue::Queue;
 use crate::state::State;
@@ -44,7 +44,7 @@ pub struct Session<A: Allocator + Copy> {
     input: LineBuffer<A>,
     queue: Queue<A>,
     state: State,
-    running_go: Option<GoCommand<A>>,
+    go_task: Option<GoTask<A>>,
 }
 
 impl<A: Allocator + Copy> Model for Session<A> {
@@ -54,7 +54,7 @@ impl<A: Allocator + Copy> Model for Session<A> {
     ghost Value = { SessionView };
 
     ghost view = { λ s.
-        record { state = s.state; running_go = s.running_go; queued = s.queue; input = s.input } };
+        record { state = s.state; go_task = s.go_task; queued = s.queue; input = s.input } };
 
     ghost invariant = { λ s. AreInRange s.state.options };
 }
@@ -65,7 +65,7 @@ fn queue_answer<A: Allocator + Copy>(
     line: Line<'_>,
     state: &mut State,
     queue: &mut Queue<A>,
-) -> Result<Option<GoCommand<A>>, AllocError>
+) -> Result<Option<GoTask<A>>, AllocError>
     requires options { AreInRange state.old.options }
     requires alive { state.old.is_over ≡ false }
     ensures answer { IfOk result
@@ -76,24 +76,24 @@ fn queue_answer<A: Allocator + Copy>(
 {
     let mut reply = Vec::new(alloc);
     let mut next = *state;
-    let running_go = answer_line(alloc, &mut reply, &mut next, line)?;
+    let go_task = answer_line(alloc, &mut reply, &mut next, line)?;
     queue.push(reply.as_slice())?;
     *state = next;
-    Ok(running_go)
+    Ok(go_task)
 }
 
 /// Queues the current line of a running `go`. Where allocation fails nothing changed.
 fn queue_line<A: Allocator + Copy>(
     alloc: A,
-    running_go: &GoCommand<A>,
+    go_task: &GoTask<A>,
     queue: &mut Queue<A>,
 ) -> Result<(), AllocError>
-    requires whole { is_searching running_go.now ≡ false }
-    ensures line { OnOk result (QueuesLine running_go.now queue.old queue.new) }
+    requires whole { is_searching go_task.now ≡ false }
+    ensures line { OnOk result (QueuesLine go_task.now queue.old queue.new) }
     ensures err { OnErr result (queue.new ≡ queue.old) }
 {
     let mut reply = Vec::new(alloc);
-    running_go.report(&mut reply)?;
+    go_task.report(&mut reply)?;
     queue.push(reply.as_slice())?;
     Ok(())
 }
@@ -102,21 +102,21 @@ fn queue_line<A: Allocator + Copy>(
 /// nothing changed.
 fn queue_end<A: Allocator + Copy>(
     alloc: A,
-    running_go: &GoCommand<A>,
+    go_task: &GoTask<A>,
     state: &mut State,
     queue: &mut Queue<A>,
 ) -> Result<(), AllocError>
-    requires whole { is_searching running_go.now ≡ false }
-    requires last { is_last running_go.now ≡ true }
-    ensures end { OnOk result (QueuesEnd running_go.now state.old state.new queue.old queue.new) }
+    requires whole { is_searching go_task.now ≡ false }
+    requires last { is_last go_task.now ≡ true }
+    ensures end { OnOk result (QueuesEnd go_task.now state.old state.new queue.old queue.new) }
     ensures options { state.new.options ≡ state.old.options }
     ensures queue_err { OnErr result (queue.new ≡ queue.old) }
     ensures state_err { OnErr result (state.new ≡ state.old) }
 {
     let mut reply = Vec::new(alloc);
-    running_go.report(&mut reply)?;
+    go_task.report(&mut reply)?;
     let mut next = *state;
-    write_or_hold(&mut reply, &mut next, running_go.bestmove())?;
+    write_or_hold(&mut reply, &mut next, go_task.bestmove())?;
     queue.push(reply.as_slice())?;
     *state = next;
     Ok(())
@@ -153,7 +153,7 @@ impl<A: Allocator + Copy> Session<A> {
                 held: None,
                 is_over: false,
             },
-            running_go: None,
+            go_task: None,
         }
     }
 
@@ -165,7 +165,7 @@ impl<A: Allocator + Copy> Session<A> {
         ensures after { OnOk result (IsSameAfter state_due chunk.now self.old self.new) }
         ensures queued { self.new.queued ≡ self.old.queued }
         ensures state { self.new.state ≡ self.old.state }
-        ensures running_go { self.new.running_go ≡ self.old.running_go }
+        ensures go_task { self.new.go_task ≡ self.old.go_task }
         ensures err { OnErr result (self.new ≡ self.old) }
     {
         match self.input.feed(chunk) {
@@ -176,7 +176,7 @@ impl<A: Allocator + Copy> Session<A> {
 
     /// Answers the first unread line, or starts its `go`. Where allocation fails nothing changed.
     fn answer_next(&mut self) -> Result<(), SessionFault>
-        requires idle { self.old.running_go ≡ None }
+        requires idle { self.old.go_task ≡ None }
         requires pending { is_pending self.old ≡ true }
         ensures kept { KeepsDue self.old self.new }
         ensures roots { roots_left self.new ≡ roots_left self.old }
@@ -186,8 +186,8 @@ impl<A: Allocator + Copy> Session<A> {
         let Some(line) = self.input.next_line() else {
             return Ok(());
         };
-        let running_go = queue_answer(self.alloc, line, &mut self.state, &mut self.queue)?;
-        self.running_go = running_go;
+        let go_task = queue_answer(self.alloc, line, &mut self.state, &mut self.queue)?;
+        self.go_task = go_task;
         self.input.drop_line();
         Ok(())
     }
@@ -195,34 +195,34 @@ impl<A: Allocator + Copy> Session<A> {
     /// Reports the current line, once its pv is whole, and continues with the next line or ends the
     /// `go`. Where allocation fails nothing changed.
     fn report_next(&mut self) -> Result<(), SessionFault>
-        requires whole { IsPvWhole self.old.running_go }
+        requires whole { IsPvWhole self.old.go_task }
         requires pending { is_pending self.old ≡ true }
         ensures kept { KeepsDue self.old self.new }
         ensures roots { roots_left self.new ≡ roots_left self.old }
         ensures fewer { OnOk result (turns self.new < turns self.old) }
         ensures err { OnErr result (self.new ≡ self.old) }
     {
-        let Some(running_go) = &mut self.running_go else {
+        let Some(go_task) = &mut self.go_task else {
             return Ok(());
         };
-        if !running_go.is_last() {
-            queue_line(self.alloc, running_go, &mut self.queue)?;
-            running_go.next();
+        if !go_task.is_last() {
+            queue_line(self.alloc, go_task, &mut self.queue)?;
+            go_task.next();
             return Ok(());
         }
-        queue_end(self.alloc, running_go, &mut self.state, &mut self.queue)?;
-        self.running_go = None;
+        queue_end(self.alloc, go_task, &mut self.state, &mut self.queue)?;
+        self.go_task = None;
         Ok(())
     }
 
     /// Makes steps of the current search, or what needs none: reports a line of the running `go`,
     /// or answers an unread one. Returns how many steps were made, or nothing where the budget was
     /// used up within a search.
-    fn turn<M: Memo>(&mut self, memo: &mut M, budget: u64) -> Result<Option<u64>, SessionFault>
+    fn work_once<M: Memo>(&mut self, memo: &mut M, budget: u64) -> Result<Option<u64>, SessionFault>
         requires pending { is_pending self.old ≡ true }
         ensures kept { KeepsDue self.old self.new }
         ensures spent { IfOk result (λ made. IfNone made (budget + load self.new ≤ load self.old)) }
-        ensures unfinished { IfOk result (λ made. IfNone made (IsMidSearch self.new.running_go)) }
+        ensures unfinished { IfOk result (λ made. IfNone made (IsMidSearch self.new.go_task)) }
         ensures most { IfOk result (λ made. IfSome made (λ n. n ≤ budget)) }
         ensures made { IfOk result (λ made. IfSome made (λ n. n + load self.new ≤ load self.old)) }
         ensures fewer { IfOk result (λ made. OnSome made (turns self.new < turns self.old)) }
@@ -230,14 +230,14 @@ impl<A: Allocator + Copy> Session<A> {
         ensures capacity { M.capacity memo.new ≡ M.capacity memo.old }
         ensures err { OnErr result (self.new ≡ self.old) }
     {
-        match &mut self.running_go {
+        match &mut self.go_task {
             None => {
                 self.answer_next()?;
                 Ok(Some(0))
             }
-            Some(running_go) => {
-                if running_go.is_searching() {
-                    return Ok(running_go.advance(memo, budget));
+            Some(go_task) => {
+                if go_task.is_searching() {
+                    return Ok(go_task.advance(memo, budget));
                 }
                 self.report_next()?;
                 Ok(Some(0))
@@ -263,7 +263,7 @@ impl<A: Allocator + Copy> Session<A> {
     {
         let mut left = budget;
         'turns: while self.pending() {
-            match self.turn(memo, left)? {
+            match self.work_once(memo, left)? {
                 Some(made) => left -= made,
                 None => return Ok(budget),
             }
@@ -276,7 +276,7 @@ impl<A: Allocator + Copy> Session<A> {
     pub fn pending(&self) -> bool
         ensures { result ≡ is_pending self.now }
     {
-        !self.state.is_over && (self.running_go.is_some() || self.input.has_line())
+        !self.state.is_over && (self.go_task.is_some() || self.input.has_line())
     }
 
     /// Whether it may be fed: alive, nothing pending, and fewer than `QUEUE_FULL` bytes queued.
@@ -298,7 +298,7 @@ impl<A: Allocator + Copy> Session<A> {
         requires { n ≤ length self.old.queued }
         ensures queued { self.new.queued ≡ drop n self.old.queued }
         ensures state { self.new.state ≡ self.old.state }
-        ensures running_go { self.new.running_go ≡ self.old.running_go }
+        ensures go_task { self.new.go_task ≡ self.old.go_task }
         ensures input { self.new.input ≡ self.old.input }
         ensures due { (x : List ℕ) → due self.old x ≡ take n self.old.queued ++ due self.new x }
     {

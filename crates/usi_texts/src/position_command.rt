@@ -23,8 +23,8 @@ pub enum Refusal {
 #[tactic(auto, unfolding(crate::specs::PositionCommand::after_legal))]
 fn make_legal(p: &mut Position, word: &[u8]) -> bool
     ensures made { result ≡ true → after_legal p.old (move_of_text word.now) ≡ Some p.new }
-    ensures none { result ≡ false → after_legal p.old (move_of_text word.now) ≡ None }
-    ensures kept { result ≡ false → p.new ≡ p.old }
+    ensures if_none { result ≡ false → after_legal p.old (move_of_text word.now) ≡ None }
+    ensures unchanged { result ≡ false → p.new ≡ p.old }
 {
     let Some(m) = read_move(word) else {
         return false;

@@ -8,28 +8,28 @@ use Rattle.search_nodes.proofs.MatchingOthers.{fewer_left, other-found, other-pa
 use Rattle.search_nodes.proofs.move_picker.next_board.Goals as goal
 
 pub moves-init : goal.moves-init
-moves-init c = record { kept = c.requires.kept; same = refl }
+moves-init c = record { kept = c.requires.consistent; same = refl }
 
 pub next-requires : goal.next-requires
-next-requires c = record { kept = c.moves.invariant.kept }
+next-requires c = record { consistent = c.moves.invariant.kept }
 
-pub returns-then-not-has_move-clause-kept : goal.returns-then-not-has_move-clause-kept
-returns-then-not-has_move-clause-kept c = c.next.ensures.kept
+pub returns-then-not-has_move-clause-consistent : goal.returns-then-not-has_move-clause-consistent
+returns-then-not-has_move-clause-consistent c = c.next.ensures.consistent
 
 pub returns-then-not-has_move-clause-next : goal.returns-then-not-has_move-clause-next
-returns-then-not-has_move-clause-next c = c.moves.invariant.same ∙ other-found c.args.p.now (codes_of c.args.firsts.now) c.args.capture (code_of c.in-Some.m) (legal_from c.args.p.now c.moves.sweep.code) (legal_from c.args.p.now c.next.new.self.code) c.in-Some.ensures.next (sym c.has_move.ensures ∙ c.if-not-has_move.true)
+returns-then-not-has_move-clause-next c = c.moves.invariant.same ∙ other-found c.args.p.now (codes_of c.args.priority_moves.now) c.args.capture (code_of c.in-Some.m) (legal_from c.args.p.now c.moves.sweep.code) (legal_from c.args.p.now c.next.new.self.code) c.in-Some.ensures.next (sym c.has_move.ensures ∙ c.if-not-has_move.true)
 
 pub moves-smaller : goal.moves-smaller
 moves-smaller c = fewer_left (matching_from c.args.p.now c.args.capture c.moves.sweep.code) (matching_from c.args.p.now c.args.capture c.next.new.self.code) (code_of c.in-Some.m) c.in-Some.ensures.next
 
 pub moves-preserved : goal.moves-preserved
 moves-preserved c = record {
-  kept = c.next.ensures.kept;
-  same = c.moves.invariant.same ∙ other-passed c.args.p.now (codes_of c.args.firsts.now) c.args.capture (code_of c.in-Some.m) (legal_from c.args.p.now c.moves.sweep.code) (legal_from c.args.p.now c.next.new.self.code) c.in-Some.ensures.next (sym c.has_move.ensures ∙ c.if-not-has_move.false);
+  kept = c.next.ensures.consistent;
+  same = c.moves.invariant.same ∙ other-passed c.args.p.now (codes_of c.args.priority_moves.now) c.args.capture (code_of c.in-Some.m) (legal_from c.args.p.now c.moves.sweep.code) (legal_from c.args.p.now c.next.new.self.code) c.in-Some.ensures.next (sym c.has_move.ensures ∙ c.if-not-has_move.false);
 }
 
-pub returns-clause-kept : goal.returns-clause-kept
-returns-clause-kept c = c.next.ensures.kept
+pub returns-clause-consistent : goal.returns-clause-consistent
+returns-clause-consistent c = c.next.ensures.consistent
 
 pub returns-clause-next : goal.returns-clause-next
-returns-clause-next c = c.moves.invariant.same ∙ other-same c.args.p.now (codes_of c.args.firsts.now) c.args.capture (legal_from c.args.p.now c.moves.sweep.code) (legal_from c.args.p.now FIRST_DROP) c.in_default.ensures.next
+returns-clause-next c = c.moves.invariant.same ∙ other-same c.args.p.now (codes_of c.args.priority_moves.now) c.args.capture (legal_from c.args.p.now c.moves.sweep.code) (legal_from c.args.p.now FIRST_DROP) c.in_default.ensures.next

@@ -6,7 +6,7 @@ use Rattle.search_nodes.proofs.move_picker.next_drop.Given as goal
 abbrev pub invariant-moves : goal.invariant-moves
 invariant-moves l = record {
   kept : IsDropSweep l.p l.sweep;
-  same : matching_others_from l.p (codes_of l.firsts) false l.fn.sweep.code ≡ matching_others_from l.p (codes_of l.firsts) false l.sweep.code;
+  same : matching_others_from l.p (codes_of l.priority_moves) false l.fn.sweep.code ≡ matching_others_from l.p (codes_of l.priority_moves) false l.sweep.code;
 }
 
 abbrev pub decreases-moves : goal.decreases-moves

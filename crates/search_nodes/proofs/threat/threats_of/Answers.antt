@@ -18,7 +18,7 @@ pub attackers-init : goal.attackers-init
 attackers-init c = record {
   unpinnable = c.unpinnable_pieces-left.ensures.unpinnable;
   takes = λ n h e. absurd (both_ways (has_bit 0 n) (has_bit-none n) e);
-  prizes = c.none-prizes.ensures c.args.p.now c.args.e;
+  top_two = c.none-top_two.ensures c.args.p.now c.args.e;
   left = c.unpinnable_pieces-left.result.fits;
   fits = omega arith;
 }
@@ -41,24 +41,24 @@ attacked_more p a takes plain before more = λ n h e. elim (or_cases (has_bit ta
   | inr here ↦ merely (a, more n h here)
 ]
 
-pub with_ends-prizes-requires-clause-ends : goal.with_ends-prizes-requires-clause-ends
-with_ends-prizes-requires-clause-ends c = λ t h e. capture_at c.args.p.now c.lowest-from.result t c.own-own.result.bits c.attacks_of-attacks.result.plain.bits
+pub with_ends-top_two-requires-clause-ends : goal.with_ends-top_two-requires-clause-ends
+with_ends-top_two-requires-clause-ends c = λ t h e. capture_at c.args.p.now c.lowest-from.result t c.own-own.result.bits c.attacks_of-attacks.result.non_promoting.bits
     (subst (λ (s : Color). (n : ℕ) → n < 81 → has_bit c.own-own.result.bits n ≡ is_piece_of s (piece_at c.args.p.now.cells n)) c.side-2.ensures (rw c.as_board-board.ensures at c.own-own.ensures.squares))
-    (rw c.of_index-square.ensures at c.attacks_of-attacks.ensures.plain) h (rw c.bitand.ensures at e)
+    (rw c.of_index-square.ensures at c.attacks_of-attacks.ensures.non_promoting) h (rw c.bitand.ensures at e)
 
-pub with_ends-prizes-requires-in-attackers-clause-ends :
-    goal.with_ends-prizes-requires-in-attackers-clause-ends
-with_ends-prizes-requires-in-attackers-clause-ends c = λ t h e. promotion_at c.args.p.now c.lowest-from.result t c.own-theirs.result.bits c.attacks_of-attacks.result.promoting.bits (omega arith)
+pub with_ends-top_two-requires-in-attackers-clause-ends :
+    goal.with_ends-top_two-requires-in-attackers-clause-ends
+with_ends-top_two-requires-in-attackers-clause-ends c = λ t h e. promotion_at c.args.p.now c.lowest-from.result t c.own-theirs.result.bits c.attacks_of-attacks.result.promoting.bits (omega arith)
     (subst (λ (s : Color). (n : ℕ) → n < 81 → has_bit c.own-theirs.result.bits n ≡ is_piece_of s (piece_at c.args.p.now.cells n)) (c.opponent-2.ensures ∙ ap opponent_of c.side-3.ensures) (rw c.as_board-board.ensures at c.own-theirs.ensures.squares))
     (rw c.of_index-square.ensures at c.attacks_of-attacks.ensures.promoting) h (rw c.without.ensures at e)
 
 pub attackers-preserved : goal.attackers-preserved
 attackers-preserved c = record {
   unpinnable = search rules;
-  takes = attacked_more c.args.p.now c.lowest-from.result c.attackers.takes c.attacks_of-attacks.result.plain.bits c.attackers.invariant.takes (rw c.of_index-square.ensures at c.attacks_of-attacks.ensures.plain);
-  prizes = c.with_ends-prizes-in-attackers.ensures;
+  takes = attacked_more c.args.p.now c.lowest-from.result c.attackers.takes c.attacks_of-attacks.result.non_promoting.bits c.attackers.invariant.takes (rw c.of_index-square.ensures at c.attacks_of-attacks.ensures.non_promoting);
+  top_two = c.with_ends-top_two-in-attackers.ensures;
   left = search rules;
-  fits = or_fits c.attackers.takes c.attacks_of-attacks.result.plain.bits c.attackers.invariant.fits c.attacks_of-attacks.result.plain.fits;
+  fits = or_fits c.attackers.takes c.attacks_of-attacks.result.non_promoting.bits c.attackers.invariant.fits c.attacks_of-attacks.result.non_promoting.fits;
 }
 
 pub lowest-from-requires-clause-fits : goal.lowest-from-requires-clause-fits
@@ -79,20 +79,20 @@ attackers-smaller c = c.without_lowest-left.ensures.less
 pub of_index-square-requires : goal.of_index-square-requires
 of_index-square-requires c = c.lowest-from.ensures.range
 
-pub with_ends-prizes-requires-clause-from : goal.with_ends-prizes-requires-clause-from
-with_ends-prizes-requires-clause-from c = c.lowest-from.ensures.range
+pub with_ends-top_two-requires-clause-from : goal.with_ends-top_two-requires-clause-from
+with_ends-top_two-requires-clause-from c = c.lowest-from.ensures.range
 
-pub with_ends-prizes-requires-clause-prizes : goal.with_ends-prizes-requires-clause-prizes
-with_ends-prizes-requires-clause-prizes c = c.attackers.invariant.prizes
+pub with_ends-top_two-requires-clause-top_two : goal.with_ends-top_two-requires-clause-top_two
+with_ends-top_two-requires-clause-top_two c = c.attackers.invariant.top_two
 
-pub with_ends-prizes-requires-in-attackers-clause-from : goal.with_ends-prizes-requires-in-attackers-clause-from
-with_ends-prizes-requires-in-attackers-clause-from c = c.lowest-from.ensures.range
+pub with_ends-top_two-requires-in-attackers-clause-from : goal.with_ends-top_two-requires-in-attackers-clause-from
+with_ends-top_two-requires-in-attackers-clause-from c = c.lowest-from.ensures.range
 
-pub with_ends-prizes-requires-in-attackers-clause-prizes : goal.with_ends-prizes-requires-in-attackers-clause-prizes
-with_ends-prizes-requires-in-attackers-clause-prizes c = c.with_ends-prizes.ensures
+pub with_ends-top_two-requires-in-attackers-clause-top_two : goal.with_ends-top_two-requires-in-attackers-clause-top_two
+with_ends-top_two-requires-in-attackers-clause-top_two c = c.with_ends-top_two.ensures
 
-pub threat_by-requires-clause-prize : goal.threat_by-requires-clause-prize
-threat_by-requires-clause-prize c = c.attackers.invariant.prizes.greatest
+pub threat_by-requires-clause-candidate : goal.threat_by-requires-clause-candidate
+threat_by-requires-clause-candidate c = c.attackers.invariant.top_two.greatest
 
-pub threat_by-requires-2-clause-prize : goal.threat_by-requires-2-clause-prize
-threat_by-requires-2-clause-prize c = c.attackers.invariant.prizes.second
+pub threat_by-requires-2-clause-candidate : goal.threat_by-requires-2-clause-candidate
+threat_by-requires-2-clause-candidate c = c.attackers.invariant.top_two.second

@@ -1,5 +1,5 @@
 use Rattle.shogi_core.proofs.LineBits.{and_fits}
-use Rattle.shogi_core.proofs.Shots.{steps_first, steps_among}
+use Rattle.shogi_core.proofs.SliderAttacks.{steps_first, steps_among}
 use Rattle.shogi_core.proofs.attack.first_stepper.Goals as goal
 
 pub loop-left-init : goal.loop-left-init

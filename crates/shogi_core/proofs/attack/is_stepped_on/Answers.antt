@@ -1,5 +1,5 @@
 use Rattle.std.proofs.Common.{◌∙◌, refl}
-use Rattle.shogi_core.proofs.Shots.{steps_alike}
+use Rattle.shogi_core.proofs.SliderAttacks.{steps_alike}
 use Rattle.shogi_core.proofs.attack.is_stepped_on.Goals as goal
 
 pub returns : goal.returns

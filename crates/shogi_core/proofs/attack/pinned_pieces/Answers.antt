@@ -2,7 +2,7 @@ use Rattle.std.proofs.Common.{◌∙◌, sym, false}
 use Rattle.std.proofs.lemmas.Option.{IfSome_then}
 use Rattle.shogi_core.specs.Pieces.{opponent_of}
 use Rattle.shogi_core.proofs.Pins.{no_pins}
-use Rattle.shogi_core.proofs.Shots.{attacked_by_step, attacked_by_slide, no_sniper, shot_attacks}
+use Rattle.shogi_core.proofs.SliderAttacks.{attacked_by_step, attacked_by_slide, no_sniper, shot_attacks}
 use Rattle.shogi_core.proofs.attack.pinned_pieces.Goals as goal
 
 pub returns-then-is_stepped_on-clause-attacked : goal.returns-then-is_stepped_on-clause-attacked

@@ -9,14 +9,14 @@ use Rattle.shogi_moves.proofs.count.+perft.Goals.{then-n-eq2, else-n-eq2+in_ok-c
 pub returns-then-n-eq0-clause-count : goal.returns-then-n-eq0-clause-count
 returns-then-n-eq0-clause-count t c = sym (perft_none c.args.p.now c.args.n c.if-n-eq0.true)
 
-pub returns-then-n-eq0-clause-none : goal.returns-then-n-eq0-clause-none
-returns-then-n-eq0-clause-none t c = ((λ none. absurd (true≢false none)), (λ many. absurd (perft_none-few c.args.p.now c.args.n c.if-n-eq0.true many)))
+pub returns-then-n-eq0-clause-if_none : goal.returns-then-n-eq0-clause-if_none
+returns-then-n-eq0-clause-if_none t c = ((λ none. absurd (true≢false none)), (λ many. absurd (perft_none-few c.args.p.now c.args.n c.if-n-eq0.true many)))
 
 pub returns-then-n-eq1-clause-count : goal.returns-then-n-eq1-clause-count
 returns-then-n-eq1-clause-count t c = c.count_legal.ensures.count ∙ ap (perft c.args.p.now) (sym c.if-n-eq1.true)
 
-pub returns-then-n-eq1-clause-none : goal.returns-then-n-eq1-clause-none
-returns-then-n-eq1-clause-none t c =
+pub returns-then-n-eq1-clause-if_none : goal.returns-then-n-eq1-clause-if_none
+returns-then-n-eq1-clause-if_none t c =
     let all : c.count_legal.result ≡ perft c.args.p.now c.args.n = c.count_legal.ensures.count ∙ ap (perft c.args.p.now) (sym c.if-n-eq1.true) in
     ((λ none. absurd (true≢false none)), (λ many. absurd (omega (arith, c.count_legal.ensures.range))))
 
@@ -45,14 +45,14 @@ moves-preserved t c =
     }
 
 -- where one move's share passes the greatest number, the whole does
-pub returns-in_err-count-clause-none : goal.returns-in_err-count-clause-none
-returns-in_err-count-clause-none t c =
+pub returns-in_err-count-clause-if_none : goal.returns-in_err-count-clause-if_none
+returns-in_err-count-clause-if_none t c =
     let step = perft_by-left c.args.p.now (c.args.n - 1) (code_of c.in-Some.m) c.moves.walk.codes c.next.new.self.codes c.advance.new.p c.in-Some.ensures.next c.advance.ensures.by_code in
-    let share : 2 ^ 64 ≤ perft c.advance.new.p (c.args.n - 1) = c.in_err-count.ensures.none.0 refl in
+    let share : 2 ^ 64 ≤ perft c.advance.new.p (c.args.n - 1) = c.in_err-count.ensures.if_none.0 refl in
     ((λ none. omega arith), (λ many. search rules))
 
-pub returns-in_err-total-clause-none : goal.returns-in_err-total-clause-none
-returns-in_err-total-clause-none t c =
+pub returns-in_err-total-clause-if_none : goal.returns-in_err-total-clause-if_none
+returns-in_err-total-clause-if_none t c =
     let step = perft_by-left c.args.p.now (c.args.n - 1) (code_of c.in-Some.m) c.moves.walk.codes c.next.new.self.codes c.advance.new.p c.in-Some.ensures.next c.advance.ensures.by_code in
     let share : c.if-n-eq2.count ≡ perft c.advance.new.p (c.args.n - 1) = elim c.if-n-eq2.branch [
       | then-n-eq2 w ↦ (let one : 1 ≡ c.args.n - 1 = omega (arith, w.if-n-eq2.true) in w.count-is ∙ (w.count_legal-count.ensures.count ∙ ap (perft c.advance.new.p) one))
@@ -60,8 +60,8 @@ returns-in_err-total-clause-none t c =
     ] in
     ((λ none. omega (arith, c.in_err-total.ensures, share)), (λ many. search rules))
 
-pub returns-clause-none : goal.returns-clause-none
-returns-clause-none t c =
+pub returns-clause-if_none : goal.returns-clause-if_none
+returns-clause-if_none t c =
     let end : perft_by c.args.p.now (c.args.n - 1) c.moves.walk.codes ≡ 0 = rw c.in_default.ensures.next.0 (perft_by-none c.args.p.now (c.args.n - 1)) in
     ((λ none. absurd (true≢false none)), (λ many. absurd (omega arith)))
 

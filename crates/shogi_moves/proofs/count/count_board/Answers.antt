@@ -9,8 +9,8 @@ pub all_by_marks-requires-clause-own : goal.all_by_marks-requires-clause-own
 all_by_marks-requires-clause-own c = rw c.of_index-from.ensures (low_own c.args.known.now.position.now c.low.low c.bits_from-high.result c.low.total c.lowest-square.result (omega arith) c.bits_from-high.ensures.below c.low.invariant c.lowest-square.ensures.range c.lowest-square.ensures.set c.lowest-square.ensures.least)
 
 pub low-preserved : goal.low-preserved
-low-preserved c = rw c.count_of-total.ensures (low_counted c.args.known.now.position.now c.low.low c.bits_from-high.result c.without_lowest-low.result c.low.total c.lowest-square.result c.all_by_marks.result.plain.bits c.all_by_marks.result.promoting.bits (omega arith) c.bits_from-high.ensures.below c.low.invariant c.lowest-square.ensures.range c.lowest-square.ensures.set c.lowest-square.ensures.least c.without_lowest-low.ensures.bits
-    c.all_by_marks.result.plain.fits c.all_by_marks.result.promoting.fits (rw c.of_index-from.ensures at c.all_by_marks.ensures.plain) (rw c.of_index-from.ensures at c.all_by_marks.ensures.promoting))
+low-preserved c = rw c.count_of-total.ensures (low_counted c.args.known.now.position.now c.low.low c.bits_from-high.result c.without_lowest-low.result c.low.total c.lowest-square.result c.all_by_marks.result.non_promoting.bits c.all_by_marks.result.promoting.bits (omega arith) c.bits_from-high.ensures.below c.low.invariant c.lowest-square.ensures.range c.lowest-square.ensures.set c.lowest-square.ensures.least c.without_lowest-low.ensures.bits
+    c.all_by_marks.result.non_promoting.fits c.all_by_marks.result.promoting.fits (rw c.of_index-from.ensures at c.all_by_marks.ensures.non_promoting) (rw c.of_index-from.ensures at c.all_by_marks.ensures.promoting))
 
 pub high-init : goal.high-init
 high-init c = record {
@@ -20,8 +20,8 @@ high-init c = record {
 
 pub high-preserved : goal.high-preserved
 high-preserved c = record {
-  counted = rw c.count_of-total-in-high.ensures (piece_counted c.args.known.now.position.now c.high.left c.without_lowest-left.result c.high.total c.lowest-square-in-high.result c.all_by_marks-in-high.result.plain.bits c.all_by_marks-in-high.result.promoting.bits c.high.invariant.counted c.lowest-square-in-high.ensures.range c.lowest-square-in-high.ensures.set c.lowest-square-in-high.ensures.least c.without_lowest-left.ensures.bits
-      c.all_by_marks-in-high.result.plain.fits c.all_by_marks-in-high.result.promoting.fits (rw c.of_index-from-in-high.ensures at c.all_by_marks-in-high.ensures.plain) (rw c.of_index-from-in-high.ensures at c.all_by_marks-in-high.ensures.promoting));
+  counted = rw c.count_of-total-in-high.ensures (piece_counted c.args.known.now.position.now c.high.left c.without_lowest-left.result c.high.total c.lowest-square-in-high.result c.all_by_marks-in-high.result.non_promoting.bits c.all_by_marks-in-high.result.promoting.bits c.high.invariant.counted c.lowest-square-in-high.ensures.range c.lowest-square-in-high.ensures.set c.lowest-square-in-high.ensures.least c.without_lowest-left.ensures.bits
+      c.all_by_marks-in-high.result.non_promoting.fits c.all_by_marks-in-high.result.promoting.fits (rw c.of_index-from-in-high.ensures at c.all_by_marks-in-high.ensures.non_promoting) (rw c.of_index-from-in-high.ensures at c.all_by_marks-in-high.ensures.promoting));
   fits = omega (arith, c.without_lowest-left.ensures.less, c.high.invariant.fits);
 }
 

@@ -13,13 +13,13 @@ returns-then-not-has c =
     let among = bit_and c.targets.result.bits c.args.squares.bits in
     let apart : bit_and among c.args.zone.bits ≡ 0 = rw c.bitand-among.ensures at (sym c.bitand.ensures ∙ none_there _ _ c.is_empty.ensures c.if-is_empty.true) in
     let ways : (n : ℕ) → n < 81 → has_bit among n ≡ true → (reaches c.args.known.now.position.now.cells c.args.from n ≡ true) × (is_piece_of c.args.known.now.position.now.side (piece_at c.args.known.now.position.now.cells n) ≡ false) = λ n h. all_ways c.targets.result.bits c.args.squares.bits n _ _ (reach n h) (c.requires.squares n h) in
-    let kept = λ (n : ℕ) (h : n < 81). unpinned_kept c.args.known.now.position.now c.args.known.now.info.checked c.args.known.now.info.pinned_or_king.bits among c.args.from n c.args.known.now.right c.validity.ensures.cells_fit (omega arith) h c.requires.own (rw (clear.0, clear.1) refl) in
+    let kept = λ (n : ℕ) (h : n < 81). unpinned_kept c.args.known.now.position.now c.args.known.now.info.checked c.args.known.now.info.pinned_or_king.bits among c.args.from n c.args.known.now.right c.reveal_invariant.ensures.cells_fit (omega arith) h c.requires.own (rw (clear.0, clear.1) refl) in
     record {
-      plain = rw c.bitand-among.ensures (all_destinations c.args.known.now.position.now false c.args.from c.targets.result.bits c.args.squares.bits among (omega arith) reach c.requires.squares
-          (λ n h. plain_destinations c.args.known.now.position.now c.args.from n among among among c.validity.ensures.cells_fit (omega arith) h c.requires.own (ways n h) (kept n h)
+      non_promoting = rw c.bitand-among.ensures (all_destinations c.args.known.now.position.now false c.args.from c.targets.result.bits c.args.squares.bits among (omega arith) reach c.requires.squares
+          (λ n h. plain_destinations c.args.known.now.position.now c.args.from n among among among c.reveal_invariant.ensures.cells_fit (omega arith) h c.requires.own (ways n h) (kept n h)
           (plain_outside c.args.known.now.position.now.side among c.args.zone.bits c.args.from n (piece_at c.args.known.now.position.now.cells c.args.from) c.requires.own (c.requires.zone c.args.from (omega arith)) (c.requires.zone n h) clear.2 apart)));
       promoting = rw c.none.ensures (all_destinations c.args.known.now.position.now true c.args.from c.targets.result.bits c.args.squares.bits 0 (omega arith) reach c.requires.squares
-          (λ n h. promoting_destinations c.args.known.now.position.now c.args.from n among among 0 c.validity.ensures.cells_fit (omega arith) h c.requires.own (ways n h) (kept n h)
+          (λ n h. promoting_destinations c.args.known.now.position.now c.args.from n among among 0 c.reveal_invariant.ensures.cells_fit (omega arith) h c.requires.own (ways n h) (kept n h)
           (promoting_outside c.args.known.now.position.now.side among c.args.zone.bits c.args.from n (piece_at c.args.known.now.position.now.cells c.args.from) c.requires.own (c.requires.zone c.args.from (omega arith)) (c.requires.zone n h) clear.2 apart)));
     }
 
@@ -28,6 +28,6 @@ legal_destinations-requires-clause-among c = rw c.bitand-among.ensures (λ n h. 
 
 pub returns : goal.returns
 returns c = record {
-  plain = all_destinations c.args.known.now.position.now false c.args.from c.targets.result.bits c.args.squares.bits c.legal_destinations.result.plain.bits (omega arith) (rw c.as_board.ensures at c.targets.ensures.squares) c.requires.squares (rw c.bitand-among.ensures at c.legal_destinations.ensures.plain);
+  non_promoting = all_destinations c.args.known.now.position.now false c.args.from c.targets.result.bits c.args.squares.bits c.legal_destinations.result.non_promoting.bits (omega arith) (rw c.as_board.ensures at c.targets.ensures.squares) c.requires.squares (rw c.bitand-among.ensures at c.legal_destinations.ensures.non_promoting);
   promoting = all_destinations c.args.known.now.position.now true c.args.from c.targets.result.bits c.args.squares.bits c.legal_destinations.result.promoting.bits (omega arith) (rw c.as_board.ensures at c.targets.ensures.squares) c.requires.squares (rw c.bitand-among.ensures at c.legal_destinations.ensures.promoting);
 }

@@ -7,6 +7,6 @@ legal_destinations-requires-clause-among c = rw c.bitand-among.ensures (λ n h. 
 
 pub returns : goal.returns
 returns c = record {
-  plain = all_destinations c.args.known.now.position.now false c.args.from c.targets.result.bits c.args.squares.bits c.legal_destinations.result.plain.bits c.validity.ensures (rw c.as_board.ensures at c.targets.ensures.squares) c.requires.squares (rw c.bitand-among.ensures at c.legal_destinations.ensures.plain);
-  promoting = all_destinations c.args.known.now.position.now true c.args.from c.targets.result.bits c.args.squares.bits c.legal_destinations.result.promoting.bits c.validity.ensures (rw c.as_board.ensures at c.targets.ensures.squares) c.requires.squares (rw c.bitand-among.ensures at c.legal_destinations.ensures.promoting);
+  non_promoting = all_destinations c.args.known.now.position.now false c.args.from c.targets.result.bits c.args.squares.bits c.legal_destinations.result.non_promoting.bits c.reveal_invariant.ensures (rw c.as_board.ensures at c.targets.ensures.squares) c.requires.squares (rw c.bitand-among.ensures at c.legal_destinations.ensures.non_promoting);
+  promoting = all_destinations c.args.known.now.position.now true c.args.from c.targets.result.bits c.args.squares.bits c.legal_destinations.result.promoting.bits c.reveal_invariant.ensures (rw c.as_board.ensures at c.targets.ensures.squares) c.requires.squares (rw c.bitand-among.ensures at c.legal_destinations.ensures.promoting);
 }

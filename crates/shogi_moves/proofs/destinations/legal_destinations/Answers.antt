@@ -4,8 +4,8 @@ use Rattle.shogi_moves.proofs.destinations.legal_destinations.Goals as goal
 
 pub returns : goal.returns
 returns c = record {
-  plain = λ n h. plain_destinations c.args.known.now.position.now c.args.from n c.args.among.bits c.safe_destinations-destinations.result.bits c.with_promotions.result.plain.bits c.validity.ensures.cells_fit (omega arith) h c.requires.own (c.requires.among n h)
-      (c.safe_destinations-destinations.ensures.squares n h) (rw c.at.ensures at c.with_promotions.ensures.plain n h);
-  promoting = λ n h. promoting_destinations c.args.known.now.position.now c.args.from n c.args.among.bits c.safe_destinations-destinations.result.bits c.with_promotions.result.promoting.bits c.validity.ensures.cells_fit (omega arith) h c.requires.own (c.requires.among n h)
+  non_promoting = λ n h. plain_destinations c.args.known.now.position.now c.args.from n c.args.among.bits c.safe_destinations-destinations.result.bits c.with_promotions.result.non_promoting.bits c.reveal_invariant.ensures.cells_fit (omega arith) h c.requires.own (c.requires.among n h)
+      (c.safe_destinations-destinations.ensures.squares n h) (rw c.at.ensures at c.with_promotions.ensures.non_promoting n h);
+  promoting = λ n h. promoting_destinations c.args.known.now.position.now c.args.from n c.args.among.bits c.safe_destinations-destinations.result.bits c.with_promotions.result.promoting.bits c.reveal_invariant.ensures.cells_fit (omega arith) h c.requires.own (c.requires.among n h)
       (c.safe_destinations-destinations.ensures.squares n h) (rw c.at.ensures at c.with_promotions.ensures.promoting n h);
 }

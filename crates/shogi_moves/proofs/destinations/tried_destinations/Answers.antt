@@ -1,10 +1,10 @@
 use Rattle.std.proofs.Common.{rules, false}
 use Rattle.shogi_core.specs.declared.moves.Move.TheVariants.{Board}
 use Rattle.shogi_core.proofs.Sifting.{sifted_mask}
-use Rattle.shogi_moves.specs.Destinations.{is_unchecked}
+use Rattle.shogi_moves.specs.Destinations.{leaves_king_safe}
 use Rattle.shogi_moves.proofs.destinations.tried_destinations.Goals as goal
 
 pub returns : goal.returns
 returns c = record {
-  squares = sifted_mask _ c.args.destinations.bits c.sift.result.bits (λ n. is_unchecked c.args.p.now (Board c.args.from n false)) (λ n b h p. search rules) c.sift.ensures.sifted;
+  squares = sifted_mask _ c.args.destinations.bits c.sift.result.bits (λ n. leaves_king_safe c.args.p.now (Board c.args.from n false)) (λ n b h p. search rules) c.sift.ensures.sifted;
 }

@@ -12,8 +12,8 @@ use Rattle.shogi_moves.proofs.movers.matching_movers.Goals as goal
 pub returns-then-not-capture-clause-within : goal.returns-then-not-capture-clause-within
 returns-then-not-capture-clause-within c = λ n e. e
 
-pub returns-then-not-capture-clause-none : goal.returns-then-not-capture-clause-none
-returns-then-not-capture-clause-none c = λ n t hn ht set out. absurd (both_ways (has_bit c.args.pieces.bits n) out set)
+pub returns-then-not-capture-clause-if_none : goal.returns-then-not-capture-clause-if_none
+returns-then-not-capture-clause-if_none c = λ n t hn ht set out. absurd (both_ways (has_bit c.args.pieces.bits n) out set)
 
 pub invariant_of-result : goal.invariant_of-result
 invariant_of-result c = record { fits = and_fits c.args.pieces.bits (bit_or c.sliders.result.bits c.squares_near-near.result) c.args.pieces.fits }
@@ -21,8 +21,8 @@ invariant_of-result c = record { fits = and_fits c.args.pieces.bits (bit_or c.sl
 pub returns-clause-within : goal.returns-clause-within
 returns-clause-within c = λ n e. (and_parts _ _ (sym (has_bit-and _ _ n) ∙ e)).0
 
-pub returns-clause-none : goal.returns-clause-none
-returns-clause-none c = λ n t hn ht set out.
+pub returns-clause-if_none : goal.returns-clause-if_none
+returns-clause-if_none c = λ n t hn ht set out.
     subst (λ (capture : Bool). (reaches c.args.p.now.cells n t && is_destination capture c.args.p.now.side (piece_at c.args.p.now.cells t)) ≡ false) (sym c.if-not-capture.false)
     (reaches_none c.args.p.now c.args.pieces.bits c.sliders.result.bits c.squares_near-near.result n t hn ht set out (rw c.as_board-board.ensures at c.sliders.ensures.squares)
     (λ theirs near. c.squares_near-near.ensures n t hn ht ((rw (c.opponent.ensures, c.side.ensures, c.as_board-board.ensures) at c.own.ensures.squares) t ht ∙ theirs) near))

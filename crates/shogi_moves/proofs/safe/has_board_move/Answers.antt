@@ -25,5 +25,5 @@ pieces-preserved c =
       fits = omega (arith, c.without_lowest-left.ensures.less, c.pieces.invariant.fits);
     }
 
-pub returns-clause-none : goal.returns-clause-none
-returns-clause-none c = λ _. c.pieces.invariant.same ∙ no_piece_left c.args.known.now.position.now c.pieces.left c.pieces.invariant.first c.pieces.invariant.pieces (omega (arith, c.pieces-test.false))
+pub returns-clause-if_none : goal.returns-clause-if_none
+returns-clause-if_none c = λ _. c.pieces.invariant.same ∙ no_piece_left c.args.known.now.position.now c.pieces.left c.pieces.invariant.first c.pieces.invariant.pieces (omega (arith, c.pieces-test.false))

@@ -16,7 +16,7 @@ kinds-preserved c =
 pub returns-then-not-is_empty-clause-some : goal.returns-then-not-is_empty-clause-some
 returns-then-not-is_empty-clause-some c = λ _. kind_with c.args.p.now c.in-Some.next c.safe_drops.result.bits c.safe_drops.result.fits (λ n h. legal_other c.args.p.now c.in-Some.next c.safe_drops.result.bits n h (not_pawn c.in-Some.next (omega (arith, c.in-Some.ensures))) (c.safe_drops.ensures.squares n h)) (some_there _ _ c.is_empty.ensures c.if-not-is_empty.true)
 
-pub returns-clause-none : goal.returns-clause-none
-returns-clause-none c = λ _. (
+pub returns-clause-if_none : goal.returns-clause-if_none
+returns-clause-if_none c = λ _. (
     let last : kind_number c.kinds.kind ≡ 6 = c.in_default.ensures in
     c.kinds.invariant ∙ legal_from_end c.args.p.now (FIRST_DROP + 81 + kind_number c.kinds.kind * 81) (omega arith))

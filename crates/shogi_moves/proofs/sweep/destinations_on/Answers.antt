@@ -8,12 +8,12 @@ legal_destinations-requires-clause-among c = rw c.bitand-among.ensures (λ n h. 
 
 pub returns-then-is_piece_of : goal.returns-then-is_piece_of
 returns-then-is_piece_of c = record {
-  plain = matching_among c.args.known.now.position.now c.args.capture false c.args.from c.targets.result.bits c.matching_destinations.result.bits c.legal_destinations.result.plain.bits (omega arith) (rw c.as_board.ensures at c.targets.ensures.squares) c.matching_destinations.ensures.squares (rw c.bitand-among.ensures at c.legal_destinations.ensures.plain);
+  non_promoting = matching_among c.args.known.now.position.now c.args.capture false c.args.from c.targets.result.bits c.matching_destinations.result.bits c.legal_destinations.result.non_promoting.bits (omega arith) (rw c.as_board.ensures at c.targets.ensures.squares) c.matching_destinations.ensures.squares (rw c.bitand-among.ensures at c.legal_destinations.ensures.non_promoting);
   promoting = matching_among c.args.known.now.position.now c.args.capture true c.args.from c.targets.result.bits c.matching_destinations.result.bits c.legal_destinations.result.promoting.bits (omega arith) (rw c.as_board.ensures at c.targets.ensures.squares) c.matching_destinations.ensures.squares (rw c.bitand-among.ensures at c.legal_destinations.ensures.promoting);
 }
 
 pub returns-else-is_piece_of : goal.returns-else-is_piece_of
 returns-else-is_piece_of c = record {
-  plain = rw c.none.ensures (λ n h. no_destinations c.args.known.now.position.now c.args.capture false c.args.from n (omega arith) h (search rules));
+  non_promoting = rw c.none.ensures (λ n h. no_destinations c.args.known.now.position.now c.args.capture false c.args.from n (omega arith) h (search rules));
   promoting = rw c.none-else-is_piece_of.ensures (λ n h. no_destinations c.args.known.now.position.now c.args.capture true c.args.from n (omega arith) h (search rules));
 }

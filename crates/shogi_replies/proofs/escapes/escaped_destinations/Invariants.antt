@@ -1,6 +1,6 @@
 use Rattle.std.proofs.Common.{◌<◌, ◌^◌}
 use Rattle.shogi_core.specs.declared.moves.Move.TheVariants.{Board}
-use Rattle.shogi_replies.specs.Replies.{IsQuietlyAnswered}
+use Rattle.shogi_replies.specs.ReplyInfo.{IsQuietlyAnswered}
 use Rattle.shogi_replies.proofs.EscapeLaws.{PassesTried}
 use Rattle.shogi_replies.proofs.escapes.escaped_destinations.Given as goal
 

@@ -2,7 +2,7 @@ use Rattle.std.proofs.Common.{◌-◌, ◌^◌, ◌∙◌, arith, sym}
 use Rattle.std.proofs.lemmas.Bool.{and_parts}
 use Rattle.shogi_core.specs.declared.moves.Move.TheVariants.{Drop}
 use Rattle.shogi_core.proofs.BitLaws.{has_bit-and}
-use Rattle.shogi_replies.specs.Replies.{IsQuietlyAnswered}
+use Rattle.shogi_replies.specs.ReplyInfo.{IsQuietlyAnswered}
 use Rattle.shogi_replies.proofs.EscapeLaws.{tried_first, tried_before, tried_done, tried_next}
 use Rattle.shogi_core.proofs.LineBits.{and_fits}
 use Rattle.shogi_replies.proofs.escapes.escaped_drops.Goals as goal

@@ -43,7 +43,7 @@ drop_taken p m side k to kind is h = subst (IsTaken p) (sym is) (record {
 pub returns-in-Board-clause-taken : goal.returns-in-Board-clause-taken
 returns-in-Board-clause-taken c = λ e. board_taken _ _ _ _ _ _ _ c.in-Board.is (omega arith) (record {
   is_side = c.opponent.ensures ∙ ap opponent_of c.side.ensures;
-  valid = c.validity.ensures;
+  valid = c.reveal_invariant.ensures;
   king_fits = omega arith;
   fits = omega arith;
   crown = c.in-Some.ensures.king;
@@ -55,7 +55,7 @@ returns-in-Board-clause-taken c = λ e. board_taken _ _ _ _ _ _ _ c.in-Board.is 
 pub returns-in-Board-clause-answered : goal.returns-in-Board-clause-answered
 returns-in-Board-clause-answered c = λ e legal. taken_reply _ _ (board_taken _ _ _ _ _ _ _ c.in-Board.is (omega arith) (record {
   is_side = c.opponent.ensures ∙ ap opponent_of c.side.ensures;
-  valid = c.validity.ensures;
+  valid = c.reveal_invariant.ensures;
   king_fits = omega arith;
   fits = omega arith;
   crown = c.in-Some.ensures.king;
@@ -67,7 +67,7 @@ returns-in-Board-clause-answered c = λ e legal. taken_reply _ _ (board_taken _ 
 pub returns-in-Drop-clause-taken : goal.returns-in-Drop-clause-taken
 returns-in-Drop-clause-taken c = λ e legal. drop_taken _ _ _ _ _ _ c.in-Drop.is (record {
   is_side = c.opponent.ensures ∙ ap opponent_of c.side.ensures;
-  valid = c.validity.ensures;
+  valid = c.reveal_invariant.ensures;
   king_fits = omega arith;
   fits = omega arith;
   crown = c.in-Some.ensures.king;
@@ -79,7 +79,7 @@ returns-in-Drop-clause-taken c = λ e legal. drop_taken _ _ _ _ _ _ c.in-Drop.is
 pub returns-in-Drop-clause-answered : goal.returns-in-Drop-clause-answered
 returns-in-Drop-clause-answered c = λ e legal. taken_reply _ _ (drop_taken _ _ _ _ _ _ c.in-Drop.is (record {
   is_side = c.opponent.ensures ∙ ap opponent_of c.side.ensures;
-  valid = c.validity.ensures;
+  valid = c.reveal_invariant.ensures;
   king_fits = omega arith;
   fits = omega arith;
   crown = c.in-Some.ensures.king;

@@ -11,7 +11,7 @@ use Rattle.shogi_replies.proofs.escapes.leaves_king_move.Goals as goal
 
 pub returns-else-not-has_no_sniper : goal.returns-else-not-has_no_sniper
 returns-else-not-has_no_sniper c = λ e legal. subst (λ (m : Move). legal_codes (after c.args.p.now m) ≢ []) (sym c.in-Board.is)
-    (covered_board c.args.p.now c.in-Board.from c.in-Board.to c.step_squares.result.bits c.in-Board.promote c.in-Some.piece c.validity.ensures c.validity-in-Board.ensures c.validity-in-Board-2.ensures
+    (covered_board c.args.p.now c.in-Board.from c.in-Board.to c.step_squares.result.bits c.in-Board.promote c.in-Some.piece c.reveal_invariant.ensures c.reveal_invariant-in-Board.ensures c.reveal_invariant-in-Board-2.ensures
     (subst (λ (m : Move). is_legal c.args.p.now m ≡ true) c.in-Board.is legal)
     ((rw c.at.ensures at (sym c.piece_moved.ensures)) ∙ c.in-Some.is)
     (sym c.is_sliding.ensures ∙ c.if-is_sliding.false)
@@ -22,5 +22,5 @@ pub returns-then-has : goal.returns-then-has
 returns-then-has c = λ e legal.
     let side : c.opponent.result ≡ opponent_of c.args.p.now.side = c.opponent.ensures ∙ ap opponent_of c.side.ensures in
     subst (λ (m : Move). legal_codes (after c.args.p.now m) ≢ []) (sym c.in-Drop.is)
-    (taken_drop c.args.p.now c.in-Drop.kind c.args.escapes.bits c.kings.result.bits c.in-Drop.to c.validity.ensures c.validity-in-Drop.ensures c.requires c.kings.result.fits
+    (taken_drop c.args.p.now c.in-Drop.kind c.args.escapes.bits c.kings.result.bits c.in-Drop.to c.reveal_invariant.ensures c.reveal_invariant-in-Drop.ensures c.requires c.kings.result.fits
     (rw (side, c.as_board.ensures) at c.kings.ensures.squares) (some_there _ _ c.is_empty-then-has.ensures (not-true _ e)) (sym c.has.ensures ∙ c.if-has.true))

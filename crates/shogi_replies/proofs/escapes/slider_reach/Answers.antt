@@ -6,7 +6,7 @@ use Rattle.shogi_replies.proofs.escapes.slider_reach.Goals as goal
 
 pub returns-then-is_empty : goal.returns-then-is_empty
 returns-then-is_empty c = λ k n hk hn crown lone out.
-    beyond_lines c.args.piece c.args.to c.step_squares-steps.result.bits c.aligned_squares.result.bits c.validity.ensures (rw c.index-index.ensures.index at c.step_squares-steps.ensures.squares) (rw c.index-index.ensures.index at c.aligned_squares.ensures.squares) (set c.args.p.now.cells k None) n hn (rw c.bitor-wide.ensures at out)
+    beyond_lines c.args.piece c.args.to c.step_squares-steps.result.bits c.line_mask.result.bits c.reveal_invariant.ensures (rw c.index-index.ensures.index at c.step_squares-steps.ensures.squares) (rw c.index-index.ensures.index at c.line_mask.ensures.squares) (set c.args.p.now.cells k None) n hn (rw c.bitor-wide.ensures at out)
 
 pub returns : goal.returns
 returns c = λ k n hk hn crown lone out.

@@ -1,7 +1,7 @@
 use Rattle.std.proofs.Common.{sym, subst}
 use Rattle.std.proofs.lemmas.Bool.{not-false}
 use Rattle.shogi_moves.proofs.DestinationLaws.{none_there}
-use Rattle.shogi_replies.specs.Replies.{IsHarmless}
+use Rattle.shogi_replies.specs.ReplyInfo.{IsHarmless}
 use Rattle.shogi_replies.proofs.ReplyLaws.{harmless_here}
 use Rattle.shogi_replies.proofs.replies.attacks_king.Goals as goal
 

@@ -6,8 +6,8 @@ use Rattle.shogi_core.specs.Zones.{may_promote}
 use Rattle.shogi_replies.proofs.ThreatLaws.{found_plain, found_promoting}
 use Rattle.shogi_replies.proofs.threats.attacks_of.Goals as goal
 
-pub returns-clause-plain : goal.returns-clause-plain
-returns-clause-plain c = λ t h e.
+pub returns-clause-non_promoting : goal.returns-clause-non_promoting
+returns-clause-non_promoting c = λ t h e.
     found_plain c.args.p.now c.args.from t c.args.reach.bits c.except-others.result.bits c.dead_squares.result.bits c.requires.from (omega arith) c.requires.reach
     c.except-others.ensures
     (subst (λ (cell : Option Piece). (n : ℕ) → n < 81 → has_bit c.dead_squares.result.bits n ≡ is_immobile n cell) c.at-cell.ensures c.dead_squares.ensures.squares)

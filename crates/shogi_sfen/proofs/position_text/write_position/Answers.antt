@@ -11,16 +11,16 @@ use Rattle.shogi_sfen.proofs.position_text.write_position.Goals as goal
 
 pub push_hands-requires-clause-small : goal.push_hands-requires-clause-small
 push_hands-requires-clause-small c =
-    λ color kind. subst (λ (hands : HandCounts). count_in_hand hands color kind < 100) (sym c.hands.ensures) (few_held c.args.position.now c.validity.ensures color kind)
+    λ color kind. subst (λ (hands : HandCounts). count_in_hand hands color kind < 100) (sym c.hands.ensures) (few_held c.args.position.now c.reveal_invariant.ensures color kind)
 
 pub returns-clause-back : goal.returns-clause-back
-returns-clause-back c = λ tail ends. written_back c.args.position.now c.validity.ensures tail ends
+returns-clause-back c = λ tail ends. written_back c.args.position.now c.reveal_invariant.ensures tail ends
 
 pub returns-clause-spelled : goal.returns-clause-spelled
 returns-clause-spelled c = λ tail ends.
     let text : List ℕ = position_text c.args.position.now ++ tail in
     let r : Result (Shogi × ℕ) SfenFault = Ok (c.args.position.now, end_of text) in
-    (read-spelled text r (sym (written_back c.args.position.now c.validity.ensures tail ends))).0
+    (read-spelled text r (sym (written_back c.args.position.now c.reveal_invariant.ensures tail ends))).0
 
 pub returns-clause-text : goal.returns-clause-text
 unfolding position_text

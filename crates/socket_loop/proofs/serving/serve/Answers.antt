@@ -34,7 +34,7 @@ loop-preserved g c =
           once = c.turn-turn.ensures.once;
           finished = c.turn-turn.ensures.finished;
         };
-        wait = record { held = refl; bound = c.wait.ensures.bound; report = c.wait.ensures.kept; asked = c.in_ok-wait.ensures.asked; faults = c.wait.ensures.cause.0; host = refl };
+        wait = record { held = refl; bound = c.wait.ensures.bound; report = c.wait.ensures.unchanged; asked = c.in_ok-wait.ensures.asked; faults = c.wait.ensures.cause.0; host = refl };
       });
       fits = rw c.wait.ensures.bound c.turn-turn.ensures.fits;
       slice = c.turn-turn.ensures.turn.slice ∙ c.loop.invariant.slice;
@@ -61,7 +61,7 @@ returns-in_err-wait-clause-all g c =
       finished = c.turn-turn.ensures.finished;
     } in
     let wait : IsWait c.turn-turn.result.moved c.wait.result middle after =
-    record { held = refl; bound = c.wait.ensures.bound; report = c.wait.ensures.kept; asked = c.wait.ensures.asked; faults = c.wait.ensures.cause.0; host = refl } in
+    record { held = refl; bound = c.wait.ensures.bound; report = c.wait.ensures.unchanged; asked = c.wait.ensures.asked; faults = c.wait.ensures.cause.0; host = refl } in
     record {
       slice = c.turn-turn.ensures.turn.slice ∙ c.loop.invariant.slice;
       scenes = record {

@@ -1,8 +1,8 @@
 use Rattle.std.proofs.Common.{refl, [], ◌∷◌}
 use Rattle.socket_loop.proofs.Accepting.{away}
-use Rattle.wires.specs.Asked.{Write, Shut}
+use Rattle.transport.specs.Asked.{Write, Shut}
 use Rattle.socket_loop.specs.Turns.{host_full}
-use Rattle.wires.proofs.Asked.{asks_then}
+use Rattle.transport.proofs.Asked.{asks_then}
 use Rattle.socket_loop.proofs.turn.reject.Goals as goal
 
 pub returns-clause-away : goal.returns-clause-away

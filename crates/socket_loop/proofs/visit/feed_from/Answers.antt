@@ -6,7 +6,7 @@ use Rattle.std.specs.Prelude.{Result, Ok, Err}
 use Rattle.std.specs.Result.{is_ok}
 use Rattle.std.proofs.Common.{◌≡◌, ◌≤◌, ◌∙◌, ℕ, [], ◌∷◌, true, arith, sym, refl}
 use Rattle.std.proofs.KnownBytes.{Keeps-refl}
-use Rattle.wires.proofs.Reported.{stays-refl}
+use Rattle.transport.proofs.Reported.{stays-refl}
 use Rattle.socket_loop.proofs.Visits.{is_done, carries_by_fed, carries_by_starved, wanted_below}
 use Rattle.socket_loop.specs.declared.connection.Connection.{Connection}
 use Rattle.socket_loop.specs.Parts.{IsInput}
@@ -48,7 +48,7 @@ returns-clause-fed g c =
     let step : IsStep c.args.host.now (record { event = Feed x.link.id c.args.chunk.now; outcome = o }) c.feed.new.self = record { below = c.feed.ensures.below; stepped = c.feed.ensures.fed } in
     let visits : Visits IsInput x.link.id c.args.host.now c.shut_down.new.host = visits_two IsInput x.link.id c.args.host.now c.feed.new.self c.shut_down.new.host (Feed x.link.id c.args.chunk.now) o tt tt refl step c.shut_down.ensures.closed in
     record {
-      visit = visited_shut IsInput x before after before.report (stays-refl (before.report.is_shut x.link.number)) c.shut_down.ensures.shuts visits c.shut_down.ensures.none c.shut_down.ensures.bound c.shut_down.ensures.faults;
+      visit = visited_shut IsInput x before after before.report (stays-refl (before.report.is_shut x.link.number)) c.shut_down.ensures.shuts visits c.shut_down.ensures.if_none c.shut_down.ensures.bound c.shut_down.ensures.faults;
       asked = λ «open». asks_shut before.asked after.asked x (record x { is_shut = true }) «open» refl c.shut_down.ensures.asked;
       carries = λ marks earlier gave none.
           carries_by_starved marks before.bound x.link earlier before.report after.report c.args.host.now c.feed.new.self c.shut_down.new.host c.args.chunk.now o c.requires.wants c.requires.few c.requires.some (done-is_ok c.feed.result ∙ (sym c.is_ok.ensures.value ∙ c.if-is_ok.false)) gave c.shut_down.ensures.shuts step c.shut_down.ensures.closed

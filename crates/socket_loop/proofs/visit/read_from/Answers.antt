@@ -1,9 +1,9 @@
 use Rattle.std.proofs.Common.{◌≡◌, ◌∙◌, [], ◌∷◌, true, inl, inr, rules, sym, Ok}
 use Rattle.std.proofs.lemmas.Bool.{both_ways}
-use Rattle.wires.proofs.Reported.{nothing_keeps, ended_keeps}
-use Rattle.wires.specs.Asked.{Asks, Read}
-use Rattle.wires.specs.Report.{Reads, Shuts}
-use Rattle.wires.specs.declared.wire.Got.TheVariants.{Bytes, Nothing, Ended}
+use Rattle.transport.proofs.Reported.{nothing_keeps, ended_keeps}
+use Rattle.transport.specs.Asked.{Asks, Read}
+use Rattle.transport.specs.Report.{Reads, Shuts}
+use Rattle.transport.specs.declared.wire.Got.TheVariants.{Bytes, Nothing, Ended}
 use Rattle.usi_session.specs.declared.limits.TheConstants.{CHUNK_MAX}
 use Rattle.socket_loop.specs.declared.connection.Connection.{Connection}
 use Rattle.socket_loop.specs.Parts.{IsInput}
@@ -62,7 +62,7 @@ returns-in-Err-clause-reads g c =
     let visits : Visits IsInput x.link.id c.args.host.now c.shut_down.new.host = visits_closing IsInput x.link.id c.args.host.now c.shut_down.new.host tt c.shut_down.ensures.closed in
     record {
       visited = read_none x before after (g.W.Wire.asked c.read.new.self) due (c.is_to_read.ensures.«open» c.if-not-is_to_read.false) asked c.shut_down.ensures.asked
-          (visited_shut IsInput x before after (g.W.Wire.report c.read.new.self) c.in-Err.ensures.read.shut shuts visits c.shut_down.ensures.none (c.shut_down.ensures.bound ∙ c.read.ensures.bound) (at_most_then before.failed (g.W.Wire.failed c.read.new.self) after.failed c.read.ensures.cause.0 c.shut_down.ensures.faults));
+          (visited_shut IsInput x before after (g.W.Wire.report c.read.new.self) c.in-Err.ensures.read.shut shuts visits c.shut_down.ensures.if_none (c.shut_down.ensures.bound ∙ c.read.ensures.bound) (at_most_then before.failed (g.W.Wire.failed c.read.new.self) after.failed c.read.ensures.cause.0 c.shut_down.ensures.faults));
       carries = λ marks. carries_by_fault IsInput marks before.bound x.link before.report (g.W.Wire.report c.read.new.self) after.report c.args.host.now c.shut_down.new.host tt (read_fault before.report (g.W.Wire.report c.read.new.self) x.link.number c.in-Err.field-0 c.read.new.buf c.in-Err.ensures.read) c.in-Err.ensures.read.failed shuts c.shut_down.ensures.closed;
     }
 

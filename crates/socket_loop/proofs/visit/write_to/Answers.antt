@@ -1,7 +1,7 @@
 use Rattle.std.proofs.Common.{◌≡◌, ◌==◌, ◌∙◌, [], ◌∷◌, false, true, length, refl, rules, sym}
 use Rattle.host_core.specs.Events.{Take}
 use Rattle.host_core.specs.Seen.{passed_from}
-use Rattle.wires.specs.Report.{Shuts}
+use Rattle.transport.specs.Report.{Shuts}
 use Rattle.socket_loop.specs.declared.connection.Connection.{Connection}
 use Rattle.socket_loop.specs.Parts.{IsOutput}
 use Rattle.socket_loop.specs.Calls.{Visits}
@@ -44,6 +44,6 @@ returns-in-Err-clause-writes g c =
     let visits : Visits IsOutput x.link.id c.args.host.now c.shut_down.new.host = visits_closing IsOutput x.link.id c.args.host.now c.shut_down.new.host tt c.shut_down.ensures.closed in
     record {
       visited = wrote_none x before after (g.W.Wire.asked c.write.new.self) c.in-Some.bytes c.if-held.false c.in-Some.ensures some c.write.ensures.asked c.shut_down.ensures.asked
-          (visited_shut IsOutput x before after (g.W.Wire.report c.write.new.self) c.in-Err.ensures.written.shut shuts visits c.shut_down.ensures.none (c.shut_down.ensures.bound ∙ c.write.ensures.bound) (at_most_then before.failed (g.W.Wire.failed c.write.new.self) after.failed c.write.ensures.cause.0 c.shut_down.ensures.faults));
+          (visited_shut IsOutput x before after (g.W.Wire.report c.write.new.self) c.in-Err.ensures.written.shut shuts visits c.shut_down.ensures.if_none (c.shut_down.ensures.bound ∙ c.write.ensures.bound) (at_most_then before.failed (g.W.Wire.failed c.write.new.self) after.failed c.write.ensures.cause.0 c.shut_down.ensures.faults));
       carries = λ marks. carries_by_fault IsOutput marks before.bound x.link before.report (g.W.Wire.report c.write.new.self) after.report c.args.host.now c.shut_down.new.host tt (write_fault before.report (g.W.Wire.report c.write.new.self) x.link.number c.in-Err.field-0 c.in-Some.bytes.now c.in-Err.ensures.written) c.in-Err.ensures.written.failed shuts c.shut_down.ensures.closed;
     }

@@ -13,7 +13,7 @@ returns-then-n-eq0-clause-most t c = λ _. wins_so_much c.args.p.now c.args.squa
 
 pub returns-in_default-clause-most : goal.returns-in_default-clause-most
 returns-in_default-clause-most t c = λ _.
-    let none : None ≡ taker c.args.p.now c.args.square = first_of (search rules, search (rules, c.in_default.ensures.none), search (rules, c.in_default.is, c.in_default.ensures.none, c.first_taker.ensures.none)) in
+    let none : None ≡ taker c.args.p.now c.args.square = first_of (search rules, search (rules, c.in_default.ensures.if_none), search (rules, c.in_default.is, c.in_default.ensures.if_none, c.first_taker.ensures.if_none)) in
     wins_so_much c.args.p.now c.args.square c.args.n 0 (won_stands c.args.p.now c.args.square c.args.n none)
 
 pub returns-then-gain-floor-clause-most : goal.returns-then-gain-floor-clause-most
@@ -31,7 +31,7 @@ returns-then-not-is_reached_back-clause-most t c = λ _. won_gain c.args.p.now c
 pub returns-then-not-is_reached_back-clause-least : goal.returns-then-not-is_reached_back-clause-least
 returns-then-not-is_reached_back-clause-least t c = λ _.
     let off : c.is_reached_back.result ≡ false = search rules in
-    won_whole c.args.p.now c.args.square c.args.n (taking_code c.args.p.now c.args.square c.in-Some.from) c.gain_by-gain.result (omega (arith, c.if-n-eq0.false)) c.in-Some.ensures.first.taker_is c.gain_by-gain.ensures.gain (c.is_reached_back.ensures.none off)
+    won_whole c.args.p.now c.args.square c.args.n (taking_code c.args.p.now c.args.square c.in-Some.from) c.gain_by-gain.result (omega (arith, c.if-n-eq0.false)) c.in-Some.ensures.first.taker_is c.gain_by-gain.ensures.gain (c.is_reached_back.ensures.if_none off)
 
 pub returns-clause-most : goal.returns-clause-most
 returns-clause-most t c = λ below.

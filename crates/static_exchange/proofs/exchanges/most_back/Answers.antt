@@ -17,4 +17,4 @@ returns-clause-most c = λ n.
     let moved : c.piece_moved-moved.result ≡ piece_moved (promotes c.args.p.now c.args.square c.args.from) (piece_at c.args.p.now.cells c.args.from) =
     c.piece_moved-moved.ensures ∙ (ap (λ (b : Bool). piece_moved b c.at-cell.result) may ∙ ap (piece_moved (promotes c.args.p.now c.args.square c.args.from)) c.at-cell.ensures) in
     subst (λ (v : ℕ). WinsAtMostOn (after_code c.args.p.now (taking_code c.args.p.now c.args.square c.args.from)) c.args.square n (v + PROMOTION_GAIN_MAX)) (sym (c.taken_gain.ensures.value ∙ ap (taken_gain Exchange) moved))
-    (back_first c.args.p.now c.args.square c.args.from n c.validity.ensures c.validity-2.ensures c.requires)
+    (back_first c.args.p.now c.args.square c.args.from n c.reveal_invariant.ensures c.reveal_invariant-2.ensures c.requires)

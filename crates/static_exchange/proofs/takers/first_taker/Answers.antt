@@ -18,10 +18,10 @@ filled : (cell there : Option Piece) → there ≡ cell → is_none there ≡ fa
 filled None there is none = let q : is_none there ≡ true = ap is_none is in absurd (both_ways (is_none there) none q)
 filled (Some piece) there is none = cc
 
-pub returns-then-is_none-clause-none : goal.returns-then-is_none-clause-none
-returns-then-is_none-clause-none c = λ _.
+pub returns-then-is_none-clause-if_none : goal.returns-then-is_none-clause-if_none
+returns-then-is_none-clause-if_none c = λ _.
     let none : is_none c.at.result ≡ true = search rules in
-    taker_none c.args.p.now c.args.square c.validity.ensures c.validity-2.ensures (λ n h some. absurd (both_ways (is_some (piece_at c.args.p.now.cells c.args.square)) (empty (piece_at c.args.p.now.cells c.args.square) c.at.result c.at.ensures none) some))
+    taker_none c.args.p.now c.args.square c.reveal_invariant.ensures c.reveal_invariant-2.ensures (λ n h some. absurd (both_ways (is_some (piece_at c.args.p.now.cells c.args.square)) (empty (piece_at c.args.p.now.cells c.args.square) c.at.result c.at.ensures none) some))
 
 pub pieces-init : goal.pieces-init
 pieces-init c = record {
@@ -38,11 +38,11 @@ returns-then-is_legal-clause-first c =
     (record {
       here = c.first_of-index.ensures.range;
       taker_is =
-          taker_found c.args.p.now c.args.square c.first_of-index.result c.validity.ensures c.validity-2.ensures c.first_of-index.ensures.range
+          taker_found c.args.p.now c.args.square c.first_of-index.result c.reveal_invariant.ensures c.reveal_invariant-2.ensures c.first_of-index.ensures.range
           (filled (piece_at c.args.p.now.cells c.args.square) c.at.result c.at.ensures none) legal
           (first_of_all c.args.p.now c.args.square c.pieces.left c.first_of-index.result c.pieces.invariant.others c.first_of-index.ensures.first);
       legal = legal;
     })
 
-pub returns-clause-none : goal.returns-clause-none
-returns-clause-none c = λ _. taker_none c.args.p.now c.args.square c.validity.ensures c.validity-2.ensures (λ n h some. c.pieces.invariant.others n h (ap (λ (m : ℕ). has_bit m n) (omega (arith, c.pieces-test.false)) ∙ has_bit-none n))
+pub returns-clause-if_none : goal.returns-clause-if_none
+returns-clause-if_none c = λ _. taker_none c.args.p.now c.args.square c.reveal_invariant.ensures c.reveal_invariant-2.ensures (λ n h some. c.pieces.invariant.others n h (ap (λ (m : ℕ). has_bit m n) (omega (arith, c.pieces-test.false)) ∙ has_bit-none n))

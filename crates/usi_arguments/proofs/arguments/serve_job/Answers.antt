@@ -5,15 +5,15 @@ use Rattle.usi_arguments.specs.CommandLine.{options_in}
 use Rattle.usi_arguments.proofs.Jobs.{no_numbers, no_serve_setup, no_socket}
 use Rattle.usi_arguments.proofs.arguments.serve_job.Goals as goal
 
-pub returns-in_default-clause-none : goal.returns-in_default-clause-none
-returns-in_default-clause-none c = no_socket (options_in c.args.options.now)
+pub returns-in_default-clause-if_none : goal.returns-in_default-clause-if_none
+returns-in_default-clause-if_none c = no_socket (options_in c.args.options.now)
     (sym (first_value-rows (found_of c.args.options.now) (codes "socket")) ∙ sym c.get_str.ensures ∙ ap (option_map (λ s. s.now)) c.in_default.is)
 
-pub returns-in_default-serve_numbers-clause-none : goal.returns-in_default-serve_numbers-clause-none
-returns-in_default-serve_numbers-clause-none c = no_numbers (options_in c.args.options.now) c.in_default-serve_numbers.ensures.none
+pub returns-in_default-serve_numbers-clause-if_none : goal.returns-in_default-serve_numbers-clause-if_none
+returns-in_default-serve_numbers-clause-if_none c = no_numbers (options_in c.args.options.now) c.in_default-serve_numbers.ensures.if_none
 
-pub returns-in_default-setup_of-clause-none : goal.returns-in_default-setup_of-clause-none
-returns-in_default-setup_of-clause-none c = no_serve_setup (options_in c.args.options.now) c.in_default-setup_of.ensures.none
+pub returns-in_default-setup_of-clause-if_none : goal.returns-in_default-setup_of-clause-if_none
+returns-in_default-setup_of-clause-if_none c = no_serve_setup (options_in c.args.options.now) c.in_default-setup_of.ensures.if_none
 
 pub returns-clause-some : goal.returns-clause-some
 returns-clause-some c =

@@ -1,14 +1,14 @@
 use Rattle.usi_arguments.proofs.Numbers.{if_none}
 use Rattle.usi_arguments.proofs.arguments.serve_numbers.Goals as goal
 
-pub returns-in_err-slots-clause-none : goal.returns-in_err-slots-clause-none
-returns-in_err-slots-clause-none c = if_none c.from_residual.result _ (λ slots entries slice turns range names. c.in_err-slots.ensures.none slots range.0 names.0)
+pub returns-in_err-slots-clause-if_none : goal.returns-in_err-slots-clause-if_none
+returns-in_err-slots-clause-if_none c = if_none c.from_residual.result _ (λ slots entries slice turns range names. c.in_err-slots.ensures.if_none slots range.0 names.0)
 
-pub returns-in_err-entries-clause-none : goal.returns-in_err-entries-clause-none
-returns-in_err-entries-clause-none c = if_none c.from_residual-in_err-entries.result _ (λ slots entries slice turns range names. c.in_err-entries.ensures.none entries range.1 names.1)
+pub returns-in_err-entries-clause-if_none : goal.returns-in_err-entries-clause-if_none
+returns-in_err-entries-clause-if_none c = if_none c.from_residual-in_err-entries.result _ (λ slots entries slice turns range names. c.in_err-entries.ensures.if_none entries range.1 names.1)
 
-pub returns-in_err-slice-clause-none : goal.returns-in_err-slice-clause-none
-returns-in_err-slice-clause-none c = if_none c.from_residual-in_err-slice.result _ (λ slots entries slice turns range names. c.in_err-slice.ensures.none slice range.2 names.2)
+pub returns-in_err-slice-clause-if_none : goal.returns-in_err-slice-clause-if_none
+returns-in_err-slice-clause-if_none c = if_none c.from_residual-in_err-slice.result _ (λ slots entries slice turns range names. c.in_err-slice.ensures.if_none slice range.2 names.2)
 
-pub returns-in_err-turns-clause-none : goal.returns-in_err-turns-clause-none
-returns-in_err-turns-clause-none c = if_none c.from_residual-in_err-turns.result _ (λ slots entries slice turns range names. c.in_err-turns.ensures.none turns range.3 names.3)
+pub returns-in_err-turns-clause-if_none : goal.returns-in_err-turns-clause-if_none
+returns-in_err-turns-clause-if_none c = if_none c.from_residual-in_err-turns.result _ (λ slots entries slice turns range names. c.in_err-turns.ensures.if_none turns range.3 names.3)

@@ -3,13 +3,13 @@ use Rattle.usi_arguments.proofs.Numbers.{if_none}
 use Rattle.usi_arguments.proofs.Setups.{no_depth, no_lines, no_max_depth}
 use Rattle.usi_arguments.proofs.setup.setup_of.Goals as goal
 
-pub returns-in_err-max_depth-clause-none : goal.returns-in_err-max_depth-clause-none
-returns-in_err-max_depth-clause-none c = if_none c.from_residual.result _ (no_max_depth (options_in c.args.options.now) c.in_err-max_depth.ensures.none)
+pub returns-in_err-max_depth-clause-if_none : goal.returns-in_err-max_depth-clause-if_none
+returns-in_err-max_depth-clause-if_none c = if_none c.from_residual.result _ (no_max_depth (options_in c.args.options.now) c.in_err-max_depth.ensures.if_none)
 
-pub returns-in_err-depth-clause-none : goal.returns-in_err-depth-clause-none
-returns-in_err-depth-clause-none c =
+pub returns-in_err-depth-clause-if_none : goal.returns-in_err-depth-clause-if_none
+returns-in_err-depth-clause-if_none c =
     if_none c.from_residual-in_err-depth.result _
-    (no_depth (options_in c.args.options.now) c.in_ok-max_depth.max_depth c.in_ok-max_depth.ensures.some.1 c.in_err-depth.ensures.none)
+    (no_depth (options_in c.args.options.now) c.in_ok-max_depth.max_depth c.in_ok-max_depth.ensures.some.1 c.in_err-depth.ensures.if_none)
 
-pub returns-in_err-lines-clause-none : goal.returns-in_err-lines-clause-none
-returns-in_err-lines-clause-none c = if_none c.from_residual-in_err-lines.result _ (no_lines (options_in c.args.options.now) c.in_err-lines.ensures.none)
+pub returns-in_err-lines-clause-if_none : goal.returns-in_err-lines-clause-if_none
+returns-in_err-lines-clause-if_none c = if_none c.from_residual-in_err-lines.result _ (no_lines (options_in c.args.options.now) c.in_err-lines.ensures.if_none)

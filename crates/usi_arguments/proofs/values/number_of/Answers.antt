@@ -6,18 +6,18 @@ use Rattle.usi_arguments.proofs.Numbers.{if_none, no_number, no_text, other_in_r
 use Rattle.usi_arguments.proofs.values.number_of.Goals as goal
 use Rattle.usi_arguments.proofs.values.number_of.Goals.{else-n-ge1-via-then-n-ge1+else-n-most, else-n-ge1-via-else-n-ge1}
 
-pub returns-in_err-text-clause-none : goal.returns-in_err-text-clause-none
-returns-in_err-text-clause-none c =
+pub returns-in_err-text-clause-if_none : goal.returns-in_err-text-clause-if_none
+returns-in_err-text-clause-if_none c =
     if_none c.from_residual.result _
     (no_text c.args.most c.args.name.now (options_in c.args.options.now)
     (sym (first_value-rows (found_of c.args.options.now) c.args.name.now) ∙ sym c.get_str.ensures ∙ ap (option_map (λ s. s.now)) c.in_err-text.was))
 
-pub returns-in_err-n-clause-none : goal.returns-in_err-n-clause-none
-returns-in_err-n-clause-none c =
+pub returns-in_err-n-clause-if_none : goal.returns-in_err-n-clause-if_none
+returns-in_err-n-clause-if_none c =
     if_none c.from_residual-in_err-n.result _
     (no_number c.args.most c.args.name.now (options_in c.args.options.now) c.in_ok-text.text.now (omega arith)
     (sym (first_value-rows (found_of c.args.options.now) c.args.name.now) ∙ sym c.get_str.ensures ∙ ap (option_map (λ s. s.now)) c.in_ok-text.was)
-    c.in_err-n.ensures.none)
+    c.in_err-n.ensures.if_none)
 
 pub returns-then-n-most-clause-some : goal.returns-then-n-most-clause-some
 returns-then-n-most-clause-some c = (
@@ -29,8 +29,8 @@ returns-then-n-most-clause-some c = (
   ),
 )
 
-pub returns-else-n-ge1-clause-none : goal.returns-else-n-ge1-clause-none
-returns-else-n-ge1-clause-none c =
+pub returns-else-n-ge1-clause-if_none : goal.returns-else-n-ge1-clause-if_none
+returns-else-n-ge1-clause-if_none c =
     let out : IsFromOne c.args.most c.in_ok-n.n → ⊥ = λ range. elim c.else-n-ge1.branch [
       | else-n-ge1-via-then-n-ge1+else-n-most w ↦ omega arith
       | else-n-ge1-via-else-n-ge1 w ↦ omega arith

@@ -5,8 +5,8 @@ use Rattle.usi_lines.proofs.first.first_line.Goals as goal
 pub returns-then-len-gt-LINE_MAX-clause-first : goal.returns-then-len-gt-LINE_MAX-clause-first
 returns-then-len-gt-LINE_MAX-clause-first c = first_long c.args.bytes.now c.line_len-len.result c.line_len-len.ensures.value (search rules)
 
-pub returns-then-len-bytes-clause-none : goal.returns-then-len-bytes-clause-none
-returns-then-len-bytes-clause-none c = first_none c.args.bytes.now c.line_len-len.result c.line_len-len.ensures.value (search rules) (search rules)
+pub returns-then-len-bytes-clause-if_none : goal.returns-then-len-bytes-clause-if_none
+returns-then-len-bytes-clause-if_none c = first_none c.args.bytes.now c.line_len-len.result c.line_len-len.ensures.value (search rules) (search rules)
 
 pub returns-clause-first : goal.returns-clause-first
 returns-clause-first c =

@@ -17,7 +17,7 @@ use Rattle.usi_texts.proofs.SetupLaws.{in_order}
 use Rattle.shogi_eval.specs.declared.eval.Eval.{Eval}
 use Rattle.usi_session.specs.Answer.{Answer, answer, answer_with, allowed_depth, answer_eval, depth_of_go, set_options, answer_ponderhit, answer_ponderhit_held, answer_position, answer_stop, bestmove_at, write_or_hold}
 use Rattle.usi_session.specs.GoInfos.{go_infos}
-use Rattle.usi_session.specs.RunningGo.{IsBegun}
+use Rattle.usi_session.specs.GoTaskView.{IsBegun}
 use Rattle.usi_session.proofs.answer.answer.Goals.{in-Usi+in_ok-write_usi-in-Usi, in-IsReady+in_ok-extend_from_slice-in-IsReady, in-SetDepth, in-SetEval, in-SetLines, in-NewGame, in-Startpos+in_ok-answer_position-in-Startpos, in-Sfen+in_ok-answer_position-in-Sfen, in-BadPosition+in_ok-write_bad_position-in-BadPosition, in-GoMate+in_ok-write_mate_not_implemented-in-GoMate, in-Stop+in_ok-answer_stop-in-Stop, in-PonderHit+in_ok-answer_ponderhit-in-PonderHit, in-GameOver, in-Quit, in-Other}
 use Rattle.usi_session.proofs.answer.answer.Goals as goal
 

@@ -9,6 +9,6 @@ returns-clause-answer g c =
       reply = c.answer_line.new.out.items;
       after_reply = search rules;
       begun = search rules;
-      whole = reply_whole c.args.state.now c.answer_line.new.state c.answer_line.new.out.items c.in_ok-running_go.running_go (line_of c.args.line) (search rules) (search rules);
+      whole = reply_whole c.args.state.now c.answer_line.new.state c.answer_line.new.out.items c.in_ok-go_task.go_task (line_of c.args.line) (search rules) (search rules);
       idle = search rules;
     }

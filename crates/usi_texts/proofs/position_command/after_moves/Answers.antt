@@ -6,7 +6,7 @@ use Rattle.usi_texts.proofs.position_command.after_moves.Goals as goal
 pub returns-then-not-make_legal : goal.returns-then-not-make_legal
 returns-then-not-make_legal c =
     let all = c.loop-word.invariant.2 in
-    sym (all ∙ after_moves-illegal _ _ _ _ _ c.in-Some.ensures.steps.0 (c.make_legal.ensures.none (search rules)))
+    sym (all ∙ after_moves-illegal _ _ _ _ _ c.in-Some.ensures.steps.0 (c.make_legal.ensures.if_none (search rules)))
 
 pub overflow_add-number : goal.overflow_add-number
 overflow_add-number c =

@@ -10,17 +10,17 @@ use Rattle.host_core.proofs.host.Host.close.Goals as goal
 pub invariant_of-self : goal.invariant_of-self
 invariant_of-self g c =
     rw c.set.ensures
-    (still_after c.self.inside.noted.items c.self.inside.slots c.close.new.self c.args.id None c.close.ensures.none c.self.invariant c.close.ensures.others)
+    (still_after c.self.inside.idle.items c.self.inside.slots c.close.new.self c.args.id None c.close.ensures.if_none c.self.invariant c.close.ensures.others)
 
 pub returns-in-Some-clause-closed : goal.returns-in-Some-clause-closed
 returns-in-Some-clause-closed g c =
     rw (← c.self.view_is)
     (closed_found _ _ c.args.id _ c.close.result (sym c.close.ensures.value) c.in-Some.ensures.some (record {
       done = refl;
-      none = c.close.ensures.none;
+      none = c.close.ensures.if_none;
       others = c.close.ensures.others;
-      max_is = c.close.ensures.same.0;
-      next_is = c.close.ensures.same.1;
+      max_is = c.close.ensures.unchanged.0;
+      next_is = c.close.ensures.unchanged.1;
       count_is = on_some c.close.result (count c.close.new.self + 1 ≡ count c.self.inside.slots) c.in-Some.ensures.some c.close.ensures.count;
       table_is = refl;
       setup_is = refl;
@@ -30,19 +30,19 @@ pub returns-in-Some-clause-others : goal.returns-in-Some-clause-others
 returns-in-Some-clause-others g c = rw (← c.self.view_is) c.close.ensures.others
 
 pub returns-in-Some-clause-below : goal.returns-in-Some-clause-below
-returns-in-Some-clause-below g c = rw (← c.self.view_is) c.validity.ensures.below
+returns-in-Some-clause-below g c = rw (← c.self.view_is) c.reveal_invariant.ensures.below
 
 pub returns-in-None-clause-err : goal.returns-in-None-clause-err
 returns-in-None-clause-err g c =
-    let same = ap (λ (s : OpenSessions SessionView). (let h : HostState = record { setup = c.self.inside.setup; table = c.self.inside.table; slots = s } in h)) (rw c.in-None.ensures.none at c.close.ensures.absent) in
+    let same = ap (λ (s : OpenSessions SessionView). (let h : HostState = record { setup = c.self.inside.setup; table = c.self.inside.table; slots = s } in h)) (rw c.in-None.ensures.if_none at c.close.ensures.absent) in
     same ∙ c.self.view_is
 
 pub returns-in-None-clause-closed : goal.returns-in-None-clause-closed
 returns-in-None-clause-closed g c =
-    closed_none _ _ c.args.id (ap (λ (h : HostState). find h.slots c.args.id) (sym c.self.view_is) ∙ (sym c.close.ensures.value ∙ c.in-None.ensures.none)) (returns-in-None-clause-err g c)
+    closed_none _ _ c.args.id (ap (λ (h : HostState). find h.slots c.args.id) (sym c.self.view_is) ∙ (sym c.close.ensures.value ∙ c.in-None.ensures.if_none)) (returns-in-None-clause-err g c)
 
 pub returns-in-None-clause-others : goal.returns-in-None-clause-others
 returns-in-None-clause-others g c = rw (← c.self.view_is) c.close.ensures.others
 
 pub returns-in-None-clause-below : goal.returns-in-None-clause-below
-returns-in-None-clause-below g c = rw (← c.self.view_is) c.validity.ensures.below
+returns-in-None-clause-below g c = rw (← c.self.view_is) c.reveal_invariant.ensures.below

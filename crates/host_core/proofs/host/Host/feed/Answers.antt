@@ -25,7 +25,7 @@ pub returns-clause-err : goal.returns-clause-err
 returns-clause-err g c = refused_call (λ _. Done) c.args.self.now _ (Feed c.args.id c.args.chunk.now) c.feed-fed.result (λ _. refl) (returns-clause-fed g c)
 
 pub returns-clause-below : goal.returns-clause-below
-returns-clause-below g c = rw (← c.self.view_is) c.validity.ensures.below
+returns-clause-below g c = rw (← c.self.view_is) c.reveal_invariant.ensures.below
 
 pub returns-in_default-clause-others : goal.returns-in_default-clause-others
 returns-in_default-clause-others g c = rw (← c.self.view_is) (λ other differs. refl)
@@ -40,10 +40,10 @@ pub returns-in_default-clause-err : goal.returns-in_default-clause-err
 returns-in_default-clause-err g c = c.self.view_is
 
 pub returns-in_default-clause-below : goal.returns-in_default-clause-below
-returns-in_default-clause-below g c = rw (← c.self.view_is) c.validity.ensures.below
+returns-in_default-clause-below g c = rw (← c.self.view_is) c.reveal_invariant.ensures.below
 
 pub invariant_of-self-2 : goal.invariant_of-self-2
 invariant_of-self-2 g c =
     let is : find c.self.inside.slots c.args.id ≡ Some c.in-Some.session.now = sym c.in-Some.ensures.value in
     rw (c.set.ensures, c.of.ensures)
-    (still_written c.self.inside.noted.items c.self.inside.slots c.args.id c.in-Some.session.now c.feed-fed.new.session is c.self.invariant)
+    (still_written c.self.inside.idle.items c.self.inside.slots c.args.id c.in-Some.session.now c.feed-fed.new.session is c.self.invariant)

@@ -21,7 +21,7 @@ returns-clause-open g c =
     let same = ap (λ (h : HostState). h.slots) c.self.view_is in
     subst (λ (s : OpenSessions SessionView). IfSome c.next_open.result (λ id. IsSome (find s id))) same c.next_open.ensures.open
 
-pub returns-clause-none : goal.returns-clause-none
-returns-clause-none g c =
+pub returns-clause-if_none : goal.returns-clause-if_none
+returns-clause-if_none g c =
     let same = ap (λ (h : HostState). h.slots) c.self.view_is in
     next_none c.args.self.now.slots c.args.from c.past_still-first.result c.checked_sub.result c.next_open.result (starts_at _ _ c.checked_sub.ensures) (c.next_open.ensures.value ∙ ap (λ s. next_of s c.checked_sub.result) same) c.past_still-first.ensures.passed

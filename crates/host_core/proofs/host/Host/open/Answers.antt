@@ -8,7 +8,7 @@ use Rattle.host_core.proofs.host.Host.open.Goals as goal
 pub invariant_of-self : goal.invariant_of-self
 invariant_of-self g c =
     rw c.set.ensures
-    (still_opened c.self.inside.setup c.self.inside.noted.items c.self.inside.slots c.open.new.self c.in-Ok.id c.self.invariant (rw c.with_setup.ensures.initial at c.in-Ok.ensures.opened))
+    (still_opened c.self.inside.setup c.self.inside.idle.items c.self.inside.slots c.open.new.self c.in-Ok.id c.self.invariant (rw c.with_setup.ensures.initial at c.in-Ok.ensures.opened))
 
 pub returns-in-Ok-clause-opened : goal.returns-in-Ok-clause-opened
 returns-in-Ok-clause-opened g c =
@@ -16,7 +16,7 @@ returns-in-Ok-clause-opened g c =
     (record { room = λ full. (let e = c.in-Ok.ensures.full.1 full in absurd (cc)); opens = rw c.with_setup.ensures.initial at c.in-Ok.ensures.opened; table_is = refl; setup_is = refl })
 
 pub returns-in-Ok-clause-below : goal.returns-in-Ok-clause-below
-returns-in-Ok-clause-below g c = rw (← c.self.view_is) c.validity.ensures.below
+returns-in-Ok-clause-below g c = rw (← c.self.view_is) c.reveal_invariant.ensures.below
 
 pub returns-in-Err-Full-clause-err : goal.returns-in-Err-Full-clause-err
 returns-in-Err-Full-clause-err g c =
@@ -30,7 +30,7 @@ returns-in-Err-Full-clause-opened g c =
     (rw (← c.self.view_is) full, returns-in-Err-Full-clause-err g c)
 
 pub returns-in-Err-Full-clause-below : goal.returns-in-Err-Full-clause-below
-returns-in-Err-Full-clause-below g c = rw (← c.self.view_is) c.validity.ensures.below
+returns-in-Err-Full-clause-below g c = rw (← c.self.view_is) c.reveal_invariant.ensures.below
 
 pub returns-in-Err-OutOfMemory-clause-err : goal.returns-in-Err-OutOfMemory-clause-err
 returns-in-Err-OutOfMemory-clause-err g c =
@@ -43,4 +43,4 @@ returns-in-Err-OutOfMemory-clause-opened g c =
     (rw (← c.self.view_is) (λ full. (let no = e.1 full in absurd (cc))), returns-in-Err-OutOfMemory-clause-err g c)
 
 pub returns-in-Err-OutOfMemory-clause-below : goal.returns-in-Err-OutOfMemory-clause-below
-returns-in-Err-OutOfMemory-clause-below g c = rw (← c.self.view_is) c.validity.ensures.below
+returns-in-Err-OutOfMemory-clause-below g c = rw (← c.self.view_is) c.reveal_invariant.ensures.below

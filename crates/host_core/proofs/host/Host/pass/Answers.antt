@@ -19,7 +19,7 @@ returns-clause-taken g c =
     (on_found (Takes c.args.n) old c.self.inside.table c.args.id c.in-Some.session.now c.pass-passed.new.session (passed_from old c.args.id c.args.n c.pass-passed.result) is went, refl)
 
 pub returns-clause-below : goal.returns-clause-below
-returns-clause-below g c = rw (← c.self.view_is) c.validity.ensures.below
+returns-clause-below g c = rw (← c.self.view_is) c.reveal_invariant.ensures.below
 
 pub returns-clause-others : goal.returns-clause-others
 returns-clause-others g c = λ id n.
@@ -32,4 +32,4 @@ returns-clause-err g c = refused_call (λ _. Gave (take c.args.n (queued_of (fin
 pub invariant_of-self-2 : goal.invariant_of-self-2
 invariant_of-self-2 g c =
     rw (c.set.ensures, c.of.ensures)
-    (still_written c.self.inside.noted.items c.self.inside.slots c.args.id c.in-Some.session.now c.pass-passed.new.session (search rules) c.self.invariant)
+    (still_written c.self.inside.idle.items c.self.inside.slots c.args.id c.in-Some.session.now c.pass-passed.new.session (search rules) c.self.invariant)

@@ -7,5 +7,5 @@ loop-slot-preserved g c = record {
   on = search rules;
   passed =
       c.loop-slot.invariant.passed
-      ∙ noted_settled c.self.inside.noted.items c.args.self.now c.loop-slot.slot c.index.result.now (rw (← c.self.view_is) c.self.invariant) (search rules) c.index.ensures (sym c.is_some.ensures ∙ c.if-is_some.true);
+      ∙ noted_settled c.self.inside.idle.items c.args.self.now c.loop-slot.slot c.index.result.now (rw (← c.self.view_is) c.self.invariant) (search rules) c.index.ensures (sym c.is_some.ensures ∙ c.if-is_some.true);
 }

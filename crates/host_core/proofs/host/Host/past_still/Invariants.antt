@@ -10,4 +10,4 @@ invariant-loop-slot g l = record {
 }
 
 abbrev pub decreases-loop-slot : goal.decreases-loop-slot
-decreases-loop-slot g l = length l.self-inside.noted.items - l.slot
+decreases-loop-slot g l = length l.self-inside.idle.items - l.slot

@@ -15,7 +15,7 @@ pub invariant_of-self-2 : goal.invariant_of-self-2
 invariant_of-self-2 g c =
     let is : find c.self.inside.slots c.args.id ≡ Some c.in-Some.session.now = sym c.in-Some.ensures.value in
     rw (c.set.ensures, c.of.ensures)
-    (still_written c.self.inside.noted.items c.self.inside.slots c.args.id c.in-Some.session.now c.work-worked.new.session is c.self.invariant)
+    (still_written c.self.inside.idle.items c.self.inside.slots c.args.id c.in-Some.session.now c.work-worked.new.session is c.self.invariant)
 
 pub returns-clause-worked : goal.returns-clause-worked
 returns-clause-worked g c =
@@ -37,10 +37,10 @@ returns-clause-others g c =
     (λ other differs. find-with_session-other c.self.inside.slots c.args.id other c.in-Some.session.now c.work-worked.new.session is differs)
 
 pub returns-clause-below : goal.returns-clause-below
-returns-clause-below g c = rw (← c.self.view_is) c.validity.ensures.below
+returns-clause-below g c = rw (← c.self.view_is) c.reveal_invariant.ensures.below
 
 pub returns-in_default-clause-others : goal.returns-in_default-clause-others
 returns-in_default-clause-others g c = rw (← c.self.view_is) (λ other differs. refl)
 
 pub returns-in_default-clause-below : goal.returns-in_default-clause-below
-returns-in_default-clause-below g c = rw (← c.self.view_is) c.validity.ensures.below
+returns-in_default-clause-below g c = rw (← c.self.view_is) c.reveal_invariant.ensures.below

@@ -2,7 +2,7 @@ use Rattle.std.proofs.Common.{arith, ◌-◌, ◌≤ℤ◌}
 use Rattle.std.proofs.lemmas.Int.{ints}
 use Rattle.shogi_core.specs.declared.moves.Move.{Move}
 use Rattle.shogi_core.specs.Codes.{code_of}
-use Rattle.search_nodes.specs.Frames.{worth_of, threshold_of}
+use Rattle.search_nodes.specs.Frames.{worth_of, move_alpha_of}
 use Rattle.search_nodes.proofs.Answered.{IsWorth, IsAtLeast, exact_says, at_most_says, at_least_says}
 use Rattle.search_nodes.proofs.Nodes.{waits, of_current}
 use Rattle.search_nodes.proofs.frame.Frame.back_up.Goals as goal
@@ -14,18 +14,18 @@ overflow_sub-worth c =
     omega (arith, ints)
 
 pub fail_low-requires : goal.fail_low-requires
-fail_low-requires c = of_current c.args.self.now.waiting (λ (m : Move). worth_of c.args.self.now m ≤ℤ threshold_of c.args.self.now m) c.args.current.now c.requires.current (
+fail_low-requires c = of_current c.args.self.now.state (λ (m : Move). worth_of c.args.self.now m ≤ℤ move_alpha_of c.args.self.now m) c.args.current.now c.requires.current (
     let w : _ = waits _ _ _ _ _ _ _ _ _ _ c.requires.current c.args.self.now.known in
     let e : IsWorth c.args.self.now.node.position c.args.self.now.node.eval (c.args.self.now.depth - 1) (code_of c.args.current.now) c.in-Exact.v = exact_says _ _ _ _ c.requires.deep _ _ _ c.args.self.now.valid w.is_listed c.args.self.now.shallow c.in-Exact.is c.requires.truth in
     omega (arith, ints, e.is, c.is_better.ensures.below c.if-is_better.false))
 
 pub fail_low-requires-in-AtLeast : goal.fail_low-requires-in-AtLeast
-fail_low-requires-in-AtLeast c = of_current c.args.self.now.waiting (λ (m : Move). worth_of c.args.self.now m ≤ℤ threshold_of c.args.self.now m) c.args.current.now c.requires.current (at_least_says _ _ _ _ c.requires.deep _ _ _ _ c.in-AtLeast.is c.requires.truth c.requires.cutoff)
+fail_low-requires-in-AtLeast c = of_current c.args.self.now.state (λ (m : Move). worth_of c.args.self.now m ≤ℤ move_alpha_of c.args.self.now m) c.args.current.now c.requires.current (at_least_says _ _ _ _ c.requires.deep _ _ _ _ c.in-AtLeast.is c.requires.truth c.requires.conclusive)
 
 pub overflow_sub-v : goal.overflow_sub-v
 overflow_sub-v c =
     let w : _ = waits _ _ _ _ _ _ _ _ _ _ c.requires.current c.args.self.now.known in
-    let e : IsAtLeast c.args.self.now.node.position c.args.self.now.node.eval (c.args.self.now.depth - 1) (code_of c.args.current.now) c.args.self.now.beta c.in-AtMost.v = at_most_says _ _ _ _ c.requires.deep _ _ _ _ c.args.self.now.valid w.is_listed c.args.self.now.shallow c.in-AtMost.is c.requires.truth c.requires.cutoff in
+    let e : IsAtLeast c.args.self.now.node.position c.args.self.now.node.eval (c.args.self.now.depth - 1) (code_of c.args.current.now) c.args.self.now.beta c.in-AtMost.v = at_most_says _ _ _ _ c.requires.deep _ _ _ _ c.args.self.now.valid w.is_listed c.args.self.now.shallow c.in-AtMost.is c.requires.truth c.requires.conclusive in
     omega (arith, ints, c.args.self.now.«open»)
 
 pub cut_off-requires-clause-worth : goal.cut_off-requires-clause-worth
@@ -37,13 +37,13 @@ cut_off-requires-clause-worth c =
 pub cut_off-requires-in-AtMost-clause-worth : goal.cut_off-requires-in-AtMost-clause-worth
 cut_off-requires-in-AtMost-clause-worth c =
     let w : _ = waits _ _ _ _ _ _ _ _ _ _ c.requires.current c.args.self.now.known in
-    let e : IsAtLeast c.args.self.now.node.position c.args.self.now.node.eval (c.args.self.now.depth - 1) (code_of c.args.current.now) c.args.self.now.beta c.in-AtMost.v = at_most_says _ _ _ _ c.requires.deep _ _ _ _ c.args.self.now.valid w.is_listed c.args.self.now.shallow c.in-AtMost.is c.requires.truth c.requires.cutoff in
+    let e : IsAtLeast c.args.self.now.node.position c.args.self.now.node.eval (c.args.self.now.depth - 1) (code_of c.args.current.now) c.args.self.now.beta c.in-AtMost.v = at_most_says _ _ _ _ c.requires.deep _ _ _ _ c.args.self.now.valid w.is_listed c.args.self.now.shallow c.in-AtMost.is c.requires.truth c.requires.conclusive in
     omega (arith, ints, e.worth_is)
 
 pub cut_off-requires-in-AtMost-clause-beta : goal.cut_off-requires-in-AtMost-clause-beta
 cut_off-requires-in-AtMost-clause-beta c =
     let w : _ = waits _ _ _ _ _ _ _ _ _ _ c.requires.current c.args.self.now.known in
-    let e : IsAtLeast c.args.self.now.node.position c.args.self.now.node.eval (c.args.self.now.depth - 1) (code_of c.args.current.now) c.args.self.now.beta c.in-AtMost.v = at_most_says _ _ _ _ c.requires.deep _ _ _ _ c.args.self.now.valid w.is_listed c.args.self.now.shallow c.in-AtMost.is c.requires.truth c.requires.cutoff in
+    let e : IsAtLeast c.args.self.now.node.position c.args.self.now.node.eval (c.args.self.now.depth - 1) (code_of c.args.current.now) c.args.self.now.beta c.in-AtMost.v = at_most_says _ _ _ _ c.requires.deep _ _ _ _ c.args.self.now.valid w.is_listed c.args.self.now.shallow c.in-AtMost.is c.requires.truth c.requires.conclusive in
     omega (arith, ints)
 
 pub raise_alpha-requires-clause-is : goal.raise_alpha-requires-clause-is

@@ -5,7 +5,7 @@ use Rattle.minimax.specs.declared.bounds.TheConstants.{INFINITY}
 use Rattle.search_nodes.proofs.frame.Frame.end_at.Goals as goal
 
 pub invariant_of-self-clause-known : goal.invariant_of-self-clause-known
-invariant_of-self-clause-known c = known_under _ _ _ _ _ _ _ _ _ c.args.self.now.waiting c.requires.asked c.args.self.now.known
+invariant_of-self-clause-known c = known_under _ _ _ _ _ _ _ _ _ c.args.self.now.state c.requires.asked c.args.self.now.known
 
 pub invariant_of-self-clause-valid : goal.invariant_of-self-clause-valid
 invariant_of-self-clause-valid c = c.args.self.now.valid
@@ -19,8 +19,8 @@ invariant_of-self-clause-least c = c.args.self.now.least
 pub invariant_of-self-clause-moves : goal.invariant_of-self-clause-moves
 invariant_of-self-clause-moves c = c.args.self.now.moves
 
-pub invariant_of-self-clause-kept : goal.invariant_of-self-clause-kept
-invariant_of-self-clause-kept c = c.args.self.now.kept
+pub invariant_of-self-clause-consistent : goal.invariant_of-self-clause-consistent
+invariant_of-self-clause-consistent c = c.args.self.now.kept
 
 pub invariant_of-self-clause-replied : goal.invariant_of-self-clause-replied
 invariant_of-self-clause-replied c = c.args.self.now.replied
@@ -41,8 +41,8 @@ invariant_of-self-clause-most c =
     let fits : FitsSigned w32 c.args.beta = c.ranges.beta in
     subst (λ (v : ℤ). v ≤ℤ INFINITY) (sym (to_z-of_z w32 c.args.beta fits)) c.requires.most
 
-pub returns-clause-kept : goal.returns-clause-kept
-returns-clause-kept c = (refl, (refl, (refl, (refl, (refl, (refl, refl))))))
+pub returns-clause-unchanged : goal.returns-clause-unchanged
+returns-clause-unchanged c = (refl, (refl, (refl, (refl, (refl, (refl, refl))))))
 
 pub returns-clause-beta : goal.returns-clause-beta
 returns-clause-beta c =

@@ -3,7 +3,7 @@ use Rattle.std.proofs.lemmas.Bool.{both_ways}
 use Rattle.std.proofs.lemmas.Int.{to_z-of_z}
 use Rattle.shogi_core.specs.Position.{Shogi}
 use Rattle.shogi_core.specs.Validity.{IsValid}
-use Rattle.shogi_replies.specs.Replies.{IsReplies}
+use Rattle.shogi_replies.specs.ReplyInfo.{IsReplyInfo}
 use Rattle.minimax.specs.Minimax.{worth, negated}
 use Rattle.search_nodes.proofs.Nodes.{new_node}
 use Rattle.shogi_core.specs.declared.squares.Squares.{Squares}
@@ -14,14 +14,14 @@ use Rattle.search_nodes.proofs.frame.Frame.enter.Goals as goal
 pub invariant_of-self-clause-known : goal.invariant_of-self-clause-known
 invariant_of-self-clause-known c = (new_node _ _ _ _ _ _ c.new-self.ensures.leaf c.new-self.ensures.inner).covered
 
-pub invariant_of-self-clause-kept : goal.invariant_of-self-clause-kept
-invariant_of-self-clause-kept c = (new_node (worth c.args.node.now.position c.args.node.now.eval (c.args.depth - 1)) _ _ c.args.alpha _ _ c.new-self.ensures.leaf c.new-self.ensures.inner).kept
+pub invariant_of-self-clause-consistent : goal.invariant_of-self-clause-consistent
+invariant_of-self-clause-consistent c = (new_node (worth c.args.node.now.position c.args.node.now.eval (c.args.depth - 1)) _ _ c.args.alpha _ _ c.new-self.ensures.leaf c.new-self.ensures.inner).kept
 
 pub returns-clause-counted : goal.returns-clause-counted
 returns-clause-counted c = (new_node (worth c.args.node.now.position c.args.node.now.eval (c.args.depth - 1)) _ _ c.args.alpha _ _ c.new-self.ensures.leaf c.new-self.ensures.inner).counted
 
 pub invariant_of-self-clause-valid : goal.invariant_of-self-clause-valid
-invariant_of-self-clause-valid c = subst IsValid c.as_position.ensures c.validity.ensures
+invariant_of-self-clause-valid c = subst IsValid c.as_position.ensures c.reveal_invariant.ensures
 
 pub invariant_of-self-clause-shallow : goal.invariant_of-self-clause-shallow
 invariant_of-self-clause-shallow c = c.requires.shallow
@@ -30,7 +30,7 @@ pub invariant_of-self-clause-moves : goal.invariant_of-self-clause-moves
 invariant_of-self-clause-moves c = λ e. absurd (both_ways false refl e)
 
 pub invariant_of-self-clause-replied : goal.invariant_of-self-clause-replied
-invariant_of-self-clause-replied c = subst (λ (q : Shogi). IsReplies q c.unknown-self.result.sight.bits c.unknown-self.result.spare.bits) c.as_position-2.ensures c.unknown-self.ensures
+invariant_of-self-clause-replied c = subst (λ (q : Shogi). IsReplyInfo q c.unknown-self.result.king_view.bits c.unknown-self.result.free_movers.bits) c.as_position-2.ensures c.unknown-self.ensures
 
 pub returns-clause-place : goal.returns-clause-place
 returns-clause-place c =
@@ -45,11 +45,11 @@ returns-clause-place c =
       deep = c.requires.deep;
     }
 
-pub returns-clause-waiting : goal.returns-clause-waiting
-returns-clause-waiting c = refl
+pub returns-clause-state : goal.returns-clause-state
+returns-clause-state c = refl
 
-pub returns-clause-firsts : goal.returns-clause-firsts
-returns-clause-firsts c = c.new-self.ensures.inner
+pub returns-clause-priority_moves : goal.returns-clause-priority_moves
+returns-clause-priority_moves c = c.new-self.ensures.inner
 
 pub invariant_of-self-clause-least : goal.invariant_of-self-clause-least
 invariant_of-self-clause-least c = subst (λ (v : ℤ). negated INFINITY ≤ℤ v) (sym (to_z-of_z w32 c.args.alpha c.ranges.alpha)) c.requires.least

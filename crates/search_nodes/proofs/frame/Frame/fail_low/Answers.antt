@@ -5,7 +5,7 @@ use Rattle.search_nodes.proofs.frame.Frame.fail_low.Goals as goal
 
 pub invariant_of-self-clause-known : goal.invariant_of-self-clause-known
 invariant_of-self-clause-known c =
-    let k : _ = has_current c.args.self.now.waiting _ c.requires in
+    let k : _ = has_current c.args.self.now.state _ c.requires in
     let w : _ = waits _ _ _ _ _ _ _ _ _ _ k.is c.args.self.now.known in
     at_depth _ _ _ _ _ _ _ w.deep (IsCovered-skip _ _ _ _ _ _ _ w.covered k.has)
 
@@ -24,8 +24,8 @@ invariant_of-self-clause-open c = c.args.self.now.open
 pub invariant_of-self-clause-most : goal.invariant_of-self-clause-most
 invariant_of-self-clause-most c = c.args.self.now.most
 
-pub invariant_of-self-clause-kept : goal.invariant_of-self-clause-kept
-invariant_of-self-clause-kept c = c.args.self.now.kept
+pub invariant_of-self-clause-consistent : goal.invariant_of-self-clause-consistent
+invariant_of-self-clause-consistent c = c.args.self.now.kept
 
 pub invariant_of-self-clause-replied : goal.invariant_of-self-clause-replied
 invariant_of-self-clause-replied c = c.args.self.now.replied

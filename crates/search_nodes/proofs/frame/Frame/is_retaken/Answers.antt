@@ -13,11 +13,11 @@ has_retake-requires-clause-takes c = subst (λ (q : Shogi). AreAttacked q c.in-S
 pub has_retake-requires-clause-legal : goal.has_retake-requires-clause-legal
 has_retake-requires-clause-legal c =
     let w : _ = waits _ _ _ _ _ _ _ _ _ _ c.requires.current c.args.self.now.known in
-    subst (λ (q : Shogi). is_legal q c.args.current.now ≡ true) (sym c.as_position-p.ensures) (listed_to_legal _ _ c.validity.ensures.back w.is_listed)
+    subst (λ (q : Shogi). is_legal q c.args.current.now ≡ true) (sym c.as_position-p.ensures) (listed_to_legal _ _ c.reveal_invariant.ensures.back w.is_listed)
 
 pub returns : goal.returns
 returns c = λ e.
     let w : _ = waits _ _ _ _ _ _ _ _ _ _ c.requires.current c.args.self.now.known in
-    let legal : is_legal c.as_position-p.result.now c.args.current.now ≡ true = subst (λ (q : Shogi). is_legal q c.args.current.now ≡ true) (sym c.as_position-p.ensures) (listed_to_legal _ _ c.validity.ensures.back w.is_listed) in
+    let legal : is_legal c.as_position-p.result.now c.args.current.now ≡ true = subst (λ (q : Shogi). is_legal q c.args.current.now ≡ true) (sym c.as_position-p.ensures) (listed_to_legal _ _ c.reveal_invariant.ensures.back w.is_listed) in
     let taken : IsTaken c.as_position-p.result.now c.args.current.now = c.king_takes.ensures.taken e legal in
     subst (λ (q : Shogi). ∥ IsTaken q c.args.current.now ∥₁) c.as_position-p.ensures ∣ taken ∣₁

@@ -12,8 +12,8 @@ pub returns-in-Some-clause-threats : goal.returns-in-Some-clause-threats
 returns-in-Some-clause-threats c =
     subst (λ (n : Evaluated). AreThreatsIn n.position n.eval c.in-Some.threats) (c.look_ahead.ensures.0.0 ∙ c.look_for_threats.ensures.0.0) (c.look_ahead.new.self.threatened c.in-Some.threats c.in-Some.is)
 
-pub returns-in-Some-clause-kept : goal.returns-in-Some-clause-kept
-returns-in-Some-clause-kept c = kept_again c.args.self.now c.look_for_threats.new.self c.look_ahead.new.self c.look_for_threats.ensures c.look_ahead.ensures
+pub returns-in-Some-clause-unchanged : goal.returns-in-Some-clause-unchanged
+returns-in-Some-clause-unchanged c = kept_again c.args.self.now c.look_for_threats.new.self c.look_ahead.new.self c.look_for_threats.ensures c.look_ahead.ensures
 
 -- no threat is a threat of anything
 no_threat : (fact : Threat → Type 0) (t : Threat) → None ≡ Some t → fact t
@@ -26,5 +26,5 @@ returns-in-None-clause-threats c = record {
   second = no_threat (IsThreatIn c.args.self.now.node.position c.args.self.now.node.eval);
 }
 
-pub returns-in-None-clause-kept : goal.returns-in-None-clause-kept
-returns-in-None-clause-kept c = kept_again c.args.self.now c.look_for_threats.new.self c.look_ahead.new.self c.look_for_threats.ensures c.look_ahead.ensures
+pub returns-in-None-clause-unchanged : goal.returns-in-None-clause-unchanged
+returns-in-None-clause-unchanged c = kept_again c.args.self.now c.look_for_threats.new.self c.look_ahead.new.self c.look_for_threats.ensures c.look_ahead.ensures

@@ -1,6 +1,6 @@
 use Rattle.std.proofs.Common.{refl, subst}
 use Rattle.shogi_core.specs.Position.{Shogi}
-use Rattle.shogi_replies.specs.Replies.{IsReplies}
+use Rattle.shogi_replies.specs.ReplyInfo.{IsReplyInfo}
 use Rattle.search_nodes.specs.declared.frame.Frame.{Frame}
 use Rattle.search_nodes.proofs.frame.Frame.look_ahead.Goals as goal
 
@@ -16,7 +16,7 @@ invariant_of-self c =
       known = f.known;
       moves = f.moves;
       kept = f.kept;
-      replied = subst (λ (q : Shogi). IsReplies q c.of-self.result.sight.bits c.of-self.result.spare.bits) c.as_position.ensures c.of-self.ensures;
+      replied = subst (λ (q : Shogi). IsReplyInfo q c.of-self.result.king_view.bits c.of-self.result.free_movers.bits) c.as_position.ensures c.of-self.ensures;
       escaping = f.escaping;
       threatened = f.threatened;
     }

@@ -35,8 +35,8 @@ invariant_of-self-clause-known c = c.args.self.now.known
 pub invariant_of-self-clause-moves : goal.invariant_of-self-clause-moves
 invariant_of-self-clause-moves c = c.args.self.now.moves
 
-pub invariant_of-self-clause-kept : goal.invariant_of-self-clause-kept
-invariant_of-self-clause-kept c = c.args.self.now.kept
+pub invariant_of-self-clause-consistent : goal.invariant_of-self-clause-consistent
+invariant_of-self-clause-consistent c = c.args.self.now.kept
 
 pub invariant_of-self-clause-replied : goal.invariant_of-self-clause-replied
 invariant_of-self-clause-replied c = c.args.self.now.replied
@@ -44,8 +44,8 @@ invariant_of-self-clause-replied c = c.args.self.now.replied
 pub invariant_of-self-clause-threatened : goal.invariant_of-self-clause-threatened
 invariant_of-self-clause-threatened c = c.args.self.now.threatened
 
-pub returns-in-Some-clause-kept : goal.returns-in-Some-clause-kept
-returns-in-Some-clause-kept c = ((refl, (refl, (refl, refl))), (refl, (refl, (refl, refl))))
+pub returns-in-Some-clause-unchanged : goal.returns-in-Some-clause-unchanged
+returns-in-Some-clause-unchanged c = ((refl, (refl, (refl, refl))), (refl, (refl, (refl, refl))))
 
-pub returns-clause-kept : goal.returns-clause-kept
-returns-clause-kept c = ((refl, (refl, (refl, refl))), (refl, (refl, (refl, refl))))
+pub returns-clause-unchanged : goal.returns-clause-unchanged
+returns-clause-unchanged c = ((refl, (refl, (refl, refl))), (refl, (refl, (refl, refl))))

@@ -10,7 +10,7 @@ use Rattle.search_nodes.proofs.frame.Frame.pick_move.Goals as goal
 pub next-requires : goal.next-requires
 next-requires c =
     let f : Frame = c.args.self.now in
-    record { kept = subst (λ (q : Shogi). IsKept q f.picker) (sym c.as_position.ensures) f.kept }
+    record { consistent = subst (λ (q : Shogi). IsKept q f.picker) (sym c.as_position.ensures) f.kept }
 
 pub invariant_of-self : goal.invariant_of-self
 invariant_of-self c =
@@ -26,7 +26,7 @@ invariant_of-self c =
       most = f.most;
       known = asked_known f m c.next.new.self c.requires.next codes;
       moves = f.moves;
-      kept = subst (λ (q : Shogi). IsKept q c.next.new.self) c.as_position.ensures c.next.ensures.kept;
+      kept = subst (λ (q : Shogi). IsKept q c.next.new.self) c.as_position.ensures c.next.ensures.consistent;
       replied = f.replied;
       escaping = f.escaping;
       threatened = f.threatened;
@@ -45,7 +45,7 @@ invariant_of-self-in-None c =
       most = f.most;
       known = turned_known f c.next.new.self c.requires.next (none.1 ∙ sym none.0);
       moves = f.moves;
-      kept = subst (λ (q : Shogi). IsKept q c.next.new.self) c.as_position.ensures c.next.ensures.kept;
+      kept = subst (λ (q : Shogi). IsKept q c.next.new.self) c.as_position.ensures c.next.ensures.consistent;
       replied = f.replied;
       escaping = f.escaping;
       threatened = f.threatened;

@@ -1,5 +1,5 @@
-use Rattle.search_nodes.specs.Changes.{PrunesRow}
+use Rattle.search_nodes.specs.Changes.{PrunesFiltered}
 use Rattle.search_nodes.proofs.frame.Frame.prune_drops.Given as goal
 
 abbrev pub invariant-kinds : goal.invariant-kinds
-invariant-kinds l = PrunesRow l.fn.self l.self
+invariant-kinds l = PrunesFiltered l.fn.self l.self

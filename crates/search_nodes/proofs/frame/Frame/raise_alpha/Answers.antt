@@ -1,7 +1,7 @@
 use Rattle.std.proofs.Common.{◌∙◌, sym, subst, w32, ℤ, ◌<ℤ◌, refl}
 use Rattle.std.proofs.lemmas.Int.{to_z-of_z}
 use Rattle.minimax.proofs.Cover.{IsCovered-raise}
-use Rattle.search_nodes.specs.Frames.{threshold_of}
+use Rattle.search_nodes.specs.Frames.{move_alpha_of}
 use Rattle.search_nodes.proofs.Nodes.{waits, at_depth}
 use Rattle.search_nodes.proofs.frame.Frame.raise_alpha.Goals as goal
 
@@ -11,7 +11,7 @@ invariant_of-self-clause-known c =
     let kept = sym (to_z-of_z w32 c.args.value c.ranges.value) in
     at_depth _ _ _ _ _ _ _ w.deep
     (IsCovered-raise _ _ _ _ _ _ _ _ w.covered (c.requires.is ∙ kept)
-    (subst (λ (v : ℤ). threshold_of c.args.self.now c.args.current.now <ℤ v) kept c.requires.above))
+    (subst (λ (v : ℤ). move_alpha_of c.args.self.now c.args.current.now <ℤ v) kept c.requires.above))
 
 pub invariant_of-self-clause-valid : goal.invariant_of-self-clause-valid
 invariant_of-self-clause-valid c = c.args.self.now.valid
@@ -28,8 +28,8 @@ invariant_of-self-clause-most c = c.args.self.now.most
 pub invariant_of-self-clause-moves : goal.invariant_of-self-clause-moves
 invariant_of-self-clause-moves c = c.args.self.now.moves
 
-pub invariant_of-self-clause-kept : goal.invariant_of-self-clause-kept
-invariant_of-self-clause-kept c = c.args.self.now.kept
+pub invariant_of-self-clause-consistent : goal.invariant_of-self-clause-consistent
+invariant_of-self-clause-consistent c = c.args.self.now.kept
 
 pub invariant_of-self-clause-replied : goal.invariant_of-self-clause-replied
 invariant_of-self-clause-replied c = c.args.self.now.replied

@@ -8,12 +8,12 @@ use Rattle.search_nodes.proofs.frame.Frame.turn_to_drops.Goals as goal
 pub turn_to_drops-requires : goal.turn_to_drops-requires
 turn_to_drops-requires c =
     let f : Frame = c.args.self.now in
-    record { kept = subst (λ (q : Shogi). IsKept q f.picker) (sym c.as_position.ensures) f.kept }
+    record { consistent = subst (λ (q : Shogi). IsKept q f.picker) (sym c.as_position.ensures) f.kept }
 
 pub invariant_of-self : goal.invariant_of-self
 invariant_of-self c =
     let f : Frame = c.args.self.now in
-    let codes : todo f.node.position c.turn_to_drops.new.self ≡ todo f.node.position f.picker = subst (λ (q : Shogi). todo q c.turn_to_drops.new.self ≡ todo q f.picker) c.as_position.ensures c.turn_to_drops.ensures.same in
+    let codes : todo f.node.position c.turn_to_drops.new.self ≡ todo f.node.position f.picker = subst (λ (q : Shogi). todo q c.turn_to_drops.new.self ≡ todo q f.picker) c.as_position.ensures c.turn_to_drops.ensures.unchanged in
     record {
       valid = f.valid;
       shallow = f.shallow;
@@ -22,7 +22,7 @@ invariant_of-self c =
       most = f.most;
       known = turned_known f c.turn_to_drops.new.self c.requires.next codes;
       moves = f.moves;
-      kept = subst (λ (q : Shogi). IsKept q c.turn_to_drops.new.self) c.as_position.ensures c.turn_to_drops.ensures.kept;
+      kept = subst (λ (q : Shogi). IsKept q c.turn_to_drops.new.self) c.as_position.ensures c.turn_to_drops.ensures.consistent;
       replied = f.replied;
       escaping = f.escaping;
       threatened = f.threatened;
@@ -31,5 +31,5 @@ invariant_of-self c =
 pub returns : goal.returns
 returns c =
     let f : Frame = c.args.self.now in
-    let codes : todo f.node.position c.turn_to_drops.new.self ≡ todo f.node.position f.picker = subst (λ (q : Shogi). todo q c.turn_to_drops.new.self ≡ todo q f.picker) c.as_position.ensures c.turn_to_drops.ensures.same in
+    let codes : todo f.node.position c.turn_to_drops.new.self ≡ todo f.node.position f.picker = subst (λ (q : Shogi). todo q c.turn_to_drops.new.self ≡ todo q f.picker) c.as_position.ensures c.turn_to_drops.ensures.unchanged in
     ((refl, (refl, (refl, refl))), (c.requires.next, turned_left f c.turn_to_drops.new.self codes))

@@ -14,7 +14,7 @@ words_are_those c = words_made c.args.position.now c.args.eval c.args.depth _ _ 
     c.hand_word.ensures c.hand_word-2.ensures c.last_word.ensures
 
 pub invariant_of-result : goal.invariant_of-result
-invariant_of-result c = rw (words_are_those c) (words_are c.args.position.now c.args.eval c.args.depth c.validity.ensures (omega (arith, c.ranges.depth)))
+invariant_of-result c = rw (words_are_those c) (words_are c.args.position.now c.args.eval c.args.depth c.reveal_invariant.ensures (omega (arith, c.ranges.depth)))
 
 pub returns : goal.returns
-returns c = ap key_in (words_are_those c) ∙ (key_back c.args.position.now c.args.eval c.args.depth c.validity.ensures)
+returns c = ap key_in (words_are_those c) ∙ (key_back c.args.position.now c.args.eval c.args.depth c.reveal_invariant.ensures)

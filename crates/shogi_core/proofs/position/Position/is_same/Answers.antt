@@ -15,5 +15,5 @@ returns-clause-test c =
     (grind (arith, common_steps))) in
     same_from_decides c.eq.result _ decided (position_same c.args.self.now c.args.other.now)
 
-pub returns-clause-same : goal.returns-clause-same
-returns-clause-same c = rw (returns-clause-test c) (position_same c.args.self.now c.args.other.now)
+pub returns-clause-equal : goal.returns-clause-equal
+returns-clause-equal c = rw (returns-clause-test c) (position_same c.args.self.now c.args.other.now)

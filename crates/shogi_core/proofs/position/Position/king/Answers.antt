@@ -6,8 +6,8 @@ use Rattle.shogi_core.specs.Position.{Shogi}
 use Rattle.shogi_core.proofs.Kings.{king_lone, no_king}
 use Rattle.shogi_core.proofs.position.Position.king.Goals as goal
 
-pub returns-then-kings-eq0-clause-none : goal.returns-then-kings-eq0-clause-none
-returns-then-kings-eq0-clause-none c = λ _. no_king c.args.self.now c.args.side c.kings-kings.result.bits
+pub returns-then-kings-eq0-clause-if_none : goal.returns-then-kings-eq0-clause-if_none
+returns-then-kings-eq0-clause-if_none c = λ _. no_king c.args.self.now c.args.side c.kings-kings.result.bits
     (subst (λ (p : Shogi). (n : ℕ) → n < 81 → has_bit c.kings-kings.result.bits n ≡ is_king c.args.side (piece_at p.cells n)) c.self.view_is c.kings-kings.ensures.squares)
     c.if-kings-eq0.true
 
@@ -17,6 +17,6 @@ returns-clause-king c = rw c.of_index.ensures (
     ∙ c.lowest.ensures.set)
 
 pub returns-clause-lone : goal.returns-clause-lone
-returns-clause-lone c = rw c.of_index.ensures (king_lone c.args.self.now c.args.side c.kings-kings.result.bits c.lowest.result c.validity.ensures c.lowest.ensures.range
+returns-clause-lone c = rw c.of_index.ensures (king_lone c.args.self.now c.args.side c.kings-kings.result.bits c.lowest.result c.reveal_invariant.ensures c.lowest.ensures.range
     (subst (λ (p : Shogi). (n : ℕ) → n < 81 → has_bit c.kings-kings.result.bits n ≡ is_king c.args.side (piece_at p.cells n)) c.self.view_is c.kings-kings.ensures.squares)
     c.lowest.ensures.set)

@@ -23,13 +23,13 @@ loop-left-preserved g c = record {
 
 pub returns-then-test : goal.returns-then-test
 returns-then-test g c = record {
-  none = λ some. absurd (cc);
+  if_none = λ some. absurd (cc);
   among = rw c.of_index-square.ensures (c.loop-left.invariant.within _ c.lowest-index.ensures.set);
   passes = rw c.if-test.true at c.test.ensures;
   first = λ n h l set. c.loop-left.invariant.none n h set (below_least _ _ n c.lowest-index.ensures.least (rw c.of_index-square.ensures at l));
 }
 
-pub returns-clause-none : goal.returns-clause-none
-returns-clause-none g c = λ _ n h l set.
+pub returns-clause-if_none : goal.returns-clause-if_none
+returns-clause-if_none g c = λ _ n h l set.
     let none : c.loop-left.left ≡ 0 = omega arith in
     (rw none at c.loop-left.invariant.none) n h set (has_bit-none n)

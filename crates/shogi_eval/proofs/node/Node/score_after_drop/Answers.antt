@@ -10,7 +10,7 @@ use Rattle.shogi_eval.proofs.node.Node.score_after_drop.Goals as goal
 
 pub returns : goal.returns
 returns c to fits legal =
-    let valid : IsValid c.args.self.now.position = subst IsValid c.as_position-p.ensures c.validity.ensures in
+    let valid : IsValid c.args.self.now.position = subst IsValid c.as_position-p.ensures c.reveal_invariant.ensures in
     let b : _ = material_bounds c.args.self.now.position c.args.self.now.eval valid in
     let law : _ = material_at_drop c.args.self.now.position c.args.self.now.eval (moves.Drop c.args.kind to) c.args.kind to refl valid fits legal in
     let gain : c.drop_gain.result ≡ drop_gain c.args.self.now.eval c.args.kind = c.drop_gain.ensures.value ∙ ap (λ (e : Eval). drop_gain e c.args.kind) c.eval.ensures in

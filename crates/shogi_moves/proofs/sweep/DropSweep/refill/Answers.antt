@@ -8,10 +8,10 @@ use Rattle.shogi_moves.proofs.sweep.DropSweep.refill.Goals as goal
 
 pub kinds-init : goal.kinds-init
 kinds-init c = record {
-  kept = c.requires.kept;
+  kept = c.requires.consistent;
   same = refl;
-  none = no_drop_left c.args.p.now c.args.self.now.kind c.args.self.now.code (subst (λ (x : ℕ). KeepsDrop c.args.p.now c.args.self.now.kind c.args.self.now.code x) c.requires.none c.requires.kept.destinations);
-  past = c.requires.kept.destinations.high;
+  none = no_drop_left c.args.p.now c.args.self.now.kind c.args.self.now.code (subst (λ (x : ℕ). KeepsDrop c.args.p.now c.args.self.now.kind c.args.self.now.code x) c.requires.if_none c.requires.consistent.destinations);
+  past = c.requires.consistent.destinations.high;
 }
 
 pub returns-then-not-is_empty-clause-some : goal.returns-then-not-is_empty-clause-some

@@ -132,7 +132,7 @@ pub returns-clause-told : goal.returns-clause-told
 returns-clause-told g c = λ _.
     told_after g.M.Memo.called _ _ _ _ _ _ _ _ c.args.self.now c.enter_root.new.self c.resume-2.result
     (asked_first g.M.Memo.called _ _ _ _ _ _ _ 1 0 c.probe_root.ensures.asked c.enter_root.ensures.calls)
-    c.enter_root.ensures.same c.resume-2.ensures.told
+    c.enter_root.ensures.unchanged c.resume-2.ensures.told
 
 pub returns-then-self-clause-below : goal.returns-then-self-clause-below
 returns-then-self-clause-below g c = c.resume.ensures.below
@@ -180,13 +180,13 @@ pub returns-then-self-clause-fell : goal.returns-then-self-clause-fell
 returns-then-self-clause-fell g c = c.resume.ensures.fell
 
 pub returns-then-self-clause-root : goal.returns-then-self-clause-root
-returns-then-self-clause-root g c = (c.resume.ensures.same.0, c.resume.ensures.same.1.1.0)
+returns-then-self-clause-root g c = (c.resume.ensures.unchanged.0, c.resume.ensures.unchanged.1.1.0)
 
 pub returns-then-self-clause-eval : goal.returns-then-self-clause-eval
-returns-then-self-clause-eval g c = c.resume.ensures.same.1.0
+returns-then-self-clause-eval g c = c.resume.ensures.unchanged.1.0
 
 pub returns-then-self-clause-beta : goal.returns-then-self-clause-beta
-returns-then-self-clause-beta g c = c.resume.ensures.same.1.1.1
+returns-then-self-clause-beta g c = c.resume.ensures.unchanged.1.1.1
 
 pub returns-then-self-clause-told : goal.returns-then-self-clause-told
 returns-then-self-clause-told g c = λ _. c.resume.ensures.told
@@ -237,13 +237,13 @@ pub returns-then-self-lt2-clause-fell : goal.returns-then-self-lt2-clause-fell
 returns-then-self-lt2-clause-fell g c = c.answer_root.ensures.fell
 
 pub returns-then-self-lt2-clause-root : goal.returns-then-self-lt2-clause-root
-returns-then-self-lt2-clause-root g c = (c.answer_root.ensures.same.0, c.answer_root.ensures.same.1.1.0)
+returns-then-self-lt2-clause-root g c = (c.answer_root.ensures.unchanged.0, c.answer_root.ensures.unchanged.1.1.0)
 
 pub returns-then-self-lt2-clause-eval : goal.returns-then-self-lt2-clause-eval
-returns-then-self-lt2-clause-eval g c = c.answer_root.ensures.same.1.0
+returns-then-self-lt2-clause-eval g c = c.answer_root.ensures.unchanged.1.0
 
 pub returns-then-self-lt2-clause-beta : goal.returns-then-self-lt2-clause-beta
-returns-then-self-lt2-clause-beta g c = c.answer_root.ensures.same.1.1.1
+returns-then-self-lt2-clause-beta g c = c.answer_root.ensures.unchanged.1.1.1
 
 pub returns-then-self-lt2-clause-capacity : goal.returns-then-self-lt2-clause-capacity
 returns-then-self-lt2-clause-capacity g c = c.answer_root.ensures.capacity ∙ c.probe_root.ensures.capacity
@@ -288,7 +288,7 @@ pub returns-clause-unfinished : goal.returns-clause-unfinished
 returns-clause-unfinished g c = c.resume-2.ensures.unfinished
 
 pub returns-clause-below : goal.returns-clause-below
-returns-clause-below g c = found_as c.args.self.now c.enter_root.new.self c.resume-2.result c.enter_root.ensures.same c.resume-2.ensures.below
+returns-clause-below g c = found_as c.args.self.now c.enter_root.new.self c.resume-2.result c.enter_root.ensures.unchanged c.resume-2.ensures.below
 
 pub returns-clause-value : goal.returns-clause-value
 returns-clause-value g c = value_of c.args.self.now c.resume-2.result (returns-clause-below g c)
@@ -297,16 +297,16 @@ pub returns-clause-best : goal.returns-clause-best
 returns-clause-best g c = best_of c.args.self.now c.resume-2.result (returns-clause-below g c)
 
 pub returns-clause-range : goal.returns-clause-range
-returns-clause-range g c = fits_as c.args.self.now c.enter_root.new.self c.resume-2.result c.enter_root.ensures.same c.resume-2.ensures.range
+returns-clause-range g c = fits_as c.args.self.now c.enter_root.new.self c.resume-2.result c.enter_root.ensures.unchanged c.resume-2.ensures.range
 
 pub returns-clause-root : goal.returns-clause-root
-returns-clause-root g c = (c.resume-2.ensures.same.0 ∙ c.enter_root.ensures.same.0, c.resume-2.ensures.same.1.1.0 ∙ c.enter_root.ensures.same.1.1.0)
+returns-clause-root g c = (c.resume-2.ensures.unchanged.0 ∙ c.enter_root.ensures.unchanged.0, c.resume-2.ensures.unchanged.1.1.0 ∙ c.enter_root.ensures.unchanged.1.1.0)
 
 pub returns-clause-eval : goal.returns-clause-eval
-returns-clause-eval g c = c.resume-2.ensures.same.1.0 ∙ c.enter_root.ensures.same.1.0
+returns-clause-eval g c = c.resume-2.ensures.unchanged.1.0 ∙ c.enter_root.ensures.unchanged.1.0
 
 pub returns-clause-beta : goal.returns-clause-beta
-returns-clause-beta g c = c.resume-2.ensures.same.1.1.1 ∙ c.enter_root.ensures.same.1.1.1
+returns-clause-beta g c = c.resume-2.ensures.unchanged.1.1.1 ∙ c.enter_root.ensures.unchanged.1.1.1
 
 pub returns-clause-capacity : goal.returns-clause-capacity
 returns-clause-capacity g c = c.resume-2.ensures.capacity ∙ (c.enter_root.ensures.capacity ∙ c.probe_root.ensures.capacity)

@@ -3,7 +3,7 @@ use Rattle.std.proofs.lemmas.Int.{ints}
 use Rattle.minimax.specs.Minimax.{tree_size, negated}
 use Rattle.minimax.specs.declared.bounds.TheConstants.{INFINITY}
 use Rattle.shogi_search.proofs.CallLaws.{as_counted, notes_root, ends_at_once}
-use Rattle.shogi_search.proofs.SearchCallLaws.{cutoff_as, none_entered}
+use Rattle.shogi_search.proofs.SearchCallLaws.{conclusive_as, none_entered}
 use Rattle.shogi_search.proofs.Searches.{known_found}
 use Rattle.minimax.proofs.MinimaxLaws.{tree_size-positive}
 use Rattle.shogi_search.specs.declared.found.Found.{Found}
@@ -63,6 +63,6 @@ pub returns-clause-told : goal.returns-clause-told
 returns-clause-told g c = rw (← c.self.view_is) (record {
   entry = c.answer_at_once-entry.result;
   says = c.found_of.ensures.says;
-  enough = cutoff_as _ _ (negated INFINITY) c.self.inside.stack.beta c.answer_at_once-entry.result c.answer_at_once-entry.ensures.cutoff (omega (arith, ints)) (omega (arith, ints));
+  enough = conclusive_as _ _ (negated INFINITY) c.self.inside.stack.beta c.answer_at_once-entry.result c.answer_at_once-entry.ensures.conclusive (omega (arith, ints)) (omega (arith, ints));
   last = inl (ends_at_once g.M.Memo.called _ _ _ c.note.ensures.called);
 })

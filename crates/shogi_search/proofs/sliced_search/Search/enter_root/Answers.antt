@@ -89,7 +89,7 @@ invariant_of-self g c =
       known = none_known c.self.inside.found _ none;
       chain = λ _ _. stack_with n 0 c.enter.new.self room first_fits i.shallow (not_above _ _ whole) i.most root;
       whole = λ _ _ _. whole;
-      free = λ _ _. on_with n 0 c.enter.new.self (λ (top : Frame). IsFree top.waiting) room (free_next _ c.enter.ensures.waiting);
+      free = λ _ _. on_with n 0 c.enter.new.self (λ (top : Frame). IsFree top.state) room (free_next _ c.enter.ensures.state);
       counted = counted_begun c.self.inside.found c.self.inside.started (steps_of_tree s) _ _ c.self.inside.steps _ none fresh i.counted c.saturating_add-self-inside.ensures left;
     }
 

@@ -45,14 +45,14 @@ invariant_of-self-2 g c =
     let none : c.self.inside.found ≡ None = found_seen c.self.inside c.args.self.now c.self.view_is ∙ c.requires.«open» in
     let begun : c.self.inside.started ≡ true = started_seen c.self.inside c.args.self.now c.self.view_is ∙ c.requires.begun in
     record {
-      shallow = subst (λ (d : ℕ). d ≤ SEARCH_DEPTH_MAX) (sym c.in_ok-entry.ensures.same.1.0) i.shallow;
-      above = subst (λ (beta : ℤ). negated INFINITY <ℤ beta) (sym c.in_ok-entry.ensures.same.1.1.1) i.above;
-      most = subst (λ (beta : ℤ). beta ≤ℤ INFINITY) (sym c.in_ok-entry.ensures.same.1.1.1) i.most;
+      shallow = subst (λ (d : ℕ). d ≤ SEARCH_DEPTH_MAX) (sym c.in_ok-entry.ensures.unchanged.1.0) i.shallow;
+      above = subst (λ (beta : ℤ). negated INFINITY <ℤ beta) (sym c.in_ok-entry.ensures.unchanged.1.1.1) i.above;
+      most = subst (λ (beta : ℤ). beta ≤ℤ INFINITY) (sym c.in_ok-entry.ensures.unchanged.1.1.1) i.most;
       known = known_found _ c.found_of.result _ refl (omega (arith, ints)) c.found_of.ensures.below c.found_of.ensures.steps;
       chain = λ e. absurd (cc);
       whole = λ e. absurd (cc);
       free = λ e. absurd (cc);
-      counted = subst (λ (whole : ℕ). c.run.new.steps + 0 ≤ whole) (sym (same_tree c.self.inside.stack c.run.new.self c.in_ok-entry.ensures.same.0 c.in_ok-entry.ensures.same.1.0)) (counted_all c.self.inside.found c.self.inside.started _ _ _ _ none begun i.counted c.in_ok-entry.ensures.fell);
+      counted = subst (λ (whole : ℕ). c.run.new.steps + 0 ≤ whole) (sym (same_tree c.self.inside.stack c.run.new.self c.in_ok-entry.ensures.unchanged.0 c.in_ok-entry.ensures.unchanged.1.0)) (counted_all c.self.inside.found c.self.inside.started _ _ _ _ none begun i.counted c.in_ok-entry.ensures.fell);
     }
 
 -- the calls of a search are those below its root
@@ -84,7 +84,7 @@ pub returns-clause-told : goal.returns-clause-told
 returns-clause-told g c = rw (← c.self.view_is) (record {
   entry = c.in_ok-entry.entry;
   says = c.found_of.ensures.says;
-  enough = c.in_ok-entry.ensures.cutoff;
+  enough = c.in_ok-entry.ensures.conclusive;
   last = inl c.in_ok-entry.ensures.told;
 })
 
@@ -149,16 +149,16 @@ returns-clause-fell g c =
     (ended c.self.inside.found c.self.inside.started _ _ _ _ none begun c.in_ok-entry.ensures.fell)
 
 pub found_of-requires-clause-shallow : goal.found_of-requires-clause-shallow
-found_of-requires-clause-shallow g c = omega (arith, c.self.invariant.shallow, c.in_ok-entry.ensures.same.1.0)
+found_of-requires-clause-shallow g c = omega (arith, c.self.invariant.shallow, c.in_ok-entry.ensures.unchanged.1.0)
 
 pub found_of-requires-clause-open : goal.found_of-requires-clause-open
-found_of-requires-clause-open g c = omega (arith, ints, c.self.invariant.above, c.self.invariant.most, c.in_ok-entry.ensures.same.1.1.1)
+found_of-requires-clause-open g c = omega (arith, ints, c.self.invariant.above, c.self.invariant.most, c.in_ok-entry.ensures.unchanged.1.1.1)
 
 pub found_of-requires-clause-truth : goal.found_of-requires-clause-truth
-found_of-requires-clause-truth g c = same_truth _ _ _ _ _ _ c.in_ok-entry.entry (sym c.in_ok-entry.ensures.same.0) (sym c.in_ok-entry.ensures.same.1.1.0) (sym c.in_ok-entry.ensures.same.1.0) c.in_ok-entry.ensures.truth
+found_of-requires-clause-truth g c = same_truth _ _ _ _ _ _ c.in_ok-entry.entry (sym c.in_ok-entry.ensures.unchanged.0) (sym c.in_ok-entry.ensures.unchanged.1.1.0) (sym c.in_ok-entry.ensures.unchanged.1.0) c.in_ok-entry.ensures.truth
 
-pub found_of-requires-clause-cutoff : goal.found_of-requires-clause-cutoff
-found_of-requires-clause-cutoff g c = same_window _ _ _ _ c.in_ok-entry.entry refl (omega (arith, ints, c.self.invariant.above, c.self.invariant.most, c.in_ok-entry.ensures.same.1.1.1)) c.in_ok-entry.ensures.cutoff
+pub found_of-requires-clause-conclusive : goal.found_of-requires-clause-conclusive
+found_of-requires-clause-conclusive g c = same_window _ _ _ _ c.in_ok-entry.entry refl (omega (arith, ints, c.self.invariant.above, c.self.invariant.most, c.in_ok-entry.ensures.unchanged.1.1.1)) c.in_ok-entry.ensures.conclusive
 
 same_found : (p p' : Shogi) (eval eval' : Eval) (d d' : ℕ) (beta beta' : ℤ) (f : Found) → p ≡ p' → eval ≡ eval' → d ≡ d' → beta ≡ beta' → IsFoundBelow p eval d beta f → IsFoundBelow p' eval' d' beta' f
 same_found p p' eval eval' d d' beta beta' f a e h b k =
@@ -170,7 +170,7 @@ same_found p p' eval eval' d d' beta beta' f a e h b k =
 pub returns-clause-below : goal.returns-clause-below
 returns-clause-below g c =
     rw (← c.self.view_is)
-    (same_found _ _ _ _ _ _ _ _ c.found_of.result c.in_ok-entry.ensures.same.0 c.in_ok-entry.ensures.same.1.1.0 c.in_ok-entry.ensures.same.1.0 (omega (arith, ints, c.self.invariant.above, c.self.invariant.most, c.in_ok-entry.ensures.same.1.1.1)) c.found_of.ensures.below)
+    (same_found _ _ _ _ _ _ _ _ c.found_of.result c.in_ok-entry.ensures.unchanged.0 c.in_ok-entry.ensures.unchanged.1.1.0 c.in_ok-entry.ensures.unchanged.1.0 (omega (arith, ints, c.self.invariant.above, c.self.invariant.most, c.in_ok-entry.ensures.unchanged.1.1.1)) c.found_of.ensures.below)
 
 pub returns-clause-value : goal.returns-clause-value
 returns-clause-value g c = λ whole. whole_value _ _ _ _ c.found_of.result (returns-clause-below g c) whole

@@ -3,14 +3,14 @@ use Rattle.shogi_moves.proofs.LegalLaws.{listed_to_legal}
 use Rattle.shogi_moves.specs.After.{after_code}
 use Rattle.shogi_eval.specs.Evaluated.{Evaluated}
 use Rattle.std.proofs.lemmas.Int.{ints}
-use Rattle.search_nodes.specs.Frames.{IsCutoffAfter, position_after, threshold_of}
+use Rattle.search_nodes.specs.Frames.{IsConclusiveAfter, position_after, move_alpha_of}
 use Rattle.shogi_search.proofs.Entries.{same_truth, same_window}
 use Rattle.minimax.specs.Minimax.{IsTrueEntry, negated}
 use Rattle.search_nodes.specs.Changes.{KeepsAsked}
 use Rattle.shogi_search.specs.Stack.{OnTop}
 use Rattle.search_nodes.specs.Visits.{IsAsked, IsFree}
 use Rattle.search_nodes.specs.declared.frame.Frame.{Frame}
-use Rattle.search_nodes.specs.declared.frame.Waiting.TheVariants.{Asked}
+use Rattle.search_nodes.specs.declared.frame.NodeState.TheVariants.{AwaitingChild}
 use Rattle.minimax.proofs.Valid.{after_valid}
 use Rattle.shogi_core.specs.Codes.{code_of}
 use Rattle.shogi_search.specs.declared.stack.Stack.{Stack}
@@ -24,9 +24,9 @@ pub advance-requires : goal.advance-requires
 advance-requires g c =
     let f : Frame = get_or c.args.self.now.frames c.args.self.now.height c.index-self-self.result in
     let is : IsTop c.args.self.now f = read_top c.args.self.now c.index-self-self.result (omega (arith, c.requires.stack.height_fits)) in
-    let asks : f.waiting ≡ Asked c.args.current.now = on_top c.args.self.now f (λ (top : Frame). top.waiting ≡ Asked c.args.current.now) is c.requires.asked in
-    let w : _ = waits _ _ _ _ _ _ _ _ _ _ (asked f.waiting c.args.current.now asks) f.known in
-    listed_to_legal _ _ c.validity.ensures.back w.is_listed
+    let asks : f.state ≡ AwaitingChild c.args.current.now = on_top c.args.self.now f (λ (top : Frame). top.state ≡ AwaitingChild c.args.current.now) is c.requires.asked in
+    let w : _ = waits _ _ _ _ _ _ _ _ _ _ (asked f.state c.args.current.now asks) f.known in
+    listed_to_legal _ _ c.reveal_invariant.ensures.back w.is_listed
 
 pub back_up-requires-clause-truth : goal.back_up-requires-clause-truth
 back_up-requires-clause-truth g c =
@@ -34,8 +34,8 @@ back_up-requires-clause-truth g c =
     let h : Frame = get_or c.args.self.now.frames c.args.self.now.height c.index-self-self.result in
     let is : IsTop c.args.self.now f = read_top c.args.self.now c.index-self-self-in-Some.result (omega (arith, c.requires.stack.height_fits)) in
     let same : h ≡ f = one_top c.args.self.now h f (read_top c.args.self.now c.index-self-self.result (omega (arith, c.requires.stack.height_fits))) is in
-    let asks : f.waiting ≡ Asked c.args.current.now = on_top c.args.self.now f (λ (top : Frame). top.waiting ≡ Asked c.args.current.now) is c.requires.asked in
-    let w : _ = waits _ _ _ _ _ _ _ _ _ _ (asked f.waiting c.args.current.now asks) f.known in
+    let asks : f.state ≡ AwaitingChild c.args.current.now = on_top c.args.self.now f (λ (top : Frame). top.state ≡ AwaitingChild c.args.current.now) is c.requires.asked in
+    let w : _ = waits _ _ _ _ _ _ _ _ _ _ (asked f.state c.args.current.now asks) f.known in
     let truth : IsTrueEntry (position_after f c.args.current.now) f.node.eval (h.depth - 1) c.in-Some.entry = c.in-Some.ensures.truth _ _ (after_valid f.node.position (code_of c.args.current.now) f.valid w.is_listed) in
     subst (λ (x : Frame). IsTrueEntry (position_after f c.args.current.now) f.node.eval (x.depth - 1) c.in-Some.entry) same truth
 
@@ -43,14 +43,14 @@ pub back_up-requires-clause-current : goal.back_up-requires-clause-current
 back_up-requires-clause-current g c =
     let f : Frame = get_or c.args.self.now.frames c.args.self.now.height c.index-self-self-in-Some.result in
     let is : IsTop c.args.self.now f = read_top c.args.self.now c.index-self-self-in-Some.result (omega (arith, c.requires.stack.height_fits)) in
-    let asks : f.waiting ≡ Asked c.args.current.now = on_top c.args.self.now f (λ (top : Frame). top.waiting ≡ Asked c.args.current.now) is c.requires.asked in
-    asked f.waiting c.args.current.now asks
+    let asks : f.state ≡ AwaitingChild c.args.current.now = on_top c.args.self.now f (λ (top : Frame). top.state ≡ AwaitingChild c.args.current.now) is c.requires.asked in
+    asked f.state c.args.current.now asks
 
 pub returns-in-Some-clause-stack : goal.returns-in-Some-clause-stack
 returns-in-Some-clause-stack g c = changed c.args.self.now _ c.back_up.new.self (read_top c.args.self.now c.index-self-self-in-Some.result (omega (arith, c.requires.stack.height_fits))) c.requires.stack c.back_up.ensures.0
 
 pub returns-in-Some-clause-free : goal.returns-in-Some-clause-free
-returns-in-Some-clause-free g c = on_with c.args.self.now c.args.self.now.height c.back_up.new.self (λ (top : Frame). IsFree top.waiting) (omega (arith, c.requires.stack.height_fits)) c.back_up.ensures.1.1
+returns-in-Some-clause-free g c = on_with c.args.self.now c.args.self.now.height c.back_up.new.self (λ (top : Frame). IsFree top.state) (omega (arith, c.requires.stack.height_fits)) c.back_up.ensures.1.1
 
 pub returns-in-Some-clause-left : goal.returns-in-Some-clause-left
 returns-in-Some-clause-left g c =
@@ -61,25 +61,25 @@ pub back_up-requires-in-Some-answer_of-clause-current : goal.back_up-requires-in
 back_up-requires-in-Some-answer_of-clause-current g c =
     let f : Frame = get_or c.args.self.now.frames c.args.self.now.height c.index-self-self-in-Some-answer_of.result in
     let is : IsTop c.args.self.now f = read_top c.args.self.now c.index-self-self-in-Some-answer_of.result (omega (arith, c.requires.stack.height_fits)) in
-    let asks : f.waiting ≡ Asked c.args.current.now = on_top c.args.self.now f (λ (top : Frame). top.waiting ≡ Asked c.args.current.now) is c.requires.asked in
-    asked f.waiting c.args.current.now asks
+    let asks : f.state ≡ AwaitingChild c.args.current.now = on_top c.args.self.now f (λ (top : Frame). top.state ≡ AwaitingChild c.args.current.now) is c.requires.asked in
+    asked f.state c.args.current.now asks
 
-pub back_up-requires-in-Some-answer_of-clause-cutoff : goal.back_up-requires-in-Some-answer_of-clause-cutoff
-back_up-requires-in-Some-answer_of-clause-cutoff g c =
+pub back_up-requires-in-Some-answer_of-clause-conclusive : goal.back_up-requires-in-Some-answer_of-clause-conclusive
+back_up-requires-in-Some-answer_of-clause-conclusive g c =
     let f : Frame = get_or c.args.self.now.frames c.args.self.now.height c.index-self-self-in-Some-answer_of.result in
     let h : Frame = get_or c.args.self.now.frames c.args.self.now.height c.index-self-self.result in
     let same : h ≡ f = one_top c.args.self.now h f (read_top c.args.self.now c.index-self-self.result (omega (arith, c.requires.stack.height_fits))) (read_top c.args.self.now c.index-self-self-in-Some-answer_of.result (omega (arith, c.requires.stack.height_fits))) in
-    subst (λ (x : Frame). IsCutoffAfter x c.args.current.now c.in-Some-answer_of.entry) same
-    (same_window _ (negated h.beta) _ (negated (threshold_of h c.args.current.now)) c.in-Some-answer_of.entry
+    subst (λ (x : Frame). IsConclusiveAfter x c.args.current.now c.in-Some-answer_of.entry) same
+    (same_window _ (negated h.beta) _ (negated (move_alpha_of h c.args.current.now)) c.in-Some-answer_of.entry
     (omega (arith, ints, c.window-alpha.ensures.alpha, c.window-alpha.ensures.least, c.window-alpha.ensures.«open», c.window-alpha.ensures.most))
     (omega (arith, ints, c.window-alpha.ensures.beta, c.window-alpha.ensures.least, c.window-alpha.ensures.«open», c.window-alpha.ensures.most))
-    c.in-Some-answer_of.ensures.cutoff)
+    c.in-Some-answer_of.ensures.conclusive)
 
 pub returns-in-Some-answer_of-clause-stack : goal.returns-in-Some-answer_of-clause-stack
 returns-in-Some-answer_of-clause-stack g c = changed c.args.self.now _ c.back_up-in-Some-answer_of.new.self (read_top c.args.self.now c.index-self-self-in-Some-answer_of.result (omega (arith, c.requires.stack.height_fits))) c.requires.stack c.back_up-in-Some-answer_of.ensures.0
 
 pub returns-in-Some-answer_of-clause-free : goal.returns-in-Some-answer_of-clause-free
-returns-in-Some-answer_of-clause-free g c = on_with c.args.self.now c.args.self.now.height c.back_up-in-Some-answer_of.new.self (λ (top : Frame). IsFree top.waiting) (omega (arith, c.requires.stack.height_fits)) c.back_up-in-Some-answer_of.ensures.1.1
+returns-in-Some-answer_of-clause-free g c = on_with c.args.self.now c.args.self.now.height c.back_up-in-Some-answer_of.new.self (λ (top : Frame). IsFree top.state) (omega (arith, c.requires.stack.height_fits)) c.back_up-in-Some-answer_of.ensures.1.1
 
 pub returns-in-Some-answer_of-clause-left : goal.returns-in-Some-answer_of-clause-left
 returns-in-Some-answer_of-clause-left g c =
@@ -91,14 +91,14 @@ topmost : (s : Stack) (d : Frame) (n : Stack) → IsTop s (get_or s.frames s.hei
 topmost s d n is top = on_top s (get_or s.frames s.height d) (λ (old : Frame). OnTop n (λ new. KeepsAsked old new)) is top
 
 pub narrow-requires-clause-asked : goal.narrow-requires-clause-asked
-narrow-requires-clause-asked g c = on_map c.args.self.now (λ top. top.waiting ≡ Asked c.args.current.now) (λ top. IsAsked top.waiting) (λ f e. is_asked f.waiting c.args.current.now e) c.requires.asked
+narrow-requires-clause-asked g c = on_map c.args.self.now (λ top. top.state ≡ AwaitingChild c.args.current.now) (λ top. IsAsked top.state) (λ f e. is_asked f.state c.args.current.now e) c.requires.asked
 
 pub push-requires-clause-asked : goal.push-requires-clause-asked
 push-requires-clause-asked g c =
     let f : Frame = get_or c.args.self.now.frames c.args.self.now.height c.index-self-self.result in
     let is : IsTop c.args.self.now f = read_top c.args.self.now c.index-self-self.result (omega (arith, c.requires.stack.height_fits)) in
-    let asks : f.waiting ≡ Asked c.args.current.now = on_top c.args.self.now f (λ (top : Frame). top.waiting ≡ Asked c.args.current.now) is c.requires.asked in
-    on_map c.narrow.new.self (λ new. KeepsAsked f new) (λ top. top.waiting ≡ Asked c.args.current.now) (λ new k. k.1.1.1.1.0 ∙ asks) (topmost c.args.self.now c.index-self-self.result c.narrow.new.self is c.narrow.ensures.top)
+    let asks : f.state ≡ AwaitingChild c.args.current.now = on_top c.args.self.now f (λ (top : Frame). top.state ≡ AwaitingChild c.args.current.now) is c.requires.asked in
+    on_map c.narrow.new.self (λ new. KeepsAsked f new) (λ top. top.state ≡ AwaitingChild c.args.current.now) (λ new k. k.1.1.1.1.0 ∙ asks) (topmost c.args.self.now c.index-self-self.result c.narrow.new.self is c.narrow.ensures.top)
 
 pub push-requires-clause-room : goal.push-requires-clause-room
 push-requires-clause-room g c =
@@ -150,35 +150,35 @@ pub window-alpha-requires : goal.window-alpha-requires
 window-alpha-requires g c =
     let f : Frame = get_or c.args.self.now.frames c.args.self.now.height c.index-self-self.result in
     let is : IsTop c.args.self.now f = read_top c.args.self.now c.index-self-self.result (omega (arith, c.requires.stack.height_fits)) in
-    let asks : f.waiting ≡ Asked c.args.current.now = on_top c.args.self.now f (λ (top : Frame). top.waiting ≡ Asked c.args.current.now) is c.requires.asked in
-    record { current = asked f.waiting c.args.current.now asks }
+    let asks : f.state ≡ AwaitingChild c.args.current.now = on_top c.args.self.now f (λ (top : Frame). top.state ≡ AwaitingChild c.args.current.now) is c.requires.asked in
+    record { current = asked f.state c.args.current.now asks }
 
 pub overflow_sub-depth : goal.overflow_sub-depth
 overflow_sub-depth g c =
     let f : Frame = get_or c.args.self.now.frames c.args.self.now.height c.index-self-self.result in
     let is : IsTop c.args.self.now f = read_top c.args.self.now c.index-self-self.result (omega (arith, c.requires.stack.height_fits)) in
-    let asks : f.waiting ≡ Asked c.args.current.now = on_top c.args.self.now f (λ (top : Frame). top.waiting ≡ Asked c.args.current.now) is c.requires.asked in
-    let w : _ = waits _ _ _ _ _ _ _ _ _ _ (asked f.waiting c.args.current.now asks) f.known in
+    let asks : f.state ≡ AwaitingChild c.args.current.now = on_top c.args.self.now f (λ (top : Frame). top.state ≡ AwaitingChild c.args.current.now) is c.requires.asked in
+    let w : _ = waits _ _ _ _ _ _ _ _ _ _ (asked f.state c.args.current.now asks) f.known in
     omega (arith, w.deep)
 
-pub far_answer-requires : goal.far_answer-requires
-far_answer-requires g c =
+pub mate_distance_bound-requires : goal.mate_distance_bound-requires
+mate_distance_bound-requires g c =
     let f : Frame = get_or c.args.self.now.frames c.args.self.now.height c.index-self-self.result in
     record { shallow = omega (arith, f.shallow) }
 
 pub answer_of-requires : goal.answer_of-requires
 answer_of-requires g c = record { «open» = omega (arith, ints, c.window-alpha.ensures.least, c.window-alpha.ensures.«open», c.window-alpha.ensures.most) }
 
-pub back_up-requires-clause-cutoff : goal.back_up-requires-clause-cutoff
-back_up-requires-clause-cutoff g c =
+pub back_up-requires-clause-conclusive : goal.back_up-requires-clause-conclusive
+back_up-requires-clause-conclusive g c =
     let f : Frame = get_or c.args.self.now.frames c.args.self.now.height c.index-self-self-in-Some.result in
     let h : Frame = get_or c.args.self.now.frames c.args.self.now.height c.index-self-self.result in
     let same : h ≡ f = one_top c.args.self.now h f (read_top c.args.self.now c.index-self-self.result (omega (arith, c.requires.stack.height_fits))) (read_top c.args.self.now c.index-self-self-in-Some.result (omega (arith, c.requires.stack.height_fits))) in
-    subst (λ (x : Frame). IsCutoffAfter x c.args.current.now c.in-Some.entry) same
-    (same_window _ (negated h.beta) _ (negated (threshold_of h c.args.current.now)) c.in-Some.entry
+    subst (λ (x : Frame). IsConclusiveAfter x c.args.current.now c.in-Some.entry) same
+    (same_window _ (negated h.beta) _ (negated (move_alpha_of h c.args.current.now)) c.in-Some.entry
     (omega (arith, ints, c.window-alpha.ensures.alpha, c.window-alpha.ensures.least, c.window-alpha.ensures.«open», c.window-alpha.ensures.most))
     (omega (arith, ints, c.window-alpha.ensures.beta, c.window-alpha.ensures.least, c.window-alpha.ensures.«open», c.window-alpha.ensures.most))
-    c.in-Some.ensures.cutoff)
+    c.in-Some.ensures.conclusive)
 
 pub back_up-requires-in-Some-answer_of-clause-truth : goal.back_up-requires-in-Some-answer_of-clause-truth
 back_up-requires-in-Some-answer_of-clause-truth g c =

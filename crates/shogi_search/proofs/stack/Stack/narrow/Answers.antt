@@ -11,19 +11,19 @@ use Rattle.shogi_search.proofs.stack.Stack.narrow.Goals as goal
 
 pub returns-then-self-gt0-clause-top : goal.returns-then-self-gt0-clause-top
 returns-then-self-gt0-clause-top c =
-    let t : HasTop c.args.self.now (λ (top : Frame). IsAsked top.waiting) = has_top c.args.self.now _ c.requires.asked in
+    let t : HasTop c.args.self.now (λ (top : Frame). IsAsked top.state) = has_top c.args.self.now _ c.requires.asked in
     top_same c.args.self.now t.top t.is
 
 pub returns-then-is_none-clause-top : goal.returns-then-is_none-clause-top
 returns-then-is_none-clause-top c =
-    let t : HasTop c.args.self.now (λ (top : Frame). IsAsked top.waiting) = has_top c.args.self.now _ c.requires.asked in
+    let t : HasTop c.args.self.now (λ (top : Frame). IsAsked top.state) = has_top c.args.self.now _ c.requires.asked in
     top_same c.args.self.now t.top t.is
 
 pub end_at-requires-clause-asked : goal.end_at-requires-clause-asked
 end_at-requires-clause-asked c =
     let s : Stack = c.args.self.now in
     let f : Frame = get_or s.frames s.height c.index-self-self-2.result in
-    on_top s f (λ (top : Frame). IsAsked top.waiting) (read_top s c.index-self-self-2.result (omega (arith, c.requires.stack.height_fits))) c.requires.asked
+    on_top s f (λ (top : Frame). IsAsked top.state) (read_top s c.index-self-self-2.result (omega (arith, c.requires.stack.height_fits))) c.requires.asked
 
 pub end_at-requires-clause-open : goal.end_at-requires-clause-open
 end_at-requires-clause-open c =
@@ -47,7 +47,7 @@ returns-clause-stack c =
     let is : IsTop s f = read_top s c.index-self-self-2.result (omega (arith, c.requires.stack.height_fits)) in
     let fits : FitsSigned w32 s.beta = search rules in
     let same = to_z-of_z w32 s.beta fits in
-    narrowed s f c.end_at.new.self _ is c.requires.stack (omega (arith, c.if-self-gt0.false)) c.end_at.ensures.kept c.end_at.ensures.beta (omega (arith, ints, same, c.if-bound-self.false))
+    narrowed s f c.end_at.new.self _ is c.requires.stack (omega (arith, c.if-self-gt0.false)) c.end_at.ensures.unchanged c.end_at.ensures.beta (omega (arith, ints, same, c.if-bound-self.false))
 
 pub returns-clause-top : goal.returns-clause-top
 returns-clause-top c =
@@ -55,11 +55,11 @@ returns-clause-top c =
     let f : Frame = get_or s.frames s.height c.index-self-self-2.result in
     let is : IsTop s f = read_top s c.index-self-self-2.result (omega (arith, c.requires.stack.height_fits)) in
     let best : Frame = get_or s.frames s.height c.index-self-self.result in
-    top_narrowed s f c.end_at.new.self (to_z w32 (of_z w32 (to_z w32 (of_z w32 best.best_value) +ℤ pos 1))) is c.end_at.ensures.kept
+    top_narrowed s f c.end_at.new.self (to_z w32 (of_z w32 (to_z w32 (of_z w32 best.best_value) +ℤ pos 1))) is c.end_at.ensures.unchanged
 
 pub returns-clause-left : goal.returns-clause-left
 returns-clause-left c =
     let s : Stack = c.args.self.now in
     let f : Frame = get_or s.frames s.height c.index-self-self-2.result in
     let is : IsTop s f = read_top s c.index-self-self-2.result (omega (arith, c.requires.stack.height_fits)) in
-    left_narrowed s f c.end_at.new.self _ is c.requires.stack (omega (arith, c.if-self-gt0.false)) c.end_at.ensures.kept
+    left_narrowed s f c.end_at.new.self _ is c.requires.stack (omega (arith, c.if-self-gt0.false)) c.end_at.ensures.unchanged

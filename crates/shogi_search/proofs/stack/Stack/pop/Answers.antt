@@ -4,32 +4,32 @@ use Rattle.search_nodes.specs.Visits.{IsFree}
 use Rattle.search_nodes.specs.Changes.{IsAt}
 use Rattle.search_nodes.specs.Frames.{IsTrueOf}
 use Rattle.search_nodes.proofs.Nodes.{asked}
-use Rattle.minimax.specs.Entries.{IsCutoff}
+use Rattle.minimax.specs.Entries.{IsConclusive}
 use Rattle.minimax.specs.Minimax.{negated}
 use Rattle.minimax.specs.declared.bounds.TheConstants.{INFINITY}
 use Rattle.shogi_search.specs.declared.stack.Stack.{Stack}
 use Rattle.shogi_search.proofs.Entries.{same_truth, same_window}
 use Rattle.shogi_search.proofs.NarrowRoots.{first_at}
 use Rattle.search_nodes.specs.declared.frame.Frame.{Frame}
-use Rattle.shogi_search.proofs.Places.{below_deep, HasTop, has_top, on_top, asked_below, truth_below, cutoff_below, stack_popped, left_popped, on_with}
+use Rattle.shogi_search.proofs.Places.{below_deep, HasTop, has_top, on_top, asked_below, truth_below, conclusive_below, stack_popped, left_popped, on_with}
 use Rattle.shogi_search.proofs.CallLaws.{asks_nothing, at_most}
 use Rattle.shogi_search.proofs.stack.Stack.pop.Goals as goal
 use Rattle.shogi_search.proofs.stack.Stack.pop.Goals.{else-self-eq1-via-then-self-eq1+else-self, else-self-eq1-via-else-self-eq1}
 
 pub unreachable-requires : goal.unreachable-requires
-unreachable-requires g c = asked_below c.args.self.now _ c.requires.stack (omega (arith, c.if-self-eq0.false)) (omega (arith, c.requires.stack.height_fits)) c.in_default.not-Asked
+unreachable-requires g c = asked_below c.args.self.now _ c.requires.stack (omega (arith, c.if-self-eq0.false)) (omega (arith, c.requires.stack.height_fits)) c.in_default.not-AwaitingChild
 
 pub back_up-requires-clause-truth : goal.back_up-requires-clause-truth
-back_up-requires-clause-truth g c = truth_below c.args.self.now _ _ _ c.requires.stack (omega (arith, c.if-self-eq0.false)) (omega (arith, c.requires.stack.height_fits)) c.in-Asked.is c.requires.truth
+back_up-requires-clause-truth g c = truth_below c.args.self.now _ _ _ c.requires.stack (omega (arith, c.if-self-eq0.false)) (omega (arith, c.requires.stack.height_fits)) c.in-AwaitingChild.is c.requires.truth
 
-pub back_up-requires-clause-cutoff : goal.back_up-requires-clause-cutoff
-back_up-requires-clause-cutoff g c = cutoff_below c.args.self.now _ _ _ c.requires.stack (omega (arith, c.if-self-eq0.false)) (omega (arith, c.requires.stack.height_fits)) c.in-Asked.is c.requires.cutoff
+pub back_up-requires-clause-conclusive : goal.back_up-requires-clause-conclusive
+back_up-requires-clause-conclusive g c = conclusive_below c.args.self.now _ _ _ c.requires.stack (omega (arith, c.if-self-eq0.false)) (omega (arith, c.requires.stack.height_fits)) c.in-AwaitingChild.is c.requires.conclusive
 
 pub returns-clause-stack : goal.returns-clause-stack
 returns-clause-stack g c = stack_popped c.args.self.now _ c.back_up.new.self c.requires.stack (omega (arith, c.if-self-eq0.false)) (omega (arith, c.requires.stack.height_fits)) c.back_up.ensures.0
 
 pub returns-clause-free : goal.returns-clause-free
-returns-clause-free g c = λ _. on_with c.args.self.now (c.args.self.now.height - 1) c.back_up.new.self (λ (top : Frame). IsFree top.waiting) (omega (arith, c.requires.stack.height_fits)) c.back_up.ensures.1.1
+returns-clause-free g c = λ _. on_with c.args.self.now (c.args.self.now.height - 1) c.back_up.new.self (λ (top : Frame). IsFree top.state) (omega (arith, c.requires.stack.height_fits)) c.back_up.ensures.1.1
 
 pub returns-clause-left : goal.returns-clause-left
 returns-clause-left g c = λ _. left_popped c.args.self.now _ c.back_up.new.self c.requires.stack (omega (arith, c.if-self-eq0.false)) (omega (arith, c.requires.stack.height_fits)) c.back_up.ensures.0 c.back_up.ensures.1.0
@@ -44,10 +44,10 @@ returns-then-self-eq0-clause-truth g c = λ _.
     let at : IsAt s.root s.eval s.depth (negated INFINITY) s.bound t.top = first_at s s.height t.top c.if-self-eq0.true (on_top s t.top _ t.is c.requires.stack.chain) in
     same_truth _ _ _ _ _ _ c.args.entry.now at.position at.eval at.depth t.has
 
-pub returns-then-self-eq0-clause-cutoff : goal.returns-then-self-eq0-clause-cutoff
-returns-then-self-eq0-clause-cutoff g c = λ _.
+pub returns-then-self-eq0-clause-conclusive : goal.returns-then-self-eq0-clause-conclusive
+returns-then-self-eq0-clause-conclusive g c = λ _.
     let s : Stack = c.args.self.now in
-    let t : HasTop s (λ (top : Frame). IsCutoff top.alpha top.beta c.args.entry.now) = has_top s _ c.requires.cutoff in
+    let t : HasTop s (λ (top : Frame). IsConclusive top.alpha top.beta c.args.entry.now) = has_top s _ c.requires.conclusive in
     let at : IsAt s.root s.eval s.depth (negated INFINITY) s.bound t.top = first_at s s.height t.top c.if-self-eq0.true (on_top s t.top _ t.is c.requires.stack.chain) in
     same_window _ _ _ _ c.args.entry.now at.alpha_is (at.beta_is ∙ c.requires.whole c.if-self-eq0.true) t.has
 
@@ -55,7 +55,7 @@ pub leave_narrow-requires-clause-truth : goal.leave_narrow-requires-clause-truth
 leave_narrow-requires-clause-truth g c = c.requires.truth
 
 pub back_up-requires-clause-current : goal.back_up-requires-clause-current
-back_up-requires-clause-current g c = asked _ _ c.in-Asked.is
+back_up-requires-clause-current g c = asked _ _ c.in-AwaitingChild.is
 
 pub returns-then-self-clause-left : goal.returns-then-self-clause-left
 returns-then-self-clause-left g c = λ _. c.leave_narrow.ensures.left

@@ -3,12 +3,12 @@ use Rattle.std.proofs.lemmas.Int.{ints}
 use Rattle.minimax.specs.Minimax.{negated}
 use Rattle.shogi_core.specs.Position.{Shogi}
 use Rattle.shogi_core.specs.declared.moves.Move.{Move}
-use Rattle.search_nodes.specs.Frames.{position_after, threshold_of}
+use Rattle.search_nodes.specs.Frames.{position_after, move_alpha_of}
 use Rattle.search_nodes.specs.Order.{IsWithinTree}
 use Rattle.search_nodes.specs.Changes.{IsAt}
 use Rattle.search_nodes.specs.Visits.{IsFree}
 use Rattle.search_nodes.specs.declared.frame.Frame.{Frame}
-use Rattle.search_nodes.specs.declared.frame.Waiting.TheVariants.{Asked}
+use Rattle.search_nodes.specs.declared.frame.NodeState.TheVariants.{AwaitingChild}
 use Rattle.search_nodes.proofs.Nodes.{asked}
 use Rattle.shogi_search.specs.declared.stack.Stack.{Stack}
 use Rattle.shogi_search.proofs.Places.{IsTop, read_top, on_top, on_with, stack_entered, left_child, left_once, free_next}
@@ -23,7 +23,7 @@ returns-clause-stack g c =
     let over : 2 < f.depth = on_top s f (λ (top : Frame). 2 < top.depth) is c.requires.deep in
     let deep : 0 < f.depth = omega (arith, over) in
     let there : c.args.node.now.position ≡ position_after f m = on_top s f (λ (top : Frame). c.args.node.now.position ≡ position_after top m) is c.requires.position in
-    let window : IsAt (position_after f m) f.node.eval (f.depth - 1) (negated f.beta) (negated (threshold_of f m)) c.enter.new.self = record {
+    let window : IsAt (position_after f m) f.node.eval (f.depth - 1) (negated f.beta) (negated (move_alpha_of f m)) c.enter.new.self = record {
       position = c.enter.ensures.place.position ∙ there;
       eval = c.enter.ensures.place.eval ∙ on_top s f (λ (top : Frame). c.args.node.now.eval ≡ top.node.eval) is c.requires.eval;
       depth = c.enter.ensures.place.depth;
@@ -31,12 +31,12 @@ returns-clause-stack g c =
       alpha_is = omega (arith, ints, c.enter.ensures.place.alpha_is, c.window-alpha.ensures.alpha, c.window-alpha.ensures.least, c.window-alpha.ensures.«open», c.window-alpha.ensures.most);
       beta_is = omega (arith, ints, c.enter.ensures.place.beta_is, c.window-alpha.ensures.beta, c.window-alpha.ensures.least, c.window-alpha.ensures.«open», c.window-alpha.ensures.most);
     } in
-    let asks : f.waiting ≡ Asked m = on_top s f (λ (top : Frame). top.waiting ≡ Asked m) is c.requires.asked in
+    let asks : f.state ≡ AwaitingChild m = on_top s f (λ (top : Frame). top.state ≡ AwaitingChild m) is c.requires.asked in
     stack_entered s f c.enter.new.self m is c.requires.stack asks deep c.requires.room (omega (arith, c.requires.room)) window
 
 pub returns-clause-free : goal.returns-clause-free
 returns-clause-free g c =
-    on_with c.args.self.now (c.args.self.now.height + 1) c.enter.new.self (λ (top : Frame). IsFree top.waiting) (omega (arith, c.requires.room)) (free_next _ c.enter.ensures.waiting)
+    on_with c.args.self.now (c.args.self.now.height + 1) c.enter.new.self (λ (top : Frame). IsFree top.state) (omega (arith, c.requires.room)) (free_next _ c.enter.ensures.state)
 
 pub returns-clause-left : goal.returns-clause-left
 returns-clause-left g c =
@@ -47,7 +47,7 @@ returns-clause-left g c =
     let over : 2 < f.depth = on_top s f (λ (top : Frame). 2 < top.depth) is c.requires.deep in
     let deep : 0 < f.depth = omega (arith, over) in
     let there : c.args.node.now.position ≡ position_after f m = on_top s f (λ (top : Frame). c.args.node.now.position ≡ position_after top m) is c.requires.position in
-    let window : IsAt (position_after f m) f.node.eval (f.depth - 1) (negated f.beta) (negated (threshold_of f m)) c.enter.new.self = record {
+    let window : IsAt (position_after f m) f.node.eval (f.depth - 1) (negated f.beta) (negated (move_alpha_of f m)) c.enter.new.self = record {
       position = c.enter.ensures.place.position ∙ there;
       eval = c.enter.ensures.place.eval ∙ on_top s f (λ (top : Frame). c.args.node.now.eval ≡ top.node.eval) is c.requires.eval;
       depth = c.enter.ensures.place.depth;
@@ -67,7 +67,7 @@ returns-clause-once g c = λ whole.
     let over : 2 < f.depth = on_top s f (λ (top : Frame). 2 < top.depth) is c.requires.deep in
     let deep : 0 < f.depth = omega (arith, over) in
     let there : c.args.node.now.position ≡ position_after f m = on_top s f (λ (top : Frame). c.args.node.now.position ≡ position_after top m) is c.requires.position in
-    let window : IsAt (position_after f m) f.node.eval (f.depth - 1) (negated f.beta) (negated (threshold_of f m)) c.enter.new.self = record {
+    let window : IsAt (position_after f m) f.node.eval (f.depth - 1) (negated f.beta) (negated (move_alpha_of f m)) c.enter.new.self = record {
       position = c.enter.ensures.place.position ∙ there;
       eval = c.enter.ensures.place.eval ∙ on_top s f (λ (top : Frame). c.args.node.now.eval ≡ top.node.eval) is c.requires.eval;
       depth = c.enter.ensures.place.depth;
@@ -83,7 +83,7 @@ window-alpha-requires g c =
     let s : Stack = c.args.self.now in
     let f : Frame = get_or s.frames s.height c.index-self-self.result in
     let is : IsTop s f = read_top s c.index-self-self.result (omega (arith, c.requires.room)) in
-    record { current = asked f.waiting c.args.current.now (on_top s f (λ (top : Frame). top.waiting ≡ Asked c.args.current.now) is c.requires.asked) }
+    record { current = asked f.state c.args.current.now (on_top s f (λ (top : Frame). top.state ≡ AwaitingChild c.args.current.now) is c.requires.asked) }
 
 pub overflow_sub-depth : goal.overflow_sub-depth
 overflow_sub-depth g c =

@@ -9,7 +9,7 @@ abbrev pub invariant-steps : goal.invariant-steps
 invariant-steps g l = record {
   stack : IsStack l.self;
   whole : IsWhole l.self;
-  free : OnTop l.self (λ top. IsFree top.waiting);
+  free : OnTop l.self (λ top. IsFree top.state);
   same : KeepsGoal l.fn.self l.self;
   left : steps_left l.self + l.made ≤ steps_left l.fn.self;
   within : l.made ≤ l.budget;

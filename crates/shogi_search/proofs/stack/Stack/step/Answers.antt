@@ -6,7 +6,7 @@ use Rattle.std.proofs.lemmas.Bool.{both_ways}
 use Rattle.search_nodes.specs.Order.{todo}
 use Rattle.search_nodes.specs.Visits.{IsFree, IsOver}
 use Rattle.search_nodes.specs.declared.frame.Frame.{Frame}
-use Rattle.search_nodes.specs.declared.frame.Waiting.TheVariants.{Asked}
+use Rattle.search_nodes.specs.declared.frame.NodeState.TheVariants.{AwaitingChild}
 use Rattle.shogi_search.proofs.Places.{IsTop, left_passed, read_top, on_top, on_with, changed, over_next, over_cut, left_descended}
 use Rattle.shogi_search.proofs.stack.Stack.step.Goals as goal
 
@@ -14,13 +14,13 @@ pub enter_child-requires-clause-stack : goal.enter_child-requires-clause-stack
 enter_child-requires-clause-stack g c = changed c.args.self.now _ c.next_move.new.self (read_top c.args.self.now c.index-self-self.result (omega (arith, c.requires.stack.height_fits))) c.requires.stack c.next_move.ensures.0
 
 pub enter_child-requires-clause-asked : goal.enter_child-requires-clause-asked
-enter_child-requires-clause-asked g c = on_with c.args.self.now c.args.self.now.height c.next_move.new.self (λ (top : Frame). top.waiting ≡ Asked c.in-Some.current) (omega (arith, c.requires.stack.height_fits)) c.in-Some.ensures.1.0
+enter_child-requires-clause-asked g c = on_with c.args.self.now c.args.self.now.height c.next_move.new.self (λ (top : Frame). top.state ≡ AwaitingChild c.in-Some.current) (omega (arith, c.requires.stack.height_fits)) c.in-Some.ensures.1.0
 
 pub leave-requires-clause-stack : goal.leave-requires-clause-stack
 leave-requires-clause-stack g c = changed c.args.self.now _ c.next_move.new.self (read_top c.args.self.now c.index-self-self.result (omega (arith, c.requires.stack.height_fits))) c.requires.stack c.next_move.ensures.0
 
 pub leave-requires-clause-over : goal.leave-requires-clause-over
-leave-requires-clause-over g c = on_with c.args.self.now c.args.self.now.height c.next_move.new.self (λ (top : Frame). IsOver top.waiting (todo top.node.position top.picker)) (omega (arith, c.requires.stack.height_fits)) (over_next c.next_move.new.self c.in_default.ensures.1.0 c.in_default.ensures.1.1.1)
+leave-requires-clause-over g c = on_with c.args.self.now c.args.self.now.height c.next_move.new.self (λ (top : Frame). IsOver top.state (todo top.node.position top.picker)) (omega (arith, c.requires.stack.height_fits)) (over_next c.next_move.new.self c.in_default.ensures.1.0 c.in_default.ensures.1.1.1)
 
 pub returns-then-is_next-clause-left : goal.returns-then-is_next-clause-left
 returns-then-is_next-clause-left g c =
@@ -30,8 +30,8 @@ returns-then-is_next-clause-left g c =
 pub leave-requires-2-clause-over : goal.leave-requires-2-clause-over
 leave-requires-2-clause-over g c =
     let f : Frame = get_or c.args.self.now.frames c.args.self.now.height c.index-self-self.result in
-    let free : IsFree f.waiting = on_top c.args.self.now f (λ (top : Frame). IsFree top.waiting) (read_top c.args.self.now c.index-self-self.result (omega (arith, c.requires.stack.height_fits))) c.requires.free in
-    on_with c.args.self.now c.args.self.now.height f (λ (top : Frame). IsOver top.waiting (todo top.node.position top.picker)) (omega (arith, c.requires.stack.height_fits)) (over_cut f.waiting (todo f.node.position f.picker) (λ next. both_ways c.is_next.result c.if-is_next.false (c.is_next.ensures.1 next)) free)
+    let free : IsFree f.state = on_top c.args.self.now f (λ (top : Frame). IsFree top.state) (read_top c.args.self.now c.index-self-self.result (omega (arith, c.requires.stack.height_fits))) c.requires.free in
+    on_with c.args.self.now c.args.self.now.height f (λ (top : Frame). IsOver top.state (todo top.node.position top.picker)) (omega (arith, c.requires.stack.height_fits)) (over_cut f.state (todo f.node.position f.picker) (λ next. both_ways c.is_next.result c.if-is_next.false (c.is_next.ensures.1 next)) free)
 
 -- less than what was passed on is less than what was
 less_still : (o : Option Entry) (a b n : ℕ) → IfNone o (a < b) → b ≤ n → IfNone o (a < n)
@@ -54,8 +54,8 @@ returns-in_default-clause-told g c = c.leave.ensures.told
 pub returns-in_default-clause-truth : goal.returns-in_default-clause-truth
 returns-in_default-clause-truth g c = c.leave.ensures.truth
 
-pub returns-in_default-clause-cutoff : goal.returns-in_default-clause-cutoff
-returns-in_default-clause-cutoff g c = c.leave.ensures.cutoff
+pub returns-in_default-clause-conclusive : goal.returns-in_default-clause-conclusive
+returns-in_default-clause-conclusive g c = c.leave.ensures.conclusive
 
 pub returns-then-is_next-clause-calls : goal.returns-then-is_next-clause-calls
 returns-then-is_next-clause-calls g c = c.enter_child.ensures.calls

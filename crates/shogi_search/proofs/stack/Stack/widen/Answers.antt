@@ -2,21 +2,21 @@ use Rattle.std.proofs.Common.{arith, rules, FitsSigned, w32, ◌≡◌, ◌-◌,
 use Rattle.std.proofs.lemmas.Int.{ints, to_z-of_z}
 use mir.Val.{to_z, of_z}
 use Rattle.search_nodes.specs.declared.frame.Frame.{Frame}
-use Rattle.search_nodes.specs.declared.frame.Waiting.TheVariants.{Asked}
+use Rattle.search_nodes.specs.declared.frame.NodeState.TheVariants.{AwaitingChild}
 use Rattle.search_nodes.proofs.Nodes.{is_asked}
 use Rattle.shogi_search.proofs.Places.{asked_below, on_with}
 use Rattle.shogi_search.proofs.NarrowRoots.{with_bound, root_below, widened, left_widened, child_widened}
 use Rattle.shogi_search.proofs.stack.Stack.widen.Goals as goal
 
 pub unreachable-requires : goal.unreachable-requires
-unreachable-requires c = asked_below c.args.self.now _ c.requires.stack (omega (arith, c.requires.narrow.0)) (omega (arith, c.requires.stack.height_fits)) c.in_default.not-Asked
+unreachable-requires c = asked_below c.args.self.now _ c.requires.stack (omega (arith, c.requires.narrow.0)) (omega (arith, c.requires.stack.height_fits)) c.in_default.not-AwaitingChild
 
 pub end_at-requires-clause-asked : goal.end_at-requires-clause-asked
-end_at-requires-clause-asked c = is_asked _ _ c.in-Asked.is
+end_at-requires-clause-asked c = is_asked _ _ c.in-AwaitingChild.is
 
 pub end_at-requires-clause-open : goal.end_at-requires-clause-open
 end_at-requires-clause-open c =
-    let r = root_below c.args.self.now _ c.in-Asked.current c.requires.stack c.requires.narrow (omega (arith, c.requires.stack.height_fits)) c.in-Asked.is in
+    let r = root_below c.args.self.now _ c.in-AwaitingChild.current c.requires.stack c.requires.narrow (omega (arith, c.requires.stack.height_fits)) c.in-AwaitingChild.is in
     let f : Frame = get_or c.args.self.now.frames (c.args.self.now.height - 1) c.index-self-self.result in
     let fits : FitsSigned w32 c.args.self.now.beta = search rules in
     let same = to_z-of_z w32 c.args.self.now.beta fits in
@@ -24,21 +24,21 @@ end_at-requires-clause-open c =
 
 pub returns-clause-stack : goal.returns-clause-stack
 returns-clause-stack c =
-    let r = root_below c.args.self.now _ c.in-Asked.current c.requires.stack c.requires.narrow (omega (arith, c.requires.stack.height_fits)) c.in-Asked.is in
+    let r = root_below c.args.self.now _ c.in-AwaitingChild.current c.requires.stack c.requires.narrow (omega (arith, c.requires.stack.height_fits)) c.in-AwaitingChild.is in
     let fits : FitsSigned w32 c.args.self.now.beta = search rules in
-    widened c.args.self.now c.in-Asked.current _ c.end_at.new.self (to_z w32 (of_z w32 c.args.self.now.beta)) r c.requires.stack c.end_at.ensures.kept c.end_at.ensures.beta (to_z-of_z w32 c.args.self.now.beta fits)
+    widened c.args.self.now c.in-AwaitingChild.current _ c.end_at.new.self (to_z w32 (of_z w32 c.args.self.now.beta)) r c.requires.stack c.end_at.ensures.unchanged c.end_at.ensures.beta (to_z-of_z w32 c.args.self.now.beta fits)
 
 pub returns-clause-asked : goal.returns-clause-asked
 returns-clause-asked c =
     let fits : c.args.self.now.height - 1 < length c.args.self.now.frames = omega (arith, c.requires.stack.height_fits) in
-    on_with (with_bound c.args.self.now (to_z w32 (of_z w32 c.args.self.now.beta))) (c.args.self.now.height - 1) c.end_at.new.self (λ (top : Frame). top.waiting ≡ Asked c.in-Asked.current) fits (c.end_at.ensures.kept.1.1.1.1.0 ∙ c.in-Asked.is)
+    on_with (with_bound c.args.self.now (to_z w32 (of_z w32 c.args.self.now.beta))) (c.args.self.now.height - 1) c.end_at.new.self (λ (top : Frame). top.state ≡ AwaitingChild c.in-AwaitingChild.current) fits (c.end_at.ensures.unchanged.1.1.1.1.0 ∙ c.in-AwaitingChild.is)
 
 pub returns-clause-child : goal.returns-clause-child
 returns-clause-child c =
-    let r = root_below c.args.self.now _ c.in-Asked.current c.requires.stack c.requires.narrow (omega (arith, c.requires.stack.height_fits)) c.in-Asked.is in
-    child_widened c.args.self.now c.in-Asked.current _ c.end_at.new.self (to_z w32 (of_z w32 c.args.self.now.beta)) r c.end_at.ensures.kept
+    let r = root_below c.args.self.now _ c.in-AwaitingChild.current c.requires.stack c.requires.narrow (omega (arith, c.requires.stack.height_fits)) c.in-AwaitingChild.is in
+    child_widened c.args.self.now c.in-AwaitingChild.current _ c.end_at.new.self (to_z w32 (of_z w32 c.args.self.now.beta)) r c.end_at.ensures.unchanged
 
 pub returns-clause-left : goal.returns-clause-left
 returns-clause-left c =
-    let r = root_below c.args.self.now _ c.in-Asked.current c.requires.stack c.requires.narrow (omega (arith, c.requires.stack.height_fits)) c.in-Asked.is in
-    left_widened c.args.self.now c.in-Asked.current _ c.end_at.new.self (to_z w32 (of_z w32 c.args.self.now.beta)) r c.requires.narrow c.end_at.ensures.kept
+    let r = root_below c.args.self.now _ c.in-AwaitingChild.current c.requires.stack c.requires.narrow (omega (arith, c.requires.stack.height_fits)) c.in-AwaitingChild.is in
+    left_widened c.args.self.now c.in-AwaitingChild.current _ c.end_at.new.self (to_z w32 (of_z w32 c.args.self.now.beta)) r c.requires.narrow c.end_at.ensures.unchanged

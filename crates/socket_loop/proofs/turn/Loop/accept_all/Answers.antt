@@ -1,12 +1,12 @@
 use Rattle.std.proofs.Common.{rules, ◌≡◌, ◌≤◌, ◌<◌, ◌+◌, ◌∙◌, ℕ, List, Some, Ok, ap, arith, inl, inr, length, sym}
-use Rattle.wires.specs.Report.{GivesNumber}
+use Rattle.transport.specs.Report.{GivesNumber}
 use Rattle.std.proofs.lemmas.List.{length-map}
 use Rattle.socket_loop.specs.declared.connection.Connection.{Connection}
 use Rattle.socket_loop.specs.Links.{links_of}
 use Rattle.socket_loop.proofs.Accepting.{some_start, some_stop, some_full, some_more, number_rises, below_then, few_more, rose}
 use Rattle.socket_loop.proofs.Few.{few_met}
 use Rattle.socket_loop.proofs.Marks.{more_same, more_then}
-use Rattle.wires.proofs.Reported.{kept_same}
+use Rattle.transport.proofs.Reported.{kept_same}
 use Rattle.socket_loop.proofs.Quiet.{quiet_stop}
 use Rattle.socket_loop.proofs.turn.Loop.accept_all.Goals as goal
 
@@ -18,8 +18,8 @@ pub returns-in_default : goal.returns-in_default
 returns-in_default g c = record {
   slice = c.loop.invariant.slice;
   scenes = record {
-    accepts = some_stop c.loop.counter _ _ _ _ _ _ _ _ _ _ _ _ _ _ c.accept.result (search rules) c.loop.invariant.so_far (number_rises _ _ c.accept.result c.accept.ensures.number) c.accept.ensures.kept c.accept.ensures.asked (search rules);
-    quiet = quiet_stop _ _ _ _ _ _ c.loop.invariant.quiet c.accept.ensures.kept;
+    accepts = some_stop c.loop.counter _ _ _ _ _ _ _ _ _ _ _ _ _ _ c.accept.result (search rules) c.loop.invariant.so_far (number_rises _ _ c.accept.result c.accept.ensures.number) c.accept.ensures.unchanged c.accept.ensures.asked (search rules);
+    quiet = quiet_stop _ _ _ _ _ _ c.loop.invariant.quiet c.accept.ensures.unchanged;
     accepted = λ e. (
         let u : g.W.Wire.bound c.args.wire.now < g.W.Wire.bound c.loop.wire = c.loop.invariant.accepted e in
         let v : g.W.Wire.bound c.loop.wire ≤ g.W.Wire.bound c.accept.new.self = number_rises _ _ c.accept.result c.accept.ensures.number in
@@ -33,7 +33,7 @@ pub returns-then-len-gt-SESSIONS_MAX : goal.returns-then-len-gt-SESSIONS_MAX
 returns-then-len-gt-SESSIONS_MAX g c = record {
   slice = search rules;
   scenes = record {
-    accepts = some_full c.loop.counter _ _ _ _ _ _ _ _ _ _ _ (inr (few_met _ _ _ _ 1024 _ _ _ _ c.requires.fits c.loop.invariant.so_far.accepts c.validity.ensures.few (full c.loop.self.held (
+    accepts = some_full c.loop.counter _ _ _ _ _ _ _ _ _ _ _ (inr (few_met _ _ _ _ 1024 _ _ _ _ c.requires.fits c.loop.invariant.so_far.accepts c.reveal_invariant.ensures.few (full c.loop.self.held (
         let same : c.self.inside.held.items ≡ c.loop.self.held = search rules in
         let most : 1024 < length c.self.inside.held.items = search rules in
         rw (sym same) most)))) c.loop.invariant.so_far;
@@ -52,7 +52,7 @@ loop-preserved g c =
     record {
       so_far =
           let one = c.admit-admission.ensures.one.scenes in
-          rw one.bound (some_more c.loop.counter _ _ one.outcome _ _ _ _ _ c.in-Ok-Some.number _ _ _ _ _ _ _ _ _ _ _ _ c.loop.invariant.so_far gives.0 gives.1 c.accept.ensures.kept (rw c.in-Ok-Some.field-0-is at c.in-Ok-Some.ensures.asked) one.admits one.asked one.full one.unopened);
+          rw one.bound (some_more c.loop.counter _ _ one.outcome _ _ _ _ _ c.in-Ok-Some.number _ _ _ _ _ _ _ _ _ _ _ _ c.loop.invariant.so_far gives.0 gives.1 c.accept.ensures.unchanged (rw c.in-Ok-Some.field-0-is at c.in-Ok-Some.ensures.asked) one.admits one.asked one.full one.unopened);
       more = more_then _ _ _ _ _ _ _ c.loop.invariant.more c.accept.ensures.cause.0 c.admit-admission.ensures.one.scenes.more;
       quiet = λ q. absurd (cc);
       accepted = λ e. (

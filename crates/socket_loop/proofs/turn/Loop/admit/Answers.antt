@@ -9,7 +9,7 @@ use Rattle.socket_loop.specs.Links.{links_of, new_connection, place_for}
 use Rattle.socket_loop.proofs.Accepting.{admits_away, admits_new, away_mute, insert_in}
 use Rattle.socket_loop.proofs.Marks.{adds_insert, grows_insert, more_same, more_then}
 use Rattle.socket_loop.proofs.Rising.{rising_insert}
-use Rattle.wires.specs.Asked.{Write, Shut}
+use Rattle.transport.specs.Asked.{Write, Shut}
 use Rattle.socket_loop.specs.Turns.{host_full}
 use Rattle.socket_loop.proofs.Calls.{asks_held, refused_admitted}
 use Rattle.socket_loop.proofs.turn.Loop.admit.Goals as goal
@@ -36,14 +36,14 @@ returns-in-Ok-clause-one g c =
       slice = search rules;
       scenes = record {
         outcome = Opened c.in-Ok.id;
-        admits = rw c.hold.ensures.held (admits_new c.args.self.now.held place new _ _ _ _ (record { below = c.open.ensures.below; stepped = rw c.in-Ok.is at c.open.ensures.opened }));
-        asked = asks_held _ link _ _ (rw c.hold.ensures.held (insert_in c.args.self.now.held place new)) refl;
+        admits = rw c.add_connection.ensures.held (admits_new c.args.self.now.held place new _ _ _ _ (record { below = c.open.ensures.below; stepped = rw c.in-Ok.is at c.open.ensures.opened }));
+        asked = asks_held _ link _ _ (rw c.add_connection.ensures.held (insert_in c.args.self.now.held place new)) refl;
         full = refl;
         unopened = refl;
         more = record {
-          grows = rw c.hold.ensures.held (grows_insert c.args.self.now.held place new refl refl);
-          marks = rw c.hold.ensures.held (adds_insert c.args.self.now.held place new refl refl);
-          rising = λ r. rw c.hold.ensures.held (rising_insert c.args.self.now.held new r);
+          grows = rw c.add_connection.ensures.held (grows_insert c.args.self.now.held place new refl refl);
+          marks = rw c.add_connection.ensures.held (adds_insert c.args.self.now.held place new refl refl);
+          rising = λ r. rw c.add_connection.ensures.held (rising_insert c.args.self.now.held new r);
           faults = omega arith;
         };
         bound = search rules;

@@ -1,6 +1,6 @@
 use Rattle.std.proofs.Common.{◌≡◌, ◌≤◌, ◌+◌, List}
 use Rattle.socket_loop.specs.declared.connection.Connection.{Connection}
-use Rattle.socket_loop.specs.Parts.{CarriesHeld, IsInput}
+use Rattle.socket_loop.specs.Parts.{TransfersHeld, IsInput}
 use Rattle.socket_loop.specs.Scenes.{scene}
 use Rattle.socket_loop.specs.Calls.{reads_of}
 use Rattle.socket_loop.specs.Visits.{VisitsTo}
@@ -11,7 +11,7 @@ use Rattle.socket_loop.proofs.turn.Loop.read_all.Given as goal
 abbrev pub invariant-loop-connection : goal.invariant-loop-connection
 invariant-loop-connection g l = record {
   visits : VisitsTo l.connection-index reads_of IsInput l.moved (scene g.W.Wire l.fn.self.held l.fn.wire l.fn.host) (scene g.W.Wire l.connection-items l.wire l.host);
-  carries : (marks : List Connection) → CarriesHeld IsInput marks (scene g.W.Wire l.fn.self.held l.fn.wire l.fn.host) (scene g.W.Wire l.connection-items l.wire l.host);
+  carries : (marks : List Connection) → TransfersHeld IsInput marks (scene g.W.Wire l.fn.self.held l.fn.wire l.fn.host) (scene g.W.Wire l.connection-items l.wire l.host);
   count : l.shut + shut_count l.fn.self.held ≡ shut_count l.connection-items;
   few : l.shut ≤ l.connection-index;
 }

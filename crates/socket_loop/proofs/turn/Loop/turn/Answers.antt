@@ -4,7 +4,7 @@ use Rattle.socket_loop.proofs.OneVisit.{at_most_then}
 use Rattle.socket_loop.specs.Links.{links_of, AreOnce, IsRising}
 use Rattle.socket_loop.proofs.Shutting.{shuts_all}
 use Rattle.socket_loop.proofs.Turning.{turn_with, asks_turn, turn_fits, turns, carries_by_rises}
-use Rattle.wires.proofs.Reported.{known_move, moves_then}
+use Rattle.transport.proofs.Reported.{known_move, moves_then}
 use Rattle.socket_loop.proofs.Quiet.{quiet_turn}
 use Rattle.socket_loop.proofs.Runs.{next_rises}
 use Rattle.socket_loop.proofs.Stirs.{moved_turn}

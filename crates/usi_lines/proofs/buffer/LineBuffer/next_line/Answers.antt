@@ -11,8 +11,8 @@ slice_bounds-line-end g c =
     let within : i.end ≤ length i.bytes.items = end_within i.bytes.items i.start i.end c.self.invariant.0 in
     search rules
 
-pub returns-then-self-gt-LINE_MAX-clause-none : goal.returns-then-self-gt-LINE_MAX-clause-none
-returns-then-self-gt-LINE_MAX-clause-none g c =
+pub returns-then-self-gt-LINE_MAX-clause-if_none : goal.returns-then-self-gt-LINE_MAX-clause-if_none
+returns-then-self-gt-LINE_MAX-clause-if_none g c =
     let i = c.self.inside in
     let over : LINE_MAX < i.end - i.start = search rules in
     let some = subst (λ (b : Buffer). ahead b [] ≢ []) c.self.view_is (waits i.bytes.items i.start i.end c.self.invariant.0 i.closed c.if-self.false (inr over)) in
@@ -24,15 +24,15 @@ returns-then-self-gt-LINE_MAX-clause-first g c =
     let over : LINE_MAX < i.end - i.start = search rules in
     subst (λ (b : Buffer). (x : List ℕ) → ahead b x ≡ TooLong ∷ drop 1 (ahead b x)) c.self.view_is (first_long i.bytes.items i.start i.end c.self.invariant.0 i.closed c.if-self.false over)
 
-pub returns-then-self-len-clause-none : goal.returns-then-self-len-clause-none
-returns-then-self-len-clause-none g c =
+pub returns-then-self-len-clause-if_none : goal.returns-then-self-len-clause-if_none
+returns-then-self-len-clause-if_none g c =
     let i = c.self.inside in
     let over : length i.bytes.items ≤ i.end = search rules in
     let fits : i.end - i.start ≤ LINE_MAX = search rules in
     (λ e. subst (λ (b : Buffer). ahead b [] ≡ []) c.self.view_is (waits_not i.bytes.items i.start i.end c.self.invariant.0 i.closed over fits), λ e. refl)
 
-pub returns-clause-none : goal.returns-clause-none
-returns-clause-none g c =
+pub returns-clause-if_none : goal.returns-clause-if_none
+returns-clause-if_none g c =
     let i = c.self.inside in
     let within : i.end ≤ length i.bytes.items = end_within i.bytes.items i.start i.end c.self.invariant.0 in
     let below : i.end < length i.bytes.items = search rules in

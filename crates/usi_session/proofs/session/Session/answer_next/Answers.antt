@@ -12,41 +12,41 @@ pub returns-clause-kept : goal.returns-clause-kept
 returns-clause-kept g c =
     let s = c.self.inside in
     let pending = ap is_pending c.self.view_is ∙ c.requires.pending in
-    let idle = ap (λ (t : SessionView). t.running_go) c.self.view_is ∙ c.requires.idle in
+    let idle = ap (λ (t : SessionView). t.go_task) c.self.view_is ∙ c.requires.idle in
     let first : (x : List ℕ) → ahead s.input x ≡ line_of c.in-Some.line ∷ ahead c.drop_line.new.self x = λ x. c.in-Some.ensures.first x ∙ ap (λ xs. line_of c.in-Some.line ∷ xs) (sym (c.drop_line.ensures.rest x)) in
-    rw (← c.self.view_is) (keeps_answered s.state c.queue_answer.new.state s.queue c.queue_answer.new.queue s.input c.drop_line.new.self s.running_go c.in_ok-running_go.running_go (line_of c.in-Some.line) pending idle first c.in_ok-running_go.ensures.answer)
+    rw (← c.self.view_is) (keeps_answered s.state c.queue_answer.new.state s.queue c.queue_answer.new.queue s.input c.drop_line.new.self s.go_task c.in_ok-go_task.go_task (line_of c.in-Some.line) pending idle first c.in_ok-go_task.ensures.answer)
 
 pub returns-clause-fewer : goal.returns-clause-fewer
 returns-clause-fewer g c =
     let s = c.self.inside in
     let pending = ap is_pending c.self.view_is ∙ c.requires.pending in
-    let idle = ap (λ (t : SessionView). t.running_go) c.self.view_is ∙ c.requires.idle in
+    let idle = ap (λ (t : SessionView). t.go_task) c.self.view_is ∙ c.requires.idle in
     let first : (x : List ℕ) → ahead s.input x ≡ line_of c.in-Some.line ∷ ahead c.drop_line.new.self x = λ x. c.in-Some.ensures.first x ∙ ap (λ xs. line_of c.in-Some.line ∷ xs) (sym (c.drop_line.ensures.rest x)) in
-    rw (← c.self.view_is) (fewer_answered s.state c.queue_answer.new.state s.queue c.queue_answer.new.queue s.input c.drop_line.new.self s.running_go c.in_ok-running_go.running_go (line_of c.in-Some.line) pending idle first c.in_ok-running_go.ensures.answer)
+    rw (← c.self.view_is) (fewer_answered s.state c.queue_answer.new.state s.queue c.queue_answer.new.queue s.input c.drop_line.new.self s.go_task c.in_ok-go_task.go_task (line_of c.in-Some.line) pending idle first c.in_ok-go_task.ensures.answer)
 
 pub returns-clause-roots : goal.returns-clause-roots
 returns-clause-roots g c =
     let s = c.self.inside in
     let pending = ap is_pending c.self.view_is ∙ c.requires.pending in
-    let idle = ap (λ (t : SessionView). t.running_go) c.self.view_is ∙ c.requires.idle in
+    let idle = ap (λ (t : SessionView). t.go_task) c.self.view_is ∙ c.requires.idle in
     let first : (x : List ℕ) → ahead s.input x ≡ line_of c.in-Some.line ∷ ahead c.drop_line.new.self x = λ x. c.in-Some.ensures.first x ∙ ap (λ xs. line_of c.in-Some.line ∷ xs) (sym (c.drop_line.ensures.rest x)) in
-    rw (← c.self.view_is) (roots_answered s.state c.queue_answer.new.state s.queue c.queue_answer.new.queue s.input c.drop_line.new.self s.running_go c.in_ok-running_go.running_go (line_of c.in-Some.line) pending idle first c.in_ok-running_go.ensures.answer)
+    rw (← c.self.view_is) (roots_answered s.state c.queue_answer.new.state s.queue c.queue_answer.new.queue s.input c.drop_line.new.self s.go_task c.in_ok-go_task.go_task (line_of c.in-Some.line) pending idle first c.in_ok-go_task.ensures.answer)
 
 -- a line is there
 pub returns-in_default-clause-fewer : goal.returns-in_default-clause-fewer
 returns-in_default-clause-fewer g c =
     let s = c.self.inside in
     let pending = ap is_pending c.self.view_is ∙ c.requires.pending in
-    let idle = ap (λ (t : SessionView). t.running_go) c.self.view_is ∙ c.requires.idle in
-    absurd (nothing_pending (record { state = s.state; running_go = s.running_go; queued = s.queue; input = s.input }) idle (c.in_default.ensures.none.0 refl) pending)
+    let idle = ap (λ (t : SessionView). t.go_task) c.self.view_is ∙ c.requires.idle in
+    absurd (nothing_pending (record { state = s.state; go_task = s.go_task; queued = s.queue; input = s.input }) idle (c.in_default.ensures.if_none.0 refl) pending)
 
 -- nothing was queued: nothing changed
-pub returns-in_err-running_go-clause-kept : goal.returns-in_err-running_go-clause-kept
-returns-in_err-running_go-clause-kept g c =
+pub returns-in_err-go_task-clause-kept : goal.returns-in_err-go_task-clause-kept
+returns-in_err-go_task-clause-kept g c =
     let s = c.self.inside in
-    rw (← c.self.view_is) (keeps_same _ _ (same_view s.state c.queue_answer.new.state s.queue c.queue_answer.new.queue s.input s.running_go c.in_err-running_go.ensures.state_err c.in_err-running_go.ensures.queue_err))
+    rw (← c.self.view_is) (keeps_same _ _ (same_view s.state c.queue_answer.new.state s.queue c.queue_answer.new.queue s.input s.go_task c.in_err-go_task.ensures.state_err c.in_err-go_task.ensures.queue_err))
 
-pub returns-in_err-running_go-clause-roots : goal.returns-in_err-running_go-clause-roots
-returns-in_err-running_go-clause-roots g c =
+pub returns-in_err-go_task-clause-roots : goal.returns-in_err-go_task-clause-roots
+returns-in_err-go_task-clause-roots g c =
     let s = c.self.inside in
-    rw (← c.self.view_is) (ap roots_left (same_view s.state c.queue_answer.new.state s.queue c.queue_answer.new.queue s.input s.running_go c.in_err-running_go.ensures.state_err c.in_err-running_go.ensures.queue_err))
+    rw (← c.self.view_is) (ap roots_left (same_view s.state c.queue_answer.new.state s.queue c.queue_answer.new.queue s.input s.go_task c.in_err-go_task.ensures.state_err c.in_err-go_task.ensures.queue_err))

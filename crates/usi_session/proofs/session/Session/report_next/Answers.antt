@@ -8,55 +8,55 @@ pub returns-then-not-is_last-clause-kept : goal.returns-then-not-is_last-clause-
 returns-then-not-is_last-clause-kept g c =
     let s = c.self.inside in
     let pending = ap is_pending c.self.view_is ∙ c.requires.pending in
-    rw (← c.self.view_is) (keeps_reported s.state s.queue c.queue_line.new.queue s.input c.in-Some.running_go c.next.new.self s.running_go pending c.in-Some.is c.next.ensures.question c.next.ensures.rest c.next.ensures.load (search rules))
+    rw (← c.self.view_is) (keeps_reported s.state s.queue c.queue_line.new.queue s.input c.in-Some.go_task c.next.new.self s.go_task pending c.in-Some.is c.next.ensures.go_request c.next.ensures.rest c.next.ensures.load (search rules))
 
 pub returns-clause-kept : goal.returns-clause-kept
 returns-clause-kept g c =
     let s = c.self.inside in
     let pending = ap is_pending c.self.view_is ∙ c.requires.pending in
-    rw (← c.self.view_is) (keeps_ended s.state c.queue_end.new.state s.queue c.queue_end.new.queue s.input c.in-Some.running_go s.running_go pending c.in-Some.is (search rules))
+    rw (← c.self.view_is) (keeps_ended s.state c.queue_end.new.state s.queue c.queue_end.new.queue s.input c.in-Some.go_task s.go_task pending c.in-Some.is (search rules))
 
 -- nothing was queued: nothing changed
 pub returns-in_err-queue_line-clause-kept : goal.returns-in_err-queue_line-clause-kept
 returns-in_err-queue_line-clause-kept g c =
     let s = c.self.inside in
-    rw (← c.self.view_is, c.in-Some.is) (keeps_same _ _ (same_view s.state s.state s.queue c.queue_line.new.queue s.input (Some c.in-Some.running_go) refl c.in_err-queue_line.ensures.err))
+    rw (← c.self.view_is, c.in-Some.is) (keeps_same _ _ (same_view s.state s.state s.queue c.queue_line.new.queue s.input (Some c.in-Some.go_task) refl c.in_err-queue_line.ensures.err))
 
 pub returns-in_err-queue_line-clause-roots : goal.returns-in_err-queue_line-clause-roots
 returns-in_err-queue_line-clause-roots g c =
     let s = c.self.inside in
-    rw (← c.self.view_is, c.in-Some.is) (ap roots_left (same_view s.state s.state s.queue c.queue_line.new.queue s.input (Some c.in-Some.running_go) refl c.in_err-queue_line.ensures.err))
+    rw (← c.self.view_is, c.in-Some.is) (ap roots_left (same_view s.state s.state s.queue c.queue_line.new.queue s.input (Some c.in-Some.go_task) refl c.in_err-queue_line.ensures.err))
 
 pub returns-in_err-queue_end-clause-kept : goal.returns-in_err-queue_end-clause-kept
 returns-in_err-queue_end-clause-kept g c =
     let s = c.self.inside in
-    rw (← c.self.view_is, c.in-Some.is) (keeps_same _ _ (same_view s.state c.queue_end.new.state s.queue c.queue_end.new.queue s.input (Some c.in-Some.running_go) c.in_err-queue_end.ensures.state_err c.in_err-queue_end.ensures.queue_err))
+    rw (← c.self.view_is, c.in-Some.is) (keeps_same _ _ (same_view s.state c.queue_end.new.state s.queue c.queue_end.new.queue s.input (Some c.in-Some.go_task) c.in_err-queue_end.ensures.state_err c.in_err-queue_end.ensures.queue_err))
 
 pub returns-in_err-queue_end-clause-roots : goal.returns-in_err-queue_end-clause-roots
 returns-in_err-queue_end-clause-roots g c =
     let s = c.self.inside in
-    rw (← c.self.view_is, c.in-Some.is) (ap roots_left (same_view s.state c.queue_end.new.state s.queue c.queue_end.new.queue s.input (Some c.in-Some.running_go) c.in_err-queue_end.ensures.state_err c.in_err-queue_end.ensures.queue_err))
+    rw (← c.self.view_is, c.in-Some.is) (ap roots_left (same_view s.state c.queue_end.new.state s.queue c.queue_end.new.queue s.input (Some c.in-Some.go_task) c.in_err-queue_end.ensures.state_err c.in_err-queue_end.ensures.queue_err))
 
 -- a `go` is running
 pub returns-in_default : goal.returns-in_default
-returns-in_default g c = absurd (subst IsPvWhole (ap (λ (t : SessionView). t.running_go) (sym c.self.view_is) ∙ c.in_default.is) c.requires.whole)
+returns-in_default g c = absurd (subst IsPvWhole (ap (λ (t : SessionView). t.go_task) (sym c.self.view_is) ∙ c.in_default.is) c.requires.whole)
 
 pub returns-then-not-is_last-clause-fewer : goal.returns-then-not-is_last-clause-fewer
 returns-then-not-is_last-clause-fewer g c =
     let s = c.self.inside in
-    rw (← c.self.view_is) (fewer_reported s.state s.queue c.queue_line.new.queue s.input c.in-Some.running_go c.next.new.self s.running_go c.in-Some.is c.next.ensures.question c.next.ensures.load c.next.ensures.fewer)
+    rw (← c.self.view_is) (fewer_reported s.state s.queue c.queue_line.new.queue s.input c.in-Some.go_task c.next.new.self s.go_task c.in-Some.is c.next.ensures.go_request c.next.ensures.load c.next.ensures.fewer)
 
 pub returns-clause-fewer : goal.returns-clause-fewer
 returns-clause-fewer g c =
     let s = c.self.inside in
-    rw (← c.self.view_is) (fewer_ended s.state c.queue_end.new.state s.queue c.queue_end.new.queue s.input c.in-Some.running_go s.running_go c.in-Some.is (search rules))
+    rw (← c.self.view_is) (fewer_ended s.state c.queue_end.new.state s.queue c.queue_end.new.queue s.input c.in-Some.go_task s.go_task c.in-Some.is (search rules))
 
 pub returns-then-not-is_last-clause-roots : goal.returns-then-not-is_last-clause-roots
 returns-then-not-is_last-clause-roots g c =
     let s = c.self.inside in
-    rw (← c.self.view_is) (roots_reported s.state c.in-Some.running_go c.next.new.self s.running_go (ahead s.input []) c.in-Some.is c.next.ensures.question c.next.ensures.roots)
+    rw (← c.self.view_is) (roots_reported s.state c.in-Some.go_task c.next.new.self s.go_task (ahead s.input []) c.in-Some.is c.next.ensures.go_request c.next.ensures.roots)
 
 pub returns-clause-roots : goal.returns-clause-roots
 returns-clause-roots g c =
     let s = c.self.inside in
-    rw (← c.self.view_is) (roots_ended s.state c.queue_end.new.state s.queue c.queue_end.new.queue c.in-Some.running_go s.running_go (ahead s.input []) c.in-Some.is (search rules) (search rules) (search rules))
+    rw (← c.self.view_is) (roots_ended s.state c.queue_end.new.state s.queue c.queue_end.new.queue c.in-Some.go_task s.go_task (ahead s.input []) c.in-Some.is (search rules) (search rules) (search rules))

@@ -9,5 +9,5 @@ kept n queued rest owed e = ap (λ (l : List ℕ). l ++ owed) (sym (take-append-
 
 -- the bytes that are dropped are a prefix of all that is due
 pub returns-clause-due : goal.returns-clause-due
-returns-clause-due c b = λ x. subst (λ (session : SessionView). due session x ≡ take b.args.n session.queued ++ (b.take.new.self ++ owed b.self.inside.state b.self.inside.running_go (ahead b.self.inside.input x))) b.self.view_is
-    (kept b.args.n b.self.inside.queue b.take.new.self (owed b.self.inside.state b.self.inside.running_go (ahead b.self.inside.input x)) b.take.ensures)
+returns-clause-due c b = λ x. subst (λ (session : SessionView). due session x ≡ take b.args.n session.queued ++ (b.take.new.self ++ owed b.self.inside.state b.self.inside.go_task (ahead b.self.inside.input x))) b.self.view_is
+    (kept b.args.n b.self.inside.queue b.take.new.self (owed b.self.inside.state b.self.inside.go_task (ahead b.self.inside.input x)) b.take.ensures)

@@ -27,10 +27,10 @@ turns-preserved g c =
     let most : c.in-Some.made ≤ c.turns.left = rw c.in-Some.is at c.in_ok-made.ensures.most in
     let made : c.in-Some.made + load c.turn.new.self ≤ load c.turns.self = rw c.in-Some.is at c.in_ok-made.ensures.made in
     record {
-      kept = keeps_then _ _ _ c.turns.invariant.kept c.turn.ensures.kept;
+      kept = keeps_then _ _ _ c.turns.invariant.kept c.work_once.ensures.kept;
       within = search rules;
       made = made_on c.args.budget c.turns.left (load c.args.self.now) (load c.turns.self) c.in-Some.made (load c.turn.new.self) c.turns.invariant.made most made;
-      told = ended_then _ _ _ _ _ _ _ c.turns.invariant.told c.turn.ensures.told;
+      told = ended_then _ _ _ _ _ _ _ c.turns.invariant.told c.work_once.ensures.told;
       capacity = search rules;
     }
 
@@ -46,16 +46,16 @@ returns-in-None-clause-spent g c = λ _. (refl, rw c.in-None.is at c.in_ok-made.
 pub returns-in-None-clause-enough : goal.returns-in-None-clause-enough
 returns-in-None-clause-enough g c = λ enough.
     let spent : c.turns.left + load c.turn.new.self ≤ load c.turns.self = rw c.in-None.is at c.in_ok-made.ensures.spent in
-    let mid : IsMidSearch c.turn.new.self.running_go = rw c.in-None.is at c.in_ok-made.ensures.unfinished in
+    let mid : IsMidSearch c.turn.new.self.go_task = rw c.in-None.is at c.in_ok-made.ensures.unfinished in
     absurd (not_enough c.args.budget (load c.args.self.now) (load c.turn.new.self)
     (made_all c.args.budget c.turns.left (load c.args.self.now) (load c.turns.self) (load c.turn.new.self) c.turns.invariant.made spent)
-    (mid_load c.turn.new.self.state c.turn.new.self.running_go (ahead c.turn.new.self.input []) mid) enough)
+    (mid_load c.turn.new.self.state c.turn.new.self.go_task (ahead c.turn.new.self.input []) mid) enough)
 
 pub returns-in-None-clause-due : goal.returns-in-None-clause-due
-returns-in-None-clause-due g c = λ x. c.turn.ensures.kept.due_is x ∙ c.turns.invariant.kept.due_is x
+returns-in-None-clause-due g c = λ x. c.work_once.ensures.kept.due_is x ∙ c.turns.invariant.kept.due_is x
 
 pub returns-in-None-clause-after : goal.returns-in-None-clause-after
-returns-in-None-clause-after g c = λ x. c.turn.ensures.kept.after_is x ∙ c.turns.invariant.kept.after_is x
+returns-in-None-clause-after g c = λ x. c.work_once.ensures.kept.after_is x ∙ c.turns.invariant.kept.after_is x
 
 -- nothing is pending any more
 pub overflow_sub-result : goal.overflow_sub-result
@@ -74,10 +74,10 @@ pub returns-clause-after : goal.returns-clause-after
 returns-clause-after g c = c.turns.invariant.kept.after_is
 
 pub returns-in-None-clause-grown : goal.returns-in-None-clause-grown
-returns-in-None-clause-grown g c = grows_then c.turns.invariant.kept.grown c.turn.ensures.kept.grown
+returns-in-None-clause-grown g c = grows_then c.turns.invariant.kept.grown c.work_once.ensures.kept.grown
 
 pub returns-in-None-clause-told : goal.returns-in-None-clause-told
-returns-in-None-clause-told g c = ended_then _ _ _ _ _ _ _ c.turns.invariant.told c.turn.ensures.told
+returns-in-None-clause-told g c = ended_then _ _ _ _ _ _ _ c.turns.invariant.told c.work_once.ensures.told
 
 pub returns-in_err-made-clause-told : goal.returns-in_err-made-clause-told
-returns-in_err-made-clause-told g c = ended_then _ _ _ _ _ _ _ c.turns.invariant.told c.turn.ensures.told
+returns-in_err-made-clause-told g c = ended_then _ _ _ _ _ _ _ c.turns.invariant.told c.work_once.ensures.told

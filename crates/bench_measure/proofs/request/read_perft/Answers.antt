@@ -1,0 +1,17 @@
+use Rattle.std.proofs.Common.{◌∙◌, ap, subst, ℕ, List}
+use Rattle.shogi_sfen.specs.Words.{GivesWord}
+use Rattle.bench_measure.specs.declared.request.Work.TheVariants.{Perft}
+use Rattle.bench_measure.specs.Requests.{place_of, placed}
+use Rattle.bench_measure.proofs.Reading.{perft_of-depth, perft_of-placed}
+use Rattle.bench_measure.proofs.request.read_perft.Goals as goal
+
+pub returns-in_default-clause-request : goal.returns-in_default-clause-request
+returns-in_default-clause-request c =
+    let first : GivesWord c.args.text.now c.next.result c.next.new.self = subst (λ (t : List ℕ). GivesWord t c.next.result c.next.new.self) c.words-rest.ensures c.next.ensures.steps in
+    perft_of-depth c.args.text.now c.next.new.self c.next.result first c.in_default.ensures.number
+
+pub returns-clause-request : goal.returns-clause-request
+returns-clause-request c =
+    let first : GivesWord c.args.text.now c.next.result c.next.new.self = subst (λ (t : List ℕ). GivesWord t c.next.result c.next.new.self) c.words-rest.ensures c.next.ensures.steps in
+    c.placed.ensures ∙ (ap (placed Perft c.in-Some.depth) (c.read_place.ensures ∙ ap place_of c.rest.ensures)
+    ∙ perft_of-placed c.args.text.now c.next.new.self c.next.result c.in-Some.depth first c.in-Some.ensures.number)

@@ -1,8 +1,0 @@
-use Rattle.wires.specs.Report.{bytes_read}
-use Rattle.std.proofs.Common.{Ok, length}
-use Rattle.memory_wire.proofs.Chunks.{all_left}
-use Rattle.memory_wire.proofs.peer.Peer.read.Goals as goal
-
--- what is given and what is left are all
-pub returns-clause-consumed : goal.returns-clause-consumed
-returns-clause-consumed g c = rw c.give.ensures.left (all_left c.args.self.now.chunks (length c.args.buf.now) (bytes_read (Ok c.give.result) c.give.new.buf) c.give.ensures.given)

@@ -1,8 +1,0 @@
-use Rattle.std.proofs.Common.{◌≡◌, length}
-use Rattle.search_acceptance.proofs.exchanges.taken_on.Given as goal
-
-abbrev pub invariant-moves : goal.invariant-moves
-invariant-moves l = l.walk.position ≡ l.p
-
-abbrev pub decreases-moves : goal.decreases-moves
-decreases-moves l = length l.walk.codes

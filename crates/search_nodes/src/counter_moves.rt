@@ -1,0 +1,76 @@
+//! The moves that last refuted others.
+
+ghost use Rattle.std.specs.Prelude.{◌≡◌, ◌<◌, ◌≤◌, slice_index, slice_set};
+ghost use Rattle.shogi_core.specs.Same.{role_number};
+ghost use Rattle.shogi_replies.specs.Threats.{end_of};
+ghost use Rattle.search_nodes.specs.CounterMoves.{place_of};
+ghost use Rattle.search_nodes.specs.declared.counter_moves.TheConstants.{PLACES};
+
+use shogi_core::{Color, Move, Position, Role, Square};
+
+/// Two sides, fourteen roles and 81 squares.
+const PLACES: usize = 2268;
+
+/// For each side, role and square the code of the move that cut off the last node to which a move
+/// of such a piece to that square led.
+#[derive(Clone, Copy)]
+pub struct CounterMoves {
+    pub codes: [u16; PLACES],
+}
+
+/// The number of a role.
+fn number_of(role: Role) -> usize
+    ensures value { result ≡ role_number role }
+    ensures range { result ≤ 13 }
+{
+    role as usize
+}
+
+/// Where a move ends.
+fn end_of(m: &Move) -> Square
+    ensures { result ≡ end_of m.now }
+{
+    match m {
+        Move::Board { to, .. } => *to,
+        Move::Drop { to, .. } => *to,
+    }
+}
+
+/// The place for the move that led to the position.
+fn place_of(p: &Position, m: &Move) -> usize
+    ensures value { result ≡ place_of p.now m.now }
+    ensures range { result < PLACES }
+{
+    let to = end_of(m);
+    to.reveal_invariant();
+    let number = match p.at(to) {
+        Some(piece) => number_of(piece.role),
+        None => 0,
+    };
+    let side = match p.side() {
+        Color::Black => 0,
+        Color::White => 14,
+    };
+    (side + number) * 81 + to.index()
+}
+
+impl CounterMoves {
+    /// None yet: in each place the code of no legal move.
+    pub fn none() -> CounterMoves {
+        CounterMoves { codes: [0; PLACES] }
+    }
+
+    /// What last refuted such a move as led to the position.
+    pub fn reply_to(&self, p: &Position, m: &Move) -> u16
+        ensures { result ≡ slice_index self.now.codes (place_of p.now m.now) }
+    {
+        self.codes[place_of(p, m)]
+    }
+
+    /// Takes the code of the move that refuted it.
+    pub fn keep(&mut self, p: &Position, m: &Move, code: u16)
+        ensures { self.new.codes ≡ slice_set self.old.codes (place_of p.now m.now) code }
+    {
+        self.codes[place_of(p, m)] = code;
+    }
+}

@@ -1,7 +1,0 @@
-use Rattle.std.proofs.Common.{◌≡◌, false}
-use Rattle.shogi_core.specs.Attack.{is_shot_along}
-use Rattle.shogi_core.specs.Below.{some_below}
-use Rattle.shogi_core.proofs.attack.is_shot.Given as goal
-
-abbrev pub invariant-loop-direction : goal.invariant-loop-direction
-invariant-loop-direction l = some_below l.direction (is_shot_along l.board l.fn.by l.square) ≡ false

@@ -1,9 +1,0 @@
-use Rattle.std.proofs.Common.{◌≡◌, false}
-use Rattle.shogi_core.specs.Attack.{is_shot_along, ShowsSnipers}
-use Rattle.shogi_core.specs.Below.{some_below}
-use Rattle.shogi_core.specs.Movement.{Cells}
-use Rattle.shogi_core.specs.declared.piece.Color.{Color}
-use Rattle.shogi_core.proofs.attack.is_shot_among.Given as goal
-
-abbrev pub invariant-loop-direction : goal.invariant-loop-direction
-invariant-loop-direction l = (color : Color) (seen : Cells) → ShowsSnipers l.board l.square l.snipers.bits l.occupied.bits color seen → some_below l.direction (is_shot_along seen color l.square) ≡ false

@@ -1,0 +1,61 @@
+//! Whether a move leaves the mover's king unattacked, without making it where the side has a king.
+
+ghost use Rattle.std.specs.Prelude.{◌≡◌, true};
+ghost use Rattle.shogi_core.specs.Cell.{HasNoOtherKing};
+ghost use Rattle.shogi_moves.specs.Destinations.{is_own_king, leaves_king_safe};
+ghost use Rattle.shogi_moves.specs.Legal.{is_pseudo_legal};
+
+use crate::after::is_checked_after;
+use shogi_core::{Move, Position, Square};
+
+/// Whether the move, which is made on a board of its own, leaves the mover's king unattacked.
+pub fn leaves_king_safe_on_copy(p: &Position, m: &Move) -> bool
+    ensures { result ≡ leaves_king_safe p.now m.now }
+{
+    !is_checked_after(p.as_board(), p.side(), m)
+}
+
+/// Whether the only king of the side to move, which stands there, is unattacked after the move: it
+/// or its new square is looked at where the move leaves the squares empty and occupied.
+#[inline(always)]
+fn leaves_only_king_safe(p: &Position, king: Square, m: &Move) -> bool
+    requires pseudo { is_pseudo_legal p.now m.now ≡ true }
+    requires king { is_own_king p.now king ≡ true }
+    requires lone { HasNoOtherKing p.now.cells p.now.side king }
+    ensures { result ≡ leaves_king_safe p.now m.now }
+{
+    p.reveal_invariant();
+    king.reveal_invariant();
+    let board = p.as_board();
+    let theirs = board.own(p.side().opponent());
+    match m {
+        Move::Board { from, to, .. } => {
+            from.reveal_invariant();
+            to.reveal_invariant();
+            let among = theirs.except(*to);
+            let occupied = board.occupied().except(*from).with(*to);
+            if from.index() == king.index() {
+                return !board.is_attacked_among(*to, among, occupied);
+            }
+            !board.is_attacked_among(king, among, occupied)
+        }
+        Move::Drop { to, .. } => {
+            to.reveal_invariant();
+            let occupied = board.occupied().with(*to);
+            !board.is_attacked_among(king, theirs, occupied)
+        }
+    }
+}
+
+/// Whether the pseudo-legal move leaves the king unattacked; made on a board of its own where the
+/// side has no king.
+#[inline(always)]
+pub fn leaves_king_safe(p: &Position, m: &Move) -> bool
+    requires { is_pseudo_legal p.now m.now ≡ true }
+    ensures { result ≡ leaves_king_safe p.now m.now }
+{
+    match p.king(p.side()) {
+        None => leaves_king_safe_on_copy(p, m),
+        Some(king) => leaves_only_king_safe(p, king, m),
+    }
+}

@@ -1,0 +1,273 @@
+-- What is kept of a position to decide that after most of its moves the other side is in no check and has a legal move.
+use Rattle.std.specs.Prelude.{ℕ, ◌≡◌, ◌≢◌, ◌<◌, ◌==◌, ◌⊎◌, ◌&&◌, ◌||◌, Bool, true, false, not, nat_lt, Option, Some, None, is_none, List, [], filter, slice_set}
+use Rattle.shogi_core.specs.declared.moves.Move.{Move}
+use Rattle.shogi_core.specs.declared.moves.Move.TheVariants.{Board, Drop}
+use Rattle.shogi_core.specs.declared.piece.Color.{Color}
+use Rattle.shogi_core.specs.declared.piece.Kind.{Kind}
+use Rattle.shogi_core.specs.declared.piece.Kind.TheVariants.{Silver, Gold, Bishop, Rook}
+use Rattle.shogi_core.specs.declared.piece.Piece.{Piece}
+use Rattle.shogi_core.specs.Attack.{in_check, is_sniping, cell_steps}
+use Rattle.shogi_core.specs.Below.{some_below}
+use Rattle.shogi_core.specs.Bits.{has_bit}
+use Rattle.shogi_core.specs.Codes.{move_of}
+use Rattle.shogi_core.specs.Cell.{is_piece_of, is_king, is_immobile}
+use Rattle.shogi_core.specs.Lines.{are_aligned, are_lined, is_seen}
+use Rattle.shogi_core.specs.Movement.{Cells, piece_at, reaches, cell_reaches}
+use Rattle.shogi_core.specs.Pieces.{opponent_of}
+use Rattle.shogi_core.specs.Position.{Shogi, HandCounts, count_in_hand}
+use Rattle.shogi_core.specs.Same.{role_number}
+use Rattle.shogi_moves.specs.After.{after, piece_moved}
+use Rattle.shogi_moves.specs.Destinations.{is_destination}
+use Rattle.shogi_moves.specs.Legal.{is_legal}
+use Rattle.shogi_core.specs.Zones.{may_promote, is_around}
+use Rattle.shogi_moves.specs.LegalMoves.{legal_codes}
+use Rattle.shogi_replies.specs.declared.move_filter.MoveFilter.{MoveFilter}
+
+-- the move takes nothing and does not promote
+abbrev pub is_quiet : Shogi → Option Move → Bool
+is_quiet p (Some (Board from to promote)) = not promote && is_none (piece_at p.cells to)
+is_quiet p (Some (Drop kind to)) = true
+is_quiet p None = true
+
+-- the code is that of such a move
+abbrev pub is_quiet_code : Shogi → ℕ → Bool
+is_quiet_code p code = is_quiet p (move_of code)
+
+-- the codes of the legal moves that are so
+abbrev pub quiet_codes : Shogi → List ℕ
+quiet_codes p = filter (is_quiet_code p) (legal_codes p)
+
+-- the piece on a may step to t, where nothing stands, and can move again from there without promotion
+abbrev pub is_quiet_step : Cells → ℕ → ℕ → Bool
+is_quiet_step cells a t =
+    cell_steps (piece_at cells a) a t
+    && is_none (piece_at cells t)
+    && not (is_immobile t (piece_at cells a))
+
+-- the square lies on a line with a king of the side, whatever stands between
+abbrev pub is_line_of_king : Cells → Color → ℕ → ℕ → Bool
+is_line_of_king cells side a king = is_king side (piece_at cells king) && are_aligned king a
+
+-- the square lies on a line with some king of the side
+unfoldable pub is_aligned_with_king : Cells → Color → ℕ → Bool
+is_aligned_with_king cells side a = some_below 81 (is_line_of_king cells side a)
+
+-- a piece of the side, no king, and on no line with one
+abbrev pub is_unbound : Cells → Color → ℕ → Bool
+is_unbound cells side a =
+    is_piece_of side (piece_at cells a)
+    && not (is_king side (piece_at cells a))
+    && not (is_aligned_with_king cells side a)
+
+-- the piece on a has such a step to t, which is another square than that one
+abbrev pub is_step_beside : Cells → ℕ → ℕ → ℕ → Bool
+is_step_beside cells to a t = is_quiet_step cells a t && not (t == to)
+
+-- such a piece stands on another square than that one, and has such a step
+unfoldable pub is_spare : Cells → Color → ℕ → ℕ → Bool
+is_spare cells side to a =
+    not (a == to) && is_unbound cells side a && some_below 81 (is_step_beside cells to a)
+
+-- the side holds a piece of such a kind, which it may drop on each empty square where it is in no check
+abbrev pub holds_free : HandCounts → Color → Bool
+holds_free hands side =
+    nat_lt 0 (count_in_hand hands side Silver)
+    || nat_lt 0 (count_in_hand hands side Gold)
+    || nat_lt 0 (count_in_hand hands side Bishop)
+    || nat_lt 0 (count_in_hand hands side Rook)
+
+-- a spare piece stands on a, or nothing, and such a piece is held; a is another square than the one where a move ends
+abbrev pub is_way : Shogi → Color → ℕ → ℕ → Bool
+is_way p side to a =
+    is_spare p.cells side to a
+    || not (a == to) && is_none (piece_at p.cells a) && holds_free p.hands side
+
+-- beside each square there is another one in the set
+abbrev pub HasOthers : ℕ → Type 0
+HasOthers set = (n : ℕ) → (a : ℕ) × (a < 81) × (has_bit set a ≡ true) × (a ≢ n)
+
+-- to what stands on a there is a step to each of the squares
+abbrev pub AreQuietSteps : Cells → ℕ → ℕ → Type 0
+AreQuietSteps cells a squares =
+    (t : ℕ) → t < 81 → has_bit squares t ≡ true → is_quiet_step cells a t ≡ true
+
+-- wherever a move ends, if not on one of the squares, the side has a spare piece left
+abbrev pub LeaveFreeMovers : Cells → Color → ℕ → Type 0
+LeaveFreeMovers cells side squares = (a to : ℕ) → a < 81 → has_bit squares a ≡ true → a ≢ to
+    → some_below 81 (is_spare cells side to) ≡ true
+
+-- squares with the kings of a side and all that those see which are not left
+pub record Sees (cells : Cells) (side : Color) (left king_view : ℕ) : Type 0 where
+  pub kings : (n : ℕ) → n < 81 → is_king side (piece_at cells n) ≡ true → has_bit king_view n ≡ true
+  pub squares : (k n : ℕ) → k < 81 → n < 81 → is_king side (piece_at cells k) ≡ true
+      → has_bit left k ≡ false → is_seen cells k n ≡ true → has_bit king_view n ≡ true
+
+-- squares with the kings of a side and all on lines with those which are not left
+pub record Aligns (cells : Cells) (side : Color) (left lines : ℕ) : Type 0 where
+  pub kings : (n : ℕ) → n < 81 → is_king side (piece_at cells n) ≡ true → has_bit lines n ≡ true
+  pub squares : (k n : ℕ) → k < 81 → n < 81 → is_king side (piece_at cells k) ≡ true
+      → has_bit left k ≡ false → are_aligned k n ≡ true → has_bit lines n ≡ true
+
+-- no piece of the other side that slides and is on a line with a king of the side is on an open line with the square
+abbrev pub StaysCovered : Cells → Color → ℕ → Type 0
+StaysCovered cells side n =
+    (a : ℕ) → a < 81 → is_sniping cells side a ≡ true → are_lined cells n a ≡ false
+
+-- what would stand on the square attacks no king of the side
+abbrev pub IsHarmless : Cells → Color → Option Piece → ℕ → Type 0
+IsHarmless cells side cell to = (k : ℕ) → k < 81 → is_king side (piece_at cells k) ≡ true
+    → cell_reaches cells cell to k ≡ false
+
+-- on squares that are not in the set, the piece attacks no king of the side
+abbrev pub ChecksWithin : Cells → Color → Option Piece → ℕ → Type 0
+ChecksWithin cells side cell set =
+    (n : ℕ) → n < 81 → has_bit set n ≡ false → IsHarmless cells side cell n
+
+-- what would stand on the square attacks no king of the side once another square is left
+abbrev pub IsHarmlessFrom : Cells → Color → ℕ → Option Piece → ℕ → Type 0
+IsHarmlessFrom cells side from cell to = (k : ℕ) → k < 81 → is_king side (piece_at cells k) ≡ true
+    → cell_reaches (slice_set cells from None) cell to k ≡ false
+
+-- what leaves a square is off the sight of the side's kings, or covers no king from a piece that slides and attacks none where it ends
+abbrev pub DiscoversNothing : Cells → Color → ℕ → ℕ → Option Piece → ℕ → Type 0
+DiscoversNothing cells side king_view from cell to =
+    (has_bit king_view from ≡ false)
+    ⊎ (IsHarmlessFrom cells side from cell to × StaysCovered cells side from)
+
+-- what stands on the square discovers nothing where it moves to squares that are not in the set and from which it attacks no king
+abbrev pub DiscoversWithin : Cells → Color → ℕ → ℕ → ℕ → Type 0
+DiscoversWithin cells side king_view from set = (promote : Bool) (n : ℕ) → n < 81
+    → has_bit set n ≡ false
+    → IsHarmless cells side (piece_moved promote (piece_at cells from)) n
+    → DiscoversNothing cells side king_view from (piece_moved promote (piece_at cells from)) n
+
+-- the same for kings of the side that is not to move
+abbrev pub DiscoversChecksWithin : Shogi → ℕ → ℕ → ℕ → Type 0
+DiscoversChecksWithin p king_view from set = DiscoversWithin p.cells (opponent_of p.side) king_view from set
+
+-- such squares for the side that is not to move, and others, of which it has a way wherever a move ends that leaves one of them
+pub record IsReplyInfo (p : Shogi) (king_view free_movers : ℕ) : Type 0 where
+  pub sees : Sees p.cells (opponent_of p.side) 0 king_view
+  pub spares : (a to : ℕ) → a < 81 → has_bit free_movers a ≡ true → a ≢ to
+      → some_below 81 (is_way p (opponent_of p.side) to) ≡ true
+
+-- the square is not closed, and another one gives the side a move
+pub record IsOpen (closed free_movers n : ℕ) : Type 0 where
+  pub unclosed : has_bit closed n ≡ false
+  pub way : (a : ℕ) × (a < 81) × (has_bit free_movers a ≡ true) × (a ≢ n)
+
+-- each of the squares is such a one
+abbrev pub AreOpen : ℕ → ℕ → ℕ → Type 0
+AreOpen closed free_movers squares =
+    (n : ℕ) → n < 81 → has_bit squares n ≡ true → IsOpen closed free_movers n
+
+-- if the move is legal, the other side has a legal move after it
+abbrev pub IsAnswered : Shogi → Move → Type 0
+IsAnswered p m = is_legal p m ≡ true → legal_codes (after p m) ≢ []
+
+-- and one that takes nothing and does not promote
+abbrev pub IsQuietlyAnswered : Shogi → Move → Type 0
+IsQuietlyAnswered p m = is_legal p m ≡ true → quiet_codes (after p m) ≢ []
+
+-- a move from the square to each one in the set is so answered, promoting or not
+abbrev pub AreAnswered : Shogi → ℕ → Bool → ℕ → Type 0
+AreAnswered p from promote set =
+    (n : ℕ) → n < 81 → has_bit set n ≡ true → IsQuietlyAnswered p (Board from n promote)
+
+-- so is each move on the board of what stands on the squares
+abbrev pub AreDistant : Shogi → ℕ → Type 0
+AreDistant p squares = (a n : ℕ) (promote : Bool) → a < 81 → n < 81 → has_bit squares a ≡ true
+    → reaches p.cells a n ≡ true → IsQuietlyAnswered p (Board a n promote)
+
+-- each of the squares is in the set
+abbrev pub AreAmong : ℕ → ℕ → Type 0
+AreAmong squares set = (n : ℕ) → n < 81 → has_bit squares n ≡ true → has_bit set n ≡ true
+
+-- those of the squares at which what comes from the square may promote are in the set
+abbrev pub PromotesWithin : Cells → ℕ → ℕ → ℕ → Type 0
+PromotesWithin cells from squares set = (n : ℕ) → n < 81 → has_bit squares n ≡ true
+    → may_promote (piece_at cells from) from n ≡ true → has_bit set n ≡ true
+
+-- so is a drop of the kind on each of the squares
+abbrev pub AreDropsAnswered : Shogi → Kind → ℕ → Type 0
+AreDropsAnswered p kind squares =
+    (n : ℕ) → n < 81 → has_bit squares n ≡ true → IsQuietlyAnswered p (Drop kind n)
+
+-- if the move is legal, it gives no check
+abbrev pub GivesNoCheck : Shogi → Move → Type 0
+GivesNoCheck p m = is_legal p m ≡ true → in_check (after p m).cells (opponent_of p.side) ≡ false
+
+-- the move is answered by one that takes nothing and does not promote and, where no escapes are given, gives no check
+abbrev pub GuaranteesReply : Shogi → ℕ → Move → Type 0
+GuaranteesReply p escapes m = IsQuietlyAnswered p m × (escapes ≡ 0 → GivesNoCheck p m)
+
+-- so is a move from the square to each one in the set, promoting or not
+abbrev pub AreGuaranteed : Shogi → ℕ → ℕ → Bool → ℕ → Type 0
+AreGuaranteed p escapes from promote set =
+    (n : ℕ) → n < 81 → has_bit set n ≡ true → GuaranteesReply p escapes (Board from n promote)
+
+-- and so whatever escapes are given, and promoting or not
+abbrev pub AreAlwaysGuaranteed : Shogi → ℕ → ℕ → Type 0
+AreAlwaysGuaranteed p from set = (escapes : ℕ) (promote : Bool) → AreGuaranteed p escapes from promote set
+
+-- and a drop of the kind on each of the squares
+abbrev pub AreDropsGuaranteed : Shogi → ℕ → Kind → ℕ → Type 0
+AreDropsGuaranteed p escapes kind squares =
+    (n : ℕ) → n < 81 → has_bit squares n ≡ true → GuaranteesReply p escapes (Drop kind n)
+
+-- the squares have all around a king of the side among them
+abbrev pub HasAroundKings : Cells → Color → ℕ → Type 0
+HasAroundKings cells side squares = (k n : ℕ) → k < 81 → n < 81
+    → is_king side (piece_at cells k) ≡ true → is_around k n ≡ true → has_bit squares n ≡ true
+
+-- a move of what stands on the square to that one begins out of sight and gives no check, and it cannot promote where promotions are not allowed
+pub record IsFarMove (p : Shogi) (king_view : ℕ) (promotes : Bool) (from n : ℕ) : Type 0 where
+  pub unseen : has_bit king_view from ≡ false
+  pub harmless : (promote : Bool)
+      → IsHarmless p.cells (opponent_of p.side) (piece_moved promote (piece_at p.cells from)) n
+  pub non_promoting : promotes ≡ false → may_promote (piece_at p.cells from) from n ≡ false
+
+-- what stands on the square reaches that one, and moves of the kind end there
+abbrev pub is_reached : Shogi → Bool → ℕ → ℕ → Bool
+is_reached p capture from n =
+    reaches p.cells from n && is_destination capture p.side (piece_at p.cells n)
+
+-- the role of what stands there is one of the roles, in which each has the bit of its number
+abbrev pub lets_promote : ℕ → Option Piece → Bool
+lets_promote roles None = false
+lets_promote roles (Some piece) = has_bit roles (role_number piece.role)
+
+-- the role of what stands there is one of the roles, unless the set has no square
+abbrev pub LetPromote : ℕ → Option Piece → ℕ → Type 0
+LetPromote roles cell set = (n : ℕ) → has_bit set n ≡ true → lets_promote roles cell ≡ true
+
+-- the filter has each move of the kind of what stands on the square, and each guarantees a reply
+pub record GuaranteesReplies (p : Shogi) (capture : Bool) (move_filter : MoveFilter) (from : ℕ) : Type 0 where
+  pub piece : has_bit move_filter.pieces.bits from ≡ true
+  pub non_promoting : (n : ℕ) → n < 81 → is_reached p capture from n ≡ true
+      → (has_bit move_filter.squares.bits n ≡ true) × GuaranteesReply p move_filter.escapes.bits (Board from n false)
+  pub promoting : (n : ℕ) → n < 81 → is_reached p capture from n ≡ true
+      → may_promote (piece_at p.cells from) from n ≡ true
+      → (lets_promote move_filter.promoting (piece_at p.cells from) ≡ true)
+      × GuaranteesReply p move_filter.escapes.bits (Board from n true)
+
+-- the same of what stands on each of the squares
+abbrev pub GuaranteeReplies : Shogi → Bool → MoveFilter → ℕ → Type 0
+GuaranteeReplies p capture move_filter squares =
+    (n : ℕ) → n < 81 → has_bit squares n ≡ true → GuaranteesReplies p capture move_filter n
+
+-- what stands on the squares makes such moves alone
+abbrev pub AreNonChecking : Shogi → ℕ → Bool → ℕ → Type 0
+AreNonChecking p king_view promotes squares = (a n : ℕ) → a < 81 → n < 81 → has_bit squares a ≡ true
+    → reaches p.cells a n ≡ true → IsFarMove p king_view promotes a n
+
+-- on those of the squares that are not in the set, the piece attacks no king of the side that is not to move
+abbrev pub ChecksAmong : Shogi → Option Piece → ℕ → ℕ → Type 0
+ChecksAmong p cell among set = (n : ℕ) → n < 81 → has_bit among n ≡ true → has_bit set n ≡ false
+    → IsHarmless p.cells (opponent_of p.side) cell n
+
+-- a legal move from the one square to the other gives no check where it attacks no king from where it ends
+abbrev pub DiscoversNoCheck : Shogi → ℕ → ℕ → Type 0
+DiscoversNoCheck p from to = (promote : Bool)
+    → IsHarmless p.cells (opponent_of p.side) (piece_moved promote (piece_at p.cells from)) to
+    → GivesNoCheck p (Board from to promote)

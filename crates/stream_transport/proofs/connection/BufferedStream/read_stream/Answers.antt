@@ -1,0 +1,102 @@
+use Rattle.std.proofs.Common.{◌≡◌, true, false, ◌++◌, length, take, refl, sym, subst, inr, ◌∙◌}
+use Rattle.std.proofs.KnownBytes.{Keeps-refl}
+use Rattle.usi_lines.specs.OneLine.{IsOneLine}
+use Rattle.stream_transport.proofs.Reading.{gives_line, gives_none, line_in_front, line_within, no_room, none_left, rest_fits, some_left}
+use Rattle.stream_transport.proofs.connection.BufferedStream.read_stream.Goals.{then-is_empty-via-then-is_empty, then-is_empty-via-else-is_empty+then-not-self}
+use Rattle.stream_transport.proofs.connection.BufferedStream.read_stream.Goals as goal
+
+-- nothing is asked
+pub returns-then-is_empty-clause-unread : goal.returns-then-is_empty-clause-unread
+returns-then-is_empty-clause-unread g c = gives_none g.S.Read.remaining c.args.self.now c.args.self.now refl (Keeps-refl (g.S.Read.remaining c.args.self.now.stream))
+
+pub returns-then-is_empty-clause-written : goal.returns-then-is_empty-clause-written
+returns-then-is_empty-clause-written g c = Keeps-refl (g.S.Write.contents c.args.self.now.stream)
+
+pub returns-then-is_empty-clause-asked : goal.returns-then-is_empty-clause-asked
+returns-then-is_empty-clause-asked g c = record {
+  called = λ may kept room. (let none : ⊥ = elim c.then-is_empty.branch [
+    | then-is_empty-via-then-is_empty w ↦ no_room (length c.args.buf.now) c.is_empty.result c.is_empty.ensures w.if-is_empty.true room
+    | then-is_empty-via-else-is_empty+then-not-self w ↦ (let t : c.args.self.now.readable ≡ true = may in let f : c.args.self.now.readable ≡ false = w.if-not-self.true in cc)
+  ] in absurd none);
+  awake = λ may found. may;
+  takes = λ may. may;
+}
+
+pub returns-in-Ok-eq0-clause-asked : goal.returns-in-Ok-eq0-clause-asked
+returns-in-Ok-eq0-clause-asked g c = record { called = λ may kept room. inr c.receive.ensures.called; awake = λ may found. may; takes = λ may. may }
+
+-- bytes came
+pub within-requires-clause-empty : goal.within-requires-clause-empty
+within-requires-clause-empty g c = c.in_ok-room.ensures.items
+
+pub within-requires-clause-some : goal.within-requires-clause-some
+within-requires-clause-some g c = some_left c.cut_line.result.1.now c.is_empty-in-Ok.result c.is_empty-in-Ok.ensures c.if-not-is_empty.true
+
+pub within-requires-clause-fits : goal.within-requires-clause-fits
+within-requires-clause-fits g c = rest_fits c.receive.new.buf c.cut_line.result.0.now c.cut_line.result.1.now c.in-Ok.n (length c.args.buf.now) _ (sym c.split_at.ensures.front ∙ c.cut_line.ensures.whole) c.in-Ok.ensures.bound.0 c.receive.auto.buf c.in_ok-room.ensures.capacity
+
+pub returns-then-not-is_empty-clause-within : goal.returns-then-not-is_empty-clause-within
+returns-then-not-is_empty-clause-within g c = line_within c.receive.new.buf c.split_at.result.0.now c.cut_line.result.0.now c.cut_line.result.1.now c.in-Ok.n c.split_at.ensures.front c.cut_line.ensures.whole c.in-Ok.n-test.1 c.in-Ok.ensures.bound.0 c.cut_line.ensures.shorter
+
+pub returns-then-not-is_empty-clause-line : goal.returns-then-not-is_empty-clause-line
+returns-then-not-is_empty-clause-line g c =
+    let is : take (length c.cut_line.result.0.now) c.receive.new.buf ≡ c.cut_line.result.0.now = line_in_front c.receive.new.buf c.cut_line.result.0.now c.cut_line.result.1.now c.in-Ok.n (sym c.split_at.ensures.front ∙ c.cut_line.ensures.whole) in
+    subst (λ xs. IsOneLine xs) (sym is) c.cut_line.ensures.one
+
+pub returns-then-not-is_empty-clause-unread : goal.returns-then-not-is_empty-clause-unread
+returns-then-not-is_empty-clause-unread g c =
+    let split : take c.in-Ok.n c.receive.new.buf ≡ c.cut_line.result.0.now ++ c.cut_line.result.1.now = sym c.split_at.ensures.front ∙ c.cut_line.ensures.whole in
+    gives_line g.S.Read.remaining c.args.self.now (record c.args.self.now { stream = c.receive.new.self; kept = c.within.result }) c.cut_line.result.0.now c.cut_line.result.1.now (take c.in-Ok.n c.receive.new.buf) (take (length c.cut_line.result.0.now) c.receive.new.buf) c.requires split (line_in_front c.receive.new.buf c.cut_line.result.0.now c.cut_line.result.1.now c.in-Ok.n split) c.within.ensures c.in-Ok.ensures.bytes.0
+
+pub returns-then-not-is_empty-clause-written : goal.returns-then-not-is_empty-clause-written
+returns-then-not-is_empty-clause-written g c = c.receive.ensures.written
+
+pub returns-then-not-is_empty-clause-asked : goal.returns-then-not-is_empty-clause-asked
+returns-then-not-is_empty-clause-asked g c = record { called = λ may kept room. inr c.receive.ensures.called; awake = λ may found. may; takes = λ may. may }
+
+pub returns-else-not-is_empty-clause-within : goal.returns-else-not-is_empty-clause-within
+returns-else-not-is_empty-clause-within g c = line_within c.receive.new.buf c.split_at.result.0.now c.cut_line.result.0.now c.cut_line.result.1.now c.in-Ok.n c.split_at.ensures.front c.cut_line.ensures.whole c.in-Ok.n-test.1 c.in-Ok.ensures.bound.0 c.cut_line.ensures.shorter
+
+pub returns-else-not-is_empty-clause-line : goal.returns-else-not-is_empty-clause-line
+returns-else-not-is_empty-clause-line g c =
+    let is : take (length c.cut_line.result.0.now) c.receive.new.buf ≡ c.cut_line.result.0.now = line_in_front c.receive.new.buf c.cut_line.result.0.now c.cut_line.result.1.now c.in-Ok.n (sym c.split_at.ensures.front ∙ c.cut_line.ensures.whole) in
+    subst (λ xs. IsOneLine xs) (sym is) c.cut_line.ensures.one
+
+pub returns-else-not-is_empty-clause-unread : goal.returns-else-not-is_empty-clause-unread
+returns-else-not-is_empty-clause-unread g c =
+    let split : take c.in-Ok.n c.receive.new.buf ≡ c.cut_line.result.0.now ++ c.cut_line.result.1.now = sym c.split_at.ensures.front ∙ c.cut_line.ensures.whole in
+    gives_line g.S.Read.remaining c.args.self.now (record c.args.self.now { stream = c.receive.new.self; kept = c.args.self.now.kept }) c.cut_line.result.0.now c.cut_line.result.1.now (take c.in-Ok.n c.receive.new.buf) (take (length c.cut_line.result.0.now) c.receive.new.buf) c.requires split (line_in_front c.receive.new.buf c.cut_line.result.0.now c.cut_line.result.1.now c.in-Ok.n split) (c.requires ∙ sym (none_left c.cut_line.result.1.now c.is_empty-in-Ok.result c.is_empty-in-Ok.ensures c.if-not-is_empty.false)) c.in-Ok.ensures.bytes.0
+
+pub returns-else-not-is_empty-clause-written : goal.returns-else-not-is_empty-clause-written
+returns-else-not-is_empty-clause-written g c = c.receive.ensures.written
+
+pub returns-else-not-is_empty-clause-asked : goal.returns-else-not-is_empty-clause-asked
+returns-else-not-is_empty-clause-asked g c = record { called = λ may kept room. inr c.receive.ensures.called; awake = λ may found. may; takes = λ may. may }
+
+-- none came
+pub returns-in-Err-clause-unread : goal.returns-in-Err-clause-unread
+returns-in-Err-clause-unread g c = gives_none g.S.Read.remaining c.args.self.now (record c.args.self.now { stream = c.receive.new.self; readable = false }) refl c.in-Err.ensures.bytes
+
+pub returns-in-Err-clause-written : goal.returns-in-Err-clause-written
+returns-in-Err-clause-written g c = c.receive.ensures.written
+
+pub returns-in-Err-clause-asked : goal.returns-in-Err-clause-asked
+returns-in-Err-clause-asked g c = record { called = λ may kept room. inr c.receive.ensures.called; awake = λ may found. absurd (found refl); takes = λ may. may }
+
+pub returns-in-Err-2-clause-unread : goal.returns-in-Err-2-clause-unread
+returns-in-Err-2-clause-unread g c = gives_none g.S.Read.remaining c.args.self.now (record c.args.self.now { stream = c.receive.new.self }) refl c.in-Err-2.ensures.bytes
+
+pub returns-in-Err-2-clause-written : goal.returns-in-Err-2-clause-written
+returns-in-Err-2-clause-written g c = c.receive.ensures.written
+
+pub returns-in-Err-2-clause-asked : goal.returns-in-Err-2-clause-asked
+returns-in-Err-2-clause-asked g c = record { called = λ may kept room. inr c.receive.ensures.called; awake = λ may found. may; takes = λ may. may }
+
+pub returns-clause-unread : goal.returns-clause-unread
+returns-clause-unread g c = gives_none g.S.Read.remaining c.args.self.now (record c.args.self.now { stream = c.receive.new.self }) refl c.in-Err-3.ensures.bytes
+
+pub returns-clause-written : goal.returns-clause-written
+returns-clause-written g c = c.receive.ensures.written
+
+pub returns-clause-asked : goal.returns-clause-asked
+returns-clause-asked g c = record { called = λ may kept room. inr c.receive.ensures.called; awake = λ may found. may; takes = λ may. may }

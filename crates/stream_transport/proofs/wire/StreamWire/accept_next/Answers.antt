@@ -1,0 +1,119 @@
+use Rattle.std.proofs.Common.{[], ◌∷◌, refl, ap, inr, ◌∙◌}
+use Rattle.std.specs.Io.KnownBytes.{Keeps}
+use Rattle.transport.proofs.Reported.{kept_same}
+use Rattle.stream_transport.specs.Streams.{Accept, KeepsElse}
+use Rattle.stream_transport.proofs.Asked.{asked_no_next}
+use Rattle.stream_transport.proofs.Outcomes.{cause_of_ok, not_below}
+use Rattle.stream_transport.proofs.Reports.{alike_keeps, comes}
+use Rattle.stream_transport.proofs.Waking.{same_alike, still_comes, still_same, still_then}
+use Rattle.stream_transport.proofs.wire.StreamWire.accept_next.Goals as goal
+
+-- the stream has the bytes that were told of its number
+pub returns-in-Ok-clause-unchanged : goal.returns-in-Ok-clause-unchanged
+returns-in-Ok-clause-unchanged g c =
+    let told = g.L.Listener.told in
+    let left = g.L.Stream.Read.remaining in
+    let taken = g.L.Stream.Write.contents in
+    let old = c.args.self.now in
+    let new = c.new.result in
+    let given : Keeps ((told old.listener).unread new.number) (left new.stream) × Keeps ((told old.listener).written new.number) (taken new.stream) = rw (c.new.ensures.number, c.new.ensures.stream) c.in-Ok.ensures.given in
+    let rest : KeepsElse (told old.listener) (told c.accept.new.self) new.number = rw c.new.ensures.number c.in-Ok.ensures.rest in
+    comes left taken (told old.listener) (told c.accept.new.self) old.places.items c.free_place.new.places.items c.put.new.places.items new.number new (same_alike old.places.items c.free_place.new.places.items c.free_place.ensures.same) c.insert.ensures.if_none c.insert.ensures.held c.insert.ensures.others given rest c.new.ensures.kept
+
+-- there is no place
+pub returns-then-place-clause-cause : goal.returns-then-place-clause-cause
+returns-then-place-clause-cause g c = (c.fault.ensures.rises, λ e. c.fault.ensures.risen)
+
+pub returns-then-place-clause-asks : goal.returns-then-place-clause-asks
+returns-then-place-clause-asks g c = asked_no_next _ _ c.fault.result (ap g.L.Listener.asked c.fault.ensures.listener)
+
+pub returns-then-place-clause-named : goal.returns-then-place-clause-named
+returns-then-place-clause-named g c = ap g.L.Listener.named c.fault.ensures.listener
+
+pub returns-then-place-clause-awake : goal.returns-then-place-clause-awake
+returns-then-place-clause-awake g c = rw c.fault.ensures.places (still_same c.args.self.now.places.items c.free_place.new.places.items c.free_place.ensures.same)
+
+pub returns-then-place-clause-opens : goal.returns-then-place-clause-opens
+returns-then-place-clause-opens g c = λ some. c.fault.ensures.opens
+
+pub returns-then-place-clause-unchanged : goal.returns-then-place-clause-unchanged
+returns-then-place-clause-unchanged g c =
+    let told = g.L.Listener.told in
+    let old = c.args.self.now in
+    rw (c.fault.ensures.listener, c.fault.ensures.places) (alike_keeps g.L.Stream.Read.remaining g.L.Stream.Write.contents (told old.listener) (told old.listener) old.places.items c.free_place.new.places.items (same_alike old.places.items c.free_place.new.places.items c.free_place.ensures.same) (kept_same (told old.listener)))
+
+-- the listener failed
+pub returns-in-Err-2-clause-cause : goal.returns-in-Err-2-clause-cause
+returns-in-Err-2-clause-cause g c = (c.fault-in-Err-2.ensures.rises, λ e. c.fault-in-Err-2.ensures.risen)
+
+pub returns-in-Err-2-clause-asks : goal.returns-in-Err-2-clause-asks
+returns-in-Err-2-clause-asks g c = record { asks = Accept ∷ []; asked = rw c.fault-in-Err-2.ensures.listener c.accept.ensures.asked; due = inr refl }
+
+pub returns-in-Err-2-clause-named : goal.returns-in-Err-2-clause-named
+returns-in-Err-2-clause-named g c = ap g.L.Listener.named c.fault-in-Err-2.ensures.listener ∙ c.accept.ensures.named
+
+pub returns-in-Err-2-clause-awake : goal.returns-in-Err-2-clause-awake
+returns-in-Err-2-clause-awake g c = rw c.fault-in-Err-2.ensures.places (still_same c.args.self.now.places.items c.free_place.new.places.items c.free_place.ensures.same)
+
+pub returns-in-Err-2-clause-opens : goal.returns-in-Err-2-clause-opens
+returns-in-Err-2-clause-opens g c = λ some. c.fault-in-Err-2.ensures.opens
+
+pub returns-in-Err-2-clause-unchanged : goal.returns-in-Err-2-clause-unchanged
+returns-in-Err-2-clause-unchanged g c =
+    let told = g.L.Listener.told in
+    let old = c.args.self.now in
+    rw (c.fault-in-Err-2.ensures.listener, c.fault-in-Err-2.ensures.places) (alike_keeps g.L.Stream.Read.remaining g.L.Stream.Write.contents (told old.listener) (told c.accept.new.self) old.places.items c.free_place.new.places.items (same_alike old.places.items c.free_place.new.places.items c.free_place.ensures.same) (c.in-Err-2.ensures.err))
+
+-- no memory for a place
+pub returns-in_err-place-clause-awake : goal.returns-in_err-place-clause-awake
+returns-in_err-place-clause-awake g c = still_same c.args.self.now.places.items c.free_place.new.places.items c.free_place.ensures.same
+
+pub returns-in_err-place-clause-unchanged : goal.returns-in_err-place-clause-unchanged
+returns-in_err-place-clause-unchanged g c =
+    let told = g.L.Listener.told in
+    let old = c.args.self.now in
+    alike_keeps g.L.Stream.Read.remaining g.L.Stream.Write.contents (told old.listener) (told old.listener) old.places.items c.free_place.new.places.items (same_alike old.places.items c.free_place.new.places.items c.free_place.ensures.same) (kept_same (told old.listener))
+
+-- the stream comes
+pub number_at-number-requires-clause-place : goal.number_at-number-requires-clause-place
+number_at-number-requires-clause-place g c = c.if-place.false
+
+pub insert-requires-clause-room : goal.insert-requires-clause-room
+insert-requires-clause-room g c = rw (c.new.ensures.number, c.number_at-number.ensures.place) c.in_ok-place.ensures.room
+
+pub insert-requires-clause-free : goal.insert-requires-clause-free
+insert-requires-clause-free g c = rw (c.new.ensures.number, c.number_at-number.ensures.place) c.in_ok-place.ensures.free
+
+pub returns-in-Ok-clause-cause : goal.returns-in-Ok-clause-cause
+returns-in-Ok-clause-cause g c = cause_of_ok _ c.args.self.now.failed c.args.self.now.failed (not_below c.args.self.now.failed)
+
+pub returns-in-Ok-clause-asks : goal.returns-in-Ok-clause-asks
+returns-in-Ok-clause-asks g c = record { asks = Accept ∷ []; asked = c.accept.ensures.asked; due = refl }
+
+pub returns-in-Ok-clause-named : goal.returns-in-Ok-clause-named
+returns-in-Ok-clause-named g c = c.accept.ensures.named
+
+pub returns-in-Ok-clause-awake : goal.returns-in-Ok-clause-awake
+returns-in-Ok-clause-awake g c = still_then c.args.self.now.places.items c.free_place.new.places.items c.put.new.places.items (still_same c.args.self.now.places.items c.free_place.new.places.items c.free_place.ensures.same) (still_comes c.free_place.new.places.items c.put.new.places.items c.new.result.number c.insert.ensures.others c.insert.ensures.if_none (rw c.insert.ensures.held c.new.ensures.awake))
+
+-- nobody waits
+pub returns-in-Err-clause-cause : goal.returns-in-Err-clause-cause
+returns-in-Err-clause-cause g c = cause_of_ok _ c.args.self.now.failed c.args.self.now.failed (not_below c.args.self.now.failed)
+
+pub returns-in-Err-clause-asks : goal.returns-in-Err-clause-asks
+returns-in-Err-clause-asks g c = record { asks = Accept ∷ []; asked = c.accept.ensures.asked; due = refl }
+
+pub returns-in-Err-clause-named : goal.returns-in-Err-clause-named
+returns-in-Err-clause-named g c = c.accept.ensures.named
+
+pub returns-in-Err-clause-awake : goal.returns-in-Err-clause-awake
+returns-in-Err-clause-awake g c = still_same c.args.self.now.places.items c.free_place.new.places.items c.free_place.ensures.same
+
+pub returns-in-Err-clause-opens : goal.returns-in-Err-clause-opens
+returns-in-Err-clause-opens g c = λ some. absurd (some refl)
+
+pub returns-in-Err-clause-unchanged : goal.returns-in-Err-clause-unchanged
+returns-in-Err-clause-unchanged g c =
+    let told = g.L.Listener.told in
+    let old = c.args.self.now in
+    alike_keeps g.L.Stream.Read.remaining g.L.Stream.Write.contents (told old.listener) (told c.accept.new.self) old.places.items c.free_place.new.places.items (same_alike old.places.items c.free_place.new.places.items c.free_place.ensures.same) c.in-Err.ensures.err

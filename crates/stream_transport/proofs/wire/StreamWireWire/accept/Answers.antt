@@ -1,0 +1,85 @@
+use Rattle.std.proofs.Common.{refl, ap, ◌∙◌}
+use Rattle.transport.proofs.Reported.{kept_then}
+use Rattle.stream_transport.specs.Held.{reported}
+use Rattle.stream_transport.proofs.Asked.{asked_next, asked_nobody, asked_unmoved}
+use Rattle.stream_transport.proofs.Outcomes.{cause_of_ok, cause_then, on_ok, stays_open}
+use Rattle.stream_transport.proofs.Reports.{alike_keeps, looked, unmoved}
+use Rattle.stream_transport.proofs.Waking.{awake_named, still_same, still_then}
+use Rattle.stream_transport.proofs.wire.StreamWireWire.accept.Goals as goal
+
+-- a look leaves all that is reported, and so does what is accepted
+pub returns-clause-unchanged : goal.returns-clause-unchanged
+returns-clause-unchanged g c =
+    let r = g.L.Stream.Read.remaining in
+    let t = g.L.Stream.Write.contents in
+    let told = g.L.Listener.told in
+    let old = c.args.self.now in
+    let looked = alike_keeps r t (told old.listener) (told c.look-looked.new.self) old.places.items c.remember.new.self.places.items c.mark_all_ready.ensures.alike c.look-looked.ensures.unchanged in
+    λ n. kept_then (reported r t (told old.listener) old.places.items) (reported r t (told c.look-looked.new.self) c.remember.new.self.places.items) (reported r t (told c.take_in.new.self.listener) c.take_in.new.self.places.items) n (looked n) (rw c.mark_all_ready.ensures.listener at c.accept_or_retry.ensures.unchanged n)
+
+-- a look, and then the next one who waits
+pub returns-clause-asks : goal.returns-clause-asks
+returns-clause-asks g c = asked_next _ _ _ _ _ _ c.look-looked.ensures.asked (rw c.mark_all_ready.ensures.listener at c.accept_or_retry.ensures.asks)
+
+pub returns-clause-number : goal.returns-clause-number
+returns-clause-number g c = rw c.mark_all_ready.ensures.next at c.accept_or_retry.ensures.number
+
+pub returns-clause-cause : goal.returns-clause-cause
+returns-clause-cause g c = cause_then c.args.self.now.failed c.remember.new.self.failed c.take_in.new.self.failed c.accept_or_retry.result c.mark_all_ready.ensures.cause.0 c.accept_or_retry.ensures.cause
+
+pub returns-clause-opens : goal.returns-clause-opens
+returns-clause-opens g c = stays_open c.accept_or_retry.result c.args.self.now.acceptable c.remember.new.self.acceptable c.take_in.new.self.acceptable c.accept_or_retry.ensures.opens c.if-not-self.false
+
+pub returns-clause-awake : goal.returns-clause-awake
+returns-clause-awake g c = on_ok c.accept_or_retry.result _ (awake_named (g.L.Listener.named c.remember.new.self.listener) (g.L.Listener.named c.take_in.new.self.listener) c.remember.new.self.places.items c.take_in.new.self.places.items c.accept_or_retry.ensures.named c.accept_or_retry.ensures.awake c.in_ok-remember.ensures.awake)
+
+pub returns-clause-still : goal.returns-clause-still
+returns-clause-still g c = still_then c.args.self.now.places.items c.remember.new.self.places.items c.take_in.new.self.places.items c.mark_all_ready.ensures.still c.accept_or_retry.ensures.awake
+
+pub accept_or_retry-requires : goal.accept_or_retry-requires
+accept_or_retry-requires g c = record { left = rw c.mark_all_ready.ensures.next c.if-self.false }
+
+-- nobody may wait
+pub returns-then-not-self-clause-unchanged : goal.returns-then-not-self-clause-unchanged
+returns-then-not-self-clause-unchanged g c =
+    let told = g.L.Listener.told in
+    looked g.L.Stream.Read.remaining g.L.Stream.Write.contents (told c.args.self.now.listener) (told c.look-looked.new.self) (told c.remember.new.self.listener) c.args.self.now.places.items c.remember.new.self.places.items (ap told c.mark_all_ready.ensures.listener) c.mark_all_ready.ensures.alike c.look-looked.ensures.unchanged
+
+pub returns-then-not-self-clause-cause : goal.returns-then-not-self-clause-cause
+returns-then-not-self-clause-cause g c = cause_of_ok _ c.args.self.now.failed c.remember.new.self.failed c.mark_all_ready.ensures.cause.0
+
+pub returns-then-not-self-clause-asks : goal.returns-then-not-self-clause-asks
+returns-then-not-self-clause-asks g c = asked_nobody c.args.self.now.acceptable c.remember.new.self.acceptable _ _ _ (rw (← c.mark_all_ready.ensures.listener) at c.look-looked.ensures.asked) c.mark_all_ready.ensures.opens c.in_ok-remember.ensures.named c.if-not-self.true
+
+pub returns-then-not-self-clause-awake : goal.returns-then-not-self-clause-awake
+returns-then-not-self-clause-awake g c = c.in_ok-remember.ensures.awake
+
+pub returns-then-not-self-clause-still : goal.returns-then-not-self-clause-still
+returns-then-not-self-clause-still g c = c.mark_all_ready.ensures.still
+
+-- a look that failed
+pub returns-in_err-remember-clause-unchanged : goal.returns-in_err-remember-clause-unchanged
+returns-in_err-remember-clause-unchanged g c =
+    let told = g.L.Listener.told in
+    looked g.L.Stream.Read.remaining g.L.Stream.Write.contents (told c.args.self.now.listener) (told c.look-looked.new.self) (told c.remember.new.self.listener) c.args.self.now.places.items c.remember.new.self.places.items (ap told c.mark_all_ready.ensures.listener) c.mark_all_ready.ensures.alike c.look-looked.ensures.unchanged
+
+pub returns-in_err-remember-clause-still : goal.returns-in_err-remember-clause-still
+returns-in_err-remember-clause-still g c = c.mark_all_ready.ensures.still
+
+-- no number is left
+pub returns-then-self-clause-unchanged : goal.returns-then-self-clause-unchanged
+returns-then-self-clause-unchanged g c =
+    let told = g.L.Listener.told in
+    unmoved g.L.Stream.Read.remaining g.L.Stream.Write.contents (told c.args.self.now.listener) (told c.fault.new.self.listener) c.args.self.now.places.items c.fault.new.self.places.items (ap told c.fault.ensures.listener) (ap (λ x. x.items) c.fault.ensures.places)
+
+pub returns-then-self-clause-cause : goal.returns-then-self-clause-cause
+returns-then-self-clause-cause g c = (c.fault.ensures.rises, λ e. c.fault.ensures.risen)
+
+pub returns-then-self-clause-asks : goal.returns-then-self-clause-asks
+returns-then-self-clause-asks g c = asked_unmoved c.args.self.now.acceptable _ _ _ c.fault.result (ap g.L.Listener.asked c.fault.ensures.listener)
+
+pub returns-then-self-clause-still : goal.returns-then-self-clause-still
+returns-then-self-clause-still g c = rw c.fault.ensures.places (still_same c.args.self.now.places.items c.args.self.now.places.items (λ n. refl))
+
+pub returns-then-self-clause-opens : goal.returns-then-self-clause-opens
+returns-then-self-clause-opens g c = λ may. c.fault.ensures.opens ∙ may

@@ -1,0 +1,61 @@
+use Rattle.std.proofs.Common.{◌≡◌, true, false, refl, ap}
+use Rattle.transport.proofs.Asked.{asks_none}
+use Rattle.transport.proofs.Reported.{kept_same}
+use Rattle.stream_transport.proofs.Asked.{more_goes, more_stays, waits_no_more, waits_not, waits_once}
+use Rattle.stream_transport.proofs.Outcomes.{cause_of_ok, not_below, on_ok_then}
+use Rattle.stream_transport.proofs.Reports.{looked}
+use Rattle.stream_transport.proofs.Waking.{still_same}
+use Rattle.stream_transport.proofs.wire.StreamWireWire.wait.Goals as goal
+
+pub returns-then-not-idle-clause-unchanged : goal.returns-then-not-idle-clause-unchanged
+returns-then-not-idle-clause-unchanged g c = λ n. kept_same _ n
+
+pub returns-then-not-idle-clause-cause : goal.returns-then-not-idle-clause-cause
+returns-then-not-idle-clause-cause g c = cause_of_ok _ c.args.self.now.failed c.args.self.now.failed (not_below c.args.self.now.failed)
+
+pub returns-then-not-idle-clause-asks : goal.returns-then-not-idle-clause-asks
+returns-then-not-idle-clause-asks g c = rw (waits_not c.args.idle c.args.self.now.has_buffered c.args.self.now.needs_timeout c.if-not-idle.true) (asks_none (g.L.Listener.asked c.args.self.now.listener))
+
+pub returns-then-not-idle-clause-awake : goal.returns-then-not-idle-clause-awake
+returns-then-not-idle-clause-awake g c = λ idle none. absurd (let t : c.args.idle ≡ true = idle in let f : c.args.idle ≡ false = c.if-not-idle.true in cc)
+
+pub returns-then-not-idle-clause-still : goal.returns-then-not-idle-clause-still
+returns-then-not-idle-clause-still g c = still_same c.args.self.now.places.items c.args.self.now.places.items (λ n. refl)
+
+pub returns-then-not-idle-clause-more : goal.returns-then-not-idle-clause-more
+returns-then-not-idle-clause-more g c = more_stays c.args.self.now.has_buffered c.args.idle c.if-not-idle.true
+
+pub returns-then-self-clause-unchanged : goal.returns-then-self-clause-unchanged
+returns-then-self-clause-unchanged g c = λ n. kept_same _ n
+
+pub returns-then-self-clause-cause : goal.returns-then-self-clause-cause
+returns-then-self-clause-cause g c = cause_of_ok _ c.args.self.now.failed c.args.self.now.failed (not_below c.args.self.now.failed)
+
+pub returns-then-self-clause-asks : goal.returns-then-self-clause-asks
+returns-then-self-clause-asks g c = rw (waits_no_more c.args.idle c.args.self.now.has_buffered c.args.self.now.needs_timeout c.if-self.true) (asks_none (g.L.Listener.asked c.args.self.now.listener))
+
+pub returns-then-self-clause-awake : goal.returns-then-self-clause-awake
+returns-then-self-clause-awake g c = λ idle none. absurd (let t : c.args.self.now.has_buffered ≡ true = c.if-self.true in let f : c.args.self.now.has_buffered ≡ false = none in cc)
+
+pub returns-then-self-clause-still : goal.returns-then-self-clause-still
+returns-then-self-clause-still g c = still_same c.args.self.now.places.items c.args.self.now.places.items (λ n. refl)
+
+pub returns-then-self-clause-more : goal.returns-then-self-clause-more
+returns-then-self-clause-more g c = more_goes c.args.self.now.has_buffered c.args.idle c.if-not-idle.false
+
+pub returns-clause-unchanged : goal.returns-clause-unchanged
+returns-clause-unchanged g c =
+    let told = g.L.Listener.told in
+    looked g.L.Stream.Read.remaining g.L.Stream.Write.contents (told c.args.self.now.listener) (told c.wait-looked.new.self) (told c.remember.new.self.listener) c.args.self.now.places.items c.remember.new.self.places.items (ap told c.mark_all_ready.ensures.listener) c.mark_all_ready.ensures.alike c.wait-looked.ensures.unchanged
+
+pub returns-clause-cause : goal.returns-clause-cause
+returns-clause-cause g c = c.mark_all_ready.ensures.cause
+
+pub returns-clause-asks : goal.returns-clause-asks
+returns-clause-asks g c = rw (c.mark_all_ready.ensures.listener, waits_once c.args.idle c.args.self.now.has_buffered c.args.self.now.needs_timeout c.if-not-idle.false c.if-self.false) (rw c.patience_for.ensures at c.wait-looked.ensures.asked)
+
+pub returns-clause-awake : goal.returns-clause-awake
+returns-clause-awake g c = on_ok_then c.mark_all_ready.result _ _ (λ awake idle none. awake) c.mark_all_ready.ensures.awake
+
+pub returns-clause-still : goal.returns-clause-still
+returns-clause-still g c = c.mark_all_ready.ensures.still

@@ -1,0 +1,87 @@
+-- The connections that a wire holds, and what it reports of them and of all others (own choice).
+use Rattle.std.specs.Prelude.{◌≡◌, ◌≢◌, ◌==◌, ◌%◌, ◌+◌, ◌-◌, ◌^◌, cond, length, min, nat_eq, not, ℕ, Bool, List, [], Option, None, Some, slice_index_or}
+use Rattle.std.specs.Io.KnownBytes.{Appends, Consumes, prepend_known}
+use Rattle.transport.specs.Report.{Report}
+use Rattle.stream_transport.specs.declared.connection.BufferedStream.{BufferedStream}
+use Rattle.stream_transport.specs.declared.connection.TheConstants.{PLACES}
+
+-- these bytes were counted too; the count stays at the greatest number once it is there
+abbrev pub counted : ℕ → List ℕ → ℕ
+counted count bytes = min (count + length bytes) (2 ^ 64 - 1)
+
+module _ {S A : Type 0} where
+  -- what has a place, where it has the number
+  abbrev pub of_number : ℕ → Option (BufferedStream S A) → Option (BufferedStream S A)
+  of_number number None = None
+  of_number number (Some connection) = cond (connection.number == number) (Some connection) None
+
+  -- the connection that is held under this number; it has the place of its remainder
+  abbrev pub held : List (Option (BufferedStream S A)) → ℕ → Option (BufferedStream S A)
+  held places number = of_number number (slice_index_or places (number % PLACES) None)
+
+  -- nothing has the place of this number
+  abbrev pub IsFree : List (Option (BufferedStream S A)) → ℕ → Type 0
+  IsFree places number = slice_index_or places (number % PLACES) None ≡ None
+
+  -- the bytes that reads of it will give: those that are kept, and those that the stream has
+  abbrev pub unread_of : (S → Option (List ℕ)) → BufferedStream S A → Option (List ℕ)
+  unread_of remaining connection = prepend_known connection.kept (remaining connection.stream)
+
+  -- the bytes that writes to it took
+  abbrev pub written_of : (S → Option (List ℕ)) → BufferedStream S A → Option (List ℕ)
+  written_of contents connection = contents connection.stream
+
+  -- reads of it gave these bytes
+  abbrev pub HasGiven : (S → Option (List ℕ)) → BufferedStream S A → BufferedStream S A → List ℕ → Type 0
+  HasGiven remaining old new bytes = Consumes (unread_of remaining old) (unread_of remaining new) bytes
+
+  -- writes to it took these bytes
+  abbrev pub HasTaken : (S → Option (List ℕ)) → BufferedStream S A → BufferedStream S A → List ℕ → Type 0
+  HasTaken contents old new bytes = Appends (written_of contents old) (written_of contents new) bytes
+
+  -- of a connection that is held its bytes, and else what is told
+  abbrev pub bytes_of : (BufferedStream S A → Option (List ℕ)) → Option (List ℕ)
+      → Option (BufferedStream S A) → Option (List ℕ)
+  bytes_of bytes told None = told
+  bytes_of bytes told (Some connection) = bytes connection
+
+  -- what is reported of each number, by what streams have left and hold, and by what the listener tells
+  abbrev pub reported : (remaining contents : S → Option (List ℕ)) → Report
+      → List (Option (BufferedStream S A)) → Report
+  reported remaining contents told places = record {
+    unread = λ number. bytes_of (unread_of remaining) (told.unread number) (held places number);
+    written = λ number. bytes_of (written_of contents) (told.written number) (held places number);
+    is_shut = told.is_shut;
+    has_failed = told.has_failed;
+  }
+
+  -- the bytes that were read under this number and are not given
+  abbrev pub kept_in : Option (BufferedStream S A) → List ℕ
+  kept_in None = []
+  kept_in (Some connection) = connection.kept
+
+  abbrev pub kept_of : List (Option (BufferedStream S A)) → ℕ → List ℕ
+  kept_of places number = kept_in (held places number)
+
+  abbrev pub has_kept : List (Option (BufferedStream S A)) → ℕ → Bool
+  has_kept places number = not (nat_eq (length (kept_of places number)) 0)
+
+  -- ---- what calls do to what is held
+
+  -- under these numbers is the same, but for what was seen of a stream
+  abbrev pub IsAlike : Option (BufferedStream S A) → Option (BufferedStream S A) → Type 0
+  IsAlike None new = new ≡ None
+  IsAlike (Some connection) None = ⊥
+  IsAlike (Some old) (Some new) = (new.stream ≡ old.stream) × (new.kept ≡ old.kept)
+
+  abbrev pub AreAlike : List (Option (BufferedStream S A)) → List (Option (BufferedStream S A)) → Type 0
+  AreAlike old new = (number : ℕ) → IsAlike (held old number) (held new number)
+
+  -- under all numbers is the same
+  abbrev pub HoldsAll : List (Option (BufferedStream S A)) → List (Option (BufferedStream S A)) → Type 0
+  HoldsAll old new = (number : ℕ) → held new number ≡ held old number
+
+  -- under all other numbers is the same
+  abbrev pub HoldsOthers : List (Option (BufferedStream S A)) → List (Option (BufferedStream S A)) → ℕ
+      → Type 0
+  HoldsOthers old new number = (other : ℕ) → other ≢ number → held new other ≡ held old other

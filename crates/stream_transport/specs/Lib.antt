@@ -1,0 +1,5 @@
+pub mod ReadBuffer
+pub mod Streams
+pub mod Held
+pub mod Asking
+pub mod Reporting

@@ -1,0 +1,30 @@
+-- What a wire of the code reports before and after a call, and what it counts (own choice).
+use Rattle.std.specs.Prelude.{◌≡◌, ℕ, List, Result}
+use Rattle.transport.specs.Report.{KeepsAll, Reads, Writes, Shuts, bytes_read, bytes_written}
+use Rattle.transport.specs.declared.wire.Got.{Got}
+use Rattle.transport.specs.declared.wire.Wire.{Ghosts}
+use Rattle.transport.specs.declared.wire.WireFault.{WireFault}
+use Rattle.stream_transport.specs.Held.{counted}
+use Rattle.stream_transport.specs.declared.wire.StreamWire.{StreamWire}
+
+module _ {W : Type 0} (wires : Ghosts W) (old new : W) where
+  abbrev pub KeepsReport : Type 0
+  KeepsReport = KeepsAll (wires.report old) (wires.report new)
+
+  abbrev pub ReportsRead : ℕ → Result Got WireFault → List ℕ → Type 0
+  ReportsRead number result buf = Reads (wires.report old) (wires.report new) number result buf
+
+  abbrev pub ReportsWrite : ℕ → Result ℕ WireFault → List ℕ → Type 0
+  ReportsWrite number result buf = Writes (wires.report old) (wires.report new) number result buf
+
+  abbrev pub ReportsShut : ℕ → Type 0
+  ReportsShut number = Shuts (wires.bound old) (wires.report old) (wires.report new) number
+
+module _ {L A S : Type 0} (old new : StreamWire L A S) where
+  -- the bytes that a read gave were counted
+  abbrev pub CountsRead : Result Got WireFault → List ℕ → Type 0
+  CountsRead result buf = new.received ≡ counted old.received (bytes_read result buf)
+
+  -- the bytes that a write took were counted
+  abbrev pub CountsWrite : Result ℕ WireFault → List ℕ → Type 0
+  CountsWrite result buf = new.sent ≡ counted old.sent (bytes_written result buf)

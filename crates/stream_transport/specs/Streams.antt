@@ -1,0 +1,81 @@
+-- What a listener tells of the connections that a wire does not hold, and what each of its calls does to that; and what it
+-- and its streams are asked for (own choice).
+use Rattle.std.specs.Prelude.{◌≡◌, ⊤, ℕ, Bool, List, Option, Some, Result, Ok, Err, slice_get}
+use Rattle.std.specs.Io.KnownBytes.{Keeps, ReadConsumes, WriteAppends, prepend_known}
+use Rattle.transport.specs.declared.wire.WireFault.{WireFault}
+use Rattle.transport.specs.Report.{Report, IsRaised, KeepsOthers, ReportsFailure, Stays}
+use Rattle.stream_transport.specs.declared.listener.Ready.{Ready}
+use Rattle.stream_transport.specs.declared.listener.Ready.TheVariants.{Listener}
+
+-- a call of a listener: who waits first, who may be ready now, and who may be ready, waited for no longer than for some
+-- time, or for any
+pub data Ask : Type 0 where
+  Accept : Ask
+  Look : Ask
+  Wait : (is_bounded : Bool) → Ask
+
+-- a look or a wait has named the listener: somebody may wait to be accepted
+abbrev pub NamesListener : List Ready → Type 0
+NamesListener named = (place : ℕ) × (slice_get named place ≡ Some Listener)
+
+-- all is told as it was, but for the bytes of this number
+pub record KeepsElse (old new : Report) (number : ℕ) : Type 0 where
+  pub shut : Stays (old.is_shut number) (new.is_shut number)
+  pub failed : Stays (old.has_failed number) (new.has_failed number)
+  pub others : KeepsOthers old new number
+
+-- a read of a stream gave the next ones of the bytes that it has left
+abbrev pub Receives : {S E : Type 0} → (S → Option (List ℕ)) → (old new : S)
+    → Result ℕ E → List ℕ → Type 0
+Receives remaining old new result buf = ReadConsumes (remaining old) (remaining new) result buf
+
+-- a write to a stream added to the bytes that it took
+abbrev pub Sends : {S E : Type 0} → (S → Option (List ℕ)) → (old new : S)
+    → Result ℕ E → List ℕ → Type 0
+Sends contents old new result buf = WriteAppends (contents old) (contents new) result buf
+
+-- what streams tell: the bytes that they took and have left, and how many bytes each call was about
+abbrev pub Streams : Type 0 → Type 0
+Streams S = record {
+  contents : S → Option (List ℕ);
+  remaining : S → Option (List ℕ);
+  calls : S → Option (List ℕ);
+}
+
+module _ {S : Type 0} (streams : Streams S) where
+  -- a stream that was handed out has the bytes that were told of this number, those to be read and those that it took
+  abbrev pub HandsOut : {E : Type 0} → Report → ℕ → Result S E → Type 0
+  HandsOut told number (Ok stream) =
+      Keeps (told.unread number) (streams.remaining stream)
+      × Keeps (told.written number) (streams.contents stream)
+  HandsOut told number (Err error) = ⊤
+
+  -- of this number the bytes of a stream are told, those to be read, behind some that are kept, and those that it took
+  pub record HasBack (told : Report) (number : ℕ) (kept : List ℕ) (stream : S) : Type 0 where
+    pub unread : Keeps (prepend_known kept (streams.remaining stream)) (told.unread number)
+    pub written : Keeps (streams.contents stream) (told.written number)
+
+-- it was told that a call of this number has failed, and of nothing else
+pub record IsToldFailed (old new : Report) (number : ℕ) : Type 0 where
+  pub unread : Keeps (old.unread number) (new.unread number)
+  pub written : Keeps (old.written number) (new.written number)
+  pub shut : Stays (old.is_shut number) (new.is_shut number)
+  pub failed : IsRaised (old.has_failed number) (new.has_failed number)
+  pub others : KeepsOthers old new number
+
+-- it was told that this number is shut, and of nothing else
+pub record IsToldShut (old new : Report) (number : ℕ) : Type 0 where
+  pub unread : Keeps (old.unread number) (new.unread number)
+  pub written : Keeps (old.written number) (new.written number)
+  pub shut : IsRaised (old.is_shut number) (new.is_shut number)
+  pub failed : Stays (old.has_failed number) (new.has_failed number)
+  pub others : KeepsOthers old new number
+
+-- it was told of a call of this number that failed, and else of nothing
+pub record Notes {T : Type 0} (old new : Report) (number : ℕ) (result : Result T WireFault)
+    : Type 0 where
+  pub unread : Keeps (old.unread number) (new.unread number)
+  pub written : Keeps (old.written number) (new.written number)
+  pub shut : Stays (old.is_shut number) (new.is_shut number)
+  pub failed : ReportsFailure result (old.has_failed number) (new.has_failed number)
+  pub others : KeepsOthers old new number

@@ -1,0 +1,13 @@
+//! A wire over any listener and its streams, and over a Unix socket.
+#![tactic(auto)]
+
+mod connection;
+mod kept;
+mod listener;
+mod places;
+mod sockets;
+mod wire;
+
+pub use listener::{ByteStream, Listener, Ready};
+pub use sockets::{MioListener, MioWire, watch_again};
+pub use wire::StreamWire;

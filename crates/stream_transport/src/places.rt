@@ -1,0 +1,132 @@
+//! The connections of a wire, each in the place of its number.
+
+ghost use Rattle.std.specs.Prelude.{◌≡◌, ◌<◌, ◌≤◌, ◌%◌, ◌^◌, ◌+◌, ◌-◌, None, Some, IfErr, IfOk, IfSome, is_some, true, length, slice_index_or, vec_len};
+ghost use Rattle.transport.specs.declared.wire.WireFault.TheVariants.{OutOfMemory};
+ghost use Rattle.stream_transport.specs.Asking.{IsAwake, IsQuiet};
+ghost use Rattle.stream_transport.specs.Held.{AreAlike, HoldsAll, HoldsOthers, IsFree, held};
+ghost use Rattle.stream_transport.specs.declared.connection.TheConstants.{PLACES};
+
+use crate::connection::{BufferedStream, PLACES};
+use crate::listener::ByteStream;
+use std::alloc::Allocator;
+use transport::WireFault;
+
+/// The place of a number.
+fn place_of(number: u64) -> usize
+    ensures { result ≡ number % PLACES }
+{
+    (number % PLACES) as usize
+}
+
+/// Whether a connection is held under this number.
+fn is_held<S: ByteStream, A: Allocator + Copy>(
+    places: &[Option<BufferedStream<S, A>>],
+    number: u64,
+) -> bool
+    ensures held { result ≡ is_some (held places.now number) }
+    ensures room { result ≡ true → number % PLACES < length places.now }
+{
+    let place = place_of(number);
+    if place >= places.len() {
+        return false;
+    }
+    match &places[place] {
+        Some(connection) => connection.number == number,
+        None => false,
+    }
+}
+
+/// Whether a connection is held under this number of which nothing is kept, and whose stream has said
+/// that it has nothing.
+pub fn is_quiet<S: ByteStream, A: Allocator + Copy>(
+    places: &[Option<BufferedStream<S, A>>],
+    number: u64,
+) -> bool
+    ensures { result ≡ true → IsQuiet (held places.now number) }
+{
+    match places.get(place_of(number)) {
+        Some(Some(connection)) => (connection.number == number)
+            & !connection.readable
+            & connection.kept.is_empty(),
+        _ => false,
+    }
+}
+
+/// Takes the connection of this number out of its place.
+pub fn remove<S: ByteStream, A: Allocator + Copy>(
+    places: &mut Vec<Option<BufferedStream<S, A>>, A>,
+    number: u64,
+) -> Option<BufferedStream<S, A>>
+    ensures out { result ≡ held places.old.items number }
+    ensures number { IfSome result (λ connection. connection.number ≡ number) }
+    ensures others { HoldsOthers places.old.items places.new.items number }
+    ensures if_none { held places.new.items number ≡ None }
+    ensures room { IfSome result (λ connection. number % PLACES < vec_len places.new) }
+    ensures free { IfSome result (λ connection. IsFree places.new.items number) }
+{
+    if !is_held(places.as_slice(), number) {
+        return None;
+    }
+    places[place_of(number)].take()
+}
+
+/// Puts a connection into its place, which is free.
+pub fn insert<S: ByteStream, A: Allocator + Copy>(
+    places: &mut Vec<Option<BufferedStream<S, A>>, A>,
+    connection: BufferedStream<S, A>,
+)
+    requires room { connection.number % PLACES < vec_len places.old }
+    requires free { IsFree places.old.items connection.number }
+    ensures held { held places.new.items connection.number ≡ Some connection }
+    ensures others { HoldsOthers places.old.items places.new.items connection.number }
+    ensures if_none { held places.old.items connection.number ≡ None }
+{
+    let place = place_of(connection.number);
+    places[place] = Some(connection);
+}
+
+/// The stream of this number may be ready.
+pub fn mark_ready<S: ByteStream, A: Allocator + Copy>(
+    places: &mut Vec<Option<BufferedStream<S, A>>, A>,
+    number: u64,
+)
+    ensures alike { AreAlike places.old.items places.new.items }
+    ensures awake { IsAwake (held places.new.items number) }
+    ensures others { HoldsOthers places.old.items places.new.items number }
+{
+    if let Some(mut connection) = remove(places, number) {
+        connection.readable = true;
+        connection.writable = true;
+        insert(places, connection);
+    }
+}
+
+/// A place that is free: the first one, or one more.
+pub fn free_place<S: ByteStream, A: Allocator + Copy>(
+    places: &mut Vec<Option<BufferedStream<S, A>>, A>,
+) -> Result<usize, WireFault>
+    ensures room { IfOk result (λ place. place < vec_len places.new) }
+    ensures free { IfOk result (λ place. slice_index_or places.new.items place None ≡ None) }
+    ensures same { HoldsAll places.old.items places.new.items }
+    ensures memory { IfErr result (λ fault. fault ≡ OutOfMemory) }
+{
+    for place in 0..places.len() {
+        if places[place].is_none() {
+            return Ok(place);
+        }
+    }
+    places.push(None)?;
+    Ok(places.len() - 1)
+}
+
+/// The least number from this one on that has this place.
+pub fn number_at(next: u64, place: u64) -> u64
+    requires left { next ≤ 2 ^ 64 - 1 - PLACES }
+    requires place { place < PLACES }
+    ensures least { next ≤ result }
+    ensures most { result < next + PLACES }
+    ensures place { result % PLACES ≡ place }
+{
+    let ahead = (place + PLACES - next % PLACES) % PLACES;
+    next + ahead
+}

@@ -1,0 +1,153 @@
+//! A wire over a Unix socket.
+
+ghost use Rattle.std.specs.Prelude.{◌≡◌, [], Err, IfOk};
+ghost use Rattle.transport.specs.declared.wire.WireFault.TheVariants.{Device};
+
+use crate::listener::{ByteStream, Listener, Ready};
+use crate::wire::StreamWire;
+use mio::net::{UnixListener, UnixStream};
+use mio::{Events, Interest, Poll, Registry, Token};
+use std::alloc::Allocator;
+use std::fs::Files;
+use std::io;
+use std::io::{Read, Write};
+use std::net::Net;
+use std::time::Duration;
+use transport::WireFault;
+
+/// How many events a poll may give: one for each connection of a full host, one for the listener, and one
+/// for a listener that is watched.
+const EVENTS: usize = 1026;
+
+/// The token of the listener. Those of streams are their numbers.
+const LISTENER: Token = Token(usize::MAX);
+
+/// The token of a listener that is watched beside it.
+const WATCHED: Token = Token(usize::MAX - 1);
+
+impl ByteStream for UnixStream {
+    fn receive(&mut self, buf: &mut [u8]) -> io::Result<usize> {
+        self.read(buf)
+    }
+
+    fn send(&mut self, buf: &[u8]) -> io::Result<usize> {
+        self.write(buf)
+    }
+}
+
+/// A Unix socket, and a poll that names its streams. It tells nothing.
+#[derive(Drop)]
+pub struct MioListener<A: Allocator> {
+    listener: UnixListener,
+    poll: Poll,
+    events: Events<A>,
+    // Whom the last poll named, in the room for all.
+    ready: Vec<Ready, A>,
+}
+
+impl<A: Allocator + Copy> MioListener<A> {
+    /// Polls, and remembers who was named.
+    fn look_for(&mut self, patience: Option<Duration>) -> io::Result<()> {
+        self.ready.clear();
+        self.poll.poll(&mut self.events, patience)?;
+        for event in self.events.iter() {
+            let token = event.token();
+            if token == WATCHED {
+                continue;
+            }
+            let _kept = self.ready.push(if token == LISTENER {
+                Ready::Listener
+            } else {
+                Ready::Stream(token.0 as u64)
+            });
+        }
+        Ok(())
+    }
+
+    /// Has a wait end too where somebody comes to this other listener, which names nobody. One listener
+    /// may be watched. The registry is for `watch_again`.
+    pub fn watch(&self, other: &mut UnixListener) -> io::Result<Registry> {
+        let registry = self.poll.registry();
+        registry.register(other, WATCHED, Interest::READABLE)?;
+        registry.try_clone()
+    }
+}
+
+/// Has the next wait end at once where somebody waits at the listener that is watched.
+pub fn watch_again(registry: &Registry, other: &mut UnixListener) -> io::Result<()> {
+    registry.reregister(other, WATCHED, Interest::READABLE)
+}
+
+impl<A: Allocator + Copy> Listener for MioListener<A> {
+    type Stream = UnixStream;
+
+    ghost named = { λ listener. listener.ready.items };
+
+    fn accept(&mut self, number: u64) -> io::Result<UnixStream> {
+        let (mut stream, _) = self.listener.accept()?;
+        let both_ways = Interest::READABLE | Interest::WRITABLE;
+        let registry = self.poll.registry();
+        registry.register(&mut stream, Token(number as usize), both_ways)?;
+        Ok(stream)
+    }
+
+    fn look(&mut self) -> io::Result<()> {
+        self.look_for(Some(Duration::ZERO))
+    }
+
+    fn wait(&mut self, patience: Option<Duration>) -> io::Result<()> {
+        self.look_for(patience)
+    }
+
+    fn found(&self) -> usize {
+        self.ready.len()
+    }
+
+    fn ready(&self, place: usize) -> Option<Ready> {
+        self.ready.get(place).copied()
+    }
+
+    fn fail(&mut self, _number: u64) {}
+
+    fn shut(&mut self, _number: u64) {}
+
+    fn take_back(&mut self, _number: u64, _stream: UnixStream, _kept: &[u8]) {}
+}
+
+/// The connections of a Unix socket.
+pub type MioWire<A> = StreamWire<MioListener<A>, A>;
+
+impl<A: Allocator + Copy> StreamWire<MioListener<A>, A> {
+    /// Makes a socket at the path, and listens. `Device` where the system refuses it, as for a path that
+    /// exists, and where the path is empty; no wire counts it, as there is none yet.
+    pub fn bind<R: Files + Net>(rt: &R, alloc: A, path: &str) -> Result<MioWire<A>, WireFault>
+        ensures unnamed { path.now ≡ [] → result ≡ Err Device }
+        ensures unused { IfOk result (λ wire. (wire.next ≡ 0) × (wire.failed ≡ 0)) }
+    {
+        if path.is_empty() {
+            return Err(WireFault::Device);
+        }
+        let events = Events::with_capacity(alloc, EVENTS)?;
+        let ready = Vec::with_capacity(alloc, EVENTS)?;
+        let Ok(poll) = Poll::new(rt) else {
+            return Err(WireFault::Device);
+        };
+        let Ok(mut listener) = UnixListener::bind(rt, path) else {
+            return Err(WireFault::Device);
+        };
+        let registry = poll.registry();
+        if registry
+            .register(&mut listener, LISTENER, Interest::READABLE)
+            .is_err()
+        {
+            return Err(WireFault::Device);
+        }
+        let listener = MioListener {
+            listener,
+            poll,
+            events,
+            ready,
+        };
+        Ok(StreamWire::new(alloc, listener))
+    }
+}

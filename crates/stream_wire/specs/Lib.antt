@@ -1,5 +1,0 @@
-pub mod Kept
-pub mod Streams
-pub mod Held
-pub mod Asking
-pub mod Reporting

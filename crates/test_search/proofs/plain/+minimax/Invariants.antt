@@ -1,0 +1,11 @@
+use Rattle.std.proofs.Common.{◌≡◌, length}
+use Rattle.test_search.proofs.plain.+minimax.Given as goal
+
+abbrev pub decreases-minimax : goal.decreases-minimax
+decreases-minimax l = l.depth
+
+abbrev pub invariant-moves : goal.invariant-moves
+invariant-moves l = l.walk.position ≡ l.p
+
+abbrev pub decreases-moves : goal.decreases-moves
+decreases-moves l = length l.walk.codes

@@ -1,0 +1,153 @@
+//! Lists of several lines, each child searched below the bound that its place in the list needs: against a
+//! plain ranking, and in how many steps.
+
+use crate::plain::{Branch, Notes, branches_of, minimax, search_plainly_below};
+use crate::positions::{each_twentieth, position};
+use crate::ranks::TestRanks;
+use crate::searches::{has_few, search_below};
+use crate::tables::table_of;
+use shogi_core::{Move, Position};
+use shogi_eval::Eval;
+use shogi_search::{INFINITY, Memo, NoMemo};
+use std::alloc::Global;
+use std::process::Abort;
+use std::test::Fail;
+use test_support::{games, holds, same};
+
+// The end of the window of the next child.
+fn child_beta(ranks: &TestRanks) -> i32 {
+    match ranks.move_alpha() {
+        Some(value) => value.saturating_neg(),
+        None => INFINITY,
+    }
+}
+
+// Searches the position after a move below its bound, and lists the move where it is worth more than
+// the last line. Gives the bound and the steps.
+fn take_in<M: Memo>(
+    rt: &impl Abort,
+    ranks: &mut TestRanks,
+    branch: &Branch,
+    e: Eval,
+    depth: u8,
+    memo: &mut M,
+) -> (i32, u64) {
+    let beta = child_beta(ranks);
+    let found = search_below(&branch.position, e, depth, beta, memo);
+    if found.value < beta {
+        let m = Move::of_code(branch.code).expect(rt, "a move");
+        ranks.offer(rt, m, found.value.saturating_neg());
+    }
+    (beta, found.steps)
+}
+
+// A move of the code and the worth stands on the line: so many other moves are worth more, or as much
+// and have a lesser code.
+fn assert_line(rt: &impl Abort, worths: &[(u16, i32)], line: usize, listed: (u16, i32)) {
+    let mut ahead: usize = 0;
+    let mut is_worth = false;
+    for (code, worth) in worths {
+        if *worth > listed.1 || (*worth == listed.1 && *code < listed.0) {
+            ahead = ahead.saturating_add(1);
+        }
+        if *code == listed.0 {
+            is_worth = *worth == listed.1;
+        }
+    }
+    holds!(*rt; is_worth, line);
+    same!(*rt; ahead, line, line);
+}
+
+// The list of a position at a depth has the first of its moves, ranked by plain minimax.
+fn assert_ranked<M: Memo>(
+    rt: &impl Abort,
+    alloc: Global,
+    p: &Position,
+    depth: u8,
+    lines: usize,
+    memo: &mut M,
+) -> Result<(), Fail> {
+    let mut ranks = TestRanks::new(lines);
+    let mut worths = Vec::new(alloc);
+    for branch in branches_of(alloc, p, [None; 6])?.as_slice() {
+        take_in(rt, &mut ranks, branch, Eval::Plain, depth, memo);
+        let plain = minimax(&branch.position, Eval::Plain, depth);
+        worths.push((branch.code, plain.value.saturating_neg()))?;
+    }
+    same!(*rt; ranks.list().len(), worths.len().min(lines));
+    for (line, (m, value)) in ranks.list().iter().enumerate() {
+        assert_line(rt, worths.as_slice(), line, (m.code(), *value));
+    }
+    Ok(())
+}
+
+// Each twentieth position of a game, at depths 1 and 2, and at 3 where two plies have few paths.
+fn walk(rt: &impl Abort, alloc: Global, moves: &[&str]) -> Result<(), Fail> {
+    let mut table = table_of(alloc, 1000)?;
+    for p in each_twentieth(rt, alloc, moves)?.as_slice() {
+        for below in 0..3u8 {
+            if has_few(p, below, 1000) {
+                for lines in [1usize, 2, 4, 8] {
+                    assert_ranked(rt, alloc, p, below, lines, &mut NoMemo)?;
+                    assert_ranked(rt, alloc, p, below, lines, &mut table)?;
+                }
+            }
+        }
+    }
+    Ok(())
+}
+
+#[test]
+fn lines_of_the_first_game(rt: HostRuntime) -> Result<(), Fail> {
+    walk(&rt, rt.alloc(), games::first())
+}
+
+#[test]
+fn lines_of_the_second_game(rt: HostRuntime) -> Result<(), Fail> {
+    walk(&rt, rt.alloc(), games::second())
+}
+
+// The children of a position take the steps of the plain search below the same bounds.
+fn assert_steps(
+    rt: &impl Abort,
+    alloc: Global,
+    p: &Position,
+    depth: u8,
+    lines: usize,
+) -> Result<(), Fail> {
+    let mut ranks = TestRanks::new(lines);
+    let mut notes = Notes::new(alloc, 0, false);
+    let mut steps: u64 = 0;
+    for branch in branches_of(alloc, p, [None; 6])?.as_slice() {
+        let (beta, made) = take_in(rt, &mut ranks, branch, Eval::Plain, depth, &mut NoMemo);
+        steps = steps.saturating_add(made);
+        let p = &branch.position;
+        search_plainly_below(alloc, p, Eval::Plain, depth, beta, &mut notes)?;
+    }
+    same!(*rt; steps, notes.steps, lines);
+    Ok(())
+}
+
+// The same for lists of 1, 2, 4 and 8 lines.
+fn assert_steps_of_lines(
+    rt: &impl Abort,
+    alloc: Global,
+    p: &Position,
+    depth: u8,
+) -> Result<(), Fail> {
+    for lines in [1usize, 2, 4, 8] {
+        assert_steps(rt, alloc, p, depth, lines)?;
+    }
+    Ok(())
+}
+
+#[test]
+fn steps_of_several_lines_from_the_opening(rt: HostRuntime) -> Result<(), Fail> {
+    assert_steps_of_lines(&rt, rt.alloc(), &Position::start(), 3)
+}
+
+#[test]
+fn steps_of_several_lines_in_a_middle_game(rt: HostRuntime) -> Result<(), Fail> {
+    let sfen = "l6nl/5+P1gk/2np1S3/p1p4Pp/3P2Sp1/1PPb2P1P/P5GS1/R8/LN4bKL w RGgsn5p";
+    assert_steps_of_lines(&rt, rt.alloc(), &position(sfen)?, 2)
+}

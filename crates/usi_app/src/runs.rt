@@ -1,0 +1,94 @@
+//! What the program does over a front end.
+
+ghost use Rattle.std.specs.Prelude.{◌≡◌, ◌≤◌};
+ghost use Rattle.session_slots.specs.declared.limits.TheConstants.{SESSIONS_MAX};
+ghost use Rattle.shared_table.specs.declared.table.TheConstants.{CAPACITY_MAX};
+ghost use Rattle.usi_app.specs.Runs.{IsPrint, IsReplay, IsSession, ended_status, replay_status};
+
+use std::alloc::Allocator;
+use usi_replay::{ReplayFault, replay_with_setup};
+use usi_stdio::{FrontEnd, StdioFault, stdio_with_setup, write_out};
+use usi_texts::Setup;
+
+/// The status of what was done.
+pub const DONE: u8 = 0;
+
+/// The status of a run that ended early.
+pub const FAULT: u8 = 1;
+
+/// The status of a script that has a bad line.
+const BAD_SCRIPT: u8 = 3;
+
+/// Tells standard error why a run ended early, if it did, and gives the status.
+fn status_of_run<E: Eprint>(errors: &E, ended: &Result<(), StdioFault>) -> u8
+    ensures { result ≡ ended_status ended.now }
+{
+    match ended {
+        Ok(()) => DONE,
+        Err(fault) => {
+            let _ = eprintln!(errors; "usi_host: {fault}");
+            FAULT
+        }
+    }
+}
+
+/// The status of a script that was not replayed.
+fn status_of(fault: &ReplayFault) -> u8
+    ensures { result ≡ replay_status fault.now }
+{
+    match fault {
+        ReplayFault::BadScript { .. } => BAD_SCRIPT,
+        _ => FAULT,
+    }
+}
+
+/// One session under a setup over a front end. Gives the status, and tells standard error of a fault.
+pub fn session<E: Eprint, A: Allocator + Copy, T: FrontEnd>(
+    errors: &E,
+    alloc: A,
+    setup: Setup,
+    front_end: &mut T,
+    entries: usize,
+) -> u8
+    requires least { 1 ≤ entries }
+    requires most { entries ≤ CAPACITY_MAX }
+    ensures { IsSession setup (T.report front_end.old) (T.report front_end.new) result }
+{
+    let ended = stdio_with_setup(alloc, setup, front_end, entries);
+    status_of_run(errors, &ended)
+}
+
+/// A script over a front end, which has its output, with sessions under a setup. Gives the status,
+/// and tells standard error of a fault.
+pub fn script<E: Eprint, A: Allocator + Copy, T: FrontEnd>(
+    errors: &E,
+    alloc: A,
+    setup: Setup,
+    front_end: &mut T,
+    slots: usize,
+    entries: usize,
+    slice: u64,
+) -> u8
+    requires least_slots { 1 ≤ slots }
+    requires most_slots { slots ≤ SESSIONS_MAX }
+    requires least_entries { 1 ≤ entries }
+    requires most_entries { entries ≤ CAPACITY_MAX }
+    requires least_slice { 1 ≤ slice }
+    ensures { IsReplay setup slots (T.report front_end.old) (T.report front_end.new) result }
+{
+    match replay_with_setup(alloc, setup, front_end, slots, entries, slice) {
+        Ok(()) => DONE,
+        Err(fault) => {
+            let _ = eprintln!(errors; "usi_host: {fault}");
+            status_of(&fault)
+        }
+    }
+}
+
+/// Writes a text that was asked for. Gives the status, and tells standard error of a fault.
+pub fn print_out<E: Eprint, T: FrontEnd>(errors: &E, front_end: &mut T, text: &[u8]) -> u8
+    ensures { IsPrint text.now (T.report front_end.old) (T.report front_end.new) result }
+{
+    let ended = write_out(front_end, text);
+    status_of_run(errors, &ended)
+}

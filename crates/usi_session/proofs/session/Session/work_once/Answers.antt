@@ -1,0 +1,81 @@
+use Rattle.std.proofs.Common.{ℕ, ◌+◌, ◌≤◌, [], arith}
+use Rattle.usi_lines.specs.Lines.{ahead}
+use Rattle.usi_session.proofs.Steps.{both_none, fewer_searched, keeps_searched, made_searched, spent_searched, told_searched}
+use Rattle.usi_session.proofs.TellsLaws.{none_called, none_ended}
+use Rattle.usi_session.proofs.session.Session.work_once.Goals as goal
+
+-- a search makes no more steps than it was given
+pub returns-then-is_searching-clause-most : goal.returns-then-is_searching-clause-most
+returns-then-is_searching-clause-most g c = c.advance.ensures.most
+
+-- where no search is running none ends
+pub returns-in_err-answer_next-in-None-clause-told : goal.returns-in_err-answer_next-in-None-clause-told
+returns-in_err-answer_next-in-None-clause-told g c = rw (← c.self.view_is) (none_ended _ _ _ _ _ (none_called _ _) c.answer_next.ensures.roots)
+
+pub returns-in_err-report_next-in-Some-clause-told : goal.returns-in_err-report_next-in-Some-clause-told
+returns-in_err-report_next-in-Some-clause-told g c = rw (← c.self.view_is, c.in-Some.is) (none_ended _ _ _ _ _ (none_called _ _) c.report_next.ensures.roots)
+
+pub returns-in_ok-answer_next-in-None-clause-told : goal.returns-in_ok-answer_next-in-None-clause-told
+returns-in_ok-answer_next-in-None-clause-told g c = rw (← c.self.view_is) (none_ended _ _ _ _ _ (none_called _ _) c.answer_next.ensures.roots)
+
+pub returns-in_ok-report_next-in-Some-clause-told : goal.returns-in_ok-report_next-in-Some-clause-told
+returns-in_ok-report_next-in-Some-clause-told g c = rw (← c.self.view_is, c.in-Some.is) (none_ended _ _ _ _ _ (none_called _ _) c.report_next.ensures.roots)
+
+pub returns-then-is_searching-clause-kept : goal.returns-then-is_searching-clause-kept
+returns-then-is_searching-clause-kept g c =
+    let s = c.self.inside in
+    rw (← c.self.view_is) (keeps_searched s.state s.queue s.input c.in-Some.go_task c.advance.new.self s.go_task c.args.budget c.advance.result c.in-Some.is c.advance.ensures.unchanged c.advance.ensures.spent c.advance.ensures.made)
+
+pub returns-then-is_searching-clause-spent : goal.returns-then-is_searching-clause-spent
+returns-then-is_searching-clause-spent g c =
+    let s = c.self.inside in
+    rw (← c.self.view_is) (spent_searched c.args.budget c.advance.result s.state c.in-Some.go_task c.advance.new.self s.go_task (ahead s.input []) c.in-Some.is c.advance.ensures.unchanged c.advance.ensures.spent)
+
+pub returns-then-is_searching-clause-made : goal.returns-then-is_searching-clause-made
+returns-then-is_searching-clause-made g c =
+    let s = c.self.inside in
+    rw (← c.self.view_is) (made_searched c.advance.result s.state c.in-Some.go_task c.advance.new.self s.go_task (ahead s.input []) c.in-Some.is c.advance.ensures.unchanged c.advance.ensures.made)
+
+pub returns-then-is_searching-clause-fewer : goal.returns-then-is_searching-clause-fewer
+returns-then-is_searching-clause-fewer g c =
+    let s = c.self.inside in
+    rw (← c.self.view_is) (fewer_searched c.advance.result s.state s.queue s.input c.in-Some.go_task c.advance.new.self s.go_task c.in-Some.is c.advance.ensures.unchanged c.advance.ensures.fewer)
+
+pub returns-then-is_searching-clause-told : goal.returns-then-is_searching-clause-told
+returns-then-is_searching-clause-told g c =
+    let s = c.self.inside in
+    rw (← c.self.view_is) (told_searched _ _ _ s.state c.in-Some.go_task c.advance.new.self s.go_task (ahead s.input []) c.in-Some.is c.advance.ensures.unchanged c.advance.ensures.told)
+
+pub returns-then-is_searching-clause-unfinished : goal.returns-then-is_searching-clause-unfinished
+returns-then-is_searching-clause-unfinished g c = both_none _ _ c.advance.result c.advance.ensures.stays c.advance.ensures.unfinished
+
+pub returns-then-is_searching-clause-capacity : goal.returns-then-is_searching-clause-capacity
+returns-then-is_searching-clause-capacity g c = c.advance.ensures.capacity
+
+-- what needs no steps
+none_made : (left most : ℕ) → left ≤ most → 0 + left ≤ most
+none_made left most less = omega arith
+
+pub returns-in_ok-answer_next-in-None-clause-kept : goal.returns-in_ok-answer_next-in-None-clause-kept
+returns-in_ok-answer_next-in-None-clause-kept g c = rw (← c.self.view_is) c.answer_next.ensures.kept
+
+pub returns-in_ok-answer_next-in-None-clause-made : goal.returns-in_ok-answer_next-in-None-clause-made
+returns-in_ok-answer_next-in-None-clause-made g c = rw (← c.self.view_is) (none_made _ _ c.answer_next.ensures.kept.load_most)
+
+pub returns-in_ok-answer_next-in-None-clause-fewer : goal.returns-in_ok-answer_next-in-None-clause-fewer
+returns-in_ok-answer_next-in-None-clause-fewer g c = rw (← c.self.view_is) c.in_ok-answer_next-in-None.ensures.fewer
+
+pub returns-in_ok-report_next-in-Some-clause-kept : goal.returns-in_ok-report_next-in-Some-clause-kept
+returns-in_ok-report_next-in-Some-clause-kept g c = rw (← c.self.view_is, c.in-Some.is) c.report_next.ensures.kept
+
+pub returns-in_ok-report_next-in-Some-clause-made : goal.returns-in_ok-report_next-in-Some-clause-made
+returns-in_ok-report_next-in-Some-clause-made g c = rw (← c.self.view_is, c.in-Some.is) (none_made _ _ c.report_next.ensures.kept.load_most)
+
+pub returns-in_ok-report_next-in-Some-clause-fewer : goal.returns-in_ok-report_next-in-Some-clause-fewer
+returns-in_ok-report_next-in-Some-clause-fewer g c = rw (← c.self.view_is, c.in-Some.is) c.in_ok-report_next-in-Some.ensures.fewer
+
+pub returns-in_err-answer_next-in-None-clause-kept : goal.returns-in_err-answer_next-in-None-clause-kept
+returns-in_err-answer_next-in-None-clause-kept g c = rw (← c.self.view_is) c.answer_next.ensures.kept
+
+pub returns-in_err-report_next-in-Some-clause-kept : goal.returns-in_err-report_next-in-Some-clause-kept
+returns-in_err-report_next-in-Some-clause-kept g c = rw (← c.self.view_is, c.in-Some.is) c.report_next.ensures.kept
