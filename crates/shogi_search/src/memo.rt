@@ -24,7 +24,7 @@ pub trait Memo {
 
     /// Whether a search asks for the nodes of the depth below its root, and notes them. That costs or
     /// saves time, and changes nothing else. Nodes with one ply left or none are never asked for below
-    /// the root.
+    /// the root. A node of depth 2 that is known exactly is noted all the same.
     fn serves(&self, _d: u8) -> bool {
         true
     }

@@ -18,8 +18,8 @@ use shogi_core::{Move, Position};
 use shogi_eval::{Eval, Node};
 use shogi_moves::is_legal;
 
-/// The least depth of a root whose best line is kept in use, and whose moves after the first best
-/// one are asked under narrow windows: at lesser ones that costs more than it saves.
+/// The least depth of a root whose best line is kept in use: at lesser ones that costs more than it
+/// saves.
 const DEEP_ROOT_MIN: u8 = 5;
 
 /// The root of a search, its evaluation, its depth and the end of its window, and the nodes that
@@ -82,6 +82,18 @@ pub fn answer_at_once(node: &Node, depth: u8, alpha: i32, beta: i32) -> Entry
         return Entry::Exact(leaf(node), None);
     }
     last_ply(node, alpha, beta)
+}
+
+/// Whether a root's moves after the first best one are asked under narrow windows: at the depths where
+/// that saves more than it costs.
+fn is_narrowed(depth: u8) -> bool {
+    depth == 3 || depth >= DEEP_ROOT_MIN
+}
+
+/// Whether the memo is told of a node below the root at a depth that does not serve it. Few of depth 2
+/// are known exactly, and those on the best line are searched again as it is followed.
+fn is_noted_anyway(depth: u8, entry: &Entry) -> bool {
+    depth == 2 && matches!(entry, Entry::Exact(_, _))
 }
 
 /// What every node of the depth is worth at least or at most, where that is enough for the window.
@@ -151,7 +163,7 @@ fn child_hash_move_of<M: Memo>(p: &Position, e: Eval, depth: u8, memo: &mut M) -
 }
 
 impl Stack {
-    /// Where a root is on top that is deep enough and has a best move, its window ends one above
+    /// Where a root is on top that is narrowed and has a best move, its window ends one above
     /// what that is worth: a child that is worth more is only known to be, and is entered again.
     fn narrow(&mut self)
         requires stack { IsStack self.old }
@@ -162,7 +174,7 @@ impl Stack {
         ensures left { steps_left self.new ≡ steps_left self.old }
         ensures unchanged { KeepsGoal self.old self.new }
     {
-        if self.height > 0 || self.depth < DEEP_ROOT_MIN {
+        if self.height > 0 || !is_narrowed(self.depth) {
             return;
         }
         let root = &self.frames[self.height];
@@ -360,7 +372,8 @@ impl Stack {
         }
     }
 
-    /// Tells the memo what is known of the node on top, where that is the root or serves the memo.
+    /// Tells the memo what is known of the node on top, where that is the root, serves the memo, or is
+    /// noted anyway.
     fn store_top<M: Memo>(&self, entry: &Entry, memo: &mut M)
         requires stack { IsStack self.now }
         requires truth { OnTop self.now (λ top. IsTrueOf top entry.now) }
@@ -369,7 +382,7 @@ impl Stack {
         ensures capacity { M.capacity memo.new ≡ M.capacity memo.old }
     {
         let top = &self.frames[self.height];
-        if self.height == 0 || memo.serves(top.depth) {
+        if self.height == 0 || memo.serves(top.depth) || is_noted_anyway(top.depth, entry) {
             memo.note(top.node.as_position(), top.node.eval(), top.depth, *entry);
         }
     }

@@ -31,7 +31,7 @@ pub struct Notes {
     kept: Vec<Kept>,
     most: usize,
     /// Whether each node that is entered is asked for and noted, where nothing is kept too. Else there
-    /// the root alone is.
+    /// the root alone is, and a node of depth 2 is noted where all is known of it.
     asks_all: bool,
     /// The depth of the search.
     whole: u8,
@@ -214,16 +214,16 @@ impl Notes {
         self.keep(kept)
     }
 
-    /// The same, where that is so.
-    fn note_where(
+    /// The same of a node below the root: where its depth serves, and at depth 2 where all is known.
+    fn note_below(
         &mut self,
-        is_so: bool,
         p: &Position,
         e: Eval,
         depth: u8,
         known: Known,
     ) -> Result<(), AllocError> {
-        if is_so {
+        let is_exact = matches!(&known, Known::Exact(_, _));
+        if depth > 1 && self.serves(depth) || depth == 2 && is_exact {
             return self.note(p, e, depth, known);
         }
         Ok(())
@@ -900,10 +900,10 @@ fn at_once(p: &Position, e: Eval, depth: u8, alpha: i32, beta: i32) -> Known {
     Known::Exact(found.value, best)
 }
 
-/// Where the window of a child begins: at a deep root that has a best move, so high that one that is
-/// worth more than that is only known to be.
-fn first_end(is_deep_root: bool, best: Option<u16>, best_value: i32, under: i32) -> i32 {
-    if is_deep_root && best.is_some() {
+/// Where the window of a child begins: at a root that is narrowed and has a best move, so high that one
+/// that is worth more than that is only known to be.
+fn first_end(is_narrowed: bool, best: Option<u16>, best_value: i32, under: i32) -> i32 {
+    if is_narrowed && best.is_some() {
         return under.max(best_value.saturating_neg().saturating_sub(1));
     }
     under
@@ -928,6 +928,7 @@ fn visit(
     notes.step(2);
     let below = depth - 1;
     let is_deep_root = depth == notes.whole && depth >= 5;
+    let is_narrowed = is_deep_root || depth == notes.whole && depth == 3;
     let mut hash_move = None;
     if notes.has_hash_move(depth) {
         if let Some(Known::Exact(_, best)) = notes.ask(p, e, below)? {
@@ -965,14 +966,14 @@ fn visit(
                     Some(entry) => entry,
                     None => {
                         let (next, led) = (&branch.position, place_of(branch.put, branch.to));
-                        let first = first_end(is_deep_root, best, best_value, under);
+                        let first = first_end(is_narrowed, best, best_value, under);
                         let mut entry = visit(alloc, next, e, below, first, over, led, notes)?;
-                        notes.note_where(is_asked, next, e, below, entry)?;
+                        notes.note_below(next, e, below, entry)?;
                         // It is left and entered again in one step.
                         if !is_conclusive(&entry, under, over) {
                             notes.steps = notes.steps.saturating_sub(1);
                             entry = visit(alloc, next, e, below, under, over, led, notes)?;
-                            notes.note_where(is_asked, next, e, below, entry)?;
+                            notes.note_below(next, e, below, entry)?;
                         }
                         entry
                     }

@@ -85,7 +85,24 @@ fn left_of(alloc: Global, root: &Position, depth: u8) -> Result<usize, Fail> {
     Ok(entries)
 }
 
-// Of the nodes of depths 1 and 2 only a root is noted.
+/// What a search at depth 3 leaves of the positions after each move is exact, and of the best move it is
+/// left.
+fn assert_exactly_left(rt: &impl Abort, alloc: Global, root: &Position) -> Result<(), Fail> {
+    let mut table = table_of(alloc, 100000)?;
+    let found = search(root, Eval::Plain, 3, &mut table);
+    let best = found.best.map(|m| m.code()).ok_or("a move")?;
+    for branch in branches_of(alloc, root, [None; 6])?.as_slice() {
+        match table.peek(&branch.position, Eval::Plain, 2) {
+            Some(Entry::Exact(value, _)) => {
+                holds!(*rt; branch.code != best || value.saturating_neg() == found.value);
+            }
+            left => holds!(*rt; branch.code != best && left.is_none(), branch.code),
+        }
+    }
+    Ok(())
+}
+
+// Of the nodes of depth 1 only a root is noted, and of depth 2 those that are known exactly.
 #[test]
 fn children_left_in_the_table(rt: HostRuntime) -> Result<(), Fail> {
     let (start, pawns) = (Position::start(), position(TWO_PAWNS)?);
@@ -94,9 +111,10 @@ fn children_left_in_the_table(rt: HostRuntime) -> Result<(), Fail> {
         (pawns, 7, 5),
         (position(HEMMED_IN)?, 4, 5),
     ] {
-        for depth in 1..=deepest {
-            let wanted = if depth < 3 { 0 } else { count };
-            same!(rt; left_of(rt.alloc(), &root, depth)?, wanted, depth);
+        same!(rt; left_of(rt.alloc(), &root, 1)?, 0);
+        assert_exactly_left(&rt, rt.alloc(), &root)?;
+        for depth in 3..=deepest {
+            same!(rt; left_of(rt.alloc(), &root, depth)?, count, depth);
         }
     }
     Ok(())

@@ -4,5 +4,5 @@ use Rattle.shogi_search.proofs.stack.Stack.store_top.Goals as goal
 pub returns-then-self-eq0-clause-told : goal.returns-then-self-eq0-clause-told
 returns-then-self-eq0-clause-told g c = tells_note g.M.Memo.called _ _ _ _ _ _ c.note.ensures.called
 
-pub returns-else-serves-clause-told : goal.returns-else-serves-clause-told
-returns-else-serves-clause-told g c = tells_none g.M.Memo.called _
+pub returns-else-is_noted_anyway-clause-told : goal.returns-else-is_noted_anyway-clause-told
+returns-else-is_noted_anyway-clause-told g c = tells_none g.M.Memo.called _
