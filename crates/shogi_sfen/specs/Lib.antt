@@ -11,4 +11,5 @@ pub mod CappedHands
 pub mod Sfen
 pub mod Written
 pub mod Spelling
+pub mod Characters
 pub use Rattle.shogi_core.specs.Codes

@@ -4,6 +4,7 @@
 mod board_text;
 mod byte;
 mod hand_text;
+mod laws;
 mod letter;
 mod move_text;
 mod number;
@@ -12,6 +13,7 @@ mod position_text;
 mod split;
 mod word;
 
+pub use laws::characters;
 pub use move_text::{read_move, write_move};
 pub use number::read_number;
 pub use position::{SfenFault, read_position};

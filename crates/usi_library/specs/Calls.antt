@@ -1,10 +1,11 @@
 -- What the calls make of a session (own choice).
 use Rattle.std.specs.Prelude.{◌≡◌, ◌≢◌, ◌≤◌, ◌<◌, ◌+◌, ℕ, List, ◌++◌, length, take, drop, min, true, false, Option, None, Some, Result, OnOk}
 use Rattle.shared_table.specs.Recent.{new_table}
+use Rattle.shared_table.specs.Uses.{IsUsed}
 use Rattle.shared_table.specs.declared.table.TheConstants.{CAPACITY_MAX}
 use Rattle.usi_texts.specs.Setup.{default_setup}
 use Rattle.usi_texts.specs.declared.setup.Setup.{Setup}
-use Rattle.usi_session.specs.Due.{SessionView, due, state_due, load, new_session_under, wants_input, is_pending, IsSameAfter, HasSpent}
+use Rattle.usi_session.specs.Due.{SessionView, due, state_due, load, new_session_under, wants_input, is_pending, EndsSearches, IsSameAfter, HasSpent}
 use Rattle.usi_session.specs.WholeLines.{GrowsByLines}
 use Rattle.usi_session.specs.declared.limits.TheConstants.{CHUNK_MAX}
 use Rattle.usi_library.specs.Setups.{IsNumbered}
@@ -67,14 +68,30 @@ IsEnough steps answer old new =
     load old ≤ steps → answer.status ≡ USI_OK → is_pending new ≡ false
 
 -- of what was open before, this holds
-abbrev pub HoldsOf : Option Opened → Option Opened → (SessionView → SessionView → Type 0) → Type 0
+abbrev pub HoldsOf : Option Opened → Option Opened → (Opened → Opened → Type 0) → Type 0
 HoldsOf None new holds = Unit {0}
 HoldsOf (Some old) None holds = ⊥
-HoldsOf (Some old) (Some new) holds = holds old.session new.session
+HoldsOf (Some old) (Some new) holds = holds old new
 
 -- where it was open, it is open still, and this holds of its session before and after
 abbrev pub WhereOpen : UsiSession → UsiSession → (SessionView → SessionView → Type 0) → Type 0
-WhereOpen old new holds = HoldsOf (open_in old) (open_in new) holds
+WhereOpen old new holds =
+    HoldsOf (open_in old) (open_in new) (λ before after. holds before.session after.session)
+
+-- its table is what it was
+abbrev pub KeepsTable : UsiSession → UsiSession → Type 0
+KeepsTable old new =
+    HoldsOf (open_in old) (open_in new) (λ before after. after.table ≡ before.table)
+
+-- its table was told each search that ended, and may hold as much as before
+abbrev pub TellsTable : Opened → Opened → Type 0
+TellsTable old new =
+    EndsSearches IsUsed old.table new.table old.session new.session
+    × (new.table.capacity ≡ old.table.capacity)
+
+-- the same of what is open in a session of C
+abbrev pub TellsItsTable : UsiSession → UsiSession → Type 0
+TellsItsTable old new = HoldsOf (open_in old) (open_in new) TellsTable
 
 -- the first n queued bytes are gone from the queue and from what is owed, and nothing else changed
 abbrev pub IsTaken : ℕ → SessionView → SessionView → Type 0

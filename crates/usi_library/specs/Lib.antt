@@ -1,3 +1,4 @@
 pub mod Held
 pub mod Setups
 pub mod Calls
+pub mod Numbers

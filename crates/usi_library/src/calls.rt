@@ -3,7 +3,7 @@
 ghost use Rattle.std.specs.Prelude.{◌≡◌, ◌≢◌, ◌≤◌, ◌<◌, ℕ, [], None, Some};
 ghost use Rattle.shared_table.specs.declared.table.TheConstants.{CAPACITY_MAX};
 ghost use Rattle.usi_session.specs.Due.{due, state_due, IsSameAfter};
-ghost use Rattle.usi_library.specs.Calls.{closed_answer, open_in, AnswersFeed, FailsForMemory, IsCapacity, IsEnough, IsFedOnOk, IsMoved, IsNothing, IsSeen, LowersLoad, Opens, OpensNumbered, OpensUnder, QueuesLines, SpendsAll, WhereOpen};
+ghost use Rattle.usi_library.specs.Calls.{closed_answer, open_in, AnswersFeed, FailsForMemory, IsCapacity, IsEnough, IsFedOnOk, IsMoved, IsNothing, IsSeen, KeepsTable, LowersLoad, Opens, OpensNumbered, OpensUnder, QueuesLines, SpendsAll, TellsItsTable, WhereOpen};
 ghost use Rattle.usi_library.specs.Setups.{setup_refusal};
 ghost use Rattle.usi_library.specs.declared.status.TheConstants.{USI_OK, USI_CLOSED, USI_IS_OPEN, USI_OUT_OF_RANGE};
 
@@ -145,6 +145,7 @@ pub extern "C" fn usi_feed(session: &mut UsiSession, bytes: &[u8]) -> u32
     ensures fed { WhereOpen session.old session.new (IsFedOnOk bytes.now result) }
     ensures status { WhereOpen session.old session.new
         (λ old _. AnswersFeed bytes.now result old) }
+    ensures table { KeepsTable session.old session.new }
 {
     let Some(mut open) = session.take_out() else {
         return USI_CLOSED;
@@ -155,8 +156,9 @@ pub extern "C" fn usi_feed(session: &mut UsiSession, bytes: &[u8]) -> u32
 }
 
 /// Answers what is pending, with at most so many steps of search, and counts the steps made. Where
-/// something is pending still, the steps were used up. After `USI_OUT_OF_MEMORY`, which counts
-/// none, what is owed is as it was, and the next call continues.
+/// something is pending still, the steps were used up. The table of the session is told what each
+/// search found. After `USI_OUT_OF_MEMORY`, which counts none, what is owed is as it was, and the
+/// next call continues.
 #[unsafe(no_mangle)]
 pub extern "C" fn usi_work(session: &mut UsiSession, steps: u64) -> UsiAnswer
     ensures closed { open_in session.old ≡ None → result ≡ closed_answer }
@@ -170,6 +172,7 @@ pub extern "C" fn usi_work(session: &mut UsiSession, steps: u64) -> UsiAnswer
     ensures spent { WhereOpen session.old session.new (λ old new. SpendsAll steps result new) }
     ensures enough { WhereOpen session.old session.new (IsEnough steps result) }
     ensures grown { WhereOpen session.old session.new QueuesLines }
+    ensures told { TellsItsTable session.old session.new }
     ensures err { result.status ≢ USI_OK → result.count ≡ 0 }
 {
     let Some(mut open) = session.take_out() else {
@@ -202,6 +205,7 @@ pub extern "C" fn usi_take(session: &mut UsiSession, buffer: &mut [u8]) -> UsiAn
     ensures status { WhereOpen session.old session.new (λ old new. result.status ≡ USI_OK) }
     ensures moved { WhereOpen session.old session.new
         (IsMoved buffer.old buffer.new result.count) }
+    ensures table { KeepsTable session.old session.new }
 {
     let Some(mut open) = session.take_out() else {
         return UsiAnswer {

@@ -5,7 +5,7 @@ ghost use Rattle.shared_table.specs.Recent.{new_table};
 ghost use Rattle.shared_table.specs.declared.table.TheConstants.{CAPACITY_MAX};
 ghost use Rattle.usi_session.specs.Due.{due, state_due, load, new_session_under, HasSpent};
 ghost use Rattle.usi_session.specs.WholeLines.{GrowsByLines};
-ghost use Rattle.usi_library.specs.Calls.{AnswersFeed, IsFed, IsMoved, Settles};
+ghost use Rattle.usi_library.specs.Calls.{AnswersFeed, IsFed, IsMoved, Settles, TellsTable};
 ghost use Rattle.usi_library.specs.declared.status.TheConstants.{USI_OK};
 
 use crate::status::{USI_NOT_WANTED, USI_OK, USI_OUT_OF_MEMORY, USI_TOO_LONG};
@@ -43,6 +43,7 @@ impl Opened {
         ensures fed { result ≡ USI_OK → IsFed bytes.now self.old.session self.new.session }
         ensures refused { result ≢ USI_OK → self.new ≡ self.old }
         ensures status { AnswersFeed bytes.now result self.old.session }
+        ensures table { self.new.table ≡ self.old.table }
     {
         if bytes.len() > CHUNK_MAX {
             return USI_TOO_LONG;
@@ -66,6 +67,7 @@ impl Opened {
         ensures spent { IfOk result (HasSpent self.new.session steps) }
         ensures enough { Settles steps result self.old.session self.new.session }
         ensures grown { GrowsByLines self.old.session.queued self.new.session.queued }
+        ensures told { TellsTable self.old self.new }
         ensures err { OnErr result (load self.new.session ≤ load self.old.session) }
     {
         self.session.work(&mut self.table, steps)
@@ -75,6 +77,7 @@ impl Opened {
     /// Returns how many.
     pub(crate) fn take(&mut self, buffer: &mut [u8]) -> usize
         ensures moved { IsMoved buffer.old buffer.new result self.old.session self.new.session }
+        ensures table { self.new.table ≡ self.old.table }
     {
         let queued = self.session.output();
         let n = queued.len().min(buffer.len());

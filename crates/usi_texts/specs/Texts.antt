@@ -1,13 +1,13 @@
 -- The lines that a session writes, each with its LF (USI, the replies of an engine; names, options and the texts after `info string` are an own choice).
-use Rattle.std.specs.Prelude.{◌≡◌, ℕ, ℤ, pos, negsuc, ◌+◌, ◌-◌, List, [], ◌++◌, codes, flat_map, Option, Some, None, Result, OnOk, Vec, nat_lt, cond, decimal}
+use Rattle.std.specs.Prelude.{◌≡◌, ℕ, ℤ, pos, negsuc, ◌+◌, ◌-◌, List, [], ◌++◌, codes, flat_map, Option, Some, None, Result, OnOk, Vec, nat_abs, nat_lt, cond, decimal}
 use Rattle.shogi_core.specs.declared.moves.Move.{Move}
 use Rattle.shogi_core.specs.Position.{Shogi}
 use Rattle.shogi_eval.specs.declared.eval.Eval.{Eval}
 use Rattle.minimax.specs.Minimax.{value, pv}
+use Rattle.minimax.specs.declared.bounds.TheConstants.{MATE}
 use Rattle.shogi_sfen.specs.MoveTexts.{text_of}
 use Rattle.usi_texts.specs.Options.{option_lines}
 use Rattle.usi_texts.specs.declared.setup.Setup.{Setup}
-use Rattle.usi_texts.specs.declared.text.TheConstants.{MATE_MIN}
 
 -- where it succeeds, the text was appended
 abbrev pub Writes : {A E : Type 0} → Result (Unit {0}) E → Vec ℕ A → Vec ℕ A → List ℕ → Type 0
@@ -39,11 +39,11 @@ illegal_move_line number = codes "info string illegal move " ++ (decimal number 
 abbrev pub too_long_reply : List ℕ
 too_long_reply = codes "info string line too long\n"
 
--- hundredths of a pawn, or from `MATE_MIN` up a mate in plies (plies are an own choice)
+-- hundredths of a pawn, or from `MATE` up a mate in plies (plies are an own choice)
 abbrev pub size_text : List ℕ → ℕ → ℕ → List ℕ
 size_text sign depth size =
-    cond (nat_lt size MATE_MIN) (codes "cp " ++ (sign ++ decimal size))
-    (codes "mate " ++ (sign ++ decimal (depth - (size - MATE_MIN))))
+    cond (nat_lt size (nat_abs MATE)) (codes "cp " ++ (sign ++ decimal size))
+    (codes "mate " ++ (sign ++ decimal (depth - (size - nat_abs MATE))))
 
 -- a score at a depth, negative where the side to move stands worse
 abbrev pub score_text : ℕ → ℤ → List ℕ

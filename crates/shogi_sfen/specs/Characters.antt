@@ -1,0 +1,15 @@
+-- The characters that texts are written with, by the names that code and definitions share (USI and SFEN).
+use Rattle.std.specs.Prelude.{◌≡◌, ◌+◌, [], ◌∷◌, codes}
+use Rattle.shogi_sfen.specs.declared.board_text.TheConstants.{RANK_SQUARES, BOARD_SQUARES}
+use Rattle.shogi_sfen.specs.declared.byte.TheConstants.{FIRST_FILE, FIRST_RANK, KING, LOWER_CASE, PLUS, SLASH, SPACE, STAR, TAB, TO_LOWER_CASE, ZERO}
+
+-- what stands between words; a king of each side, and the plus of a promoted piece; the square `1a`, and the star of a drop; the digit 0; what stands between ranks; the squares of a rank and of the board
+pub record AreCharacters : Type 0 where
+  pub blanks : (SPACE ∷ TAB ∷ []) ≡ codes " \t"
+  pub pieces : (KING ∷ (KING + TO_LOWER_CASE) ∷ PLUS ∷ []) ≡ codes "Kk+"
+  pub lower_case : (LOWER_CASE ∷ []) ≡ codes "a"
+  pub squares : (FIRST_FILE ∷ FIRST_RANK ∷ STAR ∷ []) ≡ codes "1a*"
+  pub digits : (ZERO ∷ []) ≡ codes "0"
+  pub ranks : (SLASH ∷ []) ≡ codes "/"
+  pub rank : RANK_SQUARES ≡ 9
+  pub board : BOARD_SQUARES ≡ 81
