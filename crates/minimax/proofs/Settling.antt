@@ -14,7 +14,7 @@ use Rattle.shogi_eval.specs.declared.points.TheConstants.{POINTS_MAX}
 use Rattle.shogi_eval.specs.declared.eval.Eval.{Eval}
 use Rattle.shogi_eval.specs.declared.eval.Eval.TheVariants.{Plain, Hand, Exchange}
 use Rattle.shogi_eval.specs.Material.{material_of}
-use Rattle.shogi_eval.specs.Exchange.{price, takes_on, is_quiet, cheaper, cheapest, taker, stand_or_take, settled, most_settled, captures_max, best_settled, leaf_after, resolves_captures}
+use Rattle.shogi_eval.specs.Exchange.{price, takes_on, is_quiet, cheaper, cheapest, least_valuable_attacker, stand_or_take, settled, most_settled, captures_max, best_settled, leaf_after, resolves_captures}
 use Rattle.shogi_eval.proofs.Bounds.{material_bounds}
 use Rattle.minimax.proofs.Valid.{after_valid}
 
@@ -35,14 +35,14 @@ cheapest_in p s all best (c ∷ cs) b sub h e =
     e
 
 -- what takes is legal
-pub taker_in : (p : Shogi) (s code : ℕ) → taker p s ≡ Some code → is_in code (legal_codes p) ≡ true
+pub taker_in : (p : Shogi) (s code : ℕ) → least_valuable_attacker p s ≡ Some code → is_in code (legal_codes p) ≡ true
 taker_in p s code e = cheapest_in p s (legal_codes p) None (legal_codes p) code (λ n i. i) (λ x q. absurd (cc)) e
 
 settled-none : (p : Shogi) (e : Eval) (s : ℕ) → settled p e s 0 ≡ material_of p e
 unfolding settled
 settled-none p e s = refl
 
-settled-next : (p : Shogi) (e : Eval) (s n : ℕ) → settled p e s (suc n) ≡ stand_or_take (material_of p e) (λ code. pos 0 -ℤ settled (after_code p code) e s n) (taker p s)
+settled-next : (p : Shogi) (e : Eval) (s n : ℕ) → settled p e s (suc n) ≡ stand_or_take (material_of p e) (λ code. pos 0 -ℤ settled (after_code p code) e s n) (least_valuable_attacker p s)
 unfolding settled
 settled-next p e s n = refl
 
@@ -65,7 +65,7 @@ pub settled_bounded : (n : ℕ) (p : Shogi) (e : Eval) (s : ℕ) → IsValid p �
 settled_bounded zero p e s v = rw settled-none (bounded_material p e v)
 settled_bounded (suc n) p e s v =
     rw settled-next
-    (bounded_stand (material_of p e) (λ code. pos 0 -ℤ settled (after_code p code) e s n) (taker p s) (bounded_material p e v)
+    (bounded_stand (material_of p e) (λ code. pos 0 -ℤ settled (after_code p code) e s n) (least_valuable_attacker p s) (bounded_material p e v)
     (λ code is. bounded_negated _ (settled_bounded n (after_code p code) e s (after_valid p code v (taker_in p s code is)))))
 
 pub best_bounded : (p : Shogi) (e : Eval) (n s : ℕ) → IsValid p → IsBounded (most_settled p e n s)
@@ -83,7 +83,7 @@ stand_least has f (Some code) = omega (arith, ints, clamps)
 
 pub settled_least : (p : Shogi) (e : Eval) (s n : ℕ) → material_of p e ≤ℤ settled p e s n
 settled_least p e s zero = rw settled-none (omega (arith, ints))
-settled_least p e s (suc n) = rw settled-next (stand_least (material_of p e) (λ code. pos 0 -ℤ settled (after_code p code) e s n) (taker p s))
+settled_least p e s (suc n) = rw settled-next (stand_least (material_of p e) (λ code. pos 0 -ℤ settled (after_code p code) e s n) (least_valuable_attacker p s))
 
 pub best_least : (p : Shogi) (e : Eval) (n s : ℕ) → material_of p e ≤ℤ most_settled p e n s
 unfolding most_settled

@@ -2,8 +2,8 @@
 
 use shogi_core::Move;
 
-/// What is known of the value of a position under an evaluation at a depth: the value with the best
-/// move of least code, or a bound. Values are seen from the side to move.
+/// Bound on the value of a position under an evaluation at a depth: exact, with the best move of least
+/// code, lower or upper. Values are seen from the side to move.
 #[derive(Clone, Copy, Debug, PartialEq, Eq)]
 pub enum Entry {
     /// The value, and the best move, `None` where no move is legal or the depth is 0.

@@ -38,7 +38,7 @@ impl From<AllocError> for TableFault {
     }
 }
 
-/// A bounded table of searched positions, seen as its pairs, the most recently used first, its
+/// Transposition table of bounded size, seen as its pairs, the most recently used first, its
 /// capacity and how many notes found no memory. Each entry is true.
 #[derive(Drop)]
 pub struct SharedTable<S: BuildHasher, A: Allocator> {

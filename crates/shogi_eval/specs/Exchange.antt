@@ -55,8 +55,8 @@ cheapest p s best (code ∷ codes) =
     cheapest p s (cond (takes_on p s (move_of code)) (cheaper p best code) best) codes
 
 -- the legal move that takes on the square with the cheapest piece, promoting where it may, the one of least code where several do
-abbrev pub taker : Shogi → ℕ → Option ℕ
-taker p s = cheapest p s None (legal_codes p)
+abbrev pub least_valuable_attacker : Shogi → ℕ → Option ℕ
+least_valuable_attacker p s = cheapest p s None (legal_codes p)
 
 -- what the side has, or what it has after the move of the code, if that is more
 abbrev pub stand_or_take : ℤ → (ℕ → ℤ) → Option ℕ → ℤ
@@ -67,7 +67,7 @@ stand_or_take has after (Some code) = int_max has (after code)
 unfoldable pub settled : Shogi → Eval → ℕ → ℕ → ℤ
 settled p e s zero = material_of p e
 settled p e s (suc n) =
-    stand_or_take (material_of p e) (λ code. pos 0 -ℤ settled (after_code p code) e s n) (taker p s)
+    stand_or_take (material_of p e) (λ code. pos 0 -ℤ settled (after_code p code) e s n) (least_valuable_attacker p s)
 
 -- the most of these over the squares up to one
 unfoldable pub most_settled : Shogi → Eval → ℕ → ℕ → ℤ

@@ -2,7 +2,7 @@
 
 use shogi_core::Move;
 
-/// What a search found.
+/// Result of a search.
 #[derive(Clone, Copy, Debug, PartialEq, Eq)]
 pub struct Found {
     /// The value for the side to move, from -30,016 to 30,016. Of a search below a bound, a number

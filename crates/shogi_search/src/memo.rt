@@ -12,7 +12,8 @@ use minimax::Entry;
 use shogi_core::Position;
 use shogi_eval::Eval;
 
-/// A memory of searched positions. It may forget at any time, and what it answers is true.
+/// What a search asks of a transposition table. It may forget at any time, and what it answers is
+/// true.
 pub trait Memo {
     ghost answers: { Self → Shogi → Eval → ℕ → Option Entry };
 

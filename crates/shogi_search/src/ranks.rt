@@ -19,8 +19,8 @@ pub const MULTI_PV_MAX: usize = 8;
 /// A pair more than there are lines: a new one is put in before the last one goes.
 const ROOM: usize = 9;
 
-/// The best of the moves that were offered, with their values: at most so many as there are lines,
-/// the greater value first, among equal ones the lesser code.
+/// Top moves for MultiPV: the best of the moves that were offered, with their values, at most so many
+/// as there are lines, the greater value first, among equal ones the lesser code.
 #[derive(Drop)]
 pub struct Ranks {
     lines: usize,

@@ -29,7 +29,7 @@ use Rattle.shogi_moves.specs.LegalMoves.{legal_codes}
 use Rattle.shogi_moves.specs.Rising.{is_in, IsRising}
 use Rattle.shogi_moves.proofs.DestinationLaws.{alive, legal_board, unchecked_either}
 use Rattle.shogi_moves.proofs.LegalLaws.{board_code, drop_code, is_legal_code_of, legal_code_below, legal_in, legal_rising, legal_to_listed}
-use Rattle.shogi_eval.specs.Exchange.{cheaper, cheapest, price, price_with, taker, takes_on}
+use Rattle.shogi_eval.specs.Exchange.{cheaper, cheapest, price, price_with, least_valuable_attacker, takes_on}
 use Rattle.minimax.proofs.Settling.{taker_in}
 use Rattle.static_exchange.specs.Takers.{is_taker, promotes, rank_on, taking, IsFirstBefore}
 
@@ -252,7 +252,7 @@ first_less p s from code x hf own l lt =
 -- the first of the pieces that may, in that order
 pub taker_found : (p : Shogi) (s from : ℕ) → IsValid p → s < 81 → from < 81 → is_some (piece_at p.cells s) ≡ true → is_taker p s from ≡ true
     → ((n : ℕ) → n < 81 → is_taker p s n ≡ true → rank_on p s from ≤ rank_on p s n)
-    → Some (code_of (taking p s from)) ≡ taker p s
+    → Some (code_of (taking p s from)) ≡ least_valuable_attacker p s
 taker_found p s from v hs hf there l least =
     let back : move_of (code_of (taking p s from)) ≡ Some (taking p s from) = move_of-board from s (promotes p s from) hf hs in
     let mine : price p (move_of (code_of (taking p s from))) ≡ price_with (piece_at p.cells from) (promotes p s from) = ap (price p) back in
@@ -264,7 +264,7 @@ taker_found p s from v hs hf there l least =
     (λ n i t lt. let x : TakesFrom p s n = takes_from p s n i t in subst (λ (k : ℕ). k < price p (move_of n)) (sym mine) (first_less p s from n x hf own (least x.from x.here (taking_legal p x.from s x.promote v hs x.legal)) lt)))
 
 -- nothing, where none may
-pub taker_none : (p : Shogi) (s : ℕ) → IsValid p → s < 81 → ((n : ℕ) → n < 81 → is_some (piece_at p.cells s) ≡ true → is_taker p s n ≡ false) → None ≡ taker p s
+pub taker_none : (p : Shogi) (s : ℕ) → IsValid p → s < 81 → ((n : ℕ) → n < 81 → is_some (piece_at p.cells s) ≡ true → is_taker p s n ≡ false) → None ≡ least_valuable_attacker p s
 taker_none p s v hs none =
     sym (fold_none p s None (legal_codes p) (λ n i. false_from_ne_true (takes_on p s (move_of n)) (λ t.
     let x : TakesFrom p s n = takes_from p s n i t in
@@ -286,7 +286,7 @@ cheapest_takes p s best (c ∷ cs) b h e =
     (λ x. cond_both (takes_on p s (move_of c)) (cheaper p best c) best (λ (o : Option ℕ). o ≡ Some x → takes_on p s (move_of x) ≡ true) (λ t r. cheaper_takes p s c best x t h r) (λ _ r. h x r))
     e
 
-pub taker_takes : (p : Shogi) (s code : ℕ) → taker p s ≡ Some code → TakesFrom p s code
+pub taker_takes : (p : Shogi) (s code : ℕ) → least_valuable_attacker p s ≡ Some code → TakesFrom p s code
 taker_takes p s code e = takes_from p s code (taker_in p s code e) (cheapest_takes p s None (legal_codes p) code (λ x q. absurd (cc)) e)
 
 -- ---- pieces gone through
@@ -348,7 +348,7 @@ takes_foe p s n some l = true_from_ne_false (is_piece_of (opponent_of p.side) (p
 pub untaken : (p : Shogi) (own movers foe found s : ℕ) (post : ℕ → Squares → Type 0) → IsValid p → s < 81
     → ((n : ℕ) → n < 81 → has_bit own n ≡ is_own p n) → HasMovers p true own movers → ((n : ℕ) → n < 81 → has_bit foe n ≡ is_piece_of (opponent_of p.side) (piece_at p.cells n))
     → ((k : ℕ) (led : Squares) → k < 81 → post k led → HasBits led.bits (reaches p.cells k)) → IsUnion post movers found
-    → has_bit (bit_and foe found) s ≡ false → None ≡ taker p s
+    → has_bit (bit_and foe found) s ≡ false → None ≡ least_valuable_attacker p s
 untaken p own movers foe found s post v hs owns moves foes leads u out =
     taker_none p s v hs (λ n hn some. false_from_ne_true (is_taker p s n) (λ l.
     let t : IsLegalTaking p n s (promotes p s n) = legal_taking p n s (promotes p s n) l in

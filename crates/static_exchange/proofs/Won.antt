@@ -19,7 +19,7 @@ use Rattle.shogi_moves.proofs.LegalLaws.{after_code_at, after_code_of, legal_to_
 use Rattle.shogi_moves.proofs.SeenAfter.{moved}
 use Rattle.shogi_eval.specs.declared.eval.Eval.TheVariants.{Exchange}
 use Rattle.shogi_eval.specs.declared.gain.TheConstants.{PROMOTION_GAIN_MAX}
-use Rattle.shogi_eval.specs.Exchange.{best_settled, captures_max, most_settled, settled, taker}
+use Rattle.shogi_eval.specs.Exchange.{best_settled, captures_max, most_settled, settled, least_valuable_attacker}
 use Rattle.shogi_eval.specs.Material.{material_of, promotion_gain, taken_gain}
 use Rattle.shogi_eval.proofs.Gains.{material_after_board}
 use Rattle.shogi_eval.proofs.RoleGains as roles
@@ -35,7 +35,7 @@ pub wins_so_much : (p : Shogi) (s n won : ℕ) → IsWonOn p s n won → WinsAtM
 wins_so_much p s n won is = omega (arith, ints, is)
 
 -- where nothing takes, nothing is won
-pub won_stands : (p : Shogi) (s n : ℕ) → None ≡ taker p s → IsWonOn p s n 0
+pub won_stands : (p : Shogi) (s n : ℕ) → None ≡ least_valuable_attacker p s → IsWonOn p s n 0
 won_stands p s zero none = let is : settled p Exchange s 0 ≡ material_of p Exchange = settled_zero p Exchange s 0 refl in omega (arith, ints, is)
 won_stands p s (suc n) none = let is : settled p Exchange s (suc n) ≡ material_of p Exchange = settled_stands p Exchange s (suc n) (omega arith) none in omega (arith, ints, is)
 
@@ -46,7 +46,7 @@ larger : (has next after won : ℤ) (gain back : ℕ) → next ≡ (pos 0 -ℤ (
 larger has next after won gain back n a w = omega (arith, ints, clamps, n, a, w)
 
 -- and else what the capture gains, less what the other side wins back there
-pub won_takes : (p q : Shogi) (s n code gain back : ℕ) → 0 < n → Some code ≡ taker p s → q ≡ after_code p code → IsGain p code gain → IsWonOn q s (n - 1) back → IsWonOn p s n (gain - back)
+pub won_takes : (p q : Shogi) (s n code gain back : ℕ) → 0 < n → Some code ≡ least_valuable_attacker p s → q ≡ after_code p code → IsGain p code gain → IsWonOn q s (n - 1) back → IsWonOn p s n (gain - back)
 won_takes p q s n code gain back h is at g b =
     larger (material_of p Exchange) (material_of q Exchange) (settled q Exchange s (n - 1)) (settled p Exchange s n) gain back
     (ap (λ (r : Shogi). material_of r Exchange) at ∙ g) b
@@ -59,13 +59,13 @@ lower : (has next after won : ℤ) (gain back : ℕ) → next ≡ (pos 0 -ℤ (h
 lower has next after won gain back n a w = omega (arith, ints, clamps, n, a, w)
 
 -- and by bounds of that
-pub won_upper : (p q : Shogi) (s n code gain back : ℕ) → 0 < n → Some code ≡ taker p s → q ≡ after_code p code → IsGain p code gain → WinsAtLeastOn q s (n - 1) back → WinsAtMostOn p s n (gain - back)
+pub won_upper : (p q : Shogi) (s n code gain back : ℕ) → 0 < n → Some code ≡ least_valuable_attacker p s → q ≡ after_code p code → IsGain p code gain → WinsAtLeastOn q s (n - 1) back → WinsAtMostOn p s n (gain - back)
 won_upper p q s n code gain back h is at g b =
     upper (material_of p Exchange) (material_of q Exchange) (settled q Exchange s (n - 1)) (settled p Exchange s n) gain back
     (ap (λ (r : Shogi). material_of r Exchange) at ∙ g) b
     (settled_takes p q Exchange s n code (settled q Exchange s (n - 1)) h is at refl)
 
-pub won_lower : (p q : Shogi) (s n code gain back : ℕ) → 0 < n → Some code ≡ taker p s → q ≡ after_code p code → IsGain p code gain → WinsAtMostOn q s (n - 1) back → WinsAtLeastOn p s n (gain - back)
+pub won_lower : (p q : Shogi) (s n code gain back : ℕ) → 0 < n → Some code ≡ least_valuable_attacker p s → q ≡ after_code p code → IsGain p code gain → WinsAtMostOn q s (n - 1) back → WinsAtLeastOn p s n (gain - back)
 won_lower p q s n code gain back h is at g b =
     lower (material_of p Exchange) (material_of q Exchange) (settled q Exchange s (n - 1)) (settled p Exchange s n) gain back
     (ap (λ (r : Shogi). material_of r Exchange) at ∙ g) b
@@ -76,13 +76,13 @@ pub none_least : (q : Shogi) (s n : ℕ) → WinsAtLeastOn q s n 0
 none_least q s n = let least : material_of q Exchange ≤ℤ settled q Exchange s n = settled_least q Exchange s n in omega (arith, ints, least)
 
 -- so no more than the capture gains
-pub won_gain : (p : Shogi) (s n code gain : ℕ) → 0 < n → Some code ≡ taker p s → IsGain p code gain → WinsAtMostOn p s n gain
+pub won_gain : (p : Shogi) (s n code gain : ℕ) → 0 < n → Some code ≡ least_valuable_attacker p s → IsGain p code gain → WinsAtMostOn p s n gain
 won_gain p s n code gain h is g =
     let whole : gain - 0 ≡ gain = omega arith in
     subst (WinsAtMostOn p s n) whole (won_upper p (after_code p code) s n code gain 0 h is refl g (none_least (after_code p code) s (n - 1)))
 
 -- and that, where nothing is taken back
-pub won_whole : (p : Shogi) (s n code gain : ℕ) → 0 < n → Some code ≡ taker p s → IsGain p code gain → None ≡ taker (after_code p code) s → WinsAtLeastOn p s n gain
+pub won_whole : (p : Shogi) (s n code gain : ℕ) → 0 < n → Some code ≡ least_valuable_attacker p s → IsGain p code gain → None ≡ least_valuable_attacker (after_code p code) s → WinsAtLeastOn p s n gain
 won_whole p s n code gain h is g none =
     let whole : gain - 0 ≡ gain = omega arith in
     subst (WinsAtLeastOn p s n) whole (won_lower p (after_code p code) s n code gain 0 h is refl g (wins_so_much (after_code p code) s (n - 1) 0 (won_stands (after_code p code) s (n - 1) none)))
@@ -113,7 +113,7 @@ gain_most p s code v hs x =
 bounded : (has next after won : ℤ) (gain most : ℕ) → next ≡ (pos 0 -ℤ (has +ℤ pos gain)) → next ≤ℤ after → gain ≤ most → won ≡ int_max has (pos 0 -ℤ after) → won ≤ℤ (has +ℤ pos most)
 bounded has next after won gain most n a g w = omega (arith, ints, clamps, n, a, g, w)
 
-won_most_by : (p : Shogi) (s n : ℕ) (o : Option ℕ) → IsValid p → s < 81 → o ≡ taker p s → WinsAtMostOn p s (suc n) (taken_gain Exchange (piece_at p.cells s) + PROMOTION_GAIN_MAX)
+won_most_by : (p : Shogi) (s n : ℕ) (o : Option ℕ) → IsValid p → s < 81 → o ≡ least_valuable_attacker p s → WinsAtMostOn p s (suc n) (taken_gain Exchange (piece_at p.cells s) + PROMOTION_GAIN_MAX)
 won_most_by p s n None v hs is = let stands : settled p Exchange s (suc n) ≡ material_of p Exchange +ℤ pos 0 = won_stands p s (suc n) is in omega (arith, ints, stands)
 won_most_by p s n (Some code) v hs is =
     let g : _ = gain_most p s code v hs (taker_takes p s code (sym is)) in
@@ -124,7 +124,7 @@ won_most_by p s n (Some code) v hs is =
 -- so no more is won there
 pub won_most : (p : Shogi) (s n : ℕ) → IsValid p → s < 81 → WinsAtMostOn p s n (taken_gain Exchange (piece_at p.cells s) + PROMOTION_GAIN_MAX)
 won_most p s zero v hs = let is : settled p Exchange s 0 ≡ material_of p Exchange = settled_zero p Exchange s 0 refl in omega (arith, ints, is)
-won_most p s (suc n) v hs = won_most_by p s n (taker p s) v hs refl
+won_most p s (suc n) v hs = won_most_by p s n (least_valuable_attacker p s) v hs refl
 
 -- ---- the best square
 
@@ -189,10 +189,10 @@ back_first p s from n v hs t =
     (won_most (after_code p (taking_code p s from)) s n (after_first p s from v hs t) hs)
 
 -- and nothing where the other side does not reach it
-pub untaken_back : (p : Shogi) (s from : ℕ) → IsValid p → s < 81 → TakesFirst p s from → is_attacked (moved p from s (promotes p s from)) (opponent_of p.side) s ≡ false → None ≡ taker (after_code p (taking_code p s from)) s
+pub untaken_back : (p : Shogi) (s from : ℕ) → IsValid p → s < 81 → TakesFirst p s from → is_attacked (moved p from s (promotes p s from)) (opponent_of p.side) s ≡ false → None ≡ least_valuable_attacker (after_code p (taking_code p s from)) s
 untaken_back p s from v hs t off =
     let at : after_code p (taking_code p s from) ≡ after p (taking p s from) = after_code_of p (taking p s from) (move_of-board from s (promotes p s from) t.here hs) in
-    subst (λ (q : Shogi). None ≡ taker q s) (sym at)
+    subst (λ (q : Shogi). None ≡ least_valuable_attacker q s) (sym at)
     (taker_none (after p (taking p s from)) s (subst IsValid at (after_first p s from v hs t)) hs (λ n h some. false_from_ne_true (is_taker (after p (taking p s from)) s n) (λ l.
     both_ways (is_attacked (moved p from s (promotes p s from)) (opponent_of p.side) s) off
     (some_below_at 81 (is_attacked_from (moved p from s (promotes p s from)) (opponent_of p.side) s) n h (reaching (after p (taking p s from)) s n l)))))

@@ -3,7 +3,7 @@
 ghost use Rattle.std.specs.Prelude.{◌≡◌, ◌≢◌, ◌≤◌, ◌<◌, ◌^◌, ℕ, true, false, None};
 ghost use Rattle.shogi_core.specs.Bits.{has_bit};
 ghost use Rattle.shogi_moves.specs.After.{after_code};
-ghost use Rattle.shogi_eval.specs.Exchange.{captures_max, taker};
+ghost use Rattle.shogi_eval.specs.Exchange.{captures_max, least_valuable_attacker};
 ghost use Rattle.static_exchange.specs.Reprisals.{IsGain, IsWon, IsWonAtLeast, WinsAtLeastOn, WinsAtMostOn};
 ghost use Rattle.static_exchange.specs.Takers.{TakesFirst, taking_code};
 
@@ -49,7 +49,7 @@ fn most_back(p: &Position, square: Square, from: Square) -> u32
 fn is_reached_back(p: &Position, square: Square, from: Square) -> bool
     requires { TakesFirst p.now square from }
     ensures if_none { result ≡ false →
-        None ≡ taker (after_code p.now (taking_code p.now square from)) square }
+        None ≡ least_valuable_attacker (after_code p.now (taking_code p.now square from)) square }
 {
     p.reveal_invariant();
     square.reveal_invariant();

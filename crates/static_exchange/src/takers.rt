@@ -6,7 +6,7 @@ ghost use Rattle.shogi_core.specs.Codes.{code_of};
 ghost use Rattle.shogi_core.specs.Movement.{reaches};
 ghost use Rattle.shogi_moves.specs.Destinations.{is_own};
 ghost use Rattle.shogi_moves.specs.Legal.{is_legal};
-ghost use Rattle.shogi_eval.specs.Exchange.{exchange_price, price_with, taker};
+ghost use Rattle.shogi_eval.specs.Exchange.{exchange_price, price_with, least_valuable_attacker};
 ghost use Rattle.static_exchange.specs.Takers.{code_in, rank_on, taking, IsFirst, IsLegalIn, NoneTakenOff, OthersTakeNot, TakesFirst};
 
 use shogi_core::bits::{cleared, lowest, without_lowest};
@@ -108,7 +108,7 @@ fn first_of(p: &Position, square: Square, pieces: u128) -> usize
 
 /// The square of the cheapest piece that legally takes on the square, the least where several do.
 pub fn first_taker(p: &Position, square: Square) -> Option<Square>
-    ensures if_none { IsNone result → None ≡ taker p.now square }
+    ensures if_none { IsNone result → None ≡ least_valuable_attacker p.now square }
     ensures first { IfSome result (TakesFirst p.now square) }
 {
     p.reveal_invariant();
@@ -130,8 +130,8 @@ pub fn first_taker(p: &Position, square: Square) -> Option<Square>
 
 /// The legal move that takes on the square with the cheapest piece, promoting where it may, the one
 /// of least code where several do.
-pub fn taker(p: &Position, square: Square) -> Option<Move>
-    ensures code { code_in result ≡ taker p.now square }
+pub fn least_valuable_attacker(p: &Position, square: Square) -> Option<Move>
+    ensures code { code_in result ≡ least_valuable_attacker p.now square }
     ensures legal { IsLegalIn p.now result }
 {
     match first_taker(p, square) {

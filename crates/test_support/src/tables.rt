@@ -13,7 +13,7 @@ pub fn opening_by_hand() -> Row {
 }
 
 pub fn sliced() -> [Row; 3] {
-    test_rows::SLICED
+    rows::SLICED
 }
 
 pub fn cut() -> Row {

@@ -2,7 +2,7 @@ use Rattle.std.proofs.Common.{rules, ◌≡◌, ◌<◌, ◌-◌, ℕ, false, No
 use Rattle.shogi_core.specs.declared.moves.Move.{Move}
 use Rattle.shogi_core.specs.Codes.{code_of}
 use Rattle.shogi_moves.specs.After.{after_code}
-use Rattle.shogi_eval.specs.Exchange.{taker}
+use Rattle.shogi_eval.specs.Exchange.{least_valuable_attacker}
 use Rattle.static_exchange.specs.Reprisals.{WinsAtLeastOn, WinsAtMostOn}
 use Rattle.static_exchange.specs.Takers.{taking_code}
 use Rattle.static_exchange.proofs.Won.{recursed, wins_so_much, won_gain, won_lower, won_stands, won_upper, won_whole, won_zero}
@@ -13,7 +13,7 @@ returns-then-n-eq0-clause-most t c = λ _. wins_so_much c.args.p.now c.args.squa
 
 pub returns-in_default-clause-most : goal.returns-in_default-clause-most
 returns-in_default-clause-most t c = λ _.
-    let none : None ≡ taker c.args.p.now c.args.square = first_of (search rules, search (rules, c.in_default.ensures.if_none), search (rules, c.in_default.is, c.in_default.ensures.if_none, c.first_taker.ensures.if_none)) in
+    let none : None ≡ least_valuable_attacker c.args.p.now c.args.square = first_of (search rules, search (rules, c.in_default.ensures.if_none), search (rules, c.in_default.is, c.in_default.ensures.if_none, c.first_taker.ensures.if_none)) in
     wins_so_much c.args.p.now c.args.square c.args.n 0 (won_stands c.args.p.now c.args.square c.args.n none)
 
 pub returns-then-gain-floor-clause-most : goal.returns-then-gain-floor-clause-most

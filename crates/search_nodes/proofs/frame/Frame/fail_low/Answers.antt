@@ -24,8 +24,8 @@ invariant_of-self-clause-open c = c.args.self.now.open
 pub invariant_of-self-clause-most : goal.invariant_of-self-clause-most
 invariant_of-self-clause-most c = c.args.self.now.most
 
-pub invariant_of-self-clause-consistent : goal.invariant_of-self-clause-consistent
-invariant_of-self-clause-consistent c = c.args.self.now.kept
+pub invariant_of-self-clause-kept : goal.invariant_of-self-clause-kept
+invariant_of-self-clause-kept c = c.args.self.now.kept
 
 pub invariant_of-self-clause-replied : goal.invariant_of-self-clause-replied
 invariant_of-self-clause-replied c = c.args.self.now.replied

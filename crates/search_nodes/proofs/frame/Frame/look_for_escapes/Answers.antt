@@ -35,8 +35,8 @@ invariant_of-self-clause-known c = c.args.self.now.known
 pub invariant_of-self-clause-moves : goal.invariant_of-self-clause-moves
 invariant_of-self-clause-moves c = c.args.self.now.moves
 
-pub invariant_of-self-clause-consistent : goal.invariant_of-self-clause-consistent
-invariant_of-self-clause-consistent c = c.args.self.now.kept
+pub invariant_of-self-clause-kept : goal.invariant_of-self-clause-kept
+invariant_of-self-clause-kept c = c.args.self.now.kept
 
 pub invariant_of-self-clause-replied : goal.invariant_of-self-clause-replied
 invariant_of-self-clause-replied c = c.args.self.now.replied

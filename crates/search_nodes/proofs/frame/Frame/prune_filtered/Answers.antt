@@ -102,8 +102,8 @@ invariant_of-self-2-clause-most c = c.args.self.now.most
 pub invariant_of-self-2-clause-moves : goal.invariant_of-self-2-clause-moves
 invariant_of-self-2-clause-moves c = c.args.self.now.moves
 
-pub invariant_of-self-2-clause-consistent : goal.invariant_of-self-2-clause-consistent
-invariant_of-self-2-clause-consistent c = subst (λ (q : Shogi). IsKept q c.skip_quiets.new.self) c.as_position.ensures c.skip_quiets.ensures.consistent
+pub invariant_of-self-2-clause-kept : goal.invariant_of-self-2-clause-kept
+invariant_of-self-2-clause-kept c = subst (λ (q : Shogi). IsKept q c.skip_quiets.new.self) c.as_position.ensures c.skip_quiets.ensures.consistent
 
 pub invariant_of-self-2-clause-replied : goal.invariant_of-self-2-clause-replied
 invariant_of-self-2-clause-replied c = c.args.self.now.replied

@@ -18,7 +18,7 @@ returns-in-Ok-clause-unchanged g c =
     let new = c.new.result in
     let given : Keeps ((told old.listener).unread new.number) (left new.stream) × Keeps ((told old.listener).written new.number) (taken new.stream) = rw (c.new.ensures.number, c.new.ensures.stream) c.in-Ok.ensures.given in
     let rest : KeepsElse (told old.listener) (told c.accept.new.self) new.number = rw c.new.ensures.number c.in-Ok.ensures.rest in
-    comes left taken (told old.listener) (told c.accept.new.self) old.places.items c.free_place.new.places.items c.put.new.places.items new.number new (same_alike old.places.items c.free_place.new.places.items c.free_place.ensures.same) c.insert.ensures.if_none c.insert.ensures.held c.insert.ensures.others given rest c.new.ensures.kept
+    comes left taken (told old.listener) (told c.accept.new.self) old.places.items c.free_place.new.places.items c.insert.new.places.items new.number new (same_alike old.places.items c.free_place.new.places.items c.free_place.ensures.same) c.insert.ensures.if_none c.insert.ensures.held c.insert.ensures.others given rest c.new.ensures.kept
 
 -- there is no place
 pub returns-then-place-clause-cause : goal.returns-then-place-clause-cause
@@ -94,7 +94,7 @@ pub returns-in-Ok-clause-named : goal.returns-in-Ok-clause-named
 returns-in-Ok-clause-named g c = c.accept.ensures.named
 
 pub returns-in-Ok-clause-awake : goal.returns-in-Ok-clause-awake
-returns-in-Ok-clause-awake g c = still_then c.args.self.now.places.items c.free_place.new.places.items c.put.new.places.items (still_same c.args.self.now.places.items c.free_place.new.places.items c.free_place.ensures.same) (still_comes c.free_place.new.places.items c.put.new.places.items c.new.result.number c.insert.ensures.others c.insert.ensures.if_none (rw c.insert.ensures.held c.new.ensures.awake))
+returns-in-Ok-clause-awake g c = still_then c.args.self.now.places.items c.free_place.new.places.items c.insert.new.places.items (still_same c.args.self.now.places.items c.free_place.new.places.items c.free_place.ensures.same) (still_comes c.free_place.new.places.items c.insert.new.places.items c.new.result.number c.insert.ensures.others c.insert.ensures.if_none (rw c.insert.ensures.held c.new.ensures.awake))
 
 -- nobody waits
 pub returns-in-Err-clause-cause : goal.returns-in-Err-clause-cause

@@ -8,12 +8,12 @@ pub loop-place-preserved : goal.loop-place-preserved
 loop-place-preserved g c =
     let named = g.L.Listener.named c.loop-place.self.listener in
     record {
-      awake = rw c.mark_one_ready.ensures.listener (awake_more c.loop-place.place named c.ready-found.result c.loop-place.self.places.items c.note.new.self.places.items c.ready-found.ensures c.mark_one_ready.ensures.awake c.mark_one_ready.ensures.still c.loop-place.invariant.awake);
-      named = rw c.mark_one_ready.ensures.listener (named_more c.loop-place.place named c.ready-found.result c.loop-place.self.acceptable c.note.new.self.acceptable c.ready-found.ensures c.mark_one_ready.ensures.named c.mark_one_ready.ensures.opens c.loop-place.invariant.named);
+      awake = rw c.mark_one_ready.ensures.listener (awake_more c.loop-place.place named c.ready-found.result c.loop-place.self.places.items c.mark_one_ready.new.self.places.items c.ready-found.ensures c.mark_one_ready.ensures.awake c.mark_one_ready.ensures.still c.loop-place.invariant.awake);
+      named = rw c.mark_one_ready.ensures.listener (named_more c.loop-place.place named c.ready-found.result c.loop-place.self.acceptable c.mark_one_ready.new.self.acceptable c.ready-found.ensures c.mark_one_ready.ensures.named c.mark_one_ready.ensures.opens c.loop-place.invariant.named);
       opens = λ e. c.mark_one_ready.ensures.opens (c.loop-place.invariant.opens e);
       listener = c.mark_one_ready.ensures.listener ∙ c.loop-place.invariant.listener;
-      alike = still_alike c.args.self.now.places.items c.loop-place.self.places.items c.note.new.self.places.items c.loop-place.invariant.alike c.mark_one_ready.ensures.alike;
-      still = still_then c.args.self.now.places.items c.loop-place.self.places.items c.note.new.self.places.items c.loop-place.invariant.still c.mark_one_ready.ensures.still;
+      alike = still_alike c.args.self.now.places.items c.loop-place.self.places.items c.mark_one_ready.new.self.places.items c.loop-place.invariant.alike c.mark_one_ready.ensures.alike;
+      still = still_then c.args.self.now.places.items c.loop-place.self.places.items c.mark_one_ready.new.self.places.items c.loop-place.invariant.still c.mark_one_ready.ensures.still;
       next = c.mark_one_ready.ensures.next ∙ c.loop-place.invariant.next;
       failed = c.mark_one_ready.ensures.failed ∙ c.loop-place.invariant.failed;
       more = c.mark_one_ready.ensures.more ∙ c.loop-place.invariant.more;

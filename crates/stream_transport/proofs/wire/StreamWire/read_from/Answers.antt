@@ -10,7 +10,7 @@ use Rattle.stream_transport.proofs.wire.StreamWire.read_from.Goals as goal
 pub returns-in_default-clause-read : goal.returns-in_default-clause-read
 returns-in_default-clause-read g c =
     let told = g.L.Listener.told in
-    rw (c.answer.ensures.unchanged, c.answer.ensures.places) (reads_missing g.L.Stream.Read.remaining g.L.Stream.Write.contents (told c.args.self.now.listener) (told c.answer.new.self.listener) c.args.self.now.places.items c.take_out.new.places.items c.args.number _ c.args.buf.now (sym c.remove.ensures.out ∙ c.in_default.is) c.remove.ensures.if_none c.remove.ensures.others (rw c.answer.ensures.unchanged at c.answer.ensures.noted))
+    rw (c.answer.ensures.unchanged, c.answer.ensures.places) (reads_missing g.L.Stream.Read.remaining g.L.Stream.Write.contents (told c.args.self.now.listener) (told c.answer.new.self.listener) c.args.self.now.places.items c.remove.new.places.items c.args.number _ c.args.buf.now (sym c.remove.ensures.out ∙ c.in_default.is) c.remove.ensures.if_none c.remove.ensures.others (rw c.answer.ensures.unchanged at c.answer.ensures.noted))
 
 pub returns-in_default-clause-cause : goal.returns-in_default-clause-cause
 returns-in_default-clause-cause g c = c.answer.ensures.cause
@@ -25,23 +25,23 @@ pub returns-in_default-clause-first : goal.returns-in_default-clause-first
 returns-in_default-clause-first g c = λ some. absurd (some (none_kept (held c.args.self.now.places.items c.args.number) (sym c.remove.ensures.out ∙ c.in_default.is)))
 
 pub returns-in_default-clause-more : goal.returns-in_default-clause-more
-returns-in_default-clause-more g c = rw (c.answer.ensures.places, c.answer.ensures.more) (no_more c.args.self.now.has_buffered _ (none_kept (held c.take_out.new.places.items c.args.number) c.remove.ensures.if_none))
+returns-in_default-clause-more g c = rw (c.answer.ensures.places, c.answer.ensures.more) (no_more c.args.self.now.has_buffered _ (none_kept (held c.remove.new.places.items c.args.number) c.remove.ensures.if_none))
 
 pub returns-in_default-clause-others : goal.returns-in_default-clause-others
 returns-in_default-clause-others g c = rw c.answer.ensures.places c.remove.ensures.others
 
 -- the connection is put back into its place
 pub insert-requires-clause-room : goal.insert-requires-clause-room
-insert-requires-clause-room g c = subst (λ (k : _). k % PLACES < vec_len c.take_out.new.places) (sym (c.read-got.ensures.number ∙ c.in-Some.ensures.number)) c.in-Some.ensures.room
+insert-requires-clause-room g c = subst (λ (k : _). k % PLACES < vec_len c.remove.new.places) (sym (c.read-got.ensures.number ∙ c.in-Some.ensures.number)) c.in-Some.ensures.room
 
 pub insert-requires-clause-free : goal.insert-requires-clause-free
-insert-requires-clause-free g c = subst (λ (k : _). IsFree c.take_out.new.places.items k) (sym (c.read-got.ensures.number ∙ c.in-Some.ensures.number)) c.in-Some.ensures.free
+insert-requires-clause-free g c = subst (λ (k : _). IsFree c.remove.new.places.items k) (sym (c.read-got.ensures.number ∙ c.in-Some.ensures.number)) c.in-Some.ensures.free
 
 pub returns-clause-read : goal.returns-clause-read
 returns-clause-read g c =
     let told = g.L.Listener.told in
     let same : c.read-got.new.self.number ≡ c.args.number = c.read-got.ensures.number ∙ c.in-Some.ensures.number in
-    rw (c.answer-2.ensures.unchanged, c.answer-2.ensures.places) (reads_held g.L.Stream.Read.remaining g.L.Stream.Write.contents (told c.args.self.now.listener) (told c.answer-2.new.self.listener) c.args.self.now.places.items c.put.new.places.items c.args.number c.in-Some.connection c.read-got.new.self c.read-got.result c.read-got.new.buf (sym c.remove.ensures.out ∙ c.in-Some.is) (held_as c.put.new.places.items c.args.number c.read-got.new.self.number c.read-got.new.self same c.insert.ensures.held) (others_then c.args.self.now.places.items c.take_out.new.places.items c.put.new.places.items c.args.number c.read-got.new.self.number same c.remove.ensures.others c.insert.ensures.others) c.read-got.ensures.within c.read-got.ensures.unread c.read-got.ensures.written c.read-got.ensures.ended (rw c.answer-2.ensures.unchanged at c.answer-2.ensures.noted))
+    rw (c.answer-2.ensures.unchanged, c.answer-2.ensures.places) (reads_held g.L.Stream.Read.remaining g.L.Stream.Write.contents (told c.args.self.now.listener) (told c.answer-2.new.self.listener) c.args.self.now.places.items c.insert.new.places.items c.args.number c.in-Some.connection c.read-got.new.self c.read-got.result c.read-got.new.buf (sym c.remove.ensures.out ∙ c.in-Some.is) (held_as c.insert.new.places.items c.args.number c.read-got.new.self.number c.read-got.new.self same c.insert.ensures.held) (others_then c.args.self.now.places.items c.remove.new.places.items c.insert.new.places.items c.args.number c.read-got.new.self.number same c.remove.ensures.others c.insert.ensures.others) c.read-got.ensures.within c.read-got.ensures.unread c.read-got.ensures.written c.read-got.ensures.ended (rw c.answer-2.ensures.unchanged at c.answer-2.ensures.noted))
 
 pub returns-clause-cause : goal.returns-clause-cause
 returns-clause-cause g c = c.answer-2.ensures.cause
@@ -52,7 +52,7 @@ returns-clause-asks g c = c.answer-2.ensures.asks
 pub returns-clause-gives : goal.returns-clause-gives
 returns-clause-gives g c =
     let same : c.read-got.new.self.number ≡ c.args.number = c.read-got.ensures.number ∙ c.in-Some.ensures.number in
-    rw (c.answer-2.ensures.unchanged, c.answer-2.ensures.places) (of_held _ (held c.args.self.now.places.items c.args.number) (held c.put.new.places.items c.args.number) c.in-Some.connection c.read-got.new.self (sym c.remove.ensures.out ∙ c.in-Some.is) (held_as c.put.new.places.items c.args.number c.read-got.new.self.number c.read-got.new.self same c.insert.ensures.held) c.read-got.ensures.asked)
+    rw (c.answer-2.ensures.unchanged, c.answer-2.ensures.places) (of_held _ (held c.args.self.now.places.items c.args.number) (held c.insert.new.places.items c.args.number) c.in-Some.connection c.read-got.new.self (sym c.remove.ensures.out ∙ c.in-Some.is) (held_as c.insert.new.places.items c.args.number c.read-got.new.self.number c.read-got.new.self same c.insert.ensures.held) c.read-got.ensures.asked)
 
 pub returns-clause-line : goal.returns-clause-line
 returns-clause-line g c = rw c.answer-2.ensures.unchanged c.read-got.ensures.line
@@ -63,4 +63,4 @@ returns-clause-first g c = rw (c.answer-2.ensures.unchanged, kept_held (held c.a
 pub returns-clause-others : goal.returns-clause-others
 returns-clause-others g c =
     let same : c.read-got.new.self.number ≡ c.args.number = c.read-got.ensures.number ∙ c.in-Some.ensures.number in
-    rw c.answer-2.ensures.places (others_then c.args.self.now.places.items c.take_out.new.places.items c.put.new.places.items c.args.number c.read-got.new.self.number same c.remove.ensures.others c.insert.ensures.others)
+    rw c.answer-2.ensures.places (others_then c.args.self.now.places.items c.remove.new.places.items c.insert.new.places.items c.args.number c.read-got.new.self.number same c.remove.ensures.others c.insert.ensures.others)

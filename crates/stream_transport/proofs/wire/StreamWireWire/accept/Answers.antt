@@ -14,8 +14,8 @@ returns-clause-unchanged g c =
     let t = g.L.Stream.Write.contents in
     let told = g.L.Listener.told in
     let old = c.args.self.now in
-    let looked = alike_keeps r t (told old.listener) (told c.look-looked.new.self) old.places.items c.remember.new.self.places.items c.mark_all_ready.ensures.alike c.look-looked.ensures.unchanged in
-    λ n. kept_then (reported r t (told old.listener) old.places.items) (reported r t (told c.look-looked.new.self) c.remember.new.self.places.items) (reported r t (told c.take_in.new.self.listener) c.take_in.new.self.places.items) n (looked n) (rw c.mark_all_ready.ensures.listener at c.accept_or_retry.ensures.unchanged n)
+    let looked = alike_keeps r t (told old.listener) (told c.look-looked.new.self) old.places.items c.mark_all_ready.new.self.places.items c.mark_all_ready.ensures.alike c.look-looked.ensures.unchanged in
+    λ n. kept_then (reported r t (told old.listener) old.places.items) (reported r t (told c.look-looked.new.self) c.mark_all_ready.new.self.places.items) (reported r t (told c.accept_or_retry.new.self.listener) c.accept_or_retry.new.self.places.items) n (looked n) (rw c.mark_all_ready.ensures.listener at c.accept_or_retry.ensures.unchanged n)
 
 -- a look, and then the next one who waits
 pub returns-clause-asks : goal.returns-clause-asks
@@ -25,16 +25,16 @@ pub returns-clause-number : goal.returns-clause-number
 returns-clause-number g c = rw c.mark_all_ready.ensures.next at c.accept_or_retry.ensures.number
 
 pub returns-clause-cause : goal.returns-clause-cause
-returns-clause-cause g c = cause_then c.args.self.now.failed c.remember.new.self.failed c.take_in.new.self.failed c.accept_or_retry.result c.mark_all_ready.ensures.cause.0 c.accept_or_retry.ensures.cause
+returns-clause-cause g c = cause_then c.args.self.now.failed c.mark_all_ready.new.self.failed c.accept_or_retry.new.self.failed c.accept_or_retry.result c.mark_all_ready.ensures.cause.0 c.accept_or_retry.ensures.cause
 
 pub returns-clause-opens : goal.returns-clause-opens
-returns-clause-opens g c = stays_open c.accept_or_retry.result c.args.self.now.acceptable c.remember.new.self.acceptable c.take_in.new.self.acceptable c.accept_or_retry.ensures.opens c.if-not-self.false
+returns-clause-opens g c = stays_open c.accept_or_retry.result c.args.self.now.acceptable c.mark_all_ready.new.self.acceptable c.accept_or_retry.new.self.acceptable c.accept_or_retry.ensures.opens c.if-not-self.false
 
 pub returns-clause-awake : goal.returns-clause-awake
-returns-clause-awake g c = on_ok c.accept_or_retry.result _ (awake_named (g.L.Listener.named c.remember.new.self.listener) (g.L.Listener.named c.take_in.new.self.listener) c.remember.new.self.places.items c.take_in.new.self.places.items c.accept_or_retry.ensures.named c.accept_or_retry.ensures.awake c.in_ok-remember.ensures.awake)
+returns-clause-awake g c = on_ok c.accept_or_retry.result _ (awake_named (g.L.Listener.named c.mark_all_ready.new.self.listener) (g.L.Listener.named c.accept_or_retry.new.self.listener) c.mark_all_ready.new.self.places.items c.accept_or_retry.new.self.places.items c.accept_or_retry.ensures.named c.accept_or_retry.ensures.awake c.in_ok-mark_all_ready.ensures.awake)
 
 pub returns-clause-still : goal.returns-clause-still
-returns-clause-still g c = still_then c.args.self.now.places.items c.remember.new.self.places.items c.take_in.new.self.places.items c.mark_all_ready.ensures.still c.accept_or_retry.ensures.awake
+returns-clause-still g c = still_then c.args.self.now.places.items c.mark_all_ready.new.self.places.items c.accept_or_retry.new.self.places.items c.mark_all_ready.ensures.still c.accept_or_retry.ensures.awake
 
 pub accept_or_retry-requires : goal.accept_or_retry-requires
 accept_or_retry-requires g c = record { left = rw c.mark_all_ready.ensures.next c.if-self.false }
@@ -43,28 +43,28 @@ accept_or_retry-requires g c = record { left = rw c.mark_all_ready.ensures.next 
 pub returns-then-not-self-clause-unchanged : goal.returns-then-not-self-clause-unchanged
 returns-then-not-self-clause-unchanged g c =
     let told = g.L.Listener.told in
-    looked g.L.Stream.Read.remaining g.L.Stream.Write.contents (told c.args.self.now.listener) (told c.look-looked.new.self) (told c.remember.new.self.listener) c.args.self.now.places.items c.remember.new.self.places.items (ap told c.mark_all_ready.ensures.listener) c.mark_all_ready.ensures.alike c.look-looked.ensures.unchanged
+    looked g.L.Stream.Read.remaining g.L.Stream.Write.contents (told c.args.self.now.listener) (told c.look-looked.new.self) (told c.mark_all_ready.new.self.listener) c.args.self.now.places.items c.mark_all_ready.new.self.places.items (ap told c.mark_all_ready.ensures.listener) c.mark_all_ready.ensures.alike c.look-looked.ensures.unchanged
 
 pub returns-then-not-self-clause-cause : goal.returns-then-not-self-clause-cause
-returns-then-not-self-clause-cause g c = cause_of_ok _ c.args.self.now.failed c.remember.new.self.failed c.mark_all_ready.ensures.cause.0
+returns-then-not-self-clause-cause g c = cause_of_ok _ c.args.self.now.failed c.mark_all_ready.new.self.failed c.mark_all_ready.ensures.cause.0
 
 pub returns-then-not-self-clause-asks : goal.returns-then-not-self-clause-asks
-returns-then-not-self-clause-asks g c = asked_nobody c.args.self.now.acceptable c.remember.new.self.acceptable _ _ _ (rw (← c.mark_all_ready.ensures.listener) at c.look-looked.ensures.asked) c.mark_all_ready.ensures.opens c.in_ok-remember.ensures.named c.if-not-self.true
+returns-then-not-self-clause-asks g c = asked_nobody c.args.self.now.acceptable c.mark_all_ready.new.self.acceptable _ _ _ (rw (← c.mark_all_ready.ensures.listener) at c.look-looked.ensures.asked) c.mark_all_ready.ensures.opens c.in_ok-mark_all_ready.ensures.named c.if-not-self.true
 
 pub returns-then-not-self-clause-awake : goal.returns-then-not-self-clause-awake
-returns-then-not-self-clause-awake g c = c.in_ok-remember.ensures.awake
+returns-then-not-self-clause-awake g c = c.in_ok-mark_all_ready.ensures.awake
 
 pub returns-then-not-self-clause-still : goal.returns-then-not-self-clause-still
 returns-then-not-self-clause-still g c = c.mark_all_ready.ensures.still
 
 -- a look that failed
-pub returns-in_err-remember-clause-unchanged : goal.returns-in_err-remember-clause-unchanged
-returns-in_err-remember-clause-unchanged g c =
+pub returns-in_err-mark_all_ready-clause-unchanged : goal.returns-in_err-mark_all_ready-clause-unchanged
+returns-in_err-mark_all_ready-clause-unchanged g c =
     let told = g.L.Listener.told in
-    looked g.L.Stream.Read.remaining g.L.Stream.Write.contents (told c.args.self.now.listener) (told c.look-looked.new.self) (told c.remember.new.self.listener) c.args.self.now.places.items c.remember.new.self.places.items (ap told c.mark_all_ready.ensures.listener) c.mark_all_ready.ensures.alike c.look-looked.ensures.unchanged
+    looked g.L.Stream.Read.remaining g.L.Stream.Write.contents (told c.args.self.now.listener) (told c.look-looked.new.self) (told c.mark_all_ready.new.self.listener) c.args.self.now.places.items c.mark_all_ready.new.self.places.items (ap told c.mark_all_ready.ensures.listener) c.mark_all_ready.ensures.alike c.look-looked.ensures.unchanged
 
-pub returns-in_err-remember-clause-still : goal.returns-in_err-remember-clause-still
-returns-in_err-remember-clause-still g c = c.mark_all_ready.ensures.still
+pub returns-in_err-mark_all_ready-clause-still : goal.returns-in_err-mark_all_ready-clause-still
+returns-in_err-mark_all_ready-clause-still g c = c.mark_all_ready.ensures.still
 
 -- no number is left
 pub returns-then-self-clause-unchanged : goal.returns-then-self-clause-unchanged

@@ -25,11 +25,11 @@ turns-smaller g c = rw c.in-Some.is at c.in_ok-made.ensures.fewer
 pub turns-preserved : goal.turns-preserved
 turns-preserved g c =
     let most : c.in-Some.made ≤ c.turns.left = rw c.in-Some.is at c.in_ok-made.ensures.most in
-    let made : c.in-Some.made + load c.turn.new.self ≤ load c.turns.self = rw c.in-Some.is at c.in_ok-made.ensures.made in
+    let made : c.in-Some.made + load c.work_once.new.self ≤ load c.turns.self = rw c.in-Some.is at c.in_ok-made.ensures.made in
     record {
       kept = keeps_then _ _ _ c.turns.invariant.kept c.work_once.ensures.kept;
       within = search rules;
-      made = made_on c.args.budget c.turns.left (load c.args.self.now) (load c.turns.self) c.in-Some.made (load c.turn.new.self) c.turns.invariant.made most made;
+      made = made_on c.args.budget c.turns.left (load c.args.self.now) (load c.turns.self) c.in-Some.made (load c.work_once.new.self) c.turns.invariant.made most made;
       told = ended_then _ _ _ _ _ _ _ c.turns.invariant.told c.work_once.ensures.told;
       capacity = search rules;
     }
@@ -37,19 +37,19 @@ turns-preserved g c =
 -- the budget was used up within a search
 pub returns-in-None-clause-made : goal.returns-in-None-clause-made
 returns-in-None-clause-made g c =
-    let spent : c.turns.left + load c.turn.new.self ≤ load c.turns.self = rw c.in-None.is at c.in_ok-made.ensures.spent in
-    made_all c.args.budget c.turns.left (load c.args.self.now) (load c.turns.self) (load c.turn.new.self) c.turns.invariant.made spent
+    let spent : c.turns.left + load c.work_once.new.self ≤ load c.turns.self = rw c.in-None.is at c.in_ok-made.ensures.spent in
+    made_all c.args.budget c.turns.left (load c.args.self.now) (load c.turns.self) (load c.work_once.new.self) c.turns.invariant.made spent
 
 pub returns-in-None-clause-spent : goal.returns-in-None-clause-spent
 returns-in-None-clause-spent g c = λ _. (refl, rw c.in-None.is at c.in_ok-made.ensures.unfinished)
 
 pub returns-in-None-clause-enough : goal.returns-in-None-clause-enough
 returns-in-None-clause-enough g c = λ enough.
-    let spent : c.turns.left + load c.turn.new.self ≤ load c.turns.self = rw c.in-None.is at c.in_ok-made.ensures.spent in
-    let mid : IsMidSearch c.turn.new.self.go_task = rw c.in-None.is at c.in_ok-made.ensures.unfinished in
-    absurd (not_enough c.args.budget (load c.args.self.now) (load c.turn.new.self)
-    (made_all c.args.budget c.turns.left (load c.args.self.now) (load c.turns.self) (load c.turn.new.self) c.turns.invariant.made spent)
-    (mid_load c.turn.new.self.state c.turn.new.self.go_task (ahead c.turn.new.self.input []) mid) enough)
+    let spent : c.turns.left + load c.work_once.new.self ≤ load c.turns.self = rw c.in-None.is at c.in_ok-made.ensures.spent in
+    let mid : IsMidSearch c.work_once.new.self.go_task = rw c.in-None.is at c.in_ok-made.ensures.unfinished in
+    absurd (not_enough c.args.budget (load c.args.self.now) (load c.work_once.new.self)
+    (made_all c.args.budget c.turns.left (load c.args.self.now) (load c.turns.self) (load c.work_once.new.self) c.turns.invariant.made spent)
+    (mid_load c.work_once.new.self.state c.work_once.new.self.go_task (ahead c.work_once.new.self.input []) mid) enough)
 
 pub returns-in-None-clause-due : goal.returns-in-None-clause-due
 returns-in-None-clause-due g c = λ x. c.work_once.ensures.kept.due_is x ∙ c.turns.invariant.kept.due_is x
