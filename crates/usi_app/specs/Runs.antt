@@ -2,7 +2,7 @@
 use Rattle.std.specs.Prelude.{◌≡◌, ℕ, List, Result, Ok, Err, IfErr, OnErr, OnOk}
 use Rattle.usi_replay.specs.declared.fault.ReplayFault.{ReplayFault}
 use Rattle.usi_replay.specs.declared.fault.ReplayFault.TheVariants.{OutOfMemory, ReadFailed, WriteFailed, BadScript}
-use Rattle.usi_replay.specs.Replayed.{FlushesAll, Leaves, Replays}
+use Rattle.usi_replay.specs.Replayed.{Leaves, Recites, Replays}
 use Rattle.usi_stdio.specs.declared.streams.StdioFault.{StdioFault}
 use Rattle.usi_stdio.specs.Calls.{Report}
 use Rattle.usi_stdio.specs.Dialogue.{Talks}
@@ -36,12 +36,12 @@ pub record IsSession (setup : Setup) (old new : Report) (status : ℕ) : Type 0 
   pub calls : Talks setup old.calls new.calls ended
   pub status_is : status ≡ ended_status ended
 
--- what was read is a script, and its output under the setup was written and flushed, with this status; or it is bad, or a fault came
+-- what was read is a script, and its output under the setup was written and flushed, with this status; or it is bad, or a fault came; and the calls are a replay
 pub record IsReplay (setup : Setup) (slots : ℕ) (old new : Report) (status : ℕ) : Type 0 where
   pub ended : Result (Unit {0}) ReplayFault
   pub ok : OnOk ended (Replays setup slots old new)
-  pub flushed : OnOk ended (FlushesAll old new)
   pub err : IfErr ended (Leaves setup slots old new)
+  pub calls : Recites setup slots old.calls new.calls ended
   pub status_is : status ≡ replayed_status ended
 
 -- a text was written and flushed, and nothing was read, with this status; or a prefix of it, after a fault

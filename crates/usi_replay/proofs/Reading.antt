@@ -1,77 +1,96 @@
 -- A script that is read to its end, and its output written.
-use Rattle.std.proofs.Common.{◌≡◌, ◌<◌, ℕ, List, [], ◌∷◌, ◌++◌, Option, None, Some, Result, IsErrAnd, IfErr, Ok, Err, refl, sym, ap, ◌∙◌, length, take}
+use Rattle.std.proofs.Common.{◌≡◌, ◌≢◌, ◌<◌, ◌≤◌, ◌+◌, ◌-◌, ◌^◌, ℕ, zero, suc, inl, inr, List, [], ◌∷◌, ◌++◌, Option, None, Some, Result, IsErrAnd, IfErr, Ok, Err, refl, sym, ap, ◌∙◌, length, take, arith, append_assoc, append-nil, length-append}
+use Rattle.std.specs.Prelude.{Vec, flat_map}
 use Rattle.std.specs.Io.KnownBytes.{Appends, Consumes, Keeps}
+use Rattle.std.proofs.lemmas.Grind.{flat_map-append}
+use Rattle.std.proofs.lemmas.List.{map-append}
+use Rattle.std.proofs.lemmas.List.Elements.{All-nil, All-push}
 use Rattle.std.proofs.KnownBytes.{Consumes-nil, Consumes-trans, Consumes-kept, Keeps-refl, Keeps-trans}
 use Rattle.usi_texts.specs.declared.setup.Setup.{Setup}
-use Rattle.usi_stdio.specs.Calls.{Call, Read, Write, Flush, FailedRead, FailedWrite, FailedFlush, Report, Reads, read_call}
-use Rattle.usi_stdio.specs.Dialogue.{Talk, after_call, after_calls, no_call}
-use Rattle.usi_stdio.specs.Saying.{quiet, Says, SaysPrefix}
-use Rattle.usi_stdio.proofs.Talking.{after_both, after_one, called_none, called_then}
+use Rattle.usi_stdio.specs.Calls.{Call, Read, FailedRead, Makes, Report, Reads}
+use Rattle.usi_stdio.specs.Saying.{Says, SaysPrefix}
+use Rattle.usi_stdio.proofs.Talking.{called_none, called_then}
 use Rattle.usi_stdio.specs.declared.streams.StdioFault.{StdioFault}
+use Rattle.usi_stdio.specs.declared.streams.StdioFault.TheVariants as stdio
 use Rattle.usi_replay.specs.declared.fault.ReplayFault.{ReplayFault}
 use Rattle.usi_replay.specs.declared.fault.ReplayFault.TheVariants.{OutOfMemory, ReadFailed, WriteFailed, BadScript}
-use Rattle.usi_replay.specs.Replayed.{FlushesAll, GivesAll, Replays, Leaves, IsReadFault, IsAnswerFault, IsOutputOf}
+use Rattle.usi_replay.specs.Replayed.{AreReads, ReadsAll, EndsReading, EndsEarly, ReadsBy, Recites, GivesAll, Replays, Leaves, IsAnswerFault, IsOutputOf}
 
--- ---- what is flushed
+-- ---- the calls
 
-flushes_none : (r : Report) → FlushesAll r r
-flushes_none r = record { calls = []; called = called_none r.calls; flushed = refl }
+no_reads : AreReads [] []
+no_reads = record { chunks = []; each = All-nil (λ (chunk : List ℕ). chunk ≢ []); calls_are = refl; bytes_are = refl }
 
-read_flushes : {E : Type 0} (t : Talk) (result : Result ℕ E) (buf : List ℕ) → (after_call t (read_call result buf)).is_flushed ≡ t.is_flushed
-read_flushes t (Ok n) buf = refl
-read_flushes t (Err error) buf = refl
-
-flushes_read : {E : Type 0} (old mid now : Report) (buf : List ℕ) (result : Result ℕ E) → FlushesAll old mid → Reads mid now result buf → FlushesAll old now
-flushes_read old mid now buf result a r = record {
-  calls = a.calls ++ (read_call result buf ∷ []);
-  called = called_then old.calls mid.calls now.calls a.calls (read_call result buf ∷ []) a.called r.called;
-  flushed = ap (λ (t : Talk). t.is_flushed) (after_one no_call a.calls (read_call result buf)) ∙ (read_flushes (after_calls no_call a.calls) result buf ∙ a.flushed);
+more_reads : (calls : List Call) (bytes chunk : List ℕ) → AreReads calls bytes → chunk ≢ [] → AreReads (calls ++ (Read chunk ∷ [])) (bytes ++ chunk)
+more_reads calls bytes chunk r some = record {
+  chunks = r.chunks ++ (chunk ∷ []);
+  each = All-push (λ (xs : List ℕ). xs ≢ []) r.chunks chunk r.each some;
+  calls_are = ap (λ (l : List Call). l ++ (Read chunk ∷ [])) r.calls_are ∙ sym (map-append Read r.chunks (chunk ∷ []));
+  bytes_are = ap (λ (l : List ℕ). l ++ chunk) r.bytes_are ∙ (ap (λ (l : List ℕ). flat_map (λ (xs : List ℕ). xs) r.chunks ++ l) (sym (append-nil chunk)) ∙ sym (flat_map-append (λ (xs : List ℕ). xs) r.chunks (chunk ∷ [])));
 }
 
-one_flush : (t u : Talk) (c : Call) → t.is_flushed ≡ u.is_flushed → (after_call t c).is_flushed ≡ (after_call u c).is_flushed
-one_flush t u (Read bytes) e = e
-one_flush t u (Write bytes) e = refl
-one_flush t u Flush e = refl
-one_flush t u FailedRead e = e
-one_flush t u FailedWrite e = e
-one_flush t u FailedFlush e = e
-
-same_flushes : (t u : Talk) (calls : List Call) → t.is_flushed ≡ u.is_flushed → (after_calls t calls).is_flushed ≡ (after_calls u calls).is_flushed
-same_flushes t u [] e = e
-same_flushes t u (c ∷ rest) e = same_flushes (after_call t c) (after_call u c) rest (one_flush t u c e)
-
-pub flushes_said : (old mid now : Report) (bytes : List ℕ) → FlushesAll old mid → Says mid now bytes → FlushesAll old now
-flushes_said old mid now bytes a s = record {
-  calls = a.calls ++ s.calls;
-  called = called_then old.calls mid.calls now.calls a.calls s.calls a.called s.called;
-  flushed = ap (λ (t : Talk). t.is_flushed) (after_both no_call a.calls s.calls)
-      ∙ (same_flushes (after_calls no_call a.calls) (quiet [] 0 []) s.calls a.flushed
-      ∙ ap (λ (t : Talk). t.is_flushed) (s.spoken.after [] 0 []));
-}
+some_taken : (n : ℕ) (buf : List ℕ) → 0 < n → n ≤ length buf → take n buf ≢ []
+some_taken zero buf lt le = absurd (omega arith)
+some_taken (suc n) [] lt le = absurd (omega arith)
+some_taken (suc n) (byte ∷ rest) lt le = λ e. cc
 
 -- ---- the reading
 
--- these bytes were read so far, and nothing was written
-pub record IsReading (old now : Report) (bytes : List ℕ) : Type 0 where
+-- these bytes were read so far, in so many reads, and nothing was written
+pub record IsReading (old now : Report) (bytes : List ℕ) (reads : ℕ) : Type 0 where
   pub consumed : Consumes old.unread now.unread bytes
   pub kept : Keeps old.written now.written
-  pub flushed : FlushesAll old now
+  pub calls : List Call
+  pub called : Makes old.calls now.calls calls
+  pub are_reads : AreReads calls bytes
+  pub count_is : length calls ≡ reads
 
-pub reading_start : (r : Report) (bytes : List ℕ) → bytes ≡ [] → IsReading r r bytes
-reading_start r bytes none = rw none (record { consumed = Consumes-nil r.unread; kept = Keeps-refl r.written; flushed = flushes_none r })
+pub reading_start : (r : Report) (bytes : List ℕ) → bytes ≡ [] → IsReading r r bytes 0
+reading_start r bytes none = rw none (record { consumed = Consumes-nil r.unread; kept = Keeps-refl r.written; calls = []; called = called_none r.calls; are_reads = no_reads; count_is = refl })
 
-pub reading_more : {E : Type 0} (old mid now : Report) (bytes all buf : List ℕ) (n : ℕ) → IsReading old mid bytes → Reads {E = E} mid now (Ok n) buf → all ≡ bytes ++ take n buf → IsReading old now all
-reading_more old mid now bytes all buf n a r same = rw same (record {
+-- one read more, which gave bytes
+pub reading_more : {E : Type 0} (old mid now : Report) (bytes all buf : List ℕ) (n reads : ℕ) → IsReading old mid bytes reads → Reads {E = E} mid now (Ok n) buf → 0 < n → all ≡ bytes ++ take n buf → IsReading old now all (reads + 1)
+reading_more old mid now bytes all buf n reads a r some same = rw same (record {
   consumed = Consumes-trans old.unread mid.unread now.unread bytes (take n buf) a.consumed r.consumed.0;
   kept = Keeps-trans old.written mid.written now.written a.kept r.written;
-  flushed = flushes_read old mid now buf (Ok n) a.flushed r;
+  calls = a.calls ++ (Read (take n buf) ∷ []);
+  called = called_then old.calls mid.calls now.calls a.calls (Read (take n buf) ∷ []) a.called r.called;
+  are_reads = more_reads a.calls bytes (take n buf) a.are_reads (some_taken n buf some r.within);
+  count_is = length-append a.calls (Read (take n buf) ∷ []) ∙ ap (λ k. k + 1) a.count_is;
 })
 
-pub reading_kept : {E : Type 0} (old mid now : Report) (bytes buf : List ℕ) (result : Result ℕ E) → IsReading old mid bytes → Reads mid now result buf → Keeps old.written now.written
-reading_kept old mid now bytes buf result a r = Keeps-trans old.written mid.written now.written a.kept r.written
+pub reading_kept : {E : Type 0} (old mid now : Report) (bytes buf : List ℕ) (reads : ℕ) (result : Result ℕ E) → IsReading old mid bytes reads → Reads mid now result buf → Keeps old.written now.written
+reading_kept old mid now bytes buf reads result a r = Keeps-trans old.written mid.written now.written a.kept r.written
 
-pub reading_flushed : {E : Type 0} (old mid now : Report) (bytes buf : List ℕ) (result : Result ℕ E) → IsReading old mid bytes → Reads mid now result buf → FlushesAll old now
-reading_flushed old mid now bytes buf result a r = flushes_read old mid now buf result a.flushed r
+-- a read failed
+pub reads_failed : {E Z : Type 0} (old mid now : Report) (bytes buf : List ℕ) (reads : ℕ) (error : E) → IsReading old mid bytes reads → Reads mid now (Err error) buf → ReadsBy {Z = Z} old.calls now.calls (Err ReadFailed)
+reads_failed old mid now bytes buf reads error a r = record {
+  calls = a.calls ++ (FailedRead ∷ []);
+  called = called_then old.calls mid.calls now.calls a.calls (FailedRead ∷ []) a.called r.called;
+  ended = record { reads = a.calls; bytes = bytes; are_reads = a.are_reads; failed = inl refl };
+}
+
+-- the input ended
+pub reads_ended : {E Z : Type 0} (old mid now : Report) (buf : List ℕ) (n reads : ℕ) (bytes : Vec ℕ Z) → IsReading old mid bytes.items reads → Reads {E = E} mid now (Ok n) buf → n ≡ 0 → ReadsBy {Z = Z} old.calls now.calls (Ok bytes)
+reads_ended old mid now buf n reads bytes a r none = record {
+  calls = a.calls ++ (Read [] ∷ []);
+  called = called_then old.calls mid.calls now.calls a.calls (Read [] ∷ []) a.called (rw none at r.called);
+  ended = record { reads = a.calls; are_reads = a.are_reads; split = refl };
+}
+
+-- memory was refused for what a read gave
+pub reads_unkept : {E Z : Type 0} (old mid now : Report) (bytes buf : List ℕ) (n reads : ℕ) → IsReading old mid bytes reads → Reads {E = E} mid now (Ok n) buf → 0 < n → ReadsBy {Z = Z} old.calls now.calls (Err OutOfMemory)
+reads_unkept old mid now bytes buf n reads a r some =
+    let more : IsReading old now (bytes ++ take n buf) (reads + 1) = reading_more old mid now bytes (bytes ++ take n buf) buf n reads a r some refl in
+    record { calls = more.calls; called = more.called; ended = (bytes ++ take n buf, more.are_reads) }
+
+-- the greatest number of reads was made
+pub reads_many : {Z : Type 0} (old now : Report) (bytes : List ℕ) (reads : ℕ) → IsReading old now bytes reads → reads ≡ 2 ^ 64 - 1 → ReadsBy {Z = Z} old.calls now.calls (Err ReadFailed)
+reads_many old now bytes reads a all = record {
+  calls = a.calls;
+  called = a.called;
+  ended = record { reads = a.calls; bytes = bytes; are_reads = a.are_reads; failed = inr (refl, a.count_is ∙ all) };
+}
 
 -- a read of nothing leaves the rest as it was
 none_read : (mid now : Option (List ℕ)) (buf : List ℕ) (n : ℕ) → Consumes mid now (take n buf) → n ≡ 0 → Keeps mid now
@@ -79,8 +98,8 @@ none_read None now buf n c none = tt
 none_read (Some xs) None buf n c none = absurd c
 none_read (Some xs) (Some ys) buf n c none = sym (c ∙ ap (λ k. take k buf ++ ys) none)
 
-pub reading_done : {E : Type 0} (old mid now : Report) (bytes buf : List ℕ) (n : ℕ) → IsReading old mid bytes → Reads {E = E} mid now (Ok n) buf → n ≡ 0 → 0 < length buf → GivesAll old now bytes
-reading_done old mid now bytes buf n a r none room = record {
+pub reading_done : {E : Type 0} (old mid now : Report) (bytes buf : List ℕ) (n reads : ℕ) → IsReading old mid bytes reads → Reads {E = E} mid now (Ok n) buf → n ≡ 0 → 0 < length buf → GivesAll old now bytes
+reading_done old mid now bytes buf n reads a r none room = record {
   consumed = Consumes-kept old.unread mid.unread now.unread bytes a.consumed (none_read mid.unread now.unread buf n r.consumed.0 none);
   ended = r.consumed.1 none room;
 }
@@ -107,11 +126,11 @@ leaves_write setup slots old mid new bytes out fault given kept (os, reads, is) 
 }
 
 -- a fault before anything was written
-pub leaves_read : (setup : Setup) (slots : ℕ) (old new : Report) (fault : ReplayFault) → IsReadFault fault → Keeps old.written new.written → Leaves setup slots old new fault
-leaves_read setup slots old new OutOfMemory is kept = kept
-leaves_read setup slots old new ReadFailed is kept = kept
-leaves_read setup slots old new WriteFailed is kept = absurd is
-leaves_read setup slots old new (BadScript line) is kept = absurd is
+pub leaves_read : {Z : Type 0} (setup : Setup) (slots : ℕ) (old new : Report) (fault : ReplayFault) → ReadsBy {Z = Z} old.calls new.calls (Err fault) → Keeps old.written new.written → Leaves setup slots old new fault
+leaves_read setup slots old new OutOfMemory r kept = kept
+leaves_read setup slots old new ReadFailed r kept = kept
+leaves_read setup slots old new WriteFailed r kept = absurd r.ended
+leaves_read setup slots old new (BadScript line) r kept = absurd r.ended
 
 pub leaves_answer : (setup : Setup) (slots : ℕ) (old new : Report) (bytes : List ℕ) (fault : ReplayFault) → GivesAll old new bytes → IsAnswerFault slots bytes fault → Keeps old.written new.written → Leaves setup slots old new fault
 leaves_answer setup slots old new bytes OutOfMemory given is kept = kept
@@ -126,3 +145,78 @@ leaves_answer setup slots old new bytes (BadScript line) given is kept = record 
 pub passed_on : {T : Type 0} (r : Result T ReplayFault) (fault : ReplayFault) (P : ReplayFault → Type 0) → IsErrAnd r (λ given. given ≡ fault) → P fault → IfErr r P
 passed_on (Ok x) fault P same h = tt
 passed_on (Err given) fault P same h = rw same h
+
+-- ---- the calls of a replay
+
+early_read : (setup : Setup) (slots : ℕ) (calls : List Call) (fault : ReplayFault) → EndsReading calls fault → EndsEarly setup slots calls fault
+early_read setup slots calls OutOfMemory (bytes, r) = (bytes, inl r)
+early_read setup slots calls ReadFailed r = r
+early_read setup slots calls WriteFailed r = absurd r
+early_read setup slots calls (BadScript line) r = absurd r
+
+early_answer : (setup : Setup) (slots : ℕ) (calls : List Call) (bytes : List ℕ) (fault : ReplayFault) → ReadsAll calls bytes [] → IsAnswerFault slots bytes fault → EndsEarly setup slots calls fault
+early_answer setup slots calls bytes OutOfMemory r is = (bytes, inr r)
+early_answer setup slots calls bytes ReadFailed r is = absurd is
+early_answer setup slots calls bytes WriteFailed r is = absurd is
+early_answer setup slots calls bytes (BadScript line) r is = (bytes, r, is)
+
+-- the script was not read
+pub recites_read : {Z : Type 0} (setup : Setup) (slots : ℕ) (old new : Option (List Call)) (r : Result (Unit {0}) ReplayFault) (fault : ReplayFault) → IsErrAnd r (λ given. given ≡ fault) → ReadsBy {Z = Z} old new (Err fault) → Recites setup slots old new r
+recites_read setup slots old new (Ok done) fault same a = absurd same
+recites_read setup slots old new (Err given) fault same a = rw same (record { calls = a.calls; called = a.called; ended = early_read setup slots a.calls fault a.ended })
+
+-- it has no output
+pub recites_none : {Z : Type 0} (setup : Setup) (slots : ℕ) (old new : Option (List Call)) (script : Vec ℕ Z) (bytes : List ℕ) (r : Result (Unit {0}) ReplayFault) (fault : ReplayFault) → IsErrAnd r (λ given. given ≡ fault) → ReadsBy {Z = Z} old new (Ok script) → bytes ≡ script.items → IsAnswerFault slots bytes fault → Recites setup slots old new r
+recites_none setup slots old new script bytes (Ok done) fault same a e is = absurd same
+recites_none setup slots old new script bytes (Err given) fault same a e is = rw same (record { calls = a.calls; called = a.called; ended = early_answer setup slots a.calls bytes fault (rw e a.ended) is })
+
+-- calls behind the reading
+all_then : (calls rest : List Call) (bytes : List ℕ) → ReadsAll calls bytes [] → ReadsAll (calls ++ rest) bytes rest
+all_then calls rest bytes r = record {
+  reads = r.reads;
+  are_reads = r.are_reads;
+  split = ap (λ (l : List Call). l ++ rest) r.split ∙ append_assoc r.reads (Read [] ∷ []) rest;
+}
+
+-- it was written
+pub recites_out : {Z : Type 0} (setup : Setup) (slots : ℕ) (old : Option (List Call)) (mid new : Report) (script : Vec ℕ Z) (bytes out : List ℕ) (done : Unit {0}) → ReadsBy {Z = Z} old mid.calls (Ok script) → bytes ≡ script.items → IsOutputOf setup slots bytes out → Says mid new out → Recites setup slots old new.calls (Ok done)
+recites_out setup slots old mid new script bytes out done a e is s = record {
+  calls = a.calls ++ s.calls;
+  called = called_then old mid.calls new.calls a.calls s.calls a.called s.called;
+  ended = record {
+    bytes = bytes;
+    out = out;
+    is_output = is;
+    said = s.calls;
+    read = all_then a.calls s.calls bytes (rw e a.ended);
+    done = out;
+    split = sym (append-nil out);
+    spoken = s.spoken;
+  };
+}
+
+abbrev ended : StdioFault → Result (Unit {0}) StdioFault
+ended fault = Err fault
+
+-- a write failed
+pub recites_part : {Z : Type 0} (setup : Setup) (slots : ℕ) (old : Option (List Call)) (mid new : Report) (script : Vec ℕ Z) (bytes out : List ℕ) (fault : StdioFault) → ReadsBy {Z = Z} old mid.calls (Ok script) → bytes ≡ script.items → IsOutputOf setup slots bytes out → SaysPrefix mid new out fault → ended fault ≡ ended stdio.WriteFailed → Recites setup slots old new.calls (Err WriteFailed)
+recites_part setup slots old mid new script bytes out stdio.OutOfMemory a e is (left, w) same = absurd cc
+recites_part setup slots old mid new script bytes out stdio.ReadFailed a e is (left, w) same = absurd cc
+recites_part setup slots old mid new script bytes out stdio.WriteFailed a e is (left, w) same = record {
+  calls = a.calls ++ w.said.calls;
+  called = called_then old mid.calls new.calls a.calls w.said.calls a.called w.said.called;
+  ended = (
+    left,
+    w.is_flushed,
+    record {
+      bytes = bytes;
+      out = out;
+      is_output = is;
+      said = w.said.calls;
+      read = all_then a.calls w.said.calls bytes (rw e a.ended);
+      done = w.done;
+      split = w.split;
+      spoken = w.said.spoken;
+    },
+  );
+}

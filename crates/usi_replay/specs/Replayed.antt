@@ -1,10 +1,13 @@
 -- What `replay` does with its front end (own choice).
-use Rattle.std.specs.Prelude.{◌≡◌, ℕ, List, true, Option, Result, Ok, Err, MatchResult, Vec}
+use Rattle.std.specs.Prelude.{◌≡◌, ◌≢◌, ◌⊎◌, ◌-◌, ◌^◌, ℕ, List, [], ◌∷◌, ◌++◌, Bool, true, length, map, flat_map, Option, None, Some, Result, Ok, Err, MatchResult, Vec}
+use Rattle.std.specs.List.{All}
 use Rattle.std.specs.Io.KnownBytes.{Appends, Consumes, IsAtEnd, Keeps}
 use Rattle.usi_texts.specs.declared.setup.Setup.{Setup}
-use Rattle.usi_stdio.specs.Calls.{Call, Makes, Report}
-use Rattle.usi_stdio.specs.Dialogue.{after_calls, no_call}
+use Rattle.usi_stdio.specs.Calls.{Call, Read, FailedRead, Makes, Report}
+use Rattle.usi_stdio.specs.Saying.{Speaks}
 use Rattle.usi_stdio.specs.Stdio.{TakesPrefix}
+use Rattle.usi_stdio.specs.declared.streams.StdioFault.{StdioFault}
+use Rattle.usi_stdio.specs.declared.streams.StdioFault.TheVariants as stdio
 use Rattle.usi_replay.specs.declared.fault.ReplayFault.{ReplayFault}
 use Rattle.usi_replay.specs.declared.fault.ReplayFault.TheVariants.{OutOfMemory, ReadFailed, WriteFailed, BadScript}
 use Rattle.usi_replay.specs.Script.{Opening, read_script, output}
@@ -50,13 +53,6 @@ IsFault setup slots before after old new WriteFailed =
     IsReplayedInPart setup slots before after old new
 IsFault setup slots before after old new (BadScript line) = IsBadAt slots before after old new line
 
--- a fault of the reading alone
-abbrev pub IsReadFault : ReplayFault → Type 0
-IsReadFault OutOfMemory = Unit {0}
-IsReadFault ReadFailed = Unit {0}
-IsReadFault WriteFailed = ⊥
-IsReadFault (BadScript line) = ⊥
-
 -- the output of a script under a setup
 abbrev pub IsOutputOf : Setup → ℕ → List ℕ → List ℕ → Type 0
 IsOutputOf setup slots bytes out =
@@ -74,6 +70,74 @@ abbrev pub IsAnswerOf : {Z : Type 0} → Setup → ℕ → List ℕ → Result (
 IsAnswerOf setup slots bytes result =
     MatchResult result (λ out. IsOutputOf setup slots bytes out.items) (IsAnswerFault slots bytes)
 
+-- ---- the calls
+
+-- reads that each gave bytes, and together these
+pub record AreReads (calls : List Call) (bytes : List ℕ) : Type 0 where
+  pub chunks : List (List ℕ)
+  pub each : All (λ chunk. chunk ≢ []) chunks
+  pub calls_are : calls ≡ map Read chunks
+  pub bytes_are : bytes ≡ flat_map (λ chunk. chunk) chunks
+
+-- reads that gave these bytes, one that gave none, and then these calls
+pub record ReadsAll (calls : List Call) (bytes : List ℕ) (rest : List Call) : Type 0 where
+  pub reads : List Call
+  pub are_reads : AreReads reads bytes
+  pub split : calls ≡ reads ++ Read [] ∷ rest
+
+-- a read failed, or the greatest number of them was made
+pub record FailsToRead (calls : List Call) : Type 0 where
+  pub reads : List Call
+  pub bytes : List ℕ
+  pub are_reads : AreReads reads bytes
+  pub failed : (calls ≡ reads ++ FailedRead ∷ []) ⊎ ((calls ≡ reads) × (length reads ≡ 2 ^ 64 - 1))
+
+-- the calls of a reading that ended early; it has no other fault
+abbrev pub EndsReading : List Call → ReplayFault → Type 0
+EndsReading calls OutOfMemory = (bytes : List ℕ) × AreReads calls bytes
+EndsReading calls ReadFailed = FailsToRead calls
+EndsReading calls WriteFailed = ⊥
+EndsReading calls (BadScript line) = ⊥
+
+-- where calls are reported, those since are a reading that ended so
+pub record ReadsBy {Z : Type 0} (old new : Option (List Call))
+    (result : Result (Vec ℕ Z) ReplayFault) : Type 0 where
+  pub calls : List Call
+  pub called : Makes old new calls
+  pub ended : MatchResult result (λ bytes. ReadsAll calls bytes.items []) (EndsReading calls)
+
+-- all is read, and then the output of the script is written but for what is left
+pub record SaysOutput (setup : Setup) (slots : ℕ) (calls : List Call) (is_flushed : Bool)
+    (outcome : Option (Result (Unit {0}) StdioFault)) (left : List ℕ) : Type 0 where
+  pub bytes : List ℕ
+  pub out : List ℕ
+  pub is_output : IsOutputOf setup slots bytes out
+  pub said : List Call
+  pub read : ReadsAll calls bytes said
+  pub done : List ℕ
+  pub split : out ≡ done ++ left
+  pub spoken : Speaks said done is_flushed outcome
+
+-- the calls of a replay that ended early: a fault of the front end is that of the last call
+abbrev pub EndsEarly : Setup → ℕ → List Call → ReplayFault → Type 0
+EndsEarly setup slots calls OutOfMemory =
+    (bytes : List ℕ) × (AreReads calls bytes ⊎ ReadsAll calls bytes [])
+EndsEarly setup slots calls ReadFailed = FailsToRead calls
+EndsEarly setup slots calls WriteFailed =
+    (left : List ℕ) × (is_flushed : Bool)
+    × SaysOutput setup slots calls is_flushed (Some (Err stdio.WriteFailed)) left
+EndsEarly setup slots calls (BadScript line) =
+    (bytes : List ℕ) × ReadsAll calls bytes [] × (read_script slots bytes ≡ Err line)
+
+-- where calls are reported, those since are a replay with this result: all is read before anything is written, and at its end all is written and flushed
+pub record Recites (setup : Setup) (slots : ℕ) (old new : Option (List Call))
+    (result : Result (Unit {0}) ReplayFault) : Type 0 where
+  pub calls : List Call
+  pub called : Makes old new calls
+  pub ended :
+      MatchResult result (λ done. SaysOutput setup slots calls true None [])
+      (EndsEarly setup slots calls)
+
 -- ---- the same of what a front end reports
 
 -- it gave these bytes, and they are all that it had
@@ -87,12 +151,6 @@ GivesAllIn old new bytes = GivesAll old new bytes.items
 -- the script's output was written
 abbrev pub Replays : Setup → ℕ → Report → Report → Type 0
 Replays setup slots old new = IsReplayed setup slots old.unread new.unread old.written new.written
-
--- where calls are reported, those since leave nothing that was written unflushed
-pub record FlushesAll (old new : Report) : Type 0 where
-  pub calls : List Call
-  pub called : Makes old.calls new.calls calls
-  pub flushed : (after_calls no_call calls).is_flushed ≡ true
 
 -- what a fault leaves: only a write that failed leaves anything written
 abbrev pub Leaves : Setup → ℕ → Report → Report → ReplayFault → Type 0

@@ -3,7 +3,7 @@
 ghost use Rattle.std.specs.Prelude.{◌≤◌, OnOk, IfOk, IfErr};
 ghost use Rattle.std.specs.Io.KnownBytes.{Keeps};
 ghost use Rattle.usi_texts.specs.Setup.{default_setup};
-ghost use Rattle.usi_replay.specs.Replayed.{FlushesAll, GivesAllIn, IsAnswerOf, IsReadFault, Leaves, Replays};
+ghost use Rattle.usi_replay.specs.Replayed.{GivesAllIn, IsAnswerOf, Leaves, ReadsBy, Recites, Replays};
 ghost use Rattle.session_slots.specs.declared.limits.TheConstants.{SESSIONS_MAX};
 ghost use Rattle.shared_table.specs.declared.table.TheConstants.{CAPACITY_MAX};
 
@@ -24,12 +24,11 @@ fn read_all<A: Allocator, T: FrontEnd>(
 ) -> Result<Vec<u8, A>, ReplayFault>
     ensures read { IfOk result (GivesAllIn (T.report front_end.old) (T.report front_end.new)) }
     ensures kept { Keeps (T.report front_end.old).written (T.report front_end.new).written }
-    ensures flushed { OnOk result (FlushesAll (T.report front_end.old) (T.report front_end.new)) }
-    ensures fault { IfErr result IsReadFault }
+    ensures calls { ReadsBy (T.report front_end.old).calls (T.report front_end.new).calls result }
 {
     let mut bytes = Vec::new(alloc);
     let mut chunk = [0u8; CHUNK_MAX];
-    'chunks: for _ in 0..u64::MAX {
+    'chunks: for _reads in 0..u64::MAX {
         let Ok(n) = front_end.read(&mut chunk) else {
             return Err(ReplayFault::ReadFailed);
         };
@@ -103,9 +102,10 @@ pub fn replay<A: Allocator + Copy, T: FrontEnd>(
     requires least_slice { 1 ≤ slice }
     ensures ok { OnOk result
         (Replays default_setup slots (T.report front_end.old) (T.report front_end.new)) }
-    ensures flushed { OnOk result (FlushesAll (T.report front_end.old) (T.report front_end.new)) }
     ensures err { IfErr result
         (Leaves default_setup slots (T.report front_end.old) (T.report front_end.new)) }
+    ensures calls { Recites default_setup slots
+        (T.report front_end.old).calls (T.report front_end.new).calls result }
 {
     replay_with_setup(alloc, Setup::new(), front_end, slots, entries, slice)
 }
@@ -146,9 +146,10 @@ pub fn replay_with_setup<A: Allocator + Copy, T: FrontEnd>(
     requires least_slice { 1 ≤ slice }
     ensures ok { OnOk result
         (Replays setup slots (T.report front_end.old) (T.report front_end.new)) }
-    ensures flushed { OnOk result (FlushesAll (T.report front_end.old) (T.report front_end.new)) }
     ensures err { IfErr result
         (Leaves setup slots (T.report front_end.old) (T.report front_end.new)) }
+    ensures calls { Recites setup slots
+        (T.report front_end.old).calls (T.report front_end.new).calls result }
 {
     let script = read_all(alloc, front_end)?;
     let out = output_of(alloc, setup, script.as_slice(), slots, entries, slice)?;
