@@ -2,20 +2,18 @@
 
 PREFIX ?= /usr/local
 PROGRAM = crates/usi_host/out/usi_host
-BIN = $(DESTDIR)$(PREFIX)/bin
-MAN = $(DESTDIR)$(PREFIX)/share/man/man1
-FOR_BASH = $(DESTDIR)$(PREFIX)/share/bash-completion/completions
-FOR_ZSH = $(DESTDIR)$(PREFIX)/share/zsh/site-functions
 
-.PHONY: try run build library install uninstall check dist test bench clean help
+.PHONY: try run build library install uninstall quick check dist test bench clean help
 .DEFAULT_GOAL = help
 
-# Runs the program on the lines of standard input, or of the terminal, without a proof.
+# Runs the program on standard input: the built one, or one that is compiled without a proof, once.
 try:
 	@check/try.sh
 
-# Starts the program on standard input and output, and builds first what is not built yet.
-run: build
+# Starts the program on standard input and output, and builds first what is not built yet. Where the
+# toolchain is not on the path, it starts the program that is there.
+run:
+	@if command -v rt >/dev/null || [ ! -x $(PROGRAM) ]; then check/build.py; fi
 	@if [ -t 0 ]; then echo 'Reading USI from the terminal. Try: isready, then: go depth 3, then: quit' >&2; fi
 	@$(PROGRAM)
 
@@ -28,19 +26,18 @@ build:
 library:
 	@check/build_library.sh
 
-# Puts the built program, its man page and its completions below PREFIX. It builds nothing, so that
-# it leaves no files of root among the sources.
+# Puts the built program and what goes with it below PREFIX, and the library for C if that is built. It builds
+# nothing, so that it leaves no files of root among the sources.
 install:
-	@test -x $(PROGRAM) || { echo 'Nothing is built yet: call make build first.' >&2; exit 1; }
-	install -d "$(BIN)" "$(MAN)" "$(FOR_BASH)" "$(FOR_ZSH)"
-	install -m 755 $(PROGRAM) "$(BIN)/usi_host"
-	install -m 644 share/usi_host.1 "$(MAN)/usi_host.1"
-	install -m 644 share/usi_host.bash "$(FOR_BASH)/usi_host"
-	install -m 644 share/_usi_host "$(FOR_ZSH)/_usi_host"
+	@check/install.sh "$(PREFIX)" "$(DESTDIR)"
 
 # Takes away what `make install` put there.
 uninstall:
-	rm -f "$(BIN)/usi_host" "$(MAN)/usi_host.1" "$(FOR_BASH)/usi_host" "$(FOR_ZSH)/_usi_host"
+	@check/uninstall.sh "$(PREFIX)" "$(DESTDIR)"
+
+# Compiles the program and all tests without a proof, and runs them and the scripts of check/.
+quick:
+	@check/quick.py
 
 # Runs the scripts that try the built program, and the library for C, as their users do.
 check: library
@@ -49,8 +46,8 @@ check: library
 	check/examples.py
 	check/library.py
 
-# Makes a tarball of the program and what goes with it, which is used without the toolchain.
-dist: build
+# Makes a tarball of the program, the library for C and what goes with them, which is used without the toolchain.
+dist: library
 	check/dist.sh
 
 # Proves every crate, tries each edit that must fail, runs each test and program, and then
@@ -73,14 +70,15 @@ clean:
 	rm -rf crates/*/out dist
 
 help:
-	@echo 'make try        tries the program on standard input, unproved, in about a minute'
+	@echo 'make try        tries the program on standard input; unproved, if it is not built'
 	@echo 'make run        starts the program on standard input and output; builds it first'
 	@echo 'make build      proves and builds what is not built yet'
 	@echo 'make library    the library for C, static and shared'
-	@echo 'make install    puts the built usi_host, its man page and completions below PREFIX (/usr/local)'
+	@echo 'make install    puts the built usi_host and what goes with it below PREFIX (/usr/local)'
 	@echo 'make uninstall  takes it away again from PREFIX'
+	@echo 'make quick      all tests and scripts on the unproved program, in about five minutes'
 	@echo 'make check      tries the built program as its users run it'
-	@echo 'make dist       a tarball of the program for machines without the toolchain'
+	@echo 'make dist       a tarball of program and library for machines without the toolchain'
 	@echo 'make test       the gate: every proof, each edit, test and program'
 	@echo 'make bench      how fast it is'
 	@echo 'make clean      takes away what was built and what rt check kept'

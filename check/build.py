@@ -41,6 +41,7 @@ USUAL = {
     "shared_table": 38,
     "usi_lines": 44,
     "usi_texts": 46,
+    "usi_moves": 40,
     "usi_session": 132,
     "transport": 13,
     "stream_transport": 122,

@@ -1,6 +1,6 @@
 #!/usr/bin/env bash
-# Makes dist/usi_host-VERSION.tar.gz of the built program: with its man page, completions, unit, example
-# clients and licence, and a line that says which sources and which toolchain proved it.
+# Makes dist/usi_host-VERSION.tar.gz of the built program and library, with all that `make install` has, and its
+# checksum beside it. PROVED in it says which sources and which toolchain proved them, and what they need.
 set -euo pipefail
 cd "$(dirname "$0")/.."
 program=crates/usi_host/out/usi_host
@@ -8,16 +8,18 @@ version=$("$program" --version | awk 'NR == 1 { print $2 }')
 name=usi_host-$version
 folder=$(mktemp -d)
 trap 'rm -rf "$folder"' EXIT
-install -D -m 755 "$program" "$folder/$name/bin/usi_host"
-install -D -m 644 share/usi_host.1 "$folder/$name/share/man/man1/usi_host.1"
-install -D -m 644 share/usi_host.bash "$folder/$name/share/bash-completion/completions/usi_host"
-install -D -m 644 share/_usi_host "$folder/$name/share/zsh/site-functions/_usi_host"
-install -D -m 755 -t "$folder/$name/share/doc/usi_host/examples" share/examples/*.py
-install -D -m 644 -t "$folder/$name/share/doc/usi_host" LICENSE deploy/usi_host.service
+check/install.sh "/$name" "$folder"
+# Found from where the file is, wherever the tree is put.
+sed -i 's|^prefix=.*|prefix=${pcfiledir}/../..|' "$folder/$name/lib/pkgconfig/usi.pc"
 changed=$(git status --porcelain --untracked-files=no)
 commit=$(git rev-parse HEAD)${changed:+, with changes}
-echo "Proved and built from commit $commit by $(rt version)." >"$folder/$name/PROVED"
-echo "Copy bin/ and share/ to a prefix, as /usr/local." >>"$folder/$name/PROVED"
+newest=$(objdump -T "$program" crates/usi_library/out/libusi.so | grep -o 'GLIBC_[0-9.]*' | sort -uV | tail -n 1)
+cat >"$folder/$name/PROVED" <<END
+Proved and built from commit $commit by $(rt version).
+Needs 64-bit Linux on x86 with the GNU C library, ${newest#GLIBC_} or later, and nothing else.
+Copy bin/, include/, lib/ and share/ to a prefix, as /usr/local.
+END
 mkdir -p dist
 tar -C "$folder" --owner=0 --group=0 -czf "dist/$name.tar.gz" "$name"
-echo "dist/$name.tar.gz"
+(cd dist && sha256sum "$name.tar.gz" >"$name.tar.gz.sha256")
+cat "dist/$name.tar.gz.sha256"

@@ -1,5 +1,6 @@
 /* Tries the library from C: what each call refuses, and a dialogue while the system refuses one block of
  * memory after another. It is linked with --wrap=malloc,--wrap=realloc,--wrap=free. */
+#include <pthread.h>
 #include <stdio.h>
 #include <stdlib.h>
 #include <string.h>
@@ -74,6 +75,7 @@ static void want_nothing(struct usi_session *session) {
 
 static void try_closed(void) {
     struct usi_session session = USI_SESSION_CLOSED;
+    long before = requests;
     char buffer[2] = "xy";
     want_nothing(&session);
     WANT("feed", usi_feed(&session, "usi\n", 4), USI_CLOSED);
@@ -84,7 +86,7 @@ static void try_closed(void) {
     WANT("no entry", usi_open(&session, 0), USI_OUT_OF_RANGE);
     WANT("too many", usi_open(&session, USI_ENTRIES_MAX + 1), USI_OUT_OF_RANGE);
     want_nothing(&session);
-    WANT("requests", requests, 0);
+    WANT("requests", requests, before);
 }
 
 static void try_refusals(void) {
@@ -215,7 +217,49 @@ static void try_memory(void) {
     printf("%s", most > 10 ? "refused\n" : "");
 }
 
+/* Each status has a text of its own. */
+static void try_texts(void) {
+    for (uint32_t status = USI_OK; status <= USI_DEPTH_ABOVE_MAX + 1; status++)
+        for (uint32_t other = USI_OK; other < status; other++)
+            WANT("text", strcmp(usi_status_text(status), usi_status_text(other)) == 0, false);
+    WANT("no status", strcmp(usi_status_text(12), usi_status_text(UINT32_MAX)), 0);
+    WANT("version", strcmp(USI_VERSION, "0.1.0"), 0);
+}
+
+/* One call on the session, of the thread that is told by it. */
+struct step { struct usi_session *session; int number; char reply[sizeof REPLY + 100]; size_t length; };
+
+static void *one_step(void *given) {
+    struct step *step = given;
+    if (step->number == 0) WANT("open", usi_open_with_setup(step->session, 4096, 16, 16, 8, USI_EVAL_PLAIN), USI_OK);
+    if (step->number == 1) WANT("feed", usi_feed(step->session, SCRIPT, strlen(SCRIPT)), USI_OK);
+    if (step->number == 2)
+        while (usi_look(step->session).is_pending) WANT("work", usi_work(step->session, 1000).status, USI_OK);
+    if (step->number == 3) step->length = usi_take(step->session, step->reply, sizeof step->reply).count;
+    if (step->number == 4) WANT("close", usi_close(step->session), USI_OK);
+    return NULL;
+}
+
+/* Each call on another thread, with little stack. */
+static void try_threads(void) {
+    struct usi_session session = USI_SESSION_CLOSED;
+    static struct step step;
+    step.session = &session;
+    pthread_attr_t small;
+    pthread_attr_init(&small);
+    WANT("stack", pthread_attr_setstacksize(&small, 64 * 1024), 0);
+    for (step.number = 0; step.number < 5; step.number++) {
+        pthread_t thread;
+        WANT("thread", pthread_create(&thread, &small, one_step, &step), 0);
+        pthread_join(thread, NULL);
+    }
+    WANT("is_open", usi_look(&session).is_open, false);
+    if (step.length < 100) WANT("length", step.length, 100);
+}
+
 int main(void) {
+    try_texts();
+    try_threads();
     try_closed();
     try_refusals();
     try_wrong_setups();

@@ -46,10 +46,44 @@ def compiled(folder, source, *flags):
 def calls_of_c():
     with tempfile.TemporaryDirectory() as folder:
         program = compiled(
-            folder, os.path.join(TOP, "check", "library.c"), "-Wl,--wrap=malloc,--wrap=realloc,--wrap=free"
+            folder, os.path.join(TOP, "check", "library.c"), "-pthread", "-Wl,--wrap=malloc,--wrap=realloc,--wrap=free"
         )
         ran = subprocess.run([program], stdout=subprocess.PIPE, timeout=300)
     want((ran.returncode, ran.stdout), (0, b"refused\n"), "what the calls answer")
+
+
+def names_of_the_libraries():
+    """Both show the calls of the header alone; the shared one has a name, and its tables cannot be written."""
+    calls = ["usi_close", "usi_feed", "usi_look", "usi_open", "usi_open_with_setup", "usi_take", "usi_work"]
+    for words in (["-D", "libusi.so"], ["-g", "libusi.a"]):
+        listed = subprocess.run(["nm", "--defined-only", *words], cwd=OUT, capture_output=True, text=True, check=True)
+        rows = [row.split() for row in listed.stdout.splitlines()]
+        want(sorted(row[2] for row in rows if len(row) == 3), calls, f"names of {words[1]}")
+    table = subprocess.run(["readelf", "-dlW", "libusi.so"], cwd=OUT, capture_output=True, text=True, check=True).stdout
+    for part in ("[libusi.so.0]", "NOW", "GNU_RELRO"):
+        if part not in table:
+            raise Wrong(f"libusi.so has no {part}")
+
+
+def installed():
+    """A program is built by what pkg-config says of an installed library."""
+    with tempfile.TemporaryDirectory() as folder:
+        prefix = os.path.join(folder, "a prefix")
+        words = ["make", "-s", "-C", TOP, "install", f"PREFIX={prefix}"]
+        subprocess.run(words, check=True, stdout=subprocess.DEVNULL)
+        config = os.path.join(prefix, "lib", "pkgconfig", "usi.pc")
+        with open(config, encoding="utf-8") as file:
+            want(file.readline(), f"prefix={prefix}\n", "usi.pc")
+        program = os.path.join(folder, "engine")
+        source = os.path.join(prefix, "share", "doc", "usi_host", "library", "engine.c")
+        lib = os.path.join(prefix, "lib")
+        words = ["-std=c99", "-Wall", "-Wextra", "-Werror", "-I", os.path.join(prefix, "include"), "-o", program]
+        subprocess.run([os.environ.get("CC", "cc"), *words, source, f"-L{lib}", "-lusi", f"-Wl,-rpath,{lib}"], check=True)
+        ran = subprocess.run([program], input=SCRIPT, stdout=subprocess.PIPE, timeout=60)
+        want((ran.returncode, ran.stdout), (0, DEPTH_THREE), "the engine")
+        subprocess.run(["make", "-s", "-C", TOP, "uninstall", f"PREFIX={prefix}"], check=True)
+        left = [name for _, _, names in os.walk(prefix) for name in names]
+        want(left, [], "what is left")
 
 
 def engine_in_c():
@@ -119,6 +153,13 @@ def refusals_of_python():
     want(status_of(session.feed, b" " * 4097), TOO_LONG, "4,097 bytes")
     session.feed(b"isready\n")
     want(status_of(session.feed, b"usi\n"), NOT_WANTED, "while something is pending")
+    for steps in (-1, 1 << 64):
+        try:
+            session.work(steps)
+        except ValueError as why:
+            want(str(why), f"steps are from 0 to 2^64 - 1, and not {steps}", "steps out of range")
+        else:
+            raise Wrong(f"{steps} steps were not refused")
     session.close()
     session.close()
     want(status_of(session.work, 1), CLOSED, "closed")
@@ -129,6 +170,8 @@ if __name__ == "__main__":
     sys.exit(
         run_all("library", [
                 calls_of_c,
+                names_of_the_libraries,
+                installed,
                 engine_in_c,
                 script_of_python,
                 sessions_of_python,

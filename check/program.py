@@ -136,12 +136,13 @@ SETUP = (
     b"plain, hand or exchange",
     b"[default: plain]",
 )
-SOCKET = (b"--socket", b"1 to 107 bytes", b"--status", b"--turns", b"from 1 to 18446744073709551615")
+TURNS = b"from 1 to 18446744073709551615 [default: no end]"
+SOCKET = (b"--socket", b"1 to 107 bytes", b"--status", b"--turns", TURNS)
 SCRIPT = (b"+A ", b"A TEXT", b"-A ", b"refused 1", b"3  ", b"usi_host replay --slots 2")
 HELPS = (
     (
         [],
-        (b"stdio", b"replay", b"serve", b"--version", b"COMMAND --help"),
+        (b"stdio", b"replay", b"serve", b"perft", b"moves", b"--version", b"COMMAND --help"),
         (b"0  ", b"1  ", b"2  ", b"3  ", b"usi_host stdio --entries 100000\n"),
     ),
     (
@@ -150,6 +151,12 @@ HELPS = (
         (b"0  ", b"1  ", b"usi_host stdio --entries 100000", b"stdio --eval exchange --depth 6"),
     ),
     (["replay"], TABLE + SLICES + SETUP, SCRIPT),
+    (
+        ["perft"],
+        (b"--depth", b"from 1 to 16", b"--sfen", b"[default: the opening position]", b"--divide"),
+        (b"0  ", b"1  ", b"2  ", b"usi_host perft --depth 4"),
+    ),
+    (["moves"], (b"--sfen", b"[default: the opening position]"), (b"0  ", b"1  ", b"2  ", b"usi_host moves --sfen")),
     (
         ["serve"],
         TABLE + SLICES + SETUP + SOCKET,
@@ -219,6 +226,18 @@ def other_words_are_refused():
         ["stdio", "--eval", "plain", "--eval", "plain"],
         ["replay", "--depth", "many"],
         ["serve", "--depth", "1"],
+        ["perft"],
+        ["perft", "--depth"],
+        ["perft", "--depth", "0"],
+        ["perft", "--depth", "17"],
+        ["perft", "--depth", "1", "--depth", "1"],
+        ["perft", "--depth", "1", "--divide", "--divide"],
+        ["perft", "--depth", "1", "--divide=true"],
+        ["perft", "--depth", "1", "--max-depth", "1"],
+        ["perft", "--depth", "1", "--sfen"],
+        ["moves", "startpos"],
+        ["moves", "--sfen", "startpos"],
+        ["moves", "--depth", "1"],
         # What `clap` finds is told first.
         ["stdio", "--depth", "17", "--max-depth", "4", "--eval", "material"],
     ):
@@ -247,6 +266,7 @@ def a_number_with_a_sign_is_refused():
         ["stdio", "--depth", "+3"],
         ["replay", "--max-depth", "+16"],
         ["serve", "--socket", "s", "--lines=+1"],
+        ["perft", "--depth", "+1"],
         # A depth that can be read is above the greatest, but another number cannot be read.
         ["stdio", "--depth", "5", "--max-depth", "4", "--lines", "+1"],
     ):
@@ -691,6 +711,83 @@ def several_lines_come_as_they_are_found():
     running.communicate()
 
 
+# The opening position, that of most moves, and one from the middle of a game.
+OPENING = "lnsgkgsnl/1r5b1/ppppppppp/9/9/9/PPPPPPPPP/1B5R1/LNSGKGSNL b -"
+MOST_MOVES = "R8/2K1S1SSk/4B4/9/9/9/9/9/1L1L1L3 b RBGSNLP3g3n17p 1"
+MIDDLE = "l6nl/5+P1gk/2np1S3/p1p4Pp/3P2Sp1/1PPb2P1P/P5GS1/R8/LN4bKL w RGgsn5p 1"
+
+
+def counts_are_those_that_are_published():
+    for sfen, depth, count in (
+        (OPENING, 1, 30),
+        (OPENING, 2, 900),
+        (OPENING, 3, 25_470),
+        (MOST_MOVES, 1, 593),
+        (MOST_MOVES, 2, 105_677),
+        (MIDDLE, 1, 207),
+        (MIDDLE, 2, 28_684),
+    ):
+        said = run(["perft", "--depth", str(depth), "--sfen", sfen])
+        want(said, (0, b"%d\n" % count, b""), f"depth {depth} of {sfen}")
+    want(run(["perft", "--depth", "2"]), (0, b"900\n", b""), "without a position")
+
+
+def divided_counts_make_the_whole():
+    """Each first move has its line, in the order in which `moves` lists them."""
+    for sfen, depth, count in ((OPENING, 1, 30), (OPENING, 3, 25_470), (MIDDLE, 2, 28_684)):
+        status, text, complaints = run(["perft", "--divide", "--sfen", sfen, "--depth", str(depth)])
+        want((status, complaints), (0, b""), sfen)
+        *lines, whole = text.decode().splitlines()
+        shares = dict(line.split(": ") for line in lines)
+        want((sum(int(it) for it in shares.values()), whole), (count, str(count)), sfen)
+        want(run(["moves", "--sfen", sfen]), (0, "".join(f"{it}\n" for it in shares).encode(), b""), sfen)
+
+
+def moves_are_listed_by_code():
+    """Steps of the king, and then drops of a pawn, which is not dropped where it can never move. And a mated side."""
+    ours = "4k4/9/9/9/9/9/9/9/4K4 b P"
+    steps = "5i4h 5i4i 5i5h 5i6h 5i6i".split()
+    drops = [f"P*{file}{rank}" for file in range(1, 10) for rank in "bcdefghi" if (file, rank) != (5, "i")]
+    text = "".join(f"{it}\n" for it in steps + drops).encode()
+    for sfen in (ours, f"{ours} 1", f"  {ours}\t17 ", f"{ours} moves"):
+        want(run(["moves", "--sfen", sfen]), (0, text, b""), sfen)
+    mated = "4k4/9/4P4/9/9/9/9/9/9 b G moves G*5b"
+    want(run(["moves", "--sfen", mated]), (0, b"", b""), "a mated side")
+    want(run(["perft", "--depth", "3", "--sfen", mated]), (0, b"0\n", b""), "a mated side")
+
+
+def a_bad_sfen_is_named():
+
+    for sfen, why in (
+        ("x", b"it does not begin with a board"),
+        ("startpos", b"it does not begin with a board"),
+        ("4k4/9/9/9/9/9/9/9/4K4", b"the side to move is neither b nor w"),
+        ("4k4/9/9/9/9/9/9/9/4K4 B -", b"the side to move is neither b nor w"),
+        ("4k4/9/9/9/9/9/9/9/4K4 b", b"the hands are missing or cannot be read"),
+        ("4k4/9/9/9/9/9/9/9/4K4 b 19P", b"there are more pieces of a kind than a set has"),
+        ("4k4/9/9/9/9/9/9/9/3KK4 b -", b"a side has two kings"),
+        ("4k4/9/9/4P4/9/4P4/9/9/4K4 b -", b"a side has two unpromoted pawns on a file"),
+        ("4k4/9/9/9/9/9/9/9/4p3K b -", b"a piece stands where it can never move"),
+        ("4k4/4P4/9/9/9/9/9/9/9 b -", b"the side that is not to move is in check"),
+        (f"{OPENING} 1 more", b"what follows it is not `moves` and moves"),
+        (f"{OPENING} moves 7g7f 7g7f", b"move 2 is not legal"),
+        (f"{OPENING} 1 moves 7g7e", b"move 1 is not legal"),
+    ):
+        for command in (["moves"], ["perft", "--depth", "1"], ["perft", "--depth", "16", "--divide"]):
+            want(run([*command, "--sfen", sfen]), (2, b"", b"error: --sfen: " + why + POINTER), f"{command} {sfen}")
+
+
+def a_list_and_a_count_tell_their_faults():
+    for words in (["moves"], ["perft", "--depth", "1"]):
+        with open("/dev/full", "wb") as full:
+            status, _, complaints = run(words, stdout=full)
+        want((status, complaints), (1, b"usi_host: write failed\n"), f"a full device, {words}")
+    running = start(["perft", "--depth", "16"])
+    time.sleep(0.3)
+    running.send_signal(signal.SIGINT)
+    ends(running, -signal.SIGINT, b"")
+
+
 def the_first_bad_line_of_a_script_is_named():
     for script, line in (
         (b"A go\n", 1),
@@ -787,6 +884,11 @@ CHECKS = (
     captures_are_settled_where_exchange_is_offered,
     several_lines_are_ranked,
     several_lines_come_as_they_are_found,
+    counts_are_those_that_are_published,
+    divided_counts_make_the_whole,
+    moves_are_listed_by_code,
+    a_bad_sfen_is_named,
+    a_list_and_a_count_tell_their_faults,
     the_first_bad_line_of_a_script_is_named,
     a_replay_writes_nothing_before_its_script_ends,
     a_replay_tells_its_faults,
@@ -794,5 +896,8 @@ CHECKS = (
 )
 
 
+MEASURING = (want_of_memory_is_told, want_of_memory_for_the_words_is_told, a_replay_tells_its_faults)
+
+
 if __name__ == "__main__":
-    sys.exit(run_all("program", CHECKS))
+    sys.exit(run_all("program", CHECKS, MEASURING))

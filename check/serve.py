@@ -1159,5 +1159,20 @@ CHECKS = (
 )
 
 
+MEASURING = (
+    hostile_clients_leave_nothing_behind,
+    lines_that_the_table_answers,
+    long_lines_of_moves,
+    an_idle_crowd,
+    searchers_that_vanish,
+    connect_floods,
+    descriptors_that_are_passed,
+    bytes_out_of_band,
+    standard_streams_that_are_closed,
+    memory_that_is_refused_while_others_wait,
+    want_of_memory_is_told,
+)
+
+
 if __name__ == "__main__":
-    sys.exit(run_all("serve", CHECKS))
+    sys.exit(run_all("serve", CHECKS, MEASURING))

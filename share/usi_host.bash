@@ -11,19 +11,21 @@ _usi_host() {
             mapfile -t COMPREPLY < <(compgen -W 'plain hand exchange' -- "$word")
             return
             ;;
-        --slots | --entries | --slice | --turns | --depth | --max-depth | --lines)
+        --slots | --entries | --slice | --turns | --depth | --max-depth | --lines | --sfen)
             return
             ;;
     esac
     local words setup='--depth --max-depth --lines --eval'
     if [ "$COMP_CWORD" -eq 1 ]; then
-        words='stdio replay serve help -h --help -V --version'
+        words='stdio replay serve perft moves help -h --help -V --version'
     else
         case ${COMP_WORDS[1]} in
             stdio) words="--entries $setup -h --help" ;;
             replay) words="--slots --entries --slice $setup -h --help" ;;
             serve) words="--socket --status --slots --entries --slice $setup --turns -h --help" ;;
-            help) words='stdio replay serve' ;;
+            perft) words='--depth --sfen --divide -h --help' ;;
+            moves) words='--sfen -h --help' ;;
+            help) words='stdio replay serve perft moves' ;;
         esac
     fi
     mapfile -t COMPREPLY < <(compgen -W "$words" -- "$word")

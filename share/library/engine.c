@@ -2,6 +2,7 @@
  *
  *     cc -o engine engine.c libusi.a && echo 'go depth 3' | ./engine */
 #include <stdio.h>
+#include <stdlib.h>
 
 #include "usi_library.h"
 
@@ -19,22 +20,21 @@ static bool write_queued(struct usi_session *session) {
     return fflush(stdout) == 0;
 }
 
-/* Answers a line, or a part of one. */
-static bool answer(struct usi_session *session, const char *line, size_t length) {
-    if (usi_feed(session, line, length) != USI_OK) return false;
-    while (usi_look(session).is_pending) {
-        if (usi_work(session, STEPS).status != USI_OK) return false;
-        if (!write_queued(session)) return false;
+/* Answers a line, or a part of one; why not, or USI_OK. A failed write ends the program. */
+static uint32_t answer(struct usi_session *session, const char *line, size_t length) {
+    uint32_t status = usi_feed(session, line, length);
+    while (status == USI_OK && usi_look(session).is_pending) {
+        status = usi_work(session, STEPS).status;
+        if (status == USI_OK && !write_queued(session)) exit(1);
     }
-    return true;
+    return status;
 }
 
 int main(void) {
     struct usi_session session = USI_SESSION_CLOSED;
-    if (usi_open(&session, ENTRIES) != USI_OK) return 1;
+    uint32_t status = usi_open(&session, ENTRIES);
     char line[USI_CHUNK_MAX];
-    bool done = true;
-    while (done && !usi_look(&session).is_over) {
+    while (status == USI_OK && !usi_look(&session).is_over) {
         size_t length = 0;
         int byte = EOF;
         while (length < sizeof line && (byte = getchar()) != EOF) {
@@ -42,8 +42,10 @@ int main(void) {
             if (byte == '\n') break;
         }
         if (length == 0) break;
-        done = answer(&session, line, length);
+        status = answer(&session, line, length);
     }
     usi_close(&session);
-    return done ? 0 : 1;
+    if (status == USI_OK) return 0;
+    fprintf(stderr, "engine: %s\n", usi_status_text(status));
+    return 1;
 }

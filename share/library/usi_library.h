@@ -2,10 +2,16 @@
  * no thread, no clock, no file. Each one searches over a table of its own.
  *
  *     struct usi_session session = USI_SESSION_CLOSED;
- *     usi_open(&session, 4096);
- *     usi_feed(&session, "go depth 3\n", 11);
- *     while (usi_look(&session).is_pending) usi_work(&session, 1000);
- *     struct usi_answer taken = usi_take(&session, buffer, sizeof buffer);
+ *     char buffer[1000];
+ *     uint32_t status = usi_open(&session, 4096);
+ *     if (status == USI_OK) status = usi_feed(&session, "go depth 3\n", 11);
+ *     while (status == USI_OK && usi_look(&session).is_pending) status = usi_work(&session, 1000).status;
+ *     if (status == USI_OK) {
+ *         struct usi_answer taken = usi_take(&session, buffer, sizeof buffer);
+ *         fwrite(buffer, 1, taken.count, stdout);
+ *     } else {
+ *         fprintf(stderr, "%s\n", usi_status_text(status));
+ *     }
  *     usi_close(&session);
  *
  * What is asked of the caller, and checked by nothing:
@@ -15,8 +21,10 @@
  *   `buffer` there are `length` bytes.
  * - A session begins as USI_SESSION_CLOSED, or as a struct of zeros, and is changed by these calls alone.
  *   It is not copied while it is open: a copy would free the same memory again.
- * - A session stays on the thread that opened it. Sessions know nothing of each other, so that each thread
- *   may have its own.
+ * - A call was seen to need up to 32 KB of stack: a thread with 28 KB crashed. Give it 64 KB or more.
+ * - One call at a time is made on a session. It may be made on another thread than the last one, if that has
+ *   seen it return, as after a lock or a join. Sessions know nothing of each other, so that calls on several
+ *   of them may be made at once.
  * - Memory comes from malloc, realloc and free, which are of one allocator. A block is aligned to each power
  *   of two up to 16 that divides its size.
  * - No call is made from a signal handler, or from a forked child of a process with threads.
@@ -28,6 +36,12 @@
 #include <stdbool.h>
 #include <stddef.h>
 #include <stdint.h>
+
+/* The version of this header and of the library that came with it: 0.1.0. */
+#define USI_VERSION_MAJOR 0
+#define USI_VERSION_MINOR 1
+#define USI_VERSION_PATCH 0
+#define USI_VERSION "0.1.0"
 
 #ifdef __cplusplus
 extern "C" {
@@ -56,6 +70,25 @@ enum usi_status {
     USI_LINES_OUT_OF_RANGE = 10,    /* lines is from 1 to USI_LINES_MAX */
     USI_DEPTH_ABOVE_MAX = 11        /* depth is above max_depth */
 };
+
+/* What a status says, for people. */
+static inline const char *usi_status_text(uint32_t status) {
+    switch (status) {
+    case USI_OK: return "done";
+    case USI_CLOSED: return "the session is closed";
+    case USI_IS_OPEN: return "the session is open already";
+    case USI_OUT_OF_RANGE: return "a table has 1 to 1,000,000 entries";
+    case USI_OUT_OF_MEMORY: return "memory was refused";
+    case USI_TOO_LONG: return "more than 4,096 bytes at once";
+    case USI_NOT_WANTED: return "no input is wanted now";
+    case USI_UNKNOWN_EVAL: return "there is no such evaluation";
+    case USI_DEPTH_OUT_OF_RANGE: return "a depth is from 1 to 16";
+    case USI_MAX_DEPTH_OUT_OF_RANGE: return "a greatest depth is from 1 to 16";
+    case USI_LINES_OUT_OF_RANGE: return "best lines are from 1 to 8";
+    case USI_DEPTH_ABOVE_MAX: return "the depth is above the greatest depth";
+    default: return "no status of this version";
+    }
+}
 
 /* The evaluations of usi_open_with_setup. */
 enum usi_eval { USI_EVAL_PLAIN = 0, USI_EVAL_HAND = 1, USI_EVAL_EXCHANGE = 2 };

@@ -119,7 +119,10 @@ class Session:
         self._done(self._library.usi_feed(self._session, data, len(data)))
 
     def work(self, steps):
-        """Makes at most so many steps, and gives how many were made."""
+        """Makes at most so many steps, from 0 to 2^64 - 1, and gives how many were made."""
+        # ctypes would take -1 as the greatest number
+        if not 0 <= steps < 1 << 64:
+            raise ValueError(f"steps are from 0 to 2^64 - 1, and not {steps}")
         answer = self._library.usi_work(self._session, steps)
         self._done(answer.status)
         return answer.count

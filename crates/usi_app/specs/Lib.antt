@@ -1,2 +1,3 @@
 pub mod Runs
 pub mod ServeFaults
+pub mod Counts

@@ -1,8 +1,10 @@
 //! The runs of the program `usi_host`, each with its exit status.
 #![tactic(auto)]
 
+mod counts;
 mod runs;
 mod serve_fault;
 
+pub use counts::{counting, listing};
 pub use runs::{DONE, print_out, script, session};
 pub use serve_fault::{ServeFault, socket_fault, status_fault};

@@ -1,15 +1,17 @@
 -- Options of which one has no value that a job may have.
 use Rattle.std.proofs.Common.{◌≡◌, List, None, codes}
 use Rattle.clap.specs.Words.{Row, first_of}
-use Rattle.usi_arguments.specs.Answers.{HasNoNumbers, NamesNoReplay, NamesNoServe, NamesNoStdio}
+use Rattle.usi_arguments.specs.Answers.{HasNoNumbers, NamesNoPerft, NamesNoReplay, NamesNoServe, NamesNoStdio}
 use Rattle.usi_arguments.specs.CommandLine.{HasNone}
 use Rattle.usi_arguments.specs.Setup.{HasNoSetup}
-use Rattle.usi_arguments.specs.declared.arguments.Job.TheVariants.{Stdio, Replay, Serve, Help, Version}
+use Rattle.usi_arguments.specs.declared.arguments.Job.TheVariants.{Stdio, Replay, Serve, Perft, Moves, Help, Version}
 
 pub no_stdio : (options : List Row) → HasNone (codes "entries") 1000000 options → NamesNoStdio options
 no_stdio options none (Stdio entries setup) range is = none entries range.0 is.0
 no_stdio options none (Replay slots entries slice setup) range is = is
 no_stdio options none (Serve socket status slots entries slice turns setup) range is = is
+no_stdio options none (Perft sfen depth divide) range is = is
+no_stdio options none (Moves sfen) range is = is
 no_stdio options none (Help text) range is = is
 no_stdio options none Version range is = is
 
@@ -17,6 +19,8 @@ pub no_stdio_setup : (options : List Row) → HasNoSetup options → NamesNoStdi
 no_stdio_setup options none (Stdio entries setup) range is = none setup range.1 is.1
 no_stdio_setup options none (Replay slots entries slice setup) range is = is
 no_stdio_setup options none (Serve socket status slots entries slice turns setup) range is = is
+no_stdio_setup options none (Perft sfen depth divide) range is = is
+no_stdio_setup options none (Moves sfen) range is = is
 no_stdio_setup options none (Help text) range is = is
 no_stdio_setup options none Version range is = is
 
@@ -24,6 +28,8 @@ pub no_slots : (options : List Row) → HasNone (codes "slots") 1024 options →
 no_slots options none (Stdio entries setup) range is = is
 no_slots options none (Replay slots entries slice setup) range is = none slots range.0 is.0
 no_slots options none (Serve socket status slots entries slice turns setup) range is = is
+no_slots options none (Perft sfen depth divide) range is = is
+no_slots options none (Moves sfen) range is = is
 no_slots options none (Help text) range is = is
 no_slots options none Version range is = is
 
@@ -31,6 +37,8 @@ pub no_entries : (options : List Row) → HasNone (codes "entries") 1000000 opti
 no_entries options none (Stdio entries setup) range is = is
 no_entries options none (Replay slots entries slice setup) range is = none entries range.1 is.1
 no_entries options none (Serve socket status slots entries slice turns setup) range is = is
+no_entries options none (Perft sfen depth divide) range is = is
+no_entries options none (Moves sfen) range is = is
 no_entries options none (Help text) range is = is
 no_entries options none Version range is = is
 
@@ -38,6 +46,8 @@ pub no_slice : (options : List Row) → HasNone (codes "slice") 1000000000 optio
 no_slice options none (Stdio entries setup) range is = is
 no_slice options none (Replay slots entries slice setup) range is = none slice range.2 is.2
 no_slice options none (Serve socket status slots entries slice turns setup) range is = is
+no_slice options none (Perft sfen depth divide) range is = is
+no_slice options none (Moves sfen) range is = is
 no_slice options none (Help text) range is = is
 no_slice options none Version range is = is
 
@@ -45,6 +55,8 @@ pub no_replay_setup : (options : List Row) → HasNoSetup options → NamesNoRep
 no_replay_setup options none (Stdio entries setup) range is = is
 no_replay_setup options none (Replay slots entries slice setup) range is = none setup range.3 is.3
 no_replay_setup options none (Serve socket status slots entries slice turns setup) range is = is
+no_replay_setup options none (Perft sfen depth divide) range is = is
+no_replay_setup options none (Moves sfen) range is = is
 no_replay_setup options none (Help text) range is = is
 no_replay_setup options none Version range is = is
 
@@ -52,6 +64,8 @@ pub no_socket : (options : List Row) → first_of (codes "socket") options ≡ N
 no_socket options none (Stdio entries setup) range is = is
 no_socket options none (Replay slots entries slice setup) range is = is
 no_socket options none (Serve socket status slots entries slice turns setup) range is = let text = is.0 in cc
+no_socket options none (Perft sfen depth divide) range is = is
+no_socket options none (Moves sfen) range is = is
 no_socket options none (Help text) range is = is
 no_socket options none Version range is = is
 
@@ -59,6 +73,8 @@ pub no_numbers : (options : List Row) → HasNoNumbers options → NamesNoServe 
 no_numbers options none (Stdio entries setup) range is = is
 no_numbers options none (Replay slots entries slice setup) range is = is
 no_numbers options none (Serve socket status slots entries slice turns setup) range is = none slots entries slice turns range.0 is.2
+no_numbers options none (Perft sfen depth divide) range is = is
+no_numbers options none (Moves sfen) range is = is
 no_numbers options none (Help text) range is = is
 no_numbers options none Version range is = is
 
@@ -66,5 +82,16 @@ pub no_serve_setup : (options : List Row) → HasNoSetup options → NamesNoServ
 no_serve_setup options none (Stdio entries setup) range is = is
 no_serve_setup options none (Replay slots entries slice setup) range is = is
 no_serve_setup options none (Serve socket status slots entries slice turns setup) range is = none setup range.1 is.3
+no_serve_setup options none (Perft sfen depth divide) range is = is
+no_serve_setup options none (Moves sfen) range is = is
 no_serve_setup options none (Help text) range is = is
 no_serve_setup options none Version range is = is
+
+pub no_perft : (options : List Row) → HasNone (codes "depth") 16 options → NamesNoPerft options
+no_perft options none (Stdio entries setup) range is = is
+no_perft options none (Replay slots entries slice setup) range is = is
+no_perft options none (Serve socket status slots entries slice turns setup) range is = is
+no_perft options none (Perft sfen depth divide) range is = none depth range is.0
+no_perft options none (Moves sfen) range is = is
+no_perft options none (Help text) range is = is
+no_perft options none Version range is = is

@@ -1,5 +1,6 @@
 -- The command line, and its answers at arguments that are written out.
-use Rattle.std.proofs.Common.{◌≡◌, ◌∷◌, ◌∙◌, true, ℕ, List, [], Result, Ok, Err, Option, Some, None, IfOk, IfErr, IfSome, codes, refl, sym, ap, arith, subst, slice_index_or, inl, inr, lit≤, lit<}
+use Rattle.std.proofs.Common.{◌≡◌, ◌∷◌, ◌∙◌, true, false, ℕ, List, [], Result, Ok, Err, Option, Some, None, IfOk, IfErr, IfSome, codes, refl, sym, ap, arith, subst, slice_index_or, inl, inr, lit≤, lit<}
+use Rattle.std.proofs.lemmas.Bool.{true≢false}
 use Rattle.std.specs.Prelude.{string_bytes}
 use Rattle.clap.specs.Words.{App, FailsBy, HasMatchesOf, IsAmong, Kinds, Row, Text, fault_of, is_simple, is_simple_and_free, kind_of, subcommand_of, subcommand_rows_of}
 use Rattle.clap.specs.Kinds.{HasKind}
@@ -13,7 +14,7 @@ use Rattle.clap.specs.declared.parser.matches.ValueSource.TheVariants.{DefaultVa
 use Rattle.usi_arguments.specs.Answers.{AreHelpArguments, AreVersionArguments, Gives, GivesHelp, GivesReplay, GivesStdio, HasRanges, HasReach, IsTooDeepIn, KnowsEvaluation, NamesNoEvaluation, IsAnswerToParsed, IsAskedBy, IsJobOf, IsRefusal, IsRefusedFor, IsReplayOf, IsStdioOf, HasMistake, IsMistake, IsNoJob, NamesJob}
 use Rattle.usi_arguments.specs.CommandLine.{IsNumber, NamesNumber, command_line, command_of, faults_of}
 use Rattle.usi_arguments.specs.declared.arguments.Job.{Job}
-use Rattle.usi_arguments.specs.declared.arguments.Job.TheVariants.{Stdio, Replay, Serve, Help, Version}
+use Rattle.usi_arguments.specs.declared.arguments.Job.TheVariants.{Stdio, Replay, Serve, Perft, Moves, Help, Version}
 use Rattle.usi_arguments.specs.declared.arguments.ArgumentsFault.{ArgumentsFault}
 use Rattle.usi_arguments.specs.declared.arguments.ArgumentsFault.TheVariants.{OutOfMemory, NotAccepted}
 use Rattle.usi_arguments.specs.Setup.{HasSetupRanges, IsInReach, IsTooDeep, NamesSetup, usual_setup}
@@ -115,14 +116,18 @@ no_help : (command : Option (Text × List Row)) (job : Job) (text : _) → job �
 no_help None job text e is = let bad : Help text ≡ Stdio 4096 usual_setup = sym e ∙ is in cc
 no_help (Some command) job text e (inl is) = rw e at is.1
 no_help (Some command) job text e (inr (inl is)) = rw e at is.1
-no_help (Some command) job text e (inr (inr is)) = rw e at is.1
+no_help (Some command) job text e (inr (inr (inl is))) = rw e at is.1
+no_help (Some command) job text e (inr (inr (inr (inl is)))) = rw e at is.1
+no_help (Some command) job text e (inr (inr (inr (inr is)))) = rw e at is.1
 
 -- no command names the version
 no_version : (command : Option (Text × List Row)) (job : Job) → job ≡ Version → NamesJob command job → ⊥
 no_version None job e is = let bad : Version ≡ Stdio 4096 usual_setup = sym e ∙ is in cc
 no_version (Some command) job e (inl is) = rw e at is.1
 no_version (Some command) job e (inr (inl is)) = rw e at is.1
-no_version (Some command) job e (inr (inr is)) = rw e at is.1
+no_version (Some command) job e (inr (inr (inl is))) = rw e at is.1
+no_version (Some command) job e (inr (inr (inr (inl is)))) = rw e at is.1
+no_version (Some command) job e (inr (inr (inr (inr is)))) = rw e at is.1
 
 -- a job is one that the arguments ask for
 pub line_asked : (arguments : List Text) (parsed : Result ArgMatches Error) (r : Result Job ArgumentsFault) → IsParsedLine arguments parsed
@@ -131,11 +136,15 @@ pub line_asked : (arguments : List Text) (parsed : Result ArgMatches Error) (r :
 line_asked arguments (Ok m) (Ok (Stdio entries setup)) line is = (line.kinds, subst (λ (c : Option (Text × List Row)). NamesJob c (Stdio entries setup)) line.matches is)
 line_asked arguments (Ok m) (Ok (Replay slots entries slice setup)) line is = (line.kinds, subst (λ (c : Option (Text × List Row)). NamesJob c (Replay slots entries slice setup)) line.matches is)
 line_asked arguments (Ok m) (Ok (Serve socket status slots entries slice turns setup)) line is = (line.kinds, subst (λ (c : Option (Text × List Row)). NamesJob c (Serve socket status slots entries slice turns setup)) line.matches is)
+line_asked arguments (Ok m) (Ok (Perft sfen depth divide)) line is = (line.kinds, subst (λ (c : Option (Text × List Row)). NamesJob c (Perft sfen depth divide)) line.matches is)
+line_asked arguments (Ok m) (Ok (Moves sfen)) line is = (line.kinds, subst (λ (c : Option (Text × List Row)). NamesJob c (Moves sfen)) line.matches is)
 line_asked arguments (Ok m) (Ok (Help text)) line is = absurd (no_help (subcommand_rows_of m) (Help text) text refl is)
 line_asked arguments (Ok m) (Ok Version) line is = absurd (no_version (subcommand_rows_of m) Version refl is)
 line_asked arguments (Err e) (Ok (Stdio entries setup)) line is = absurd is
 line_asked arguments (Err e) (Ok (Replay slots entries slice setup)) line is = absurd is
 line_asked arguments (Err e) (Ok (Serve socket status slots entries slice turns setup)) line is = absurd is
+line_asked arguments (Err e) (Ok (Perft sfen depth divide)) line is = absurd is
+line_asked arguments (Err e) (Ok (Moves sfen)) line is = absurd is
 line_asked arguments (Err e) (Ok (Help text)) line is = elim line.kinds [
   | inl memory ↦ let bad : kinds.DisplayHelp ≡ kinds.OutOfMemory = sym is ∙ memory in cc
   | inr among ↦ subst (λ (k : ErrorKind). IsAmong k (faults_of arguments)) is among
@@ -175,7 +184,8 @@ not_too_deep job said reach deep =
 -- a command that knows its evaluation, and names one job only, which is within its reach, is not refused
 has_job : (command : Option (Text × List Row)) (job : Job) (said : List ℕ) → KnowsEvaluation command → NamesJob command job → HasRanges job → HasReach job
     → ((other : Job) → NamesJob command other → other ≡ job) → IsNoJob command said → ⊥
-has_job (Some command) job said knows names range reach only (inl is) = is.0 knows.0 knows.1
+has_job (Some command) job said (inl bare) names range reach only (inl is) = let bad : true ≡ false = sym bare ∙ is.0.0 in absurd (true≢false bad)
+has_job (Some command) job said (inr known) names range reach only (inl is) = is.0.1 known.0 known.1
 has_job None job said knows names range reach only (inl is) = is.0
 has_job command job said knows names range reach only (inr (inl is)) = is.1 job range names
 has_job command job said knows names range reach only (inr (inr is)) =
@@ -191,6 +201,8 @@ gives arguments job (Ok (Stdio entries setup)) none knows names range reach only
 gives arguments job (Ok (Replay slots entries slice setup)) none knows names range reach only asked refused = inl (ap Ok (only (Replay slots entries slice setup) asked.1))
 gives arguments job (Ok (Serve socket status slots entries slice turns setup)) none knows names range reach only asked refused =
     inl (ap Ok (only (Serve socket status slots entries slice turns setup) asked.1))
+gives arguments job (Ok (Perft sfen depth divide)) none knows names range reach only asked refused = inl (ap Ok (only (Perft sfen depth divide) asked.1))
+gives arguments job (Ok (Moves sfen)) none knows names range reach only asked refused = inl (ap Ok (only (Moves sfen) asked.1))
 gives arguments job (Ok (Help text)) none knows names range reach only asked refused = absurd (rw none at asked)
 gives arguments job (Ok Version) none knows names range reach only asked refused = absurd (rw none at asked)
 gives arguments job (Err OutOfMemory) none knows names range reach only asked refused = inr refl
@@ -247,19 +259,23 @@ stdio_only (Stdio entries setup) is =
     λ k. Stdio (a k) (b k)
 stdio_only (Replay slots entries slice setup) is = absurd is
 stdio_only (Serve socket status slots entries slice turns setup) is = absurd is
+stdio_only (Perft sfen depth divide) is = absurd is
+stdio_only (Moves sfen) is = absurd is
 stdio_only (Help text) is = absurd is
 stdio_only Version is = absurd is
 
 stdio_names : (job : Job) → NamesJob (Some (codes "stdio", stdio_rows)) job → job ≡ Stdio 4096 usual_setup
 stdio_names job (inl is) = stdio_only job is.1
 stdio_names job (inr (inl is)) = let bad : codes "stdio" ≡ codes "replay" = is.0 in cc
-stdio_names job (inr (inr is)) = absurd (let second : 116 ≡ 101 = ap (λ (text : Text). slice_index_or text 1 0) is.0 in omega arith)
+stdio_names job (inr (inr (inl is))) = absurd (let second : 116 ≡ 101 = ap (λ (text : Text). slice_index_or text 1 0) is.0 in omega arith)
+stdio_names job (inr (inr (inr (inl is)))) = absurd (let second : 116 ≡ 101 = ap (λ (text : Text). slice_index_or text 1 0) is.0 in omega arith)
+stdio_names job (inr (inr (inr (inr is)))) = absurd (let second : 116 ≡ 111 = ap (λ (text : Text). slice_index_or text 1 0) is.0 in omega arith)
 
 pub gives_stdio : (arguments : List Text) (r : Result Job ArgumentsFault)
     → arguments ≡ codes "stdio" ∷ []
     → IfOk r (IsAskedBy arguments) → IfErr r (IsRefusedFor arguments) → GivesStdio r
 gives_stdio arguments r is asked refused =
-    gives_of (codes "stdio" ∷ []) (Stdio 4096 usual_setup) (Some (codes "stdio", stdio_rows)) r stdio_faults stdio_command_is (Plain, refl)
+    gives_of (codes "stdio" ∷ []) (Stdio 4096 usual_setup) (Some (codes "stdio", stdio_rows)) r stdio_faults stdio_command_is (inr (Plain, refl))
     (inl (refl, (stdio_entries, stdio_setup))) ((lit≤ tt, lit≤ tt), usual_ranges) usual_reach stdio_names
     (subst (λ (a : List Text). IfOk r (IsAskedBy a)) is asked) (subst (λ (a : List Text). IfErr r (IsRefusedFor a)) is refused)
 
@@ -284,19 +300,23 @@ replay_only (Replay slots entries slice setup) is =
     let d : setup ≡ usual_setup = setup_once replay_rows setup usual_setup is.3 replay_setup in
     λ k. Replay (a k) (b k) (c k) (d k)
 replay_only (Serve socket status slots entries slice turns setup) is = absurd is
+replay_only (Perft sfen depth divide) is = absurd is
+replay_only (Moves sfen) is = absurd is
 replay_only (Help text) is = absurd is
 replay_only Version is = absurd is
 
 replay_names : (job : Job) → NamesJob (Some (codes "replay", replay_rows)) job → job ≡ Replay 64 4096 500 usual_setup
 replay_names job (inl is) = let bad : codes "replay" ≡ codes "stdio" = is.0 in cc
 replay_names job (inr (inl is)) = replay_only job is.1
-replay_names job (inr (inr is)) = let bad : codes "replay" ≡ codes "serve" = is.0 in cc
+replay_names job (inr (inr (inl is))) = let bad : codes "replay" ≡ codes "serve" = is.0 in cc
+replay_names job (inr (inr (inr (inl is)))) = let bad : codes "replay" ≡ codes "perft" = is.0 in cc
+replay_names job (inr (inr (inr (inr is)))) = let bad : codes "replay" ≡ codes "moves" = is.0 in cc
 
 pub gives_replay : (arguments : List Text) (r : Result Job ArgumentsFault)
     → arguments ≡ codes "replay" ∷ []
     → IfOk r (IsAskedBy arguments) → IfErr r (IsRefusedFor arguments) → GivesReplay r
 gives_replay arguments r is asked refused =
-    gives_of (codes "replay" ∷ []) (Replay 64 4096 500 usual_setup) (Some (codes "replay", replay_rows)) r replay_faults replay_command_is (Plain, refl)
+    gives_of (codes "replay" ∷ []) (Replay 64 4096 500 usual_setup) (Some (codes "replay", replay_rows)) r replay_faults replay_command_is (inr (Plain, refl))
     (inr (inl (refl, (replay_slots, replay_entries, replay_slice, replay_setup)))) ((lit≤ tt, lit≤ tt), (lit≤ tt, lit≤ tt), (lit≤ tt, lit≤ tt), usual_ranges)
     usual_reach replay_names
     (subst (λ (a : List Text). IfOk r (IsAskedBy a)) is asked) (subst (λ (a : List Text). IfErr r (IsRefusedFor a)) is refused)
@@ -324,6 +344,8 @@ gives_help_of arguments (Ok (Help text)) is asked refused = tt
 gives_help_of arguments (Ok (Stdio entries setup)) is asked refused = let bad : kinds.DisplayHelp ∷ [] ≡ [] = sym is ∙ asked.0 in cc
 gives_help_of arguments (Ok (Replay slots entries slice setup)) is asked refused = let bad : kinds.DisplayHelp ∷ [] ≡ [] = sym is ∙ asked.0 in cc
 gives_help_of arguments (Ok (Serve socket status slots entries slice turns setup)) is asked refused = let bad : kinds.DisplayHelp ∷ [] ≡ [] = sym is ∙ asked.0 in cc
+gives_help_of arguments (Ok (Perft sfen depth divide)) is asked refused = let bad : kinds.DisplayHelp ∷ [] ≡ [] = sym is ∙ asked.0 in cc
+gives_help_of arguments (Ok (Moves sfen)) is asked refused = let bad : kinds.DisplayHelp ∷ [] ≡ [] = sym is ∙ asked.0 in cc
 gives_help_of arguments (Ok Version) is asked refused =
     let bad : kinds.DisplayVersion ≡ kinds.DisplayHelp = among_one kinds.DisplayHelp kinds.DisplayVersion (subst (λ (k : Kinds). IsAmong kinds.DisplayVersion k) is asked) in cc
 gives_help_of arguments (Err OutOfMemory) is asked refused = tt
@@ -336,6 +358,8 @@ gives_version_of arguments (Ok Version) is asked refused = inl refl
 gives_version_of arguments (Ok (Stdio entries setup)) is asked refused = let bad : kinds.DisplayVersion ∷ [] ≡ [] = sym is ∙ asked.0 in cc
 gives_version_of arguments (Ok (Replay slots entries slice setup)) is asked refused = let bad : kinds.DisplayVersion ∷ [] ≡ [] = sym is ∙ asked.0 in cc
 gives_version_of arguments (Ok (Serve socket status slots entries slice turns setup)) is asked refused = let bad : kinds.DisplayVersion ∷ [] ≡ [] = sym is ∙ asked.0 in cc
+gives_version_of arguments (Ok (Perft sfen depth divide)) is asked refused = let bad : kinds.DisplayVersion ∷ [] ≡ [] = sym is ∙ asked.0 in cc
+gives_version_of arguments (Ok (Moves sfen)) is asked refused = let bad : kinds.DisplayVersion ∷ [] ≡ [] = sym is ∙ asked.0 in cc
 gives_version_of arguments (Ok (Help text)) is asked refused =
     let bad : kinds.DisplayHelp ≡ kinds.DisplayVersion = among_one kinds.DisplayVersion kinds.DisplayHelp (subst (λ (k : Kinds). IsAmong kinds.DisplayHelp k) is asked) in cc
 gives_version_of arguments (Err OutOfMemory) is asked refused = inr refl

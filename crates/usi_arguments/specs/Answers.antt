@@ -1,17 +1,18 @@
 -- When each answer to the arguments comes.
-use Rattle.std.specs.Prelude.{◌≡◌, ◌≢◌, ◌⊎◌, ◌∷◌, ◌-◌, ◌^◌, ℕ, List, [], Option, Some, None, Result, Ok, Err, IfSome, MatchResult, ⊤, codes, string_bytes}
+use Rattle.std.specs.Prelude.{◌≡◌, ◌≢◌, ◌⊎◌, ◌∷◌, ◌-◌, ◌^◌, ◌||◌, ℕ, Bool, true, false, List, [], Option, Some, None, Result, Ok, Err, IfSome, MatchResult, ⊤, codes, string_bytes}
+use Rattle.std.specs.Str.{bytes_eq}
 use Rattle.clap.specs.Words.{IsAmong, Row, Text, kind_of, subcommand_rows_of}
 use Rattle.clap.specs.declared.error.Error.{Error}
 use Rattle.clap.specs.declared.error.kind.ErrorKind.{ErrorKind}
 use Rattle.clap.specs.declared.error.kind.ErrorKind.TheVariants as kinds
 use Rattle.clap.specs.declared.parser.matches.ArgMatches.{ArgMatches}
-use Rattle.usi_arguments.specs.CommandLine.{IsFromOne, NamesNumber, NamesText, NamesTextIfAny, command_of, faults_of}
+use Rattle.usi_arguments.specs.CommandLine.{IsFromOne, NamesNumber, NamesText, NamesTextIfAny, command_of, faults_of, is_set}
 use Rattle.usi_arguments.specs.Setup.{HasNoEvaluation, HasSetupRanges, IsInReach, IsTooDeep, NamesEvaluation, NamesSetup, usual_setup}
 use Rattle.usi_arguments.specs.Texts.{not_an_evaluation, not_digits, too_deep}
 use Rattle.usi_arguments.specs.declared.setup.Evaluation.{Evaluation}
 use Rattle.usi_arguments.specs.declared.setup.SetupOptions.{SetupOptions}
 use Rattle.usi_arguments.specs.declared.arguments.Job.{Job}
-use Rattle.usi_arguments.specs.declared.arguments.Job.TheVariants.{Stdio, Replay, Serve, Help, Version}
+use Rattle.usi_arguments.specs.declared.arguments.Job.TheVariants.{Stdio, Replay, Serve, Perft, Moves, Help, Version}
 use Rattle.usi_arguments.specs.declared.arguments.ArgumentsFault.{ArgumentsFault}
 use Rattle.usi_arguments.specs.declared.arguments.ArgumentsFault.TheVariants.{OutOfMemory, NotAccepted}
 
@@ -29,6 +30,8 @@ HasRanges (Replay slots entries slice setup) =
     × HasSetupRanges setup
 HasRanges (Serve socket status slots entries slice turns setup) =
     HasServeRanges slots entries slice turns × HasSetupRanges setup
+HasRanges (Perft sfen depth divide) = IsFromOne 16 depth
+HasRanges (Moves sfen) = ⊤
 HasRanges (Help text) = ⊤
 HasRanges Version = ⊤
 
@@ -37,6 +40,8 @@ abbrev pub setup_in : Job → Option SetupOptions
 setup_in (Stdio entries setup) = Some setup
 setup_in (Replay slots entries slice setup) = Some setup
 setup_in (Serve socket status slots entries slice turns setup) = Some setup
+setup_in (Perft sfen depth divide) = None
+setup_in (Moves sfen) = None
 setup_in (Help text) = None
 setup_in Version = None
 
@@ -82,22 +87,40 @@ IsServeOf options (Serve socket status slots entries slice turns setup) =
     × NamesNumbers options slots entries slice turns × NamesSetup options setup
 IsServeOf options _ = ⊥
 
+-- the job is `perft`, with the position, the depth and the word that these options name
+abbrev pub IsPerftOf : List Row → Job → Type 0
+IsPerftOf options (Perft sfen depth divide) =
+    NamesNumber (codes "depth") options depth × NamesTextIfAny (codes "sfen") options sfen
+    × (divide ≡ is_set (codes "divide") options)
+IsPerftOf options _ = ⊥
+
+-- the job is `moves`, with the position that these options name
+abbrev pub IsMovesOf : List Row → Job → Type 0
+IsMovesOf options (Moves sfen) = NamesTextIfAny (codes "sfen") options sfen
+IsMovesOf options _ = ⊥
+
 -- the command names the job; without a command it is `stdio` with 4096 entries and the usual setup
 abbrev pub NamesJob : Option (Text × List Row) → Job → Type 0
 NamesJob None job = job ≡ Stdio 4096 usual_setup
 NamesJob (Some command) job = ((command.0 ≡ codes "stdio") × IsStdioOf command.1 job)
     ⊎ ((command.0 ≡ codes "replay") × IsReplayOf command.1 job)
     ⊎ ((command.0 ≡ codes "serve") × IsServeOf command.1 job)
+    ⊎ ((command.0 ≡ codes "perft") × IsPerftOf command.1 job)
+    ⊎ ((command.0 ≡ codes "moves") × IsMovesOf command.1 job)
 
 -- the job has its numbers in their ranges, and is `serve` as these options name it
 abbrev pub IsServeIn : List Row → Job → Type 0
 IsServeIn options job = HasRanges job × IsServeOf options job
 
+-- the same of `perft`
+abbrev pub IsPerftIn : List Row → Job → Type 0
+IsPerftIn options job = HasRanges job × IsPerftOf options job
+
 -- the job has its numbers in their ranges, and the command names it
 abbrev pub IsJobIn : Option (Text × List Row) → Job → Type 0
 IsJobIn command job = HasRanges job × NamesJob command job
 
--- these options name no `stdio`, no `replay`, no `serve`, whose numbers lie in their ranges
+-- these options name no `stdio`, no `replay`, no `serve`, no `perft`, whose numbers lie in their ranges
 abbrev pub NamesNoStdio : List Row → Type 0
 NamesNoStdio options = (job : Job) → HasRanges job → IsStdioOf options job → ⊥
 
@@ -106,6 +129,9 @@ NamesNoReplay options = (job : Job) → HasRanges job → IsReplayOf options job
 
 abbrev pub NamesNoServe : List Row → Type 0
 NamesNoServe options = (job : Job) → HasRanges job → IsServeOf options job → ⊥
+
+abbrev pub NamesNoPerft : List Row → Type 0
+NamesNoPerft options = (job : Job) → HasRanges job → IsPerftOf options job → ⊥
 
 -- the command names no job whose numbers are written in digits alone and lie in their ranges
 abbrev pub NamesNoJob : Option (Text × List Row) → Type 0
@@ -121,14 +147,20 @@ IsAskedBy arguments job = (faults_of arguments ≡ []) × NamesJob (command_of a
 abbrev pub IsMistake : ErrorKind → Type 0
 IsMistake kind = (kind ≢ kinds.DisplayHelp) × (kind ≢ kinds.DisplayVersion)
 
+-- the command has no sessions, and so no setup
+abbrev pub has_no_setup : Text → Bool
+has_no_setup name = bytes_eq name (codes "perft") || bytes_eq name (codes "moves")
+
 -- the command has an evaluation that is known, or none; and it has one that is not
 abbrev pub KnowsEvaluation : Option (Text × List Row) → Type 0
 KnowsEvaluation None = ⊤
-KnowsEvaluation (Some command) = (evaluation : Evaluation) × NamesEvaluation command.1 evaluation
+KnowsEvaluation (Some command) = (has_no_setup command.0 ≡ true)
+    ⊎ ((evaluation : Evaluation) × NamesEvaluation command.1 evaluation)
 
 abbrev pub NamesNoEvaluation : Option (Text × List Row) → Type 0
 NamesNoEvaluation None = ⊥
-NamesNoEvaluation (Some command) = HasNoEvaluation command.1
+NamesNoEvaluation (Some command) =
+    (has_no_setup command.0 ≡ false) × HasNoEvaluation command.1
 
 -- this is said of the setup of the job, which begins with a depth above its greatest
 abbrev pub IsTooDeepIn : Job → List ℕ → Type 0

@@ -1,7 +1,9 @@
 -- What the arguments after the program's name ask for, as `clap` reads them (own choice).
-use Rattle.std.specs.Prelude.{◌≡◌, ◌∷◌, ◌≤◌, ◌-◌, ◌^◌, ℕ, true, false, IfOk, List, [], Option, Result, Some, String, codes, option_map, string_bytes}
+use Rattle.std.specs.Prelude.{◌≡◌, ◌∷◌, ◌≤◌, ◌-◌, ◌^◌, ℕ, Bool, true, false, IfOk, List, [], None, Option, Result, Some, String, codes, option_map, string_bytes}
+use Rattle.std.specs.Str.{bytes_eq}
 use Rattle.std.specs.Str.Parse.{IsNumeral, digits_value}
 use Rattle.clap.specs.Words.{App, Kinds, Row, Rule, Text, app_of, fault_of, first_of, found_of, new_app, new_rule, rows_of, subcommand_of, with_rule, with_subcommand}
+use Rattle.clap.specs.declared.builder.action.ArgAction.TheVariants.{SetTrue}
 use Rattle.clap.specs.declared.builder.command.Command.{Command}
 use Rattle.clap.specs.declared.builder.command.Command.TheViews.{out-Command as fields_of}
 use Rattle.clap.specs.declared.builder.value_parser.ValueParser.TheVariants as parser
@@ -94,6 +96,34 @@ socket_command = with_rule (with_rule (new_app (codes "serve")) socket_option) s
 abbrev pub serve_command : App
 serve_command = with_rule (with_setup_options (with_host_options socket_command)) turns_option
 
+-- the position: `--sfen SFEN`, which may be left out
+abbrev pub sfen_option : Rule
+sfen_option = value_option (codes "sfen")
+
+-- how many moves long the sequences are: `--depth N`, from 1 to 16, which has to be there
+abbrev pub plies_option : Rule
+plies_option = record (value_option (codes "depth")) {
+  required = true;
+  parser = Some (parser.Unsigned 1 16);
+}
+
+-- whether the counts of the first moves are told: `--divide`, which may be left out
+abbrev pub divide_option : Rule
+divide_option = record (new_rule (codes "divide")) {
+  long = Some (codes "divide");
+  action = Some SetTrue;
+}
+
+-- the command `perft`
+abbrev pub perft_command : App
+perft_command =
+    with_rule (with_rule (with_rule (new_app (codes "perft")) plies_option) sfen_option)
+    divide_option
+
+-- the command `moves`
+abbrev pub moves_command : App
+moves_command = with_rule (new_app (codes "moves")) sfen_option
+
 -- the program without a command; it has a version, so `--version` and `-V` ask for it
 abbrev pub bare_line : App
 bare_line = let app = new_app (codes "usi_host") in
@@ -107,9 +137,17 @@ stdio_line = with_subcommand bare_line stdio_command.top
 abbrev pub replay_line : App
 replay_line = with_subcommand stdio_line replay_command.top
 
--- the command line: the program with its three commands
+-- the program with the three commands of sessions
+abbrev pub serve_line : App
+serve_line = with_subcommand replay_line serve_command.top
+
+-- the program with these and `perft`
+abbrev pub perft_line : App
+perft_line = with_subcommand serve_line perft_command.top
+
+-- the command line: the program with its five commands
 abbrev pub command_line : App
-command_line = with_subcommand replay_line serve_command.top
+command_line = with_subcommand perft_line moves_command.top
 
 -- the kinds of mistake for which the arguments are refused, or a request for help or for the
 -- version; none where they are a command line
@@ -132,6 +170,11 @@ NamesText name options text = first_of name options ≡ Some text
 abbrev pub NamesTextIfAny : {A : Type 0} → Text → List Row → Option (String A) → Type 0
 NamesTextIfAny name options text = first_of name options ≡ option_map string_bytes text
 
+-- the text of an option that has no value and is there
+abbrev pub is_true : Option Text → Bool
+is_true None = false
+is_true (Some text) = bytes_eq text (codes "true")
+
 -- the option of this name has the number n
 abbrev pub NamesNumber : Text → List Row → ℕ → Type 0
 NamesNumber name options n = (text : Text) × NamesText name options text × IsNumber text n
@@ -147,6 +190,10 @@ HasNumber name most options n = IsFromOne most n × NamesNumber name options n
 -- the option of this name has no number from 1 to `most`
 abbrev pub HasNone : Text → ℕ → List Row → Type 0
 HasNone name most options = (n : ℕ) → IsFromOne most n → NamesNumber name options n → ⊥
+
+-- whether the option of this name, which has no value, is there
+abbrev pub is_set : Text → List Row → Bool
+is_set name options = is_true (first_of name options)
 
 -- the options of a command that were read
 abbrev pub options_in : ArgMatches → List Row

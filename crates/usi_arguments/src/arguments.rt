@@ -1,7 +1,7 @@
 //! The arguments of the command line.
 ghost use Rattle.std.specs.Prelude.{◌≡◌, [], false, true, IfErr, IfNone, IfOk, IfSome, codes, map, string_bytes};
 ghost use Rattle.clap.specs.Words.{kind_of, subcommand_rows_of};
-ghost use Rattle.usi_arguments.specs.Answers.{AreHelpArguments, AreReplayArguments, AreServeNumbers, AreStdioArguments, AreVersionArguments, Gives, GivesHelp, GivesReplay, GivesStdio, HasNoNumbers, HasRanges, HasReach, IsAnswerTo, IsAnswerToParsed, IsAskedBy, IsHeld, IsJobIn, IsJobOf, IsRefusal, IsRefusedFor, IsReplayOf, IsServeIn, IsStdioOf, KnowsEvaluation, NamesNoEvaluation, NamesNoJob, NamesNoReplay, NamesNoServe, NamesNoStdio, setup_in};
+ghost use Rattle.usi_arguments.specs.Answers.{AreHelpArguments, AreReplayArguments, AreServeNumbers, AreStdioArguments, AreVersionArguments, Gives, GivesHelp, GivesReplay, GivesStdio, HasNoNumbers, HasRanges, HasReach, IsAnswerTo, IsAnswerToParsed, IsAskedBy, IsHeld, IsJobIn, IsJobOf, IsMovesOf, IsPerftIn, IsRefusal, IsRefusedFor, IsReplayOf, IsServeIn, IsStdioOf, KnowsEvaluation, NamesNoEvaluation, NamesNoJob, NamesNoPerft, NamesNoReplay, NamesNoServe, NamesNoStdio, has_no_setup, setup_in};
 ghost use Rattle.usi_arguments.specs.CommandLine.{NamesTextIfAny, options_in};
 ghost use Rattle.usi_arguments.specs.Setup.{usual_setup};
 ghost use Rattle.usi_arguments.specs.Texts.{too_deep};
@@ -9,8 +9,8 @@ ghost use Rattle.usi_arguments.specs.declared.arguments.Job.TheVariants.{Stdio, 
 ghost use Rattle.usi_arguments.specs.declared.arguments.ArgumentsFault.TheVariants.{OutOfMemory};
 
 use crate::grammar::command_line;
-use crate::setup::{Evaluation, SetupOptions, evaluation_of, setup_of};
-use crate::values::number_of;
+use crate::setup::{DEPTH_MAX, Evaluation, SetupOptions, evaluation_of, setup_of};
+use crate::values::{is_set, number_of};
 use crate::version::version_text;
 use clap::error::ErrorKind;
 use clap::{ArgMatches, Error};
@@ -68,6 +68,17 @@ pub enum Job {
         turns: u64,
         setup: SetupOptions,
     },
+    /// The count of sequences of `depth` legal moves, 1 to 16, from the position of a text, or from
+    /// the opening position; with `divide` also those of each first move.
+    Perft {
+        sfen: Option<String>,
+        depth: u8,
+        divide: bool,
+    },
+    /// The legal moves of the position of a text, or of the opening position.
+    Moves {
+        sfen: Option<String>,
+    },
     /// The text of a help that was asked for.
     Help {
         text: String,
@@ -94,7 +105,7 @@ impl Job {
             Job::Stdio { setup, .. } | Job::Replay { setup, .. } | Job::Serve { setup, .. } => {
                 Some(*setup)
             }
-            Job::Help { .. } | Job::Version => None,
+            Job::Perft { .. } | Job::Moves { .. } | Job::Help { .. } | Job::Version => None,
         }
     }
 }
@@ -111,8 +122,9 @@ impl From<AllocError> for ArgumentsFault {
 /// `--entries N` after `stdio`; `replay` for a script, with `--slots N`, `--entries N` and
 /// `--slice N`; `serve` for a Unix socket, with `--socket PATH`, which has to be there, these
 /// three, `--turns N` and `--status PATH`; after each of them `--depth N`, `--max-depth N`,
-/// `--lines N` and `--eval NAME` for the setup of the sessions; `--help`, `-h` or `help` for help;
-/// and `--version` or `-V` for the version. A number is written in decimal digits alone, and the
+/// `--lines N` and `--eval NAME` for the setup of the sessions; `perft` with `--depth N`, which has
+/// to be there, `--sfen SFEN` and `--divide`; `moves` with `--sfen SFEN`; `--help`, `-h` or `help`
+/// for help; and `--version` or `-V` for the version. A number is written in decimal digits alone, and the
 /// evaluation is `plain`, `hand` or `exchange`. Every other line is `NotAccepted`, and so is a depth
 /// above the greatest. Of several mistakes those that `clap` finds come first, then an evaluation
 /// that is not known, then a number with a sign, then the depth. The texts of help are those of
@@ -197,9 +209,16 @@ fn knows_evaluation(matches: &ArgMatches<'_>) -> bool
     ensures no { result ≡ false → NamesNoEvaluation (subcommand_rows_of matches.now) }
 {
     match matches.subcommand() {
-        Some((_, options)) => evaluation_of(options).is_some(),
+        Some((name, options)) => has_no_setup(name) || evaluation_of(options).is_some(),
         None => true,
     }
+}
+
+/// Whether the command has no sessions, and so no setup.
+fn has_no_setup(name: &str) -> bool
+    ensures { result ≡ has_no_setup name.now }
+{
+    name == "perft" || name == "moves"
 }
 
 /// The job, where the depth of its setup is not above its greatest.
@@ -244,6 +263,12 @@ fn named_job(alloc: Global, matches: &ArgMatches<'_>) -> Result<Option<Job>, All
     }
     if name == "serve" {
         return serve_job(alloc, options);
+    }
+    if name == "perft" {
+        return perft_job(alloc, options);
+    }
+    if name == "moves" {
+        return Ok(Some(moves_job(alloc, options)?));
     }
     Ok(None)
 }
@@ -297,7 +322,7 @@ fn serve_job(alloc: Global, options: &ArgMatches<'_>) -> Result<Option<Job>, All
         return Ok(None);
     };
     let socket = String::from_str(alloc, text)?;
-    let status = status_path(alloc, options)?;
+    let status = text_if_any(alloc, options, "status")?;
     Ok(Some(Job::Serve {
         socket,
         status,
@@ -309,11 +334,38 @@ fn serve_job(alloc: Global, options: &ArgMatches<'_>) -> Result<Option<Job>, All
     }))
 }
 
-/// Where the second socket is made, if anywhere.
-fn status_path(alloc: Global, options: &ArgMatches<'_>) -> Result<Option<String>, AllocError>
-    ensures { IfOk result (NamesTextIfAny (codes "status") (options_in options.now)) }
+fn perft_job(alloc: Global, options: &ArgMatches<'_>) -> Result<Option<Job>, AllocError>
+    ensures some { IfOk result (λ named. IfSome named (IsPerftIn (options_in options.now))) }
+    ensures if_none { IfOk result (λ named. IfNone named (NamesNoPerft (options_in options.now))) }
 {
-    match options.get_str("status") {
+    let Some(depth) = number_of(options, "depth", DEPTH_MAX) else {
+        return Ok(None);
+    };
+    let sfen = text_if_any(alloc, options, "sfen")?;
+    let divide = is_set(options, "divide");
+    Ok(Some(Job::Perft {
+        sfen,
+        depth: depth as u8,
+        divide,
+    }))
+}
+
+fn moves_job(alloc: Global, options: &ArgMatches<'_>) -> Result<Job, AllocError>
+    ensures { IfOk result (λ job. HasRanges job × IsMovesOf (options_in options.now) job) }
+{
+    let sfen = text_if_any(alloc, options, "sfen")?;
+    Ok(Job::Moves { sfen })
+}
+
+/// The text of an option, if it has one.
+fn text_if_any(
+    alloc: Global,
+    options: &ArgMatches<'_>,
+    name: &str,
+) -> Result<Option<String>, AllocError>
+    ensures { IfOk result (NamesTextIfAny name.now (options_in options.now)) }
+{
+    match options.get_str(name) {
         Some(text) => Ok(Some(String::from_str(alloc, text)?)),
         None => Ok(None),
     }

@@ -2,24 +2,26 @@
 ghost use Rattle.std.specs.Prelude.{◌≡◌, codes, false, IfOk};
 ghost use Rattle.clap.specs.Words.{App, Rule, app_of, new_app, rule_of, with_rule, with_subcommand};
 ghost use Rattle.clap.specs.declared.builder.command.Command.TheViews.{out-Command as fields_of};
-ghost use Rattle.usi_arguments.specs.CommandLine.{IsMade, bare_line, command_line, depth_option, entries_option, eval_option, lines_option, max_depth_option, number_option, replay_command, serve_command, slice_option, slots_option, socket_command, socket_option, status_option, stdio_command, turns_option, value_option, with_host_options, with_setup_options};
+ghost use Rattle.usi_arguments.specs.CommandLine.{IsMade, bare_line, command_line, depth_option, divide_option, entries_option, eval_option, lines_option, max_depth_option, moves_command, number_option, perft_command, plies_option, replay_command, serve_command, sfen_option, slice_option, slots_option, socket_command, socket_option, status_option, stdio_command, turns_option, value_option, with_host_options, with_setup_options};
 
 use crate::help::{
-    ABOUT, AFTER_HELP, AFTER_LONG_HELP, REPLAY_HELP, REPLAY_LONG_HELP, SERVE_HELP, SERVE_LONG_HELP,
-    STDIO_HELP, STDIO_LONG_HELP,
+    ABOUT, AFTER_HELP, AFTER_LONG_HELP, MOVES_HELP, MOVES_LONG_HELP, PERFT_HELP, PERFT_LONG_HELP,
+    REPLAY_HELP, REPLAY_LONG_HELP, SERVE_HELP, SERVE_LONG_HELP, STDIO_HELP, STDIO_LONG_HELP,
 };
 use crate::version::version_text;
 use clap::builder::ValueParser;
-use clap::{Arg, Command};
+use clap::{Arg, ArgAction, Command};
 use std::alloc::{AllocError, Global};
 
-/// The program with its three commands.
+/// The program with its five commands.
 pub(crate) fn command_line<'a>(alloc: Global) -> Result<Command<'a>, AllocError>
     ensures { IfOk result (λ line. app_of line ≡ command_line) }
 {
     let line = with_command(bare_line(alloc), stdio_command(alloc));
     let line = with_command(line, replay_command(alloc));
-    with_command(line, serve_command(alloc))
+    let line = with_command(line, serve_command(alloc));
+    let line = with_command(line, perft_command(alloc));
+    with_command(line, moves_command(alloc))
 }
 
 /// The line with one command more, where both were made.
@@ -146,6 +148,70 @@ fn socket_command<'a>(alloc: Global) -> Result<Command<'a>, AllocError>
     with_option(made, status_option(alloc))
 }
 
+fn perft_command<'a>(alloc: Global) -> Result<Command<'a>, AllocError>
+    ensures { IsMade perft_command result }
+{
+    let command = described(
+        alloc,
+        "perft",
+        "Counts the sequences of legal moves from a position",
+        PERFT_HELP,
+        PERFT_LONG_HELP,
+    );
+    let made = with_option(Ok(command), plies_option(alloc));
+    let made = with_option(made, sfen_option(alloc));
+    with_option(made, divide_option(alloc))
+}
+
+fn moves_command<'a>(alloc: Global) -> Result<Command<'a>, AllocError>
+    ensures { IsMade moves_command result }
+{
+    let command = described(
+        alloc,
+        "moves",
+        "Lists the legal moves of a position",
+        MOVES_HELP,
+        MOVES_LONG_HELP,
+    );
+    with_option(Ok(command), sfen_option(alloc))
+}
+
+fn sfen_option<'a>(alloc: Global) -> Arg<'a>
+    ensures rule { rule_of result ≡ sfen_option }
+    ensures local { result.global ≡ false }
+{
+    value_option(
+        alloc,
+        "sfen",
+        "SFEN",
+        "The position, and after it `moves` and moves [default: the opening position]",
+    )
+}
+
+fn plies_option<'a>(alloc: Global) -> Arg<'a>
+    ensures rule { rule_of result ≡ plies_option }
+    ensures local { result.global ≡ false }
+{
+    value_option(
+        alloc,
+        "depth",
+        "N",
+        "How many moves long the sequences are, from 1 to 16",
+    )
+    .required(true)
+    .value_parser(ValueParser::unsigned(1, 16))
+}
+
+fn divide_option<'a>(alloc: Global) -> Arg<'a>
+    ensures rule { rule_of result ≡ divide_option }
+    ensures local { result.global ≡ false }
+{
+    Arg::new(alloc, "divide")
+        .long("divide")
+        .action(ArgAction::SetTrue)
+        .help("Tells the count of each first move, too")
+}
+
 fn socket_option<'a>(alloc: Global) -> Arg<'a>
     ensures rule { rule_of result ≡ socket_option }
     ensures local { result.global ≡ false }
@@ -180,8 +246,9 @@ fn turns_option<'a>(alloc: Global) -> Arg<'a>
         "turns",
         u64::MAX,
         "18446744073709551615",
-        "After how many turns it ends, from 1 to 18446744073709551615",
+        "After how many turns it ends, from 1 to 18446744073709551615 [default: no end]",
     )
+    .hide_default_value(true)
 }
 
 fn slots_option<'a>(alloc: Global) -> Arg<'a>

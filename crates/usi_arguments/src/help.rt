@@ -13,7 +13,7 @@ pub(crate) const AFTER_LONG_HELP: &str =
 
 Exit statuses:
   0  the input ended, the session is over, the script was replayed, the last turn was taken,
-     or help or the version was asked for
+     moves were listed or counted, or help or the version was asked for
   1  out of memory, a failed read or write, or a socket that could not be made or waited for;
      standard error says which
   2  the arguments are not accepted; standard error says why
@@ -25,7 +25,40 @@ Examples:
   usi_host stdio --eval exchange --depth 6
   printf 'position startpos\\ngo depth 3\\nquit\\n' | usi_host
   printf '+A\\n+B\\nA go depth 1\\nB usi\\n' | usi_host replay --slots 2
-  usi_host serve --socket /tmp/shogi.socket";
+  usi_host serve --socket /tmp/shogi.socket
+  usi_host perft --depth 4";
+
+pub(crate) const PERFT_HELP: &str =
+    "The count is the last line; with --divide, a line for each first move comes before it.";
+
+pub(crate) const PERFT_LONG_HELP: &str =
+    "The count is the last line; with --divide, a line for each first move comes before it, as
+`7g7f: 30`, in the order of their codes. A sequence ends with its last move: one that mates sooner
+does not count. Nothing is written before all is counted, and Ctrl-C ends it.
+
+Exit statuses:
+  0  the sequences were counted
+  1  out of memory, or a failed write; standard error says which
+  2  the arguments are not accepted, the SFEN has a fault, or there are more sequences than
+     18446744073709551615; standard error says which
+
+Examples:
+  usi_host perft --depth 4
+  usi_host perft --depth 2 --divide --sfen '4k4/9/9/9/9/9/9/9/4K4 b P'";
+
+pub(crate) const MOVES_HELP: &str = "Each move is a line, as USI writes it.";
+
+pub(crate) const MOVES_LONG_HELP: &str =
+    "Each move is a line, as USI writes it, in the order of codes: moves of pieces by their squares, then
+drops. Where the side to move is mated, nothing is written.
+
+Exit statuses:
+  0  the moves were listed
+  1  out of memory, or a failed write; standard error says which
+  2  the arguments are not accepted, or the SFEN has a fault; standard error says which
+
+Example:
+  usi_host moves --sfen '4k4/9/9/9/9/9/9/9/4K4 b P'";
 
 pub(crate) const STDIO_HELP: &str = "It ends with `quit`, or when its input ends.";
 

@@ -8,7 +8,7 @@ use crate::values::number_of;
 use clap::ArgMatches;
 
 /// The greatest depth that may be asked for: `DEPTH_MAX` of `usi_lines`.
-const DEPTH_MAX: usize = 16;
+pub(crate) const DEPTH_MAX: usize = 16;
 
 /// The most lines that may be asked for: `MULTI_PV_MAX` of `usi_lines`.
 const LINES_MAX: usize = 8;

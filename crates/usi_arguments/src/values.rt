@@ -1,6 +1,6 @@
-//! The numbers that options name.
-ghost use Rattle.std.specs.Prelude.{◌<◌, ◌^◌, ℕ, IfNone, IfSome};
-ghost use Rattle.usi_arguments.specs.CommandLine.{HasNone, HasNumber, IsNumber, options_in};
+//! The numbers and the flags that options name.
+ghost use Rattle.std.specs.Prelude.{◌≡◌, ◌<◌, ◌^◌, ℕ, IfNone, IfSome};
+ghost use Rattle.usi_arguments.specs.CommandLine.{HasNone, HasNumber, IsNumber, is_set, options_in};
 
 use clap::ArgMatches;
 
@@ -23,4 +23,14 @@ pub(crate) fn number_of(options: &ArgMatches<'_>, name: &str, most: usize) -> Op
     let text = options.get_str(name)?;
     let n = digits_alone(text)?;
     if n >= 1 && n <= most { Some(n) } else { None }
+}
+
+/// Whether an option that has no value is there.
+pub(crate) fn is_set(options: &ArgMatches<'_>, name: &str) -> bool
+    ensures { result ≡ is_set name.now (options_in options.now) }
+{
+    match options.get_str(name) {
+        Some(text) => text == "true",
+        None => false,
+    }
 }

@@ -1,7 +1,7 @@
 //! The shogi host as a program.
 #![tactic(auto)]
 
-ghost use Rattle.std.specs.Prelude.{◌≡◌, ◌≤◌};
+ghost use Rattle.std.specs.Prelude.{◌≡◌, ◌≤◌, option_map, string_bytes};
 ghost use Rattle.session_slots.specs.declared.limits.TheConstants.{SESSIONS_MAX};
 ghost use Rattle.shared_table.specs.declared.table.TheConstants.{CAPACITY_MAX};
 ghost use Rattle.usi_arguments.specs.Setup.{HasSetupRanges, IsInReach};
@@ -17,7 +17,7 @@ use std::io;
 use std::process::ExitCode;
 use stream_transport::MioWire;
 use transport::WireFault;
-use usi_app::{DONE, ServeFault, print_out, socket_fault, status_fault};
+use usi_app::{DONE, ServeFault, counting, listing, print_out, socket_fault, status_fault};
 use usi_arguments::{Job, SetupOptions, asked, complaint, status, version_text};
 use usi_stdio::Duplex;
 
@@ -110,6 +110,16 @@ fn run_socket(
     serve_host(rt, &mut host, socket, status, limits, turns)
 }
 
+/// The bytes of a text, where there is one.
+fn bytes_of(text: &Option<String>) -> Option<&[u8]>
+    ensures { option_map (λ bytes. bytes.now) result ≡ option_map string_bytes text.now }
+{
+    match text {
+        Some(text) => Some(text.as_bytes()),
+        None => None,
+    }
+}
+
 /// Does what the arguments of the command line ask for. The status is 0 where it was done, 1 where
 /// it ended early, 2 where the arguments are not accepted, and 3 where a script has a bad line.
 fn main(rt: HostRuntime) -> ExitCode {
@@ -152,6 +162,14 @@ fn main(rt: HostRuntime) -> ExitCode {
                 Err(fault) => complain(&rt, fault.complaint(), fault.status()),
             }
         }
+        Ok(
+            Job::Perft {
+                sfen,
+                depth,
+                divide,
+            },
+        ) => counting(&rt, rt.alloc(), &mut ends, bytes_of(&sfen), depth, divide),
+        Ok(Job::Moves { sfen }) => listing(&rt, rt.alloc(), &mut ends, bytes_of(&sfen)),
         Ok(Job::Help { text }) => print_out(&rt, &mut ends, text.as_bytes()),
         Ok(Job::Version) => print_out(&rt, &mut ends, version_text().as_bytes()),
         Err(fault) => complain(&rt, complaint(&fault), status(&fault)),

@@ -1,0 +1,37 @@
+#!/usr/bin/env bash
+# check/install.sh PREFIX [DESTDIR]: puts the built program and what goes with it below a prefix: man page,
+# completions, pages, units, example clients; and the library for C, if it is built.
+set -euo pipefail
+cd "$(dirname "$0")/.."
+prefix=$1 root=${2:-}$1
+program=crates/usi_host/out/usi_host library=crates/usi_library/out
+[ -x "$program" ] || {
+    echo 'Nothing is built yet: call make build first.' >&2
+    exit 1
+}
+doc=$root/share/doc/usi_host
+install -D -m 755 "$program" "$root/bin/usi_host"
+install -D -m 644 share/usi_host.1 "$root/share/man/man1/usi_host.1"
+install -D -m 644 share/usi_host.bash "$root/share/bash-completion/completions/usi_host"
+install -D -m 644 share/_usi_host "$root/share/zsh/site-functions/_usi_host"
+install -D -m 644 -t "$doc" LICENSE SECURITY.md docs/PROTOCOL.md docs/OPERATING.md deploy/usi_host.service \
+    deploy/usi_host@.service deploy/haproxy.cfg
+install -D -m 755 -t "$doc/examples" share/examples/*.py
+for package in game_report shogi_records; do
+    install -D -m 644 -t "$doc/examples/$package" share/examples/$package/*.py
+done
+if [ -e "$library/libusi.so" ] && [ -e "$library/libusi.a" ]; then
+    version=$(sed -n 's/^#define USI_VERSION "\(.*\)"$/\1/p' share/library/usi_library.h)
+    install -D -m 644 share/library/usi_library.h "$root/include/usi_library.h"
+    install -D -m 644 "$library/libusi.a" "$root/lib/libusi.a"
+    install -D -m 755 "$library/libusi.so" "$root/lib/libusi.so.$version"
+    ln -sf "libusi.so.$version" "$root/lib/libusi.so.0"
+    ln -sf libusi.so.0 "$root/lib/libusi.so"
+    install -d "$root/lib/pkgconfig" "$root/lib/cmake/usi"
+    sed "s|@PREFIX@|$prefix|; s|@VERSION@|$version|" share/library/usi.pc.in >"$root/lib/pkgconfig/usi.pc"
+    sed "s|@VERSION@|$version|" share/library/usi-config-version.cmake.in >"$root/lib/cmake/usi/usi-config-version.cmake"
+    install -m 644 share/library/usi-config.cmake "$root/lib/cmake/usi/"
+    install -D -m 644 -t "$doc/library" share/library/engine.c share/library/usi_library.py
+else
+    echo 'Without the library for C: make library builds it.' >&2
+fi

@@ -1,0 +1,8 @@
+//! The legal moves of a position, and counts of sequences of them, as text.
+#![tactic(auto)]
+
+mod asked;
+mod texts;
+
+pub use asked::{asked_position, write_refusal};
+pub use texts::{CountFault, write_moves, write_perft};
