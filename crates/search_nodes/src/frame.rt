@@ -10,6 +10,7 @@ ghost use Rattle.shogi_replies.specs.ReplyInfo.{IsReplyInfo};
 ghost use Rattle.shogi_eval.specs.declared.points.TheConstants.{POINTS_MAX};
 ghost use Rattle.minimax.specs.Minimax.{value, negated};
 ghost use Rattle.minimax.specs.Entries.{IsConclusive};
+ghost use Rattle.dull_moves.specs.Dull.{AreDull};
 ghost use Rattle.search_nodes.specs.Threats.{AreSomeThreats};
 ghost use Rattle.search_nodes.specs.Order.{codes_of, IsWithinTree, IsKept, IsKept-prop};
 ghost use Rattle.search_nodes.specs.Visits.{IsKnownSoFar, known_props, IsCurrent};
@@ -19,6 +20,7 @@ use crate::move_picker::MovePicker;
 use crate::priority_moves::{KILLERS, PriorityMoves, with_killer};
 use crate::threat::Threats;
 use crate::window::move_alpha;
+use dull_moves::DullDrops;
 use minimax::{Entry, MATE};
 use shogi_core::{Move, Squares};
 use shogi_eval::{Eval, Node};
@@ -47,6 +49,8 @@ pub struct Frame {
     pub escapes: Option<Squares>,
     /// Captures that the other side may make after most moves, once they were looked for.
     pub threats: Option<Threats>,
+    /// Drops that one reply refutes, if there are some, once they were looked for.
+    pub dull: Option<DullDrops>,
     pub alpha: i32,
     pub beta: i32,
     pub best_value: i32,
@@ -57,6 +61,8 @@ pub struct Frame {
     pub has_move: bool,
     /// Set once the replies are those of the position.
     pub has_replies: bool,
+    /// Set once drops that one reply refutes were looked for.
+    pub has_dull: bool,
     /// Codes of moves that cut off the last nodes of this place, the last one first.
     pub killers: [u16; KILLERS],
     ghost valid: { IsValid node.position },
@@ -70,6 +76,7 @@ pub struct Frame {
     ghost replied: { IsReplyInfo node.position replies.king_view.bits replies.free_movers.bits } by { Prim.hlevel props },
     ghost escaping: { ForSome escapes (λ squares. AreEscapes node.position squares.bits) } by { Prim.hlevel props },
     ghost threatened: { AreSomeThreats node.position node.eval threats } by { Prim.hlevel props },
+    ghost refuted: { ForSome dull (AreDull node.position node.eval) } by { Prim.hlevel props },
 }
 
 /// Whether some move is legal.
@@ -149,6 +156,8 @@ impl Frame {
         self.has_replies = false;
         self.escapes = None;
         self.threats = None;
+        self.dull = None;
+        self.has_dull = false;
     }
 
     /// Whether some move is legal, which the position is asked only where it is not known yet.
@@ -336,6 +345,8 @@ impl Default for Frame {
             has_replies: false,
             escapes: None,
             threats: None,
+            dull: None,
+            has_dull: false,
             killers: [0; KILLERS],
         }
     }

@@ -1,14 +1,16 @@
-//! What is pruned at a node of depth 2: moves that surely are not worth enough.
+//! What is pruned at a node of depth 2 or 3: moves that surely are not worth enough.
 
-ghost use Rattle.std.specs.Prelude.{◌≡◌, ◌≤ℤ◌, ◌-ℤ◌, pos, true, false};
+ghost use Rattle.std.specs.Prelude.{◌≡◌, ◌≤ℤ◌, ◌<ℤ◌, ◌-ℤ◌, pos, true, false};
 ghost use Rattle.shogi_moves.specs.Escapes.{AreEscapes};
 ghost use Rattle.shogi_eval.specs.Exchange.{resolves_captures};
+ghost use Rattle.minimax.specs.declared.bounds.TheConstants.{INFINITY};
 ghost use Rattle.search_nodes.specs.Frames.{PromotesWithin};
 
 use crate::frame::{Frame, NodeState};
 use crate::move_picker::MovePicker;
 use crate::threat::{Threat, Threats, slides, threats_of};
 use crate::window::move_alpha_at;
+use dull_moves::DullDrops;
 use shogi_core::{Kind, Move, Squares};
 use shogi_eval::{PROMOTION_GAIN_MAX, loss_of_drops, taken_gain};
 use shogi_moves::dropped;
@@ -543,15 +545,87 @@ impl Frame {
         None
     }
 
+    /// Looks once for drops that the reply refutes, none of which is worth more than so much.
+    fn look_for_dull(&mut self, reply: &Option<Move>, most: i32)
+        requires most { most <ℤ INFINITY }
+        ensures { KeepsMoves self.old self.new }
+    {
+        let Some(reply) = reply else {
+            return;
+        };
+        if !self.has_dull {
+            self.has_dull = true;
+            self.dull = DullDrops::of(&self.node, *reply, most);
+        }
+    }
+
+    /// Whether the current move of a node of depth 3 is a drop that the reply to a move before it refutes
+    /// as well, since it changes nothing of what that leaves.
+    fn is_dull(&mut self, current: &Move, reply: &Option<Move>) -> bool
+        requires current { IsCurrent self.old.state current.now }
+        requires last { self.old.depth ≡ 3 }
+        ensures lost { result ≡ true → IsLost self.new current.now }
+        ensures unchanged { KeepsMoves self.old self.new }
+    {
+        let Move::Drop { kind, to } = current else {
+            return false;
+        };
+        if !self.has_move && self.best_move.is_none() {
+            return false;
+        }
+        let move_alpha = self.move_alpha(current);
+        self.look_for_dull(reply, move_alpha);
+        current.reveal_invariant();
+        to.reveal_invariant();
+        match &self.dull {
+            Some(dull) => dull.most <= move_alpha && dull.squares(*kind).has(*to),
+            None => false,
+        }
+    }
+
+    /// Prunes the current move of a node of depth 3, where it is such a drop, and returns whether it did.
+    fn prune_dull(&mut self, current: &Move, reply: &Option<Move>) -> bool
+        requires asked { self.old.state ≡ NodeState.AwaitingChild current.now }
+        requires last { self.old.depth ≡ 3 }
+        ensures next { result ≡ true → self.new.state ≡ NodeState.Expanding }
+        ensures asked { result ≡ false → self.new.state ≡ self.old.state }
+        ensures picker { self.new.picker ≡ self.old.picker }
+        ensures unchanged { IsSame self.old self.new }
+    {
+        if !self.is_dull(current, reply) {
+            return false;
+        }
+        self.fail_low();
+        true
+    }
+
+    /// Asks for the answer of the next move at depth 3, where such drops are pruned.
+    fn next_unrefuted(&mut self, reply: &Option<Move>) -> Option<Move>
+        requires next { self.old.state ≡ NodeState.Expanding }
+        requires last { self.old.depth ≡ 3 }
+        ensures { AsksFor result self.old self.new }
+    {
+        'moves: while let Some(current) = self.pick_move() {
+            if !self.prune_dull(&current, reply) {
+                return Some(current);
+            }
+        }
+        None
+    }
+
     /// Asks for the answer of the next move, where there is one. At depth 2 the moves that surely are
-    /// not worth enough are pruned.
+    /// not worth enough are pruned, and at depth 3 drops that change nothing of what the reply refutes:
+    /// the best move of the child before, or the one that cut it off.
     #[inline(always)]
-    pub fn next_move(&mut self) -> Option<Move>
+    pub fn next_move(&mut self, reply: Option<Move>) -> Option<Move>
         requires next { self.old.state ≡ NodeState.Expanding }
         ensures { AsksFor result self.old self.new }
     {
         if self.depth == 2 {
             return self.next_unpruned();
+        }
+        if self.depth == 3 {
+            return self.next_unrefuted(&reply);
         }
         self.pick_move()
     }

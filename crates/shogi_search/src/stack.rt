@@ -437,6 +437,19 @@ impl Stack {
         None
     }
 
+    /// The best move of the last child of a node of depth 3 on top that was entered, or the one that cut
+    /// it off.
+    #[inline(always)]
+    fn last_reply(&self) -> Option<Move>
+        requires { self.now.height < SEARCH_DEPTH_MAX }
+    {
+        let above = self.height + 1;
+        if self.frames[self.height].depth == 3 && above < self.frames.len() {
+            return self.frames[above].best_move;
+        }
+        None
+    }
+
     /// Makes one step; gives what is known of the root where that was left.
     fn step<M: Memo>(&mut self, counter_moves: &mut CounterMoves, memo: &mut M) -> Option<Entry>
         requires stack { IsStack self.old }
@@ -453,9 +466,10 @@ impl Stack {
         ensures told { IfSome result (EndsWithRoot M.called memo.old memo.new self.old) }
         ensures capacity { M.capacity memo.new ≡ M.capacity memo.old }
     {
+        let reply = self.last_reply();
         let top = &mut self.frames[self.height];
         if top.is_next() {
-            let Some(current) = top.next_move() else {
+            let Some(current) = top.next_move(reply) else {
                 return self.leave(counter_moves, memo);
             };
             self.enter_child(&current, counter_moves, memo);

@@ -31,6 +31,9 @@ invariant_of-self-clause-escaping c = c.args.self.now.escaping
 pub invariant_of-self-clause-threatened : goal.invariant_of-self-clause-threatened
 invariant_of-self-clause-threatened c = c.args.self.now.threatened
 
+pub invariant_of-self-clause-refuted : goal.invariant_of-self-clause-refuted
+invariant_of-self-clause-refuted c = c.args.self.now.refuted
+
 pub invariant_of-self-clause-open : goal.invariant_of-self-clause-open
 invariant_of-self-clause-open c =
     let fits : FitsSigned w32 c.args.beta = c.ranges.beta in

@@ -8,6 +8,7 @@ use Rattle.minimax.specs.Minimax.{worth, negated}
 use Rattle.search_nodes.proofs.Nodes.{new_node}
 use Rattle.shogi_core.specs.declared.squares.Squares.{Squares}
 use Rattle.minimax.specs.declared.bounds.TheConstants.{INFINITY}
+use Rattle.dull_moves.specs.declared.drops.DullDrops.{DullDrops}
 use Rattle.search_nodes.specs.declared.threat.Threats.{Threats}
 use Rattle.search_nodes.proofs.frame.Frame.enter.Goals as goal
 
@@ -71,3 +72,6 @@ invariant_of-self-clause-escaping c = λ squares e. absurd (no_some Squares squa
 
 pub invariant_of-self-clause-threatened : goal.invariant_of-self-clause-threatened
 invariant_of-self-clause-threatened c = λ threats e. absurd (no_some Threats threats e)
+
+pub invariant_of-self-clause-refuted : goal.invariant_of-self-clause-refuted
+invariant_of-self-clause-refuted c = λ drops e. absurd (no_some DullDrops drops e)

@@ -36,6 +36,9 @@ invariant_of-self-clause-escaping c = c.args.self.now.escaping
 pub invariant_of-self-clause-threatened : goal.invariant_of-self-clause-threatened
 invariant_of-self-clause-threatened c = c.args.self.now.threatened
 
+pub invariant_of-self-clause-refuted : goal.invariant_of-self-clause-refuted
+invariant_of-self-clause-refuted c = c.args.self.now.refuted
+
 pub returns-clause-ended : goal.returns-clause-ended
 returns-clause-ended c = ((refl, (refl, (refl, refl))), (refl, tt))
 

@@ -57,6 +57,7 @@ invariant_of-self c =
       replied = f.replied;
       escaping = f.escaping;
       threatened = f.threatened;
+      refuted = f.refuted;
     }
 
 pub invariant_of-self-2 : goal.invariant_of-self-2
@@ -74,4 +75,5 @@ invariant_of-self-2 c =
       replied = f.replied;
       escaping = f.escaping;
       threatened = f.threatened;
+      refuted = f.refuted;
     }

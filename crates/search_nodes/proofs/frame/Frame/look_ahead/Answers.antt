@@ -19,6 +19,7 @@ invariant_of-self c =
       replied = subst (λ (q : Shogi). IsReplyInfo q c.of-self.result.king_view.bits c.of-self.result.free_movers.bits) c.as_position.ensures c.of-self.ensures;
       escaping = f.escaping;
       threatened = f.threatened;
+      refuted = f.refuted;
     }
 
 pub returns-then-not-self : goal.returns-then-not-self

@@ -44,6 +44,9 @@ invariant_of-self-clause-replied c = c.args.self.now.replied
 pub invariant_of-self-clause-threatened : goal.invariant_of-self-clause-threatened
 invariant_of-self-clause-threatened c = c.args.self.now.threatened
 
+pub invariant_of-self-clause-refuted : goal.invariant_of-self-clause-refuted
+invariant_of-self-clause-refuted c = c.args.self.now.refuted
+
 pub returns-in-Some-clause-unchanged : goal.returns-in-Some-clause-unchanged
 returns-in-Some-clause-unchanged c = ((refl, (refl, (refl, refl))), (refl, (refl, (refl, refl))))
 

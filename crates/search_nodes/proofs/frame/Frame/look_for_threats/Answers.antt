@@ -14,6 +14,9 @@ invariant_of-self-clause-threatened c = λ t is.
     one : (x y : Threats) → Some x ≡ Some y → x ≡ y
     one x y h = cc
 
+pub invariant_of-self-clause-refuted : goal.invariant_of-self-clause-refuted
+invariant_of-self-clause-refuted c = c.args.self.now.refuted
+
 pub invariant_of-self-clause-valid : goal.invariant_of-self-clause-valid
 invariant_of-self-clause-valid c = c.args.self.now.valid
 

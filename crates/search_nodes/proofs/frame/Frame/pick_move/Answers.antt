@@ -30,6 +30,7 @@ invariant_of-self c =
       replied = f.replied;
       escaping = f.escaping;
       threatened = f.threatened;
+      refuted = f.refuted;
     }
 
 pub invariant_of-self-in-None : goal.invariant_of-self-in-None
@@ -49,6 +50,7 @@ invariant_of-self-in-None c =
       replied = f.replied;
       escaping = f.escaping;
       threatened = f.threatened;
+      refuted = f.refuted;
     }
 
 pub returns-in-Some : goal.returns-in-Some

@@ -65,6 +65,7 @@ invariant_of-self c =
       replied = f.replied;
       escaping = f.escaping;
       threatened = f.threatened;
+      refuted = f.refuted;
     }
 
 pub returns-then-room-lt0-clause-pruned : goal.returns-then-room-lt0-clause-pruned
@@ -113,3 +114,6 @@ invariant_of-self-2-clause-escaping c = c.args.self.now.escaping
 
 pub invariant_of-self-2-clause-threatened : goal.invariant_of-self-2-clause-threatened
 invariant_of-self-2-clause-threatened c = c.args.self.now.threatened
+
+pub invariant_of-self-2-clause-refuted : goal.invariant_of-self-2-clause-refuted
+invariant_of-self-2-clause-refuted c = c.args.self.now.refuted

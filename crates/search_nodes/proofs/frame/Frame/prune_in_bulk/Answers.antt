@@ -43,4 +43,5 @@ invariant_of-self c =
       replied = f.replied;
       escaping = f.escaping;
       threatened = f.threatened;
+      refuted = f.refuted;
     }

@@ -131,6 +131,7 @@ invariant_of-self c =
       replied = f.replied;
       escaping = f.escaping;
       threatened = f.threatened;
+      refuted = f.refuted;
     }
 
 pub invariant_of-self-2 : goal.invariant_of-self-2
@@ -148,6 +149,7 @@ invariant_of-self-2 c =
       replied = f.replied;
       escaping = f.escaping;
       threatened = f.threatened;
+      refuted = f.refuted;
     }
 
 pub invariant_of-self-3 : goal.invariant_of-self-3
@@ -165,6 +167,7 @@ invariant_of-self-3 c =
       replied = f.replied;
       escaping = f.escaping;
       threatened = f.threatened;
+      refuted = f.refuted;
     }
 
 pub fails_low_by_capture-requires-clause-plain : goal.fails_low_by_capture-requires-clause-plain

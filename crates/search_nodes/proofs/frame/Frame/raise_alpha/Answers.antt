@@ -40,6 +40,9 @@ invariant_of-self-clause-escaping c = c.args.self.now.escaping
 pub invariant_of-self-clause-threatened : goal.invariant_of-self-clause-threatened
 invariant_of-self-clause-threatened c = c.args.self.now.threatened
 
+pub invariant_of-self-clause-refuted : goal.invariant_of-self-clause-refuted
+invariant_of-self-clause-refuted c = c.args.self.now.refuted
+
 pub invariant_of-self-clause-open : goal.invariant_of-self-clause-open
 invariant_of-self-clause-open c = subst (λ (v : ℤ). v <ℤ c.args.self.now.beta) (sym (to_z-of_z w32 c.args.value c.ranges.value)) c.requires.«open»
 

@@ -26,6 +26,7 @@ invariant_of-self c =
       replied = f.replied;
       escaping = f.escaping;
       threatened = f.threatened;
+      refuted = f.refuted;
     }
 
 pub returns : goal.returns

@@ -1,0 +1,308 @@
+-- A drop that changes nothing leaves its side no more gain, and the other side's king the squares that it had.
+use Rattle.std.proofs.Common.{◌≡◌, ◌≢◌, ◌⊎◌, ℕ, ℤ, pos, ◌+◌, ◌-◌, ◌<◌, ◌≤◌, ◌+ℤ◌, ◌≤ℤ◌, Bool, true, false, not, List, [], Option, Some, None, refl, sym, ap, subst, ◌∙◌, inl, inr, arith, set, length, length-set, get_or, get_or-set_same, get_or-set_other}
+use Rattle.std.specs.Prelude.{◌&&◌, ◌||◌, is_none, nat_lt}
+use Rattle.std.proofs.lemmas.Bool.{and_from, and_parts, both_ways, cases_eq, false_from_ne_true, ltb-true, not-true}
+use Rattle.std.proofs.lemmas.Int.{ints}
+use Rattle.shogi_core.specs.declared.moves.Move.{Move}
+use Rattle.shogi_core.specs.declared.moves.Move.TheVariants.{Board, Drop}
+use Rattle.shogi_core.specs.declared.piece.Color.{Color}
+use Rattle.shogi_core.specs.declared.piece.Color.TheVariants.{Black, White}
+use Rattle.shogi_core.specs.declared.piece.Kind.{Kind}
+use Rattle.shogi_core.specs.declared.piece.Piece.{Piece}
+use Rattle.shogi_core.specs.Attack.{in_check, is_attacked, is_attacked_from, is_open_king}
+use Rattle.shogi_core.specs.Bits.{has_bit}
+use Rattle.shogi_core.specs.Cell.{HasNoOtherKing, is_immobile, is_king, is_piece_of}
+use Rattle.shogi_core.specs.Lines.{are_aligned, are_lined}
+use Rattle.shogi_core.specs.Movement.{Cells, cell_reaches, piece_at, reaches}
+use Rattle.shogi_core.specs.Pieces.{kind_number, opponent_of}
+use Rattle.shogi_core.specs.Position.{HandCounts, Shogi, count_in_hand, place_of}
+use Rattle.shogi_core.specs.Validity.{IsValid, pawns_on_file}
+use Rattle.shogi_core.specs.Zones.{may_promote}
+use Rattle.shogi_core.proofs.Below.{some_below_not}
+use Rattle.shogi_core.proofs.Faults.{faultless_from, number_below}
+use Rattle.shogi_core.proofs.SeenLaws.{lined_aligned}
+use Rattle.shogi_core.proofs.Discovered.{attacked_was_but, reach_was}
+use Rattle.shogi_moves.specs.After.{after, cells_after, dropped, hands_after, piece_moved}
+use Rattle.shogi_moves.specs.Escapes.{IsEscape}
+use Rattle.shogi_moves.specs.Legal.{is_legal, is_pawn_kind, is_pseudo_legal, is_pseudo_legal_board_move}
+use Rattle.shogi_moves.specs.LegalMoves.{legal_codes}
+use Rattle.shogi_moves.proofs.CheckInfoLaws.{dropped_of, is_piece_of-piece_moved, look, other_side, own_some}
+use Rattle.shogi_moves.proofs.DropChecks as drops
+use Rattle.shogi_moves.proofs.EscapeLaws.{kept, king_reach, opened}
+use Rattle.shogi_moves.proofs.KingLaws.{king_own}
+use Rattle.shogi_moves.proofs.MovedPieces.{opponent_twice}
+use Rattle.shogi_replies.proofs.EscapeLaws.{king_steps}
+use Rattle.shogi_replies.proofs.ReplyLaws.{reply_by}
+use Rattle.shogi_eval.specs.declared.eval.Eval.{Eval}
+use Rattle.shogi_eval.specs.Material.{drop_gain, material_of, promotion_gain, taken_gain}
+use Rattle.shogi_eval.proofs.Gains.{gain_of}
+use Rattle.dull_moves.specs.Dull.{IsOnSquares, IsCalm, IsIdle, IsQuietThere, LeavesOne, without_king}
+use Rattle.dull_moves.proofs.Materials.{drop_little}
+use Rattle.dull_moves.proofs.StillLegal.{legal_parts, length-after}
+use Rattle.dull_moves.proofs.Worth.{IsTame}
+
+-- the position with a piece dropped, and the same side to move
+abbrev pub with_drop : Shogi → Kind → ℕ → Shogi
+with_drop q kind b = record { cells = cells_after q.cells q.side (Drop kind b); hands = hands_after q.hands q.cells q.side (Drop kind b); side = q.side }
+
+-- what a pseudo-legal move on the board is
+board_parts : (q : Shogi) (c d : ℕ) (promote : Bool) → is_legal q (Board c d promote) ≡ true → (is_piece_of q.side (piece_at q.cells c) ≡ true) × (is_piece_of q.side (piece_at q.cells d) ≡ false) × (reaches q.cells c d ≡ true) × ((not promote || may_promote (piece_at q.cells c) c d) ≡ true)
+board_parts q c d promote l =
+    let parts = legal_parts q (Board c d promote) l in
+    let four = and_parts (is_piece_of q.side (piece_at q.cells c) && not (is_piece_of q.side (piece_at q.cells d)) && reaches q.cells c d && (not promote || may_promote (piece_at q.cells c) c d)) (not (is_immobile d (piece_moved promote (piece_at q.cells c)))) parts.0 in
+    let three = and_parts (is_piece_of q.side (piece_at q.cells c) && not (is_piece_of q.side (piece_at q.cells d)) && reaches q.cells c d) (not promote || may_promote (piece_at q.cells c) c d) four.0 in
+    let two = and_parts (is_piece_of q.side (piece_at q.cells c) && not (is_piece_of q.side (piece_at q.cells d))) (reaches q.cells c d) three.0 in
+    let one = and_parts (is_piece_of q.side (piece_at q.cells c)) (not (is_piece_of q.side (piece_at q.cells d))) two.0 in
+    (one.0, not-true _ one.1, two.1, three.1)
+
+-- and a drop
+pub drop_parts : (q : Shogi) (kind : Kind) (d : ℕ) → is_legal q (Drop kind d) ≡ true → (nat_lt 0 (count_in_hand q.hands q.side kind) ≡ true) × (is_none (piece_at q.cells d) ≡ true) × (is_immobile d (dropped q.side kind) ≡ false)
+drop_parts q kind d l =
+    let parts = legal_parts q (Drop kind d) l in
+    let three = and_parts (nat_lt 0 (count_in_hand q.hands q.side kind) && is_none (piece_at q.cells d) && not (is_immobile d (dropped q.side kind))) _ parts.0 in
+    let two = and_parts (nat_lt 0 (count_in_hand q.hands q.side kind) && is_none (piece_at q.cells d)) (not (is_immobile d (dropped q.side kind))) three.0 in
+    let one = and_parts (nat_lt 0 (count_in_hand q.hands q.side kind)) (is_none (piece_at q.cells d)) two.0 in
+    (one.0, one.1, not-true _ two.1)
+
+may_when : (promote may : Bool) → (not promote || may) ≡ true → promote ≡ true → may ≡ true
+may_when true may e p = e
+may_when false may e p = absurd (cc)
+
+pub none_is : (cell : Option Piece) → is_none cell ≡ true → cell ≡ None
+none_is None e = refl
+none_is (Some piece) e = absurd (cc)
+
+-- a move takes no king
+takes_no_king : (q : Shogi) (c k : ℕ) → IsValid q → c < 81 → k < 81 → is_king (opponent_of q.side) (piece_at q.cells k) ≡ true → is_piece_of q.side (piece_at q.cells c) ≡ true → reaches q.cells c k ≡ false
+unfolding in_check
+takes_no_king q c k v hc hk crown own =
+    let shut : in_check q.cells (opponent_of q.side) ≡ false = (faultless_from q v.no_fault).shut in
+    let calm : is_attacked q.cells (opponent_of (opponent_of q.side)) k ≡ false = false_from_ne_true _ (λ hit. both_ways (is_open_king q.cells (opponent_of q.side) k) (some_below_not 81 (is_open_king q.cells (opponent_of q.side)) k shut hk) (and_from _ _ crown hit)) in
+    let mine : is_piece_of (opponent_of (opponent_of q.side)) (piece_at q.cells c) ≡ true = ap (λ (color : Color). is_piece_of color (piece_at q.cells c)) (opponent_twice q.side) ∙ own in
+    false_from_ne_true _ (λ reach. both_ways (is_attacked_from q.cells (opponent_of (opponent_of q.side)) k c)
+    (some_below_not 81 (is_attacked_from q.cells (opponent_of (opponent_of q.side)) k) c calm hc) (and_from _ _ mine reach))
+
+place_below : (side : Color) (kind : Kind) → place_of side kind < 14
+place_below Black kind = let low : kind_number kind < 7 = number_below kind in omega (arith, low)
+place_below White kind = let low : kind_number kind < 7 = number_below kind in omega (arith, low)
+
+module _ (q : Shogi) (e : Eval) (gains king squares : ℕ) (kind : Kind) (b : ℕ) (len : length q.cells ≡ 81) (held : length q.hands ≡ 14) (hb : b < 81) (bare : piece_at q.cells b ≡ None)
+    (quiet : IsQuietThere q e gains king squares) (idle : IsIdle q e gains king squares kind b) (v : IsValid (with_drop q kind b)) where
+  abbrev now : Shogi
+  now = with_drop q kind b
+
+  fits : length (with_drop q kind b).cells ≡ 81
+  fits = length-after q.cells q.side (Drop kind b) ∙ len
+
+  king_off : king ≢ b
+  king_off same = both_ways (is_king (opponent_of q.side) None) refl (ap (is_king (opponent_of q.side)) (sym bare) ∙ subst (λ (x : ℕ). is_king (opponent_of q.side) (piece_at q.cells x) ≡ true) same quiet.crown)
+
+  put : piece_at (with_drop q kind b).cells b ≡ dropped q.side kind
+  put = get_or-set_same q.cells b (dropped q.side kind) None (omega (arith, len, hb))
+
+  same : (x : ℕ) → x ≢ b → piece_at (with_drop q kind b).cells x ≡ piece_at q.cells x
+  same x off = get_or-set_other q.cells b x (dropped q.side kind) None off
+
+  see : (x : ℕ) → ((x ≡ b) × (piece_at (with_drop q kind b).cells x ≡ dropped q.side kind)) ⊎ ((⊥ × (piece_at (with_drop q kind b).cells x ≡ None)) ⊎ (piece_at (with_drop q kind b).cells x ≡ piece_at q.cells x))
+  see x = elim (cases_eq x b) [
+    | inl here ↦ inl (here, ap (piece_at (with_drop q kind b).cells) here ∙ put)
+    | inr off ↦ inr (inr (same x off))
+  ]
+
+  -- the king lifted, nothing is empty that was not
+  opened_lifted : (x : ℕ) → is_none (piece_at (set (with_drop q kind b).cells king None) x) ≡ true → (is_none (piece_at (without_king q king) x) ≡ true) ⊎ ⊥
+  opened_lifted x n = elim (cases_eq x king) [
+    | inl here ↦ inl (ap (λ (y : ℕ). is_none (piece_at (set q.cells king None) y)) here ∙ ap is_none (get_or-set_same q.cells king None None (omega (arith, len, quiet.king_fits))))
+    | inr off ↦ elim (cases_eq x b) [
+      | inl at ↦ inl (ap is_none (get_or-set_other q.cells king x None None off) ∙ (ap (λ (y : ℕ). is_none (piece_at q.cells y)) at ∙ ap is_none bare))
+      | inr other ↦ inl (ap is_none (get_or-set_other q.cells king x None None off) ∙ (ap is_none (sym (same x other)) ∙ (ap is_none (sym (get_or-set_other (with_drop q kind b).cells king x None None off)) ∙ n)))
+    ]
+  ]
+
+  opened_now : (x : ℕ) → is_none (piece_at (with_drop q kind b).cells x) ≡ true → (is_none (piece_at (without_king q king) x) ≡ true) ⊎ ⊥
+  opened_now x n = elim (cases_eq x king) [
+    | inl here ↦ inl (ap (λ (y : ℕ). is_none (piece_at (set q.cells king None) y)) here ∙ ap is_none (get_or-set_same q.cells king None None (omega (arith, len, quiet.king_fits))))
+    | inr off ↦ elim (cases_eq x b) [
+      | inl at ↦ inl (ap is_none (get_or-set_other q.cells king x None None off) ∙ (ap (λ (y : ℕ). is_none (piece_at q.cells y)) at ∙ ap is_none bare))
+      | inr other ↦ inl (ap is_none (get_or-set_other q.cells king x None None off) ∙ (ap is_none (sym (same x other)) ∙ n))
+    ]
+  ]
+
+  reached_lifted : (cell : Option Piece) (c d : ℕ) → cell_reaches (set (with_drop q kind b).cells king None) cell c d ≡ true → cell_reaches (without_king q king) cell c d ≡ true
+  reached_lifted cell c d r = reach_was (without_king q king) (set (with_drop q kind b).cells king None) (λ x. ⊥) opened_lifted cell c d (λ x left. absurd left) r
+
+  reached_now : (cell : Option Piece) (c d : ℕ) → cell_reaches (with_drop q kind b).cells cell c d ≡ true → cell_reaches (without_king q king) cell c d ≡ true
+  reached_now cell c d r = reach_was (without_king q king) (with_drop q kind b).cells (λ x. ⊥) opened_now cell c d (λ x left. absurd left) r
+
+  short_lifted : (cell : Option Piece) (c d : ℕ) → cell_reaches (without_king q king) cell c d ≡ false → cell_reaches (set (with_drop q kind b).cells king None) cell c d ≡ false
+  short_lifted cell c d out = false_from_ne_true _ (λ r. both_ways (cell_reaches (without_king q king) cell c d) out (reached_lifted cell c d r))
+
+  -- ---- the king has its squares still
+
+  square_off : (n : ℕ) → has_bit squares n ≡ true → n ≢ b
+  square_off n bit at = both_ways (has_bit squares b) idle.off (subst (λ (x : ℕ). has_bit squares x ≡ true) at bit)
+
+  crown_now : is_king (opponent_of q.side) (piece_at (with_drop q kind b).cells king) ≡ true
+  crown_now = ap (is_king (opponent_of q.side)) (same king king_off) ∙ quiet.crown
+
+  escape_before : (n : ℕ) → n < 81 → has_bit squares n ≡ true → IsEscape q.cells (opponent_of q.side) king n
+  escape_before n h bit = quiet.escapes king n quiet.king_fits quiet.crown h bit
+
+  escape_now : (n : ℕ) → n < 81 → has_bit squares n ≡ true → IsEscape (with_drop q kind b).cells (opponent_of q.side) king n
+  unfolding reaches
+  escape_now n h bit =
+      let was : IsEscape q.cells (opponent_of q.side) king n = escape_before n h bit in
+      record {
+        step = record {
+          lone = λ x hx other. elim (see x) [
+            | inl at ↦ ap (is_king (opponent_of q.side)) at.1 ∙ drops.no_king q.side kind
+            | inr rest ↦ elim rest [ inl gone ↦ absurd gone.0 | inr stood ↦ ap (is_king (opponent_of q.side)) stood ∙ quiet.lone x hx other ]
+          ];
+          reached = ap (λ (cell : Option Piece). cell_reaches (with_drop q kind b).cells cell king n) (same king king_off) ∙ king_reach q.cells (with_drop q kind b).cells (opponent_of q.side) (piece_at q.cells king) king n quiet.crown was.step.reached;
+          open_end = ap (is_piece_of (opponent_of q.side)) (same n (square_off n bit)) ∙ was.step.open_end;
+        };
+        safe =
+            attacked_was_but (set q.cells king None) (set (with_drop q kind b).cells king None) (λ x. ⊥) opened_lifted (opponent_of (opponent_of q.side)) n
+            (kept q (with_drop q kind b).cells (with_drop q kind b).hands (λ x. ⊥) b (dropped q.side kind) len fits (dropped_of q.side kind) see king n quiet.king_fits h quiet.crown (λ left. left) (king_off, square_off n bit) was
+            (short_lifted (dropped q.side kind) b n (idle.far n h bit)))
+            (λ x left. absurd left) was.safe;
+      }
+
+  -- ---- a move of another piece
+
+  module _ (c d : ℕ) (promote : Bool) (hc : c < 81) (hd : d < 81) (l : is_legal (with_drop q kind b) (Board c d promote) ≡ true) where
+    own : is_piece_of q.side (piece_at (with_drop q kind b).cells c) ≡ true
+    own = (board_parts (with_drop q kind b) c d promote l).0
+
+    free : is_piece_of q.side (piece_at (with_drop q kind b).cells d) ≡ false
+    free = (board_parts (with_drop q kind b) c d promote l).1
+
+    reach : reaches (with_drop q kind b).cells c d ≡ true
+    reach = (board_parts (with_drop q kind b) c d promote l).2
+
+    may : promote ≡ true → may_promote (piece_at (with_drop q kind b).cells c) c d ≡ true
+    may = may_when promote (may_promote (piece_at (with_drop q kind b).cells c) c d) (board_parts (with_drop q kind b) c d promote l).3
+
+    end_off : d ≢ b
+    end_off at = both_ways (is_piece_of q.side (dropped q.side kind)) (ap (is_piece_of q.side) (sym (ap (piece_at (with_drop q kind b).cells) at ∙ put)) ∙ free) (dropped_of q.side kind)
+
+    free_before : is_piece_of q.side (piece_at q.cells d) ≡ false
+    free_before = ap (is_piece_of q.side) (sym (same d end_off)) ∙ free
+
+    not_king : king ≢ d
+    not_king at = both_ways (reaches (with_drop q kind b).cells c king) (takes_no_king (with_drop q kind b) c king v hc quiet.king_fits crown_now own) (subst (λ (x : ℕ). reaches (with_drop q kind b).cells c x ≡ true) (sym at) reach)
+
+    gain_here : (cell : Option Piece) → piece_at (with_drop q kind b).cells c ≡ cell → taken_gain e (piece_at q.cells d) + promotion_gain promote cell ≤ gains → taken_gain e (piece_at (with_drop q kind b).cells d) + promotion_gain promote (piece_at (with_drop q kind b).cells c) ≤ gains
+    gain_here cell at few =
+        let one : taken_gain e (piece_at (with_drop q kind b).cells d) ≡ taken_gain e (piece_at q.cells d) = ap (taken_gain e) (same d end_off) in
+        let two : promotion_gain promote (piece_at (with_drop q kind b).cells c) ≡ promotion_gain promote cell = ap (promotion_gain promote) at in
+        omega (arith, one, two, few)
+
+    -- of what was dropped
+    dropped_moves : c ≡ b → (taken_gain e (piece_at (with_drop q kind b).cells d) + promotion_gain promote (piece_at (with_drop q kind b).cells c) ≤ gains) × (legal_codes (after (with_drop q kind b) (Board c d promote)) ≢ [])
+    unfolding reaches
+    dropped_moves at =
+        let there : piece_at (with_drop q kind b).cells c ≡ dropped q.side kind = ap (piece_at (with_drop q kind b).cells) at ∙ put in
+        let led : cell_reaches (without_king q king) (dropped q.side kind) b d ≡ true = reached_now (dropped q.side kind) b d (subst (λ (x : ℕ). cell_reaches (with_drop q kind b).cells (dropped q.side kind) x d ≡ true) at (ap (λ (cell : Option Piece). cell_reaches (with_drop q kind b).cells cell c d) (sym there) ∙ reach)) in
+        let lets : promote ≡ true → may_promote (dropped q.side kind) b d ≡ true = λ p. subst (λ (x : ℕ). may_promote (dropped q.side kind) x d ≡ true) at (ap (λ (cell : Option Piece). may_promote cell c d) (sym there) ∙ may p) in
+        let calm : IsCalm q e gains king (dropped q.side kind) squares d promote = idle.next d promote hd free_before led lets in
+        let one = calm.leaves in
+        let moved : piece_moved promote (piece_at (with_drop q kind b).cells c) ≡ piece_moved promote (dropped q.side kind) = ap (piece_moved promote) there in (
+          gain_here (dropped q.side kind) there calm.gain,
+          reply_by (after (with_drop q kind b) (Board c d promote)) king one.0 quiet.king_fits one.1
+              (king_steps q (cells_after (with_drop q kind b).cells q.side (Board c d promote)) (after (with_drop q kind b) (Board c d promote)).hands (λ x. ⊥) d (piece_moved promote (piece_at (with_drop q kind b).cells c)) len
+              (length-after (with_drop q kind b).cells q.side (Board c d promote) ∙ fits)
+              (is_piece_of-piece_moved q.side promote (piece_at (with_drop q kind b).cells c) ∙ own)
+              (λ x. elim (look (with_drop q kind b).cells q.side c d (piece_moved promote (piece_at (with_drop q kind b).cells c)) fits hc hd x) [
+                | inl end ↦ inl end
+                | inr rest ↦ elim rest [
+                  | inl gone ↦ inr (inr (gone.1 ∙ (sym bare ∙ ap (piece_at q.cells) (sym (gone.0 ∙ at)))))
+                  | inr stood ↦ elim (cases_eq x b) [
+                    | inl here ↦ inr (inr (let clash : x ≡ c = here ∙ sym at in absurd (both_ways (is_none (piece_at (cells_after (with_drop q kind b).cells q.side (Board c d promote)) x)) (ap is_none stood ∙ (ap (λ (y : ℕ). is_none (piece_at (with_drop q kind b).cells y)) clash ∙ ap is_none there)) (left_none x clash))))
+                    | inr other ↦ inr (inr (stood ∙ same x other))
+                  ]
+                ]
+              ])
+              king one.0 quiet.king_fits one.1 quiet.crown (λ left. left) (not_king, one.3) (escape_before one.0 one.1 one.2)
+              (ap (λ (cell : Option Piece). cell_reaches (set q.cells king None) cell d one.0) moved ∙ one.4)
+              (λ x left. absurd left)),
+        )
+      where
+        left_none : (x : ℕ) → x ≡ c → is_none (piece_at (cells_after (with_drop q kind b).cells q.side (Board c d promote)) x) ≡ true
+        left_none x here =
+            let other : x ≢ d = λ end. end_off (sym end ∙ (here ∙ at)) in
+            ap is_none (get_or-set_other (set (with_drop q kind b).cells c None) d x (piece_moved promote (piece_at (with_drop q kind b).cells c)) None other ∙ (ap (piece_at (set (with_drop q kind b).cells c None)) here ∙ get_or-set_same (with_drop q kind b).cells c None None (omega (arith, fits, hc))))
+
+    -- of one that stood there
+    other_moves : c ≢ b → (taken_gain e (piece_at (with_drop q kind b).cells d) + promotion_gain promote (piece_at (with_drop q kind b).cells c) ≤ gains) × (legal_codes (after (with_drop q kind b) (Board c d promote)) ≢ [])
+    unfolding reaches
+    other_moves off =
+        let there : piece_at (with_drop q kind b).cells c ≡ piece_at q.cells c = same c off in
+        let led : cell_reaches (without_king q king) (piece_at q.cells c) c d ≡ true = reached_now (piece_at q.cells c) c d (ap (λ (cell : Option Piece). cell_reaches (with_drop q kind b).cells cell c d) (sym there) ∙ reach) in
+        let lets : promote ≡ true → may_promote (piece_at q.cells c) c d ≡ true = λ p. ap (λ (cell : Option Piece). may_promote cell c d) (sym there) ∙ may p in
+        let calm = quiet.pieces c hc (ap (is_piece_of q.side) (sym there) ∙ own) d promote hd free_before led lets in
+        let one = calm.1.2 in
+        let out = calm.1.1 one.0 one.1 one.2 in
+        let moved : piece_moved promote (piece_at (with_drop q kind b).cells c) ≡ piece_moved promote (piece_at q.cells c) = ap (piece_moved promote) there in (
+          gain_here (piece_at q.cells c) there calm.0,
+          reply_by (after (with_drop q kind b) (Board c d promote)) king one.0 quiet.king_fits one.1
+              (king_steps (with_drop q kind b) (cells_after (with_drop q kind b).cells q.side (Board c d promote)) (after (with_drop q kind b) (Board c d promote)).hands (λ x. x ≡ c) d (piece_moved promote (piece_at (with_drop q kind b).cells c)) fits
+              (length-after (with_drop q kind b).cells q.side (Board c d promote) ∙ fits)
+              (is_piece_of-piece_moved q.side promote (piece_at (with_drop q kind b).cells c) ∙ own)
+              (look (with_drop q kind b).cells q.side c d (piece_moved promote (piece_at (with_drop q kind b).cells c)) fits hc hd)
+              king one.0 quiet.king_fits one.1 crown_now
+              (λ at. both_ways (is_piece_of (opponent_of q.side) (piece_at (with_drop q kind b).cells c)) (other_side q.side (piece_at (with_drop q kind b).cells c) own) (subst (λ (x : ℕ). is_piece_of (opponent_of q.side) (piece_at (with_drop q kind b).cells x) ≡ true) at (king_own (opponent_of q.side) (piece_at (with_drop q kind b).cells king) crown_now)))
+              (not_king, one.3) (escape_now one.0 one.1 out.0)
+              (short_lifted (piece_moved promote (piece_at (with_drop q kind b).cells c)) d one.0 (ap (λ (cell : Option Piece). cell_reaches (without_king q king) cell d one.0) moved ∙ one.4))
+              (λ x left. subst (λ (y : ℕ). are_lined (set (with_drop q kind b).cells king None) y one.0 ≡ false) (sym left) (false_from_ne_true _ (λ lined. both_ways (are_aligned c one.0) out.1 (lined_aligned (set (with_drop q kind b).cells king None) c one.0 lined))))),
+        )
+
+    board_calm : (taken_gain e (piece_at (with_drop q kind b).cells d) + promotion_gain promote (piece_at (with_drop q kind b).cells c) ≤ gains) × (legal_codes (after (with_drop q kind b) (Board c d promote)) ≢ [])
+    board_calm = elim (cases_eq c b) [ inl here ↦ dropped_moves here | inr off ↦ other_moves off ]
+
+  -- ---- a drop
+
+  held_before : (other : Kind) → 0 < count_in_hand (with_drop q kind b).hands q.side other → 0 < count_in_hand q.hands q.side other
+  held_before other some = elim (cases_eq (place_of q.side other) (place_of q.side kind)) [
+    | inl here ↦ (
+        let low : place_of q.side kind < 14 = place_below q.side kind in
+        let now_is : count_in_hand (with_drop q kind b).hands q.side other ≡ count_in_hand q.hands q.side kind - 1 = ap (λ (i : ℕ). get_or (with_drop q kind b).hands i 0) here ∙ get_or-set_same q.hands (place_of q.side kind) (count_in_hand q.hands q.side kind - 1) 0 (omega (arith, low, held)) in
+        let was_is : count_in_hand q.hands q.side other ≡ count_in_hand q.hands q.side kind = ap (λ (i : ℕ). get_or q.hands i 0) here in
+        omega (arith, some, now_is, was_is))
+    | inr off ↦ subst (λ (n : ℕ). 0 < n) (get_or-set_other q.hands (place_of q.side kind) (place_of q.side other) (count_in_hand q.hands q.side kind - 1) 0 off) some
+  ]
+
+  drop_calm : (other : Kind) (d : ℕ) → d < 81 → is_legal (with_drop q kind b) (Drop other d) ≡ true → legal_codes (after (with_drop q kind b) (Drop other d)) ≢ []
+  drop_calm other d hd l =
+      let parts = drop_parts (with_drop q kind b) other d l in
+      let empty : piece_at (with_drop q kind b).cells d ≡ None = none_is (piece_at (with_drop q kind b).cells d) parts.1 in
+      let off : d ≢ b = λ at. both_ways (is_none (dropped q.side kind)) refl (ap is_none (sym put) ∙ (ap (λ (x : ℕ). is_none (piece_at (with_drop q kind b).cells x)) (sym at) ∙ parts.1)) in
+      let one = quiet.kinds other (held_before other (ltb-true 0 (count_in_hand (with_drop q kind b).hands q.side other) parts.0)) d hd (sym (same d off) ∙ empty) parts.2 in
+      let not_there : king ≢ d = λ at. both_ways (is_king (opponent_of q.side) None) refl (ap (is_king (opponent_of q.side)) (sym empty) ∙ subst (λ (x : ℕ). is_king (opponent_of q.side) (piece_at (with_drop q kind b).cells x) ≡ true) at crown_now) in
+      reply_by (after (with_drop q kind b) (Drop other d)) king one.0 quiet.king_fits one.1
+      (king_steps (with_drop q kind b) (cells_after (with_drop q kind b).cells q.side (Drop other d)) (after (with_drop q kind b) (Drop other d)).hands (λ x. ⊥) d (dropped q.side other) fits
+      (length-after (with_drop q kind b).cells q.side (Drop other d) ∙ fits)
+      (dropped_of q.side other)
+      (λ x. elim (drops.look (with_drop q kind b).cells q.side other d fits hd x) [ inl here ↦ inl here | inr stood ↦ inr (inr stood) ])
+      king one.0 quiet.king_fits one.1 crown_now (λ left. left) (not_there, one.3) (escape_now one.0 one.1 one.2)
+      (short_lifted (dropped q.side other) d one.0 one.4)
+      (λ x left. absurd left))
+
+  -- so it gains no more than it did, and mates by nothing
+  pub tame : (t : ℤ) → (material_of q e +ℤ pos gains) ≤ℤ t → material_of (with_drop q kind b) e ≤ℤ material_of q e → IsTame (with_drop q kind b) e t
+  tame t room less = record {
+    gains = λ c on l. few c on l;
+    answered = λ c on l. some c on l;
+  }
+    where
+      few : (c : Move) → IsOnSquares c → is_legal (with_drop q kind b) c ≡ true → (material_of (with_drop q kind b) e +ℤ gain_of (with_drop q kind b) e c) ≤ℤ t
+      few (Board c d promote) on l =
+          let little : taken_gain e (piece_at (with_drop q kind b).cells d) + promotion_gain promote (piece_at (with_drop q kind b).cells c) ≤ gains = (board_calm c d promote on.0 on.1 l).0 in
+          omega (arith, ints, little, room, less)
+      few (Drop other d) on l =
+          let none : drop_gain e other ≤ℤ pos 0 = drop_little e other in
+          omega (arith, ints, none, room, less)
+
+      some : (c : Move) → IsOnSquares c → is_legal (with_drop q kind b) c ≡ true → legal_codes (after (with_drop q kind b) c) ≢ []
+      some (Board c d promote) on l = (board_calm c d promote on.0 on.1 l).1
+      some (Drop other d) on l = drop_calm other d on l

@@ -1,0 +1,34 @@
+use Rattle.std.proofs.Common.{rules, ◌≡◌, ◌≤ℤ◌, ◌∙◌, ◌-◌, true, ℕ, sym, ap, subst, arith, FitsSigned, w32}
+use Rattle.std.proofs.lemmas.Int.{ints, to_z-of_z}
+use Rattle.shogi_core.specs.declared.moves.Move.{Move}
+use Rattle.shogi_core.specs.declared.moves.Move.TheVariants.{Drop}
+use Rattle.shogi_core.specs.Bits.{has_bit}
+use Rattle.shogi_core.specs.Codes.{code_of}
+use Rattle.shogi_moves.specs.Legal.{is_legal}
+use Rattle.shogi_moves.proofs.LegalLaws.{listed_to_legal}
+use Rattle.shogi_eval.specs.Evaluated.{Evaluated}
+use Rattle.minimax.specs.Minimax.{worth}
+use Rattle.dull_moves.specs.Dull.{AreDull, squares_of}
+use Rattle.search_nodes.specs.declared.frame.Frame.{Frame}
+use Rattle.search_nodes.specs.Frames.{move_alpha_of, worth_of}
+use Rattle.search_nodes.proofs.Nodes.{waits}
+use Rattle.search_nodes.proofs.Rows.{lost_kept}
+use Rattle.search_nodes.proofs.frame.Frame.is_dull.Goals as goal
+
+pub returns-then-dull-move_alpha-clause-lost : goal.returns-then-dull-move_alpha-clause-lost
+returns-then-dull-move_alpha-clause-lost c = λ yes.
+    let f : Frame = c.args.self.now in
+    let g : Frame = c.look_for_dull.new.self in
+    let m : Move = c.args.current.now in
+    let w : _ = waits _ _ _ _ _ _ _ _ _ _ c.requires.current c.args.self.now.known in
+    let legal : is_legal f.node.position m ≡ true = listed_to_legal _ _ c.reveal_invariant.ensures.back w.is_listed in
+    let dropped : is_legal f.node.position (Drop c.in-Drop.kind c.in-Drop.to) ≡ true = subst (λ (x : Move). is_legal f.node.position x ≡ true) c.in-Drop.is legal in
+    let dull : AreDull f.node.position f.node.eval c.in-Some.dull = subst (λ (n : Evaluated). AreDull n.position n.eval c.in-Some.dull) c.look_for_dull.ensures.0.0 (g.refuted c.in-Some.dull c.in-Some.is) in
+    let set : has_bit (squares_of c.in-Some.dull c.in-Drop.kind) c.in-Drop.to ≡ true = ap (λ (bits : ℕ). has_bit bits c.in-Drop.to) (sym c.squares.ensures) ∙ (sym c.has.ensures ∙ yes) in
+    let few : worth f.node.position f.node.eval 2 (code_of (Drop c.in-Drop.kind c.in-Drop.to)) ≤ℤ c.in-Some.dull.most = dull c.in-Drop.kind c.in-Drop.to c.reveal_invariant-2.ensures set dropped in
+    let two : f.depth - 1 ≡ 2 = ap (λ (d : ℕ). d - 1) c.requires.last in
+    let here : worth_of f m ≡ worth f.node.position f.node.eval 2 (code_of (Drop c.in-Drop.kind c.in-Drop.to)) = ap (λ (d : ℕ). worth f.node.position f.node.eval d (code_of m)) two ∙ ap (λ (x : Move). worth f.node.position f.node.eval 2 (code_of x)) c.in-Drop.is in
+    let fits : FitsSigned w32 c.in-Some.dull.most = search rules in
+    let same = to_z-of_z w32 c.in-Some.dull.most fits in
+    let lost : worth_of f m ≤ℤ move_alpha_of f m = omega (arith, ints, few, here, same, c.move_alpha-move_alpha.ensures.move_alpha, c.if-dull-move_alpha.true) in
+    lost_kept f g m c.look_for_dull.ensures lost
