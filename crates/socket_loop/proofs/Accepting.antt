@@ -481,7 +481,7 @@ some_more n moved one o ls ms ns f m number t a b c d h i j old mid asked new p 
 pub number_rises : (old new : ℕ) (r : Result (Option ℕ) WireFault) → GivesNumber old new r → old ≤ new
 number_rises old new (Ok (Some n)) p = (let u : old ≤ n = p.0 in let v : n < new = p.1 in omega arith)
 number_rises old new (Ok None) p = (let u : new ≡ old = p in omega arith)
-number_rises old new (Err e) p = p
+number_rises old new (Err e) p = (let u : new ≡ old = p in omega arith)
 
 -- a number that is given lies above what was given before
 pub rose : (a b number c d : ℕ) → a ≤ b → b ≤ number → number < c → d ≡ c → a < d

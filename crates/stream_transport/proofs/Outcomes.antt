@@ -1,18 +1,13 @@
 -- What a result says, and what a call failed of.
-use Rattle.std.proofs.Common.{◌≡◌, ◌≢◌, ℕ, Bool, true, ◌≤◌, Option, Some, None, Result, Ok, Err, ◌∙◌, inl, inr, arith}
-use Rattle.std.specs.Prelude.{OnOk}
+use Rattle.std.proofs.Common.{◌≡◌, ◌≢◌, ℕ, Bool, true, ◌<◌, ◌≤◌, Option, Some, None, Result, Ok, Err, ◌∙◌, inl, inr, arith}
 use Rattle.std.proofs.lemmas.Bool.{cases_lt}
 use Rattle.transport.specs.Report.{HasCause, HasRisen}
 use Rattle.transport.specs.declared.wire.WireFault.{WireFault}
+use Rattle.stream_transport.specs.declared.connection.TheConstants.{PLACES}
 use Rattle.stream_transport.specs.Asking.{StaysOpen}
 
-pub on_ok : {T E : Type 0} (r : Result T E) (P : Type 0) → P → OnOk r P
-on_ok (Ok v) P h = h
-on_ok (Err e) P h = tt
-
-pub on_ok_then : {T E : Type 0} (r : Result T E) (P Q : Type 0) → (P → Q) → OnOk r P → OnOk r Q
-on_ok_then (Ok v) P Q f h = f h
-on_ok_then (Err e) P Q f h = tt
+pub crowded : (place len places : ℕ) → PLACES ≤ place → place < len → places ≡ len → PLACES < places
+crowded place len places le lt e = omega arith
 
 pub not_below : (n : ℕ) → n ≤ n
 not_below n = omega arith

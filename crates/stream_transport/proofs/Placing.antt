@@ -1,6 +1,6 @@
 -- What stands in the place of a number, and what is held under it.
 use Rattle.std.proofs.Common.{◌≡◌, ◌≢◌, ℕ, Bool, true, false, ◌<◌, ◌≤◌, ◌%◌, List, [], ◌∷◌, ◌++◌, Option, Some, None, Ok, length, get_or, refl, sym, ap, subst, ◌∙◌, inl, inr}
-use Rattle.std.specs.Prelude.{◌==◌, ◌||◌, cond, is_some, nat_eq, not, suc, zero, IfSome}
+use Rattle.std.specs.Prelude.{◌==◌, ◌||◌, ◌&&◌, cond, is_some, nat_eq, not, suc, zero, IfSome}
 use Rattle.std.proofs.Math.ListN.{set}
 use Rattle.std.proofs.lemmas.Bool.{cases_eq}
 use Rattle.std.proofs.lemmas.List.{get_or_past, get_or_read, get_or-set_same, get_or-set_other}
@@ -8,7 +8,8 @@ use borrow.Author.Tests.{eqb-true, ne_eqb}
 use Rattle.stream_transport.specs.declared.connection.BufferedStream.{BufferedStream}
 use Rattle.stream_transport.specs.declared.connection.TheConstants.{PLACES}
 use Rattle.stream_transport.specs.Held.{HoldsOthers, IsFree, held, kept_in, of_number}
-use Rattle.stream_transport.specs.Asking.{AsksToGive, IsQuiet, OfHeld}
+use Rattle.stream_transport.specs.declared.listener.StreamCall.{StreamCall}
+use Rattle.stream_transport.specs.Asking.{AsksToGive, IsQuiet, OfHeld, readable}
 use Rattle.transport.specs.declared.wire.Got.TheVariants.{Nothing}
 
 or_false : (b : Bool) → b ≡ (b || false)
@@ -126,13 +127,21 @@ module _ {S A : Type 0} where
   quiet_kept None q = absurd q
   quiet_kept (Some p) q = q.1
 
-  pub quiet_asks : (calls : S → Option (List ℕ)) (room : ℕ) (a : Option (BufferedStream S A)) → IsQuiet a → OfHeld (AsksToGive calls room (Ok Nothing)) a a
+  pub quiet_asks : (calls : S → Option (List StreamCall)) (room : ℕ) (a : Option (BufferedStream S A)) → IsQuiet a → OfHeld (AsksToGive calls room (Ok Nothing)) a a
   quiet_asks calls room None q = absurd q
   quiet_asks calls room (Some p) q = record {
     called = λ may kept some. absurd (let t : p.readable ≡ true = may in let f : p.readable ≡ false = q.0 in cc);
     awake = λ may found. may;
     takes = λ may. may;
   }
+
+  pub quiet_sleeps : (a : Option (BufferedStream S A)) → IsQuiet a → readable a ≡ false
+  quiet_sleeps None q = absurd q
+  quiet_sleeps (Some p) q = q.0
+
+-- nothing is noted of one that sleeps
+pub none_noted : (unsure may found : Bool) → may ≡ false → unsure ≡ (unsure || (may && found))
+none_noted unsure may found e = or_false unsure ∙ ap (λ (b : Bool). unsure || (b && found)) (sym e)
 
 -- nothing more is left to be given
 pub no_more : (more : Bool) (kept : List ℕ) → kept ≡ [] → more ≡ (more || not (nat_eq (length kept) 0))

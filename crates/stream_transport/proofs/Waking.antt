@@ -1,14 +1,15 @@
 -- Those that a look or a wait has named are awake.
-use Rattle.std.proofs.Common.{◌≡◌, ◌≢◌, ℕ, Bool, true, ◌+◌, ◌<◌, ◌≤◌, List, Option, Some, None, refl, sym, ap, subst, ◌∙◌, inl, inr, arith}
+use Rattle.std.proofs.Common.{◌≡◌, ◌≢◌, ℕ, Bool, true, ◌+◌, ◌<◌, ◌≤◌, List, Option, Some, None, Result, Ok, Err, refl, sym, ap, subst, ◌∙◌, inl, inr, arith}
 use Rattle.std.proofs.lemmas.Bool.{cases_eq}
 use Rattle.std.proofs.lemmas.Option.{slice_get_within}
-use Rattle.std.specs.Prelude.{slice_get, length}
+use Rattle.std.specs.Prelude.{is_some, slice_get, length}
 use Rattle.stream_transport.specs.declared.listener.Ready.{Ready}
 use Rattle.stream_transport.specs.declared.listener.Ready.TheVariants.{Listener, Stream}
 use Rattle.stream_transport.specs.declared.connection.BufferedStream.{BufferedStream}
 use Rattle.stream_transport.specs.Streams.{NamesListener}
 use Rattle.stream_transport.specs.Held.{AreAlike, HoldsAll, HoldsOthers, IsAlike, held}
-use Rattle.stream_transport.specs.Asking.{AreAwake, AreAwakeStill, IsAwake, IsAwakeStill}
+use Rattle.transport.specs.declared.wire.WireFault.{WireFault}
+use Rattle.stream_transport.specs.Asking.{AreAwake, AreAwakeStill, HoldsAccepted, IsAwake, IsAwakeStill}
 
 module _ {S A : Type 0} where
   -- the first so many are awake
@@ -88,6 +89,18 @@ module _ {S A : Type 0} where
 
   pub still_alike : (old mid new : List (Option (BufferedStream S A))) → AreAlike old mid → AreAlike mid new → AreAlike old new
   still_alike old mid new first second n = alike_then (held old n) (held mid n) (held new n) (first n) (second n)
+
+  -- who is held after an accept, from what is alike
+  pub accepted_alike : (r : Result (Option ℕ) WireFault) (old mid new : List (Option (BufferedStream S A))) → AreAlike old mid → HoldsAccepted r mid new → HoldsAccepted r old new
+  accepted_alike (Ok (Some n)) old mid new first second = (second.0, λ other apart. alike_then (held old other) (held mid other) (held new other) (first other) (second.1 other apart))
+  accepted_alike (Ok None) old mid new first second = still_alike old mid new first second
+  accepted_alike (Err fault) old mid new first second = still_alike old mid new first second
+
+  pub accepted_one : (old new : List (Option (BufferedStream S A))) (number again : ℕ) (q : BufferedStream S A) → again ≡ number → held new again ≡ Some q → HoldsOthers old new again → HoldsAccepted (Ok (Some number)) old new
+  accepted_one old new number again q same holds others = (
+    ap (λ (x : Option (BufferedStream S A)). is_some x) (subst (λ (k : ℕ). held new k ≡ Some q) same holds),
+    λ other apart. subst (λ x. IsAlike (held old other) x) (sym (others other (λ e. apart (e ∙ same)))) (alike_refl (held old other)),
+  )
 
   -- none was named yet
   pub awake_none : (named : List Ready) (places : List (Option (BufferedStream S A))) → AwakeTo 0 named places

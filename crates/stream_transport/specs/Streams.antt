@@ -1,18 +1,27 @@
 -- What a listener tells of the connections that a wire does not hold, and what each of its calls does to that; and what it
 -- and its streams are asked for (own choice).
-use Rattle.std.specs.Prelude.{◌≡◌, ⊤, ℕ, Bool, List, Option, Some, Result, Ok, Err, slice_get}
+use Rattle.std.specs.Prelude.{◌≡◌, ⊤, ℕ, List, Option, Some, Result, Ok, Err, slice_get}
 use Rattle.std.specs.Io.KnownBytes.{Keeps, ReadConsumes, WriteAppends, prepend_known}
 use Rattle.transport.specs.declared.wire.WireFault.{WireFault}
 use Rattle.transport.specs.Report.{Report, IsRaised, KeepsOthers, ReportsFailure, Stays}
 use Rattle.stream_transport.specs.declared.listener.Ready.{Ready}
 use Rattle.stream_transport.specs.declared.listener.Ready.TheVariants.{Listener}
+use Rattle.stream_transport.specs.declared.listener.StreamCall.{StreamCall}
+use Rattle.stream_transport.specs.declared.listener.StreamFault.{StreamFault}
+use Rattle.stream_transport.specs.declared.listener.StreamFault.TheVariants.{WouldBlock, Interrupted, Failed}
+use Rattle.std.specs.declared.io.ErrorKind.{ErrorKind}
+use Rattle.std.specs.declared.io.ErrorKind.TheVariants as kind
 
--- a call of a listener: who waits first, who may be ready now, and who may be ready, waited for no longer than for some
--- time, or for any
-pub data Ask : Type 0 where
-  Accept : Ask
-  Look : Ask
-  Wait : (is_bounded : Bool) → Ask
+-- why a call gave nothing, by the kind of the system's error
+abbrev pub fault_by : ErrorKind → StreamFault
+fault_by kind.WouldBlock = WouldBlock
+fault_by kind.Interrupted = Interrupted
+fault_by _ = Failed
+
+-- whether somebody came, by the answer of an accept
+abbrev pub answer_of : {S : Type 0} → Result S StreamFault → Result (Unit {0}) StreamFault
+answer_of (Ok stream) = Ok tt
+answer_of (Err fault) = Err fault
 
 -- a look or a wait has named the listener: somebody may wait to be accepted
 abbrev pub NamesListener : List Ready → Type 0
@@ -34,12 +43,12 @@ abbrev pub Sends : {S E : Type 0} → (S → Option (List ℕ)) → (old new : S
     → Result ℕ E → List ℕ → Type 0
 Sends contents old new result buf = WriteAppends (contents old) (contents new) result buf
 
--- what streams tell: the bytes that they took and have left, and how many bytes each call was about
+-- what streams tell: the bytes that they took and have left, and their calls
 abbrev pub Streams : Type 0 → Type 0
 Streams S = record {
   contents : S → Option (List ℕ);
   remaining : S → Option (List ℕ);
-  calls : S → Option (List ℕ);
+  calls : S → Option (List StreamCall);
 }
 
 module _ {S : Type 0} (streams : Streams S) where

@@ -10,9 +10,8 @@ ghost use Rattle.stream_transport.specs.Asking.{AsksToGive, AsksToTake, GivesKep
 ghost use Rattle.stream_transport.specs.Held.{HasGiven, HasTaken, unread_of, written_of};
 
 use crate::kept::ReadBuffer;
-use crate::listener::ByteStream;
+use crate::listener::{ByteStream, StreamFault};
 use std::alloc::Allocator;
-use std::io::ErrorKind;
 use transport::{Got, WireFault};
 use usi_lines::cut_line;
 
@@ -75,12 +74,12 @@ impl<S: ByteStream, A: Allocator + Copy> BufferedStream<S, A> {
                 }
                 Ok(Got::Bytes(line.len()))
             }
-            Err(error) if error.kind() == ErrorKind::WouldBlock => {
+            Err(StreamFault::WouldBlock) => {
                 self.readable = false;
                 Ok(Got::Nothing)
             }
-            Err(error) if error.kind() == ErrorKind::Interrupted => Ok(Got::Nothing),
-            Err(_) => Err(WireFault::Device),
+            Err(StreamFault::Interrupted) => Ok(Got::Nothing),
+            Err(StreamFault::Failed) => Err(WireFault::Device),
         }
     }
 
@@ -118,12 +117,12 @@ impl<S: ByteStream, A: Allocator + Copy> BufferedStream<S, A> {
         }
         match self.stream.send(buf) {
             Ok(n) => Ok(n),
-            Err(error) if error.kind() == ErrorKind::WouldBlock => {
+            Err(StreamFault::WouldBlock) => {
                 self.writable = false;
                 Ok(0)
             }
-            Err(error) if error.kind() == ErrorKind::Interrupted => Ok(0),
-            Err(_) => Err(WireFault::Device),
+            Err(StreamFault::Interrupted) => Ok(0),
+            Err(StreamFault::Failed) => Err(WireFault::Device),
         }
     }
 }

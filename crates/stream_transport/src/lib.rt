@@ -8,6 +8,6 @@ mod places;
 mod sockets;
 mod wire;
 
-pub use listener::{ByteStream, Listener, Ready};
+pub use listener::{ByteStream, Listener, ListenerCall, Ready, StreamCall, StreamFault};
 pub use sockets::{MioListener, MioWire, watch_again};
 pub use wire::StreamWire;

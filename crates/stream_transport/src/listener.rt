@@ -1,36 +1,71 @@
 //! What a wire is made over: streams, and the listener that gives them.
 
-ghost use Rattle.std.specs.Prelude.{◌≡◌, ℕ, [], ◌∷◌, length, is_some, slice_get, IfOk, OnErr, Option, None, List};
+ghost use Rattle.std.specs.Prelude.{◌≡◌, [], ◌∷◌, length, is_some, slice_get, IfOk, OnErr, Option, None, List};
 ghost use Rattle.std.specs.Io.{ReadsAtMost, WritesAtMost};
 ghost use Rattle.std.specs.Io.KnownBytes.{Keeps};
 ghost use Rattle.transport.specs.Asked.{Asks};
 ghost use Rattle.transport.specs.Report.{Report, KeepsAll, nothing_reported};
-ghost use Rattle.stream_transport.specs.Streams.{Accept, Ask, HandsOut, HasBack, IsToldFailed, IsToldShut, KeepsElse, Look, Receives, Sends, Wait};
+ghost use Rattle.stream_transport.specs.Streams.{HandsOut, HasBack, IsToldFailed, IsToldShut, KeepsElse, Receives, Sends, answer_of};
+ghost use Rattle.stream_transport.specs.declared.listener.ListenerCall.{ListenerCall};
+ghost use Rattle.stream_transport.specs.declared.listener.ListenerCall.TheVariants.{Accept, Look, Wait};
 ghost use Rattle.stream_transport.specs.declared.listener.Ready.{Ready};
+ghost use Rattle.stream_transport.specs.declared.listener.StreamCall.{StreamCall};
+ghost use Rattle.stream_transport.specs.declared.listener.StreamCall.TheVariants.{Receive, Send};
 
-use std::io;
 use std::io::{Read, Write};
 use std::time::Duration;
 
+/// Why a call of a stream or of a listener gave nothing.
+#[derive(Clone, Copy, Debug, PartialEq, Eq)]
+pub enum StreamFault {
+    /// It would have to wait.
+    WouldBlock,
+    /// A signal interrupted it, and it may be made again.
+    Interrupted,
+    /// It failed.
+    Failed,
+}
+
+/// A call of a stream, with its answer.
+#[derive(Clone, Copy)]
+pub enum StreamCall {
+    /// A read into so much room.
+    Receive(usize, Result<usize, StreamFault>),
+    /// A write that offered so many bytes.
+    Send(usize, Result<usize, StreamFault>),
+}
+
+/// A call of a listener, with its answer.
+#[derive(Clone, Copy)]
+pub enum ListenerCall {
+    /// Who waits first was asked for.
+    Accept(Result<(), StreamFault>),
+    /// It was asked who may be ready now.
+    Look(Result<(), StreamFault>),
+    /// The same, and waited for: no longer than for some time where the first field is true.
+    Wait(bool, Result<(), StreamFault>),
+}
+
 /// A stream both ways, where a read leaves what was written, and a write what is to be read.
 pub trait ByteStream: Read + Write + Drop {
-    /// For how many bytes it had room in each call of `receive`, and how many it was offered in each
-    /// of `send`, in their order. It may not tell.
-    ghost calls: { Self → Option (List ℕ) } = { λ _. None };
+    /// The calls of `receive` and `send` that it was asked for, with their answers. It may tell none.
+    ghost calls: { Self → Option (List StreamCall) } = { λ _. None };
 
     /// A `read` of the stream.
-    fn receive(&mut self, buf: &mut [u8]) -> io::Result<usize>
+    fn receive(&mut self, buf: &mut [u8]) -> Result<usize, StreamFault>
         ensures bound { ReadsAtMost result buf.new }
         ensures bytes { Receives Self.remaining self.old self.new result buf.new }
         ensures written { Keeps (Self.contents self.old) (Self.contents self.new) }
-        ensures called { Asks (calls self.old) (calls self.new) (length buf.old ∷ []) };
+        ensures called { Asks (calls self.old) (calls self.new)
+            (Receive (length buf.old) result ∷ []) };
 
     /// A `write` of the stream.
-    fn send(&mut self, buf: &[u8]) -> io::Result<usize>
+    fn send(&mut self, buf: &[u8]) -> Result<usize, StreamFault>
         ensures bound { WritesAtMost result buf.now }
         ensures bytes { Sends Self.contents self.old self.new result buf.now }
         ensures unread { Keeps (Self.remaining self.old) (Self.remaining self.new) }
-        ensures called { Asks (calls self.old) (calls self.new) (length buf.now ∷ []) };
+        ensures called { Asks (calls self.old) (calls self.new)
+            (Send (length buf.now) result ∷ []) };
 }
 
 /// Who may be ready.
@@ -50,30 +85,34 @@ pub trait Listener: Drop {
     /// that it has back. It may tell nothing.
     ghost told: { Self → Report } = { λ _. nothing_reported };
 
-    /// The calls of `accept`, `look` and `wait` that it was asked for. It may tell none.
-    ghost asked: { Self → Option (List Ask) } = { λ _. None };
+    /// The calls of `accept`, `look` and `wait` that it was asked for, with their answers. It may tell
+    /// none.
+    ghost asked: { Self → Option (List ListenerCall) } = { λ _. None };
 
-    /// Whom the last look or wait has found.
+    /// Whom the last look or wait has found: nobody, where it failed.
     ghost named: { Self → List Ready };
 
     /// The stream of who waits first, which is named by this number from then on; `WouldBlock` where
     /// nobody waits.
-    fn accept(&mut self, number: u64) -> io::Result<Self::Stream>
+    fn accept(&mut self, number: u64) -> Result<Self::Stream, StreamFault>
         ensures given { HandsOut Self.Stream.ByteStream (told self.old) number result }
         ensures rest { IfOk result (λ stream. KeepsElse (told self.old) (told self.new) number) }
         ensures err { OnErr result (KeepsAll (told self.old) (told self.new)) }
-        ensures asked { Asks (asked self.old) (asked self.new) (Accept ∷ []) }
+        ensures asked { Asks (asked self.old) (asked self.new) (Accept (answer_of result) ∷ []) }
         ensures named { named self.new ≡ named self.old };
 
     /// Looks who may be ready now.
-    fn look(&mut self) -> io::Result<()>
+    fn look(&mut self) -> Result<(), StreamFault>
         ensures unchanged { KeepsAll (told self.old) (told self.new) }
-        ensures asked { Asks (asked self.old) (asked self.new) (Look ∷ []) };
+        ensures nobody { OnErr result (named self.new ≡ []) }
+        ensures asked { Asks (asked self.old) (asked self.new) (Look result ∷ []) };
 
     /// Waits until somebody may be ready, at most so long.
-    fn wait(&mut self, patience: Option<Duration>) -> io::Result<()>
+    fn wait(&mut self, patience: Option<Duration>) -> Result<(), StreamFault>
         ensures unchanged { KeepsAll (told self.old) (told self.new) }
-        ensures asked { Asks (asked self.old) (asked self.new) (Wait (is_some patience) ∷ []) };
+        ensures nobody { OnErr result (named self.new ≡ []) }
+        ensures asked { Asks (asked self.old) (asked self.new)
+            (Wait (is_some patience) result ∷ []) };
 
     /// How many the last look or wait found.
     fn found(&self) -> usize

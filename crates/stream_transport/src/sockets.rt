@@ -1,16 +1,18 @@
 //! A wire over a Unix socket.
 
-ghost use Rattle.std.specs.Prelude.{◌≡◌, [], Err, IfOk};
+ghost use Rattle.std.specs.Prelude.{◌≡◌, [], Err, IfOk, OnErr};
+ghost use Rattle.std.specs.IoError.{error_kind};
+ghost use Rattle.stream_transport.specs.Streams.{fault_by};
 ghost use Rattle.transport.specs.declared.wire.WireFault.TheVariants.{Device};
 
-use crate::listener::{ByteStream, Listener, Ready};
+use crate::listener::{ByteStream, Listener, Ready, StreamFault};
 use crate::wire::StreamWire;
 use mio::net::{UnixListener, UnixStream};
 use mio::{Events, Interest, Poll, Registry, Token};
 use std::alloc::Allocator;
 use std::fs::Files;
 use std::io;
-use std::io::{Read, Write};
+use std::io::{ErrorKind, Read, Write};
 use std::net::Net;
 use std::time::Duration;
 use transport::WireFault;
@@ -25,13 +27,30 @@ const LISTENER: Token = Token(usize::MAX);
 /// The token of a listener that is watched beside it.
 const WATCHED: Token = Token(usize::MAX - 1);
 
+/// Why a call of the system gave nothing.
+fn fault_of(error: io::Error) -> StreamFault
+    ensures { result ≡ fault_by (error_kind error) }
+{
+    match error.kind() {
+        ErrorKind::WouldBlock => StreamFault::WouldBlock,
+        ErrorKind::Interrupted => StreamFault::Interrupted,
+        _ => StreamFault::Failed,
+    }
+}
+
 impl ByteStream for UnixStream {
-    fn receive(&mut self, buf: &mut [u8]) -> io::Result<usize> {
-        self.read(buf)
+    fn receive(&mut self, buf: &mut [u8]) -> Result<usize, StreamFault> {
+        match self.read(buf) {
+            Ok(n) => Ok(n),
+            Err(error) => Err(fault_of(error)),
+        }
     }
 
-    fn send(&mut self, buf: &[u8]) -> io::Result<usize> {
-        self.write(buf)
+    fn send(&mut self, buf: &[u8]) -> Result<usize, StreamFault> {
+        match self.write(buf) {
+            Ok(n) => Ok(n),
+            Err(error) => Err(fault_of(error)),
+        }
     }
 }
 
@@ -47,9 +66,13 @@ pub struct MioListener<A: Allocator> {
 
 impl<A: Allocator + Copy> MioListener<A> {
     /// Polls, and remembers who was named.
-    fn look_for(&mut self, patience: Option<Duration>) -> io::Result<()> {
+    fn look_for(&mut self, patience: Option<Duration>) -> Result<(), StreamFault>
+        ensures nobody { OnErr result (self.new.ready.items ≡ []) }
+    {
         self.ready.clear();
-        self.poll.poll(&mut self.events, patience)?;
+        if let Err(error) = self.poll.poll(&mut self.events, patience) {
+            return Err(fault_of(error));
+        }
         for event in self.events.iter() {
             let token = event.token();
             if token == WATCHED {
@@ -83,19 +106,24 @@ impl<A: Allocator + Copy> Listener for MioListener<A> {
 
     ghost named = { λ listener. listener.ready.items };
 
-    fn accept(&mut self, number: u64) -> io::Result<UnixStream> {
-        let (mut stream, _) = self.listener.accept()?;
+    fn accept(&mut self, number: u64) -> Result<UnixStream, StreamFault> {
+        let mut stream = match self.listener.accept() {
+            Ok((stream, _)) => stream,
+            Err(error) => return Err(fault_of(error)),
+        };
         let both_ways = Interest::READABLE | Interest::WRITABLE;
         let registry = self.poll.registry();
-        registry.register(&mut stream, Token(number as usize), both_ways)?;
-        Ok(stream)
+        match registry.register(&mut stream, Token(number as usize), both_ways) {
+            Ok(()) => Ok(stream),
+            Err(_) => Err(StreamFault::Failed),
+        }
     }
 
-    fn look(&mut self) -> io::Result<()> {
+    fn look(&mut self) -> Result<(), StreamFault> {
         self.look_for(Some(Duration::ZERO))
     }
 
-    fn wait(&mut self, patience: Option<Duration>) -> io::Result<()> {
+    fn wait(&mut self, patience: Option<Duration>) -> Result<(), StreamFault> {
         self.look_for(patience)
     }
 

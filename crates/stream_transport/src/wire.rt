@@ -1,23 +1,21 @@
 //! A wire over a listener.
 
-ghost use Rattle.std.specs.Prelude.{◌≡◌, ◌≢◌, ◌≤◌, ◌-◌, ◌^◌, ◌&&◌, not, true, length, is_some, IfOk, None, Ok, Some, OnErr, OnOk};
+ghost use Rattle.std.specs.Prelude.{◌≡◌, ◌≢◌, ◌≤◌, ◌-◌, ◌^◌, ◌&&◌, not, true, false, [], length, is_some, IfOk, None, Ok, Some, OnErr, OnOk};
 ghost use Rattle.usi_lines.specs.OneLine.{IsOneLine};
 ghost use Rattle.transport.specs.Report.{GivesNumber, HasCause, HasRisen, IsWithin, KeepsAll, bytes_read, bytes_written};
-ghost use Rattle.transport.specs.declared.wire.Got.TheVariants.{Nothing};
 ghost use Rattle.transport.specs.declared.wire.WireFault.TheVariants.{Device};
-ghost use Rattle.stream_transport.specs.Asking.{AreAwake, AreAwakeStill, AsksByAccept, AsksByRead, AsksByWait, AsksNext, AsksToTake, GivesKept, IsNamedAwake, LeavesMore, OfNumber, OpensIfNamed, StaysOpen, WakesByWait};
-ghost use Rattle.stream_transport.specs.Held.{AreAlike, HoldsOthers, kept_of};
+ghost use Rattle.stream_transport.specs.Asking.{AnswersAs, AreAwake, AreAwakeStill, AsksByAccept, AsksByRead, AsksByWait, AsksNext, AsksToTake, GivesKept, HoldsAccepted, IsNamedAwake, LeavesMore, NotesByRead, NotesByWrite, OfNumber, OpensIfNamed, StaysOpen, WakesByAccept, WakesByWait, found_nothing, is_made, took_nothing};
+ghost use Rattle.stream_transport.specs.Held.{AreAlike, HoldsOthers, held, kept_of};
 ghost use Rattle.stream_transport.specs.Reporting.{CountsRead, CountsWrite, KeepsReport, ReportsRead, ReportsShut, ReportsWrite};
 ghost use Rattle.stream_transport.specs.Streams.{Notes};
 ghost use Rattle.stream_transport.specs.declared.listener.Ready.TheVariants as who;
+ghost use Rattle.stream_transport.specs.declared.listener.StreamFault.TheVariants as why;
 ghost use Rattle.stream_transport.specs.declared.connection.TheConstants.{PLACES};
 
 use crate::connection::{BufferedStream, PLACES};
-use crate::listener::{Listener, Ready};
+use crate::listener::{Listener, Ready, StreamFault};
 use crate::places::{free_place, insert, is_quiet, mark_ready, number_at, remove};
 use std::alloc::Allocator;
-use std::io;
-use std::io::ErrorKind;
 use std::time::Duration;
 use transport::{Got, Wire, WireFault};
 
@@ -88,16 +86,28 @@ fn taken_by(taken: &Result<usize, WireFault>, buf: &[u8]) -> u64
     }
 }
 
+/// Whether an accept that gave nothing says that nobody waits.
+fn is_nobody(fault: StreamFault) -> bool
+    ensures yes { result ≡ true → fault ≡ why.WouldBlock }
+    ensures no { result ≡ false → fault ≢ why.WouldBlock }
+{
+    match fault {
+        StreamFault::WouldBlock => true,
+        StreamFault::Interrupted => false,
+        StreamFault::Failed => false,
+    }
+}
+
 /// Whether a read found nothing.
 fn gave_nothing(got: &Result<Got, WireFault>) -> bool
-    ensures { result ≡ true → got.now ≡ Ok Nothing }
+    ensures { result ≡ found_nothing got.now }
 {
     matches!(got, Ok(Got::Nothing))
 }
 
 /// Whether a write found no room.
 fn took_nothing(taken: &Result<usize, WireFault>) -> bool
-    ensures { result ≡ true → taken.now ≡ Ok 0 }
+    ensures { result ≡ took_nothing taken.now }
 {
     matches!(taken, Ok(0))
 }
@@ -109,6 +119,7 @@ impl<L: Listener, A: Allocator + Copy> StreamWire<L, A> {
         ensures failed { ⟦<Self as Wire>⟧.failed result ≡ 0 }
         ensures if_none { (result.received ≡ 0) × (result.sent ≡ 0) }
         ensures opens { result.acceptable ≡ true }
+        ensures sure { result.needs_timeout ≡ false }
         ensures report { KeepsAll (L.told listener) (⟦<Self as Wire>⟧.report result) }
     {
         StreamWire {
@@ -192,13 +203,14 @@ impl<L: Listener, A: Allocator + Copy> StreamWire<L, A> {
     }
 
     /// Remembers who may be ready, by what a look or a wait has found.
-    fn mark_all_ready(&mut self, looked: io::Result<()>) -> Result<(), WireFault>
+    fn mark_all_ready(&mut self, looked: Result<(), StreamFault>) -> Result<(), WireFault>
+        requires nobody { OnErr looked (L.named self.old.listener ≡ []) }
+        ensures answers { AnswersAs result looked }
         ensures cause { HasCause self.old.failed self.new.failed result }
         ensures listener { self.new.listener ≡ self.old.listener }
         ensures alike { AreAlike self.old.places.items self.new.places.items }
-        ensures awake { OnOk result
-            (AreAwake (L.named self.new.listener) self.new.places.items) }
-        ensures named { OnOk result (OpensIfNamed L.named self.new) }
+        ensures awake { AreAwake (L.named self.new.listener) self.new.places.items }
+        ensures named { OpensIfNamed L.named self.new }
         ensures still { AreAwakeStill self.old.places.items self.new.places.items }
         ensures opens { self.old.acceptable ≡ true → self.new.acceptable ≡ true }
         ensures next { self.new.next ≡ self.old.next }
@@ -225,6 +237,7 @@ impl<L: Listener, A: Allocator + Copy> StreamWire<L, A> {
         ensures asks { AsksNext L.asked self.old self.new result }
         ensures named { L.named self.new.listener ≡ L.named self.old.listener }
         ensures awake { AreAwakeStill self.old.places.items self.new.places.items }
+        ensures holds { HoldsAccepted result self.old.places.items self.new.places.items }
         ensures opens { result ≢ Ok None → self.new.acceptable ≡ self.old.acceptable }
         ensures more { self.new.has_buffered ≡ self.old.has_buffered }
         ensures unsure { self.new.needs_timeout ≡ self.old.needs_timeout }
@@ -246,7 +259,7 @@ impl<L: Listener, A: Allocator + Copy> StreamWire<L, A> {
                 self.next = number + 1;
                 Ok(Some(number))
             }
-            Err(error) if error.kind() == ErrorKind::WouldBlock => {
+            Err(fault) if is_nobody(fault) => {
                 self.acceptable = false;
                 Ok(None)
             }
@@ -262,10 +275,12 @@ impl<L: Listener, A: Allocator + Copy> StreamWire<L, A> {
         ensures asks { AsksNext L.asked self.old self.new result }
         ensures named { L.named self.new.listener ≡ L.named self.old.listener }
         ensures awake { AreAwakeStill self.old.places.items self.new.places.items }
+        ensures holds { HoldsAccepted result self.old.places.items self.new.places.items }
         ensures opens { result ≢ Ok None → self.new.acceptable ≡ self.old.acceptable }
         ensures more { self.new.has_buffered ≡ self.old.has_buffered }
         ensures unchanged { KeepsReport ⟦<Self as Wire>⟧ self.old self.new }
         ensures unsure { OnErr result (self.new.needs_timeout ≡ true) }
+        ensures sure { OnOk result (self.new.needs_timeout ≡ self.old.needs_timeout) }
         ensures received { self.new.received ≡ self.old.received }
         ensures sent { self.new.sent ≡ self.old.sent }
     {
@@ -288,6 +303,7 @@ impl<L: Listener, A: Allocator + Copy> StreamWire<L, A> {
         ensures others { HoldsOthers self.old.places.items self.new.places.items number }
         ensures opens { self.new.acceptable ≡ self.old.acceptable }
         ensures more { LeavesMore number self.old self.new }
+        ensures unsure { NotesByRead number result self.old self.new }
         ensures received { self.new.received ≡ self.old.received }
         ensures sent { self.new.sent ≡ self.old.sent }
     {
@@ -309,6 +325,7 @@ impl<L: Listener, A: Allocator + Copy> StreamWire<L, A> {
         ensures asks { L.asked self.new.listener ≡ L.asked self.old.listener }
         ensures takes { OfNumber number
             (AsksToTake L.Stream.calls (length buf.now) result) self.old self.new }
+        ensures unsure { NotesByWrite number result self.old self.new }
         ensures others { HoldsOthers self.old.places.items self.new.places.items number }
         ensures opens { self.new.acceptable ≡ self.old.acceptable }
         ensures more { self.new.has_buffered ≡ self.old.has_buffered }
@@ -341,10 +358,11 @@ impl<L: Listener, A: Allocator + Copy> Wire for StreamWire<L, A> {
         ensures cause { HasCause self.old.failed self.new.failed result }
         ensures asks { AsksByAccept L.named L.asked self.old self.new result }
         ensures opens { StaysOpen result self.old.acceptable self.new.acceptable }
-        ensures awake { OnOk result
-            (AreAwake (L.named self.new.listener) self.new.places.items) }
+        ensures awake { WakesByAccept L.named self.old self.new }
         ensures still { AreAwakeStill self.old.places.items self.new.places.items }
+        ensures holds { HoldsAccepted result self.old.places.items self.new.places.items }
         ensures more { self.new.has_buffered ≡ self.old.has_buffered }
+        ensures sure { OnOk result (self.new.needs_timeout ≡ self.old.needs_timeout) }
         ensures received { self.new.received ≡ self.old.received }
         ensures sent { self.new.sent ≡ self.old.sent }
     {
@@ -370,6 +388,7 @@ impl<L: Listener, A: Allocator + Copy> Wire for StreamWire<L, A> {
         ensures others { HoldsOthers self.old.places.items self.new.places.items number }
         ensures opens { self.new.acceptable ≡ self.old.acceptable }
         ensures more { LeavesMore number self.old self.new }
+        ensures unsure { NotesByRead number result self.old self.new }
         ensures received { CountsRead self.old self.new result buf.new }
         ensures sent { self.new.sent ≡ self.old.sent }
     {
@@ -389,6 +408,7 @@ impl<L: Listener, A: Allocator + Copy> Wire for StreamWire<L, A> {
         ensures asks { L.asked self.new.listener ≡ L.asked self.old.listener }
         ensures takes { OfNumber number
             (AsksToTake L.Stream.calls (length buf.now) result) self.old self.new }
+        ensures unsure { NotesByWrite number result self.old self.new }
         ensures others { HoldsOthers self.old.places.items self.new.places.items number }
         ensures opens { self.new.acceptable ≡ self.old.acceptable }
         ensures more { self.new.has_buffered ≡ self.old.has_buffered }
@@ -404,11 +424,13 @@ impl<L: Listener, A: Allocator + Copy> Wire for StreamWire<L, A> {
     fn shut(&mut self, number: u64)
         ensures bound { self.new.next ≡ self.old.next }
         ensures shut { ReportsShut ⟦<Self as Wire>⟧ self.old self.new number }
+        ensures gone { held self.new.places.items number ≡ None }
         ensures others { HoldsOthers self.old.places.items self.new.places.items number }
         ensures faults { self.old.failed ≤ self.new.failed }
         ensures asks { L.asked self.new.listener ≡ L.asked self.old.listener }
         ensures opens { self.new.acceptable ≡ self.old.acceptable }
         ensures more { self.new.has_buffered ≡ self.old.has_buffered }
+        ensures unsure { self.new.needs_timeout ≡ self.old.needs_timeout }
         ensures received { self.new.received ≡ self.old.received }
         ensures sent { self.new.sent ≡ self.old.sent }
     {
@@ -423,11 +445,13 @@ impl<L: Listener, A: Allocator + Copy> Wire for StreamWire<L, A> {
         ensures bound { self.new.next ≡ self.old.next }
         ensures unchanged { KeepsReport ⟦<Self as Wire>⟧ self.old self.new }
         ensures cause { HasCause self.old.failed self.new.failed result }
-        ensures asks { AsksByWait L.asked idle self.old self.new }
-        ensures awake { OnOk result (WakesByWait L.named idle self.old self.new) }
+        ensures asks { AsksByWait L.asked idle self.old self.new result }
+        ensures awake { WakesByWait L.named idle self.old self.new }
         ensures still { AreAwakeStill self.old.places.items self.new.places.items }
         ensures opens { self.old.acceptable ≡ true → self.new.acceptable ≡ true }
         ensures more { self.new.has_buffered ≡ (self.old.has_buffered && not idle) }
+        ensures unsure { self.new.needs_timeout
+            ≡ (self.old.needs_timeout && not (is_made idle self.old.has_buffered)) }
         ensures received { self.new.received ≡ self.old.received }
         ensures sent { self.new.sent ≡ self.old.sent }
     {

@@ -119,8 +119,8 @@ HasRisen before now = (before < now) ⊎ (before ≡ 2 ^ 64 - 1)
 abbrev pub HasCause : {T : Type 0} → ℕ → ℕ → Result T WireFault → Type 0
 HasCause before now result = (before ≤ now) × (IsErrOf result Device → HasRisen before now)
 
--- a number that was given lies above those from before
+-- a number that was given lies above those from before; where none was given, the bound stays
 abbrev pub GivesNumber : ℕ → ℕ → Result (Option ℕ) WireFault → Type 0
 GivesNumber old new (Ok (Some number)) = (old ≤ number) × (number < new)
 GivesNumber old new (Ok None) = new ≡ old
-GivesNumber old new (Err fault) = old ≤ new
+GivesNumber old new (Err fault) = new ≡ old

@@ -56,7 +56,7 @@ pub trait Wire {
     /// How many calls have failed; it stays at 18,446,744,073,709,551,615 once it is there.
     ghost failed: { Self → ℕ };
 
-    /// The number of a new connection, if one waits. Numbers differ.
+    /// The number of a new connection, if one waits. Numbers differ. A call that fails takes nobody.
     fn accept(&mut self) -> Result<Option<u64>, WireFault>
         ensures number { GivesNumber (bound self.old) (bound self.new) result }
         ensures asked { Asks (asked self.old) (asked self.new) (Accept result ∷ []) }

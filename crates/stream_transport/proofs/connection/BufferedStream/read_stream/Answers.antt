@@ -1,4 +1,4 @@
-use Rattle.std.proofs.Common.{◌≡◌, true, false, ◌++◌, length, take, refl, sym, subst, inr, ◌∙◌}
+use Rattle.std.proofs.Common.{◌≡◌, true, false, ◌++◌, length, take, refl, sym, subst, inl, inr, ◌∙◌}
 use Rattle.std.proofs.KnownBytes.{Keeps-refl}
 use Rattle.usi_lines.specs.OneLine.{IsOneLine}
 use Rattle.stream_transport.proofs.Reading.{gives_line, gives_none, line_in_front, line_within, no_room, none_left, rest_fits, some_left}
@@ -23,7 +23,7 @@ returns-then-is_empty-clause-asked g c = record {
 }
 
 pub returns-in-Ok-eq0-clause-asked : goal.returns-in-Ok-eq0-clause-asked
-returns-in-Ok-eq0-clause-asked g c = record { called = λ may kept room. inr c.receive.ensures.called; awake = λ may found. may; takes = λ may. may }
+returns-in-Ok-eq0-clause-asked g c = record { called = λ may kept room. inr (c.receive.result, (c.receive.ensures.called, rw c.in-Ok-eq0.is (inl (c.in-Ok-eq0.field-0-test, refl), may))); awake = λ may found. may; takes = λ may. may }
 
 -- bytes came
 pub within-requires-clause-empty : goal.within-requires-clause-empty
@@ -52,7 +52,7 @@ pub returns-then-not-is_empty-clause-written : goal.returns-then-not-is_empty-cl
 returns-then-not-is_empty-clause-written g c = c.receive.ensures.written
 
 pub returns-then-not-is_empty-clause-asked : goal.returns-then-not-is_empty-clause-asked
-returns-then-not-is_empty-clause-asked g c = record { called = λ may kept room. inr c.receive.ensures.called; awake = λ may found. may; takes = λ may. may }
+returns-then-not-is_empty-clause-asked g c = record { called = λ may kept room. inr (c.receive.result, (c.receive.ensures.called, rw c.in-Ok.is (inr (c.in-Ok.n-test.1, (length c.cut_line.result.0.now, refl)), may))); awake = λ may found. may; takes = λ may. may }
 
 pub returns-else-not-is_empty-clause-within : goal.returns-else-not-is_empty-clause-within
 returns-else-not-is_empty-clause-within g c = line_within c.receive.new.buf c.split_at.result.0.now c.cut_line.result.0.now c.cut_line.result.1.now c.in-Ok.n c.split_at.ensures.front c.cut_line.ensures.whole c.in-Ok.n-test.1 c.in-Ok.ensures.bound.0 c.cut_line.ensures.shorter
@@ -71,32 +71,32 @@ pub returns-else-not-is_empty-clause-written : goal.returns-else-not-is_empty-cl
 returns-else-not-is_empty-clause-written g c = c.receive.ensures.written
 
 pub returns-else-not-is_empty-clause-asked : goal.returns-else-not-is_empty-clause-asked
-returns-else-not-is_empty-clause-asked g c = record { called = λ may kept room. inr c.receive.ensures.called; awake = λ may found. may; takes = λ may. may }
+returns-else-not-is_empty-clause-asked g c = record { called = λ may kept room. inr (c.receive.result, (c.receive.ensures.called, rw c.in-Ok.is (inr (c.in-Ok.n-test.1, (length c.cut_line.result.0.now, refl)), may))); awake = λ may found. may; takes = λ may. may }
 
 -- none came
-pub returns-in-Err-clause-unread : goal.returns-in-Err-clause-unread
-returns-in-Err-clause-unread g c = gives_none g.S.Read.remaining c.args.self.now (record c.args.self.now { stream = c.receive.new.self; readable = false }) refl c.in-Err.ensures.bytes
+pub returns-in-Err-WouldBlock-clause-unread : goal.returns-in-Err-WouldBlock-clause-unread
+returns-in-Err-WouldBlock-clause-unread g c = gives_none g.S.Read.remaining c.args.self.now (record c.args.self.now { stream = c.receive.new.self; readable = false }) refl c.in-Err-WouldBlock.ensures.bytes
 
-pub returns-in-Err-clause-written : goal.returns-in-Err-clause-written
-returns-in-Err-clause-written g c = c.receive.ensures.written
+pub returns-in-Err-WouldBlock-clause-written : goal.returns-in-Err-WouldBlock-clause-written
+returns-in-Err-WouldBlock-clause-written g c = c.receive.ensures.written
 
-pub returns-in-Err-clause-asked : goal.returns-in-Err-clause-asked
-returns-in-Err-clause-asked g c = record { called = λ may kept room. inr c.receive.ensures.called; awake = λ may found. absurd (found refl); takes = λ may. may }
+pub returns-in-Err-WouldBlock-clause-asked : goal.returns-in-Err-WouldBlock-clause-asked
+returns-in-Err-WouldBlock-clause-asked g c = record { called = λ may kept room. inr (c.receive.result, (c.receive.ensures.called, rw (c.in-Err-WouldBlock.is, c.in-Err-WouldBlock.field-0-is) (refl, refl))); awake = λ may found. absurd (found refl); takes = λ may. may }
 
-pub returns-in-Err-2-clause-unread : goal.returns-in-Err-2-clause-unread
-returns-in-Err-2-clause-unread g c = gives_none g.S.Read.remaining c.args.self.now (record c.args.self.now { stream = c.receive.new.self }) refl c.in-Err-2.ensures.bytes
+pub returns-in-Err-Interrupted-clause-unread : goal.returns-in-Err-Interrupted-clause-unread
+returns-in-Err-Interrupted-clause-unread g c = gives_none g.S.Read.remaining c.args.self.now (record c.args.self.now { stream = c.receive.new.self }) refl c.in-Err-Interrupted.ensures.bytes
 
-pub returns-in-Err-2-clause-written : goal.returns-in-Err-2-clause-written
-returns-in-Err-2-clause-written g c = c.receive.ensures.written
+pub returns-in-Err-Interrupted-clause-written : goal.returns-in-Err-Interrupted-clause-written
+returns-in-Err-Interrupted-clause-written g c = c.receive.ensures.written
 
-pub returns-in-Err-2-clause-asked : goal.returns-in-Err-2-clause-asked
-returns-in-Err-2-clause-asked g c = record { called = λ may kept room. inr c.receive.ensures.called; awake = λ may found. may; takes = λ may. may }
+pub returns-in-Err-Interrupted-clause-asked : goal.returns-in-Err-Interrupted-clause-asked
+returns-in-Err-Interrupted-clause-asked g c = record { called = λ may kept room. inr (c.receive.result, (c.receive.ensures.called, rw (c.in-Err-Interrupted.is, c.in-Err-Interrupted.field-0-is) (refl, may))); awake = λ may found. may; takes = λ may. may }
 
 pub returns-clause-unread : goal.returns-clause-unread
-returns-clause-unread g c = gives_none g.S.Read.remaining c.args.self.now (record c.args.self.now { stream = c.receive.new.self }) refl c.in-Err-3.ensures.bytes
+returns-clause-unread g c = gives_none g.S.Read.remaining c.args.self.now (record c.args.self.now { stream = c.receive.new.self }) refl c.in-Err-Failed.ensures.bytes
 
 pub returns-clause-written : goal.returns-clause-written
 returns-clause-written g c = c.receive.ensures.written
 
 pub returns-clause-asked : goal.returns-clause-asked
-returns-clause-asked g c = record { called = λ may kept room. inr c.receive.ensures.called; awake = λ may found. may; takes = λ may. may }
+returns-clause-asked g c = record { called = λ may kept room. inr (c.receive.result, (c.receive.ensures.called, rw (c.in-Err-Failed.is, c.in-Err-Failed.field-0-is) (refl, may))); awake = λ may found. may; takes = λ may. may }

@@ -15,7 +15,6 @@ returns-then-not-self-clause-written g c = Appends-nil (g.S.Write.contents c.arg
 pub returns-then-not-self-clause-asked : goal.returns-then-not-self-clause-asked
 returns-then-not-self-clause-asked g c = record {
   called = λ may. absurd (let t : c.args.self.now.writable ≡ true = may in let f : c.args.self.now.writable ≡ false = c.if-not-self.true in cc);
-  awake = λ may found. may;
   gives = λ may. may;
 }
 
@@ -30,32 +29,32 @@ pub returns-in-Ok-clause-written : goal.returns-in-Ok-clause-written
 returns-in-Ok-clause-written g c = c.in-Ok.ensures.bytes
 
 pub returns-in-Ok-clause-asked : goal.returns-in-Ok-clause-asked
-returns-in-Ok-clause-asked g c = record { called = λ may. c.send.ensures.called; awake = λ may found. may; gives = λ may. may }
+returns-in-Ok-clause-asked g c = record { called = λ may. (c.send.result, (c.send.ensures.called, rw c.in-Ok.is (refl, may))); gives = λ may. may }
 
 -- or none
-pub returns-in-Err-clause-unread : goal.returns-in-Err-clause-unread
-returns-in-Err-clause-unread g c = unread_stays c.args.self.now.kept (g.S.Read.remaining c.args.self.now.stream) (g.S.Read.remaining c.send.new.self) c.send.ensures.unread
+pub returns-in-Err-WouldBlock-clause-unread : goal.returns-in-Err-WouldBlock-clause-unread
+returns-in-Err-WouldBlock-clause-unread g c = unread_stays c.args.self.now.kept (g.S.Read.remaining c.args.self.now.stream) (g.S.Read.remaining c.send.new.self) c.send.ensures.unread
 
-pub returns-in-Err-clause-written : goal.returns-in-Err-clause-written
-returns-in-Err-clause-written g c = Appends-none (g.S.Write.contents c.args.self.now.stream) (g.S.Write.contents c.send.new.self) c.in-Err.ensures.bytes
+pub returns-in-Err-WouldBlock-clause-written : goal.returns-in-Err-WouldBlock-clause-written
+returns-in-Err-WouldBlock-clause-written g c = Appends-none (g.S.Write.contents c.args.self.now.stream) (g.S.Write.contents c.send.new.self) c.in-Err-WouldBlock.ensures.bytes
 
-pub returns-in-Err-clause-asked : goal.returns-in-Err-clause-asked
-returns-in-Err-clause-asked g c = record { called = λ may. c.send.ensures.called; awake = λ may found. absurd (found refl); gives = λ may. may }
+pub returns-in-Err-WouldBlock-clause-asked : goal.returns-in-Err-WouldBlock-clause-asked
+returns-in-Err-WouldBlock-clause-asked g c = record { called = λ may. (c.send.result, (c.send.ensures.called, rw (c.in-Err-WouldBlock.is, c.in-Err-WouldBlock.field-0-is) (refl, refl))); gives = λ may. may }
 
-pub returns-in-Err-2-clause-unread : goal.returns-in-Err-2-clause-unread
-returns-in-Err-2-clause-unread g c = unread_stays c.args.self.now.kept (g.S.Read.remaining c.args.self.now.stream) (g.S.Read.remaining c.send.new.self) c.send.ensures.unread
+pub returns-in-Err-Interrupted-clause-unread : goal.returns-in-Err-Interrupted-clause-unread
+returns-in-Err-Interrupted-clause-unread g c = unread_stays c.args.self.now.kept (g.S.Read.remaining c.args.self.now.stream) (g.S.Read.remaining c.send.new.self) c.send.ensures.unread
 
-pub returns-in-Err-2-clause-written : goal.returns-in-Err-2-clause-written
-returns-in-Err-2-clause-written g c = Appends-none (g.S.Write.contents c.args.self.now.stream) (g.S.Write.contents c.send.new.self) c.in-Err-2.ensures.bytes
+pub returns-in-Err-Interrupted-clause-written : goal.returns-in-Err-Interrupted-clause-written
+returns-in-Err-Interrupted-clause-written g c = Appends-none (g.S.Write.contents c.args.self.now.stream) (g.S.Write.contents c.send.new.self) c.in-Err-Interrupted.ensures.bytes
 
-pub returns-in-Err-2-clause-asked : goal.returns-in-Err-2-clause-asked
-returns-in-Err-2-clause-asked g c = record { called = λ may. c.send.ensures.called; awake = λ may found. may; gives = λ may. may }
+pub returns-in-Err-Interrupted-clause-asked : goal.returns-in-Err-Interrupted-clause-asked
+returns-in-Err-Interrupted-clause-asked g c = record { called = λ may. (c.send.result, (c.send.ensures.called, rw (c.in-Err-Interrupted.is, c.in-Err-Interrupted.field-0-is) (refl, may))); gives = λ may. may }
 
-pub returns-in-Err-3-clause-unread : goal.returns-in-Err-3-clause-unread
-returns-in-Err-3-clause-unread g c = unread_stays c.args.self.now.kept (g.S.Read.remaining c.args.self.now.stream) (g.S.Read.remaining c.send.new.self) c.send.ensures.unread
+pub returns-in-Err-Failed-clause-unread : goal.returns-in-Err-Failed-clause-unread
+returns-in-Err-Failed-clause-unread g c = unread_stays c.args.self.now.kept (g.S.Read.remaining c.args.self.now.stream) (g.S.Read.remaining c.send.new.self) c.send.ensures.unread
 
-pub returns-in-Err-3-clause-written : goal.returns-in-Err-3-clause-written
-returns-in-Err-3-clause-written g c = Appends-none (g.S.Write.contents c.args.self.now.stream) (g.S.Write.contents c.send.new.self) c.in-Err-3.ensures.bytes
+pub returns-in-Err-Failed-clause-written : goal.returns-in-Err-Failed-clause-written
+returns-in-Err-Failed-clause-written g c = Appends-none (g.S.Write.contents c.args.self.now.stream) (g.S.Write.contents c.send.new.self) c.in-Err-Failed.ensures.bytes
 
-pub returns-in-Err-3-clause-asked : goal.returns-in-Err-3-clause-asked
-returns-in-Err-3-clause-asked g c = record { called = λ may. c.send.ensures.called; awake = λ may found. may; gives = λ may. may }
+pub returns-in-Err-Failed-clause-asked : goal.returns-in-Err-Failed-clause-asked
+returns-in-Err-Failed-clause-asked g c = record { called = λ may. (c.send.result, (c.send.ensures.called, rw (c.in-Err-Failed.is, c.in-Err-Failed.field-0-is) (refl, may))); gives = λ may. may }

@@ -1,11 +1,14 @@
-use Rattle.std.proofs.Common.{[], ◌∷◌, refl, ap, inr, ◌∙◌}
+use Rattle.std.specs.Prelude.{vec_len}
+use Rattle.std.proofs.Common.{◌≡◌, arith, length, [], ◌∷◌, Ok, Err, Some, refl, ap, inr, ◌∙◌, rules}
+use Rattle.transport.specs.declared.wire.WireFault.TheVariants.{OutOfMemory}
 use Rattle.std.specs.Io.KnownBytes.{Keeps}
 use Rattle.transport.proofs.Reported.{kept_same}
-use Rattle.stream_transport.specs.Streams.{Accept, KeepsElse}
+use Rattle.stream_transport.specs.Streams.{KeepsElse, answer_of}
+use Rattle.stream_transport.specs.declared.listener.ListenerCall.TheVariants.{Accept}
 use Rattle.stream_transport.proofs.Asked.{asked_no_next}
-use Rattle.stream_transport.proofs.Outcomes.{cause_of_ok, not_below}
+use Rattle.stream_transport.proofs.Outcomes.{cause_of_ok, crowded, not_below}
 use Rattle.stream_transport.proofs.Reports.{alike_keeps, comes}
-use Rattle.stream_transport.proofs.Waking.{same_alike, still_comes, still_same, still_then}
+use Rattle.stream_transport.proofs.Waking.{accepted_alike, accepted_one, same_alike, still_comes, still_same, still_then}
 use Rattle.stream_transport.proofs.wire.StreamWire.accept_next.Goals as goal
 
 -- the stream has the bytes that were told of its number
@@ -25,7 +28,7 @@ pub returns-then-place-clause-cause : goal.returns-then-place-clause-cause
 returns-then-place-clause-cause g c = (c.fault.ensures.rises, λ e. c.fault.ensures.risen)
 
 pub returns-then-place-clause-asks : goal.returns-then-place-clause-asks
-returns-then-place-clause-asks g c = asked_no_next _ _ c.fault.result (ap g.L.Listener.asked c.fault.ensures.listener)
+returns-then-place-clause-asks g c = asked_no_next (length c.fault.new.self.places.items) (g.L.Listener.asked c.args.self.now.listener) (g.L.Listener.asked c.fault.new.self.listener) c.fault.result (ap g.L.Listener.asked c.fault.ensures.listener) (rw (c.fault.ensures.places, c.fault.ensures.device) (crowded c.in_ok-place.place (vec_len c.free_place.new.places) (length c.free_place.new.places.items) c.if-place.true c.in_ok-place.ensures.room (omega (arith, c.free_place.new.places.ok))))
 
 pub returns-then-place-clause-named : goal.returns-then-place-clause-named
 returns-then-place-clause-named g c = ap g.L.Listener.named c.fault.ensures.listener
@@ -47,7 +50,11 @@ pub returns-in-Err-2-clause-cause : goal.returns-in-Err-2-clause-cause
 returns-in-Err-2-clause-cause g c = (c.fault-in-Err-2.ensures.rises, λ e. c.fault-in-Err-2.ensures.risen)
 
 pub returns-in-Err-2-clause-asks : goal.returns-in-Err-2-clause-asks
-returns-in-Err-2-clause-asks g c = record { asks = Accept ∷ []; asked = rw c.fault-in-Err-2.ensures.listener c.accept.ensures.asked; due = inr refl }
+returns-in-Err-2-clause-asks g c = record {
+  asks = Accept (answer_of c.accept.result) ∷ [];
+  asked = rw c.fault-in-Err-2.ensures.listener c.accept.ensures.asked;
+  due = rw c.in-Err.is (inr (c.in-Err.fault, (c.is_nobody.ensures.no c.if-is_nobody.false, refl)));
+}
 
 pub returns-in-Err-2-clause-named : goal.returns-in-Err-2-clause-named
 returns-in-Err-2-clause-named g c = ap g.L.Listener.named c.fault-in-Err-2.ensures.listener ∙ c.accept.ensures.named
@@ -62,7 +69,7 @@ pub returns-in-Err-2-clause-unchanged : goal.returns-in-Err-2-clause-unchanged
 returns-in-Err-2-clause-unchanged g c =
     let told = g.L.Listener.told in
     let old = c.args.self.now in
-    rw (c.fault-in-Err-2.ensures.listener, c.fault-in-Err-2.ensures.places) (alike_keeps g.L.Stream.Read.remaining g.L.Stream.Write.contents (told old.listener) (told c.accept.new.self) old.places.items c.free_place.new.places.items (same_alike old.places.items c.free_place.new.places.items c.free_place.ensures.same) (c.in-Err-2.ensures.err))
+    rw (c.fault-in-Err-2.ensures.listener, c.fault-in-Err-2.ensures.places) (alike_keeps g.L.Stream.Read.remaining g.L.Stream.Write.contents (told old.listener) (told c.accept.new.self) old.places.items c.free_place.new.places.items (same_alike old.places.items c.free_place.new.places.items c.free_place.ensures.same) c.in-Err-2.ensures.err)
 
 -- no memory for a place
 pub returns-in_err-place-clause-awake : goal.returns-in_err-place-clause-awake
@@ -88,7 +95,7 @@ pub returns-in-Ok-clause-cause : goal.returns-in-Ok-clause-cause
 returns-in-Ok-clause-cause g c = cause_of_ok _ c.args.self.now.failed c.args.self.now.failed (not_below c.args.self.now.failed)
 
 pub returns-in-Ok-clause-asks : goal.returns-in-Ok-clause-asks
-returns-in-Ok-clause-asks g c = record { asks = Accept ∷ []; asked = c.accept.ensures.asked; due = refl }
+returns-in-Ok-clause-asks g c = record { asks = Accept (answer_of c.accept.result) ∷ []; asked = c.accept.ensures.asked; due = rw c.in-Ok.is refl }
 
 pub returns-in-Ok-clause-named : goal.returns-in-Ok-clause-named
 returns-in-Ok-clause-named g c = c.accept.ensures.named
@@ -101,7 +108,7 @@ pub returns-in-Err-clause-cause : goal.returns-in-Err-clause-cause
 returns-in-Err-clause-cause g c = cause_of_ok _ c.args.self.now.failed c.args.self.now.failed (not_below c.args.self.now.failed)
 
 pub returns-in-Err-clause-asks : goal.returns-in-Err-clause-asks
-returns-in-Err-clause-asks g c = record { asks = Accept ∷ []; asked = c.accept.ensures.asked; due = refl }
+returns-in-Err-clause-asks g c = record { asks = Accept (answer_of c.accept.result) ∷ []; asked = c.accept.ensures.asked; due = rw (c.in-Err.is, c.is_nobody.ensures.yes c.if-is_nobody.true) refl }
 
 pub returns-in-Err-clause-named : goal.returns-in-Err-clause-named
 returns-in-Err-clause-named g c = c.accept.ensures.named
@@ -117,3 +124,25 @@ returns-in-Err-clause-unchanged g c =
     let told = g.L.Listener.told in
     let old = c.args.self.now in
     alike_keeps g.L.Stream.Read.remaining g.L.Stream.Write.contents (told old.listener) (told c.accept.new.self) old.places.items c.free_place.new.places.items (same_alike old.places.items c.free_place.new.places.items c.free_place.ensures.same) c.in-Err.ensures.err
+
+pub returns-in-Ok-clause-holds : goal.returns-in-Ok-clause-holds
+returns-in-Ok-clause-holds g c = accepted_alike (Ok (Some c.number_at-number.result)) c.args.self.now.places.items c.free_place.new.places.items c.insert.new.places.items (same_alike c.args.self.now.places.items c.free_place.new.places.items c.free_place.ensures.same) (accepted_one c.free_place.new.places.items c.insert.new.places.items c.number_at-number.result c.new.result.number c.new.result c.new.ensures.number c.insert.ensures.held c.insert.ensures.others)
+
+pub returns-in-Err-clause-holds : goal.returns-in-Err-clause-holds
+returns-in-Err-clause-holds g c = same_alike c.args.self.now.places.items c.free_place.new.places.items c.free_place.ensures.same
+
+pub returns-in-Err-2-clause-holds : goal.returns-in-Err-2-clause-holds
+returns-in-Err-2-clause-holds g c = rw c.fault-in-Err-2.ensures.places (same_alike c.args.self.now.places.items c.free_place.new.places.items c.free_place.ensures.same)
+
+pub returns-then-place-clause-holds : goal.returns-then-place-clause-holds
+returns-then-place-clause-holds g c = rw c.fault.ensures.places (same_alike c.args.self.now.places.items c.free_place.new.places.items c.free_place.ensures.same)
+
+pub returns-in_err-place-clause-holds : goal.returns-in_err-place-clause-holds
+returns-in_err-place-clause-holds g c =
+    let failed : c.from_residual.result ≡ Err OutOfMemory = search rules in
+    rw failed (same_alike c.args.self.now.places.items c.free_place.new.places.items c.free_place.ensures.same)
+
+pub returns-in_err-place-clause-asks : goal.returns-in_err-place-clause-asks
+returns-in_err-place-clause-asks g c =
+    let failed : c.from_residual.result ≡ Err OutOfMemory = search rules in
+    rw failed (asked_no_next (length c.free_place.new.places.items) (g.L.Listener.asked c.args.self.now.listener) (g.L.Listener.asked c.args.self.now.listener) OutOfMemory refl tt)

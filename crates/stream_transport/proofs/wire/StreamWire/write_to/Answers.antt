@@ -1,8 +1,9 @@
-use Rattle.std.proofs.Common.{◌≡◌, ◌<◌, ◌%◌, sym, subst, ◌∙◌}
+use Rattle.std.proofs.Common.{◌≡◌, ◌<◌, ◌%◌, Some, refl, sym, ap, subst, ◌∙◌}
 use Rattle.std.specs.Prelude.{vec_len}
 use Rattle.stream_transport.specs.Held.{IsFree, held}
+use Rattle.stream_transport.specs.Asking.{writable}
 use Rattle.stream_transport.specs.declared.connection.TheConstants.{PLACES}
-use Rattle.stream_transport.proofs.Placing.{held_as, of_held, of_none, others_then}
+use Rattle.stream_transport.proofs.Placing.{held_as, none_noted, of_held, of_none, others_then}
 use Rattle.stream_transport.proofs.Reports.{writes_held, writes_missing}
 use Rattle.stream_transport.proofs.wire.StreamWire.write_to.Goals as goal
 
@@ -52,3 +53,12 @@ pub returns-clause-others : goal.returns-clause-others
 returns-clause-others g c =
     let same : c.write-taken.new.self.number ≡ c.args.number = c.write-taken.ensures.number ∙ c.in-Some.ensures.number in
     rw c.answer-2.ensures.places (others_then c.args.self.now.places.items c.remove.new.places.items c.insert.new.places.items c.args.number c.write-taken.new.self.number same c.remove.ensures.others c.insert.ensures.others)
+
+pub returns-in_default-clause-unsure : goal.returns-in_default-clause-unsure
+returns-in_default-clause-unsure g c = rw (c.answer.ensures.places, c.answer.ensures.unsure) (none_noted c.args.self.now.needs_timeout _ _ (ap (λ x. writable x) c.remove.ensures.if_none))
+
+pub returns-clause-unsure : goal.returns-clause-unsure
+returns-clause-unsure g c =
+    let same : c.write-taken.new.self.number ≡ c.args.number = c.write-taken.ensures.number ∙ c.in-Some.ensures.number in
+    let there : held c.insert.new.places.items c.args.number ≡ Some c.write-taken.new.self = held_as c.insert.new.places.items c.args.number c.write-taken.new.self.number c.write-taken.new.self same c.insert.ensures.held in
+    rw (c.answer-2.ensures.places, c.answer-2.ensures.unchanged, c.answer-2.ensures.unsure, there, c.took_nothing.ensures) refl

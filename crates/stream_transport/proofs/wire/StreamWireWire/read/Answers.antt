@@ -2,7 +2,7 @@ use Rattle.std.proofs.Common.{refl}
 use Rattle.stream_transport.specs.Asking.{IsQuiet}
 use Rattle.stream_transport.specs.Held.{held}
 use Rattle.stream_transport.proofs.Outcomes.{cause_of_ok, not_below}
-use Rattle.stream_transport.proofs.Placing.{no_more, quiet_asks, quiet_kept}
+use Rattle.stream_transport.proofs.Placing.{no_more, none_noted, quiet_asks, quiet_kept, quiet_sleeps}
 use Rattle.stream_transport.proofs.Reports.{reads_none}
 use Rattle.stream_transport.proofs.wire.StreamWireWire.read.Goals as goal
 
@@ -27,6 +27,11 @@ pub returns-then-is_quiet-clause-more : goal.returns-then-is_quiet-clause-more
 returns-then-is_quiet-clause-more g c =
     let quiet : IsQuiet (held c.args.self.now.places.items c.args.number) = rw c.as_slice.ensures.value at c.is_quiet.ensures c.if-is_quiet.true in
     no_more c.args.self.now.has_buffered _ (quiet_kept (held c.args.self.now.places.items c.args.number) quiet)
+
+pub returns-then-is_quiet-clause-unsure : goal.returns-then-is_quiet-clause-unsure
+returns-then-is_quiet-clause-unsure g c =
+    let quiet : IsQuiet (held c.args.self.now.places.items c.args.number) = rw c.as_slice.ensures.value at c.is_quiet.ensures c.if-is_quiet.true in
+    none_noted c.args.self.now.needs_timeout _ _ (quiet_sleeps (held c.args.self.now.places.items c.args.number) quiet)
 
 pub returns-then-is_quiet-clause-others : goal.returns-then-is_quiet-clause-others
 returns-then-is_quiet-clause-others g c = λ other apart. refl
@@ -58,3 +63,6 @@ returns-clause-more g c = c.read_from-got.ensures.more
 
 pub returns-clause-others : goal.returns-clause-others
 returns-clause-others g c = c.read_from-got.ensures.others
+
+pub returns-clause-unsure : goal.returns-clause-unsure
+returns-clause-unsure g c = c.read_from-got.ensures.unsure

@@ -1,8 +1,7 @@
-use Rattle.std.proofs.Common.{◌≡◌, true, false, refl, ap}
-use Rattle.transport.proofs.Asked.{asks_none}
+use Rattle.std.proofs.Common.{◌≡◌, ◌∙◌, true, false, refl, ap}
 use Rattle.transport.proofs.Reported.{kept_same}
-use Rattle.stream_transport.proofs.Asked.{more_goes, more_stays, waits_no_more, waits_not, waits_once}
-use Rattle.stream_transport.proofs.Outcomes.{cause_of_ok, not_below, on_ok_then}
+use Rattle.stream_transport.proofs.Asked.{made_no_more, made_not, made_once, more_goes, more_stays, unsure_goes, unsure_stays, waits_not, waits_once}
+use Rattle.stream_transport.proofs.Outcomes.{cause_of_ok, not_below}
 use Rattle.stream_transport.proofs.Reports.{looked}
 use Rattle.stream_transport.proofs.Waking.{still_same}
 use Rattle.stream_transport.proofs.wire.StreamWireWire.wait.Goals as goal
@@ -14,7 +13,7 @@ pub returns-then-not-idle-clause-cause : goal.returns-then-not-idle-clause-cause
 returns-then-not-idle-clause-cause g c = cause_of_ok _ c.args.self.now.failed c.args.self.now.failed (not_below c.args.self.now.failed)
 
 pub returns-then-not-idle-clause-asks : goal.returns-then-not-idle-clause-asks
-returns-then-not-idle-clause-asks g c = rw (waits_not c.args.idle c.args.self.now.has_buffered c.args.self.now.needs_timeout c.if-not-idle.true) (asks_none (g.L.Listener.asked c.args.self.now.listener))
+returns-then-not-idle-clause-asks g c = waits_not _ c.args.self.now.needs_timeout (g.L.Listener.asked c.args.self.now.listener) (made_not c.args.idle c.args.self.now.has_buffered c.if-not-idle.true)
 
 pub returns-then-not-idle-clause-awake : goal.returns-then-not-idle-clause-awake
 returns-then-not-idle-clause-awake g c = λ idle none. absurd (let t : c.args.idle ≡ true = idle in let f : c.args.idle ≡ false = c.if-not-idle.true in cc)
@@ -32,7 +31,7 @@ pub returns-then-self-clause-cause : goal.returns-then-self-clause-cause
 returns-then-self-clause-cause g c = cause_of_ok _ c.args.self.now.failed c.args.self.now.failed (not_below c.args.self.now.failed)
 
 pub returns-then-self-clause-asks : goal.returns-then-self-clause-asks
-returns-then-self-clause-asks g c = rw (waits_no_more c.args.idle c.args.self.now.has_buffered c.args.self.now.needs_timeout c.if-self.true) (asks_none (g.L.Listener.asked c.args.self.now.listener))
+returns-then-self-clause-asks g c = waits_not _ c.args.self.now.needs_timeout (g.L.Listener.asked c.args.self.now.listener) (made_no_more c.args.idle c.args.self.now.has_buffered c.if-self.true)
 
 pub returns-then-self-clause-awake : goal.returns-then-self-clause-awake
 returns-then-self-clause-awake g c = λ idle none. absurd (let t : c.args.self.now.has_buffered ≡ true = c.if-self.true in let f : c.args.self.now.has_buffered ≡ false = none in cc)
@@ -52,10 +51,20 @@ pub returns-clause-cause : goal.returns-clause-cause
 returns-clause-cause g c = c.mark_all_ready.ensures.cause
 
 pub returns-clause-asks : goal.returns-clause-asks
-returns-clause-asks g c = rw (c.mark_all_ready.ensures.listener, waits_once c.args.idle c.args.self.now.has_buffered c.args.self.now.needs_timeout c.if-not-idle.false c.if-self.false) (rw c.patience_for.ensures at c.wait-looked.ensures.asked)
+returns-clause-asks g c = rw c.mark_all_ready.ensures.listener (waits_once _ c.args.self.now.needs_timeout _ _ _ c.wait-looked.result c.mark_all_ready.result (made_once c.args.idle c.args.self.now.has_buffered c.if-not-idle.false c.if-self.false) c.patience_for.ensures c.wait-looked.ensures.asked c.mark_all_ready.ensures.answers)
 
 pub returns-clause-awake : goal.returns-clause-awake
-returns-clause-awake g c = on_ok_then c.mark_all_ready.result _ _ (λ awake idle none. awake) c.mark_all_ready.ensures.awake
+returns-clause-awake g c = λ idle none. c.mark_all_ready.ensures.awake
 
 pub returns-clause-still : goal.returns-clause-still
 returns-clause-still g c = c.mark_all_ready.ensures.still
+
+-- what nothing may say is noted until a wait is made
+pub returns-then-not-idle-clause-unsure : goal.returns-then-not-idle-clause-unsure
+returns-then-not-idle-clause-unsure g c = unsure_stays c.args.self.now.needs_timeout _ (made_not c.args.idle c.args.self.now.has_buffered c.if-not-idle.true)
+
+pub returns-then-self-clause-unsure : goal.returns-then-self-clause-unsure
+returns-then-self-clause-unsure g c = unsure_stays c.args.self.now.needs_timeout _ (made_no_more c.args.idle c.args.self.now.has_buffered c.if-self.true)
+
+pub returns-clause-unsure : goal.returns-clause-unsure
+returns-clause-unsure g c = c.mark_all_ready.ensures.unsure ∙ unsure_goes c.args.self.now.needs_timeout _ (made_once c.args.idle c.args.self.now.has_buffered c.if-not-idle.false c.if-self.false)
