@@ -2,7 +2,7 @@
 use Rattle.std.specs.Prelude.{◌≡◌, ℕ, List, Result, Ok, Err, IfErr, OnErr, OnOk}
 use Rattle.usi_replay.specs.declared.fault.ReplayFault.{ReplayFault}
 use Rattle.usi_replay.specs.declared.fault.ReplayFault.TheVariants.{OutOfMemory, ReadFailed, WriteFailed, BadScript}
-use Rattle.usi_replay.specs.Replayed.{Leaves, Recites, Replays}
+use Rattle.usi_replay.specs.Replayed.{Leaves, Recites, Replays, ReplaysAsked}
 use Rattle.usi_stdio.specs.declared.streams.StdioFault.{StdioFault}
 use Rattle.usi_stdio.specs.Calls.{Report}
 use Rattle.usi_stdio.specs.Dialogue.{Talks}
@@ -43,6 +43,11 @@ pub record IsReplay (setup : Setup) (slots : ℕ) (old new : Report) (status : �
   pub err : IfErr ended (Leaves setup slots old new)
   pub calls : Recites setup slots old.calls new.calls ended
   pub status_is : status ≡ replayed_status ended
+
+-- where the status says that it was done, a new host of these numbers played the script
+abbrev pub IsReplayOn : Setup → (slots entries slice : ℕ) → Report → Report → ℕ → Type 0
+IsReplayOn setup slots entries slice old new status =
+    status ≡ 0 → ReplaysAsked setup slots entries slice old new
 
 -- a text was written and flushed, and nothing was read, with this status; or a prefix of it, after a fault
 pub record IsPrint (text : List ℕ) (old new : Report) (status : ℕ) : Type 0 where

@@ -3,7 +3,7 @@
 ghost use Rattle.std.specs.Prelude.{◌≡◌, ◌≤◌};
 ghost use Rattle.session_slots.specs.declared.limits.TheConstants.{SESSIONS_MAX};
 ghost use Rattle.shared_table.specs.declared.table.TheConstants.{CAPACITY_MAX};
-ghost use Rattle.usi_app.specs.Runs.{IsPrint, IsReplay, IsSession, ended_status, replay_status};
+ghost use Rattle.usi_app.specs.Runs.{IsPrint, IsReplay, IsReplayOn, IsSession, ended_status, replay_status};
 
 use std::alloc::Allocator;
 use usi_replay::{ReplayFault, replay_with_setup};
@@ -74,7 +74,9 @@ pub fn script<E: Eprint, A: Allocator + Copy, T: FrontEnd>(
     requires least_entries { 1 ≤ entries }
     requires most_entries { entries ≤ CAPACITY_MAX }
     requires least_slice { 1 ≤ slice }
-    ensures { IsReplay setup slots (T.report front_end.old) (T.report front_end.new) result }
+    ensures run { IsReplay setup slots (T.report front_end.old) (T.report front_end.new) result }
+    ensures host { IsReplayOn setup slots entries slice
+        (T.report front_end.old) (T.report front_end.new) result }
 {
     match replay_with_setup(alloc, setup, front_end, slots, entries, slice) {
         Ok(()) => DONE,

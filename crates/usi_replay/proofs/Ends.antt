@@ -7,10 +7,12 @@ use Rattle.session_slots.specs.declared.id.SessionId.{SessionId}
 use Rattle.usi_lines.specs.Lines.{Line, lines}
 use Rattle.usi_session.specs.WholeStream.{replies_under}
 use Rattle.host_core.specs.Steps.{HostState}
-use Rattle.host_core.specs.Steps.{new_host_under}
+use Rattle.session_slots.specs.Slots.{OpenSessions, count}
+use Rattle.usi_session.specs.Due.{SessionView}
 use Rattle.usi_replay.specs.Script.{Opening, section, output, or_else, openings_after_line, read_from, read_script, meaning}
-use Rattle.usi_replay.specs.Playback.{Transcript, play, no_transcript, no_opening, open_id, transcript_section, HasAllReplies, HasMade, IsTranscriptOf, AreTranscripts, IsPlayback, KeepsPlayback, IsReadTo, LeadsTo, Plays}
-use Rattle.usi_replay.specs.Replayed.{IsOutputOf}
+use Rattle.usi_replay.specs.Playback.{Transcript, play, no_transcript, no_opening, open_id, transcript_section, HasAllReplies, HasMade, IsTranscriptOf, AreTranscripts, IsPlayback, KeepsPlayback, IsReadTo, IsWhole, LeadsTo, Plays}
+use Rattle.usi_replay.specs.Replayed.{IsOutputOn}
+use Rattle.usi_replay.specs.Sessions.{IsUnused, RunsBy}
 use Rattle.usi_replay.proofs.Transcripts.{transcripts_get, transcripts_len}
 use Rattle.usi_lines.specs.declared.line.TheConstants.{LINE_FEED}
 
@@ -49,14 +51,19 @@ writes_end old now es fs i out w le setup slots os p =
     let n : length os ≡ length fs = transcripts_len setup now 0 os fs q.0.transcripts in
     sym (append-nil out) ∙ (ap (λ (rest : List Opening). out ++ output setup rest) (sym (drop_all i os (omega arith))) ∙ q.1)
 
+pub writes_kept : (old now : HostState) (es fs : List Transcript) (i : ℕ) (out : List ℕ) → WritesTo old es now fs i out → KeepsPlayback (play old es) (play now fs)
+writes_kept old now es fs i out w = λ setup slots os p. (w setup slots os p).0
+
 -- a script before its first line
-pub read_start : (setup : Setup) (slots entries : ℕ) (bytes : List ℕ) (h : HostState) → h ≡ new_host_under setup slots entries → IsReadTo setup slots h [] bytes 0 bytes
+pub read_start : (bytes : List ℕ) (h : HostState) → IsUnused h → IsReadTo h.setup h.slots.max h [] bytes 0 bytes
 unfolding AreTranscripts
-read_start setup slots entries bytes h e = record {
-  openings = [];
-  play = rw e (record { transcripts = omega arith; count_is = refl; max_is = refl; setup_is = refl; few = omega arith });
-  comes = refl;
-}
+read_start bytes h e =
+    let next : h.slots.next ≡ 0 = ap (λ (s : OpenSessions SessionView). s.next) e in
+    record {
+      openings = [];
+      play = record { transcripts = omega arith; count_is = ap count e; max_is = refl; setup_is = refl; few = omega (arith, next) };
+      comes = refl;
+    }
 
 read_good : (slots number : ℕ) (line : Line) (rest : List Line) (os next : List Opening) → openings_after_line slots line os ≡ Some next → read_from slots number (line ∷ rest) os ≡ read_from slots (number + 1) rest next
 unfolding read_from
@@ -83,6 +90,12 @@ pub read_fails : {setup : Setup} (slots : ℕ) (h new : HostState) (es fs : List
 read_fails {setup} slots h new es fs bytes number rest left line r e d =
     r.comes ∙ (ap (λ (ls : List Line). read_from slots (number + 1) ls r.openings) e ∙ read_bad slots (number + 1) line (lines left) r.openings (d setup slots r.openings r.play))
 
-pub read_whole : {setup : Setup} (slots : ℕ) (h : HostState) (es : List Transcript) (bytes : List ℕ) (number : ℕ) (rest out : List ℕ) → IsReadTo setup slots h es bytes number rest → lines rest ≡ [] → ((setup : Setup) (slots : ℕ) (os : List Opening) → IsPlayback setup slots h os es → out ≡ output setup os) → IsOutputOf setup slots bytes out
-read_whole {setup} slots h es bytes number rest out r e w =
-    (r.openings, r.comes ∙ (ap (λ (ls : List Line). read_from slots (number + 1) ls r.openings) e ∙ read_end slots (number + 1) r.openings), w setup slots r.openings r.play)
+pub read_whole : (slice : ℕ) (before h now : HostState) (es fs : List Transcript) (bytes : List ℕ) (number : ℕ) (rest out : List ℕ) → IsReadTo before.setup before.slots.max h es bytes number rest → lines rest ≡ [] → IsWhole (play h es) out → KeepsPlayback (play h es) (play now fs) → RunsBy slice before now → IsOutputOn slice before bytes now out
+read_whole slice before h now es fs bytes number rest out r e whole kept run = record {
+  openings = r.openings;
+  comes = r.comes ∙ (ap (λ (ls : List Line). read_from before.slots.max (number + 1) ls r.openings) e ∙ read_end before.slots.max (number + 1) r.openings);
+  out_is = whole before.setup before.slots.max r.openings r.play;
+  transcripts = fs;
+  played = kept before.setup before.slots.max r.openings r.play;
+  run = run;
+}

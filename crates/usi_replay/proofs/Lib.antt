@@ -1,4 +1,5 @@
 pub mod Rounds
+pub mod Running
 pub mod Transcripts
 pub mod Names
 pub mod Ends

@@ -14,7 +14,8 @@ use Rattle.usi_stdio.specs.declared.streams.StdioFault.{StdioFault}
 use Rattle.usi_stdio.specs.declared.streams.StdioFault.TheVariants as stdio
 use Rattle.usi_replay.specs.declared.fault.ReplayFault.{ReplayFault}
 use Rattle.usi_replay.specs.declared.fault.ReplayFault.TheVariants.{OutOfMemory, ReadFailed, WriteFailed, BadScript}
-use Rattle.usi_replay.specs.Replayed.{AreReads, ReadsAll, EndsReading, EndsEarly, ReadsBy, Recites, GivesAll, Replays, Leaves, IsAnswerFault, IsOutputOf}
+use Rattle.host_core.specs.Steps.{HostState, new_host_under}
+use Rattle.usi_replay.specs.Replayed.{AreReads, ReadsAll, EndsReading, EndsEarly, ReadsBy, Recites, GivesAll, Replays, ReplaysAsked, ReplaysOn, Leaves, IsAnswerFault, IsOutputOf, IsOutputOn}
 
 -- ---- the calls
 
@@ -111,12 +112,23 @@ appended (Some xs) None new bytes k a = absurd k
 appended (Some xs) (Some ys) None bytes k a = absurd a
 appended (Some xs) (Some ys) (Some zs) bytes k a = a ∙ ap (λ l. l ++ bytes) k
 
-pub replays : (setup : Setup) (slots : ℕ) (old mid new : Report) (bytes out : List ℕ) → GivesAll old mid bytes → Keeps old.written mid.written → IsOutputOf setup slots bytes out → Says mid new out → Replays setup slots old new
-replays setup slots old mid new bytes out given kept (os, reads, is) said = record {
-  openings = os;
-  read = record { bytes = bytes; consumed = rw said.unread given.consumed; ended = rw said.unread given.ended; comes_to = reads };
-  written = rw (← is) (appended old.written mid.written new.written out kept said.written);
+-- the output from a host is that of the script
+pub output_is : (slice : ℕ) (before after : HostState) (bytes out : List ℕ) → IsOutputOn slice before bytes after out → IsOutputOf before.setup before.slots.max bytes out
+output_is slice before after bytes out is = (is.openings, is.comes, is.out_is)
+
+pub replays_on : (slice : ℕ) (before after : HostState) (old mid new : Report) (bytes out : List ℕ) → GivesAll old mid bytes → Keeps old.written mid.written → IsOutputOn slice before bytes after out → Says mid new out → ReplaysOn slice before after old new
+replays_on slice before after old mid new bytes out given kept is said = record {
+  openings = is.openings;
+  read = record { bytes = bytes; consumed = rw said.unread given.consumed; ended = rw said.unread given.ended; comes_to = is.comes };
+  written = rw (← is.out_is) (appended old.written mid.written new.written out kept said.written);
+  transcripts = is.transcripts;
+  played = is.played;
+  run = is.run;
 }
+
+-- by a new host
+pub replays_asked : (setup : Setup) (slots entries slice : ℕ) (before after : HostState) (old new : Report) → before ≡ new_host_under setup slots entries → ReplaysOn slice before after old new → ReplaysAsked setup slots entries slice old new
+replays_asked setup slots entries slice before after old new e r = (after, rw e at r)
 
 pub leaves_write : (setup : Setup) (slots : ℕ) (old mid new : Report) (bytes out : List ℕ) (fault : StdioFault) → GivesAll old mid bytes → Keeps old.written mid.written → IsOutputOf setup slots bytes out → SaysPrefix mid new out fault → Leaves setup slots old new WriteFailed
 leaves_write setup slots old mid new bytes out fault given kept (os, reads, is) (left, w) = record {
@@ -161,12 +173,12 @@ early_answer setup slots calls bytes WriteFailed r is = absurd is
 early_answer setup slots calls bytes (BadScript line) r is = (bytes, r, is)
 
 -- the script was not read
-pub recites_read : {Z : Type 0} (setup : Setup) (slots : ℕ) (old new : Option (List Call)) (r : Result (Unit {0}) ReplayFault) (fault : ReplayFault) → IsErrAnd r (λ given. given ≡ fault) → ReadsBy {Z = Z} old new (Err fault) → Recites setup slots old new r
+pub recites_read : {X Z : Type 0} (setup : Setup) (slots : ℕ) (old new : Option (List Call)) (r : Result X ReplayFault) (fault : ReplayFault) → IsErrAnd r (λ given. given ≡ fault) → ReadsBy {Z = Z} old new (Err fault) → Recites setup slots old new r
 recites_read setup slots old new (Ok done) fault same a = absurd same
 recites_read setup slots old new (Err given) fault same a = rw same (record { calls = a.calls; called = a.called; ended = early_read setup slots a.calls fault a.ended })
 
 -- it has no output
-pub recites_none : {Z : Type 0} (setup : Setup) (slots : ℕ) (old new : Option (List Call)) (script : Vec ℕ Z) (bytes : List ℕ) (r : Result (Unit {0}) ReplayFault) (fault : ReplayFault) → IsErrAnd r (λ given. given ≡ fault) → ReadsBy {Z = Z} old new (Ok script) → bytes ≡ script.items → IsAnswerFault slots bytes fault → Recites setup slots old new r
+pub recites_none : {X Z : Type 0} (setup : Setup) (slots : ℕ) (old new : Option (List Call)) (script : Vec ℕ Z) (bytes : List ℕ) (r : Result X ReplayFault) (fault : ReplayFault) → IsErrAnd r (λ given. given ≡ fault) → ReadsBy {Z = Z} old new (Ok script) → bytes ≡ script.items → IsAnswerFault slots bytes fault → Recites setup slots old new r
 recites_none setup slots old new script bytes (Ok done) fault same a e is = absurd same
 recites_none setup slots old new script bytes (Err given) fault same a e is = rw same (record { calls = a.calls; called = a.called; ended = early_answer setup slots a.calls bytes fault (rw e a.ended) is })
 
@@ -179,7 +191,7 @@ all_then calls rest bytes r = record {
 }
 
 -- it was written
-pub recites_out : {Z : Type 0} (setup : Setup) (slots : ℕ) (old : Option (List Call)) (mid new : Report) (script : Vec ℕ Z) (bytes out : List ℕ) (done : Unit {0}) → ReadsBy {Z = Z} old mid.calls (Ok script) → bytes ≡ script.items → IsOutputOf setup slots bytes out → Says mid new out → Recites setup slots old new.calls (Ok done)
+pub recites_out : {X Z : Type 0} (setup : Setup) (slots : ℕ) (old : Option (List Call)) (mid new : Report) (script : Vec ℕ Z) (bytes out : List ℕ) (done : X) → ReadsBy {Z = Z} old mid.calls (Ok script) → bytes ≡ script.items → IsOutputOf setup slots bytes out → Says mid new out → Recites setup slots old new.calls (Ok done)
 recites_out setup slots old mid new script bytes out done a e is s = record {
   calls = a.calls ++ s.calls;
   called = called_then old mid.calls new.calls a.calls s.calls a.called s.called;
@@ -199,7 +211,7 @@ abbrev ended : StdioFault → Result (Unit {0}) StdioFault
 ended fault = Err fault
 
 -- a write failed
-pub recites_part : {Z : Type 0} (setup : Setup) (slots : ℕ) (old : Option (List Call)) (mid new : Report) (script : Vec ℕ Z) (bytes out : List ℕ) (fault : StdioFault) → ReadsBy {Z = Z} old mid.calls (Ok script) → bytes ≡ script.items → IsOutputOf setup slots bytes out → SaysPrefix mid new out fault → ended fault ≡ ended stdio.WriteFailed → Recites setup slots old new.calls (Err WriteFailed)
+pub recites_part : {X Z : Type 0} (setup : Setup) (slots : ℕ) (old : Option (List Call)) (mid new : Report) (script : Vec ℕ Z) (bytes out : List ℕ) (fault : StdioFault) → ReadsBy {Z = Z} old mid.calls (Ok script) → bytes ≡ script.items → IsOutputOf setup slots bytes out → SaysPrefix mid new out fault → ended fault ≡ ended stdio.WriteFailed → Recites {X = X} setup slots old new.calls (Err WriteFailed)
 recites_part setup slots old mid new script bytes out stdio.OutOfMemory a e is (left, w) same = absurd cc
 recites_part setup slots old mid new script bytes out stdio.ReadFailed a e is (left, w) same = absurd cc
 recites_part setup slots old mid new script bytes out stdio.WriteFailed a e is (left, w) same = record {
@@ -220,3 +232,9 @@ recites_part setup slots old mid new script bytes out stdio.WriteFailed a e is (
     },
   );
 }
+
+-- by a new host, with nothing given back
+pub recites_fault : {X Y : Type 0} (setup : Setup) (slots entries : ℕ) (before : HostState) (old new : Option (List Call)) (fault : ReplayFault) → before ≡ new_host_under setup slots entries → Recites {X = X} before.setup before.slots.max old new (Err fault) → Recites {X = Y} setup slots old new (Err fault)
+recites_fault {X} setup slots entries before old new fault e r =
+    let q : Recites {X = X} setup slots old new (Err fault) = rw e at r in
+    record { calls = q.calls; called = q.called; ended = q.ended }

@@ -10,7 +10,10 @@ use Rattle.usi_stdio.specs.declared.streams.StdioFault.{StdioFault}
 use Rattle.usi_stdio.specs.declared.streams.StdioFault.TheVariants as stdio
 use Rattle.usi_replay.specs.declared.fault.ReplayFault.{ReplayFault}
 use Rattle.usi_replay.specs.declared.fault.ReplayFault.TheVariants.{OutOfMemory, ReadFailed, WriteFailed, BadScript}
+use Rattle.host_core.specs.Steps.{HostState, new_host_under}
+use Rattle.usi_replay.specs.Playback.{Transcript, IsPlayback}
 use Rattle.usi_replay.specs.Script.{Opening, read_script, output}
+use Rattle.usi_replay.specs.Sessions.{RunsBy}
 
 -- all that the reader had was read
 pub record IsAllRead (before after : Option (List ℕ)) (bytes : List ℕ) : Type 0 where
@@ -65,10 +68,22 @@ IsAnswerFault slots bytes ReadFailed = ⊥
 IsAnswerFault slots bytes WriteFailed = ⊥
 IsAnswerFault slots bytes (BadScript line) = read_script slots bytes ≡ Err line
 
--- the output of a script, or why there is none
-abbrev pub IsAnswerOf : {Z : Type 0} → Setup → ℕ → List ℕ → Result (Vec ℕ Z) ReplayFault → Type 0
-IsAnswerOf setup slots bytes result =
-    MatchResult result (λ out. IsOutputOf setup slots bytes out.items) (IsAnswerFault slots bytes)
+-- the output of a script, from this host, whose sessions played it in a run of works of so many steps
+pub record IsOutputOn (slice : ℕ) (before : HostState) (bytes : List ℕ) (after : HostState)
+    (out : List ℕ) : Type 0 where
+  pub openings : List Opening
+  pub comes : read_script before.slots.max bytes ≡ Ok openings
+  pub out_is : out ≡ output before.setup openings
+  pub transcripts : List Transcript
+  pub played : IsPlayback before.setup before.slots.max after openings transcripts
+  pub run : RunsBy slice before after
+
+-- the output of a script from a host, which is given back with it, or why there is none
+abbrev pub IsAnswerOn : {Z : Type 0} → ℕ → HostState → List ℕ
+    → Result (HostState × Vec ℕ Z) ReplayFault → Type 0
+IsAnswerOn slice before bytes result =
+    MatchResult result (λ answer. IsOutputOn slice before bytes answer.0 answer.1.items)
+    (IsAnswerFault before.slots.max bytes)
 
 -- ---- the calls
 
@@ -130,8 +145,8 @@ EndsEarly setup slots calls (BadScript line) =
     (bytes : List ℕ) × ReadsAll calls bytes [] × (read_script slots bytes ≡ Err line)
 
 -- where calls are reported, those since are a replay with this result: all is read before anything is written, and at its end all is written and flushed
-pub record Recites (setup : Setup) (slots : ℕ) (old new : Option (List Call))
-    (result : Result (Unit {0}) ReplayFault) : Type 0 where
+pub record Recites {X : Type 0} (setup : Setup) (slots : ℕ) (old new : Option (List Call))
+    (result : Result X ReplayFault) : Type 0 where
   pub calls : List Call
   pub called : Makes old new calls
   pub ended :
@@ -151,6 +166,20 @@ GivesAllIn old new bytes = GivesAll old new bytes.items
 -- the script's output was written
 abbrev pub Replays : Setup → ℕ → Report → Report → Type 0
 Replays setup slots old new = IsReplayed setup slots old.unread new.unread old.written new.written
+
+-- the script's output was written, and this host played it in works of so many steps
+pub record ReplaysOn (slice : ℕ) (before after : HostState) (old new : Report) : Type 0 where
+  pub openings : List Opening
+  pub read : IsScript before.slots.max old.unread new.unread (Ok openings)
+  pub written : Appends old.written new.written (output before.setup openings)
+  pub transcripts : List Transcript
+  pub played : IsPlayback before.setup before.slots.max after openings transcripts
+  pub run : RunsBy slice before after
+
+-- a new host of these numbers played it
+abbrev pub ReplaysAsked : Setup → (slots entries slice : ℕ) → Report → Report → Type 0
+ReplaysAsked setup slots entries slice old new =
+    (after : HostState) × ReplaysOn slice (new_host_under setup slots entries) after old new
 
 -- what a fault leaves: only a write that failed leaves anything written
 abbrev pub Leaves : Setup → ℕ → Report → Report → ReplayFault → Type 0

@@ -1,12 +1,15 @@
 -- What the steps of a replay do to the sessions of its host.
-use Rattle.std.specs.Prelude.{◌≡◌, ◌≢◌, ◌<◌, ℕ, List, ◌++◌, Option, Some, None, true}
+use Rattle.std.specs.Prelude.{◌≡◌, ◌≢◌, ◌<◌, ℕ, List, [], ◌++◌, Option, Some, None, true}
+use Rattle.std.specs.List.{All}
 use Rattle.session_slots.specs.declared.id.SessionId.{SessionId}
 use Rattle.session_slots.specs.Slots.{find, count}
 use Rattle.usi_session.specs.Due.{SessionView, due}
 use Rattle.usi_stdio.specs.Saying.{slices_of}
 use Rattle.host_core.specs.ById.{pending_of}
 use Rattle.host_core.specs.Steps.{HostState, IsOpened, IsClosed}
-use Rattle.host_core.specs.Events.{Outcome, Opened, Refused}
+use Rattle.host_core.specs.Events.{Event, Work, Outcome, Opened, Refused}
+use Rattle.host_core.specs.Made.{Step}
+use Rattle.host_core.specs.Runs.{IsRun}
 use Rattle.host_core.specs.declared.event.HostFault.TheVariants.{Full}
 use Rattle.usi_replay.specs.Playback.{Transcript}
 
@@ -70,3 +73,18 @@ IsOpenedAs old None new = IsOpened old (Refused Full) new
 abbrev pub IsClosedAs : HostState → Option SessionId → HostState → Type 0
 IsClosedAs old (Some id) new = (outcome : Outcome) × IsClosed old id (find old.slots id) outcome new
 IsClosedAs old None new = new ≡ old
+
+-- no session was opened yet
+abbrev pub IsUnused : HostState → Type 0
+IsUnused host = host.slots ≡ record { max = host.slots.max; next = 0; slots = [] }
+
+-- a work, where the event is one, may make so many steps
+abbrev pub WorksBy : ℕ → Event → Type 0
+WorksBy slice (Work id budget) = budget ≡ slice
+WorksBy slice _ = Unit {0}
+
+-- a run of the host, of which each work may make so many steps
+pub record RunsBy (slice : ℕ) (old new : HostState) : Type 0 where
+  pub steps : List Step
+  pub run : IsRun old steps new
+  pub each : All (λ step. WorksBy slice step.event) steps

@@ -9,4 +9,4 @@ mod streams;
 mod transcript;
 
 pub use fault::ReplayFault;
-pub use streams::{replay, replay_with_setup};
+pub use streams::{replay, replay_on, replay_with_setup};

@@ -4,6 +4,7 @@ ghost use Rattle.std.specs.Prelude.{◌≡◌, ◌≤◌, ◌<◌, ◌++◌, IfO
 ghost use Rattle.usi_lines.specs.Seen.{line_of};
 ghost use Rattle.usi_replay.specs.Seen.{play_of};
 ghost use Rattle.usi_replay.specs.Script.{Open, Close, Send};
+ghost use Rattle.usi_replay.specs.Sessions.{RunsBy};
 ghost use Rattle.usi_replay.specs.Playback.{KeepsPlayback, KeepsUse, CollectsAll, IsFedLine, IsSent, IsClosedAt, IsOpenedUnder, IsWhole, Plays, PlaysLine, is_used_at, place_of, transcript_section};
 
 use crate::script_line::{ScriptLine, meaning};
@@ -59,6 +60,7 @@ impl<S: BuildHasher, A: Allocator + Copy> Playback<S, A> {
         ensures all { OnOk result (CollectsAll (play_of self.old) (play_of self.new) place) }
         ensures used { OnOk result (KeepsUse (play_of self.old) (play_of self.new) place) }
         ensures len { length self.new.transcripts.items ≡ length self.old.transcripts.items }
+        ensures run { OnOk result (RunsBy self.old.slice self.old.host self.new.host) }
         ensures slice { self.new.slice ≡ self.old.slice }
     {
         let Some(id) = self.transcripts[place].open_id() else {
@@ -78,6 +80,7 @@ impl<S: BuildHasher, A: Allocator + Copy> Playback<S, A> {
         ensures fed { OnOk result (IsSent (play_of self.old) (play_of self.new) place chunk.now) }
         ensures used { OnOk result (is_used_at (play_of self.new) place ≡ true) }
         ensures len { length self.new.transcripts.items ≡ length self.old.transcripts.items }
+        ensures run { OnOk result (RunsBy self.old.slice self.old.host self.new.host) }
         ensures slice { self.new.slice ≡ self.old.slice }
     {
         self.collect(place)?;
@@ -95,6 +98,7 @@ impl<S: BuildHasher, A: Allocator + Copy> Playback<S, A> {
         requires used { is_used_at (play_of self.old) place ≡ true }
         ensures fed { OnOk result
             (IsFedLine (play_of self.old) (play_of self.new) place text.now) }
+        ensures run { OnOk result (RunsBy self.old.slice self.old.host self.new.host) }
         ensures slice { self.new.slice ≡ self.old.slice }
     {
         let mut rest = text;
@@ -114,6 +118,7 @@ impl<S: BuildHasher, A: Allocator + Copy> Playback<S, A> {
         requires least { 1 ≤ self.old.slice }
         requires used { is_used_at (play_of self.old) place ≡ true }
         ensures closed { OnOk result (IsClosedAt (play_of self.old) (play_of self.new) place) }
+        ensures run { OnOk result (RunsBy self.old.slice self.old.host self.new.host) }
         ensures slice { self.new.slice ≡ self.old.slice }
     {
         self.collect(place)?;
@@ -126,6 +131,7 @@ impl<S: BuildHasher, A: Allocator + Copy> Playback<S, A> {
     fn open(&mut self, name: u8) -> Result<(), AllocError>
         requires { 1 ≤ self.old.slice }
         ensures opened { OnOk result (IsOpenedUnder (play_of self.old) (play_of self.new) name) }
+        ensures run { OnOk result (RunsBy self.old.slice self.old.host self.new.host) }
         ensures slice { self.new.slice ≡ self.old.slice }
     {
         self.transcripts.reserve(1)?;
@@ -140,6 +146,7 @@ impl<S: BuildHasher, A: Allocator + Copy> Playback<S, A> {
     fn open_line(&mut self, name: u8) -> Result<bool, AllocError>
         requires { 1 ≤ self.old.slice }
         ensures done { Plays result (play_of self.old) (Open name) (play_of self.new) }
+        ensures run { OnOk result (RunsBy self.old.slice self.old.host self.new.host) }
         ensures slice { self.new.slice ≡ self.old.slice }
     {
         if self.place_of(name) < self.transcripts.len() {
@@ -153,6 +160,7 @@ impl<S: BuildHasher, A: Allocator + Copy> Playback<S, A> {
     fn close_line(&mut self, name: u8) -> Result<bool, AllocError>
         requires { 1 ≤ self.old.slice }
         ensures done { Plays result (play_of self.old) (Close name) (play_of self.new) }
+        ensures run { OnOk result (RunsBy self.old.slice self.old.host self.new.host) }
         ensures slice { self.new.slice ≡ self.old.slice }
     {
         let place = self.place_of(name);
@@ -167,6 +175,7 @@ impl<S: BuildHasher, A: Allocator + Copy> Playback<S, A> {
     fn send_line(&mut self, name: u8, text: &[u8]) -> Result<bool, AllocError>
         requires { 1 ≤ self.old.slice }
         ensures done { Plays result (play_of self.old) (Send name text.now) (play_of self.new) }
+        ensures run { OnOk result (RunsBy self.old.slice self.old.host self.new.host) }
         ensures slice { self.new.slice ≡ self.old.slice }
     {
         let place = self.place_of(name);
@@ -181,6 +190,7 @@ impl<S: BuildHasher, A: Allocator + Copy> Playback<S, A> {
     pub fn play_line(&mut self, line: Line<'_>) -> Result<bool, AllocError>
         requires { 1 ≤ self.old.slice }
         ensures done { PlaysLine result (play_of self.old) (line_of line.entry) (play_of self.new) }
+        ensures run { OnOk result (RunsBy self.old.slice self.old.host self.new.host) }
         ensures slice { self.new.slice ≡ self.old.slice }
     {
         match meaning(line) {
@@ -195,7 +205,9 @@ impl<S: BuildHasher, A: Allocator + Copy> Playback<S, A> {
     /// Rounds until nothing is pending; the output of the whole script.
     pub fn finish(&mut self) -> Result<Vec<u8, A>, AllocError>
         requires { 1 ≤ self.old.slice }
-        ensures { IfOk result (λ out. IsWhole (play_of self.old) out.items) }
+        ensures whole { IfOk result (λ out. IsWhole (play_of self.old) out.items) }
+        ensures kept { OnOk result (KeepsPlayback (play_of self.old) (play_of self.new)) }
+        ensures run { OnOk result (RunsBy self.old.slice self.old.host self.new.host) }
     {
         let mut out = Vec::new(self.alloc);
         for i in 0..self.transcripts.len() {

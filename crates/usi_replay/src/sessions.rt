@@ -1,10 +1,10 @@
 //! The sessions of a host: worked off, fed, opened and closed.
 
-ghost use Rattle.std.specs.Prelude.{◌≡◌, ◌≤◌, false, IfOk, OnOk};
+ghost use Rattle.std.specs.Prelude.{◌≡◌, ◌≤◌, ℕ, false, IfOk, OnOk};
 ghost use Rattle.session_slots.specs.Slots.{find};
 ghost use Rattle.host_core.specs.ById.{pending_of};
 ghost use Rattle.usi_replay.specs.Playback.{IsSameButForMade};
-ghost use Rattle.usi_replay.specs.Sessions.{KeepsDue, KeepsAllBut, HandsOver, IsFed, IsOpenedAs, IsClosedAs, NeedFewerWorks};
+ghost use Rattle.usi_replay.specs.Sessions.{KeepsDue, KeepsAllBut, HandsOver, IsFed, IsOpenedAs, IsClosedAs, NeedFewerWorks, RunsBy};
 
 use crate::transcript::Transcript;
 use host_core::{Host, HostFault};
@@ -20,6 +20,7 @@ pub fn work_round<S: BuildHasher, A: Allocator + Copy>(
     requires { 1 ≤ slice }
     ensures due { OnOk result (KeepsDue host.old host.new) }
     ensures fewer { OnOk result (NeedFewerWorks host.old host.new) }
+    ensures run { RunsBy slice host.old host.new }
 {
     if host.round(slice).refused != 0 {
         return Err(AllocError);
@@ -36,6 +37,7 @@ pub fn settle<S: BuildHasher, A: Allocator + Copy>(
     requires { 1 ≤ slice }
     ensures due { OnOk result (KeepsDue host.old host.new) }
     ensures settled { OnOk result (pending_of (find host.new.slots id) ≡ false) }
+    ensures run { OnOk result (RunsBy slice host.old host.new) }
 {
     'rounds: while host.pending(id) {
         work_round(host, slice)?;
@@ -53,6 +55,7 @@ pub fn take_output<S: BuildHasher, A: Allocator + Copy>(
     ensures collected { OnOk result
         (HandsOver host.old host.new id transcript.old transcript.new) }
     ensures rest { OnOk result (IsSameButForMade transcript.old transcript.new) }
+    ensures run { OnOk result ((slice : ℕ) → RunsBy slice host.old host.new) }
 {
     let Some(bytes) = host.output(id) else {
         return Ok(());
@@ -73,6 +76,7 @@ pub fn feed<S: BuildHasher, A: Allocator + Copy>(
 ) -> Result<(), AllocError>
     ensures others { OnOk result (KeepsAllBut host.old host.new id) }
     ensures fed { OnOk result (IsFed (find host.old.slots id) (find host.new.slots id) chunk.now) }
+    ensures run { OnOk result ((slice : ℕ) → RunsBy slice host.old host.new) }
 {
     if host.is_over(id) {
         return Ok(());
@@ -87,7 +91,8 @@ pub fn feed<S: BuildHasher, A: Allocator + Copy>(
 pub fn open<S: BuildHasher, A: Allocator + Copy>(
     host: &mut Host<S, A>,
 ) -> Result<Option<SessionId>, AllocError>
-    ensures { IfOk result (λ id. IsOpenedAs host.old id host.new) }
+    ensures opened { IfOk result (λ id. IsOpenedAs host.old id host.new) }
+    ensures run { OnOk result ((slice : ℕ) → RunsBy slice host.old host.new) }
 {
     match host.open() {
         Ok(id) => Ok(Some(id)),
@@ -98,7 +103,8 @@ pub fn open<S: BuildHasher, A: Allocator + Copy>(
 
 /// Closes a session, if there is one.
 pub fn close<S: BuildHasher, A: Allocator + Copy>(host: &mut Host<S, A>, id: Option<SessionId>)
-    ensures { IsClosedAs host.old id host.new }
+    ensures closed { IsClosedAs host.old id host.new }
+    ensures run { (slice : ℕ) → RunsBy slice host.old host.new }
 {
     if let Some(id) = id {
         let _closed = host.close(id);

@@ -3,7 +3,8 @@
 ghost use Rattle.std.specs.Prelude.{◌≤◌, OnOk, IfOk, IfErr};
 ghost use Rattle.std.specs.Io.KnownBytes.{Keeps};
 ghost use Rattle.usi_texts.specs.Setup.{default_setup};
-ghost use Rattle.usi_replay.specs.Replayed.{GivesAllIn, IsAnswerOf, Leaves, ReadsBy, Recites, Replays};
+ghost use Rattle.usi_replay.specs.Replayed.{GivesAllIn, IsAnswerOn, Leaves, ReadsBy, Recites, Replays, ReplaysAsked, ReplaysOn};
+ghost use Rattle.usi_replay.specs.Sessions.{IsUnused};
 ghost use Rattle.session_slots.specs.declared.limits.TheConstants.{SESSIONS_MAX};
 ghost use Rattle.shared_table.specs.declared.table.TheConstants.{CAPACITY_MAX};
 
@@ -11,7 +12,7 @@ use crate::fault::ReplayFault;
 use crate::playback::Playback;
 use host_core::Host;
 use std::alloc::Allocator;
-use std::hash::{BuildHasherDefault, FoldHasher};
+use std::hash::{BuildHasher, BuildHasherDefault, FoldHasher};
 use usi_lines::first_line;
 use usi_session::CHUNK_MAX;
 use usi_stdio::{FrontEnd, write_out};
@@ -43,26 +44,17 @@ fn read_all<A: Allocator, T: FrontEnd>(
     Err(ReplayFault::ReadFailed)
 }
 
-/// The output of a script under a setup.
-fn output_of<A: Allocator + Copy>(
+/// The output of a script, which a host plays, with the host as it is left.
+fn output_of<S: BuildHasher + Drop, A: Allocator + Copy>(
     alloc: A,
-    setup: Setup,
+    host: Host<S, A>,
     script: &[u8],
-    slots: usize,
-    entries: usize,
     slice: u64,
-) -> Result<Vec<u8, A>, ReplayFault>
-    requires least_slots { 1 ≤ slots }
-    requires most_slots { slots ≤ SESSIONS_MAX }
-    requires least_entries { 1 ≤ entries }
-    requires most_entries { entries ≤ CAPACITY_MAX }
+) -> Result<(Host<S, A>, Vec<u8, A>), ReplayFault>
+    requires unused { IsUnused host }
     requires least_slice { 1 ≤ slice }
-    ensures { IsAnswerOf setup slots script.now result }
+    ensures { IsAnswerOn slice host script.now result }
 {
-    let hasher = BuildHasherDefault::<FoldHasher>::new();
-    let Ok(host) = Host::with_setup(alloc, setup, slots, entries, hasher) else {
-        return Err(ReplayFault::OutOfMemory);
-    };
     let mut playback = Playback {
         alloc,
         slice,
@@ -84,7 +76,7 @@ fn output_of<A: Allocator + Copy>(
     let Ok(out) = playback.finish() else {
         return Err(ReplayFault::OutOfMemory);
     };
-    Ok(out)
+    Ok((playback.host, out))
 }
 
 /// `replay_with_setup` under the default setup.
@@ -102,6 +94,8 @@ pub fn replay<A: Allocator + Copy, T: FrontEnd>(
     requires least_slice { 1 ≤ slice }
     ensures ok { OnOk result
         (Replays default_setup slots (T.report front_end.old) (T.report front_end.new)) }
+    ensures host { OnOk result (ReplaysAsked default_setup slots entries slice
+        (T.report front_end.old) (T.report front_end.new)) }
     ensures err { IfErr result
         (Leaves default_setup slots (T.report front_end.old) (T.report front_end.new)) }
     ensures calls { Recites default_setup slots
@@ -146,15 +140,45 @@ pub fn replay_with_setup<A: Allocator + Copy, T: FrontEnd>(
     requires least_slice { 1 ≤ slice }
     ensures ok { OnOk result
         (Replays setup slots (T.report front_end.old) (T.report front_end.new)) }
+    ensures host { OnOk result (ReplaysAsked setup slots entries slice
+        (T.report front_end.old) (T.report front_end.new)) }
     ensures err { IfErr result
         (Leaves setup slots (T.report front_end.old) (T.report front_end.new)) }
     ensures calls { Recites setup slots
         (T.report front_end.old).calls (T.report front_end.new).calls result }
 {
+    let hasher = BuildHasherDefault::<FoldHasher>::new();
+    let Ok(host) = Host::with_setup(alloc, setup, slots, entries, hasher) else {
+        return Err(ReplayFault::OutOfMemory);
+    };
+    match replay_on(alloc, host, front_end, slice) {
+        Ok(_host) => Ok(()),
+        Err(fault) => Err(fault),
+    }
+}
+
+/// Replays a script as `replay_with_setup` does, over a host that opened no session yet, whatever
+/// its table has: under its setup, by its sessions alone. Gives the host back as the script left
+/// it: sessions whose names are in use are open. After a fault the host is gone.
+pub fn replay_on<S: BuildHasher + Drop, A: Allocator + Copy, T: FrontEnd>(
+    alloc: A,
+    host: Host<S, A>,
+    front_end: &mut T,
+    slice: u64,
+) -> Result<Host<S, A>, ReplayFault>
+    requires unused { IsUnused host }
+    requires least_slice { 1 ≤ slice }
+    ensures ok { IfOk result
+        (λ after. ReplaysOn slice host after (T.report front_end.old) (T.report front_end.new)) }
+    ensures err { IfErr result (Leaves host.setup host.slots.max
+        (T.report front_end.old) (T.report front_end.new)) }
+    ensures calls { Recites host.setup host.slots.max
+        (T.report front_end.old).calls (T.report front_end.new).calls result }
+{
     let script = read_all(alloc, front_end)?;
-    let out = output_of(alloc, setup, script.as_slice(), slots, entries, slice)?;
+    let (host, out) = output_of(alloc, host, script.as_slice(), slice)?;
     match write_out(front_end, out.as_slice()) {
-        Ok(()) => Ok(()),
+        Ok(()) => Ok(host),
         Err(_) => Err(ReplayFault::WriteFailed),
     }
 }

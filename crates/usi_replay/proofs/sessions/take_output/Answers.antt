@@ -1,7 +1,10 @@
-use Rattle.std.proofs.Common.{◌≡◌, ◌∙◌, ap, false, refl, sym}
+use Rattle.std.proofs.Common.{◌≡◌, ◌∙◌, ap, false, length, refl, sym}
 use Rattle.std.specs.Prelude.{is_err}
+use Rattle.host_core.specs.Events.{Take}
+use Rattle.host_core.specs.Seen.{passed_from}
 use Rattle.usi_replay.specs.Playback.{Transcript}
 use Rattle.usi_replay.proofs.Rounds.{but_for_made, collects, collects_none, on_keeps}
+use Rattle.usi_replay.proofs.Running.{runs_none, runs_step}
 use Rattle.usi_replay.proofs.sessions.take_output.Goals as goal
 
 -- the bytes were passed
@@ -18,3 +21,10 @@ returns-clause-rest g c = but_for_made c.args.transcript.now c.append.new.self _
 
 pub returns-in_default-clause-collected : goal.returns-in_default-clause-collected
 returns-in_default-clause-collected g c = collects_none _ c.args.transcript.now.made c.in_default.ensures
+
+pub returns-in_default-clause-run : goal.returns-in_default-clause-run
+returns-in_default-clause-run g c = λ slice. runs_none slice _ _ refl
+
+pub returns-clause-run : goal.returns-clause-run
+returns-clause-run g c = λ slice.
+    runs_step slice c.args.host.now c.pass.new.self (Take c.args.id (length c.in-Some.bytes.now)) (passed_from c.args.host.now c.args.id (length c.in-Some.bytes.now) c.pass.result) c.pass.ensures.below c.pass.ensures.taken tt

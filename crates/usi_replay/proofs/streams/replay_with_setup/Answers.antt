@@ -1,37 +1,10 @@
-use Rattle.usi_replay.proofs.Reading.{replays, leaves_write, leaves_read, leaves_answer, passed_on, recites_read, recites_none, recites_out, recites_part}
+use Rattle.usi_replay.proofs.Reading.{recites_fault, replays_asked}
 use Rattle.usi_replay.proofs.streams.replay_with_setup.Goals as goal
 
--- the script was not read
-pub returns-in_err-script-clause-err : goal.returns-in_err-script-clause-err
-returns-in_err-script-clause-err g c =
-    passed_on c.from_residual.result _ _ c.from_residual.ensures.1 (leaves_read c.args.setup c.args.slots (g.T.FrontEnd.report c.args.front_end.now) (g.T.FrontEnd.report c.read_all.new.front_end) c.in_err-script.field-0.0 c.in_err-script.ensures.calls c.in_err-script.ensures.kept)
+pub returns-in-Ok-replay_on-clause-host : goal.returns-in-Ok-replay_on-clause-host
+returns-in-Ok-replay_on-clause-host g c =
+    replays_asked c.args.setup c.args.slots c.args.entries c.args.slice c.in-Ok.host c.in-Ok-replay_on._host _ _ c.in-Ok.ensures.new c.in-Ok-replay_on.ensures.ok
 
-pub returns-in_err-script-clause-calls : goal.returns-in_err-script-clause-calls
-returns-in_err-script-clause-calls g c =
-    recites_read c.args.setup c.args.slots _ _ c.from_residual.result _ c.from_residual.ensures.1 c.in_err-script.ensures.calls
-
--- it has no output
-pub returns-in_err-out-clause-err : goal.returns-in_err-out-clause-err
-returns-in_err-out-clause-err g c =
-    passed_on c.from_residual-in_err-out.result _ _ c.from_residual-in_err-out.ensures.1 (leaves_answer c.args.setup c.args.slots (g.T.FrontEnd.report c.args.front_end.now) (g.T.FrontEnd.report c.read_all.new.front_end) c.as_slice.result.now c.in_err-out.field-0.0 (rw c.as_slice.ensures.value c.in_ok-script.ensures.read) c.in_err-out.ensures c.in_ok-script.ensures.kept)
-
-pub returns-in_err-out-clause-calls : goal.returns-in_err-out-clause-calls
-returns-in_err-out-clause-calls g c =
-    recites_none c.args.setup c.args.slots _ _ c.in_ok-script.script c.as_slice.result.now c.from_residual-in_err-out.result _ c.from_residual-in_err-out.ensures.1 c.in_ok-script.ensures.calls c.as_slice.ensures.value c.in_err-out.ensures
-
-pub returns-in-Ok-clause-ok : goal.returns-in-Ok-clause-ok
-returns-in-Ok-clause-ok g c =
-    replays c.args.setup c.args.slots (g.T.FrontEnd.report c.args.front_end.now) (g.T.FrontEnd.report c.read_all.new.front_end) (g.T.FrontEnd.report c.write_out.new.front_end) c.as_slice.result.now c.in_ok-out.out.items (rw c.as_slice.ensures.value c.in_ok-script.ensures.read) c.in_ok-script.ensures.kept c.in_ok-out.ensures (rw c.as_slice-2.ensures.value at c.in-Ok.ensures.ok)
-
-pub returns-in-Ok-clause-calls : goal.returns-in-Ok-clause-calls
-returns-in-Ok-clause-calls g c =
-    recites_out c.args.setup c.args.slots _ (g.T.FrontEnd.report c.read_all.new.front_end) (g.T.FrontEnd.report c.write_out.new.front_end) c.in_ok-script.script c.as_slice.result.now c.in_ok-out.out.items _ c.in_ok-script.ensures.calls c.as_slice.ensures.value c.in_ok-out.ensures (rw c.as_slice-2.ensures.value at c.in-Ok.ensures.ok)
-
--- a write failed
-pub returns-clause-err : goal.returns-clause-err
-returns-clause-err g c =
-    leaves_write c.args.setup c.args.slots (g.T.FrontEnd.report c.args.front_end.now) (g.T.FrontEnd.report c.read_all.new.front_end) (g.T.FrontEnd.report c.write_out.new.front_end) c.as_slice.result.now c.in_ok-out.out.items c.in-Err.field-0 (rw c.as_slice.ensures.value c.in_ok-script.ensures.read) c.in_ok-script.ensures.kept c.in_ok-out.ensures (rw c.as_slice-2.ensures.value at c.in-Err.ensures.err)
-
-pub returns-clause-calls : goal.returns-clause-calls
-returns-clause-calls g c =
-    recites_part c.args.setup c.args.slots _ (g.T.FrontEnd.report c.read_all.new.front_end) (g.T.FrontEnd.report c.write_out.new.front_end) c.in_ok-script.script c.as_slice.result.now c.in_ok-out.out.items _ c.in_ok-script.ensures.calls c.as_slice.ensures.value c.in_ok-out.ensures (rw c.as_slice-2.ensures.value at c.in-Err.ensures.err) c.in-Err.ensures.fault
+pub returns-in-Err-clause-calls : goal.returns-in-Err-clause-calls
+returns-in-Err-clause-calls g c =
+    recites_fault c.args.setup c.args.slots c.args.entries c.in-Ok.host _ _ c.in-Err.fault c.in-Ok.ensures.new c.in-Err.ensures.calls

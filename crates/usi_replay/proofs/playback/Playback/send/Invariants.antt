@@ -1,5 +1,6 @@
 use Rattle.std.proofs.Common.{◌≡◌, length, get_or, true}
 use Rattle.usi_replay.specs.Playback.{no_transcript}
+use Rattle.usi_replay.specs.Sessions.{RunsBy}
 use Rattle.usi_replay.proofs.Transcripts.{IsFedTo}
 use Rattle.usi_replay.proofs.playback.Playback.send.Given as goal
 
@@ -9,6 +10,7 @@ invariant-chunks g l = record {
   used : (get_or l.self.transcripts.items l.place no_transcript).in_use ≡ true;
   len : length l.self.transcripts.items ≡ length l.fn.self.transcripts.items;
   slice : l.self.slice ≡ l.fn.self.slice;
+  run : RunsBy l.fn.self.slice l.fn.self.host l.self.host;
 }
 
 abbrev pub decreases-chunks : goal.decreases-chunks
