@@ -1,7 +1,7 @@
 -- A drop that changes nothing of what a reply refutes is worth no more than what that leaves.
 use Rattle.std.proofs.Common.{◌≡◌, ◌≢◌, ◌⊎◌, ℕ, ℤ, pos, ◌-◌, ◌^◌, ◌<◌, bit_and, ◌+ℤ◌, ◌≤ℤ◌, true, false, Bool, Option, Some, None, refl, sym, ap, subst, ◌∙◌, inl, inr, arith, set, length, get_or-set_same, get_or-set_other}
 use Rattle.std.specs.Prelude.{is_none}
-use Rattle.std.proofs.lemmas.Bool.{both_ways, cases_eq, false_from_ne_true}
+use Rattle.std.proofs.lemmas.Bool.{both_ways, cases_eq, false_from_ne_true, ltb-true}
 use Rattle.std.proofs.lemmas.Int.{ints}
 use Rattle.shogi_core.specs.declared.moves.Move.{Move}
 use Rattle.shogi_core.specs.declared.moves.Move.TheVariants.{Board, Drop}
@@ -14,13 +14,14 @@ use Rattle.shogi_core.specs.Cell.{is_king}
 use Rattle.shogi_core.specs.Codes.{code_of}
 use Rattle.shogi_core.specs.Movement.{Cells, cell_reaches, piece_at}
 use Rattle.shogi_core.specs.Pieces.{opponent_of}
-use Rattle.shogi_core.specs.Position.{Shogi}
+use Rattle.shogi_core.specs.Position.{Shogi, count_in_hand}
 use Rattle.shogi_core.specs.Validity.{IsValid}
 use Rattle.shogi_core.proofs.Discovered.{reach_was}
 use Rattle.shogi_moves.specs.After.{after, dropped}
 use Rattle.shogi_moves.specs.Legal.{is_legal, is_pawn_drop}
 use Rattle.shogi_moves.proofs.MovedPieces.{opponent_twice}
 use Rattle.shogi_replies.specs.ReplyInfo.{IsHarmless}
+use Rattle.shogi_replies.proofs.ReplyLaws.{other_counts}
 use Rattle.shogi_eval.specs.declared.eval.Eval.{Eval}
 use Rattle.shogi_eval.specs.Material.{material_of}
 use Rattle.shogi_eval.proofs.Gains.{gain_of}
@@ -85,11 +86,19 @@ drops_dull p e kind r gains king squares t free touched among idle v shut there 
     (spared to h (out_parts free touched to fits h (sym (ap (λ (m : ℕ). has_bit m to) meet) ∙ within to set)).1)
     quiet (all to h set) low room
 
--- the same of a position that is that one
-pub scene_dull : (p q : Shogi) (e f : Eval) (kind : Kind) (r : Move) (gains king squares : ℕ) (t : ℤ) (free touched among idle : ℕ) → q ≡ after_reply p r → f ≡ e → IsValid p → in_check p.cells p.side ≡ false → IsOnSquares r → is_legal (passed p) r ≡ true → is_pawn_drop r ≡ false → AreNonInterfering r touched → touched < 2 ^ 81 → among ≡ bit_and free (2 ^ 128 - 1 - touched)
-    → IsQuietThere q f gains king squares → lost_value 1 ≤ℤ t → (material_of q f +ℤ pos gains) ≤ℤ t → ((n : ℕ) → has_bit idle n ≡ true → has_bit among n ≡ true) → AreIdle q f gains king squares kind idle → DropsAreWorthAtMost p e t kind idle
-scene_dull p q e f kind r gains king squares t free touched among idle is alike v shut there lr plain spared fits meet quiet low room within all =
-    drops_dull p e kind r gains king squares t free touched among idle v shut there lr plain spared fits meet
+-- a side that drops a piece after a pass and a reply held one before
+held_there : (p : Shogi) (kind : Kind) (b : ℕ) (r : Move) → is_legal p (Drop kind b) ≡ true → 0 < count_in_hand (after_reply p r).hands (after_reply p r).side kind
+held_there p kind b r legal =
+    subst (λ (n : ℕ). 0 < n) (sym (other_counts (passed p) r kind ∙ ap (λ (color : Color). count_in_hand p.hands color kind) (opponent_twice p.side))) (ltb-true 0 (count_in_hand p.hands p.side kind) (drop_parts p kind b legal).0)
+
+-- the same of a position that is that one, where the squares are idle if a piece of the kind is held
+pub scene_dull : (p q : Shogi) (e f : Eval) (kind : Kind) (r : Move) (gains king squares : ℕ) (t : ℤ) (free touched among all idle : ℕ) → q ≡ after_reply p r → f ≡ e → IsValid p → in_check p.cells p.side ≡ false → IsOnSquares r → is_legal (passed p) r ≡ true → is_pawn_drop r ≡ false → AreNonInterfering r touched → touched < 2 ^ 81 → among ≡ bit_and free (2 ^ 128 - 1 - touched)
+    → IsQuietThere q f gains king squares → lost_value 1 ≤ℤ t → (material_of q f +ℤ pos gains) ≤ℤ t → ((n : ℕ) → has_bit idle n ≡ true → has_bit all n ≡ true) → ((n : ℕ) → has_bit all n ≡ true → has_bit among n ≡ true) → (0 < count_in_hand q.hands q.side kind → AreIdle q f gains king squares kind all) → DropsAreWorthAtMost p e t kind idle
+scene_dull p q e f kind r gains king squares t free touched among all idle is alike v shut there lr plain spared fits meet quiet low room fewer within each to h set legal =
+    let held : 0 < count_in_hand q.hands q.side kind = subst (λ (x : Shogi). 0 < count_in_hand x.hands x.side kind) (sym is) (held_there p kind to r legal) in
+    let some : AreIdle q f gains king squares kind all = each held in
+    drops_dull p e kind r gains king squares t free touched among all v shut there lr plain spared fits meet
     (subst (λ (x : Shogi). IsQuietThere x e gains king squares) is (subst (λ (y : Eval). IsQuietThere q y gains king squares) alike quiet)) within
-    (subst (λ (x : Shogi). AreIdle x e gains king squares kind idle) is (subst (λ (y : Eval). AreIdle q y gains king squares kind idle) alike all)) low
+    (subst (λ (x : Shogi). AreIdle x e gains king squares kind all) is (subst (λ (y : Eval). AreIdle q y gains king squares kind all) alike some)) low
     (subst (λ (x : Shogi). (material_of x e +ℤ pos gains) ≤ℤ t) is (subst (λ (y : Eval). (material_of q y +ℤ pos gains) ≤ℤ t) alike room))
+    to h (fewer to set) legal

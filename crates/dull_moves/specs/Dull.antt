@@ -4,7 +4,6 @@ use Rattle.shogi_core.specs.declared.moves.Move.{Move}
 use Rattle.shogi_core.specs.declared.moves.Move.TheVariants.{Board, Drop}
 use Rattle.shogi_core.specs.declared.piece.Color.{Color}
 use Rattle.shogi_core.specs.declared.piece.Kind.{Kind}
-use Rattle.shogi_core.specs.declared.piece.Kind.TheVariants as kinds
 use Rattle.shogi_core.specs.declared.piece.Piece.{Piece}
 use Rattle.shogi_core.specs.Bits.{has_bit}
 use Rattle.shogi_core.specs.Cell.{HasNoOtherKing, is_immobile, is_king, is_piece_of}
@@ -146,16 +145,6 @@ abbrev pub AreIdle : Shogi → Eval → ℕ → ℕ → ℕ → Kind → ℕ →
 AreIdle q e gains king squares kind set =
     (n : ℕ) → n < 81 → has_bit set n ≡ true → IsIdle q e gains king squares kind n
 
--- the squares of the drops of a kind
-abbrev pub squares_of : DullDrops → Kind → ℕ
-squares_of d kinds.Pawn = d.pawn.bits
-squares_of d kinds.Lance = d.lance.bits
-squares_of d kinds.Knight = d.knight.bits
-squares_of d kinds.Silver = d.silver.bits
-squares_of d kinds.Gold = d.gold.bits
-squares_of d kinds.Bishop = d.bishop.bits
-squares_of d kinds.Rook = d.rook.bits
-
 -- no legal drop of the kind on the squares is worth more than so much, with three plies left
 abbrev pub DropsAreWorthAtMost : Shogi → Eval → ℤ → Kind → ℕ → Type 0
 DropsAreWorthAtMost p e most kind squares = (to : ℕ) → to < 81 → has_bit squares to ≡ true
@@ -163,4 +152,4 @@ DropsAreWorthAtMost p e most kind squares = (to : ℕ) → to < 81 → has_bit s
 
 -- so it is of each kind
 abbrev pub AreDull : Shogi → Eval → DullDrops → Type 0
-AreDull p e d = (kind : Kind) → DropsAreWorthAtMost p e d.most kind (squares_of d kind)
+AreDull p e d = (kind : Kind) → DropsAreWorthAtMost p e d.most kind d.squares.bits

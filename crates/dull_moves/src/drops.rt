@@ -4,7 +4,7 @@ ghost use Rattle.std.specs.Prelude.{◌≡◌, ◌≤ℤ◌, ◌<ℤ◌, ◌+ℤ
 ghost use Rattle.shogi_moves.specs.Legal.{is_pawn_drop};
 ghost use Rattle.shogi_eval.specs.Material.{material_of};
 ghost use Rattle.minimax.specs.declared.bounds.TheConstants.{INFINITY};
-ghost use Rattle.dull_moves.specs.Dull.{AreDull, AreNonInterfering, IsOnSquares, squares_of};
+ghost use Rattle.dull_moves.specs.Dull.{AreDull, AreNonInterfering, IsOnSquares};
 
 use crate::scene::{Scene, dear_squares};
 use minimax::MATE;
@@ -13,17 +13,11 @@ use shogi_eval::Node;
 use shogi_moves::{in_check, is_legal};
 use shogi_replies::{escape_squares, squares_between};
 
-/// Squares of the drops of each kind, none of which is worth more than so much, with three plies left.
+/// Squares on which no drop, of any kind, is worth more than so much, with three plies left.
 #[derive(Clone, Copy, Debug)]
 pub struct DullDrops {
     pub most: i32,
-    pub pawn: Squares,
-    pub lance: Squares,
-    pub knight: Squares,
-    pub silver: Squares,
-    pub gold: Squares,
-    pub bishop: Squares,
-    pub rook: Squares,
+    pub squares: Squares,
 }
 
 /// The squares of a move, and those between.
@@ -85,23 +79,8 @@ fn scene_of(node: Node, most: i32) -> Option<Scene>
 }
 
 impl DullDrops {
-    /// The squares of a kind.
-    pub fn squares(&self, kind: Kind) -> Squares
-        ensures { result.bits ≡ squares_of self.now kind }
-    {
-        match kind {
-            Kind::Pawn => self.pawn,
-            Kind::Lance => self.lance,
-            Kind::Knight => self.knight,
-            Kind::Silver => self.silver,
-            Kind::Gold => self.gold,
-            Kind::Bishop => self.bishop,
-            Kind::Rook => self.rook,
-        }
-    }
-
-    /// The squares of drops that the reply refutes since they change nothing of what it leaves: none is
-    /// worth more than so much. None where the reply is not legal after a pass, or drops a pawn, or
+    /// The squares of drops that the reply refutes since they change nothing of what it leaves, of
+    /// whichever kind: none is worth more than so much. None where the reply is not legal after a pass, or drops a pawn, or
     /// leaves the side to move more, or the king that it defends no square to go to after some move.
     pub fn of(node: &Node, reply: Move, most: i32) -> Option<DullDrops>
         requires most { most <ℤ INFINITY }
@@ -125,16 +104,14 @@ impl DullDrops {
         if !scene.is_quiet() {
             return None;
         }
-        let squares = p.as_board().free().without(touched);
-        Some(DullDrops {
-            most,
-            pawn: scene.idle_squares(Kind::Pawn, squares),
-            lance: scene.idle_squares(Kind::Lance, squares),
-            knight: scene.idle_squares(Kind::Knight, squares),
-            silver: scene.idle_squares(Kind::Silver, squares),
-            gold: scene.idle_squares(Kind::Gold, squares),
-            bishop: scene.idle_squares(Kind::Bishop, squares),
-            rook: scene.idle_squares(Kind::Rook, squares),
-        })
+        let free = p.as_board().free().without(touched);
+        let pawn = scene.idle_squares(Kind::Pawn, free);
+        let lance = scene.idle_squares(Kind::Lance, pawn);
+        let knight = scene.idle_squares(Kind::Knight, lance);
+        let silver = scene.idle_squares(Kind::Silver, knight);
+        let gold = scene.idle_squares(Kind::Gold, silver);
+        let bishop = scene.idle_squares(Kind::Bishop, gold);
+        let squares = scene.idle_squares(Kind::Rook, bishop);
+        Some(DullDrops { most, squares })
     }
 }

@@ -213,11 +213,16 @@ impl Scene {
         self.is_calm(cell, to, reach.without(own), self.squares)
     }
 
-    /// Those of the squares on which it is so.
+    /// Those of the squares on which it is so, if a piece of the kind is held, and else all of them.
     pub fn idle_squares(&self, kind: Kind, squares: Squares) -> Squares
         ensures among { (n : ℕ) → has_bit result.bits n ≡ true → has_bit squares.bits n ≡ true }
-        ensures idle { AreIdle self.now.node.position self.now.node.eval self.now.gains self.now.king self.now.squares.bits kind result.bits }
+        ensures idle { 0 < count_in_hand self.now.node.position.hands self.now.node.position.side kind
+            → AreIdle self.now.node.position self.now.node.eval self.now.gains self.now.king self.now.squares.bits kind result.bits }
     {
+        let p = self.node.as_position();
+        if p.hand(p.side(), kind) == 0 {
+            return squares;
+        }
         let mut left = squares.bits;
         let mut kept = squares.bits;
         while left != 0 {

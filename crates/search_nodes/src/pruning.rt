@@ -567,7 +567,7 @@ impl Frame {
         ensures lost { result ≡ true → IsLost self.new current.now }
         ensures unchanged { KeepsMoves self.old self.new }
     {
-        let Move::Drop { kind, to } = current else {
+        let Move::Drop { to, .. } = current else {
             return false;
         };
         if !self.has_move && self.best_move.is_none() {
@@ -578,7 +578,7 @@ impl Frame {
         current.reveal_invariant();
         to.reveal_invariant();
         match &self.dull {
-            Some(dull) => dull.most <= move_alpha && dull.squares(*kind).has(*to),
+            Some(dull) => dull.most <= move_alpha && dull.squares.has(*to),
             None => false,
         }
     }

@@ -13,6 +13,8 @@ mod counted;
 #[cfg(test)]
 mod counts;
 #[cfg(test)]
+mod dull;
+#[cfg(test)]
 mod exchanges;
 #[cfg(test)]
 mod forgetful;

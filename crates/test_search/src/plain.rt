@@ -1,5 +1,6 @@
 //! The search written plainly, to count with: it calls itself, and remembers in a list.
 
+use crate::dull::Dull;
 use crate::exchanges::left_after;
 use shogi_core::{Board, Color, KINDS, Move, Piece, Position, Role, Square};
 use shogi_eval::{Eval, drop_gain, material, taken_gain};
@@ -390,14 +391,14 @@ fn only_king(p: &Position, side: Color) -> Option<Square> {
 /// Where the other side's only king may go, as far as the pieces stand that are there now: each square by
 /// its number.
 #[derive(Clone, Copy, Debug)]
-struct Escapes {
-    king: Square,
-    are_open: [bool; 81],
+pub struct Escapes {
+    pub king: Square,
+    pub are_open: [bool; 81],
 }
 
 /// Squares that the king reaches, on which no piece of its own stands, and that are not attacked once the
 /// king is off the board.
-fn escapes_of(p: &Position) -> Option<Escapes> {
+pub fn escapes_of(p: &Position) -> Option<Escapes> {
     let side = p.side().opponent();
     let king = only_king(p, side)?;
     let lifted = p.board().put(king, None);
@@ -413,7 +414,7 @@ fn escapes_of(p: &Position) -> Option<Escapes> {
 }
 
 /// Whether the second square is between the others, on one file, rank or diagonal with them.
-fn is_between(from: Square, over: Square, to: Square) -> bool {
+pub fn is_between(from: Square, over: Square, to: Square) -> bool {
     are_on_a_line(from, over)
         && are_on_a_line(over, to)
         && are_on_a_line(from, to)
@@ -551,12 +552,12 @@ struct Threat {
 }
 
 /// The square of a number, from 0 to 80.
-fn square(number: u8) -> Square {
+pub fn square(number: u8) -> Square {
     Square::new(number / 9 + 1, number % 9 + 1).unwrap_or(Square::default())
 }
 
 /// Whether two squares are on a file, a rank or a diagonal.
-fn are_on_a_line(a: Square, b: Square) -> bool {
+pub fn are_on_a_line(a: Square, b: Square) -> bool {
     let (files, ranks) = (a.file().abs_diff(b.file()), a.rank().abs_diff(b.rank()));
     files == 0 || ranks == 0 || files == ranks
 }
@@ -942,13 +943,30 @@ fn visit(
         is_looked_for: false,
         threats: [None, None],
     };
+    let mut dull = None;
+    let mut is_dull_known = false;
     for turn in 0..8u8 {
         for branch in branches.as_slice() {
             let move_alpha = move_alpha(best_value, best, branch.code);
             if branch.turn != turn {
                 continue;
             }
-            if depth == 2 && outlook.leaves_out(p, branch, e, beta, move_alpha) {
+            // Before the first drop that comes after another move, the last reply is looked at, once.
+            let is_late = outlook.has_weak || best.is_some();
+            let is_drop = depth == 3 && is_late && branch.from.is_none();
+            if is_drop && !is_dull_known {
+                if let Some(reply) = notes.reply_at(2) {
+                    is_dull_known = true;
+                    dull = Dull::of(p, e, reply, move_alpha);
+                }
+            }
+            let is_dull = match &dull {
+                Some(dull) => is_drop && dull.most <= move_alpha && dull.is_dull(branch.to),
+                None => false,
+            };
+            if is_dull {
+                outlook.has_weak = true;
+            } else if depth == 2 && outlook.leaves_out(p, branch, e, beta, move_alpha) {
                 outlook.has_weak = true;
             } else {
                 let (under, over) = (beta.saturating_neg(), move_alpha.saturating_neg());

@@ -8,7 +8,7 @@ use Rattle.shogi_moves.specs.Legal.{is_legal}
 use Rattle.shogi_moves.proofs.LegalLaws.{listed_to_legal}
 use Rattle.shogi_eval.specs.Evaluated.{Evaluated}
 use Rattle.minimax.specs.Minimax.{worth}
-use Rattle.dull_moves.specs.Dull.{AreDull, squares_of}
+use Rattle.dull_moves.specs.Dull.{AreDull}
 use Rattle.search_nodes.specs.declared.frame.Frame.{Frame}
 use Rattle.search_nodes.specs.Frames.{move_alpha_of, worth_of}
 use Rattle.search_nodes.proofs.Nodes.{waits}
@@ -24,7 +24,7 @@ returns-then-dull-move_alpha-clause-lost c = λ yes.
     let legal : is_legal f.node.position m ≡ true = listed_to_legal _ _ c.reveal_invariant.ensures.back w.is_listed in
     let dropped : is_legal f.node.position (Drop c.in-Drop.kind c.in-Drop.to) ≡ true = subst (λ (x : Move). is_legal f.node.position x ≡ true) c.in-Drop.is legal in
     let dull : AreDull f.node.position f.node.eval c.in-Some.dull = subst (λ (n : Evaluated). AreDull n.position n.eval c.in-Some.dull) c.look_for_dull.ensures.0.0 (g.refuted c.in-Some.dull c.in-Some.is) in
-    let set : has_bit (squares_of c.in-Some.dull c.in-Drop.kind) c.in-Drop.to ≡ true = ap (λ (bits : ℕ). has_bit bits c.in-Drop.to) (sym c.squares.ensures) ∙ (sym c.has.ensures ∙ yes) in
+    let set : has_bit c.in-Some.dull.squares.bits c.in-Drop.to ≡ true = sym c.has.ensures ∙ yes in
     let few : worth f.node.position f.node.eval 2 (code_of (Drop c.in-Drop.kind c.in-Drop.to)) ≤ℤ c.in-Some.dull.most = dull c.in-Drop.kind c.in-Drop.to c.reveal_invariant-2.ensures set dropped in
     let two : f.depth - 1 ≡ 2 = ap (λ (d : ℕ). d - 1) c.requires.last in
     let here : worth_of f m ≡ worth f.node.position f.node.eval 2 (code_of (Drop c.in-Drop.kind c.in-Drop.to)) = ap (λ (d : ℕ). worth f.node.position f.node.eval d (code_of m)) two ∙ ap (λ (x : Move). worth f.node.position f.node.eval 2 (code_of x)) c.in-Drop.is in
