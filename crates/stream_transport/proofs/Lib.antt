@@ -5,3 +5,4 @@ pub mod Reading
 pub mod Reports
 pub mod Waking
 pub mod Asked
+pub mod Noting

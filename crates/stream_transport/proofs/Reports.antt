@@ -10,7 +10,7 @@ use Rattle.transport.specs.declared.wire.Got.TheVariants.{Nothing}
 use Rattle.transport.specs.declared.wire.WireFault.{WireFault}
 use Rattle.transport.proofs.Reported.{Appends-none, Consumes-none, kept_same, kept_then, raised_rise, raised_rises, stays-refl, stays_rise, stays_then}
 use Rattle.stream_transport.specs.declared.connection.BufferedStream.{BufferedStream}
-use Rattle.stream_transport.specs.Streams.{HasBack, IsToldShut, KeepsElse, Notes, Streams}
+use Rattle.stream_transport.specs.Streams.{HasBack, IsToldShut, KeepsElse, Notes}
 use Rattle.stream_transport.specs.Held.{AreAlike, HasGiven, HasTaken, HoldsOthers, IsAlike, bytes_of, held, reported, unread_of, written_of}
 
 keeps_nil : (a b : Option (List ℕ)) → Keeps a b → Keeps a (prepend_known [] b)
@@ -110,16 +110,16 @@ module _ {S A : Type 0} where
       ])
 
   -- a connection is shut
-  pub shuts_held : (s : Streams S) (t u v : Report) (old new : List (Option (BufferedStream S A))) (number bound : ℕ) (p : BufferedStream S A) → held old number ≡ Some p → held new number ≡ None → HoldsOthers old new number → IsToldShut t u number → HasBack s v number p.kept p.stream → KeepsElse u v number → Shuts bound (reported s.remaining s.contents t old) (reported s.remaining s.contents v new) number
-  shuts_held s t u v old new number bound p d e holds told back rest =
+  pub shuts_held : (r c : S → Option (List ℕ)) (t u v : Report) (old new : List (Option (BufferedStream S A))) (number bound : ℕ) (p : BufferedStream S A) → held old number ≡ Some p → held new number ≡ None → HoldsOthers old new number → IsToldShut t u number → HasBack r c v number p.kept p.stream → KeepsElse u v number → Shuts bound (reported r c t old) (reported r c v new) number
+  shuts_held r c t u v old new number bound p d e holds told back rest =
       let raised = raised_rises (t.is_shut number) (u.is_shut number) (v.is_shut number) told.shut (stays_rise (u.is_shut number) (v.is_shut number) rest.shut) in
       record {
         shut = λ lt. raised;
         only_rises = raised_rise (t.is_shut number) (v.is_shut number) raised;
-        written = at_end (λ a b. Keeps a b) (written_of s.contents) (t.written number) (v.written number) (held old number) (held new number) p d e back.written;
-        unread = at_end (λ a b. Keeps a b) (unread_of s.remaining) (t.unread number) (v.unread number) (held old number) (held new number) p d e back.unread;
+        written = at_end (λ a b. Keeps a b) (written_of c) (t.written number) (v.written number) (held old number) (held new number) p d e back.taken;
+        unread = at_end (λ a b. Keeps a b) (unread_of r) (t.unread number) (v.unread number) (held old number) (held new number) p d e back.left;
         failed = stays_then (t.has_failed number) (u.has_failed number) (v.has_failed number) told.failed rest.failed;
-        others = others_kept s.remaining s.contents t v old new number holds (λ other apart. kept_then t u v other (told.others other apart) (rest.others other apart));
+        others = others_kept r c t v old new number holds (λ other apart. kept_then t u v other (told.others other apart) (rest.others other apart));
       }
 
   -- ---- reads and writes

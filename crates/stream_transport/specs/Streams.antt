@@ -1,12 +1,11 @@
 -- What a listener tells of the connections that a wire does not hold, and what each of its calls does to that; and what it
 -- and its streams are asked for (own choice).
-use Rattle.std.specs.Prelude.{◌≡◌, ⊤, ℕ, List, Option, Some, Result, Ok, Err, slice_get}
+use Rattle.std.specs.Prelude.{◌≡◌, ⊤, ℕ, List, map, Option, Some, Result, Ok, Err, slice_get}
 use Rattle.std.specs.Io.KnownBytes.{Keeps, ReadConsumes, WriteAppends, prepend_known}
 use Rattle.transport.specs.declared.wire.WireFault.{WireFault}
 use Rattle.transport.specs.Report.{Report, IsRaised, KeepsOthers, ReportsFailure, Stays}
 use Rattle.stream_transport.specs.declared.listener.Ready.{Ready}
 use Rattle.stream_transport.specs.declared.listener.Ready.TheVariants.{Listener}
-use Rattle.stream_transport.specs.declared.listener.StreamCall.{StreamCall}
 use Rattle.stream_transport.specs.declared.listener.StreamFault.{StreamFault}
 use Rattle.stream_transport.specs.declared.listener.StreamFault.TheVariants.{WouldBlock, Interrupted, Failed}
 use Rattle.std.specs.declared.io.ErrorKind.{ErrorKind}
@@ -17,6 +16,10 @@ abbrev pub fault_by : ErrorKind → StreamFault
 fault_by kind.WouldBlock = WouldBlock
 fault_by kind.Interrupted = Interrupted
 fault_by _ = Failed
+
+-- what was noted, of what stands beside it
+abbrev pub firsts : {A B : Type 0} → List (A × B) → List A
+firsts pairs = map (λ pair. pair.0) pairs
 
 -- whether somebody came, by the answer of an accept
 abbrev pub answer_of : {S : Type 0} → Result S StreamFault → Result (Unit {0}) StreamFault
@@ -43,26 +46,17 @@ abbrev pub Sends : {S E : Type 0} → (S → Option (List ℕ)) → (old new : S
     → Result ℕ E → List ℕ → Type 0
 Sends contents old new result buf = WriteAppends (contents old) (contents new) result buf
 
--- what streams tell: the bytes that they took and have left, and their calls
-abbrev pub Streams : Type 0 → Type 0
-Streams S = record {
-  contents : S → Option (List ℕ);
-  remaining : S → Option (List ℕ);
-  calls : S → Option (List StreamCall);
-}
-
-module _ {S : Type 0} (streams : Streams S) where
+module _ {S : Type 0} (unread written : S → Option (List ℕ)) where
   -- a stream that was handed out has the bytes that were told of this number, those to be read and those that it took
   abbrev pub HandsOut : {E : Type 0} → Report → ℕ → Result S E → Type 0
   HandsOut told number (Ok stream) =
-      Keeps (told.unread number) (streams.remaining stream)
-      × Keeps (told.written number) (streams.contents stream)
+      Keeps (told.unread number) (unread stream) × Keeps (told.written number) (written stream)
   HandsOut told number (Err error) = ⊤
 
   -- of this number the bytes of a stream are told, those to be read, behind some that are kept, and those that it took
   pub record HasBack (told : Report) (number : ℕ) (kept : List ℕ) (stream : S) : Type 0 where
-    pub unread : Keeps (prepend_known kept (streams.remaining stream)) (told.unread number)
-    pub written : Keeps (streams.contents stream) (told.written number)
+    pub left : Keeps (prepend_known kept (unread stream)) (told.unread number)
+    pub taken : Keeps (written stream) (told.written number)
 
 -- it was told that a call of this number has failed, and of nothing else
 pub record IsToldFailed (old new : Report) (number : ℕ) : Type 0 where

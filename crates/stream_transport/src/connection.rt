@@ -56,9 +56,9 @@ impl<S: ByteStream, A: Allocator + Copy> BufferedStream<S, A> {
         ensures number { self.new.number ≡ self.old.number }
         ensures within { IsWithin result (length buf.new) }
         ensures line { IsOneLine (bytes_read result buf.new) }
-        ensures unread { HasGiven S.remaining self.old self.new (bytes_read result buf.new) }
-        ensures written { Keeps (written_of S.contents self.old) (written_of S.contents self.new) }
-        ensures ended { EndsAt result (unread_of S.remaining self.new) }
+        ensures unread { HasGiven S.unread self.old self.new (bytes_read result buf.new) }
+        ensures written { Keeps (written_of S.written self.old) (written_of S.written self.new) }
+        ensures ended { EndsAt result (unread_of S.unread self.new) }
         ensures asked { AsksToGive S.calls (length buf.old) result self.old self.new }
     {
         if buf.is_empty() || !self.readable {
@@ -88,9 +88,9 @@ impl<S: ByteStream, A: Allocator + Copy> BufferedStream<S, A> {
         ensures number { self.new.number ≡ self.old.number }
         ensures within { IsWithin result (length buf.new) }
         ensures line { IsOneLine (bytes_read result buf.new) }
-        ensures unread { HasGiven S.remaining self.old self.new (bytes_read result buf.new) }
-        ensures written { Keeps (written_of S.contents self.old) (written_of S.contents self.new) }
-        ensures ended { EndsAt result (unread_of S.remaining self.new) }
+        ensures unread { HasGiven S.unread self.old self.new (bytes_read result buf.new) }
+        ensures written { Keeps (written_of S.written self.old) (written_of S.written self.new) }
+        ensures ended { EndsAt result (unread_of S.unread self.new) }
         ensures first { GivesKept self.old.kept result buf.new }
         ensures asked { AsksToGive S.calls (length buf.old) result self.old self.new }
     {
@@ -107,8 +107,8 @@ impl<S: ByteStream, A: Allocator + Copy> BufferedStream<S, A> {
     pub fn write(&mut self, buf: &[u8]) -> Result<usize, WireFault>
         ensures number { self.new.number ≡ self.old.number }
         ensures within { IfOk result (λ n. n ≤ length buf.now) }
-        ensures unread { Keeps (unread_of S.remaining self.old) (unread_of S.remaining self.new) }
-        ensures written { HasTaken S.contents self.old self.new (bytes_written result buf.now) }
+        ensures unread { Keeps (unread_of S.unread self.old) (unread_of S.unread self.new) }
+        ensures written { HasTaken S.written self.old self.new (bytes_written result buf.now) }
         ensures kept { self.new.kept ≡ self.old.kept }
         ensures asked { AsksToTake S.calls (length buf.now) result self.old self.new }
     {

@@ -9,5 +9,5 @@ mod sockets;
 mod wire;
 
 pub use listener::{ByteStream, Listener, ListenerCall, Ready, StreamCall, StreamFault};
-pub use sockets::{MioListener, MioWire, watch_again};
+pub use sockets::{MioListener, MioWire, SocketStream, watch_again};
 pub use wire::StreamWire;

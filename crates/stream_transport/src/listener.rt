@@ -1,6 +1,6 @@
 //! What a wire is made over: streams, and the listener that gives them.
 
-ghost use Rattle.std.specs.Prelude.{◌≡◌, [], ◌∷◌, length, is_some, slice_get, IfOk, OnErr, Option, None, List};
+ghost use Rattle.std.specs.Prelude.{◌≡◌, ℕ, [], ◌∷◌, length, is_some, slice_get, IfOk, OnErr, Option, None, List};
 ghost use Rattle.std.specs.Io.{ReadsAtMost, WritesAtMost};
 ghost use Rattle.std.specs.Io.KnownBytes.{Keeps};
 ghost use Rattle.transport.specs.Asked.{Asks};
@@ -12,7 +12,6 @@ ghost use Rattle.stream_transport.specs.declared.listener.Ready.{Ready};
 ghost use Rattle.stream_transport.specs.declared.listener.StreamCall.{StreamCall};
 ghost use Rattle.stream_transport.specs.declared.listener.StreamCall.TheVariants.{Receive, Send};
 
-use std::io::{Read, Write};
 use std::time::Duration;
 
 /// Why a call of a stream or of a listener gave nothing.
@@ -47,23 +46,29 @@ pub enum ListenerCall {
 }
 
 /// A stream both ways, where a read leaves what was written, and a write what is to be read.
-pub trait ByteStream: Read + Write + Drop {
+pub trait ByteStream: Drop {
+    /// The bytes that its reads will give from here on. It may not tell.
+    ghost unread: { Self → Option (List ℕ) } = { λ _. None };
+
+    /// The bytes that its writes took. It may not tell.
+    ghost written: { Self → Option (List ℕ) } = { λ _. None };
+
     /// The calls of `receive` and `send` that it was asked for, with their answers. It may tell none.
     ghost calls: { Self → Option (List StreamCall) } = { λ _. None };
 
     /// A `read` of the stream.
     fn receive(&mut self, buf: &mut [u8]) -> Result<usize, StreamFault>
         ensures bound { ReadsAtMost result buf.new }
-        ensures bytes { Receives Self.remaining self.old self.new result buf.new }
-        ensures written { Keeps (Self.contents self.old) (Self.contents self.new) }
+        ensures bytes { Receives unread self.old self.new result buf.new }
+        ensures written { Keeps (written self.old) (written self.new) }
         ensures called { Asks (calls self.old) (calls self.new)
             (Receive (length buf.old) result ∷ []) };
 
     /// A `write` of the stream.
     fn send(&mut self, buf: &[u8]) -> Result<usize, StreamFault>
         ensures bound { WritesAtMost result buf.now }
-        ensures bytes { Sends Self.contents self.old self.new result buf.now }
-        ensures unread { Keeps (Self.remaining self.old) (Self.remaining self.new) }
+        ensures bytes { Sends written self.old self.new result buf.now }
+        ensures unread { Keeps (unread self.old) (unread self.new) }
         ensures called { Asks (calls self.old) (calls self.new)
             (Send (length buf.now) result ∷ []) };
 }
@@ -95,7 +100,8 @@ pub trait Listener: Drop {
     /// The stream of who waits first, which is named by this number from then on; `WouldBlock` where
     /// nobody waits.
     fn accept(&mut self, number: u64) -> Result<Self::Stream, StreamFault>
-        ensures given { HandsOut Self.Stream.ByteStream (told self.old) number result }
+        ensures given { HandsOut Self.Stream.unread Self.Stream.written
+            (told self.old) number result }
         ensures rest { IfOk result (λ stream. KeepsElse (told self.old) (told self.new) number) }
         ensures err { OnErr result (KeepsAll (told self.old) (told self.new)) }
         ensures asked { Asks (asked self.old) (asked self.new) (Accept (answer_of result) ∷ []) }
@@ -134,7 +140,8 @@ pub trait Listener: Drop {
 
     /// Takes the stream of a number back, with the bytes that were read from it and are not given.
     fn take_back(&mut self, number: u64, stream: Self::Stream, kept: &[u8])
-        ensures back { HasBack Self.Stream.ByteStream (told self.new) number kept.now stream }
+        ensures back { HasBack Self.Stream.unread Self.Stream.written
+            (told self.new) number kept.now stream }
         ensures rest { KeepsElse (told self.old) (told self.new) number }
         ensures asked { asked self.new ≡ asked self.old };
 }

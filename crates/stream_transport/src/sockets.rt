@@ -1,12 +1,14 @@
 //! A wire over a Unix socket.
 
 ghost use Rattle.std.specs.Prelude.{◌≡◌, [], Err, IfOk, OnErr};
+ghost use Rattle.std.specs.Io.{ReadsAtMost, WritesAtMost};
 ghost use Rattle.std.specs.IoError.{error_kind};
-ghost use Rattle.stream_transport.specs.Streams.{fault_by};
+ghost use Rattle.stream_transport.specs.Streams.{answer_of, fault_by};
 ghost use Rattle.transport.specs.declared.wire.WireFault.TheVariants.{Device};
 
-use crate::listener::{ByteStream, Listener, Ready, StreamFault};
+use crate::listener::{ByteStream, Listener, ListenerCall, Ready, StreamCall, StreamFault};
 use crate::wire::StreamWire;
+use http_server::Log;
 use mio::net::{UnixListener, UnixStream};
 use mio::{Events, Interest, Poll, Registry, Token};
 use std::alloc::Allocator;
@@ -38,23 +40,56 @@ fn fault_of(error: io::Error) -> StreamFault
     }
 }
 
-impl ByteStream for UnixStream {
-    fn receive(&mut self, buf: &mut [u8]) -> Result<usize, StreamFault> {
-        match self.read(buf) {
-            Ok(n) => Ok(n),
-            Err(error) => Err(fault_of(error)),
-        }
-    }
-
-    fn send(&mut self, buf: &[u8]) -> Result<usize, StreamFault> {
-        match self.write(buf) {
-            Ok(n) => Ok(n),
-            Err(error) => Err(fault_of(error)),
-        }
+/// One read of a stream.
+fn read_once(stream: &mut UnixStream, buf: &mut [u8]) -> Result<usize, StreamFault>
+    ensures { ReadsAtMost result buf.new }
+{
+    match stream.read(buf) {
+        Ok(n) => Ok(n),
+        Err(error) => Err(fault_of(error)),
     }
 }
 
-/// A Unix socket, and a poll that names its streams. It tells nothing.
+/// One write to a stream.
+fn write_once(stream: &mut UnixStream, buf: &[u8]) -> Result<usize, StreamFault>
+    ensures { WritesAtMost result buf.now }
+{
+    match stream.write(buf) {
+        Ok(n) => Ok(n),
+        Err(error) => Err(fault_of(error)),
+    }
+}
+
+/// A stream of a Unix socket. It tells its calls, by a log that takes no memory; of its bytes it tells
+/// nothing.
+#[derive(Drop)]
+pub struct SocketStream {
+    stream: UnixStream,
+    calls: Log<StreamCall, ()>,
+}
+
+impl ByteStream for SocketStream {
+    ghost use Rattle.std.specs.Prelude.{Some};
+    ghost use Rattle.stream_transport.specs.Streams.{firsts};
+
+    ghost calls = { λ stream. Some (firsts stream.calls.items) };
+
+    fn receive(&mut self, buf: &mut [u8]) -> Result<usize, StreamFault> {
+        let room = buf.len();
+        let answer = read_once(&mut self.stream, buf);
+        self.calls = self.calls.and(&StreamCall::Receive(room, answer), &());
+        answer
+    }
+
+    fn send(&mut self, buf: &[u8]) -> Result<usize, StreamFault> {
+        let answer = write_once(&mut self.stream, buf);
+        self.calls = self.calls.and(&StreamCall::Send(buf.len(), answer), &());
+        answer
+    }
+}
+
+/// A Unix socket, and a poll that names its streams. It tells its calls, by a log that takes no memory;
+/// of connections it tells nothing.
 #[derive(Drop)]
 pub struct MioListener<A: Allocator> {
     listener: UnixListener,
@@ -62,12 +97,24 @@ pub struct MioListener<A: Allocator> {
     events: Events<A>,
     // Whom the last poll named, in the room for all.
     ready: Vec<Ready, A>,
+    asked: Log<ListenerCall, ()>,
+}
+
+/// Whether somebody came.
+fn answer_for(accepted: &Result<SocketStream, StreamFault>) -> Result<(), StreamFault>
+    ensures { result ≡ answer_of accepted.now }
+{
+    match accepted {
+        Ok(_) => Ok(()),
+        Err(fault) => Err(*fault),
+    }
 }
 
 impl<A: Allocator + Copy> MioListener<A> {
     /// Polls, and remembers who was named.
     fn look_for(&mut self, patience: Option<Duration>) -> Result<(), StreamFault>
         ensures nobody { OnErr result (self.new.ready.items ≡ []) }
+        ensures asked { self.new.asked ≡ self.old.asked }
     {
         self.ready.clear();
         if let Err(error) = self.poll.poll(&mut self.events, patience) {
@@ -87,6 +134,26 @@ impl<A: Allocator + Copy> MioListener<A> {
         Ok(())
     }
 
+    /// Accepts who waits first, and has the poll name the stream by this number.
+    fn accept_as(&self, number: u64) -> Result<SocketStream, StreamFault> {
+        let mut stream = match self.listener.accept() {
+            Ok((stream, _)) => stream,
+            Err(error) => return Err(fault_of(error)),
+        };
+        let both_ways = Interest::READABLE | Interest::WRITABLE;
+        let registry = self.poll.registry();
+        if registry
+            .register(&mut stream, Token(number as usize), both_ways)
+            .is_err()
+        {
+            return Err(StreamFault::Failed);
+        }
+        Ok(SocketStream {
+            stream,
+            calls: Log::new(),
+        })
+    }
+
     /// Has a wait end too where somebody comes to this other listener, which names nobody. One listener
     /// may be watched. The registry is for `watch_again`.
     pub fn watch(&self, other: &mut UnixListener) -> io::Result<Registry> {
@@ -102,29 +169,33 @@ pub fn watch_again(registry: &Registry, other: &mut UnixListener) -> io::Result<
 }
 
 impl<A: Allocator + Copy> Listener for MioListener<A> {
-    type Stream = UnixStream;
+    type Stream = SocketStream;
+
+    ghost use Rattle.std.specs.Prelude.{Some};
+    ghost use Rattle.stream_transport.specs.Streams.{firsts};
+
+    ghost asked = { λ listener. Some (firsts listener.asked.items) };
 
     ghost named = { λ listener. listener.ready.items };
 
-    fn accept(&mut self, number: u64) -> Result<UnixStream, StreamFault> {
-        let mut stream = match self.listener.accept() {
-            Ok((stream, _)) => stream,
-            Err(error) => return Err(fault_of(error)),
-        };
-        let both_ways = Interest::READABLE | Interest::WRITABLE;
-        let registry = self.poll.registry();
-        match registry.register(&mut stream, Token(number as usize), both_ways) {
-            Ok(()) => Ok(stream),
-            Err(_) => Err(StreamFault::Failed),
-        }
+    fn accept(&mut self, number: u64) -> Result<SocketStream, StreamFault> {
+        let accepted = self.accept_as(number);
+        let answer = answer_for(&accepted);
+        self.asked = self.asked.and(&ListenerCall::Accept(answer), &());
+        accepted
     }
 
     fn look(&mut self) -> Result<(), StreamFault> {
-        self.look_for(Some(Duration::ZERO))
+        let looked = self.look_for(Some(Duration::ZERO));
+        self.asked = self.asked.and(&ListenerCall::Look(looked), &());
+        looked
     }
 
     fn wait(&mut self, patience: Option<Duration>) -> Result<(), StreamFault> {
-        self.look_for(patience)
+        let is_bounded = patience.is_some();
+        let looked = self.look_for(patience);
+        self.asked = self.asked.and(&ListenerCall::Wait(is_bounded, looked), &());
+        looked
     }
 
     fn found(&self) -> usize {
@@ -139,7 +210,7 @@ impl<A: Allocator + Copy> Listener for MioListener<A> {
 
     fn shut(&mut self, _number: u64) {}
 
-    fn take_back(&mut self, _number: u64, _stream: UnixStream, _kept: &[u8]) {}
+    fn take_back(&mut self, _number: u64, _stream: SocketStream, _kept: &[u8]) {}
 }
 
 /// The connections of a Unix socket.
@@ -175,6 +246,7 @@ impl<A: Allocator + Copy> StreamWire<MioListener<A>, A> {
             poll,
             events,
             ready,
+            asked: Log::new(),
         };
         Ok(StreamWire::new(alloc, listener))
     }

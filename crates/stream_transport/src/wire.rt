@@ -345,7 +345,7 @@ impl<L: Listener, A: Allocator + Copy> StreamWire<L, A> {
 impl<L: Listener, A: Allocator + Copy> Wire for StreamWire<L, A> {
     ghost use Rattle.stream_transport.specs.Held.{reported};
 
-    ghost report = { λ wire. reported L.Stream.remaining L.Stream.contents
+    ghost report = { λ wire. reported L.Stream.unread L.Stream.written
         (L.told wire.listener) wire.places.items };
 
     ghost bound = { λ wire. wire.next };

@@ -30,19 +30,19 @@ returns-then-is_empty-clause-first g c = λ some. absurd (some (none_left c.args
 
 -- what is kept is given
 pub returns-in-0-clause-unread : goal.returns-in-0-clause-unread
-returns-in-0-clause-unread g c = gives_kept g.S.Read.remaining c.args.self.now (record c.args.self.now { kept = c.give_line.new.self }) [] refl (rw c.in-0.is at c.give_line.ensures.kept)
+returns-in-0-clause-unread g c = gives_kept g.S.ByteStream.unread c.args.self.now (record c.args.self.now { kept = c.give_line.new.self }) [] refl (rw c.in-0.is at c.give_line.ensures.kept)
 
 pub returns-in-0-clause-written : goal.returns-in-0-clause-written
-returns-in-0-clause-written g c = Keeps-refl (g.S.Write.contents c.args.self.now.stream)
+returns-in-0-clause-written g c = Keeps-refl (g.S.ByteStream.written c.args.self.now.stream)
 
 pub returns-in-0-clause-asked : goal.returns-in-0-clause-asked
 returns-in-0-clause-asked g c = record { called = λ may none room. absurd (some_left c.args.self.now.kept c.is_empty.result c.is_empty.ensures c.if-is_empty.false none); awake = λ may found. may; takes = λ may. may }
 
 pub returns-in_default-clause-unread : goal.returns-in_default-clause-unread
-returns-in_default-clause-unread g c = gives_kept g.S.Read.remaining c.args.self.now (record c.args.self.now { kept = c.give_line.new.self }) (take c.give_line.result c.give_line.new.buf) refl (c.give_line.ensures.kept)
+returns-in_default-clause-unread g c = gives_kept g.S.ByteStream.unread c.args.self.now (record c.args.self.now { kept = c.give_line.new.self }) (take c.give_line.result c.give_line.new.buf) refl (c.give_line.ensures.kept)
 
 pub returns-in_default-clause-written : goal.returns-in_default-clause-written
-returns-in_default-clause-written g c = Keeps-refl (g.S.Write.contents c.args.self.now.stream)
+returns-in_default-clause-written g c = Keeps-refl (g.S.ByteStream.written c.args.self.now.stream)
 
 pub returns-in_default-clause-asked : goal.returns-in_default-clause-asked
 returns-in_default-clause-asked g c = record { called = λ may none room. absurd (some_left c.args.self.now.kept c.is_empty.result c.is_empty.ensures c.if-is_empty.false none); awake = λ may found. may; takes = λ may. may }

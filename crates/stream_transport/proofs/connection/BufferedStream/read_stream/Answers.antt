@@ -7,10 +7,10 @@ use Rattle.stream_transport.proofs.connection.BufferedStream.read_stream.Goals a
 
 -- nothing is asked
 pub returns-then-is_empty-clause-unread : goal.returns-then-is_empty-clause-unread
-returns-then-is_empty-clause-unread g c = gives_none g.S.Read.remaining c.args.self.now c.args.self.now refl (Keeps-refl (g.S.Read.remaining c.args.self.now.stream))
+returns-then-is_empty-clause-unread g c = gives_none g.S.ByteStream.unread c.args.self.now c.args.self.now refl (Keeps-refl (g.S.ByteStream.unread c.args.self.now.stream))
 
 pub returns-then-is_empty-clause-written : goal.returns-then-is_empty-clause-written
-returns-then-is_empty-clause-written g c = Keeps-refl (g.S.Write.contents c.args.self.now.stream)
+returns-then-is_empty-clause-written g c = Keeps-refl (g.S.ByteStream.written c.args.self.now.stream)
 
 pub returns-then-is_empty-clause-asked : goal.returns-then-is_empty-clause-asked
 returns-then-is_empty-clause-asked g c = record {
@@ -46,7 +46,7 @@ returns-then-not-is_empty-clause-line g c =
 pub returns-then-not-is_empty-clause-unread : goal.returns-then-not-is_empty-clause-unread
 returns-then-not-is_empty-clause-unread g c =
     let split : take c.in-Ok.n c.receive.new.buf ≡ c.cut_line.result.0.now ++ c.cut_line.result.1.now = sym c.split_at.ensures.front ∙ c.cut_line.ensures.whole in
-    gives_line g.S.Read.remaining c.args.self.now (record c.args.self.now { stream = c.receive.new.self; kept = c.within.result }) c.cut_line.result.0.now c.cut_line.result.1.now (take c.in-Ok.n c.receive.new.buf) (take (length c.cut_line.result.0.now) c.receive.new.buf) c.requires split (line_in_front c.receive.new.buf c.cut_line.result.0.now c.cut_line.result.1.now c.in-Ok.n split) c.within.ensures c.in-Ok.ensures.bytes.0
+    gives_line g.S.ByteStream.unread c.args.self.now (record c.args.self.now { stream = c.receive.new.self; kept = c.within.result }) c.cut_line.result.0.now c.cut_line.result.1.now (take c.in-Ok.n c.receive.new.buf) (take (length c.cut_line.result.0.now) c.receive.new.buf) c.requires split (line_in_front c.receive.new.buf c.cut_line.result.0.now c.cut_line.result.1.now c.in-Ok.n split) c.within.ensures c.in-Ok.ensures.bytes.0
 
 pub returns-then-not-is_empty-clause-written : goal.returns-then-not-is_empty-clause-written
 returns-then-not-is_empty-clause-written g c = c.receive.ensures.written
@@ -65,7 +65,7 @@ returns-else-not-is_empty-clause-line g c =
 pub returns-else-not-is_empty-clause-unread : goal.returns-else-not-is_empty-clause-unread
 returns-else-not-is_empty-clause-unread g c =
     let split : take c.in-Ok.n c.receive.new.buf ≡ c.cut_line.result.0.now ++ c.cut_line.result.1.now = sym c.split_at.ensures.front ∙ c.cut_line.ensures.whole in
-    gives_line g.S.Read.remaining c.args.self.now (record c.args.self.now { stream = c.receive.new.self; kept = c.args.self.now.kept }) c.cut_line.result.0.now c.cut_line.result.1.now (take c.in-Ok.n c.receive.new.buf) (take (length c.cut_line.result.0.now) c.receive.new.buf) c.requires split (line_in_front c.receive.new.buf c.cut_line.result.0.now c.cut_line.result.1.now c.in-Ok.n split) (c.requires ∙ sym (none_left c.cut_line.result.1.now c.is_empty-in-Ok.result c.is_empty-in-Ok.ensures c.if-not-is_empty.false)) c.in-Ok.ensures.bytes.0
+    gives_line g.S.ByteStream.unread c.args.self.now (record c.args.self.now { stream = c.receive.new.self; kept = c.args.self.now.kept }) c.cut_line.result.0.now c.cut_line.result.1.now (take c.in-Ok.n c.receive.new.buf) (take (length c.cut_line.result.0.now) c.receive.new.buf) c.requires split (line_in_front c.receive.new.buf c.cut_line.result.0.now c.cut_line.result.1.now c.in-Ok.n split) (c.requires ∙ sym (none_left c.cut_line.result.1.now c.is_empty-in-Ok.result c.is_empty-in-Ok.ensures c.if-not-is_empty.false)) c.in-Ok.ensures.bytes.0
 
 pub returns-else-not-is_empty-clause-written : goal.returns-else-not-is_empty-clause-written
 returns-else-not-is_empty-clause-written g c = c.receive.ensures.written
@@ -75,7 +75,7 @@ returns-else-not-is_empty-clause-asked g c = record { called = λ may kept room.
 
 -- none came
 pub returns-in-Err-WouldBlock-clause-unread : goal.returns-in-Err-WouldBlock-clause-unread
-returns-in-Err-WouldBlock-clause-unread g c = gives_none g.S.Read.remaining c.args.self.now (record c.args.self.now { stream = c.receive.new.self; readable = false }) refl c.in-Err-WouldBlock.ensures.bytes
+returns-in-Err-WouldBlock-clause-unread g c = gives_none g.S.ByteStream.unread c.args.self.now (record c.args.self.now { stream = c.receive.new.self; readable = false }) refl c.in-Err-WouldBlock.ensures.bytes
 
 pub returns-in-Err-WouldBlock-clause-written : goal.returns-in-Err-WouldBlock-clause-written
 returns-in-Err-WouldBlock-clause-written g c = c.receive.ensures.written
@@ -84,7 +84,7 @@ pub returns-in-Err-WouldBlock-clause-asked : goal.returns-in-Err-WouldBlock-clau
 returns-in-Err-WouldBlock-clause-asked g c = record { called = λ may kept room. inr (c.receive.result, (c.receive.ensures.called, rw (c.in-Err-WouldBlock.is, c.in-Err-WouldBlock.field-0-is) (refl, refl))); awake = λ may found. absurd (found refl); takes = λ may. may }
 
 pub returns-in-Err-Interrupted-clause-unread : goal.returns-in-Err-Interrupted-clause-unread
-returns-in-Err-Interrupted-clause-unread g c = gives_none g.S.Read.remaining c.args.self.now (record c.args.self.now { stream = c.receive.new.self }) refl c.in-Err-Interrupted.ensures.bytes
+returns-in-Err-Interrupted-clause-unread g c = gives_none g.S.ByteStream.unread c.args.self.now (record c.args.self.now { stream = c.receive.new.self }) refl c.in-Err-Interrupted.ensures.bytes
 
 pub returns-in-Err-Interrupted-clause-written : goal.returns-in-Err-Interrupted-clause-written
 returns-in-Err-Interrupted-clause-written g c = c.receive.ensures.written
@@ -93,7 +93,7 @@ pub returns-in-Err-Interrupted-clause-asked : goal.returns-in-Err-Interrupted-cl
 returns-in-Err-Interrupted-clause-asked g c = record { called = λ may kept room. inr (c.receive.result, (c.receive.ensures.called, rw (c.in-Err-Interrupted.is, c.in-Err-Interrupted.field-0-is) (refl, may))); awake = λ may found. may; takes = λ may. may }
 
 pub returns-clause-unread : goal.returns-clause-unread
-returns-clause-unread g c = gives_none g.S.Read.remaining c.args.self.now (record c.args.self.now { stream = c.receive.new.self }) refl c.in-Err-Failed.ensures.bytes
+returns-clause-unread g c = gives_none g.S.ByteStream.unread c.args.self.now (record c.args.self.now { stream = c.receive.new.self }) refl c.in-Err-Failed.ensures.bytes
 
 pub returns-clause-written : goal.returns-clause-written
 returns-clause-written g c = c.receive.ensures.written

@@ -7,10 +7,10 @@ use Rattle.stream_transport.proofs.connection.BufferedStream.write.Goals as goal
 
 -- the stream is not asked
 pub returns-then-not-self-clause-unread : goal.returns-then-not-self-clause-unread
-returns-then-not-self-clause-unread g c = Keeps-refl (unread_of g.S.Read.remaining c.args.self.now)
+returns-then-not-self-clause-unread g c = Keeps-refl (unread_of g.S.ByteStream.unread c.args.self.now)
 
 pub returns-then-not-self-clause-written : goal.returns-then-not-self-clause-written
-returns-then-not-self-clause-written g c = Appends-nil (g.S.Write.contents c.args.self.now.stream)
+returns-then-not-self-clause-written g c = Appends-nil (g.S.ByteStream.written c.args.self.now.stream)
 
 pub returns-then-not-self-clause-asked : goal.returns-then-not-self-clause-asked
 returns-then-not-self-clause-asked g c = record {
@@ -23,7 +23,7 @@ pub returns-in-Ok-clause-within : goal.returns-in-Ok-clause-within
 returns-in-Ok-clause-within g c = c.in-Ok.ensures.bound
 
 pub returns-in-Ok-clause-unread : goal.returns-in-Ok-clause-unread
-returns-in-Ok-clause-unread g c = unread_stays c.args.self.now.kept (g.S.Read.remaining c.args.self.now.stream) (g.S.Read.remaining c.send.new.self) c.send.ensures.unread
+returns-in-Ok-clause-unread g c = unread_stays c.args.self.now.kept (g.S.ByteStream.unread c.args.self.now.stream) (g.S.ByteStream.unread c.send.new.self) c.send.ensures.unread
 
 pub returns-in-Ok-clause-written : goal.returns-in-Ok-clause-written
 returns-in-Ok-clause-written g c = c.in-Ok.ensures.bytes
@@ -33,28 +33,28 @@ returns-in-Ok-clause-asked g c = record { called = λ may. (c.send.result, (c.se
 
 -- or none
 pub returns-in-Err-WouldBlock-clause-unread : goal.returns-in-Err-WouldBlock-clause-unread
-returns-in-Err-WouldBlock-clause-unread g c = unread_stays c.args.self.now.kept (g.S.Read.remaining c.args.self.now.stream) (g.S.Read.remaining c.send.new.self) c.send.ensures.unread
+returns-in-Err-WouldBlock-clause-unread g c = unread_stays c.args.self.now.kept (g.S.ByteStream.unread c.args.self.now.stream) (g.S.ByteStream.unread c.send.new.self) c.send.ensures.unread
 
 pub returns-in-Err-WouldBlock-clause-written : goal.returns-in-Err-WouldBlock-clause-written
-returns-in-Err-WouldBlock-clause-written g c = Appends-none (g.S.Write.contents c.args.self.now.stream) (g.S.Write.contents c.send.new.self) c.in-Err-WouldBlock.ensures.bytes
+returns-in-Err-WouldBlock-clause-written g c = Appends-none (g.S.ByteStream.written c.args.self.now.stream) (g.S.ByteStream.written c.send.new.self) c.in-Err-WouldBlock.ensures.bytes
 
 pub returns-in-Err-WouldBlock-clause-asked : goal.returns-in-Err-WouldBlock-clause-asked
 returns-in-Err-WouldBlock-clause-asked g c = record { called = λ may. (c.send.result, (c.send.ensures.called, rw (c.in-Err-WouldBlock.is, c.in-Err-WouldBlock.field-0-is) (refl, refl))); gives = λ may. may }
 
 pub returns-in-Err-Interrupted-clause-unread : goal.returns-in-Err-Interrupted-clause-unread
-returns-in-Err-Interrupted-clause-unread g c = unread_stays c.args.self.now.kept (g.S.Read.remaining c.args.self.now.stream) (g.S.Read.remaining c.send.new.self) c.send.ensures.unread
+returns-in-Err-Interrupted-clause-unread g c = unread_stays c.args.self.now.kept (g.S.ByteStream.unread c.args.self.now.stream) (g.S.ByteStream.unread c.send.new.self) c.send.ensures.unread
 
 pub returns-in-Err-Interrupted-clause-written : goal.returns-in-Err-Interrupted-clause-written
-returns-in-Err-Interrupted-clause-written g c = Appends-none (g.S.Write.contents c.args.self.now.stream) (g.S.Write.contents c.send.new.self) c.in-Err-Interrupted.ensures.bytes
+returns-in-Err-Interrupted-clause-written g c = Appends-none (g.S.ByteStream.written c.args.self.now.stream) (g.S.ByteStream.written c.send.new.self) c.in-Err-Interrupted.ensures.bytes
 
 pub returns-in-Err-Interrupted-clause-asked : goal.returns-in-Err-Interrupted-clause-asked
 returns-in-Err-Interrupted-clause-asked g c = record { called = λ may. (c.send.result, (c.send.ensures.called, rw (c.in-Err-Interrupted.is, c.in-Err-Interrupted.field-0-is) (refl, may))); gives = λ may. may }
 
 pub returns-in-Err-Failed-clause-unread : goal.returns-in-Err-Failed-clause-unread
-returns-in-Err-Failed-clause-unread g c = unread_stays c.args.self.now.kept (g.S.Read.remaining c.args.self.now.stream) (g.S.Read.remaining c.send.new.self) c.send.ensures.unread
+returns-in-Err-Failed-clause-unread g c = unread_stays c.args.self.now.kept (g.S.ByteStream.unread c.args.self.now.stream) (g.S.ByteStream.unread c.send.new.self) c.send.ensures.unread
 
 pub returns-in-Err-Failed-clause-written : goal.returns-in-Err-Failed-clause-written
-returns-in-Err-Failed-clause-written g c = Appends-none (g.S.Write.contents c.args.self.now.stream) (g.S.Write.contents c.send.new.self) c.in-Err-Failed.ensures.bytes
+returns-in-Err-Failed-clause-written g c = Appends-none (g.S.ByteStream.written c.args.self.now.stream) (g.S.ByteStream.written c.send.new.self) c.in-Err-Failed.ensures.bytes
 
 pub returns-in-Err-Failed-clause-asked : goal.returns-in-Err-Failed-clause-asked
 returns-in-Err-Failed-clause-asked g c = record { called = λ may. (c.send.result, (c.send.ensures.called, rw (c.in-Err-Failed.is, c.in-Err-Failed.field-0-is) (refl, may))); gives = λ may. may }

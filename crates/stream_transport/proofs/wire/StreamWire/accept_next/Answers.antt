@@ -15,8 +15,8 @@ use Rattle.stream_transport.proofs.wire.StreamWire.accept_next.Goals as goal
 pub returns-in-Ok-clause-unchanged : goal.returns-in-Ok-clause-unchanged
 returns-in-Ok-clause-unchanged g c =
     let told = g.L.Listener.told in
-    let left = g.L.Stream.Read.remaining in
-    let taken = g.L.Stream.Write.contents in
+    let left = g.L.Stream.ByteStream.unread in
+    let taken = g.L.Stream.ByteStream.written in
     let old = c.args.self.now in
     let new = c.new.result in
     let given : Keeps ((told old.listener).unread new.number) (left new.stream) × Keeps ((told old.listener).written new.number) (taken new.stream) = rw (c.new.ensures.number, c.new.ensures.stream) c.in-Ok.ensures.given in
@@ -43,7 +43,7 @@ pub returns-then-place-clause-unchanged : goal.returns-then-place-clause-unchang
 returns-then-place-clause-unchanged g c =
     let told = g.L.Listener.told in
     let old = c.args.self.now in
-    rw (c.fault.ensures.listener, c.fault.ensures.places) (alike_keeps g.L.Stream.Read.remaining g.L.Stream.Write.contents (told old.listener) (told old.listener) old.places.items c.free_place.new.places.items (same_alike old.places.items c.free_place.new.places.items c.free_place.ensures.same) (kept_same (told old.listener)))
+    rw (c.fault.ensures.listener, c.fault.ensures.places) (alike_keeps g.L.Stream.ByteStream.unread g.L.Stream.ByteStream.written (told old.listener) (told old.listener) old.places.items c.free_place.new.places.items (same_alike old.places.items c.free_place.new.places.items c.free_place.ensures.same) (kept_same (told old.listener)))
 
 -- the listener failed
 pub returns-in-Err-2-clause-cause : goal.returns-in-Err-2-clause-cause
@@ -69,7 +69,7 @@ pub returns-in-Err-2-clause-unchanged : goal.returns-in-Err-2-clause-unchanged
 returns-in-Err-2-clause-unchanged g c =
     let told = g.L.Listener.told in
     let old = c.args.self.now in
-    rw (c.fault-in-Err-2.ensures.listener, c.fault-in-Err-2.ensures.places) (alike_keeps g.L.Stream.Read.remaining g.L.Stream.Write.contents (told old.listener) (told c.accept.new.self) old.places.items c.free_place.new.places.items (same_alike old.places.items c.free_place.new.places.items c.free_place.ensures.same) c.in-Err-2.ensures.err)
+    rw (c.fault-in-Err-2.ensures.listener, c.fault-in-Err-2.ensures.places) (alike_keeps g.L.Stream.ByteStream.unread g.L.Stream.ByteStream.written (told old.listener) (told c.accept.new.self) old.places.items c.free_place.new.places.items (same_alike old.places.items c.free_place.new.places.items c.free_place.ensures.same) c.in-Err-2.ensures.err)
 
 -- no memory for a place
 pub returns-in_err-place-clause-awake : goal.returns-in_err-place-clause-awake
@@ -79,7 +79,7 @@ pub returns-in_err-place-clause-unchanged : goal.returns-in_err-place-clause-unc
 returns-in_err-place-clause-unchanged g c =
     let told = g.L.Listener.told in
     let old = c.args.self.now in
-    alike_keeps g.L.Stream.Read.remaining g.L.Stream.Write.contents (told old.listener) (told old.listener) old.places.items c.free_place.new.places.items (same_alike old.places.items c.free_place.new.places.items c.free_place.ensures.same) (kept_same (told old.listener))
+    alike_keeps g.L.Stream.ByteStream.unread g.L.Stream.ByteStream.written (told old.listener) (told old.listener) old.places.items c.free_place.new.places.items (same_alike old.places.items c.free_place.new.places.items c.free_place.ensures.same) (kept_same (told old.listener))
 
 -- the stream comes
 pub number_at-number-requires-clause-place : goal.number_at-number-requires-clause-place
@@ -123,7 +123,7 @@ pub returns-in-Err-clause-unchanged : goal.returns-in-Err-clause-unchanged
 returns-in-Err-clause-unchanged g c =
     let told = g.L.Listener.told in
     let old = c.args.self.now in
-    alike_keeps g.L.Stream.Read.remaining g.L.Stream.Write.contents (told old.listener) (told c.accept.new.self) old.places.items c.free_place.new.places.items (same_alike old.places.items c.free_place.new.places.items c.free_place.ensures.same) c.in-Err.ensures.err
+    alike_keeps g.L.Stream.ByteStream.unread g.L.Stream.ByteStream.written (told old.listener) (told c.accept.new.self) old.places.items c.free_place.new.places.items (same_alike old.places.items c.free_place.new.places.items c.free_place.ensures.same) c.in-Err.ensures.err
 
 pub returns-in-Ok-clause-holds : goal.returns-in-Ok-clause-holds
 returns-in-Ok-clause-holds g c = accepted_alike (Ok (Some c.number_at-number.result)) c.args.self.now.places.items c.free_place.new.places.items c.insert.new.places.items (same_alike c.args.self.now.places.items c.free_place.new.places.items c.free_place.ensures.same) (accepted_one c.free_place.new.places.items c.insert.new.places.items c.number_at-number.result c.new.result.number c.new.result c.new.ensures.number c.insert.ensures.held c.insert.ensures.others)

@@ -10,8 +10,8 @@ use Rattle.stream_transport.proofs.wire.StreamWireWire.accept.Goals as goal
 -- a look leaves all that is reported, and so does what is accepted
 pub returns-clause-unchanged : goal.returns-clause-unchanged
 returns-clause-unchanged g c =
-    let r = g.L.Stream.Read.remaining in
-    let t = g.L.Stream.Write.contents in
+    let r = g.L.Stream.ByteStream.unread in
+    let t = g.L.Stream.ByteStream.written in
     let told = g.L.Listener.told in
     let old = c.args.self.now in
     let looked = alike_keeps r t (told old.listener) (told c.look-looked.new.self) old.places.items c.mark_all_ready.new.self.places.items c.mark_all_ready.ensures.alike c.look-looked.ensures.unchanged in
@@ -43,7 +43,7 @@ accept_or_retry-requires g c = record { left = rw c.mark_all_ready.ensures.next 
 pub returns-then-not-self-clause-unchanged : goal.returns-then-not-self-clause-unchanged
 returns-then-not-self-clause-unchanged g c =
     let told = g.L.Listener.told in
-    looked g.L.Stream.Read.remaining g.L.Stream.Write.contents (told c.args.self.now.listener) (told c.look-looked.new.self) (told c.mark_all_ready.new.self.listener) c.args.self.now.places.items c.mark_all_ready.new.self.places.items (ap told c.mark_all_ready.ensures.listener) c.mark_all_ready.ensures.alike c.look-looked.ensures.unchanged
+    looked g.L.Stream.ByteStream.unread g.L.Stream.ByteStream.written (told c.args.self.now.listener) (told c.look-looked.new.self) (told c.mark_all_ready.new.self.listener) c.args.self.now.places.items c.mark_all_ready.new.self.places.items (ap told c.mark_all_ready.ensures.listener) c.mark_all_ready.ensures.alike c.look-looked.ensures.unchanged
 
 pub returns-then-not-self-clause-cause : goal.returns-then-not-self-clause-cause
 returns-then-not-self-clause-cause g c = cause_of_ok _ c.args.self.now.failed c.mark_all_ready.new.self.failed c.mark_all_ready.ensures.cause.0
@@ -61,7 +61,7 @@ returns-then-not-self-clause-still g c = c.mark_all_ready.ensures.still
 pub returns-in_err-mark_all_ready-clause-unchanged : goal.returns-in_err-mark_all_ready-clause-unchanged
 returns-in_err-mark_all_ready-clause-unchanged g c =
     let told = g.L.Listener.told in
-    looked g.L.Stream.Read.remaining g.L.Stream.Write.contents (told c.args.self.now.listener) (told c.look-looked.new.self) (told c.mark_all_ready.new.self.listener) c.args.self.now.places.items c.mark_all_ready.new.self.places.items (ap told c.mark_all_ready.ensures.listener) c.mark_all_ready.ensures.alike c.look-looked.ensures.unchanged
+    looked g.L.Stream.ByteStream.unread g.L.Stream.ByteStream.written (told c.args.self.now.listener) (told c.look-looked.new.self) (told c.mark_all_ready.new.self.listener) c.args.self.now.places.items c.mark_all_ready.new.self.places.items (ap told c.mark_all_ready.ensures.listener) c.mark_all_ready.ensures.alike c.look-looked.ensures.unchanged
 
 pub returns-in_err-mark_all_ready-clause-still : goal.returns-in_err-mark_all_ready-clause-still
 returns-in_err-mark_all_ready-clause-still g c = c.mark_all_ready.ensures.still
@@ -70,7 +70,7 @@ returns-in_err-mark_all_ready-clause-still g c = c.mark_all_ready.ensures.still
 pub returns-then-self-clause-unchanged : goal.returns-then-self-clause-unchanged
 returns-then-self-clause-unchanged g c =
     let told = g.L.Listener.told in
-    unmoved g.L.Stream.Read.remaining g.L.Stream.Write.contents (told c.args.self.now.listener) (told c.fault.new.self.listener) c.args.self.now.places.items c.fault.new.self.places.items (ap told c.fault.ensures.listener) (ap (λ x. x.items) c.fault.ensures.places)
+    unmoved g.L.Stream.ByteStream.unread g.L.Stream.ByteStream.written (told c.args.self.now.listener) (told c.fault.new.self.listener) c.args.self.now.places.items c.fault.new.self.places.items (ap told c.fault.ensures.listener) (ap (λ x. x.items) c.fault.ensures.places)
 
 pub returns-then-self-clause-cause : goal.returns-then-self-clause-cause
 returns-then-self-clause-cause g c = (c.fault.ensures.rises, λ e. c.fault.ensures.risen)

@@ -45,7 +45,7 @@ returns-then-self-clause-more g c = more_goes c.args.self.now.has_buffered c.arg
 pub returns-clause-unchanged : goal.returns-clause-unchanged
 returns-clause-unchanged g c =
     let told = g.L.Listener.told in
-    looked g.L.Stream.Read.remaining g.L.Stream.Write.contents (told c.args.self.now.listener) (told c.wait-looked.new.self) (told c.mark_all_ready.new.self.listener) c.args.self.now.places.items c.mark_all_ready.new.self.places.items (ap told c.mark_all_ready.ensures.listener) c.mark_all_ready.ensures.alike c.wait-looked.ensures.unchanged
+    looked g.L.Stream.ByteStream.unread g.L.Stream.ByteStream.written (told c.args.self.now.listener) (told c.wait-looked.new.self) (told c.mark_all_ready.new.self.listener) c.args.self.now.places.items c.mark_all_ready.new.self.places.items (ap told c.mark_all_ready.ensures.listener) c.mark_all_ready.ensures.alike c.wait-looked.ensures.unchanged
 
 pub returns-clause-cause : goal.returns-clause-cause
 returns-clause-cause g c = c.mark_all_ready.ensures.cause
