@@ -6,7 +6,7 @@ use Rattle.shogi_eval.specs.declared.eval.Eval.TheVariants as evals
 use Rattle.usi_arguments.specs.declared.setup.Evaluation.{Evaluation}
 use Rattle.usi_arguments.specs.declared.setup.Evaluation.TheVariants as named
 use Rattle.usi_arguments.specs.declared.setup.SetupOptions.{SetupOptions}
-use Rattle.usi_app.specs.Runs.{IsReplay, IsSession}
+use Rattle.usi_app.specs.Runs.{IsReplay, IsReplayOn, IsSession}
 use Rattle.usi_stdio.specs.Calls.{Report}
 use Rattle.usi_texts.specs.Setup.{IsSetupOf}
 use Rattle.usi_texts.specs.declared.setup.Setup.{Setup}
@@ -27,9 +27,10 @@ abbrev pub IsSessionAsked : SetupOptions → Report → Report → ℕ → Type 
 IsSessionAsked options old new status =
     (setup : Setup) × IsAskedFor options setup × IsSession setup old new status
 
-abbrev pub IsReplayAsked : SetupOptions → ℕ → Report → Report → ℕ → Type 0
-IsReplayAsked options slots old new status =
+abbrev pub IsReplayAsked : SetupOptions → (slots entries slice : ℕ) → Report → Report → ℕ → Type 0
+IsReplayAsked options slots entries slice old new status =
     (setup : Setup) × IsAskedFor options setup × IsReplay setup slots old new status
+    × IsReplayOn setup slots entries slice old new status
 
 -- a new host whose sessions begin under it
 abbrev pub IsHostAsked : SetupOptions → ℕ → ℕ → HostState → Type 0

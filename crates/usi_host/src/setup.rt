@@ -71,7 +71,8 @@ pub(crate) fn run_script<T: FrontEnd>(
     requires least_slice { 1 ≤ slice }
     requires ranges { HasSetupRanges options }
     requires reach { IsInReach options }
-    ensures { IsReplayAsked options slots (T.report front_end.old) (T.report front_end.new) result }
+    ensures { IsReplayAsked options slots entries slice
+        (T.report front_end.old) (T.report front_end.new) result }
 {
     script(
         rt,

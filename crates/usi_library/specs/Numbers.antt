@@ -1,5 +1,6 @@
 -- The numbers that C knows (own choice).
 use Rattle.std.specs.Prelude.{◌≡◌}
+use Rattle.shared_table.specs.declared.table.TheConstants.{CAPACITY_MAX}
 use Rattle.usi_library.specs.declared.setup.TheConstants.{USI_EVAL_PLAIN, USI_EVAL_HAND, USI_EVAL_EXCHANGE}
 use Rattle.usi_library.specs.declared.status.TheConstants.{USI_OK, USI_CLOSED, USI_IS_OPEN, USI_OUT_OF_RANGE, USI_OUT_OF_MEMORY, USI_TOO_LONG, USI_NOT_WANTED, USI_UNKNOWN_EVAL, USI_DEPTH_OUT_OF_RANGE, USI_MAX_DEPTH_OUT_OF_RANGE, USI_LINES_OUT_OF_RANGE, USI_DEPTH_ABOVE_MAX}
 
@@ -24,6 +25,8 @@ pub record AreEvals : Type 0 where
   pub hand : USI_EVAL_HAND ≡ 1
   pub exchange : USI_EVAL_EXCHANGE ≡ 2
 
+-- these, and the most entries of a table
 pub record AreNumbers : Type 0 where
   pub statuses : AreStatuses
   pub evals : AreEvals
+  pub entries : CAPACITY_MAX ≡ 1000000

@@ -2,7 +2,8 @@
 
 ghost use Rattle.usi_library.specs.Numbers.{AreNumbers};
 
-/// The statuses and the numbers of evaluations are these, as the header has them.
+/// The statuses, the numbers of evaluations and the most entries of a table are these, as the
+/// header has them.
 pub fn numbers()
     ensures { AreNumbers }
 {}

@@ -15,7 +15,7 @@ use Rattle.usi_stdio.specs.declared.streams.StdioFault.TheVariants as stdio
 use Rattle.usi_replay.specs.declared.fault.ReplayFault.{ReplayFault}
 use Rattle.usi_replay.specs.declared.fault.ReplayFault.TheVariants.{OutOfMemory, ReadFailed, WriteFailed, BadScript}
 use Rattle.host_core.specs.Steps.{HostState, new_host_under}
-use Rattle.usi_replay.specs.Replayed.{AreReads, ReadsAll, EndsReading, EndsEarly, ReadsBy, Recites, GivesAll, Replays, ReplaysAsked, ReplaysOn, Leaves, IsAnswerFault, IsOutputOf, IsOutputOn}
+use Rattle.usi_replay.specs.Replayed.{AreReads, ReadsAll, EndsReading, EndsEarly, ReadsBy, Recites, GivesAll, ReplaysAsked, ReplaysOn, Leaves, IsAnswerFault, IsOutputOf, IsOutputOn}
 
 -- ---- the calls
 
