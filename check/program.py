@@ -14,7 +14,7 @@ import sys
 import tempfile
 import time
 
-from checks import DEPTH_ONE, DEPTH_THREE, PROGRAM, TOP, USI, Wrong, run_all, want
+from checks import DEPTH_ONE, DEPTH_THREE, IS_UNPROVED, PROGRAM, TOP, USI, Wrong, run_all, want
 
 # The longest that a run may take, in seconds.
 PATIENCE = 60
@@ -788,6 +788,24 @@ def a_list_and_a_count_tell_their_faults():
     ends(running, -signal.SIGINT, b"")
 
 
+def a_long_count_tells_a_terminal_how_far_it_is():
+    """Once a second, on standard error, and nothing else than a terminal is told."""
+    words = [PROGRAM, "perft", "--depth", "5" if IS_UNPROVED else "6"]
+    here, there = os.openpty()
+    with subprocess.Popen(words, stdout=subprocess.PIPE, stderr=there) as running:
+        ready, _, _ = select.select([here], [], [], PATIENCE)
+        said = os.read(here, 1000) if ready else b""
+        running.kill()
+    os.close(here)
+    os.close(there)
+    if not re.match(rb"usi_host: counted to [1-9][a-i][1-9][a-i]\+?\r?\n", said):
+        raise Wrong(f"a terminal is told {said!r}")
+    running = start(words[1:])
+    time.sleep(3)
+    running.send_signal(signal.SIGINT)
+    ends(running, -signal.SIGINT, b"")
+
+
 def the_first_bad_line_of_a_script_is_named():
     for script, line in (
         (b"A go\n", 1),
@@ -889,6 +907,7 @@ CHECKS = (
     moves_are_listed_by_code,
     a_bad_sfen_is_named,
     a_list_and_a_count_tell_their_faults,
+    a_long_count_tells_a_terminal_how_far_it_is,
     the_first_bad_line_of_a_script_is_named,
     a_replay_writes_nothing_before_its_script_ends,
     a_replay_tells_its_faults,
@@ -896,7 +915,12 @@ CHECKS = (
 )
 
 
-MEASURING = (want_of_memory_is_told, want_of_memory_for_the_words_is_told, a_replay_tells_its_faults)
+MEASURING = (
+    want_of_memory_is_told,
+    want_of_memory_for_the_words_is_told,
+    a_killed_front_end_is_noticed_at_the_next_depth,
+    a_replay_tells_its_faults,
+)
 
 
 if __name__ == "__main__":

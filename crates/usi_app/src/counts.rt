@@ -5,8 +5,12 @@ ghost use Rattle.usi_moves.specs.Asked.{asked_position};
 ghost use Rattle.usi_app.specs.Counts.{IsCounting, IsListing, IsUnasked};
 
 use crate::runs::{FAULT, print_out};
-use std::alloc::{AllocError, Allocator};
-use usi_moves::{CountFault, asked_position, write_moves, write_perft, write_refusal};
+use shogi_core::Move;
+use shogi_sfen::write_move;
+use std::alloc::Allocator;
+use std::rt::Clock;
+use std::time::Instant;
+use usi_moves::{CountFault, Progress, asked_position, write_moves, write_perft, write_refusal};
 use usi_stdio::FrontEnd;
 use usi_texts::Refusal;
 
@@ -65,15 +69,54 @@ pub fn listing<E: Eprint, A: Allocator + Copy, T: FrontEnd>(
     }
 }
 
+/// Tells a terminal how far a count is.
+#[derive(Drop)]
+struct Teller<'a, E> {
+    errors: &'a E,
+    /// When it began or told something last; `None` where nothing is told.
+    told: Option<Instant>,
+}
+
+impl<'a, E: Eprint + Clock> Progress for Teller<'a, E> {
+    fn counted(&mut self, m: &Move) {
+        let Some(told) = self.told else {
+            return;
+        };
+        if !is_past(self.errors, told) {
+            return;
+        }
+        tell(self.errors, m);
+        self.told = Instant::now(self.errors).ok();
+    }
+}
+
+/// Whether a second passed since then.
+fn is_past<E: Clock>(clock: &E, then: Instant) -> bool {
+    match then.elapsed(clock) {
+        Ok(passed) => passed.as_secs() >= 1,
+        Err(_) => false,
+    }
+}
+
+/// Tells how far a count is.
+fn tell<E: Eprint>(errors: &E, m: &Move) {
+    let text = write_move(*m);
+    if let Ok(text) = str::from_utf8(text.as_slice()) {
+        let _ = eprintln!(errors; "usi_host: counted to {text}");
+    }
+}
+
 /// Counts the sequences of legal moves from the position that a text asks for, over a front end. Gives
-/// the status, and tells standard error of a fault.
-pub fn counting<E: Eprint, A: Allocator + Copy, T: FrontEnd>(
+/// the status, and tells standard error of a fault; and where `tells` is set, at most once a second,
+/// which first move the count has reached.
+pub fn counting<E: Eprint + Clock, A: Allocator + Copy, T: FrontEnd>(
     errors: &E,
     alloc: A,
     front_end: &mut T,
     sfen: Option<&[u8]>,
     depth: u8,
     divide: bool,
+    tells: bool,
 ) -> u8
     requires least { 1 ≤ depth }
     requires most { depth ≤ 16 }
@@ -85,7 +128,15 @@ pub fn counting<E: Eprint, A: Allocator + Copy, T: FrontEnd>(
         Err(refusal) => return refuse(errors, alloc, refusal),
     };
     let mut text = Vec::new(alloc);
-    match write_perft(&mut text, &p, depth, divide) {
+    let mut teller = Teller {
+        errors,
+        told: if tells {
+            Instant::now(errors).ok()
+        } else {
+            None
+        },
+    };
+    match write_perft(&mut text, &p, depth, divide, &mut teller) {
         Ok(()) => print_out(errors, front_end, text.as_slice()),
         Err(CountFault::OutOfMemory) => complain(errors, OUT_OF_MEMORY, FAULT),
         Err(CountFault::TooMany) => complain(errors, TOO_MANY, NOT_ACCEPTED),

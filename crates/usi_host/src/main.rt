@@ -14,6 +14,7 @@ use socket_loop::{Limits, Loop, StatusSocket, serve};
 use std::alloc::Global;
 use std::hash::RandomState;
 use std::io;
+use std::io::IsTerminal;
 use std::process::ExitCode;
 use stream_transport::MioWire;
 use transport::WireFault;
@@ -168,7 +169,15 @@ fn main(rt: HostRuntime) -> ExitCode {
                 depth,
                 divide,
             },
-        ) => counting(&rt, rt.alloc(), &mut ends, bytes_of(&sfen), depth, divide),
+        ) => counting(
+            &rt,
+            rt.alloc(),
+            &mut ends,
+            bytes_of(&sfen),
+            depth,
+            divide,
+            rt.stderr().is_terminal(),
+        ),
         Ok(Job::Moves { sfen }) => listing(&rt, rt.alloc(), &mut ends, bytes_of(&sfen)),
         Ok(Job::Help { text }) => print_out(&rt, &mut ends, text.as_bytes()),
         Ok(Job::Version) => print_out(&rt, &mut ends, version_text().as_bytes()),

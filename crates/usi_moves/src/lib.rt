@@ -5,4 +5,4 @@ mod asked;
 mod texts;
 
 pub use asked::{asked_position, write_refusal};
-pub use texts::{CountFault, write_moves, write_perft};
+pub use texts::{CountFault, Progress, write_moves, write_perft};

@@ -85,14 +85,21 @@ fn write_share<A: Allocator>(
     Ok(())
 }
 
+/// Who is told while a count goes on. What it does has no part in the count.
+pub trait Progress {
+    /// All sequences that begin with this move are counted.
+    fn counted(&mut self, m: &Move);
+}
+
 /// Appends how many sequences of `depth` legal moves there are, on a line; before it, where they are
 /// divided, a line for each legal move in the order of codes, with how many of them begin with it.
 /// `TooMany` where there are 2^64 or more. On an error a front of it was appended.
-pub fn write_perft<A: Allocator>(
+pub fn write_perft<A: Allocator, P: Progress>(
     out: &mut Vec<u8, A>,
     p: &Position,
     depth: u8,
     divide: bool,
+    progress: &mut P,
 ) -> Result<(), CountFault>
     requires least { 1 ≤ depth }
     requires most { depth ≤ 16 }
@@ -114,6 +121,7 @@ pub fn write_perft<A: Allocator>(
         };
         total = more;
         write_share(out, divide, played, count)?;
+        progress.counted(played);
     }
     write_count(out, total)?;
     Ok(())
