@@ -1,6 +1,6 @@
 use Rattle.std.proofs.Common.{refl}
 use Rattle.stream_transport.proofs.Noting.{noted}
-use Rattle.stream_transport.proofs.sockets.SocketStreamDuplex.send.Goals as goal
+use Rattle.stream_transport.proofs.sockets.SocketStreamByteStream.send.Goals as goal
 
 -- the call was noted
 pub returns-clause-called : goal.returns-clause-called
