@@ -1,18 +1,17 @@
 -- A drop that changes nothing of what a reply refutes is worth no more than what that leaves.
-use Rattle.std.proofs.Common.{◌≡◌, ◌≢◌, ◌⊎◌, ℕ, ℤ, pos, ◌-◌, ◌^◌, ◌<◌, bit_and, ◌+ℤ◌, ◌≤ℤ◌, true, false, Bool, Option, Some, None, refl, sym, ap, subst, ◌∙◌, inl, inr, arith, set, length, get_or-set_same, get_or-set_other}
+use Rattle.std.proofs.Common.{◌≡◌, ◌⊎◌, ℕ, ℤ, pos, ◌-◌, ◌^◌, ◌<◌, bit_and, ◌+ℤ◌, ◌≤ℤ◌, true, false, None, sym, ap, subst, ◌∙◌, inl, inr, arith, set, length, get_or-set_same, get_or-set_other}
 use Rattle.std.specs.Prelude.{is_none}
 use Rattle.std.proofs.lemmas.Bool.{both_ways, cases_eq, false_from_ne_true, ltb-true}
 use Rattle.std.proofs.lemmas.Int.{ints}
 use Rattle.shogi_core.specs.declared.moves.Move.{Move}
-use Rattle.shogi_core.specs.declared.moves.Move.TheVariants.{Board, Drop}
+use Rattle.shogi_core.specs.declared.moves.Move.TheVariants.{Drop}
 use Rattle.shogi_core.specs.declared.piece.Color.{Color}
 use Rattle.shogi_core.specs.declared.piece.Kind.{Kind}
-use Rattle.shogi_core.specs.declared.piece.Piece.{Piece}
 use Rattle.shogi_core.specs.Attack.{in_check}
 use Rattle.shogi_core.specs.Bits.{has_bit}
 use Rattle.shogi_core.specs.Cell.{is_king}
 use Rattle.shogi_core.specs.Codes.{code_of}
-use Rattle.shogi_core.specs.Movement.{Cells, cell_reaches, piece_at}
+use Rattle.shogi_core.specs.Movement.{cell_reaches, piece_at}
 use Rattle.shogi_core.specs.Pieces.{opponent_of}
 use Rattle.shogi_core.specs.Position.{Shogi, count_in_hand}
 use Rattle.shogi_core.specs.Validity.{IsValid}
@@ -27,7 +26,7 @@ use Rattle.shogi_eval.specs.Material.{material_of}
 use Rattle.shogi_eval.proofs.Gains.{gain_of}
 use Rattle.minimax.specs.Minimax.{lost_value, value, worth}
 use Rattle.dull_moves.specs.Dull.{AreIdle, AreNonInterfering, DropsAreWorthAtMost, IsOnSquares, IsIdle, IsQuietThere, Survives, LetsBe, after_reply, passed, without_king}
-use Rattle.dull_moves.proofs.Commuting.{commute, other_way, stands}
+use Rattle.dull_moves.proofs.Commuting.{commute, stands}
 use Rattle.dull_moves.proofs.Idle.{drop_parts, none_is, tame, with_drop}
 use Rattle.dull_moves.proofs.Materials.{drop_little, material_moved, move_valid}
 use Rattle.dull_moves.proofs.Passing.{passed_valid}

@@ -1,5 +1,5 @@
 -- A drop that changes nothing leaves its side no more gain, and the other side's king the squares that it had.
-use Rattle.std.proofs.Common.{◌≡◌, ◌≢◌, ◌⊎◌, ℕ, ℤ, pos, ◌+◌, ◌-◌, ◌<◌, ◌≤◌, ◌+ℤ◌, ◌≤ℤ◌, Bool, true, false, not, List, [], Option, Some, None, refl, sym, ap, subst, ◌∙◌, inl, inr, arith, set, length, length-set, get_or, get_or-set_same, get_or-set_other}
+use Rattle.std.proofs.Common.{◌≡◌, ◌≢◌, ◌⊎◌, ℕ, ℤ, pos, ◌+◌, ◌-◌, ◌<◌, ◌≤◌, ◌+ℤ◌, ◌≤ℤ◌, Bool, true, false, not, [], Option, Some, None, refl, sym, ap, subst, ◌∙◌, inl, inr, arith, set, length, get_or, get_or-set_same, get_or-set_other}
 use Rattle.std.specs.Prelude.{◌&&◌, ◌||◌, is_none, nat_lt}
 use Rattle.std.proofs.lemmas.Bool.{and_from, and_parts, both_ways, cases_eq, false_from_ne_true, ltb-true, not-true}
 use Rattle.std.proofs.lemmas.Int.{ints}
@@ -11,12 +11,12 @@ use Rattle.shogi_core.specs.declared.piece.Kind.{Kind}
 use Rattle.shogi_core.specs.declared.piece.Piece.{Piece}
 use Rattle.shogi_core.specs.Attack.{in_check, is_attacked, is_attacked_from, is_open_king}
 use Rattle.shogi_core.specs.Bits.{has_bit}
-use Rattle.shogi_core.specs.Cell.{HasNoOtherKing, is_immobile, is_king, is_piece_of}
+use Rattle.shogi_core.specs.Cell.{is_immobile, is_king, is_piece_of}
 use Rattle.shogi_core.specs.Lines.{are_aligned, are_lined}
-use Rattle.shogi_core.specs.Movement.{Cells, cell_reaches, piece_at, reaches}
+use Rattle.shogi_core.specs.Movement.{cell_reaches, piece_at, reaches}
 use Rattle.shogi_core.specs.Pieces.{kind_number, opponent_of}
-use Rattle.shogi_core.specs.Position.{HandCounts, Shogi, count_in_hand, place_of}
-use Rattle.shogi_core.specs.Validity.{IsValid, pawns_on_file}
+use Rattle.shogi_core.specs.Position.{Shogi, count_in_hand, place_of}
+use Rattle.shogi_core.specs.Validity.{IsValid}
 use Rattle.shogi_core.specs.Zones.{may_promote}
 use Rattle.shogi_core.proofs.Below.{some_below_not}
 use Rattle.shogi_core.proofs.Faults.{faultless_from, number_below}
@@ -24,11 +24,11 @@ use Rattle.shogi_core.proofs.SeenLaws.{lined_aligned}
 use Rattle.shogi_core.proofs.Discovered.{attacked_was_but, reach_was}
 use Rattle.shogi_moves.specs.After.{after, cells_after, dropped, hands_after, piece_moved}
 use Rattle.shogi_moves.specs.Escapes.{IsEscape}
-use Rattle.shogi_moves.specs.Legal.{is_legal, is_pawn_kind, is_pseudo_legal, is_pseudo_legal_board_move}
+use Rattle.shogi_moves.specs.Legal.{is_legal}
 use Rattle.shogi_moves.specs.LegalMoves.{legal_codes}
-use Rattle.shogi_moves.proofs.CheckInfoLaws.{dropped_of, is_piece_of-piece_moved, look, other_side, own_some}
+use Rattle.shogi_moves.proofs.CheckInfoLaws.{dropped_of, is_piece_of-piece_moved, look, other_side}
 use Rattle.shogi_moves.proofs.DropChecks as drops
-use Rattle.shogi_moves.proofs.EscapeLaws.{kept, king_reach, opened}
+use Rattle.shogi_moves.proofs.EscapeLaws.{kept, king_reach}
 use Rattle.shogi_moves.proofs.KingLaws.{king_own}
 use Rattle.shogi_moves.proofs.MovedPieces.{opponent_twice}
 use Rattle.shogi_replies.proofs.EscapeLaws.{king_steps}
@@ -36,7 +36,7 @@ use Rattle.shogi_replies.proofs.ReplyLaws.{reply_by}
 use Rattle.shogi_eval.specs.declared.eval.Eval.{Eval}
 use Rattle.shogi_eval.specs.Material.{drop_gain, material_of, promotion_gain, taken_gain}
 use Rattle.shogi_eval.proofs.Gains.{gain_of}
-use Rattle.dull_moves.specs.Dull.{IsOnSquares, IsCalm, IsIdle, IsQuietThere, LeavesOne, without_king}
+use Rattle.dull_moves.specs.Dull.{IsOnSquares, IsCalm, IsIdle, IsQuietThere, without_king}
 use Rattle.dull_moves.proofs.Materials.{drop_little}
 use Rattle.dull_moves.proofs.StillLegal.{legal_parts, length-after}
 use Rattle.dull_moves.proofs.Worth.{IsTame}

@@ -2,11 +2,9 @@ pub mod Squares
 pub mod Passing
 pub mod Commuting
 pub mod Materials
-pub mod Ways
 pub mod StillLegal
 pub mod Worth
 pub mod Idle
 pub mod Dull
-pub mod BothWays
 pub mod Sets
 pub mod SceneLaws

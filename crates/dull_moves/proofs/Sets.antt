@@ -1,7 +1,7 @@
 -- Sets of squares that are sifted one by one.
-use Rattle.std.proofs.Common.{◌≡◌, ◌≢◌, ◌⊎◌, ℕ, ◌-◌, ◌^◌, ◌<◌, Bool, true, false, not, Option, Some, sym, ap, subst, ◌∙◌, inl, inr, bit_and, arith}
+use Rattle.std.proofs.Common.{◌≡◌, ◌≢◌, ◌⊎◌, ℕ, ◌-◌, ◌^◌, ◌<◌, true, false, not, Some, sym, ap, subst, ◌∙◌, inl, inr, bit_and}
 use Rattle.std.specs.Prelude.{◌&&◌, ◌||◌, ◌==◌}
-use Rattle.std.proofs.lemmas.Bool.{and_from, and_parts, both_ways, cases_Bool, cases_eq, eq-eqb, eqb-true, false_from_ne_true, ne_eqb, not_from_false, or_cases, or_left, or_parts, or_right}
+use Rattle.std.proofs.lemmas.Bool.{and_from, and_parts, both_ways, cases_Bool, cases_eq, eq-eqb, false_from_ne_true, ne_eqb, not_from_false, or_parts}
 use Rattle.std.proofs.lemmas.Nat.Bits.{bit_at_ones}
 use Rattle.shogi_core.specs.declared.piece.Piece.{Piece}
 use Rattle.shogi_core.specs.Bits.{has_bit}
@@ -9,7 +9,7 @@ use Rattle.shogi_core.specs.Movement.{Cells, cell_reaches}
 use Rattle.shogi_core.specs.Pieces.{opponent_of}
 use Rattle.shogi_core.proofs.BitLaws.{has_bit-and, has_bit-none}
 use Rattle.dull_moves.specs.Dull.{LeavesOne}
-use Rattle.dull_moves.proofs.BothWays.{reach_both_ways}
+use Rattle.shogi_replies.proofs.CheckLaws.{reach_both_ways}
 
 pub has_bit-all : (n : ℕ) → n < 81 → has_bit (2 ^ 81 - 1) n ≡ true
 unfolding has_bit

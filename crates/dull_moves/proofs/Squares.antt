@@ -1,5 +1,5 @@
 -- Moves whose squares are on the board.
-use Rattle.std.proofs.Common.{◌≡◌, ℕ, ◌<◌, Some}
+use Rattle.std.proofs.Common.{◌≡◌, Some}
 use Rattle.shogi_core.specs.declared.moves.Move.{Move}
 use Rattle.shogi_core.specs.declared.moves.Move.TheVariants.{Board, Drop}
 use Rattle.shogi_core.specs.Codes.{code_of, move_of}

@@ -1,40 +1,31 @@
 -- A reply that is legal after a pass is legal after a drop that lets it be.
-use Rattle.std.proofs.Common.{◌≡◌, ◌≢◌, ◌⊎◌, ℕ, ◌/◌, ◌<◌, ◌≤◌, Bool, true, false, not, Option, Some, None, refl, sym, ap, subst, ◌∙◌, arith, inl, inr, set, length, length-set, get_or-set_same, get_or-set_other}
+use Rattle.std.proofs.Common.{◌≡◌, ◌≢◌, ℕ, ◌/◌, ◌<◌, ◌≤◌, Bool, true, false, not, Option, Some, None, refl, sym, ap, subst, ◌∙◌, arith, inl, inr, set, length, length-set, get_or-set_same}
 use Rattle.std.specs.Prelude.{◌&&◌, ◌||◌, nat_lt, is_none}
-use Rattle.std.proofs.lemmas.Bool.{and_cases, and_from, and_left, and_parts, and_right, both_ways, cases_eq, false_from_ne_true, le-ltb, ltb-false, not-true, not_from_false}
+use Rattle.std.proofs.lemmas.Bool.{and_cases, and_from, and_left, and_parts, and_right, both_ways, false_from_ne_true, le-ltb, ltb-false, not-true, not_from_false}
 use Rattle.shogi_core.specs.declared.moves.Move.{Move}
 use Rattle.shogi_core.specs.declared.moves.Move.TheVariants.{Board, Drop}
 use Rattle.shogi_core.specs.declared.piece.Color.{Color}
-use Rattle.shogi_core.specs.declared.piece.Color.TheVariants.{Black, White}
 use Rattle.shogi_core.specs.declared.piece.Kind.{Kind}
-use Rattle.shogi_core.specs.declared.piece.Kind.TheVariants as kinds
 use Rattle.shogi_core.specs.declared.piece.Piece.{Piece}
-use Rattle.shogi_core.specs.declared.piece.Role.TheVariants.{Pawn}
-use Rattle.shogi_core.specs.Attack.{in_check, is_attacked, is_attacked_from, is_open_king}
-use Rattle.shogi_core.specs.Cell.{is_immobile, is_king, is_pawn, is_pawn_role, is_piece_of}
-use Rattle.shogi_core.specs.Lines.{is_lined_with_king}
-use Rattle.shogi_core.specs.Movement.{Cells, cell_reaches, has_step, piece_at, reaches}
+use Rattle.shogi_core.specs.Attack.{in_check}
+use Rattle.shogi_core.specs.Cell.{is_immobile, is_pawn, is_pawn_role, is_piece_of}
+use Rattle.shogi_core.specs.Movement.{Cells, cell_reaches, piece_at, reaches}
 use Rattle.shogi_core.specs.Pieces.{is_same_color, opponent_of}
 use Rattle.shogi_core.specs.Position.{HandCounts, Shogi, count_in_hand}
 use Rattle.shogi_core.specs.Validity.{pawns_on_file}
 use Rattle.shogi_core.specs.Zones.{may_promote}
-use Rattle.shogi_core.proofs.Below.{some_below_not}
 use Rattle.shogi_core.proofs.PawnFiles.{pawn_nowhere, pawn_there}
 use Rattle.shogi_core.proofs.Replies.{no_check}
-use Rattle.shogi_core.proofs.Snipers.{left_unpinned}
-use Rattle.shogi_core.proofs.Discovered.{reach_was}
 use Rattle.shogi_moves.specs.After.{after, cells_after, dropped, piece_moved}
 use Rattle.shogi_moves.specs.Legal.{is_legal, is_pawn_drop, is_mated_by_drop, is_pawn_drop_mate, is_pawn_kind, is_pseudo_legal, is_pseudo_legal_board_move, is_pseudo_legal_drop, is_safe}
-use Rattle.shogi_moves.proofs.CheckInfoLaws.{dropped_of, dropped_plain, is_piece_of-piece_moved, look, other_side, own_some}
+use Rattle.shogi_moves.proofs.CheckInfoLaws.{dropped_of, other_side}
 use Rattle.shogi_moves.proofs.DropChecks as drops
 use Rattle.shogi_moves.proofs.KingLaws.{king_own}
-use Rattle.shogi_moves.proofs.MovedPieces.{is_king-piece_moved, opponent_twice}
-use Rattle.shogi_replies.specs.ReplyInfo.{IsHarmless, IsHarmlessFrom, StaysCovered}
-use Rattle.shogi_replies.specs.Threats.{end_of}
+use Rattle.shogi_replies.specs.ReplyInfo.{IsHarmless}
 use Rattle.shogi_replies.proofs.ReplyLaws.{LeavesStanding, other_counts}
-use Rattle.dull_moves.specs.Dull.{IsOnSquares, IsOffWay, Survives, LetsBe, after_reply, passed}
+use Rattle.dull_moves.specs.Dull.{IsOnSquares, IsOffWay, Survives, LetsBe, passed}
 use Rattle.dull_moves.proofs.Commuting.{cells_commute}
-use Rattle.dull_moves.proofs.Ways.{reach_kept}
+use Rattle.shogi_replies.proofs.ThreatLaws.{reach_kept}
 
 -- ---- a legal move and its parts
 

@@ -1,5 +1,5 @@
 -- A drop is worth no more than what is left after it and a reply.
-use Rattle.std.proofs.Common.{◌≡◌, ◌≢◌, ℕ, ℤ, pos, ◌-◌, ◌/◌, ◌%◌, ◌<◌, ◌-ℤ◌, ◌+ℤ◌, ◌≤ℤ◌, true, false, List, [], ◌∷◌, Some, sym, ap, subst, ◌∙◌, inl, inr, arith}
+use Rattle.std.proofs.Common.{◌≡◌, ◌≢◌, ℕ, ℤ, pos, ◌-◌, ◌/◌, ◌%◌, ◌<◌, ◌-ℤ◌, ◌+ℤ◌, ◌≤ℤ◌, true, List, [], ◌∷◌, Some, sym, ap, subst, ◌∙◌, inl, inr, arith}
 use Rattle.std.specs.Prelude.{◌==◌}
 use Rattle.std.proofs.lemmas.Bool.{cases_lt}
 use Rattle.std.proofs.lemmas.Int.{ints}

@@ -58,7 +58,8 @@ fn drops_pawn(m: &Move) -> bool
 fn scene_of(node: Node, most: i32) -> Option<Scene>
     requires most { most <ℤ INFINITY }
     ensures node { IfSome result (λ scene. scene.node ≡ node) }
-    ensures room { IfSome result (λ scene. (material_of node.position node.eval +ℤ pos scene.gains) ≤ℤ most) }
+    ensures room { IfSome result (λ scene.
+        (material_of node.position node.eval +ℤ pos scene.gains) ≤ℤ most) }
 {
     let score = node.score();
     if score > most {

@@ -3,12 +3,11 @@
 ghost use Rattle.std.specs.Prelude.{◌≡◌, ◌<◌, ◌≤◌, ℕ, true, false, Some};
 ghost use Rattle.std.proofs.Props.{props};
 ghost use Rattle.shogi_core.specs.Bits.{has_bit};
-ghost use Rattle.shogi_core.specs.Cell.{HasNoOtherKing, is_king, is_piece_of};
+ghost use Rattle.shogi_core.specs.Cell.{HasNoOtherKing, is_king};
 ghost use Rattle.shogi_core.specs.Movement.{piece_at};
 ghost use Rattle.shogi_core.specs.Pieces.{opponent_of};
-ghost use Rattle.shogi_core.specs.Position.{count_in_hand};
 ghost use Rattle.shogi_moves.specs.Escapes.{AreEscapes};
-ghost use Rattle.dull_moves.specs.Dull.{AreCalm, AreDear, AreIdle, IsIdle, IsQuietThere, KindIsCalm, LeavesOne, PieceIsCalm, PromotesCalmly, without_king};
+ghost use Rattle.dull_moves.specs.Dull.{AreDear, LeavesOne, without_king};
 
 use shogi_core::bits::{cleared, lowest, without_lowest};
 use shogi_core::zones::{dead_squares, promoting_squares};
@@ -66,13 +65,16 @@ pub struct Scene {
     pub dear: Squares,
     ghost lifted: { board ≡ without_king node.position king } by { Prim.hlevel props },
     ghost king_fits: { king < 81 },
-    ghost crown: { is_king (opponent_of node.position.side) (piece_at node.position.cells king) ≡ true },
+    ghost crown: { is_king (opponent_of node.position.side) (piece_at node.position.cells king)
+        ≡ true },
     ghost lone: { HasNoOtherKing node.position.cells (opponent_of node.position.side) king } by { Prim.hlevel props },
     ghost escapes: { AreEscapes node.position squares.bits } by { Prim.hlevel props },
     ghost dearer: { AreDear node.position node.eval gains dear.bits } by { Prim.hlevel props },
 }
 
 impl Scene {
+    ghost use Rattle.dull_moves.specs.Scenes.{AreCalmIn, AreIdleIn, IsIdleIn, IsQuietIn, KindIsCalmIn, PieceIsCalmIn, PiecesAreCalmIn, PromotesCalmlyIn};
+
     /// Whether moves of this from the square to the targets, whether legal or not, gain no more than so
     /// much, and leave the king one of the squares.
     pub fn is_calm(
@@ -82,7 +84,7 @@ impl Scene {
         targets: Squares,
         squares: Squares,
     ) -> bool
-        ensures { result ≡ true → AreCalm self.now.node.position self.now.node.eval self.now.gains self.now.king cell from targets.bits squares.bits }
+        ensures { result ≡ true → AreCalmIn self.now cell from targets.bits squares.bits }
     {
         let Some(piece) = cell else {
             return false;
@@ -97,7 +99,7 @@ impl Scene {
 
     /// The same of moves that promote.
     fn is_calm_promoting(&self, cell: Option<Piece>, ends: Squares, squares: Squares) -> bool
-        ensures { result ≡ true → PromotesCalmly self.now.node.position self.now.node.eval self.now.gains self.now.king cell ends.bits squares.bits }
+        ensures { result ≡ true → PromotesCalmlyIn self.now cell ends.bits squares.bits }
     {
         let more = promotion_gain(cell, true);
         let Some(promoted) = piece_moved(cell, true) else {
@@ -114,7 +116,7 @@ impl Scene {
     /// Whether so are all moves on the board of what stands on the square, with squares on no line with
     /// it: those may be attacked once it has left.
     fn is_piece_calm(&self, from: Square) -> bool
-        ensures { result ≡ true → PieceIsCalm self.now.node.position self.now.node.eval self.now.gains self.now.king self.now.squares.bits from }
+        ensures { result ≡ true → PieceIsCalmIn self.now from }
     {
         from.reveal_invariant();
         let cell = self.node.as_position().at(from);
@@ -133,9 +135,7 @@ impl Scene {
 
     /// Whether so are those of all pieces of the side to move.
     fn are_pieces_calm(&self) -> bool
-        ensures { result ≡ true → (from : ℕ) → from < 81
-            → is_piece_of self.now.node.position.side (piece_at self.now.node.position.cells from) ≡ true
-            → PieceIsCalm self.now.node.position self.now.node.eval self.now.gains self.now.king self.now.squares.bits from }
+        ensures { result ≡ true → PiecesAreCalmIn self.now }
     {
         let p = self.node.as_position();
         let own = p.as_board().own(p.side());
@@ -152,8 +152,7 @@ impl Scene {
 
     /// Whether a drop of the kind, if a piece of it is held, leaves the king a square wherever it ends.
     fn is_kind_calm(&self, kind: Kind) -> bool
-        ensures { result ≡ true → 0 < count_in_hand self.now.node.position.hands self.now.node.position.side kind
-            → KindIsCalm self.now.node.position self.now.king self.now.squares.bits kind }
+        ensures { result ≡ true → KindIsCalmIn self.now kind }
     {
         let p = self.node.as_position();
         if p.hand(p.side(), kind) == 0 {
@@ -171,8 +170,7 @@ impl Scene {
 
     /// Whether so does a drop of each kind.
     fn are_kinds_calm(&self) -> bool
-        ensures { result ≡ true → (kind : Kind) → 0 < count_in_hand self.now.node.position.hands self.now.node.position.side kind
-            → KindIsCalm self.now.node.position self.now.king self.now.squares.bits kind }
+        ensures { result ≡ true → (kind : Kind) → KindIsCalmIn self.now kind }
     {
         if !self.is_kind_calm(Kind::Pawn) || !self.is_kind_calm(Kind::Lance) {
             return false;
@@ -189,7 +187,7 @@ impl Scene {
     /// Whether the side to move gains no more than so much, and leaves the king a square, whatever it
     /// does.
     pub fn is_quiet(&self) -> bool
-        ensures { result ≡ true → IsQuietThere self.now.node.position self.now.node.eval self.now.gains self.now.king self.now.squares.bits }
+        ensures { result ≡ true → IsQuietIn self.now }
     {
         self.king.reveal_invariant();
         self.are_pieces_calm() && self.are_kinds_calm()
@@ -198,7 +196,7 @@ impl Scene {
     /// Whether a piece of the kind, dropped on the square, reaches neither the king nor its squares, and
     /// gains no more than so much by its next move, nor leaves the king no square.
     fn is_idle(&self, kind: Kind, to: Square) -> bool
-        ensures { result ≡ true → IsIdle self.now.node.position self.now.node.eval self.now.gains self.now.king self.now.squares.bits kind to }
+        ensures { result ≡ true → IsIdleIn self.now kind to }
     {
         let p = self.node.as_position();
         let cell = dropped(p.side(), kind);
@@ -216,8 +214,7 @@ impl Scene {
     /// Those of the squares on which it is so, if a piece of the kind is held, and else all of them.
     pub fn idle_squares(&self, kind: Kind, squares: Squares) -> Squares
         ensures among { (n : ℕ) → has_bit result.bits n ≡ true → has_bit squares.bits n ≡ true }
-        ensures idle { 0 < count_in_hand self.now.node.position.hands self.now.node.position.side kind
-            → AreIdle self.now.node.position self.now.node.eval self.now.gains self.now.king self.now.squares.bits kind result.bits }
+        ensures idle { AreIdleIn self.now kind result.bits }
     {
         let p = self.node.as_position();
         if p.hand(p.side(), kind) == 0 {

@@ -60,7 +60,7 @@ slide_both_ways cells piece a b h e =
     among_ways (λ o. slides cells o b a) (λ o. back (for_side piece.color o)) (for_side (opponent_of piece.color)) (slides_of piece.role) (slides_of piece.role) (slides_both_ways piece.color piece.role)
     (list_any_kept (λ o. slides cells (for_side piece.color o) a b) (λ o. slides cells (back (for_side piece.color o)) b a) (slides_of piece.role) (λ o f. slides_back cells (for_side piece.color o) a b h f) e)
 
-reach_both_ways : (cells : Cells) (piece : Piece) (a b : ℕ) → a < 81 → cell_reaches cells (Some piece) a b ≡ true → cell_reaches cells (Some (record { color = opponent_of piece.color; role = piece.role })) b a ≡ true
+pub reach_both_ways : (cells : Cells) (piece : Piece) (a b : ℕ) → a < 81 → cell_reaches cells (Some piece) a b ≡ true → cell_reaches cells (Some (record { color = opponent_of piece.color; role = piece.role })) b a ≡ true
 reach_both_ways cells piece a b h e = elim (or_cases (has_step piece a b) (has_slide cells piece a b) e) [
   | inl step ↦ or_left (has_step (record { color = opponent_of piece.color; role = piece.role }) b a) _ (step_both_ways piece a b h step)
   | inr slide ↦ or_right (has_step (record { color = opponent_of piece.color; role = piece.role }) b a) _ (slide_both_ways cells piece a b h slide)

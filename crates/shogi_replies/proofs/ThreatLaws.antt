@@ -82,7 +82,7 @@ slides_kept old new color a t kept (o ∷ os) all e =
     ]
 
 -- so a piece reaches what it reached where that square is not between the two
-reach_kept : (old new : Cells) (to : ℕ) → ((x : ℕ) → is_none (piece_at old x) ≡ true → x ≢ to → is_none (piece_at new x) ≡ true) → (cell : Option Piece) (a t : ℕ) → cell_reaches old cell a t ≡ true → ((d : ℕ) → d < 8 → is_on_ray (direction_at d) a to ≡ true → is_on_ray (direction_at d) to t ≡ false) → cell_reaches new cell a t ≡ true
+pub reach_kept : (old new : Cells) (to : ℕ) → ((x : ℕ) → is_none (piece_at old x) ≡ true → x ≢ to → is_none (piece_at new x) ≡ true) → (cell : Option Piece) (a t : ℕ) → cell_reaches old cell a t ≡ true → ((d : ℕ) → d < 8 → is_on_ray (direction_at d) a to ≡ true → is_on_ray (direction_at d) to t ≡ false) → cell_reaches new cell a t ≡ true
 reach_kept old new to clear None a t e off = absurd (cc)
 reach_kept old new to clear (Some piece) a t e off = elim (or_cases (has_step piece a t) (has_slide old piece a t) e) [
   | inl step ↦ or_left (has_step piece a t) (has_slide new piece a t) step

@@ -7,6 +7,7 @@ use shogi_moves::is_legal;
 
 /// The position after a pass and a reply, the other side's king and where it may go, and what a move may
 /// leave at most.
+#[derive(Drop)]
 pub struct Dull {
     reply: Move,
     pub most: i32,
@@ -67,7 +68,7 @@ impl Dull {
         ) {
             return None;
         }
-        let passed = Position::new(*p.board().cells(), p.hands(), p.side().opponent()).ok()?;
+        let passed = Position::new(*p.as_board().cells(), p.hands(), p.side().opponent()).ok()?;
         let (tried, made, kept) = (reply, reply, reply);
         if !is_legal(&passed, tried) {
             return None;

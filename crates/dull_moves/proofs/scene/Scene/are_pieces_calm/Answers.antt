@@ -1,4 +1,4 @@
-use Rattle.std.proofs.Common.{arith, refl}
+use Rattle.std.proofs.Common.{arith}
 use Rattle.dull_moves.proofs.SceneLaws.{pieces_done, pieces_first, pieces_next}
 use Rattle.dull_moves.proofs.scene.Scene.are_pieces_calm.Goals as goal
 

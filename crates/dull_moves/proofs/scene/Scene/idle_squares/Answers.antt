@@ -1,7 +1,3 @@
-use Rattle.std.proofs.Common.{◌≡◌, ◌∙◌, ℕ, ap, false}
-use Rattle.std.proofs.lemmas.Bool.{both_ways}
-use Rattle.shogi_core.specs.Bits.{has_bit}
-use Rattle.shogi_core.proofs.BitLaws.{has_bit-none}
 use Rattle.dull_moves.specs.Dull.{IsIdle}
 use Rattle.dull_moves.proofs.Sets.{kept_done}
 use Rattle.dull_moves.proofs.scene.Scene.idle_squares.Goals as goal

@@ -1,4 +1,4 @@
-use Rattle.std.proofs.Common.{arith, ◌∙◌, sym, ap, ◌≡◌}
+use Rattle.std.proofs.Common.{◌∙◌, sym}
 use Rattle.std.proofs.lemmas.Bool.{eqb-true}
 use Rattle.dull_moves.proofs.SceneLaws.{kind_calm}
 use Rattle.dull_moves.proofs.scene.Scene.is_kind_calm.Goals as goal

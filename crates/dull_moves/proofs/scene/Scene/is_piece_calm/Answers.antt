@@ -1,4 +1,4 @@
-use Rattle.std.proofs.Common.{arith, ◌∙◌, sym, ap, ◌≡◌}
+use Rattle.std.proofs.Common.{◌∙◌, sym}
 use Rattle.dull_moves.proofs.SceneLaws.{piece_calm}
 use Rattle.dull_moves.proofs.scene.Scene.is_piece_calm.Goals as goal
 
