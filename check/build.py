@@ -35,6 +35,7 @@ USUAL = {
     "shogi_sfen": 72,
     "shogi_eval": 35,
     "minimax": 10,
+    "dull_moves": 40,
     "search_nodes": 118,
     "last_ply": 76,
     "shogi_search": 146,
