@@ -55,42 +55,62 @@ fn is_touched(m: &Move, at: Square) -> bool {
     }
 }
 
+/// Whether the move drops a pawn.
+fn drops_pawn(m: &Move) -> bool {
+    match m {
+        Move::Drop { kind, .. } => *kind == Kind::Pawn,
+        Move::Board { .. } => false,
+    }
+}
+
+/// The piece as it is after a promotion.
+fn promoted(piece: Piece) -> Piece {
+    Piece {
+        color: piece.color,
+        role: piece.role.promoted(),
+    }
+}
+
+/// The position after the move of the code, where that is legal.
+fn replied(p: &Position, code: u16) -> Option<Position> {
+    let tried = Move::of_code(code)?;
+    if !is_legal(p, tried) {
+        return None;
+    }
+    let made = Move::of_code(code)?;
+    Some(shogi_moves::apply(p, made))
+}
+
 impl Dull {
     /// What the reply leaves after a pass, where it is legal then and drops no pawn.
     fn after(p: &Position, e: Eval, code: u16, most: i32) -> Option<Dull> {
         let reply = Move::of_code(code)?;
-        if matches!(
-            &reply,
-            Move::Drop {
-                kind: Kind::Pawn,
-                ..
-            }
-        ) {
+        if drops_pawn(&reply) {
             return None;
         }
         let passed = Position::new(*p.as_board().cells(), p.hands(), p.side().opponent()).ok()?;
-        let (tried, made, kept) = (reply, reply, reply);
-        if !is_legal(&passed, tried) {
-            return None;
-        }
-        let position = shogi_moves::apply(&passed, made);
+        let position = replied(&passed, code)?;
         let escapes = escapes_of(&position)?;
+        let king = escapes.king;
+        let bare = position.board().put(king, None);
+        let are_open = escapes.are_open;
         Some(Dull {
-            reply: kept,
+            reply,
             most,
             eval: e,
             position,
-            king: escapes.king,
-            bare: position.board().put(escapes.king, None),
-            are_open: escapes.are_open,
+            king,
+            bare,
+            are_open,
         })
     }
 
-    /// Whether the piece on the square leaves the king one of its squares, on no line with the one left.
-    fn leaves_one(&self, piece: Piece, at: Square, left: Option<Square>) -> bool {
+    /// Whether the piece on the square leaves the king one of its squares, on no line with the one left, if
+    /// one is.
+    fn leaves_one(&self, piece: Piece, at: Square, left: Square, is_left: bool) -> bool {
         for number in 0..81u8 {
             let open = square(number);
-            let is_lined = matches!(left, Some(from) if from != open && are_on_a_line(from, open));
+            let is_lined = is_left && left != open && are_on_a_line(left, open);
             if self.are_open[number as usize]
                 && open != at
                 && !is_lined
@@ -104,31 +124,40 @@ impl Dull {
 
     /// Whether the piece, on its way from the one square to the other, gains too much or leaves the king
     /// none of its squares, promoting or not.
-    fn matters(&self, piece: Piece, from: Square, to: Square, left: Option<Square>) -> bool {
+    fn matters(&self, piece: Piece, from: Square, to: Square, left: Square, is_left: bool) -> bool {
         let taken = taken_gain(self.eval, self.position.at(to)) as i32;
         let before = material(&self.position, self.eval);
-        if before.saturating_add(taken) > self.most || !self.leaves_one(piece, to, left) {
+        if before.saturating_add(taken) > self.most {
+            return true;
+        }
+        if !self.leaves_one(piece, to, left, is_left) {
             return true;
         }
         if !may_promote(piece, from, to) {
             return false;
         }
         let more = taken.saturating_add(promotion_gain(Some(piece), true) as i32);
-        let promoted = Piece {
-            color: piece.color,
-            role: piece.role.promoted(),
-        };
-        before.saturating_add(more) > self.most || !self.leaves_one(promoted, to, left)
+        if before.saturating_add(more) > self.most {
+            return true;
+        }
+        !self.leaves_one(promoted(piece), to, left, is_left)
+    }
+
+    /// Whether a piece of the same side stands on the square.
+    fn is_own(&self, piece: Piece, at: Square) -> bool {
+        match self.position.at(at) {
+            Some(other) => other.color == piece.color,
+            None => false,
+        }
     }
 
     /// Whether some move of the piece from the square matters: to where no piece of its side stands.
-    fn moves_matter(&self, piece: Piece, from: Square, left: Option<Square>) -> bool {
+    fn moves_matter(&self, piece: Piece, from: Square, left: Square, is_left: bool) -> bool {
         for number in 0..81u8 {
             let to = square(number);
-            let is_own = matches!(self.position.at(to), Some(other) if other.color == piece.color);
-            if !is_own
+            if !self.is_own(piece, to)
                 && reaches(&self.bare, piece, from, to)
-                && self.matters(piece, from, to, left)
+                && self.matters(piece, from, to, left, is_left)
             {
                 return true;
             }
@@ -154,7 +183,7 @@ impl Dull {
             let to = square(number);
             if self.position.at(to).is_none()
                 && can_move(piece, to)
-                && !self.leaves_one(piece, to, None)
+                && !self.leaves_one(piece, to, to, false)
             {
                 return true;
             }
@@ -171,7 +200,7 @@ impl Dull {
             let from = square(number);
             if let Some(piece) = self.position.at(from) {
                 if piece.color == self.position.side()
-                    && self.moves_matter(piece, from, Some(from))
+                    && self.moves_matter(piece, from, from, true)
                 {
                     return false;
                 }
@@ -215,6 +244,6 @@ impl Dull {
                 return false;
             }
         }
-        !self.moves_matter(piece, to, None)
+        !self.moves_matter(piece, to, to, false)
     }
 }
