@@ -35,7 +35,8 @@ fn next_board(
 ) -> Option<Move>
     requires consistent { IsBoardSweep p.now capture sweep.old }
     ensures consistent { IsBoardSweep p.now capture sweep.new }
-    ensures next { TakesBoardPick p.now (codes_of priority_moves.now) capture result sweep.old sweep.new }
+    ensures next { TakesBoardPick p.now (codes_of priority_moves.now) capture
+        result sweep.old sweep.new }
 {
     'moves: while let Some(m) = sweep.next(p, capture) {
         if !priority_moves.has_move(&m) {
@@ -79,7 +80,8 @@ impl MovePicker {
         known: &KnownPosition<'_>,
         priority_moves: PriorityMoves,
     ) -> Option<Move>
-        ensures next { TakesFirstDrop known.now.position.now (codes_of priority_moves) result self.new }
+        ensures next { TakesFirstDrop known.now.position.now (codes_of priority_moves)
+            result self.new }
         ensures consistent { IsKept known.now.position.now self.new }
     {
         let p = known.position;
@@ -102,7 +104,8 @@ impl MovePicker {
         known: &KnownPosition<'_>,
         priority_moves: PriorityMoves,
     ) -> Option<Move>
-        ensures next { TakesFirstQuiet known.now.position.now (codes_of priority_moves) result self.new }
+        ensures next { TakesFirstQuiet known.now.position.now (codes_of priority_moves)
+            result self.new }
         ensures consistent { IsKept known.now.position.now self.new }
     {
         let p = known.position;
@@ -119,7 +122,8 @@ impl MovePicker {
     /// Begins with the captures.
     #[tactic(auto, using(crate::proofs::MatchingOthers::no_capture_left))]
     fn enter_captures(&mut self, p: &Position, priority_moves: PriorityMoves) -> Option<Move>
-        ensures next { TakesPriorityMove p.now result (others_to_come p.now (codes_of priority_moves)) self.new }
+        ensures next { TakesPriorityMove p.now
+            result (others_to_come p.now (codes_of priority_moves)) self.new }
         ensures consistent { IsKept p.now self.new }
     {
         let known = check_info_of(p).at(p);
@@ -140,7 +144,8 @@ impl MovePicker {
         priority_moves: PriorityMoves,
         passed: usize,
     ) -> Option<Move>
-        ensures next { TakesPriorityMove p.now result (todo_from p.now priority_moves passed) self.new }
+        ensures next { TakesPriorityMove p.now
+            result (todo_from p.now priority_moves passed) self.new }
         ensures consistent { IsKept p.now self.new }
     {
         let Some((m, n)) = priority_moves.next_legal(p, passed) else {
@@ -255,7 +260,8 @@ impl MovePicker {
         replies: &ReplyInfo,
     )
         requires consistent { IsKept p.now self.old }
-        requires replies { IsReplyInfo p.now replies.now.king_view.bits replies.now.free_movers.bits }
+        requires replies { IsReplyInfo p.now
+            replies.now.king_view.bits replies.now.free_movers.bits }
         requires escapes { AreEscapes p.now move_filter.now.escapes.bits }
         ensures consistent { IsKept p.now self.new }
         ensures passed { SkipsQuiets p.now move_filter.now self.old self.new }
@@ -286,7 +292,8 @@ impl MovePicker {
         replies: &ReplyInfo,
     )
         requires consistent { IsKept p.now self.old }
-        requires replies { IsReplyInfo p.now replies.now.king_view.bits replies.now.free_movers.bits }
+        requires replies { IsReplyInfo p.now
+            replies.now.king_view.bits replies.now.free_movers.bits }
         requires escapes { AreEscapes p.now escapes.bits }
         ensures consistent { IsKept p.now self.new }
         ensures passed { SkipsDrops p.now squares.bits escapes.bits self.old self.new }

@@ -265,7 +265,8 @@ impl Threats {
     #[inline(always)]
     pub(crate) fn has_retake(&self, p: &Position, replies: &ReplyInfo, m: &Move) -> bool
         requires takes { AreAttacked p.now self.now.takes.bits }
-        requires consistent { IsReplyInfo p.now replies.now.king_view.bits replies.now.free_movers.bits }
+        requires consistent { IsReplyInfo p.now
+            replies.now.king_view.bits replies.now.free_movers.bits }
         requires legal { is_legal p.now m.now ≡ true }
         ensures { result ≡ true → ∥ IsTaken p.now m.now ∥₁ }
     {

@@ -147,7 +147,8 @@ fn safe_destinations(known: &KnownPosition<'_>, from: Square, destinations: Squa
 #[inline(always)]
 #[tactic(auto, using(crate::proofs::DestinationLaws::promoting))]
 fn with_promotions(cell: Option<Piece>, from: Square, among: Squares) -> Destinations
-    ensures non_promoting { HasThose result.non_promoting.bits among.bits (λ n. not (is_immobile n cell)) }
+    ensures non_promoting { HasThose result.non_promoting.bits among.bits (λ n.
+        not (is_immobile n cell)) }
     ensures promoting { HasThose result.promoting.bits among.bits (may_promote cell from) }
 {
     let zone = promoting_squares(cell, from);

@@ -286,7 +286,8 @@ impl Stack {
         ensures free { result ≡ true → OnTop self.new (λ top. IsFree top.state) }
         ensures left { result ≡ true → steps_left self.new < steps_left self.old }
         ensures truth { result ≡ false → IsTrueOfRoot self.old entry.now }
-        ensures conclusive { result ≡ false → IsConclusive (negated INFINITY) self.old.beta entry.now }
+        ensures conclusive { result ≡ false
+            → IsConclusive (negated INFINITY) self.old.beta entry.now }
         ensures if_none { result ≡ false → memo.new ≡ memo.old }
         ensures below { result ≡ true → self.old.height ≤ self.new.height + 1 }
         ensures above { result ≡ true → self.new.height ≤ self.old.height }

@@ -250,7 +250,8 @@ For more information, try '--help'.
 /// The job that the command names, where its numbers lie in their ranges.
 fn named_job(alloc: Global, matches: &ArgMatches<'_>) -> Result<Option<Job>, AllocError>
     ensures some { IfOk result (λ named. IfSome named (IsJobIn (subcommand_rows_of matches.now))) }
-    ensures if_none { IfOk result (λ job. IfNone job (NamesNoJob (subcommand_rows_of matches.now))) }
+    ensures if_none { IfOk result (λ job.
+        IfNone job (NamesNoJob (subcommand_rows_of matches.now))) }
 {
     let Some((name, options)) = matches.subcommand() else {
         return Ok(Some(usual_job()));

@@ -264,7 +264,8 @@ fn rank_child(
     requires ranked { IsRankedTo go_request.now depths_done root_move ranks.old }
     requires over { search.old.left ≡ 0 }
     requires below { IsFoundOfChild go_request.now depths_done root_move ranks.old found.now }
-    ensures at_depth { IsAtFirstLine go_request.now depths_done result ranks.new walk.new search.new }
+    ensures at_depth { IsAtFirstLine go_request.now depths_done
+        result ranks.new walk.new search.new }
     ensures cost { LeavesLoad go_request.now depths_done root_move result walk.new search.new }
     ensures roots { LeavesRoots go_request.now depths_done result walk.new search.new }
 {
@@ -288,7 +289,8 @@ impl<A: Allocator> GoTask<A> {
         requires go_request { IsQuestionInRange go_request }
         requires first { IsFirst go_request.position first }
         ensures done { IfOk result (HasDone go_request 0 0) }
-        ensures load { IfOk result (λ go. load_of go ≤ cost_of_depths go_request 0 go_request.depth) }
+        ensures load { IfOk result (λ go.
+            load_of go ≤ cost_of_depths go_request 0 go_request.depth) }
         ensures roots { IfOk result (λ go. roots_of go ≡ first_roots go_request) }
     {
         let asked = go_request;
