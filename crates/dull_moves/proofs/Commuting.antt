@@ -21,7 +21,7 @@ pub stands : (cells : Cells) (side : Color) (m : Move) (n : ℕ) → IsOff m n �
 stands cells side (Board from to promote) n off = get_or-set_other (set cells from None) to n (piece_moved promote (piece_at cells from)) None off.1 ∙ get_or-set_other cells from n None None off.0
 stands cells side (Drop kind to) n off = get_or-set_other cells to n (dropped side kind) None off
 
-one_by_two : {X : Type 0} (xs : List X) (a c d : ℕ) (u w z : X) → a ≢ c → a ≢ d → set (set (set xs a u) c w) d z ≡ set (set (set xs c w) d z) a u
+pub one_by_two : {X : Type 0} (xs : List X) (a c d : ℕ) (u w z : X) → a ≢ c → a ≢ d → set (set (set xs a u) c w) d z ≡ set (set (set xs c w) d z) a u
 one_by_two xs a c d u w z ac ad = ap (λ l. set l d z) (set_comm xs a c u w ac) ∙ set_comm (set xs c w) a d u z ad
 
 pub other_way : (a b : ℕ) → a ≢ b → b ≢ a
@@ -98,7 +98,7 @@ hands_commute hands cells side kind b r h =
 
 -- ---- positions
 
-abbrev position : Cells → HandCounts → Color → Shogi
+abbrev pub position : Cells → HandCounts → Color → Shogi
 position cells hands side = record { cells = cells; hands = hands; side = side }
 
 commute_of : (cells : Cells) (hands : HandCounts) (side : Color) (kind : Kind) (b : ℕ) (r : Move) → IsOff r b

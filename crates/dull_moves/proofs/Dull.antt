@@ -1,23 +1,31 @@
--- A drop that changes nothing of what a reply refutes is worth no more than what that leaves.
-use Rattle.std.proofs.Common.{◌≡◌, ◌⊎◌, ℕ, ℤ, pos, ◌-◌, ◌^◌, ◌<◌, bit_and, ◌+ℤ◌, ◌≤ℤ◌, true, false, None, sym, ap, subst, ◌∙◌, inl, inr, arith, set, length, get_or-set_same, get_or-set_other}
+-- What changes nothing of what a reply refutes is worth no more than what that leaves.
+use Rattle.std.proofs.Common.{◌≡◌, ◌≢◌, ◌⊎◌, ℕ, ℤ, pos, ◌-◌, ◌^◌, ◌<◌, bit_and, ◌+ℤ◌, ◌≤ℤ◌, true, false, Option, None, refl, sym, ap, subst, ◌∙◌, inl, inr, arith, set, length, length-set, get_or, get_or-set_same, get_or-set_other}
 use Rattle.std.specs.Prelude.{is_none}
-use Rattle.std.proofs.lemmas.Bool.{both_ways, cases_eq, false_from_ne_true, ltb-true}
+use Rattle.std.specs.List.{list_any}
+use Rattle.std.proofs.lemmas.Bool.{and_parts, both_ways, cases_eq, false_from_ne_true, ltb-true}
 use Rattle.std.proofs.lemmas.Int.{ints}
 use Rattle.shogi_core.specs.declared.moves.Move.{Move}
-use Rattle.shogi_core.specs.declared.moves.Move.TheVariants.{Drop}
+use Rattle.shogi_core.specs.declared.moves.Move.TheVariants.{Board, Drop}
 use Rattle.shogi_core.specs.declared.piece.Color.{Color}
+use Rattle.shogi_core.specs.declared.piece.Color.TheVariants.{Black, White}
 use Rattle.shogi_core.specs.declared.piece.Kind.{Kind}
+use Rattle.shogi_core.specs.declared.piece.Piece.{Piece}
 use Rattle.shogi_core.specs.Attack.{in_check}
+use Rattle.shogi_core.specs.Below.{some_below}
 use Rattle.shogi_core.specs.Bits.{has_bit}
-use Rattle.shogi_core.specs.Cell.{is_king}
+use Rattle.shogi_core.specs.Cell.{HasNoOtherKing, is_king, is_piece_of}
 use Rattle.shogi_core.specs.Codes.{code_of}
-use Rattle.shogi_core.specs.Movement.{cell_reaches, piece_at}
-use Rattle.shogi_core.specs.Pieces.{opponent_of}
-use Rattle.shogi_core.specs.Position.{Shogi, count_in_hand}
+use Rattle.shogi_core.specs.Lines.{are_lined, around, is_line_to_king, is_lined_with_king}
+use Rattle.shogi_core.specs.Movement.{Cells, cell_reaches, piece_at, reaches, slides}
+use Rattle.shogi_core.specs.Pieces.{kind_number, opponent_of}
+use Rattle.shogi_core.specs.Position.{Shogi, count_in_hand, place_of}
 use Rattle.shogi_core.specs.Validity.{IsValid}
-use Rattle.shogi_core.proofs.Discovered.{reach_was}
-use Rattle.shogi_moves.specs.After.{after, dropped}
+use Rattle.shogi_core.proofs.Below.{some_below_no}
+use Rattle.shogi_core.proofs.Faults.{number_below}
+use Rattle.shogi_core.proofs.Discovered.{list_any_kept, reach_was, slides_was}
+use Rattle.shogi_moves.specs.After.{after, dropped, hands_after}
 use Rattle.shogi_moves.specs.Legal.{is_legal, is_pawn_drop}
+use Rattle.shogi_moves.proofs.CheckInfoLaws.{dropped_of}
 use Rattle.shogi_moves.proofs.MovedPieces.{opponent_twice}
 use Rattle.shogi_replies.specs.ReplyInfo.{IsHarmless}
 use Rattle.shogi_replies.proofs.ReplyLaws.{other_counts}
@@ -25,61 +33,107 @@ use Rattle.shogi_eval.specs.declared.eval.Eval.{Eval}
 use Rattle.shogi_eval.specs.Material.{material_of}
 use Rattle.shogi_eval.proofs.Gains.{gain_of}
 use Rattle.minimax.specs.Minimax.{lost_value, value, worth}
-use Rattle.dull_moves.specs.Dull.{AreIdle, AreNonInterfering, DropsAreWorthAtMost, IsOnSquares, IsIdle, IsQuietThere, Survives, LetsBe, after_reply, passed, without_king}
+use Rattle.dull_moves.specs.Dull.{AreIdle, AreNonInterfering, DropsAreWorthAtMost, IsOnSquares, IsIdle, IsOff, IsQuietThere, IsUnseen, LetsBe, QuietsAreWorthAtMost, Survives, after_reply, lifted, passed, placed}
+use Rattle.dull_moves.proofs.BoardMoves.{quiet_dull}
 use Rattle.dull_moves.proofs.Commuting.{commute, stands}
-use Rattle.dull_moves.proofs.Idle.{drop_parts, none_is, tame, with_drop}
+use Rattle.dull_moves.proofs.Idle.{board_parts, drop_parts, none_is, put_on, tame}
 use Rattle.dull_moves.proofs.Materials.{drop_little, material_moved, move_valid}
 use Rattle.dull_moves.proofs.Passing.{passed_valid}
 use Rattle.dull_moves.proofs.SceneLaws.{out_parts}
 use Rattle.dull_moves.proofs.StillLegal.{still_legal}
 use Rattle.dull_moves.proofs.Worth.{IsTame, value_of_tame, worth_by_reply}
 
+-- the position with a piece dropped, and the same side to move
+abbrev pub after_drop : Shogi → Kind → ℕ → Shogi
+after_drop q kind b = put_on q (dropped q.side kind) (hands_after q.hands q.cells q.side (Drop kind b)) b
+
 -- after a drop and the reply stands what the drop leaves after a pass and the reply
-as_left : (p : Shogi) (kind : Kind) (b : ℕ) (r : Move) → Survives r b → after (after p (Drop kind b)) r ≡ with_drop (after_reply p r) kind b
+as_left : (p : Shogi) (kind : Kind) (b : ℕ) (r : Move) → Survives r b → after (after p (Drop kind b)) r ≡ after_drop (after_reply p r) kind b
 as_left p kind b r spared =
     commute p kind b r spared.0
-    ∙ ap (λ (color : Color). record { cells = (with_drop (after_reply p r) kind b).cells; hands = (with_drop (after_reply p r) kind b).hands; side = color }) (opponent_twice (after_reply p r).side)
+    ∙ ap (λ (color : Color). record { cells = (after_drop (after_reply p r) kind b).cells; hands = (after_drop (after_reply p r) kind b).hands; side = color }) (opponent_twice (after_reply p r).side)
+
+-- a side holds no more of a kind after a drop
+place_below : (side : Color) (kind : Kind) → place_of side kind < 14
+place_below Black kind = let low : kind_number kind < 7 = number_below kind in omega (arith, low)
+place_below White kind = let low : kind_number kind < 7 = number_below kind in omega (arith, low)
+
+held_before : (q : Shogi) (kind : Kind) (b : ℕ) → length q.hands ≡ 14 → (other : Kind) → 0 < count_in_hand (after_drop q kind b).hands q.side other → 0 < count_in_hand q.hands q.side other
+held_before q kind b held other some = elim (cases_eq (place_of q.side other) (place_of q.side kind)) [
+  | inl here ↦ (
+      let low : place_of q.side kind < 14 = place_below q.side kind in
+      let now_is : count_in_hand (after_drop q kind b).hands q.side other ≡ count_in_hand q.hands q.side kind - 1 = ap (λ (i : ℕ). get_or (after_drop q kind b).hands i 0) here ∙ get_or-set_same q.hands (place_of q.side kind) (count_in_hand q.hands q.side kind - 1) 0 (omega (arith, low, held)) in
+      let was_is : count_in_hand q.hands q.side other ≡ count_in_hand q.hands q.side kind = ap (λ (i : ℕ). get_or q.hands i 0) here in
+      omega (arith, some, now_is, was_is))
+  | inr off ↦ subst (λ (n : ℕ). 0 < n) (get_or-set_other q.hands (place_of q.side kind) (place_of q.side other) (count_in_hand q.hands q.side kind - 1) 0 off) some
+]
+
+-- ---- what is looked at where the king has left its square
+
+kingless : (cells : Cells) (king : ℕ) → length cells ≡ 81 → king < 81 → (x : ℕ) → is_none (piece_at cells x) ≡ true → is_none (piece_at (set cells king None) x) ≡ true
+kingless cells king len low x n = elim (cases_eq x king) [
+  | inl at ↦ ap (λ (y : ℕ). is_none (piece_at (set cells king None) y)) at ∙ ap is_none (get_or-set_same cells king None None (omega (arith, len, low)))
+  | inr off ↦ ap is_none (get_or-set_other cells king x None None off) ∙ n
+]
+
+-- where nothing more is empty, what reaches a square reached it with the king away
+reached_kingless : (cells now : Cells) (king : ℕ) → length cells ≡ 81 → king < 81 → ((x : ℕ) → is_none (piece_at now x) ≡ true → is_none (piece_at cells x) ≡ true) → (cell : Option Piece) (a s : ℕ) → cell_reaches now cell a s ≡ true → cell_reaches (set cells king None) cell a s ≡ true
+reached_kingless cells now king len low emptied cell a s r = reach_was (set cells king None) now (λ x. ⊥) (λ x n. inl (kingless cells king len low x (emptied x n))) cell a s (λ x left. absurd left) r
+
+-- so a square that is on no open line with the king then is on none before
+unlined_before : (cells : Cells) (king a : ℕ) → length cells ≡ 81 → king < 81 → are_lined (set cells king None) a king ≡ false → are_lined cells a king ≡ false
+unfolding are_lined
+unlined_before cells king a len low out = false_from_ne_true _ (λ lined. both_ways (list_any (λ o. slides (set cells king None) o a king) around) out (list_any_kept (λ o. slides cells o a king) (λ o. slides (set cells king None) o a king) around (λ o s. elim (slides_was (set cells king None) cells (λ x. ⊥) (λ x n. inl (kingless cells king len low x n)) o a king s) [ inl met ↦ absurd met.1 | inr was ↦ was ]) lined))
+
+unlined_with_king : (q : Shogi) (e : Eval) (gains king squares a : ℕ) → length q.cells ≡ 81 → IsQuietThere q e gains king squares → IsUnseen q king squares a → is_lined_with_king q.cells (opponent_of q.side) a ≡ false
+unfolding is_lined_with_king
+unlined_with_king q e gains king squares a len quiet unseen = some_below_no 81 (is_line_to_king q.cells (opponent_of q.side) a) (λ k hk. false_from_ne_true _ (λ on. (
+    let parts : (is_king (opponent_of q.side) (piece_at q.cells k) ≡ true) × (are_lined q.cells a k ≡ true) = and_parts _ _ on in
+    elim (cases_eq k king) [
+      | inl at ↦ both_ways (are_lined q.cells a king) (unlined_before q.cells king a len quiet.king_fits unseen.off_king) (subst (λ (x : ℕ). are_lined q.cells a x ≡ true) at parts.1)
+      | inr other ↦ both_ways (is_king (opponent_of q.side) (piece_at q.cells k)) (quiet.lone k hk other) parts.0
+    ])))
 
 -- what reaches no king from a square once that is lifted reaches none before
-harmless_there : (q : Shogi) (e : Eval) (gains king squares : ℕ) (kind : Kind) (b : ℕ) → length q.cells ≡ 81 → IsQuietThere q e gains king squares → IsIdle q e gains king squares kind b → IsHarmless q.cells (opponent_of q.side) (dropped q.side kind) b
-harmless_there q e gains king squares kind b len quiet idle k hk crown = elim (cases_eq k king) [
-  | inl here ↦ subst (λ (x : ℕ). cell_reaches q.cells (dropped q.side kind) b x ≡ false) (sym here) (false_from_ne_true _ (λ r. both_ways (cell_reaches (without_king q king) (dropped q.side kind) b king) idle.king_far
-      (reach_was (without_king q king) q.cells (λ x. ⊥) opened (dropped q.side kind) b king (λ x left. absurd left) r)))
-  | inr other ↦ absurd (both_ways (is_king (opponent_of q.side) (piece_at q.cells k)) (quiet.lone k hk other) crown)
+harmless_there : (q : Shogi) (king : ℕ) (cells : Cells) (cell : Option Piece) (b : ℕ) → length cells ≡ 81 → king < 81 → HasNoOtherKing q.cells (opponent_of q.side) king → ((x : ℕ) → is_none (piece_at q.cells x) ≡ true → is_none (piece_at cells x) ≡ true) → cell_reaches (set cells king None) cell b king ≡ false → IsHarmless q.cells (opponent_of q.side) cell b
+harmless_there q king cells cell b len low lone emptied far k hk crown = elim (cases_eq k king) [
+  | inl here ↦ subst (λ (x : ℕ). cell_reaches q.cells cell b x ≡ false) (sym here) (false_from_ne_true _ (λ r. both_ways (cell_reaches (set cells king None) cell b king) far (reached_kingless cells q.cells king len low emptied cell b king r)))
+  | inr other ↦ absurd (both_ways (is_king (opponent_of q.side) (piece_at q.cells k)) (lone k hk other) crown)
 ]
-  where
-    opened : (x : ℕ) → is_none (piece_at q.cells x) ≡ true → (is_none (piece_at (without_king q king) x) ≡ true) ⊎ ⊥
-    opened x n = elim (cases_eq x king) [
-      | inl at ↦ inl (ap (λ (y : ℕ). is_none (piece_at (set q.cells king None) y)) at ∙ ap is_none (get_or-set_same q.cells king None None (omega (arith, len, quiet.king_fits))))
-      | inr off ↦ inl (ap is_none (get_or-set_other q.cells king x None None off) ∙ n)
-    ]
+
+-- the same for the reply's side, which has replied
+harmless_after : (p : Shogi) (r : Move) (king : ℕ) (cells : Cells) (cell : Option Piece) (b : ℕ) → length cells ≡ 81 → king < 81 → HasNoOtherKing (after_reply p r).cells (opponent_of (after_reply p r).side) king → ((x : ℕ) → is_none (piece_at (after_reply p r).cells x) ≡ true → is_none (piece_at cells x) ≡ true)
+    → cell_reaches (set cells king None) cell b king ≡ false → IsHarmless (after_reply p r).cells (opponent_of p.side) cell b
+harmless_after p r king cells cell b len low lone emptied far = subst (λ (color : Color). IsHarmless (after_reply p r).cells color cell b) (ap opponent_of (opponent_twice p.side)) (harmless_there (after_reply p r) king cells cell b len low lone emptied far)
+
+-- ---- a drop
 
 pub dull : (p : Shogi) (e : Eval) (kind : Kind) (b : ℕ) (r : Move) (gains king squares : ℕ) (t : ℤ) → IsValid p → in_check p.cells p.side ≡ false → b < 81 → IsOnSquares r → is_legal p (Drop kind b) ≡ true → is_legal (passed p) r ≡ true → is_pawn_drop r ≡ false → Survives r b
-    → IsQuietThere (after_reply p r) e gains king squares → IsIdle (after_reply p r) e gains king squares kind b → lost_value 1 ≤ℤ t → (material_of (after_reply p r) e +ℤ pos gains) ≤ℤ t → worth p e 2 (code_of (Drop kind b)) ≤ℤ t
+    → IsQuietThere (after_reply p r) e gains king squares → IsIdle (after_reply p r) e gains king squares (dropped (after_reply p r).side kind) b → lost_value 1 ≤ℤ t → (material_of (after_reply p r) e +ℤ pos gains) ≤ℤ t → worth p e 2 (code_of (Drop kind b)) ≤ℤ t
 dull p e kind b r gains king squares t v shut on there lm lr plain spared quiet idle low room =
     let v0 : IsValid (passed p) = passed_valid p v shut in
     let vq : IsValid (after_reply p r) = move_valid (passed p) r v0 there lr in
     let be : LetsBe p kind b r = record {
       spared = spared;
-      harmless = λ k hk crown. ap (λ (color : Color). cell_reaches (after_reply p r).cells (dropped color kind) b k) (sym (opponent_twice p.side)) ∙ harmless_there (after_reply p r) e gains king squares kind b vq.cells_fit quiet idle k hk (ap (λ (color : Color). is_king color (piece_at (after_reply p r).cells k)) (ap opponent_of (opponent_twice p.side)) ∙ crown);
+      harmless = subst (λ (color : Color). IsHarmless (after_reply p r).cells (opponent_of p.side) (dropped color kind) b) (opponent_twice p.side) (harmless_after p r king (after_reply p r).cells (dropped (after_reply p r).side kind) b vq.cells_fit quiet.king_fits quiet.lone (λ x n. n) idle.king_far);
       plain = plain;
     } in
     let l : is_legal (after p (Drop kind b)) r ≡ true = still_legal p kind b r v.cells_fit on there lr be in
     let vd : IsValid (after p (Drop kind b)) = move_valid p (Drop kind b) v on lm in
     let vn : IsValid (after (after p (Drop kind b)) r) = move_valid (after p (Drop kind b)) r vd there l in
-    let same : after (after p (Drop kind b)) r ≡ with_drop (after_reply p r) kind b = as_left p kind b r spared in
-    let vw : IsValid (with_drop (after_reply p r) kind b) = subst IsValid same vn in
+    let same : after (after p (Drop kind b)) r ≡ after_drop (after_reply p r) kind b = as_left p kind b r spared in
+    let vw : IsValid (after_drop (after_reply p r) kind b) = subst IsValid same vn in
     let bare : piece_at (after_reply p r).cells b ≡ None = stands p.cells (opponent_of p.side) r b spared.0 ∙ none_is (piece_at p.cells b) (drop_parts p kind b lm).1 in
     let moved : material_of (after (after p (Drop kind b)) r) e ≡ material_of (after_reply p r) e +ℤ gain_of p e (Drop kind b) = material_moved p e kind b r v shut on there spared.0 lm lr l in
     let little : gain_of p e (Drop kind b) ≤ℤ pos 0 = drop_little e kind in
-    let here : material_of (after (after p (Drop kind b)) r) e ≡ material_of (with_drop (after_reply p r) kind b) e = ap (λ (q : Shogi). material_of q e) same in
-    let less : material_of (with_drop (after_reply p r) kind b) e ≤ℤ material_of (after_reply p r) e = omega (arith, ints, moved, little, here) in
-    let calm : IsTame (with_drop (after_reply p r) kind b) e t = tame (after_reply p r) e gains king squares kind b vq.cells_fit vq.hands_fit on bare quiet idle vw t room less in
-    worth_by_reply p e kind b r t on there l (subst (λ (q : Shogi). value q e 1 ≤ℤ t) (sym same) (value_of_tame (with_drop (after_reply p r) kind b) e t vw low calm))
+    let here : material_of (after (after p (Drop kind b)) r) e ≡ material_of (after_drop (after_reply p r) kind b) e = ap (λ (q : Shogi). material_of q e) same in
+    let less : (material_of (after_drop (after_reply p r) kind b) e +ℤ pos gains) ≤ℤ t = omega (arith, ints, moved, little, here, room) in
+    let calm : IsTame (after_drop (after_reply p r) kind b) e t = tame (after_reply p r) e gains king squares (dropped (after_reply p r).side kind) (hands_after (after_reply p r).hands (after_reply p r).cells (after_reply p r).side (Drop kind b)) b vq.cells_fit (dropped_of (after_reply p r).side kind) (held_before (after_reply p r) kind b vq.hands_fit) on bare quiet idle vw t less in
+    worth_by_reply p e (Drop kind b) r t on there l (subst (λ (q : Shogi). value q e 1 ≤ℤ t) (sym same) (value_of_tame (after_drop (after_reply p r) kind b) e t vw low calm))
 
 -- so is none of its kind on squares that are spared and idle
-pub drops_dull : (p : Shogi) (e : Eval) (kind : Kind) (r : Move) (gains king squares : ℕ) (t : ℤ) (free touched among idle : ℕ) → IsValid p → in_check p.cells p.side ≡ false → IsOnSquares r → is_legal (passed p) r ≡ true → is_pawn_drop r ≡ false → AreNonInterfering r touched → touched < 2 ^ 81 → among ≡ bit_and free (2 ^ 128 - 1 - touched)
-    → IsQuietThere (after_reply p r) e gains king squares → ((n : ℕ) → has_bit idle n ≡ true → has_bit among n ≡ true) → AreIdle (after_reply p r) e gains king squares kind idle → lost_value 1 ≤ℤ t → (material_of (after_reply p r) e +ℤ pos gains) ≤ℤ t → DropsAreWorthAtMost p e t kind idle
+drops_dull : (p : Shogi) (e : Eval) (kind : Kind) (r : Move) (gains king squares : ℕ) (t : ℤ) (free touched among idle : ℕ) → IsValid p → in_check p.cells p.side ≡ false → IsOnSquares r → is_legal (passed p) r ≡ true → is_pawn_drop r ≡ false → AreNonInterfering r touched → touched < 2 ^ 81 → among ≡ bit_and free (2 ^ 128 - 1 - touched)
+    → IsQuietThere (after_reply p r) e gains king squares → ((n : ℕ) → has_bit idle n ≡ true → has_bit among n ≡ true) → AreIdle (after_reply p r) e gains king squares (dropped (after_reply p r).side kind) idle → lost_value 1 ≤ℤ t → (material_of (after_reply p r) e +ℤ pos gains) ≤ℤ t → DropsAreWorthAtMost p e t kind idle
 drops_dull p e kind r gains king squares t free touched among idle v shut there lr plain spared fits meet quiet within all low room to h set legal =
     dull p e kind to r gains king squares t v shut h there legal lr plain
     (spared to h (out_parts free touched to fits h (sym (ap (λ (m : ℕ). has_bit m to) meet) ∙ within to set)).1)
@@ -91,13 +145,61 @@ held_there p kind b r legal =
     subst (λ (n : ℕ). 0 < n) (sym (other_counts (passed p) r kind ∙ ap (λ (color : Color). count_in_hand p.hands color kind) (opponent_twice p.side))) (ltb-true 0 (count_in_hand p.hands p.side kind) (drop_parts p kind b legal).0)
 
 -- the same of a position that is that one, where the squares are idle if a piece of the kind is held
-pub scene_dull : (p q : Shogi) (e f : Eval) (kind : Kind) (r : Move) (gains king squares : ℕ) (t : ℤ) (free touched among all idle : ℕ) → q ≡ after_reply p r → f ≡ e → IsValid p → in_check p.cells p.side ≡ false → IsOnSquares r → is_legal (passed p) r ≡ true → is_pawn_drop r ≡ false → AreNonInterfering r touched → touched < 2 ^ 81 → among ≡ bit_and free (2 ^ 128 - 1 - touched)
-    → IsQuietThere q f gains king squares → lost_value 1 ≤ℤ t → (material_of q f +ℤ pos gains) ≤ℤ t → ((n : ℕ) → has_bit idle n ≡ true → has_bit all n ≡ true) → ((n : ℕ) → has_bit all n ≡ true → has_bit among n ≡ true) → (0 < count_in_hand q.hands q.side kind → AreIdle q f gains king squares kind all) → DropsAreWorthAtMost p e t kind idle
-scene_dull p q e f kind r gains king squares t free touched among all idle is alike v shut there lr plain spared fits meet quiet low room fewer within each to h set legal =
+pub scene_dull : (p q : Shogi) (e f : Eval) (kind : Kind) (r : Move) (gains king squares : ℕ) (t : ℤ) (free touched among idle : ℕ) → q ≡ after_reply p r → f ≡ e → IsValid p → in_check p.cells p.side ≡ false → IsOnSquares r → is_legal (passed p) r ≡ true → is_pawn_drop r ≡ false → AreNonInterfering r touched → touched < 2 ^ 81 → among ≡ bit_and free (2 ^ 128 - 1 - touched)
+    → IsQuietThere q f gains king squares → lost_value 1 ≤ℤ t → (material_of q f +ℤ pos gains) ≤ℤ t → ((n : ℕ) → has_bit idle n ≡ true → has_bit among n ≡ true) → (0 < count_in_hand q.hands q.side kind → AreIdle q f gains king squares (dropped q.side kind) idle) → DropsAreWorthAtMost p e t kind idle
+scene_dull p q e f kind r gains king squares t free touched among idle is alike v shut there lr plain spared fits meet quiet low room within each to h set legal =
     let held : 0 < count_in_hand q.hands q.side kind = subst (λ (x : Shogi). 0 < count_in_hand x.hands x.side kind) (sym is) (held_there p kind to r legal) in
-    let some : AreIdle q f gains king squares kind all = each held in
-    drops_dull p e kind r gains king squares t free touched among all v shut there lr plain spared fits meet
+    drops_dull p e kind r gains king squares t free touched among idle v shut there lr plain spared fits meet
     (subst (λ (x : Shogi). IsQuietThere x e gains king squares) is (subst (λ (y : Eval). IsQuietThere q y gains king squares) alike quiet)) within
-    (subst (λ (x : Shogi). AreIdle x e gains king squares kind all) is (subst (λ (y : Eval). AreIdle q y gains king squares kind all) alike some)) low
+    (subst (λ (x : Shogi). AreIdle x e gains king squares (dropped x.side kind) idle) is (subst (λ (y : Eval). AreIdle q y gains king squares (dropped q.side kind) idle) alike (each held))) low
     (subst (λ (x : Shogi). (material_of x e +ℤ pos gains) ≤ℤ t) is (subst (λ (y : Eval). (material_of q y +ℤ pos gains) ≤ℤ t) alike room))
-    to h (fewer to set) legal
+    to h set legal
+
+-- ---- a quiet move on the board
+
+legal_owns : (p : Shogi) (a b : ℕ) → is_legal p (Board a b false) ≡ true → (is_piece_of p.side (piece_at p.cells a) ≡ true) × (reaches p.cells a b ≡ true)
+legal_owns p a b l = let parts = board_parts p a b false l in (parts.0, parts.2)
+
+pub quiet_is_dull : (p : Shogi) (e : Eval) (a b : ℕ) (r : Move) (gains king squares : ℕ) (t : ℤ) → IsValid p → in_check p.cells p.side ≡ false → a < 81 → b < 81 → IsOnSquares r → is_legal p (Board a b false) ≡ true → piece_at p.cells b ≡ None → is_legal (passed p) r ≡ true → is_pawn_drop r ≡ false → IsOff r a → Survives r b
+    → IsQuietThere (after_reply p r) e gains king squares → IsUnseen (after_reply p r) king squares a → IsQuietThere (lifted (after_reply p r) a) e gains king squares → IsIdle (lifted (after_reply p r) a) e gains king squares (piece_at (after_reply p r).cells a) b
+    → lost_value 1 ≤ℤ t → (material_of (after_reply p r) e +ℤ pos gains) ≤ℤ t → worth p e 2 (code_of (Board a b false)) ≤ℤ t
+quiet_is_dull p e a b r gains king squares t v shut ha on there lm bare lr plain apart spared quiet unseen quiet_lifted idle low room =
+    let vq : IsValid (after_reply p r) = move_valid (passed p) r (passed_valid p v shut) there lr in
+    let own : is_piece_of p.side (piece_at p.cells a) ≡ true = (legal_owns p a b lm).0 in
+    let stays_there : piece_at (after_reply p r).cells a ≡ piece_at p.cells a = stands p.cells (opponent_of p.side) r a apart in
+    let ne : b ≢ a = λ at. both_ways (is_piece_of p.side None) refl (ap (is_piece_of p.side) (sym (ap (piece_at p.cells) (sym at) ∙ bare)) ∙ own) in
+    let empty : piece_at (lifted (after_reply p r) a).cells b ≡ None = get_or-set_other (after_reply p r).cells a b None None ne ∙ (stands p.cells (opponent_of p.side) r b spared.0 ∙ bare) in
+    let len : length (lifted (after_reply p r) a).cells ≡ 81 = length-set (after_reply p r).cells a None ∙ vq.cells_fit in
+    let idle_there : IsIdle (lifted (after_reply p r) a) e gains king squares (piece_at p.cells a) b = subst (λ (cell : Option Piece). IsIdle (lifted (after_reply p r) a) e gains king squares cell b) stays_there idle in
+    let mine : is_piece_of (after_reply p r).side (piece_at p.cells a) ≡ true = ap (λ (color : Color). is_piece_of color (piece_at p.cells a)) (opponent_twice p.side) ∙ own in
+    quiet_dull p e a b r t v shut ha on there lm bare lr plain apart spared
+    (ap (λ (color : Color). is_lined_with_king (after_reply p r).cells color a) (sym (ap opponent_of (opponent_twice p.side))) ∙ unlined_with_king (after_reply p r) e gains king squares a vq.cells_fit quiet unseen)
+    (harmless_after p r king (lifted (after_reply p r) a).cells (piece_at p.cells a) b len quiet.king_fits quiet.lone (emptied vq.cells_fit) idle_there.king_far)
+    (λ vw material. value_of_tame (placed (lifted (after_reply p r) a) (piece_at p.cells a) b) e t vw low
+    (tame (lifted (after_reply p r) a) e gains king squares (piece_at p.cells a) (after_reply p r).hands b len mine (λ other some. some) on empty quiet_lifted idle_there vw t (omega (arith, ints, material, room))))
+  where
+    emptied : length (after_reply p r).cells ≡ 81 → (x : ℕ) → is_none (piece_at (after_reply p r).cells x) ≡ true → is_none (piece_at (lifted (after_reply p r) a).cells x) ≡ true
+    emptied len x n = elim (cases_eq x a) [
+      | inl at ↦ ap (λ (y : ℕ). is_none (piece_at (lifted (after_reply p r) a).cells y)) at ∙ ap is_none (get_or-set_same (after_reply p r).cells a None None (omega (arith, len, ha)))
+      | inr off ↦ ap is_none (get_or-set_other (after_reply p r).cells a x None None off) ∙ n
+    ]
+
+-- the same of a position that is that one, for pieces that are lifted there and ends on which they are idle
+pub scene_quiets : (p q : Shogi) (e f : Eval) (r : Move) (gains king squares : ℕ) (t : ℤ) (free touched among pieces ends : ℕ) → q ≡ after_reply p r → f ≡ e → IsValid p → in_check p.cells p.side ≡ false → IsOnSquares r → is_legal (passed p) r ≡ true → is_pawn_drop r ≡ false → AreNonInterfering r touched → touched < 2 ^ 81 → among ≡ bit_and free (2 ^ 128 - 1 - touched)
+    → IsQuietThere q f gains king squares → lost_value 1 ≤ℤ t → (material_of q f +ℤ pos gains) ≤ℤ t → ((n : ℕ) → has_bit ends n ≡ true → has_bit among n ≡ true) → ((a : ℕ) → a < 81 → has_bit pieces a ≡ true → has_bit touched a ≡ false)
+    → ((a : ℕ) → a < 81 → has_bit pieces a ≡ true → IsUnseen q king squares a) → ((a : ℕ) → a < 81 → has_bit pieces a ≡ true → IsQuietThere (lifted q a) f gains king squares)
+    → ((from to : ℕ) → from < 81 → to < 81 → has_bit pieces from ≡ true → has_bit ends to ≡ true → reaches p.cells from to ≡ true → IsIdle (lifted q from) f gains king squares (piece_at q.cells from) to) → QuietsAreWorthAtMost p e t pieces ends
+scene_quiets p q e f r gains king squares t free touched among pieces ends is alike v shut there lr plain spared fits meet quiet low room within apart unseen lifts idle from to hf ht mine on bare legal =
+    quiet_is_dull p e from to r gains king squares t v shut hf ht there legal bare lr plain (spared from hf (apart from hf mine)).0
+    (spared to ht (out_parts free touched to fits ht (sym (ap (λ (m : ℕ). has_bit m to) meet) ∙ within to on)).1)
+    (subst (λ (x : Shogi). IsQuietThere x e gains king squares) is (subst (λ (y : Eval). IsQuietThere q y gains king squares) alike quiet))
+    (subst (λ (x : Shogi). IsUnseen x king squares from) is (unseen from hf mine))
+    (subst (λ (x : Shogi). IsQuietThere (lifted x from) e gains king squares) is (subst (λ (y : Eval). IsQuietThere (lifted q from) y gains king squares) alike (lifts from hf mine)))
+    (subst (λ (x : Shogi). IsIdle (lifted x from) e gains king squares (piece_at x.cells from) to) is (subst (λ (y : Eval). IsIdle (lifted q from) y gains king squares (piece_at q.cells from) to) alike (idle from to hf ht mine on (legal_owns p from to legal).1))) low
+    (subst (λ (x : Shogi). (material_of x e +ℤ pos gains) ≤ℤ t) is (subst (λ (y : Eval). (material_of q y +ℤ pos gains) ≤ℤ t) alike room))
+
+-- a piece that the reply leaves alone stands there after it
+pub own_stays : (p q : Shogi) (r : Move) (a : ℕ) → q ≡ after_reply p r → IsOff r a → is_piece_of p.side (piece_at p.cells a) ≡ true → is_piece_of q.side (piece_at q.cells a) ≡ true
+own_stays p q r a is off own =
+    subst (λ (x : Shogi). is_piece_of x.side (piece_at x.cells a) ≡ true) (sym is)
+    (ap (λ (color : Color). is_piece_of color (piece_at (after_reply p r).cells a)) (opponent_twice p.side) ∙ (ap (is_piece_of p.side) (stands p.cells (opponent_of p.side) r a off) ∙ own))

@@ -1,5 +1,5 @@
--- A drop that changes nothing leaves its side no more gain, and the other side's king the squares that it had.
-use Rattle.std.proofs.Common.{◌≡◌, ◌≢◌, ◌⊎◌, ℕ, ℤ, pos, ◌+◌, ◌-◌, ◌<◌, ◌≤◌, ◌+ℤ◌, ◌≤ℤ◌, Bool, true, false, not, [], Option, Some, None, refl, sym, ap, subst, ◌∙◌, inl, inr, arith, set, length, get_or, get_or-set_same, get_or-set_other}
+-- What changes nothing where it is put leaves its side no more gain, and the other side's king the squares that it had.
+use Rattle.std.proofs.Common.{◌≡◌, ◌≢◌, ◌⊎◌, ℕ, ℤ, pos, ◌+◌, ◌-◌, ◌<◌, ◌≤◌, ◌+ℤ◌, ◌≤ℤ◌, Bool, true, false, not, [], Option, Some, None, refl, sym, ap, subst, ◌∙◌, inl, inr, arith, set, length, length-set, get_or, get_or-set_same, get_or-set_other}
 use Rattle.std.specs.Prelude.{◌&&◌, ◌||◌, is_none, nat_lt}
 use Rattle.std.proofs.lemmas.Bool.{and_from, and_parts, both_ways, cases_eq, false_from_ne_true, ltb-true, not-true}
 use Rattle.std.proofs.lemmas.Int.{ints}
@@ -14,12 +14,12 @@ use Rattle.shogi_core.specs.Bits.{has_bit}
 use Rattle.shogi_core.specs.Cell.{is_immobile, is_king, is_piece_of}
 use Rattle.shogi_core.specs.Lines.{are_aligned, are_lined}
 use Rattle.shogi_core.specs.Movement.{cell_reaches, piece_at, reaches}
-use Rattle.shogi_core.specs.Pieces.{kind_number, opponent_of}
-use Rattle.shogi_core.specs.Position.{Shogi, count_in_hand, place_of}
+use Rattle.shogi_core.specs.Pieces.{opponent_of}
+use Rattle.shogi_core.specs.Position.{HandCounts, Shogi, count_in_hand}
 use Rattle.shogi_core.specs.Validity.{IsValid}
 use Rattle.shogi_core.specs.Zones.{may_promote}
 use Rattle.shogi_core.proofs.Below.{some_below_not}
-use Rattle.shogi_core.proofs.Faults.{faultless_from, number_below}
+use Rattle.shogi_core.proofs.Faults.{faultless_from}
 use Rattle.shogi_core.proofs.SeenLaws.{lined_aligned}
 use Rattle.shogi_core.proofs.Discovered.{attacked_was_but, reach_was}
 use Rattle.shogi_moves.specs.After.{after, cells_after, dropped, hands_after, piece_moved}
@@ -41,12 +41,16 @@ use Rattle.dull_moves.proofs.Materials.{drop_little}
 use Rattle.dull_moves.proofs.StillLegal.{legal_parts, length-after}
 use Rattle.dull_moves.proofs.Worth.{IsTame}
 
--- the position with a piece dropped, and the same side to move
-abbrev pub with_drop : Shogi → Kind → ℕ → Shogi
-with_drop q kind b = record { cells = cells_after q.cells q.side (Drop kind b); hands = hands_after q.hands q.cells q.side (Drop kind b); side = q.side }
+-- the position with a piece put on a square, and these hands
+abbrev pub put_on : Shogi → Option Piece → HandCounts → ℕ → Shogi
+put_on q arrived hands b = record { cells = set q.cells b arrived; hands = hands; side = q.side }
+
+own_some : (color : Color) (cell : Option Piece) → is_piece_of color cell ≡ true → is_none cell ≡ false
+own_some color None e = absurd (cc)
+own_some color (Some piece) e = refl
 
 -- what a pseudo-legal move on the board is
-board_parts : (q : Shogi) (c d : ℕ) (promote : Bool) → is_legal q (Board c d promote) ≡ true → (is_piece_of q.side (piece_at q.cells c) ≡ true) × (is_piece_of q.side (piece_at q.cells d) ≡ false) × (reaches q.cells c d ≡ true) × ((not promote || may_promote (piece_at q.cells c) c d) ≡ true)
+pub board_parts : (q : Shogi) (c d : ℕ) (promote : Bool) → is_legal q (Board c d promote) ≡ true → (is_piece_of q.side (piece_at q.cells c) ≡ true) × (is_piece_of q.side (piece_at q.cells d) ≡ false) × (reaches q.cells c d ≡ true) × ((not promote || may_promote (piece_at q.cells c) c d) ≡ true)
 board_parts q c d promote l =
     let parts = legal_parts q (Board c d promote) l in
     let four = and_parts (is_piece_of q.side (piece_at q.cells c) && not (is_piece_of q.side (piece_at q.cells d)) && reaches q.cells c d && (not promote || may_promote (piece_at q.cells c) c d)) (not (is_immobile d (piece_moved promote (piece_at q.cells c)))) parts.0 in
@@ -82,44 +86,40 @@ takes_no_king q c k v hc hk crown own =
     false_from_ne_true _ (λ reach. both_ways (is_attacked_from q.cells (opponent_of (opponent_of q.side)) k c)
     (some_below_not 81 (is_attacked_from q.cells (opponent_of (opponent_of q.side)) k) c calm hc) (and_from _ _ mine reach))
 
-place_below : (side : Color) (kind : Kind) → place_of side kind < 14
-place_below Black kind = let low : kind_number kind < 7 = number_below kind in omega (arith, low)
-place_below White kind = let low : kind_number kind < 7 = number_below kind in omega (arith, low)
+module _ (q : Shogi) (e : Eval) (gains king squares : ℕ) (arrived : Option Piece) (hands : HandCounts) (b : ℕ) (len : length q.cells ≡ 81) (owned : is_piece_of q.side arrived ≡ true) (fewer : (other : Kind) → 0 < count_in_hand hands q.side other → 0 < count_in_hand q.hands q.side other) (hb : b < 81) (bare : piece_at q.cells b ≡ None)
+    (quiet : IsQuietThere q e gains king squares) (idle : IsIdle q e gains king squares arrived b) (v : IsValid (put_on q arrived hands b)) where
+  no_foe_king : is_king (opponent_of q.side) arrived ≡ false
+  no_foe_king = false_from_ne_true _ (λ crown. both_ways (is_piece_of (opponent_of q.side) arrived) (other_side q.side arrived owned) (king_own (opponent_of q.side) arrived crown))
 
-module _ (q : Shogi) (e : Eval) (gains king squares : ℕ) (kind : Kind) (b : ℕ) (len : length q.cells ≡ 81) (held : length q.hands ≡ 14) (hb : b < 81) (bare : piece_at q.cells b ≡ None)
-    (quiet : IsQuietThere q e gains king squares) (idle : IsIdle q e gains king squares kind b) (v : IsValid (with_drop q kind b)) where
-  abbrev now : Shogi
-  now = with_drop q kind b
-
-  fits : length (with_drop q kind b).cells ≡ 81
-  fits = length-after q.cells q.side (Drop kind b) ∙ len
+  fits : length (put_on q arrived hands b).cells ≡ 81
+  fits = length-set q.cells b arrived ∙ len
 
   king_off : king ≢ b
   king_off same = both_ways (is_king (opponent_of q.side) None) refl (ap (is_king (opponent_of q.side)) (sym bare) ∙ subst (λ (x : ℕ). is_king (opponent_of q.side) (piece_at q.cells x) ≡ true) same quiet.crown)
 
-  put : piece_at (with_drop q kind b).cells b ≡ dropped q.side kind
-  put = get_or-set_same q.cells b (dropped q.side kind) None (omega (arith, len, hb))
+  put : piece_at (put_on q arrived hands b).cells b ≡ arrived
+  put = get_or-set_same q.cells b arrived None (omega (arith, len, hb))
 
-  same : (x : ℕ) → x ≢ b → piece_at (with_drop q kind b).cells x ≡ piece_at q.cells x
-  same x off = get_or-set_other q.cells b x (dropped q.side kind) None off
+  same : (x : ℕ) → x ≢ b → piece_at (put_on q arrived hands b).cells x ≡ piece_at q.cells x
+  same x off = get_or-set_other q.cells b x arrived None off
 
-  see : (x : ℕ) → ((x ≡ b) × (piece_at (with_drop q kind b).cells x ≡ dropped q.side kind)) ⊎ ((⊥ × (piece_at (with_drop q kind b).cells x ≡ None)) ⊎ (piece_at (with_drop q kind b).cells x ≡ piece_at q.cells x))
+  see : (x : ℕ) → ((x ≡ b) × (piece_at (put_on q arrived hands b).cells x ≡ arrived)) ⊎ ((⊥ × (piece_at (put_on q arrived hands b).cells x ≡ None)) ⊎ (piece_at (put_on q arrived hands b).cells x ≡ piece_at q.cells x))
   see x = elim (cases_eq x b) [
-    | inl here ↦ inl (here, ap (piece_at (with_drop q kind b).cells) here ∙ put)
+    | inl here ↦ inl (here, ap (piece_at (put_on q arrived hands b).cells) here ∙ put)
     | inr off ↦ inr (inr (same x off))
   ]
 
   -- the king lifted, nothing is empty that was not
-  opened_lifted : (x : ℕ) → is_none (piece_at (set (with_drop q kind b).cells king None) x) ≡ true → (is_none (piece_at (without_king q king) x) ≡ true) ⊎ ⊥
+  opened_lifted : (x : ℕ) → is_none (piece_at (set (put_on q arrived hands b).cells king None) x) ≡ true → (is_none (piece_at (without_king q king) x) ≡ true) ⊎ ⊥
   opened_lifted x n = elim (cases_eq x king) [
     | inl here ↦ inl (ap (λ (y : ℕ). is_none (piece_at (set q.cells king None) y)) here ∙ ap is_none (get_or-set_same q.cells king None None (omega (arith, len, quiet.king_fits))))
     | inr off ↦ elim (cases_eq x b) [
       | inl at ↦ inl (ap is_none (get_or-set_other q.cells king x None None off) ∙ (ap (λ (y : ℕ). is_none (piece_at q.cells y)) at ∙ ap is_none bare))
-      | inr other ↦ inl (ap is_none (get_or-set_other q.cells king x None None off) ∙ (ap is_none (sym (same x other)) ∙ (ap is_none (sym (get_or-set_other (with_drop q kind b).cells king x None None off)) ∙ n)))
+      | inr other ↦ inl (ap is_none (get_or-set_other q.cells king x None None off) ∙ (ap is_none (sym (same x other)) ∙ (ap is_none (sym (get_or-set_other (put_on q arrived hands b).cells king x None None off)) ∙ n)))
     ]
   ]
 
-  opened_now : (x : ℕ) → is_none (piece_at (with_drop q kind b).cells x) ≡ true → (is_none (piece_at (without_king q king) x) ≡ true) ⊎ ⊥
+  opened_now : (x : ℕ) → is_none (piece_at (put_on q arrived hands b).cells x) ≡ true → (is_none (piece_at (without_king q king) x) ≡ true) ⊎ ⊥
   opened_now x n = elim (cases_eq x king) [
     | inl here ↦ inl (ap (λ (y : ℕ). is_none (piece_at (set q.cells king None) y)) here ∙ ap is_none (get_or-set_same q.cells king None None (omega (arith, len, quiet.king_fits))))
     | inr off ↦ elim (cases_eq x b) [
@@ -128,13 +128,13 @@ module _ (q : Shogi) (e : Eval) (gains king squares : ℕ) (kind : Kind) (b : �
     ]
   ]
 
-  reached_lifted : (cell : Option Piece) (c d : ℕ) → cell_reaches (set (with_drop q kind b).cells king None) cell c d ≡ true → cell_reaches (without_king q king) cell c d ≡ true
-  reached_lifted cell c d r = reach_was (without_king q king) (set (with_drop q kind b).cells king None) (λ x. ⊥) opened_lifted cell c d (λ x left. absurd left) r
+  reached_lifted : (cell : Option Piece) (c d : ℕ) → cell_reaches (set (put_on q arrived hands b).cells king None) cell c d ≡ true → cell_reaches (without_king q king) cell c d ≡ true
+  reached_lifted cell c d r = reach_was (without_king q king) (set (put_on q arrived hands b).cells king None) (λ x. ⊥) opened_lifted cell c d (λ x left. absurd left) r
 
-  reached_now : (cell : Option Piece) (c d : ℕ) → cell_reaches (with_drop q kind b).cells cell c d ≡ true → cell_reaches (without_king q king) cell c d ≡ true
-  reached_now cell c d r = reach_was (without_king q king) (with_drop q kind b).cells (λ x. ⊥) opened_now cell c d (λ x left. absurd left) r
+  reached_now : (cell : Option Piece) (c d : ℕ) → cell_reaches (put_on q arrived hands b).cells cell c d ≡ true → cell_reaches (without_king q king) cell c d ≡ true
+  reached_now cell c d r = reach_was (without_king q king) (put_on q arrived hands b).cells (λ x. ⊥) opened_now cell c d (λ x left. absurd left) r
 
-  short_lifted : (cell : Option Piece) (c d : ℕ) → cell_reaches (without_king q king) cell c d ≡ false → cell_reaches (set (with_drop q kind b).cells king None) cell c d ≡ false
+  short_lifted : (cell : Option Piece) (c d : ℕ) → cell_reaches (without_king q king) cell c d ≡ false → cell_reaches (set (put_on q arrived hands b).cells king None) cell c d ≡ false
   short_lifted cell c d out = false_from_ne_true _ (λ r. both_ways (cell_reaches (without_king q king) cell c d) out (reached_lifted cell c d r))
 
   -- ---- the king has its squares still
@@ -142,83 +142,83 @@ module _ (q : Shogi) (e : Eval) (gains king squares : ℕ) (kind : Kind) (b : �
   square_off : (n : ℕ) → has_bit squares n ≡ true → n ≢ b
   square_off n bit at = both_ways (has_bit squares b) idle.off (subst (λ (x : ℕ). has_bit squares x ≡ true) at bit)
 
-  crown_now : is_king (opponent_of q.side) (piece_at (with_drop q kind b).cells king) ≡ true
+  crown_now : is_king (opponent_of q.side) (piece_at (put_on q arrived hands b).cells king) ≡ true
   crown_now = ap (is_king (opponent_of q.side)) (same king king_off) ∙ quiet.crown
 
   escape_before : (n : ℕ) → n < 81 → has_bit squares n ≡ true → IsEscape q.cells (opponent_of q.side) king n
   escape_before n h bit = quiet.escapes king n quiet.king_fits quiet.crown h bit
 
-  escape_now : (n : ℕ) → n < 81 → has_bit squares n ≡ true → IsEscape (with_drop q kind b).cells (opponent_of q.side) king n
+  escape_now : (n : ℕ) → n < 81 → has_bit squares n ≡ true → IsEscape (put_on q arrived hands b).cells (opponent_of q.side) king n
   unfolding reaches
   escape_now n h bit =
       let was : IsEscape q.cells (opponent_of q.side) king n = escape_before n h bit in
       record {
         step = record {
           lone = λ x hx other. elim (see x) [
-            | inl at ↦ ap (is_king (opponent_of q.side)) at.1 ∙ drops.no_king q.side kind
+            | inl at ↦ ap (is_king (opponent_of q.side)) at.1 ∙ no_foe_king
             | inr rest ↦ elim rest [ inl gone ↦ absurd gone.0 | inr stood ↦ ap (is_king (opponent_of q.side)) stood ∙ quiet.lone x hx other ]
           ];
-          reached = ap (λ (cell : Option Piece). cell_reaches (with_drop q kind b).cells cell king n) (same king king_off) ∙ king_reach q.cells (with_drop q kind b).cells (opponent_of q.side) (piece_at q.cells king) king n quiet.crown was.step.reached;
+          reached = ap (λ (cell : Option Piece). cell_reaches (put_on q arrived hands b).cells cell king n) (same king king_off) ∙ king_reach q.cells (put_on q arrived hands b).cells (opponent_of q.side) (piece_at q.cells king) king n quiet.crown was.step.reached;
           open_end = ap (is_piece_of (opponent_of q.side)) (same n (square_off n bit)) ∙ was.step.open_end;
         };
         safe =
-            attacked_was_but (set q.cells king None) (set (with_drop q kind b).cells king None) (λ x. ⊥) opened_lifted (opponent_of (opponent_of q.side)) n
-            (kept q (with_drop q kind b).cells (with_drop q kind b).hands (λ x. ⊥) b (dropped q.side kind) len fits (dropped_of q.side kind) see king n quiet.king_fits h quiet.crown (λ left. left) (king_off, square_off n bit) was
-            (short_lifted (dropped q.side kind) b n (idle.far n h bit)))
+            attacked_was_but (set q.cells king None) (set (put_on q arrived hands b).cells king None) (λ x. ⊥) opened_lifted (opponent_of (opponent_of q.side)) n
+            (kept q (put_on q arrived hands b).cells (put_on q arrived hands b).hands (λ x. ⊥) b arrived len fits owned see king n quiet.king_fits h quiet.crown (λ left. left) (king_off, square_off n bit) was
+            (short_lifted arrived b n (idle.far n h bit)))
             (λ x left. absurd left) was.safe;
       }
 
   -- ---- a move of another piece
 
-  module _ (c d : ℕ) (promote : Bool) (hc : c < 81) (hd : d < 81) (l : is_legal (with_drop q kind b) (Board c d promote) ≡ true) where
-    own : is_piece_of q.side (piece_at (with_drop q kind b).cells c) ≡ true
-    own = (board_parts (with_drop q kind b) c d promote l).0
+  module _ (c d : ℕ) (promote : Bool) (hc : c < 81) (hd : d < 81) (l : is_legal (put_on q arrived hands b) (Board c d promote) ≡ true) where
+    own : is_piece_of q.side (piece_at (put_on q arrived hands b).cells c) ≡ true
+    own = (board_parts (put_on q arrived hands b) c d promote l).0
 
-    free : is_piece_of q.side (piece_at (with_drop q kind b).cells d) ≡ false
-    free = (board_parts (with_drop q kind b) c d promote l).1
+    free : is_piece_of q.side (piece_at (put_on q arrived hands b).cells d) ≡ false
+    free = (board_parts (put_on q arrived hands b) c d promote l).1
 
-    reach : reaches (with_drop q kind b).cells c d ≡ true
-    reach = (board_parts (with_drop q kind b) c d promote l).2
+    reach : reaches (put_on q arrived hands b).cells c d ≡ true
+    reach = (board_parts (put_on q arrived hands b) c d promote l).2
 
-    may : promote ≡ true → may_promote (piece_at (with_drop q kind b).cells c) c d ≡ true
-    may = may_when promote (may_promote (piece_at (with_drop q kind b).cells c) c d) (board_parts (with_drop q kind b) c d promote l).3
+    may : promote ≡ true → may_promote (piece_at (put_on q arrived hands b).cells c) c d ≡ true
+    may = may_when promote (may_promote (piece_at (put_on q arrived hands b).cells c) c d) (board_parts (put_on q arrived hands b) c d promote l).3
 
     end_off : d ≢ b
-    end_off at = both_ways (is_piece_of q.side (dropped q.side kind)) (ap (is_piece_of q.side) (sym (ap (piece_at (with_drop q kind b).cells) at ∙ put)) ∙ free) (dropped_of q.side kind)
+    end_off at = both_ways (is_piece_of q.side arrived) (ap (is_piece_of q.side) (sym (ap (piece_at (put_on q arrived hands b).cells) at ∙ put)) ∙ free) owned
 
     free_before : is_piece_of q.side (piece_at q.cells d) ≡ false
     free_before = ap (is_piece_of q.side) (sym (same d end_off)) ∙ free
 
     not_king : king ≢ d
-    not_king at = both_ways (reaches (with_drop q kind b).cells c king) (takes_no_king (with_drop q kind b) c king v hc quiet.king_fits crown_now own) (subst (λ (x : ℕ). reaches (with_drop q kind b).cells c x ≡ true) (sym at) reach)
+    not_king at = both_ways (reaches (put_on q arrived hands b).cells c king) (takes_no_king (put_on q arrived hands b) c king v hc quiet.king_fits crown_now own) (subst (λ (x : ℕ). reaches (put_on q arrived hands b).cells c x ≡ true) (sym at) reach)
 
-    gain_here : (cell : Option Piece) → piece_at (with_drop q kind b).cells c ≡ cell → taken_gain e (piece_at q.cells d) + promotion_gain promote cell ≤ gains → taken_gain e (piece_at (with_drop q kind b).cells d) + promotion_gain promote (piece_at (with_drop q kind b).cells c) ≤ gains
+    gain_here : (cell : Option Piece) → piece_at (put_on q arrived hands b).cells c ≡ cell → taken_gain e (piece_at q.cells d) + promotion_gain promote cell ≤ gains → taken_gain e (piece_at (put_on q arrived hands b).cells d) + promotion_gain promote (piece_at (put_on q arrived hands b).cells c) ≤ gains
     gain_here cell at few =
-        let one : taken_gain e (piece_at (with_drop q kind b).cells d) ≡ taken_gain e (piece_at q.cells d) = ap (taken_gain e) (same d end_off) in
-        let two : promotion_gain promote (piece_at (with_drop q kind b).cells c) ≡ promotion_gain promote cell = ap (promotion_gain promote) at in
+        let one : taken_gain e (piece_at (put_on q arrived hands b).cells d) ≡ taken_gain e (piece_at q.cells d) = ap (taken_gain e) (same d end_off) in
+        let two : promotion_gain promote (piece_at (put_on q arrived hands b).cells c) ≡ promotion_gain promote cell = ap (promotion_gain promote) at in
         omega (arith, one, two, few)
 
     -- of what was dropped
-    dropped_moves : c ≡ b → (taken_gain e (piece_at (with_drop q kind b).cells d) + promotion_gain promote (piece_at (with_drop q kind b).cells c) ≤ gains) × (legal_codes (after (with_drop q kind b) (Board c d promote)) ≢ [])
+    dropped_moves : c ≡ b → (taken_gain e (piece_at (put_on q arrived hands b).cells d) + promotion_gain promote (piece_at (put_on q arrived hands b).cells c) ≤ gains) × (legal_codes (after (put_on q arrived hands b) (Board c d promote)) ≢ [])
     unfolding reaches
     dropped_moves at =
-        let there : piece_at (with_drop q kind b).cells c ≡ dropped q.side kind = ap (piece_at (with_drop q kind b).cells) at ∙ put in
-        let led : cell_reaches (without_king q king) (dropped q.side kind) b d ≡ true = reached_now (dropped q.side kind) b d (subst (λ (x : ℕ). cell_reaches (with_drop q kind b).cells (dropped q.side kind) x d ≡ true) at (ap (λ (cell : Option Piece). cell_reaches (with_drop q kind b).cells cell c d) (sym there) ∙ reach)) in
-        let lets : promote ≡ true → may_promote (dropped q.side kind) b d ≡ true = λ p. subst (λ (x : ℕ). may_promote (dropped q.side kind) x d ≡ true) at (ap (λ (cell : Option Piece). may_promote cell c d) (sym there) ∙ may p) in
-        let calm : IsCalm q e gains king (dropped q.side kind) squares d promote = idle.next d promote hd free_before led lets in
+        let there : piece_at (put_on q arrived hands b).cells c ≡ arrived = ap (piece_at (put_on q arrived hands b).cells) at ∙ put in
+        let led : cell_reaches (without_king q king) arrived b d ≡ true = reached_now arrived b d (subst (λ (x : ℕ). cell_reaches (put_on q arrived hands b).cells arrived x d ≡ true) at (ap (λ (cell : Option Piece). cell_reaches (put_on q arrived hands b).cells cell c d) (sym there) ∙ reach)) in
+        let lets : promote ≡ true → may_promote arrived b d ≡ true = λ p. subst (λ (x : ℕ). may_promote arrived x d ≡ true) at (ap (λ (cell : Option Piece). may_promote cell c d) (sym there) ∙ may p) in
+        let calm : IsCalm q e gains king arrived squares d promote = idle.next d promote hd free_before led lets in
         let one = calm.leaves in
-        let moved : piece_moved promote (piece_at (with_drop q kind b).cells c) ≡ piece_moved promote (dropped q.side kind) = ap (piece_moved promote) there in (
-          gain_here (dropped q.side kind) there calm.gain,
-          reply_by (after (with_drop q kind b) (Board c d promote)) king one.0 quiet.king_fits one.1
-              (king_steps q (cells_after (with_drop q kind b).cells q.side (Board c d promote)) (after (with_drop q kind b) (Board c d promote)).hands (λ x. ⊥) d (piece_moved promote (piece_at (with_drop q kind b).cells c)) len
-              (length-after (with_drop q kind b).cells q.side (Board c d promote) ∙ fits)
-              (is_piece_of-piece_moved q.side promote (piece_at (with_drop q kind b).cells c) ∙ own)
-              (λ x. elim (look (with_drop q kind b).cells q.side c d (piece_moved promote (piece_at (with_drop q kind b).cells c)) fits hc hd x) [
+        let moved : piece_moved promote (piece_at (put_on q arrived hands b).cells c) ≡ piece_moved promote arrived = ap (piece_moved promote) there in (
+          gain_here arrived there calm.gain,
+          reply_by (after (put_on q arrived hands b) (Board c d promote)) king one.0 quiet.king_fits one.1
+              (king_steps q (cells_after (put_on q arrived hands b).cells q.side (Board c d promote)) (after (put_on q arrived hands b) (Board c d promote)).hands (λ x. ⊥) d (piece_moved promote (piece_at (put_on q arrived hands b).cells c)) len
+              (length-after (put_on q arrived hands b).cells q.side (Board c d promote) ∙ fits)
+              (is_piece_of-piece_moved q.side promote (piece_at (put_on q arrived hands b).cells c) ∙ own)
+              (λ x. elim (look (put_on q arrived hands b).cells q.side c d (piece_moved promote (piece_at (put_on q arrived hands b).cells c)) fits hc hd x) [
                 | inl end ↦ inl end
                 | inr rest ↦ elim rest [
                   | inl gone ↦ inr (inr (gone.1 ∙ (sym bare ∙ ap (piece_at q.cells) (sym (gone.0 ∙ at)))))
                   | inr stood ↦ elim (cases_eq x b) [
-                    | inl here ↦ inr (inr (let clash : x ≡ c = here ∙ sym at in absurd (both_ways (is_none (piece_at (cells_after (with_drop q kind b).cells q.side (Board c d promote)) x)) (ap is_none stood ∙ (ap (λ (y : ℕ). is_none (piece_at (with_drop q kind b).cells y)) clash ∙ ap is_none there)) (left_none x clash))))
+                    | inl here ↦ inr (inr (let clash : x ≡ c = here ∙ sym at in absurd (both_ways (is_none (piece_at (cells_after (put_on q arrived hands b).cells q.side (Board c d promote)) x)) (ap is_none stood ∙ (ap (λ (y : ℕ). is_none (piece_at (put_on q arrived hands b).cells y)) clash ∙ (ap is_none there ∙ own_some q.side arrived owned))) (left_none x clash))))
                     | inr other ↦ inr (inr (stood ∙ same x other))
                   ]
                 ]
@@ -228,81 +228,71 @@ module _ (q : Shogi) (e : Eval) (gains king squares : ℕ) (kind : Kind) (b : �
               (λ x left. absurd left)),
         )
       where
-        left_none : (x : ℕ) → x ≡ c → is_none (piece_at (cells_after (with_drop q kind b).cells q.side (Board c d promote)) x) ≡ true
+        left_none : (x : ℕ) → x ≡ c → is_none (piece_at (cells_after (put_on q arrived hands b).cells q.side (Board c d promote)) x) ≡ true
         left_none x here =
             let other : x ≢ d = λ end. end_off (sym end ∙ (here ∙ at)) in
-            ap is_none (get_or-set_other (set (with_drop q kind b).cells c None) d x (piece_moved promote (piece_at (with_drop q kind b).cells c)) None other ∙ (ap (piece_at (set (with_drop q kind b).cells c None)) here ∙ get_or-set_same (with_drop q kind b).cells c None None (omega (arith, fits, hc))))
+            ap is_none (get_or-set_other (set (put_on q arrived hands b).cells c None) d x (piece_moved promote (piece_at (put_on q arrived hands b).cells c)) None other ∙ (ap (piece_at (set (put_on q arrived hands b).cells c None)) here ∙ get_or-set_same (put_on q arrived hands b).cells c None None (omega (arith, fits, hc))))
 
     -- of one that stood there
-    other_moves : c ≢ b → (taken_gain e (piece_at (with_drop q kind b).cells d) + promotion_gain promote (piece_at (with_drop q kind b).cells c) ≤ gains) × (legal_codes (after (with_drop q kind b) (Board c d promote)) ≢ [])
+    other_moves : c ≢ b → (taken_gain e (piece_at (put_on q arrived hands b).cells d) + promotion_gain promote (piece_at (put_on q arrived hands b).cells c) ≤ gains) × (legal_codes (after (put_on q arrived hands b) (Board c d promote)) ≢ [])
     unfolding reaches
     other_moves off =
-        let there : piece_at (with_drop q kind b).cells c ≡ piece_at q.cells c = same c off in
-        let led : cell_reaches (without_king q king) (piece_at q.cells c) c d ≡ true = reached_now (piece_at q.cells c) c d (ap (λ (cell : Option Piece). cell_reaches (with_drop q kind b).cells cell c d) (sym there) ∙ reach) in
+        let there : piece_at (put_on q arrived hands b).cells c ≡ piece_at q.cells c = same c off in
+        let led : cell_reaches (without_king q king) (piece_at q.cells c) c d ≡ true = reached_now (piece_at q.cells c) c d (ap (λ (cell : Option Piece). cell_reaches (put_on q arrived hands b).cells cell c d) (sym there) ∙ reach) in
         let lets : promote ≡ true → may_promote (piece_at q.cells c) c d ≡ true = λ p. ap (λ (cell : Option Piece). may_promote cell c d) (sym there) ∙ may p in
         let calm = quiet.pieces c hc (ap (is_piece_of q.side) (sym there) ∙ own) d promote hd free_before led lets in
         let one = calm.1.2 in
         let out = calm.1.1 one.0 one.1 one.2 in
-        let moved : piece_moved promote (piece_at (with_drop q kind b).cells c) ≡ piece_moved promote (piece_at q.cells c) = ap (piece_moved promote) there in (
+        let moved : piece_moved promote (piece_at (put_on q arrived hands b).cells c) ≡ piece_moved promote (piece_at q.cells c) = ap (piece_moved promote) there in (
           gain_here (piece_at q.cells c) there calm.0,
-          reply_by (after (with_drop q kind b) (Board c d promote)) king one.0 quiet.king_fits one.1
-              (king_steps (with_drop q kind b) (cells_after (with_drop q kind b).cells q.side (Board c d promote)) (after (with_drop q kind b) (Board c d promote)).hands (λ x. x ≡ c) d (piece_moved promote (piece_at (with_drop q kind b).cells c)) fits
-              (length-after (with_drop q kind b).cells q.side (Board c d promote) ∙ fits)
-              (is_piece_of-piece_moved q.side promote (piece_at (with_drop q kind b).cells c) ∙ own)
-              (look (with_drop q kind b).cells q.side c d (piece_moved promote (piece_at (with_drop q kind b).cells c)) fits hc hd)
+          reply_by (after (put_on q arrived hands b) (Board c d promote)) king one.0 quiet.king_fits one.1
+              (king_steps (put_on q arrived hands b) (cells_after (put_on q arrived hands b).cells q.side (Board c d promote)) (after (put_on q arrived hands b) (Board c d promote)).hands (λ x. x ≡ c) d (piece_moved promote (piece_at (put_on q arrived hands b).cells c)) fits
+              (length-after (put_on q arrived hands b).cells q.side (Board c d promote) ∙ fits)
+              (is_piece_of-piece_moved q.side promote (piece_at (put_on q arrived hands b).cells c) ∙ own)
+              (look (put_on q arrived hands b).cells q.side c d (piece_moved promote (piece_at (put_on q arrived hands b).cells c)) fits hc hd)
               king one.0 quiet.king_fits one.1 crown_now
-              (λ at. both_ways (is_piece_of (opponent_of q.side) (piece_at (with_drop q kind b).cells c)) (other_side q.side (piece_at (with_drop q kind b).cells c) own) (subst (λ (x : ℕ). is_piece_of (opponent_of q.side) (piece_at (with_drop q kind b).cells x) ≡ true) at (king_own (opponent_of q.side) (piece_at (with_drop q kind b).cells king) crown_now)))
+              (λ at. both_ways (is_piece_of (opponent_of q.side) (piece_at (put_on q arrived hands b).cells c)) (other_side q.side (piece_at (put_on q arrived hands b).cells c) own) (subst (λ (x : ℕ). is_piece_of (opponent_of q.side) (piece_at (put_on q arrived hands b).cells x) ≡ true) at (king_own (opponent_of q.side) (piece_at (put_on q arrived hands b).cells king) crown_now)))
               (not_king, one.3) (escape_now one.0 one.1 out.0)
-              (short_lifted (piece_moved promote (piece_at (with_drop q kind b).cells c)) d one.0 (ap (λ (cell : Option Piece). cell_reaches (without_king q king) cell d one.0) moved ∙ one.4))
-              (λ x left. subst (λ (y : ℕ). are_lined (set (with_drop q kind b).cells king None) y one.0 ≡ false) (sym left) (false_from_ne_true _ (λ lined. both_ways (are_aligned c one.0) out.1 (lined_aligned (set (with_drop q kind b).cells king None) c one.0 lined))))),
+              (short_lifted (piece_moved promote (piece_at (put_on q arrived hands b).cells c)) d one.0 (ap (λ (cell : Option Piece). cell_reaches (without_king q king) cell d one.0) moved ∙ one.4))
+              (λ x left. subst (λ (y : ℕ). are_lined (set (put_on q arrived hands b).cells king None) y one.0 ≡ false) (sym left) (false_from_ne_true _ (λ lined. both_ways (are_aligned c one.0) out.1 (lined_aligned (set (put_on q arrived hands b).cells king None) c one.0 lined))))),
         )
 
-    board_calm : (taken_gain e (piece_at (with_drop q kind b).cells d) + promotion_gain promote (piece_at (with_drop q kind b).cells c) ≤ gains) × (legal_codes (after (with_drop q kind b) (Board c d promote)) ≢ [])
+    board_calm : (taken_gain e (piece_at (put_on q arrived hands b).cells d) + promotion_gain promote (piece_at (put_on q arrived hands b).cells c) ≤ gains) × (legal_codes (after (put_on q arrived hands b) (Board c d promote)) ≢ [])
     board_calm = elim (cases_eq c b) [ inl here ↦ dropped_moves here | inr off ↦ other_moves off ]
 
   -- ---- a drop
 
-  held_before : (other : Kind) → 0 < count_in_hand (with_drop q kind b).hands q.side other → 0 < count_in_hand q.hands q.side other
-  held_before other some = elim (cases_eq (place_of q.side other) (place_of q.side kind)) [
-    | inl here ↦ (
-        let low : place_of q.side kind < 14 = place_below q.side kind in
-        let now_is : count_in_hand (with_drop q kind b).hands q.side other ≡ count_in_hand q.hands q.side kind - 1 = ap (λ (i : ℕ). get_or (with_drop q kind b).hands i 0) here ∙ get_or-set_same q.hands (place_of q.side kind) (count_in_hand q.hands q.side kind - 1) 0 (omega (arith, low, held)) in
-        let was_is : count_in_hand q.hands q.side other ≡ count_in_hand q.hands q.side kind = ap (λ (i : ℕ). get_or q.hands i 0) here in
-        omega (arith, some, now_is, was_is))
-    | inr off ↦ subst (λ (n : ℕ). 0 < n) (get_or-set_other q.hands (place_of q.side kind) (place_of q.side other) (count_in_hand q.hands q.side kind - 1) 0 off) some
-  ]
-
-  drop_calm : (other : Kind) (d : ℕ) → d < 81 → is_legal (with_drop q kind b) (Drop other d) ≡ true → legal_codes (after (with_drop q kind b) (Drop other d)) ≢ []
+  drop_calm : (other : Kind) (d : ℕ) → d < 81 → is_legal (put_on q arrived hands b) (Drop other d) ≡ true → legal_codes (after (put_on q arrived hands b) (Drop other d)) ≢ []
   drop_calm other d hd l =
-      let parts = drop_parts (with_drop q kind b) other d l in
-      let empty : piece_at (with_drop q kind b).cells d ≡ None = none_is (piece_at (with_drop q kind b).cells d) parts.1 in
-      let off : d ≢ b = λ at. both_ways (is_none (dropped q.side kind)) refl (ap is_none (sym put) ∙ (ap (λ (x : ℕ). is_none (piece_at (with_drop q kind b).cells x)) (sym at) ∙ parts.1)) in
-      let one = quiet.kinds other (held_before other (ltb-true 0 (count_in_hand (with_drop q kind b).hands q.side other) parts.0)) d hd (sym (same d off) ∙ empty) parts.2 in
-      let not_there : king ≢ d = λ at. both_ways (is_king (opponent_of q.side) None) refl (ap (is_king (opponent_of q.side)) (sym empty) ∙ subst (λ (x : ℕ). is_king (opponent_of q.side) (piece_at (with_drop q kind b).cells x) ≡ true) at crown_now) in
-      reply_by (after (with_drop q kind b) (Drop other d)) king one.0 quiet.king_fits one.1
-      (king_steps (with_drop q kind b) (cells_after (with_drop q kind b).cells q.side (Drop other d)) (after (with_drop q kind b) (Drop other d)).hands (λ x. ⊥) d (dropped q.side other) fits
-      (length-after (with_drop q kind b).cells q.side (Drop other d) ∙ fits)
+      let parts = drop_parts (put_on q arrived hands b) other d l in
+      let empty : piece_at (put_on q arrived hands b).cells d ≡ None = none_is (piece_at (put_on q arrived hands b).cells d) parts.1 in
+      let off : d ≢ b = λ at. both_ways (is_none arrived) (own_some q.side arrived owned) (ap is_none (sym put) ∙ (ap (λ (x : ℕ). is_none (piece_at (put_on q arrived hands b).cells x)) (sym at) ∙ parts.1)) in
+      let one = quiet.kinds other (fewer other (ltb-true 0 (count_in_hand (put_on q arrived hands b).hands q.side other) parts.0)) d hd (sym (same d off) ∙ empty) parts.2 in
+      let not_there : king ≢ d = λ at. both_ways (is_king (opponent_of q.side) None) refl (ap (is_king (opponent_of q.side)) (sym empty) ∙ subst (λ (x : ℕ). is_king (opponent_of q.side) (piece_at (put_on q arrived hands b).cells x) ≡ true) at crown_now) in
+      reply_by (after (put_on q arrived hands b) (Drop other d)) king one.0 quiet.king_fits one.1
+      (king_steps (put_on q arrived hands b) (cells_after (put_on q arrived hands b).cells q.side (Drop other d)) (after (put_on q arrived hands b) (Drop other d)).hands (λ x. ⊥) d (dropped q.side other) fits
+      (length-after (put_on q arrived hands b).cells q.side (Drop other d) ∙ fits)
       (dropped_of q.side other)
-      (λ x. elim (drops.look (with_drop q kind b).cells q.side other d fits hd x) [ inl here ↦ inl here | inr stood ↦ inr (inr stood) ])
+      (λ x. elim (drops.look (put_on q arrived hands b).cells q.side other d fits hd x) [ inl here ↦ inl here | inr stood ↦ inr (inr stood) ])
       king one.0 quiet.king_fits one.1 crown_now (λ left. left) (not_there, one.3) (escape_now one.0 one.1 one.2)
       (short_lifted (dropped q.side other) d one.0 one.4)
       (λ x left. absurd left))
 
   -- so it gains no more than it did, and mates by nothing
-  pub tame : (t : ℤ) → (material_of q e +ℤ pos gains) ≤ℤ t → material_of (with_drop q kind b) e ≤ℤ material_of q e → IsTame (with_drop q kind b) e t
-  tame t room less = record {
+  pub tame : (t : ℤ) → (material_of (put_on q arrived hands b) e +ℤ pos gains) ≤ℤ t → IsTame (put_on q arrived hands b) e t
+  tame t room = record {
     gains = λ c on l. few c on l;
     answered = λ c on l. some c on l;
   }
     where
-      few : (c : Move) → IsOnSquares c → is_legal (with_drop q kind b) c ≡ true → (material_of (with_drop q kind b) e +ℤ gain_of (with_drop q kind b) e c) ≤ℤ t
+      few : (c : Move) → IsOnSquares c → is_legal (put_on q arrived hands b) c ≡ true → (material_of (put_on q arrived hands b) e +ℤ gain_of (put_on q arrived hands b) e c) ≤ℤ t
       few (Board c d promote) on l =
-          let little : taken_gain e (piece_at (with_drop q kind b).cells d) + promotion_gain promote (piece_at (with_drop q kind b).cells c) ≤ gains = (board_calm c d promote on.0 on.1 l).0 in
-          omega (arith, ints, little, room, less)
+          let little : taken_gain e (piece_at (put_on q arrived hands b).cells d) + promotion_gain promote (piece_at (put_on q arrived hands b).cells c) ≤ gains = (board_calm c d promote on.0 on.1 l).0 in
+          omega (arith, ints, little, room)
       few (Drop other d) on l =
           let none : drop_gain e other ≤ℤ pos 0 = drop_little e other in
-          omega (arith, ints, none, room, less)
+          omega (arith, ints, none, room)
 
-      some : (c : Move) → IsOnSquares c → is_legal (with_drop q kind b) c ≡ true → legal_codes (after (with_drop q kind b) c) ≢ []
+      some : (c : Move) → IsOnSquares c → is_legal (put_on q arrived hands b) c ≡ true → legal_codes (after (put_on q arrived hands b) c) ≢ []
       some (Board c d promote) on l = (board_calm c d promote on.0 on.1 l).1
       some (Drop other d) on l = drop_calm other d on l

@@ -4,7 +4,9 @@ pub mod Commuting
 pub mod Materials
 pub mod StillLegal
 pub mod Worth
+pub mod BoardMoves
 pub mod Idle
+pub mod Lifting
 pub mod Dull
 pub mod Sets
 pub mod SceneLaws

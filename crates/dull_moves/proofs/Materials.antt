@@ -63,22 +63,26 @@ gain_passed : (p : Shogi) (e : Eval) (r : Move) → gain_of (passed p) e r ≡ g
 gain_passed p e (Board c d promotes) = refl
 gain_passed p e (Drop kind d) = refl
 
--- the material after a drop and the reply is that after a pass and the reply, and what the drop gains
-pub material_moved : (p : Shogi) (e : Eval) (kind : Kind) (b : ℕ) (r : Move) → IsValid p → in_check p.cells p.side ≡ false → b < 81 → IsOnSquares r → IsOff r b → is_legal p (Drop kind b) ≡ true → is_legal (passed p) r ≡ true → is_legal (after p (Drop kind b)) r ≡ true
-    → material_of (after (after p (Drop kind b)) r) e ≡ material_of (after_reply p r) e +ℤ gain_of p e (Drop kind b)
-material_moved p e kind b r v shut on there apart lm lr l =
-    let one : material_of (after p (Drop kind b)) e ≡ pos 0 -ℤ (material_of p e +ℤ gain_of p e (Drop kind b)) = material_after p e (Drop kind b) v on lm in
-    let two : material_of (after (after p (Drop kind b)) r) e ≡ pos 0 -ℤ (material_of (after p (Drop kind b)) e +ℤ gain_of (after p (Drop kind b)) e r) = material_after (after p (Drop kind b)) e r (move_valid p (Drop kind b) v on lm) there l in
+-- the material after a move and a reply that gains the same after it is that after a pass and the reply, and what the move gains
+pub material_both : (p : Shogi) (e : Eval) (m r : Move) → IsValid p → in_check p.cells p.side ≡ false → IsOnSquares m → IsOnSquares r → gain_of (after p m) e r ≡ gain_of p e r → is_legal p m ≡ true → is_legal (passed p) r ≡ true → is_legal (after p m) r ≡ true
+    → material_of (after (after p m) r) e ≡ material_of (after_reply p r) e +ℤ gain_of p e m
+material_both p e m r v shut on there same lm lr l =
+    let one : material_of (after p m) e ≡ pos 0 -ℤ (material_of p e +ℤ gain_of p e m) = material_after p e m v on lm in
+    let two : material_of (after (after p m) r) e ≡ pos 0 -ℤ (material_of (after p m) e +ℤ gain_of (after p m) e r) = material_after (after p m) e r (move_valid p m v on lm) there l in
     let none : material_of (passed p) e ≡ pos 0 -ℤ material_of p e = material_passed p e in
     let three : material_of (after_reply p r) e ≡ pos 0 -ℤ (material_of (passed p) e +ℤ gain_of (passed p) e r) = material_after (passed p) e r (passed_valid p v shut) there lr in
-    let same : gain_of (after p (Drop kind b)) e r ≡ gain_of p e r = gain_kept p e kind b r apart in
     let same_too : gain_of (passed p) e r ≡ gain_of p e r = gain_passed p e r in
     whole _ _ _ _ _ _ _ _ _ one two none three same same_too
   where
     whole : (mp gm m1 q gr g1 mo q0 g0 : ℤ) → m1 ≡ pos 0 -ℤ (mp +ℤ gm) → q ≡ pos 0 -ℤ (m1 +ℤ g1) → mo ≡ pos 0 -ℤ mp → q0 ≡ pos 0 -ℤ (mo +ℤ g0) → g1 ≡ gr → g0 ≡ gr → q ≡ q0 +ℤ gm
     whole mp gm m1 q gr g1 mo q0 g0 a b c d s t = omega (arith, ints)
 
--- which is nothing
+-- so it is of a drop on a square that the reply is off
+pub material_moved : (p : Shogi) (e : Eval) (kind : Kind) (b : ℕ) (r : Move) → IsValid p → in_check p.cells p.side ≡ false → b < 81 → IsOnSquares r → IsOff r b → is_legal p (Drop kind b) ≡ true → is_legal (passed p) r ≡ true → is_legal (after p (Drop kind b)) r ≡ true
+    → material_of (after (after p (Drop kind b)) r) e ≡ material_of (after_reply p r) e +ℤ gain_of p e (Drop kind b)
+material_moved p e kind b r v shut on there apart lm lr l = material_both p e (Drop kind b) r v shut on there (gain_kept p e kind b r apart) lm lr l
+
+-- which gains nothing
 pub drop_little : (e : Eval) (kind : Kind) → drop_gain e kind ≤ℤ pos 0
 drop_little Plain kind = omega (arith, ints)
 drop_little Exchange kind = omega (arith, ints)

@@ -1,26 +1,34 @@
 -- What sets of squares say of the moves of a side.
-use Rattle.std.proofs.Common.{◌≡◌, ◌⊎◌, ℕ, ◌-◌, ◌^◌, ◌<◌, ◌≤◌, true, false, not, Option, Some, None, refl, sym, ap, subst, ◌∙◌, inl, inr, arith, bit_and, bit_or}
+use Rattle.std.proofs.Common.{◌≡◌, ◌≢◌, ◌⊎◌, ℕ, ◌+◌, ◌-◌, ◌^◌, ◌<◌, ◌≤◌, Bool, true, false, not, Option, Some, None, refl, sym, ap, subst, ◌∙◌, inl, inr, arith, bit_and, bit_or, set, get_or-set_other}
+use Rattle.std.proofs.lemmas.List.{set_comm}
 use Rattle.std.specs.Prelude.{◌&&◌, ◌||◌, ◌==◌, is_none}
-use Rattle.std.proofs.lemmas.Bool.{and_from, and_parts, both_ways, cases_eq, eq-eqb, false_from_ne_true, not_from_false, not-true, or_left, or_parts, or_right}
+use Rattle.std.proofs.lemmas.Bool.{and_from, and_parts, both_ways, cases_eq, eq-eqb, false_from_ne_true, not_from_false, not-true, or_cases, or_left, or_parts, or_right}
 use Rattle.shogi_core.specs.declared.piece.Color.{Color}
 use Rattle.shogi_core.specs.declared.piece.Color.TheVariants.{Black, White}
 use Rattle.shogi_core.specs.declared.piece.Kind.{Kind}
 use Rattle.shogi_core.specs.declared.piece.Kind.TheVariants as kinds
 use Rattle.shogi_core.specs.declared.piece.Piece.{Piece}
 use Rattle.shogi_core.specs.Bits.{has_bit}
-use Rattle.shogi_core.specs.Cell.{is_immobile, is_piece_of}
-use Rattle.shogi_core.specs.Lines.{are_aligned}
+use Rattle.shogi_core.specs.declared.squares.Squares.{Squares}
+use Rattle.shogi_core.specs.Cell.{is_immobile, is_king, is_piece_of, is_slider, is_sliding_role}
+use Rattle.shogi_core.specs.Lines.{are_aligned, are_lined}
 use Rattle.shogi_core.specs.Movement.{Cells, cell_reaches, piece_at}
 use Rattle.shogi_core.specs.Pieces.{is_same_color, opponent_of}
 use Rattle.shogi_core.specs.Position.{Shogi}
 use Rattle.shogi_core.specs.Zones.{may_promote}
 use Rattle.shogi_core.proofs.BitLaws.{has_bit-and, has_bit-none, has_bit-or}
 use Rattle.shogi_core.proofs.LineBits.{has_bit-not}
+use Rattle.shogi_core.proofs.SeenLaws.{lined_back}
 use Rattle.shogi_moves.specs.After.{dropped, piece_moved}
 use Rattle.shogi_eval.specs.declared.eval.Eval.{Eval}
 use Rattle.shogi_eval.specs.Material.{promotion_gain, taken_gain}
+use Rattle.dull_moves.proofs.Lifting.{cleared_none}
 use Rattle.dull_moves.proofs.Sets.{another, less, stays}
-use Rattle.dull_moves.specs.Dull.{AreCalm, AreDear, IsCalm, IsIdle, KindIsCalm, LeavesOne, PieceIsCalm, PromotesCalmly, without_king}
+use Rattle.shogi_eval.specs.Evaluated.{Evaluated}
+use Rattle.dull_moves.specs.declared.scene.ForbiddenSquares.{ForbiddenSquares}
+use Rattle.dull_moves.specs.declared.scene.Scene.{Scene}
+use Rattle.dull_moves.specs.Scenes.{IsAlike, IsIdleIn, place_in}
+use Rattle.dull_moves.specs.Dull.{Allows, AllowsPromotions, AreDear, AreOffLines, IsIdle, IsUnseen, KindIsCalm, KindLetsLeave, LeavesOne, PieceIsCalm, PieceLetsLeave, lifted, without_king}
 
 -- a square of a set that shares none with another one
 none_in : (a b n : ℕ) → bit_and a b ≡ 0 → has_bit a n ≡ true → has_bit b n ≡ false
@@ -51,83 +59,168 @@ no_piece color (Some piece) mine theirs = absurd (both_ways (is_same_color (oppo
     either White White e = absurd (cc)
 
 -- some squares are still to be looked at, and are kept so far
-pub record DearSoFar (q : Shogi) (e : Eval) (most left kept : ℕ) : Type 0 where
+pub record DearSoFar (cells : Cells) (side : Color) (e : Eval) (most left kept : ℕ) : Type 0 where
   pub within : (n : ℕ) → has_bit left n ≡ true → has_bit kept n ≡ true
-  pub rest : AreDear q e most kept
+  pub rest : AreDear cells side e most kept
 
-pub dear_first : (q : Shogi) (e : Eval) (most foes : ℕ) → ((n : ℕ) → n < 81 → has_bit foes n ≡ is_piece_of (opponent_of q.side) (piece_at q.cells n)) → DearSoFar q e most foes foes
-dear_first q e most foes bits = record {
+pub dear_first : (cells : Cells) (side : Color) (e : Eval) (most foes : ℕ) → ((n : ℕ) → n < 81 → has_bit foes n ≡ is_piece_of (opponent_of side) (piece_at cells n)) → DearSoFar cells side e most foes foes
+dear_first cells side e most foes bits = record {
   within = λ n set. set;
   rest = λ n h free out. (
-      let none : piece_at q.cells n ≡ None = no_piece q.side (piece_at q.cells n) free (sym (bits n h) ∙ out) in
-      let nothing : taken_gain e (piece_at q.cells n) ≡ 0 = ap (taken_gain e) none in
+      let none : piece_at cells n ≡ None = no_piece side (piece_at cells n) free (sym (bits n h) ∙ out) in
+      let nothing : taken_gain e (piece_at cells n) ≡ 0 = ap (taken_gain e) none in
       omega (arith, nothing));
 }
 
-pub dear_fewer : (q : Shogi) (e : Eval) (most left next kept fewer square : ℕ) → DearSoFar q e most left kept → ((i : ℕ) → has_bit next i ≡ (has_bit left i && not (i == square))) → ((i : ℕ) → has_bit fewer i ≡ (has_bit kept i && not (i == square))) → taken_gain e (piece_at q.cells square) ≤ most → DearSoFar q e most next fewer
-dear_fewer q e most left next kept fewer square d bits drops little = record {
+pub dear_fewer : (cells : Cells) (side : Color) (e : Eval) (most left next kept fewer square : ℕ) → DearSoFar cells side e most left kept → ((i : ℕ) → has_bit next i ≡ (has_bit left i && not (i == square))) → ((i : ℕ) → has_bit fewer i ≡ (has_bit kept i && not (i == square))) → taken_gain e (piece_at cells square) ≤ most → DearSoFar cells side e most next fewer
+dear_fewer cells side e most left next kept fewer square d bits drops little = record {
   within = λ n set. stays kept fewer square n drops (d.within n (less next left square bits n set)) (another left next square n bits set);
   rest = λ n h free out. elim (cases_eq n square) [
-    | inl same ↦ subst (λ (x : ℕ). taken_gain e (piece_at q.cells x) ≤ most) (sym same) little
+    | inl same ↦ subst (λ (x : ℕ). taken_gain e (piece_at cells x) ≤ most) (sym same) little
     | inr other ↦ d.rest n h free (false_from_ne_true _ (λ on. both_ways (has_bit fewer n) out (stays kept fewer square n drops on other)))
   ];
 }
 
-pub dear_same : (q : Shogi) (e : Eval) (most left next kept square : ℕ) → DearSoFar q e most left kept → ((i : ℕ) → has_bit next i ≡ (has_bit left i && not (i == square))) → DearSoFar q e most next kept
-dear_same q e most left next kept square d bits = record { within = λ n set. d.within n (less next left square bits n set); rest = d.rest }
+pub dear_same : (cells : Cells) (side : Color) (e : Eval) (most left next kept square : ℕ) → DearSoFar cells side e most left kept → ((i : ℕ) → has_bit next i ≡ (has_bit left i && not (i == square))) → DearSoFar cells side e most next kept
+dear_same cells side e most left next kept square d bits = record { within = λ n set. d.within n (less next left square bits n set); rest = d.rest }
+
+-- what is lifted is not dear
+pub dear_lifted : (cells : Cells) (side : Color) (e : Eval) (most dear a : ℕ) → AreDear cells side e most dear → AreDear (set cells a None) side e most dear
+dear_lifted cells side e most dear a d n h free out = elim (cases_eq n a) [
+  | inl at ↦ (
+      let nothing : taken_gain e (piece_at (set cells a None) n) ≡ 0 = ap (λ (y : ℕ). taken_gain e (piece_at (set cells a None) y)) at ∙ ap (taken_gain e) (cleared_none cells a) in
+      omega (arith, nothing))
+  | inr off ↦ (
+      let same : piece_at (set cells a None) n ≡ piece_at cells n = get_or-set_other cells a n None None off in
+      subst (λ (cell : Option Piece). taken_gain e cell ≤ most) (sym same) (d n h (ap (is_piece_of side) (sym same) ∙ free) out))
+]
+
+-- the king stands off a square that is cleared
+pub king_off : (cells : Cells) (color : Color) (king a : ℕ) → is_king color (piece_at (set cells a None) king) ≡ true → king ≢ a
+king_off cells color king a crown at = both_ways (is_king color None) refl (ap (is_king color) (sym (ap (piece_at (set cells a None)) at ∙ cleared_none cells a)) ∙ crown)
+
+-- the king and another piece are lifted in either order
+pub both_lifted : (board ground : Cells) (king a : ℕ) → board ≡ set ground king None → king ≢ a → set board a None ≡ set (set ground a None) king None
+both_lifted board ground king a lifted off = ap (λ (cells : Cells). set cells a None) lifted ∙ set_comm ground king a None None off
+
+-- ---- what is forbidden
+
+-- those of the targets that are, with promotion and without
+pub targets_within : (targets forbidden n : ℕ) → has_bit (bit_and targets forbidden) n ≡ true → has_bit targets n ≡ true
+targets_within targets forbidden n e = (and_parts _ _ (sym (has_bit-and targets forbidden n) ∙ e)).0
+
+off_both : (targets non promoting n : ℕ) → has_bit targets n ≡ true → has_bit (bit_and targets (bit_or non promoting)) n ≡ false → (has_bit non n ≡ false) × (has_bit promoting n ≡ false)
+off_both targets non promoting n on out = or_parts (has_bit non n) (has_bit promoting n) (sym (has_bit-or non promoting n) ∙ false_from_ne_true (has_bit (bit_or non promoting) n) (λ some. both_ways (has_bit (bit_and targets (bit_or non promoting)) n) out (has_bit-and targets (bit_or non promoting) n ∙ and_from _ _ on some)))
+
+pub off_non_promoting : (targets non promoting n : ℕ) → has_bit targets n ≡ true → has_bit (bit_and targets (bit_or non promoting)) n ≡ false → has_bit non n ≡ false
+off_non_promoting targets non promoting n on out = (off_both targets non promoting n on out).0
+
+pub off_promoting : (targets non forbidden may both n : ℕ) → both ≡ bit_and forbidden may → has_bit targets n ≡ true → has_bit (bit_and targets (bit_or non both)) n ≡ false → has_bit may n ≡ true → has_bit forbidden n ≡ false
+off_promoting targets non forbidden may both n is on out set = false_from_ne_true (has_bit forbidden n) (λ some. both_ways (has_bit both n) (off_both targets non both n on out).1 (ap (λ (m : ℕ). has_bit m n) is ∙ (has_bit-and forbidden may n ∙ and_from _ _ some set)))
+
+off_two : (a b n : ℕ) → has_bit (bit_or a b) n ≡ false → (has_bit a n ≡ false) × (has_bit b n ≡ false)
+off_two a b n out = or_parts (has_bit a n) (has_bit b n) (sym (has_bit-or a b n) ∙ out)
+
+pub promotes_nowhere : (q : Shogi) (e : Eval) (gains king : ℕ) (piece : Piece) (squares all : ℕ) → ((n : ℕ) → n < 81 → has_bit all n ≡ true) → AllowsPromotions q e gains king piece squares all
+promotes_nowhere q e gains king piece squares all every = record {
+  leaves = λ n h out. absurd (both_ways (has_bit all n) out (every n h));
+  gain = λ n h out. absurd (both_ways (has_bit all n) out (every n h));
+  takes = λ n h out free. absurd (both_ways (has_bit all n) out (every n h));
+}
+
+pub promotes_off : (q : Shogi) (e : Eval) (gains king : ℕ) (board : Cells) (piece promoted : Piece) (more dear covered squares : ℕ) → board ≡ without_king q king → piece_moved true (Some piece) ≡ Some promoted → more ≡ promotion_gain true (Some piece) → more ≤ gains → AreDear q.cells q.side e (gains - more) dear
+    → ((n : ℕ) → n < 81 → has_bit covered n ≡ false → LeavesOne board (Some promoted) n squares) → AllowsPromotions q e gains king piece squares (bit_or dear covered)
+promotes_off q e gains king board piece promoted more dear covered squares lifted is gain fits dearer leaves = record {
+  leaves = λ n h out. subst (λ (x : Option Piece). LeavesOne (without_king q king) x n squares) (sym is) (subst (λ (cells : Cells). LeavesOne cells (Some promoted) n squares) lifted (leaves n h (off_two dear covered n out).1));
+  gain = λ n h out. omega (arith, gain, fits);
+  takes = λ n h out free. (let few : taken_gain e (piece_at q.cells n) ≤ gains - more = dearer n h free (off_two dear covered n out).0 in omega (arith, few, gain, fits));
+}
+
+pub allows_off : (q : Shogi) (e : Eval) (gains king : ℕ) (board : Cells) (piece : Piece) (squares dear covered : ℕ) (promoting forbidden : Squares) → board ≡ without_king q king → AreDear q.cells q.side e gains dear → ((n : ℕ) → n < 81 → has_bit covered n ≡ false → LeavesOne board (Some piece) n squares) → forbidden.bits ≡ bit_or dear covered
+    → AllowsPromotions q e gains king piece squares promoting.bits → Allows q e gains king piece squares (record { non_promoting = forbidden; promoting = promoting })
+allows_off q e gains king board piece squares dear covered promoting forbidden lifted dearer leaves is promotions = record {
+  leaves = λ n h out. subst (λ (cells : Cells). LeavesOne cells (Some piece) n squares) lifted (leaves n h (off_two dear covered n (ap (λ (m : ℕ). has_bit m n) (sym is) ∙ out)).1);
+  takes = λ n h free out. dearer n h free (off_two dear covered n (ap (λ (m : ℕ). has_bit m n) (sym is) ∙ out)).0;
+  promotions = promotions;
+}
 
 -- ---- the moves of a piece
-
-pub promotes_all : (q : Shogi) (e : Eval) (gains king : ℕ) (board : Cells) (cell : Option Piece) (promoted : Piece) (more dear covered ends squares : ℕ) → board ≡ without_king q king → piece_moved true cell ≡ Some promoted → more ≡ promotion_gain true cell → more ≤ gains → AreDear q e (gains - more) dear
-    → ((n : ℕ) → n < 81 → has_bit covered n ≡ false → LeavesOne board (Some promoted) n squares) → bit_and ends (bit_or dear covered) ≡ 0 → PromotesCalmly q e gains king cell ends squares
-promotes_all q e gains king board cell promoted more dear covered ends squares lifted is gain fits dearer leaves none n h set free =
-    let off : (has_bit dear n ≡ false) × (has_bit covered n ≡ false) = none_of_two ends dear covered n none set in
-    let few : taken_gain e (piece_at q.cells n) ≤ gains - more = dearer n h free off.0 in
-    record {
-      gain = omega (arith, few, gain, fits);
-      leaves = subst (λ (x : Option Piece). LeavesOne (without_king q king) x n squares) (sym is) (subst (λ (cells : Cells). LeavesOne cells (Some promoted) n squares) lifted (leaves n h off.1));
-    }
-
-unpromoted : (cell : Option Piece) (piece : Piece) → cell ≡ Some piece → piece_moved false cell ≡ Some piece
-unpromoted cell piece is = ap (piece_moved false) is
 
 no_promotion : (cell : Option Piece) → promotion_gain false cell ≡ 0
 no_promotion None = refl
 no_promotion (Some piece) = refl
 
-pub calm_all : (q : Shogi) (e : Eval) (gains king : ℕ) (board : Cells) (cell : Option Piece) (piece : Piece) (from targets squares dear covered promoting ends : ℕ) → board ≡ without_king q king → cell ≡ Some piece → AreDear q e gains dear
-    → ((n : ℕ) → n < 81 → has_bit covered n ≡ false → LeavesOne board (Some piece) n squares) → bit_and targets (bit_or dear covered) ≡ 0 → ((n : ℕ) → n < 81 → has_bit promoting n ≡ may_promote (Some piece) from n) → ends ≡ bit_and targets promoting → PromotesCalmly q e gains king cell ends squares → AreCalm q e gains king cell from targets squares
-calm_all q e gains king board cell piece from targets squares dear covered promoting ends lifted is dearer leaves none may meet promotes n true h set free lets =
-    promotes n h (ap (λ (m : ℕ). has_bit m n) meet ∙ (has_bit-and targets promoting n ∙ and_from _ _ set (may n h ∙ (ap (λ (x : Option Piece). may_promote x from n) (sym is) ∙ lets refl)))) free
-calm_all q e gains king board cell piece from targets squares dear covered promoting ends lifted is dearer leaves none may meet promotes n false h set free lets =
-    let off : (has_bit dear n ≡ false) × (has_bit covered n ≡ false) = none_of_two targets dear covered n none set in
-    let few : taken_gain e (piece_at q.cells n) ≤ gains = dearer n h free off.0 in
-    let nothing : promotion_gain false cell ≡ 0 = no_promotion cell in
-    record {
-      gain = omega (arith, few, nothing);
-      leaves = subst (λ (x : Option Piece). LeavesOne (without_king q king) x n squares) (sym (unpromoted cell piece is)) (subst (λ (cells : Cells). LeavesOne cells (Some piece) n squares) lifted (leaves n h off.1));
-    }
+-- a move is calm to a square that is not forbidden
+calm_there : (q : Shogi) (e : Eval) (gains king : ℕ) (piece : Piece) (squares n : ℕ) (promote : Bool) (forbidden : ForbiddenSquares) → Allows q e gains king piece squares forbidden → n < 81 → has_bit forbidden.non_promoting.bits n ≡ false → (promote ≡ true → has_bit forbidden.promoting.bits n ≡ false)
+    → (promotion_gain promote (Some piece) ≤ gains) × LeavesOne (without_king q king) (piece_moved promote (Some piece)) n squares
+calm_there q e gains king piece squares n true forbidden allows h out off = (allows.promotions.gain n h (off refl), allows.promotions.leaves n h (off refl))
+calm_there q e gains king piece squares n false forbidden allows h out off = let nothing : promotion_gain false (Some piece) ≡ 0 = no_promotion (Some piece) in (omega (arith, nothing), allows.leaves n h out)
 
-pub none_promotes : (q : Shogi) (e : Eval) (gains king : ℕ) (cell : Option Piece) (ends squares : ℕ) → ends ≡ 0 → PromotesCalmly q e gains king cell ends squares
-none_promotes q e gains king cell ends squares none n h set free = absurd (both_ways (has_bit ends n) (ap (λ (m : ℕ). has_bit m n) none ∙ has_bit-none n) set)
+gain_there : (q : Shogi) (e : Eval) (gains king : ℕ) (piece : Piece) (squares n : ℕ) (promote : Bool) (forbidden : ForbiddenSquares) → Allows q e gains king piece squares forbidden → n < 81 → is_piece_of q.side (piece_at q.cells n) ≡ false → has_bit forbidden.non_promoting.bits n ≡ false → (promote ≡ true → has_bit forbidden.promoting.bits n ≡ false)
+    → taken_gain e (piece_at q.cells n) + promotion_gain promote (Some piece) ≤ gains
+gain_there q e gains king piece squares n true forbidden allows h free out off = allows.promotions.takes n h (off refl) free
+gain_there q e gains king piece squares n false forbidden allows h free out off =
+    let nothing : promotion_gain false (Some piece) ≡ 0 = no_promotion (Some piece) in
+    let few : taken_gain e (piece_at q.cells n) ≤ gains = allows.takes n h free out in
+    omega (arith, nothing, few)
 
-pub piece_calm : (q : Shogi) (e : Eval) (gains king : ℕ) (board : Cells) (piece : Piece) (from targets own rest lines clear squares : ℕ) → board ≡ without_king q king → piece_at q.cells from ≡ Some piece → ((n : ℕ) → n < 81 → has_bit targets n ≡ cell_reaches board (Some piece) from n)
-    → ((n : ℕ) → n < 81 → has_bit own n ≡ is_piece_of q.side (piece_at q.cells n)) → own < 2 ^ 81 → rest ≡ bit_and targets (2 ^ 128 - 1 - own) → ((n : ℕ) → n < 81 → has_bit lines n ≡ are_aligned from n) → lines < 2 ^ 81 → clear ≡ bit_and squares (2 ^ 128 - 1 - lines)
-    → AreCalm q e gains king (Some piece) from rest clear → PieceIsCalm q e gains king squares from
-piece_calm q e gains king board piece from targets own rest lines clear squares lifted is reach owned own_fits left lined lines_fit opens calm n promote h free reached lets =
-    let led : cell_reaches board (Some piece) from n ≡ true = ap (λ (cells : Cells). cell_reaches cells (Some piece) from n) lifted ∙ (ap (λ (x : Option Piece). cell_reaches (without_king q king) x from n) (sym is) ∙ reached) in
-    let there : has_bit rest n ≡ true = ap (λ (m : ℕ). has_bit m n) left ∙ kept_out targets own n own_fits h (reach n h ∙ led) (owned n h ∙ free) in
-    let one : IsCalm q e gains king (piece_at q.cells from) clear n promote = subst (λ (x : Option Piece). IsCalm q e gains king x clear n promote) (sym is) (calm n promote h there free (λ yes. ap (λ (x : Option Piece). may_promote x from n) (sym is) ∙ lets yes)) in
-    (one.gain, (clear, (λ m hm set. (let out = out_parts squares lines m lines_fit hm (sym (ap (λ (x : ℕ). has_bit x m) opens) ∙ set) in (out.0, sym (lined m hm) ∙ out.1))), one.leaves))
+-- those of the targets that are forbidden are these
+pub record AreForbidden (piece : Piece) (from targets : ℕ) (forbidden : ForbiddenSquares) (found : ℕ) : Type 0 where
+  pub non_promoting : (n : ℕ) → has_bit targets n ≡ true → has_bit found n ≡ false → has_bit forbidden.non_promoting.bits n ≡ false
+  pub promoting : (n : ℕ) → n < 81 → has_bit targets n ≡ true → has_bit found n ≡ false → may_promote (Some piece) from n ≡ true → has_bit forbidden.promoting.bits n ≡ false
+
+-- a piece whose forbidden targets are squares of its side alone
+module _ (q : Shogi) (e : Eval) (gains king : ℕ) (board : Cells) (piece : Piece) (from targets own lines clear squares found : ℕ) (forbidden : ForbiddenSquares) (lifted : board ≡ without_king q king) (is : piece_at q.cells from ≡ Some piece) (reach : (n : ℕ) → n < 81 → has_bit targets n ≡ cell_reaches board (Some piece) from n)
+    (lined : (n : ℕ) → n < 81 → has_bit lines n ≡ are_aligned from n) (lines_fit : lines < 2 ^ 81) (opens : clear ≡ bit_and squares (2 ^ 128 - 1 - lines)) (allows : Allows q e gains king piece clear forbidden) (these : AreForbidden piece from targets forbidden found) where
+  led : (n : ℕ) → n < 81 → cell_reaches (without_king q king) (piece_at q.cells from) from n ≡ true → has_bit targets n ≡ true
+  led n h reached = reach n h ∙ (ap (λ (cells : Cells). cell_reaches cells (Some piece) from n) lifted ∙ (ap (λ (x : Option Piece). cell_reaches (without_king q king) x from n) (sym is) ∙ reached))
+
+  off_lines : AreOffLines from squares clear
+  off_lines m hm set = let out = out_parts squares lines m lines_fit hm (sym (ap (λ (x : ℕ). has_bit x m) opens) ∙ set) in (out.0, sym (lined m hm) ∙ out.1)
+
+  calm_off : (n : ℕ) (promote : Bool) → n < 81 → has_bit targets n ≡ true → has_bit found n ≡ false → (promote ≡ true → may_promote (piece_at q.cells from) from n ≡ true)
+      → (promotion_gain promote (piece_at q.cells from) ≤ gains) × ((set : ℕ) × AreOffLines from squares set × LeavesOne (without_king q king) (piece_moved promote (piece_at q.cells from)) n set)
+  calm_off n promote h on out lets =
+      let one = calm_there q e gains king piece clear n promote forbidden allows h (these.non_promoting n on out) (λ p. these.promoting n h on out (ap (λ (x : Option Piece). may_promote x from n) (sym is) ∙ lets p)) in
+      (subst (λ (x : Option Piece). promotion_gain promote x ≤ gains) (sym is) one.0, (clear, off_lines, subst (λ (x : Option Piece). LeavesOne (without_king q king) (piece_moved promote x) n clear) (sym is) one.1))
+
+  pub piece_calm : (rest : ℕ) → ((n : ℕ) → n < 81 → has_bit own n ≡ is_piece_of q.side (piece_at q.cells n)) → own < 2 ^ 81 → rest ≡ bit_and found (2 ^ 128 - 1 - own) → rest ≡ 0 → PieceIsCalm q e gains king squares from
+  piece_calm rest owned own_fits left none n promote h free reached lets =
+      let on : has_bit targets n ≡ true = led n h reached in
+      let out : has_bit found n ≡ false = false_from_ne_true (has_bit found n) (λ some. both_ways (has_bit rest n) (ap (λ (m : ℕ). has_bit m n) none ∙ has_bit-none n) (ap (λ (m : ℕ). has_bit m n) left ∙ kept_out found own n own_fits h some (owned n h ∙ free))) in
+      let few : taken_gain e (piece_at q.cells n) + promotion_gain promote (Some piece) ≤ gains = gain_there q e gains king piece clear n promote forbidden allows h free (these.non_promoting n on out) (λ p. these.promoting n h on out (ap (λ (x : Option Piece). may_promote x from n) (sym is) ∙ lets p)) in
+      (subst (λ (x : Option Piece). taken_gain e (piece_at q.cells n) + promotion_gain promote x ≤ gains) (sym is) few, (calm_off n promote h on out lets).1)
+
+  same_piece : (other : Piece) → piece_at q.cells from ≡ Some other → Some other ≡ Some piece
+  same_piece other at = sym at ∙ is
+
+  -- one that slides holds what it reaches
+  pub slider_lets : (a : ℕ) → a < 81 → has_bit targets a ≡ false → PieceLetsLeave q e gains king squares from a
+  slider_lets a h out = record {
+    shut = λ other at. inr (false_from_ne_true _ (λ r. both_ways (has_bit targets a) out (led a h (ap (λ (x : Option Piece). cell_reaches (without_king q king) x from a) at ∙ r))));
+    calm = λ promote reached lets. absurd (both_ways (has_bit targets a) out (led a h reached));
+  }
+
+  -- and another one what it may not move to
+  pub stepper_lets : is_sliding_role piece.role ≡ false → (a : ℕ) → a < 81 → has_bit found a ≡ false → PieceLetsLeave q e gains king squares from a
+  stepper_lets still a h out = record {
+    shut = λ other at. inl (subst (λ (x : Option Piece). is_slider x ≡ false) (sym (same_piece other at)) still);
+    calm = λ promote reached lets. calm_off a promote h (led a h reached) out lets;
+  }
 
 -- ---- drops
 
-pub kind_calm : (q : Shogi) (king : ℕ) (board : Cells) (kind : Kind) (piece : Piece) (covered free dead both squares : ℕ) → board ≡ without_king q king → dropped q.side kind ≡ Some piece → ((n : ℕ) → n < 81 → has_bit covered n ≡ false → LeavesOne board (Some piece) n squares)
-    → ((n : ℕ) → n < 81 → has_bit free n ≡ is_none (piece_at q.cells n)) → ((n : ℕ) → n < 81 → has_bit dead n ≡ is_immobile n (Some piece)) → dead < 2 ^ 81 → both ≡ bit_and covered free → bit_and both (2 ^ 128 - 1 - dead) ≡ 0 → KindIsCalm q king squares kind
-kind_calm q king board kind piece covered free dead both squares lifted is leaves empty stuck dead_fits meet none n h bare moves =
-    let off : has_bit covered n ≡ false = false_from_ne_true _ (λ on. both_ways (has_bit (bit_and both (2 ^ 128 - 1 - dead)) n) (ap (λ (m : ℕ). has_bit m n) none ∙ has_bit-none n)
-    (kept_out both dead n dead_fits h (ap (λ (m : ℕ). has_bit m n) meet ∙ (has_bit-and covered free n ∙ and_from _ _ on (empty n h ∙ ap is_none bare))) (stuck n h ∙ (ap (is_immobile n) (sym is) ∙ moves)))) in
-    subst (λ (x : Option Piece). LeavesOne (without_king q king) x n squares) (sym is) (subst (λ (cells : Cells). LeavesOne cells (Some piece) n squares) lifted (leaves n h off))
+pub kind_lets : (q : Shogi) (king : ℕ) (board : Cells) (kind : Kind) (piece : Piece) (covered dead held squares : ℕ) → board ≡ without_king q king → dropped q.side kind ≡ Some piece → ((n : ℕ) → n < 81 → has_bit covered n ≡ false → LeavesOne board (Some piece) n squares)
+    → ((n : ℕ) → n < 81 → has_bit dead n ≡ is_immobile n (Some piece)) → dead < 2 ^ 81 → held ≡ bit_and covered (2 ^ 128 - 1 - dead) → (a : ℕ) → a < 81 → has_bit held a ≡ false → KindLetsLeave q king squares kind a
+kind_lets q king board kind piece covered dead held squares lifted is leaves stuck dead_fits live a h out moves =
+    let off : has_bit covered a ≡ false = false_from_ne_true _ (λ on. both_ways (has_bit held a) out (ap (λ (m : ℕ). has_bit m a) live ∙ kept_out covered dead a dead_fits h on (stuck a h ∙ (ap (is_immobile a) (sym is) ∙ moves)))) in
+    subst (λ (x : Option Piece). LeavesOne (without_king q king) x a squares) (sym is) (subst (λ (cells : Cells). LeavesOne cells (Some piece) a squares) lifted (leaves a h off))
+
+pub kind_calm : (q : Shogi) (king : ℕ) (board : Cells) (kind : Kind) (piece : Piece) (covered free dead held both squares : ℕ) → board ≡ without_king q king → dropped q.side kind ≡ Some piece → ((n : ℕ) → n < 81 → has_bit covered n ≡ false → LeavesOne board (Some piece) n squares)
+    → ((n : ℕ) → n < 81 → has_bit free n ≡ is_none (piece_at q.cells n)) → ((n : ℕ) → n < 81 → has_bit dead n ≡ is_immobile n (Some piece)) → dead < 2 ^ 81 → held ≡ bit_and covered (2 ^ 128 - 1 - dead) → both ≡ bit_and held free → both ≡ 0 → KindIsCalm q king squares kind
+kind_calm q king board kind piece covered free dead held both squares lifted is leaves empty stuck dead_fits live meet none n h bare moves =
+    kind_lets q king board kind piece covered dead held squares lifted is leaves stuck dead_fits live n h
+    (false_from_ne_true (has_bit held n) (λ on. both_ways (has_bit both n) (ap (λ (m : ℕ). has_bit m n) none ∙ has_bit-none n) (ap (λ (m : ℕ). has_bit m n) meet ∙ (has_bit-and held free n ∙ and_from _ _ on (empty n h ∙ ap is_none bare))))) moves
 
 pub each_kind : (fact : Kind → Type 0) → fact kinds.Pawn → fact kinds.Lance → fact kinds.Knight → fact kinds.Silver → fact kinds.Gold → fact kinds.Bishop → fact kinds.Rook → (kind : Kind) → fact kind
 each_kind fact pawn lance knight silver gold bishop rook kinds.Pawn = pawn
@@ -138,45 +231,147 @@ each_kind fact pawn lance knight silver gold bishop rook kinds.Gold = gold
 each_kind fact pawn lance knight silver gold bishop rook kinds.Bishop = bishop
 each_kind fact pawn lance knight silver gold bishop rook kinds.Rook = rook
 
--- what is dropped is idle
-pub idle_there : (q : Shogi) (e : Eval) (gains king : ℕ) (board : Cells) (kind : Kind) (piece : Piece) (to reach squares closed own rest : ℕ) → board ≡ without_king q king → king < 81 → dropped q.side kind ≡ Some piece → ((n : ℕ) → n < 81 → has_bit reach n ≡ cell_reaches board (Some piece) to n)
+-- what is put on the square is idle
+pub idle_there : (q : Shogi) (e : Eval) (gains king : ℕ) (board : Cells) (piece : Piece) (to reach squares closed own rest found : ℕ) (forbidden : ForbiddenSquares) → board ≡ without_king q king → king < 81 → ((n : ℕ) → n < 81 → has_bit reach n ≡ cell_reaches board (Some piece) to n)
     → has_bit squares to ≡ false → ((i : ℕ) → has_bit closed i ≡ (has_bit squares i || i == king)) → bit_and reach closed ≡ 0 → ((n : ℕ) → n < 81 → has_bit own n ≡ is_piece_of q.side (piece_at q.cells n)) → own < 2 ^ 81 → rest ≡ bit_and reach (2 ^ 128 - 1 - own)
-    → AreCalm q e gains king (Some piece) to rest squares → IsIdle q e gains king squares kind to
-idle_there q e gains king board kind piece to reach squares closed own rest lifted low is led off shut none owned own_fits left calm = record {
+    → Allows q e gains king piece squares forbidden → AreForbidden piece to rest forbidden found → found ≡ 0 → IsIdle q e gains king squares (Some piece) to
+idle_there q e gains king board piece to reach squares closed own rest found forbidden lifted low led off shut none owned own_fits left allows these nothing = record {
   off = off;
   king_far = far king low (shut king ∙ or_right (has_bit squares king) (king == king) (same king));
   far = λ n h set. far n h (shut n ∙ or_left (has_bit squares n) (n == king) set);
-  next = λ n promote h free reached lets. subst (λ (x : Option Piece). IsCalm q e gains king x squares n promote) (sym is) (calm n promote h (ap (λ (m : ℕ). has_bit m n) left ∙ kept_out reach own n own_fits h (led n h ∙ back n reached) (owned n h ∙ free)) free (λ yes. ap (λ (x : Option Piece). may_promote x to n) (sym is) ∙ lets yes));
+  next = λ n promote h free reached lets. (
+      let on : has_bit rest n ≡ true = ap (λ (m : ℕ). has_bit m n) left ∙ kept_out reach own n own_fits h (led n h ∙ back n reached) (owned n h ∙ free) in
+      let out : has_bit found n ≡ false = ap (λ (m : ℕ). has_bit m n) nothing ∙ has_bit-none n in
+      let may : promote ≡ true → has_bit forbidden.promoting.bits n ≡ false = λ p. these.promoting n h on out (lets p) in
+      record {
+        gain = gain_there q e gains king piece squares n promote forbidden allows h free (these.non_promoting n on out) may;
+        leaves = (calm_there q e gains king piece squares n promote forbidden allows h (these.non_promoting n on out) may).1;
+      });
 }
   where
     same : (n : ℕ) → (n == n) ≡ true
     same n = eq-eqb n n refl
 
-    back : (n : ℕ) → cell_reaches (without_king q king) (dropped q.side kind) to n ≡ true → cell_reaches board (Some piece) to n ≡ true
-    back n r = ap (λ (cells : Cells). cell_reaches cells (Some piece) to n) lifted ∙ (ap (λ (x : Option Piece). cell_reaches (without_king q king) x to n) (sym is) ∙ r)
+    back : (n : ℕ) → cell_reaches (without_king q king) (Some piece) to n ≡ true → cell_reaches board (Some piece) to n ≡ true
+    back n r = ap (λ (cells : Cells). cell_reaches cells (Some piece) to n) lifted ∙ r
 
-    far : (n : ℕ) → n < 81 → has_bit closed n ≡ true → cell_reaches (without_king q king) (dropped q.side kind) to n ≡ false
+    far : (n : ℕ) → n < 81 → has_bit closed n ≡ true → cell_reaches (without_king q king) (Some piece) to n ≡ false
     far n h set = false_from_ne_true _ (λ r. both_ways (has_bit reach n) (false_from_ne_true (has_bit reach n) (λ on. both_ways (has_bit closed n) (none_in reach closed n none on) set)) (led n h ∙ back n r))
 
 -- ---- the pieces one by one
 
--- each piece is still to be looked at, or its moves are calm
-pub record PiecesSoFar (q : Shogi) (e : Eval) (gains king squares left : ℕ) : Type 0 where
-  pub calm : (n : ℕ) → n < 81 → is_piece_of q.side (piece_at q.cells n) ≡ true → (has_bit left n ≡ true) ⊎ PieceIsCalm q e gains king squares n
+-- each piece is still to be looked at, or its moves are calm, and it lets those leave that are not held
+pub record PiecesSoFar (q : Shogi) (e : Eval) (gains king squares left held : ℕ) : Type 0 where
+  pub calm : (n : ℕ) → n < 81 → is_piece_of q.side (piece_at q.cells n) ≡ true → (has_bit left n ≡ true) ⊎ (PieceIsCalm q e gains king squares n
+      × ((a : ℕ) → a < 81 → has_bit held a ≡ false → is_piece_of q.side (piece_at q.cells a) ≡ true → PieceLetsLeave q e gains king squares n a))
 
-pub pieces_first : (q : Shogi) (e : Eval) (gains king squares own : ℕ) → ((n : ℕ) → n < 81 → has_bit own n ≡ is_piece_of q.side (piece_at q.cells n)) → PiecesSoFar q e gains king squares own
-pieces_first q e gains king squares own bits = record { calm = λ n h mine. inl (bits n h ∙ mine) }
+pub pieces_first : (q : Shogi) (e : Eval) (gains king squares own held : ℕ) → ((n : ℕ) → n < 81 → has_bit own n ≡ is_piece_of q.side (piece_at q.cells n)) → PiecesSoFar q e gains king squares own held
+pieces_first q e gains king squares own held bits = record { calm = λ n h mine. inl (bits n h ∙ mine) }
 
-pub pieces_next : (q : Shogi) (e : Eval) (gains king squares left next square : ℕ) → PiecesSoFar q e gains king squares left → ((i : ℕ) → has_bit next i ≡ (has_bit left i && not (i == square))) → PieceIsCalm q e gains king squares square → PiecesSoFar q e gains king squares next
-pieces_next q e gains king squares left next square s bits one = record {
+pub pieces_next : (q : Shogi) (e : Eval) (gains king squares left next held more square : ℕ) → PiecesSoFar q e gains king squares left held → ((i : ℕ) → has_bit next i ≡ (has_bit left i && not (i == square))) → PieceIsCalm q e gains king squares square
+    → ((a : ℕ) → a < 81 → has_bit more a ≡ false → is_piece_of q.side (piece_at q.cells a) ≡ true → PieceLetsLeave q e gains king squares square a) → PiecesSoFar q e gains king squares next (bit_or held more)
+pieces_next q e gains king squares left next held more square s bits one lets = record {
   calm = λ n h mine. elim (cases_eq n square) [
-    | inl same ↦ inr (subst (PieceIsCalm q e gains king squares) (sym same) one)
-    | inr other ↦ elim (s.calm n h mine) [ inl still ↦ inl (stays left next square n bits still other) | inr found ↦ inr found ]
+    | inl same ↦ inr (subst (PieceIsCalm q e gains king squares) (sym same) one, λ a ha out own. subst (λ (x : ℕ). PieceLetsLeave q e gains king squares x a) (sym same) (lets a ha (off_two held more a out).1 own))
+    | inr other ↦ elim (s.calm n h mine) [
+      | inl still ↦ inl (stays left next square n bits still other)
+      | inr found ↦ inr (found.0, λ a ha out own. found.1 a ha (off_two held more a out).0 own)
+    ]
   ];
 }
 
-pub pieces_done : (q : Shogi) (e : Eval) (gains king squares left : ℕ) → PiecesSoFar q e gains king squares left → left ≡ 0 → (n : ℕ) → n < 81 → is_piece_of q.side (piece_at q.cells n) ≡ true → PieceIsCalm q e gains king squares n
-pieces_done q e gains king squares left s none n h mine = elim (s.calm n h mine) [
+pub pieces_done : (q : Shogi) (e : Eval) (gains king squares left held : ℕ) → PiecesSoFar q e gains king squares left held → left ≡ 0 → (n : ℕ) → n < 81 → is_piece_of q.side (piece_at q.cells n) ≡ true → PieceIsCalm q e gains king squares n
+    × ((a : ℕ) → a < 81 → has_bit held a ≡ false → is_piece_of q.side (piece_at q.cells a) ≡ true → PieceLetsLeave q e gains king squares n a)
+pieces_done q e gains king squares left held s none n h mine = elim (s.calm n h mine) [
   | inl still ↦ absurd (both_ways (has_bit left n) (ap (λ (m : ℕ). has_bit m n) none ∙ has_bit-none n) still)
   | inr found ↦ found
 ]
+
+-- ---- what is seen
+
+-- squares of the set that are still to be looked at, or out of whose sight is what is not in the view
+pub record ViewSoFar (cells : Cells) (king squares left view : ℕ) : Type 0 where
+  pub off_king : (a : ℕ) → a < 81 → has_bit view a ≡ false → are_lined cells a king ≡ false
+  pub off_squares : (n : ℕ) → n < 81 → has_bit squares n ≡ true → (has_bit left n ≡ true) ⊎ ((a : ℕ) → a < 81 → has_bit view a ≡ false → are_lined cells a n ≡ false)
+
+unlined : (cells : Cells) (lines n a : ℕ) → ((m : ℕ) → m < 81 → has_bit lines m ≡ are_lined cells n m) → a < 81 → has_bit lines a ≡ false → are_lined cells a n ≡ false
+unlined cells lines n a bits ha out = false_from_ne_true _ (λ seen. both_ways (has_bit lines a) out (bits a ha ∙ lined_back cells a n ha seen))
+
+pub view_first : (cells : Cells) (king squares lines : ℕ) → ((m : ℕ) → m < 81 → has_bit lines m ≡ are_lined cells king m) → ViewSoFar cells king squares squares lines
+view_first cells king squares lines bits = record { off_king = λ a ha out. unlined cells lines king a bits ha out; off_squares = λ n h set. inl set }
+
+pub view_next : (cells : Cells) (king squares left next view lines square : ℕ) → ViewSoFar cells king squares left view → ((i : ℕ) → has_bit next i ≡ (has_bit left i && not (i == square))) → ((m : ℕ) → m < 81 → has_bit lines m ≡ are_lined cells square m) → ViewSoFar cells king squares next (bit_or view lines)
+view_next cells king squares left next view lines square s bits lined = record {
+  off_king = λ a ha out. s.off_king a ha (off_two view lines a out).0;
+  off_squares = λ n h set. elim (cases_eq n square) [
+    | inl same ↦ inr (λ a ha out. subst (λ (x : ℕ). are_lined cells a x ≡ false) (sym same) (unlined cells lines square a lined ha (off_two view lines a out).1))
+    | inr other ↦ elim (s.off_squares n h set) [
+      | inl still ↦ inl (stays left next square n bits still other)
+      | inr seen ↦ inr (λ a ha out. seen a ha (off_two view lines a out).0)
+    ]
+  ];
+}
+
+pub view_done : (q : Shogi) (board : Cells) (king squares left view : ℕ) → board ≡ without_king q king → ViewSoFar board king squares left view → left ≡ 0 → (a : ℕ) → a < 81 → has_bit view a ≡ false → IsUnseen q king squares a
+view_done q board king squares left view lifted s none a ha out = record {
+  off_king = ap (λ (cells : Cells). are_lined cells a king) (sym lifted) ∙ s.off_king a ha out;
+  off_squares = λ n h set. ap (λ (cells : Cells). are_lined cells a n) (sym lifted) ∙ elim (s.off_squares n h set) [
+    | inl still ↦ absurd (both_ways (has_bit left n) (ap (λ (m : ℕ). has_bit m n) none ∙ has_bit-none n) still)
+    | inr seen ↦ seen a ha out
+  ];
+}
+
+-- ---- where pieces may go
+
+-- the pieces are still to be looked at, or what each reaches of the ends is fine
+pub record EndsSoFar (fact : ℕ → ℕ → Type 0) (reached : ℕ → ℕ → Type 0) (pieces first left kept : ℕ) : Type 0 where
+  pub among : (n : ℕ) → has_bit kept n ≡ true → has_bit first n ≡ true
+  pub fine : (from to : ℕ) → from < 81 → to < 81 → has_bit pieces from ≡ true → has_bit kept to ≡ true → reached from to → (has_bit left from ≡ true) ⊎ fact from to
+
+pub ends_first : (fact : ℕ → ℕ → Type 0) (reached : ℕ → ℕ → Type 0) (pieces first : ℕ) → EndsSoFar fact reached pieces first pieces first
+ends_first fact reached pieces first = record { among = λ n set. set; fine = λ from to hf ht mine on led. inl mine }
+
+pub ends_next : (fact : ℕ → ℕ → Type 0) (reached : ℕ → ℕ → Type 0) (pieces first left next kept fewer square : ℕ) → EndsSoFar fact reached pieces first left kept → ((i : ℕ) → has_bit next i ≡ (has_bit left i && not (i == square))) → ((n : ℕ) → has_bit fewer n ≡ true → has_bit kept n ≡ true)
+    → ((to : ℕ) → to < 81 → has_bit fewer to ≡ true → reached square to → fact square to) → EndsSoFar fact reached pieces first next fewer
+ends_next fact reached pieces first left next kept fewer square s bits within here = record {
+  among = λ n set. s.among n (within n set);
+  fine = λ from to hf ht mine on led. elim (cases_eq from square) [
+    | inl same ↦ inr (subst (λ (x : ℕ). fact x to) (sym same) (here to ht on (subst (λ (x : ℕ). reached x to) same led)))
+    | inr other ↦ elim (s.fine from to hf ht mine (within to on) led) [ inl still ↦ inl (stays left next square from bits still other) | inr found ↦ inr found ]
+  ];
+}
+
+pub ends_done : (fact : ℕ → ℕ → Type 0) (reached : ℕ → ℕ → Type 0) (pieces first left kept : ℕ) → EndsSoFar fact reached pieces first left kept → left ≡ 0 → (from to : ℕ) → from < 81 → to < 81 → has_bit pieces from ≡ true → has_bit kept to ≡ true → reached from to → fact from to
+ends_done fact reached pieces first left kept s none from to hf ht mine on led = elim (s.fine from to hf ht mine on led) [
+  | inl still ↦ absurd (both_ways (has_bit left from) (ap (λ (m : ℕ). has_bit m from) none ∙ has_bit-none from) still)
+  | inr found ↦ found
+]
+
+-- what holds off a set holds off a greater one
+pub off_left : (a b n : ℕ) → has_bit (bit_or a b) n ≡ false → has_bit a n ≡ false
+off_left a b n out = (off_two a b n out).0
+
+pub off_right : (a b n : ℕ) → has_bit (bit_or a b) n ≡ false → has_bit b n ≡ false
+off_right a b n out = (off_two a b n out).1
+
+-- ends without those of the targets that are not idle
+pub merged_among : (ends targets idle n : ℕ) → ((m : ℕ) → has_bit idle m ≡ true → has_bit (bit_and targets ends) m ≡ true) → has_bit (bit_or (bit_and ends (2 ^ 128 - 1 - targets)) idle) n ≡ true → has_bit ends n ≡ true
+merged_among ends targets idle n within set = elim (or_cases _ _ (sym (has_bit-or (bit_and ends (2 ^ 128 - 1 - targets)) idle n) ∙ set)) [
+  | inl kept ↦ targets_within ends (2 ^ 128 - 1 - targets) n kept
+  | inr new ↦ (and_parts _ _ (sym (has_bit-and targets ends n) ∙ within n new)).1
+]
+
+pub merged_idle : (ends targets idle n : ℕ) → targets < 2 ^ 81 → n < 81 → has_bit (bit_or (bit_and ends (2 ^ 128 - 1 - targets)) idle) n ≡ true → has_bit targets n ≡ true → has_bit idle n ≡ true
+merged_idle ends targets idle n fits h set on = elim (or_cases _ _ (sym (has_bit-or (bit_and ends (2 ^ 128 - 1 - targets)) idle n) ∙ set)) [
+  | inl kept ↦ absurd (both_ways (has_bit targets n) (out_parts ends targets n fits h kept).1 on)
+  | inr new ↦ new
+]
+
+-- what is idle in a scene that is alike but for a piece that is lifted
+pub idle_alike : (s t : Scene) (a : ℕ) (cell : Option Piece) (to : ℕ) → place_in t ≡ lifted (place_in s) a → IsAlike s t → IsIdleIn t cell to → IsIdle (lifted (place_in s) a) s.node.eval s.gains s.king s.squares.bits cell to
+idle_alike s t a cell to place alike idle =
+    subst (λ (q : Shogi). IsIdle q s.node.eval s.gains s.king s.squares.bits cell to) place
+    (subst (λ (squares : Squares). IsIdle (place_in t) s.node.eval s.gains s.king squares.bits cell to) alike.squares
+    (subst (λ (king : ℕ). IsIdle (place_in t) s.node.eval s.gains king t.squares.bits cell to) alike.king
+    (subst (λ (gains : ℕ). IsIdle (place_in t) s.node.eval gains t.king t.squares.bits cell to) alike.gains
+    (subst (λ (n : Evaluated). IsIdle (place_in t) n.eval t.gains t.king t.squares.bits cell to) alike.node idle))))

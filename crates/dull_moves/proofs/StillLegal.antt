@@ -36,13 +36,13 @@ legal_parts p m e =
     let one : (is_pseudo_legal p m ≡ true) × (not (in_check (after p m).cells p.side) ≡ true) = and_parts _ _ two.0 in
     (one.0, not-true _ one.1, not-true _ two.1)
 
-legal_from : (p : Shogi) (m : Move) → is_pseudo_legal p m ≡ true → in_check (after p m).cells p.side ≡ false → is_pawn_drop_mate p m ≡ false → is_legal p m ≡ true
+pub legal_from : (p : Shogi) (m : Move) → is_pseudo_legal p m ≡ true → in_check (after p m).cells p.side ≡ false → is_pawn_drop_mate p m ≡ false → is_legal p m ≡ true
 unfolding is_legal is_safe
 legal_from p m may shut none = and_from _ _ (and_from _ _ may (not_from_false _ shut)) (not_from_false _ none)
 
 -- ---- what a drop leaves to the other side
 
-abbrev StandsStill : Cells → Cells → Color → Type 0
+abbrev pub StandsStill : Cells → Cells → Color → Type 0
 StandsStill old new color = (x : ℕ) → is_piece_of color (piece_at new x) ≡ true → piece_at old x ≡ piece_at new x
 
 module _ (q : Cells) (side : Color) (kind : Kind) (to : ℕ) (len : length q ≡ 81) (ht : to < 81) where
@@ -85,7 +85,7 @@ all_five : (cells : Cells) (color : Color) (c d : ℕ) (promote : Bool) → is_p
     → is_pseudo_legal_board_move cells color c d promote ≡ true
 all_five cells color c d promote own free reach may alive = rw (own, free, reach, may, alive) refl
 
-pseudo_board : (old new : Cells) (color : Color) (to c d : ℕ) (promote : Bool) → LeavesStanding old new color to → c ≢ to → IsOffWay (Board c d promote) to → is_pseudo_legal_board_move old color c d promote ≡ true → is_pseudo_legal_board_move new color c d promote ≡ true
+pub pseudo_board : (old new : Cells) (color : Color) (to c d : ℕ) (promote : Bool) → LeavesStanding old new color to → c ≢ to → IsOffWay (Board c d promote) to → is_pseudo_legal_board_move old color c d promote ≡ true → is_pseudo_legal_board_move new color c d promote ≡ true
 unfolding reaches
 pseudo_board old new color to c d promote k off way e =
     let four = and_parts (is_piece_of color (piece_at old c) && not (is_piece_of color (piece_at old d)) && reaches old c d && (not promote || may_promote (piece_at old c) c d)) (not (is_immobile d (piece_moved promote (piece_at old c)))) e in
@@ -112,7 +112,7 @@ no_pawn old new color file len low stay none =
     omega arith))) in
     omega arith
 
-pseudo_drop : (old new : Cells) (hands held : HandCounts) (color : Color) (kind : Kind) (to d : ℕ) → LeavesStanding old new color to → length old ≡ 81 → d < 81 → d ≢ to → StandsStill old new color
+pub pseudo_drop : (old new : Cells) (hands held : HandCounts) (color : Color) (kind : Kind) (to d : ℕ) → LeavesStanding old new color to → length old ≡ 81 → d < 81 → d ≢ to → StandsStill old new color
     → count_in_hand held color kind ≡ count_in_hand hands color kind → is_pseudo_legal_drop old hands color kind d ≡ true → is_pseudo_legal_drop new held color kind d ≡ true
 pseudo_drop old new hands held color kind to d k len low off stay same e =
     let three = and_parts (nat_lt 0 (count_in_hand hands color kind) && is_none (piece_at old d) && not (is_immobile d (dropped color kind))) (not (is_pawn_kind kind && nat_lt 0 (pawns_on_file color (d / 9) old))) e in

@@ -1,4 +1,4 @@
--- A drop is worth no more than what is left after it and a reply.
+-- A move is worth no more than what is left after it and a reply.
 use Rattle.std.proofs.Common.{◌≡◌, ◌≢◌, ℕ, ℤ, pos, ◌-◌, ◌/◌, ◌%◌, ◌<◌, ◌-ℤ◌, ◌+ℤ◌, ◌≤ℤ◌, true, List, [], ◌∷◌, Some, sym, ap, subst, ◌∙◌, inl, inr, arith}
 use Rattle.std.specs.Prelude.{◌==◌}
 use Rattle.std.proofs.lemmas.Bool.{cases_lt}
@@ -6,7 +6,6 @@ use Rattle.std.proofs.lemmas.Int.{ints}
 use Rattle.shogi_core.specs.declared.moves.Move.{Move}
 use Rattle.shogi_core.specs.declared.moves.Move.TheVariants.{Board, Drop}
 use Rattle.shogi_core.specs.declared.moves.TheConstants.{FIRST_DROP, MOVE_CODE_COUNT}
-use Rattle.shogi_core.specs.declared.piece.Kind.{Kind}
 use Rattle.shogi_core.specs.Codes.{code_of, kind_at, move_of}
 use Rattle.shogi_core.specs.Position.{Shogi}
 use Rattle.shogi_core.specs.Validity.{IsValid}
@@ -28,13 +27,13 @@ use Rattle.dull_moves.specs.Dull.{IsOnSquares}
 use Rattle.dull_moves.proofs.Materials.{material_after}
 use Rattle.dull_moves.proofs.Squares.{move_back}
 
--- two plies after a drop are worth no more than one after a reply to it
-pub worth_by_reply : (p : Shogi) (e : Eval) (kind : Kind) (b : ℕ) (r : Move) (t : ℤ) → b < 81 → IsOnSquares r → is_legal (after p (Drop kind b)) r ≡ true → value (after (after p (Drop kind b)) r) e 1 ≤ℤ t → worth p e 2 (code_of (Drop kind b)) ≤ℤ t
-worth_by_reply p e kind b r t on there l low =
-    let reply : worth (after p (Drop kind b)) e 1 (code_of r) ≡ pos 0 -ℤ value (after (after p (Drop kind b)) r) e 1 = ap (λ (q : Shogi). pos 0 -ℤ value q e 1) (after_code_of (after p (Drop kind b)) r (move_back r there)) in
-    let enough : (pos 0 -ℤ t) ≤ℤ worth (after p (Drop kind b)) e 1 (code_of r) = omega (arith, ints) in
-    let high : (pos 0 -ℤ t) ≤ℤ value (after p (Drop kind b)) e 2 = cut (after p (Drop kind b)) e 2 (code_of r) (pos 0 -ℤ t) (omega arith) (legal_to_listed (after p (Drop kind b)) r (move_back r there) l) enough in
-    let here : worth p e 2 (code_of (Drop kind b)) ≡ pos 0 -ℤ value (after p (Drop kind b)) e 2 = ap (λ (q : Shogi). pos 0 -ℤ value q e 2) (after_code_of p (Drop kind b) (move_back (Drop kind b) on)) in
+-- two plies after a move are worth no more than one after a reply to it
+pub worth_by_reply : (p : Shogi) (e : Eval) (m r : Move) (t : ℤ) → IsOnSquares m → IsOnSquares r → is_legal (after p m) r ≡ true → value (after (after p m) r) e 1 ≤ℤ t → worth p e 2 (code_of m) ≤ℤ t
+worth_by_reply p e m r t on there l low =
+    let reply : worth (after p m) e 1 (code_of r) ≡ pos 0 -ℤ value (after (after p m) r) e 1 = ap (λ (q : Shogi). pos 0 -ℤ value q e 1) (after_code_of (after p m) r (move_back r there)) in
+    let enough : (pos 0 -ℤ t) ≤ℤ worth (after p m) e 1 (code_of r) = omega (arith, ints) in
+    let high : (pos 0 -ℤ t) ≤ℤ value (after p m) e 2 = cut (after p m) e 2 (code_of r) (pos 0 -ℤ t) (omega arith) (legal_to_listed (after p m) r (move_back r there) l) enough in
+    let here : worth p e 2 (code_of m) ≡ pos 0 -ℤ value (after p m) e 2 = ap (λ (q : Shogi). pos 0 -ℤ value q e 2) (after_code_of p m (move_back m on)) in
     omega (arith, ints)
 
 -- ---- one ply is worth no more than its moves gain, where none mates

@@ -1,13 +1,14 @@
--- Drops three plies before the end that change nothing of what one reply refutes (own choice).
-use Rattle.std.specs.Prelude.{ℕ, ◌≡◌, ◌≢◌, ◌<◌, ◌≤◌, ◌≤ℤ◌, ◌+◌, ℤ, Bool, true, false, Option, None, slice_set}
+-- Drops and quiet moves three plies before the end that change nothing of what one reply refutes (own choice).
+use Rattle.std.specs.Prelude.{ℕ, ◌≡◌, ◌≢◌, ◌⊎◌, ◌<◌, ◌≤◌, ◌≤ℤ◌, ◌+◌, ℤ, Bool, true, false, Option, None, Some, slice_set}
 use Rattle.shogi_core.specs.declared.moves.Move.{Move}
 use Rattle.shogi_core.specs.declared.moves.Move.TheVariants.{Board, Drop}
+use Rattle.shogi_core.specs.declared.piece.Color.{Color}
 use Rattle.shogi_core.specs.declared.piece.Kind.{Kind}
 use Rattle.shogi_core.specs.declared.piece.Piece.{Piece}
 use Rattle.shogi_core.specs.Bits.{has_bit}
-use Rattle.shogi_core.specs.Cell.{HasNoOtherKing, is_immobile, is_king, is_piece_of}
+use Rattle.shogi_core.specs.Cell.{HasNoOtherKing, is_immobile, is_king, is_piece_of, is_sliding_role}
 use Rattle.shogi_core.specs.Codes.{code_of}
-use Rattle.shogi_core.specs.Lines.{are_aligned}
+use Rattle.shogi_core.specs.Lines.{are_aligned, are_lined}
 use Rattle.shogi_core.specs.Movement.{Cells, cell_reaches, piece_at}
 use Rattle.shogi_core.specs.Pieces.{opponent_of}
 use Rattle.shogi_core.specs.Position.{Shogi, count_in_hand}
@@ -20,7 +21,8 @@ use Rattle.shogi_replies.specs.ReplyInfo.{IsHarmless}
 use Rattle.shogi_eval.specs.declared.eval.Eval.{Eval}
 use Rattle.shogi_eval.specs.Material.{promotion_gain, taken_gain}
 use Rattle.minimax.specs.Minimax.{worth}
-use Rattle.dull_moves.specs.declared.drops.DullDrops.{DullDrops}
+use Rattle.dull_moves.specs.declared.moves.DullMoves.{DullMoves}
+use Rattle.dull_moves.specs.declared.scene.ForbiddenSquares.{ForbiddenSquares}
 
 -- the position after a pass: the other side is to move
 abbrev pub passed : Shogi → Shogi
@@ -29,6 +31,14 @@ passed p = record { cells = p.cells; hands = p.hands; side = opponent_of p.side 
 -- the position after a pass and a reply: the first side is to move again
 abbrev pub after_reply : Shogi → Move → Shogi
 after_reply p r = after (passed p) r
+
+-- the position in which a piece is lifted from its square
+abbrev pub lifted : Shogi → ℕ → Shogi
+lifted q a = record { cells = slice_set q.cells a None; hands = q.hands; side = q.side }
+
+-- the position in which this is put on a square
+abbrev pub placed : Shogi → Option Piece → ℕ → Shogi
+placed q cell b = record { cells = slice_set q.cells b cell; hands = q.hands; side = q.side }
 
 -- the squares that the move names are on the board
 abbrev pub IsOnSquares : Move → Type 0
@@ -76,23 +86,29 @@ pub record IsCalm (q : Shogi) (e : Eval) (gains king : ℕ) (cell : Option Piece
   pub gain : taken_gain e (piece_at q.cells n) + promotion_gain promote cell ≤ gains
   pub leaves : LeavesOne (without_king q king) (piece_moved promote cell) n squares
 
--- so is each move of this from the square to the targets on which no piece of its side stands
-abbrev pub AreCalm : Shogi → Eval → ℕ → ℕ → Option Piece → ℕ → ℕ → ℕ → Type 0
-AreCalm q e gains king cell from targets squares = (n : ℕ) (promote : Bool) → n < 81
-    → has_bit targets n ≡ true → is_piece_of q.side (piece_at q.cells n) ≡ false
-    → (promote ≡ true → may_promote cell from n ≡ true)
-    → IsCalm q e gains king cell squares n promote
-
--- so is each move of this that promotes on one of the squares where no piece of its side stands
-abbrev pub PromotesCalmly : Shogi → Eval → ℕ → ℕ → Option Piece → ℕ → ℕ → Type 0
-PromotesCalmly q e gains king cell ends squares = (n : ℕ) → n < 81 → has_bit ends n ≡ true
-    → is_piece_of q.side (piece_at q.cells n) ≡ false
-    → IsCalm q e gains king cell squares n true
-
 -- no capture on a square that is not in the set gains more than so much
-abbrev pub AreDear : Shogi → Eval → ℕ → ℕ → Type 0
-AreDear q e most set = (n : ℕ) → n < 81 → is_piece_of q.side (piece_at q.cells n) ≡ false
-    → has_bit set n ≡ false → taken_gain e (piece_at q.cells n) ≤ most
+abbrev pub AreDear : Cells → Color → Eval → ℕ → ℕ → Type 0
+AreDear cells side e most set = (n : ℕ) → n < 81 → is_piece_of side (piece_at cells n) ≡ false
+    → has_bit set n ≡ false → taken_gain e (piece_at cells n) ≤ most
+
+-- off the set, promotions of this gain no more than so much, with what they take and without, and leave the king one of some squares
+pub record AllowsPromotions (q : Shogi) (e : Eval) (gains king : ℕ) (piece : Piece)
+    (squares set : ℕ) : Type 0 where
+  pub leaves : (n : ℕ) → n < 81 → has_bit set n ≡ false
+      → LeavesOne (without_king q king) (piece_moved true (Some piece)) n squares
+  pub gain : (n : ℕ) → n < 81 → has_bit set n ≡ false
+      → promotion_gain true (Some piece) ≤ gains
+  pub takes : (n : ℕ) → n < 81 → has_bit set n ≡ false
+      → is_piece_of q.side (piece_at q.cells n) ≡ false
+      → taken_gain e (piece_at q.cells n) + promotion_gain true (Some piece) ≤ gains
+
+-- off the one set, moves of this that do not promote gain no more than so much and leave the king one of some squares, and off the other one those that do
+pub record Allows (q : Shogi) (e : Eval) (gains king : ℕ) (piece : Piece) (squares : ℕ)
+    (forbidden : ForbiddenSquares) : Type 0 where
+  pub leaves : (n : ℕ) → n < 81 → has_bit forbidden.non_promoting.bits n ≡ false
+      → LeavesOne (without_king q king) (Some piece) n squares
+  pub takes : AreDear q.cells q.side e gains forbidden.non_promoting.bits
+  pub promotions : AllowsPromotions q e gains king piece squares forbidden.promoting.bits
 
 -- the squares of a set that are on no line with a square
 abbrev pub AreOffLines : ℕ → ℕ → ℕ → Type 0
@@ -126,29 +142,66 @@ pub record IsQuietThere (q : Shogi) (e : Eval) (gains king squares : ℕ) : Type
   pub kinds : (kind : Kind) → 0 < count_in_hand q.hands q.side kind
       → KindIsCalm q king squares kind
 
--- what is dropped on the square reaches neither the king nor one of its squares, and what it does next is calm
-pub record IsIdle (q : Shogi) (e : Eval) (gains king squares : ℕ) (kind : Kind) (to : ℕ) :
+-- what stands on the square moves calmly to another one, or may not move there, also once a piece of its side has left that
+pub record PieceLetsLeave (q : Shogi) (e : Eval) (gains king squares from a : ℕ) : Type 0 where
+  pub shut : (piece : Piece) → piece_at q.cells from ≡ Some piece
+      → (is_sliding_role piece.role ≡ false)
+      ⊎ (cell_reaches (without_king q king) (Some piece) from a ≡ false)
+  pub calm : (promote : Bool)
+      → cell_reaches (without_king q king) (piece_at q.cells from) from a ≡ true
+      → (promote ≡ true → may_promote (piece_at q.cells from) from a ≡ true)
+      → (promotion_gain promote (piece_at q.cells from) ≤ gains)
+      × ((set : ℕ) × AreOffLines from squares set
+      × LeavesOne (without_king q king) (piece_moved promote (piece_at q.cells from)) a set)
+
+-- a drop of the kind on the square leaves the king one of the squares
+abbrev pub KindLetsLeave : Shogi → ℕ → ℕ → Kind → ℕ → Type 0
+KindLetsLeave q king squares kind a = is_immobile a (dropped q.side kind) ≡ false
+    → LeavesOne (without_king q king) (dropped q.side kind) a squares
+
+-- the square is on no open line with the king or one of its squares
+pub record IsUnseen (q : Shogi) (king squares a : ℕ) : Type 0 where
+  pub off_king : are_lined (without_king q king) a king ≡ false
+  pub off_squares : (n : ℕ) → n < 81 → has_bit squares n ≡ true
+      → are_lined (without_king q king) a n ≡ false
+
+-- this, on the square, reaches neither the king nor one of its squares, and what it does next is calm
+pub record IsIdle (q : Shogi) (e : Eval) (gains king squares : ℕ) (cell : Option Piece) (to : ℕ) :
     Type 0 where
   pub off : has_bit squares to ≡ false
-  pub king_far : cell_reaches (without_king q king) (dropped q.side kind) to king ≡ false
+  pub king_far : cell_reaches (without_king q king) cell to king ≡ false
   pub far : (n : ℕ) → n < 81 → has_bit squares n ≡ true
-      → cell_reaches (without_king q king) (dropped q.side kind) to n ≡ false
+      → cell_reaches (without_king q king) cell to n ≡ false
   pub next : (n : ℕ) (promote : Bool) → n < 81
       → is_piece_of q.side (piece_at q.cells n) ≡ false
-      → cell_reaches (without_king q king) (dropped q.side kind) to n ≡ true
-      → (promote ≡ true → may_promote (dropped q.side kind) to n ≡ true)
-      → IsCalm q e gains king (dropped q.side kind) squares n promote
+      → cell_reaches (without_king q king) cell to n ≡ true
+      → (promote ≡ true → may_promote cell to n ≡ true)
+      → IsCalm q e gains king cell squares n promote
 
 -- so it is on each of the squares
-abbrev pub AreIdle : Shogi → Eval → ℕ → ℕ → ℕ → Kind → ℕ → Type 0
-AreIdle q e gains king squares kind set =
-    (n : ℕ) → n < 81 → has_bit set n ≡ true → IsIdle q e gains king squares kind n
+abbrev pub AreIdle : Shogi → Eval → ℕ → ℕ → ℕ → Option Piece → ℕ → Type 0
+AreIdle q e gains king squares cell set =
+    (n : ℕ) → n < 81 → has_bit set n ≡ true → IsIdle q e gains king squares cell n
 
 -- no legal drop of the kind on the squares is worth more than so much, with three plies left
 abbrev pub DropsAreWorthAtMost : Shogi → Eval → ℤ → Kind → ℕ → Type 0
 DropsAreWorthAtMost p e most kind squares = (to : ℕ) → to < 81 → has_bit squares to ≡ true
     → is_legal p (Drop kind to) ≡ true → worth p e 2 (code_of (Drop kind to)) ≤ℤ most
 
--- so it is of each kind
-abbrev pub AreDull : Shogi → Eval → DullDrops → Type 0
-AreDull p e d = (kind : Kind) → DropsAreWorthAtMost p e d.most kind d.squares.bits
+-- no legal move of the pieces to the ends is that takes nothing and does not promote
+abbrev pub QuietsAreWorthAtMost : Shogi → Eval → ℤ → ℕ → ℕ → Type 0
+QuietsAreWorthAtMost p e most pieces ends = (from to : ℕ) → from < 81 → to < 81
+    → has_bit pieces from ≡ true → has_bit ends to ≡ true → piece_at p.cells to ≡ None
+    → is_legal p (Board from to false) ≡ true
+    → worth p e 2 (code_of (Board from to false)) ≤ℤ most
+
+-- so it is of drops of each kind, and of quiet moves
+pub record AreDull (p : Shogi) (e : Eval) (d : DullMoves) : Type 0 where
+  pub drops : (kind : Kind) → DropsAreWorthAtMost p e d.most kind d.drops.bits
+  pub quiets : QuietsAreWorthAtMost p e d.most d.pieces.bits d.ends.bits
+
+-- the move is one of these, if it takes nothing and does not promote
+abbrev pub IsAmong : DullMoves → Move → Type 0
+IsAmong d (Board from to promote) =
+    (has_bit d.pieces.bits from ≡ true) × (has_bit d.ends.bits to ≡ true)
+IsAmong d (Drop kind to) = has_bit d.drops.bits to ≡ true

@@ -1,33 +1,56 @@
 -- The same of a scene (own choice).
-use Rattle.std.specs.Prelude.{ℕ, ◌≡◌, ◌<◌, true, Option}
+use Rattle.std.specs.Prelude.{ℕ, ◌≡◌, ◌<◌, true, false, Option, Some}
+use Rattle.shogi_core.specs.declared.piece.Color.{Color}
 use Rattle.shogi_core.specs.declared.piece.Kind.{Kind}
 use Rattle.shogi_core.specs.declared.piece.Piece.{Piece}
+use Rattle.shogi_core.specs.Bits.{has_bit}
 use Rattle.shogi_core.specs.Cell.{is_piece_of}
-use Rattle.shogi_core.specs.Movement.{piece_at}
-use Rattle.shogi_core.specs.Position.{count_in_hand}
+use Rattle.shogi_core.specs.Movement.{Cells, piece_at, reaches}
+use Rattle.shogi_core.specs.Position.{Shogi, count_in_hand}
+use Rattle.shogi_moves.specs.After.{dropped}
+use Rattle.dull_moves.specs.declared.scene.ForbiddenSquares.{ForbiddenSquares}
 use Rattle.dull_moves.specs.declared.scene.Scene.{Scene}
-use Rattle.dull_moves.specs.Dull.{AreCalm, AreIdle, IsIdle, IsQuietThere, KindIsCalm, PieceIsCalm, PromotesCalmly}
+use Rattle.dull_moves.specs.Dull.{Allows, AllowsPromotions, AreIdle, IsIdle, IsQuietThere, IsUnseen, KindIsCalm, KindLetsLeave, PieceIsCalm, PieceLetsLeave, lifted}
 
--- moves of this from the square to the targets gain little and leave the king one of these squares
-abbrev pub AreCalmIn : Scene → Option Piece → ℕ → ℕ → ℕ → Type 0
-AreCalmIn s cell from targets squares =
-    AreCalm s.node.position s.node.eval s.gains s.king cell from targets squares
+-- the position with other cells
+abbrev pub with_cells : Shogi → Cells → Shogi
+with_cells p cells = record { cells = cells; hands = p.hands; side = p.side }
 
--- so do those that promote
-abbrev pub PromotesCalmlyIn : Scene → Option Piece → ℕ → ℕ → Type 0
-PromotesCalmlyIn s cell ends squares =
-    PromotesCalmly s.node.position s.node.eval s.gains s.king cell ends squares
+-- the position of a scene: that of its node, or with a piece lifted
+abbrev pub place_in : Scene → Shogi
+place_in s = with_cells s.node.position s.ground
 
--- so do the moves on the board of what stands on the square
+-- a piece of the side to move stands on the square
+abbrev pub IsOwnIn : Scene → ℕ → Type 0
+IsOwnIn s a = is_piece_of s.node.position.side (piece_at s.ground a) ≡ true
+
+-- off the set, promotions of this are calm
+abbrev pub PromotionsAllowedIn : Scene → Piece → ℕ → ℕ → Type 0
+PromotionsAllowedIn s piece squares set =
+    AllowsPromotions (place_in s) s.node.eval s.gains s.king piece squares set
+
+-- off the sets, moves of this are calm
+abbrev pub AllowsIn : Scene → Piece → ℕ → ForbiddenSquares → Type 0
+AllowsIn s piece squares forbidden =
+    Allows (place_in s) s.node.eval s.gains s.king piece squares forbidden
+
+-- the moves on the board of what stands on the square are calm
 abbrev pub PieceIsCalmIn : Scene → ℕ → Type 0
 PieceIsCalmIn s from =
-    PieceIsCalm s.node.position s.node.eval s.gains s.king s.squares.bits from
+    PieceIsCalm (place_in s) s.node.eval s.gains s.king s.squares.bits from
 
 -- and those of each piece of the side to move
 abbrev pub PiecesAreCalmIn : Scene → Type 0
-PiecesAreCalmIn s = (from : ℕ) → from < 81
-    → is_piece_of s.node.position.side (piece_at s.node.position.cells from) ≡ true
-    → PieceIsCalmIn s from
+PiecesAreCalmIn s = (from : ℕ) → from < 81 → IsOwnIn s from → PieceIsCalmIn s from
+
+-- it lets the pieces of its side leave that are not in the set
+abbrev pub PieceLetsLeaveIn : Scene → ℕ → ℕ → Type 0
+PieceLetsLeaveIn s from held = (a : ℕ) → a < 81 → has_bit held a ≡ false → IsOwnIn s a
+    → PieceLetsLeave (place_in s) s.node.eval s.gains s.king s.squares.bits from a
+
+-- and so does each piece of the side to move
+abbrev pub PiecesLetLeaveIn : Scene → ℕ → Type 0
+PiecesLetLeaveIn s held = (from : ℕ) → from < 81 → IsOwnIn s from → PieceLetsLeaveIn s from held
 
 -- the side to move holds a piece of the kind
 abbrev pub IsHeldIn : Scene → Kind → Type 0
@@ -35,17 +58,66 @@ IsHeldIn s kind = 0 < count_in_hand s.node.position.hands s.node.position.side k
 
 -- a drop of the kind, if one is held, leaves the king one of its squares
 abbrev pub KindIsCalmIn : Scene → Kind → Type 0
-KindIsCalmIn s kind = IsHeldIn s kind → KindIsCalm s.node.position s.king s.squares.bits kind
+KindIsCalmIn s kind = IsHeldIn s kind → KindIsCalm (place_in s) s.king s.squares.bits kind
+
+-- so it does on squares that are not in the set, once a piece has left them
+abbrev pub KindLetsLeaveIn : Scene → Kind → ℕ → Type 0
+KindLetsLeaveIn s kind held = IsHeldIn s kind → (a : ℕ) → a < 81 → has_bit held a ≡ false
+    → KindLetsLeave (place_in s) s.king s.squares.bits kind a
+
+-- squares that are not in the set are on no open line with the king or one of its squares
+abbrev pub IsViewIn : Scene → ℕ → Type 0
+IsViewIn s view = (a : ℕ) → a < 81 → has_bit view a ≡ false
+    → IsUnseen (place_in s) s.king s.squares.bits a
 
 -- the side to move gains little, and the king keeps one of its squares, whatever that side does
 abbrev pub IsQuietIn : Scene → Type 0
-IsQuietIn s = IsQuietThere s.node.position s.node.eval s.gains s.king s.squares.bits
+IsQuietIn s = IsQuietThere (place_in s) s.node.eval s.gains s.king s.squares.bits
 
--- what is dropped on the square changes nothing
-abbrev pub IsIdleIn : Scene → Kind → ℕ → Type 0
-IsIdleIn s kind to = IsIdle s.node.position s.node.eval s.gains s.king s.squares.bits kind to
+-- and so with what stands on the square lifted
+abbrev pub IsQuietLifted : Scene → ℕ → Type 0
+IsQuietLifted s a = IsQuietThere (lifted (place_in s) a) s.node.eval s.gains s.king s.squares.bits
 
--- so it is on each of the squares, if a piece of the kind is held
-abbrev pub AreIdleIn : Scene → Kind → ℕ → Type 0
-AreIdleIn s kind set = IsHeldIn s kind
-    → AreIdle s.node.position s.node.eval s.gains s.king s.squares.bits kind set
+-- or with one of the pieces
+abbrev pub AreQuietLifted : Scene → ℕ → Type 0
+AreQuietLifted s pieces = (a : ℕ) → a < 81 → has_bit pieces a ≡ true → IsQuietLifted s a
+
+-- or with any piece of the side to move that is not in the set, and none of those is seen
+pub record IsQuietWithout (s : Scene) (held : ℕ) : Type 0 where
+  pub quiet : (a : ℕ) → a < 81 → IsOwnIn s a → has_bit held a ≡ false → IsQuietLifted s a
+  pub unseen : (a : ℕ) → a < 81 → has_bit held a ≡ false
+      → IsUnseen (place_in s) s.king s.squares.bits a
+
+-- the scenes are alike but for what is lifted
+pub record IsAlike (s t : Scene) : Type 0 where
+  pub node : t.node ≡ s.node
+  pub king : t.king ≡ s.king
+  pub squares : t.squares ≡ s.squares
+  pub gains : t.gains ≡ s.gains
+
+-- this, on the square, changes nothing
+abbrev pub IsIdleIn : Scene → Option Piece → ℕ → Type 0
+IsIdleIn s cell to = IsIdle (place_in s) s.node.eval s.gains s.king s.squares.bits cell to
+
+-- so it is on each of the squares
+abbrev pub AreIdleIn : Scene → Option Piece → ℕ → Type 0
+AreIdleIn s cell set = AreIdle (place_in s) s.node.eval s.gains s.king s.squares.bits cell set
+
+-- so is a piece of the kind, if one is held
+abbrev pub AreIdleDropsIn : Scene → Kind → ℕ → Type 0
+AreIdleDropsIn s kind set = IsHeldIn s kind
+    → AreIdleIn s (dropped s.node.position.side kind) set
+
+-- so is what stands on the square, once it is lifted, on those of the squares that are among its targets
+abbrev pub AreIdleFrom : Scene → ℕ → ℕ → ℕ → Type 0
+AreIdleFrom s from targets set = (to : ℕ) → to < 81 → has_bit set to ≡ true
+    → has_bit targets to ≡ true
+    → IsIdle (lifted (place_in s) from) s.node.eval s.gains s.king s.squares.bits
+    (piece_at s.ground from) to
+
+-- so is each of the pieces on those of the squares that it reaches on another board
+abbrev pub AreIdleEnds : Scene → Cells → ℕ → ℕ → Type 0
+AreIdleEnds s before pieces set = (from to : ℕ) → from < 81 → to < 81
+    → has_bit pieces from ≡ true → has_bit set to ≡ true → reaches before from to ≡ true
+    → IsIdle (lifted (place_in s) from) s.node.eval s.gains s.king s.squares.bits
+    (piece_at s.ground from) to

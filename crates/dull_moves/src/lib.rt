@@ -2,10 +2,11 @@
 //!
 //! Let a reply be legal after a pass, let its other side then gain no more than so much by any move,
 //! and let the king that it defends keep a square to go to after each. A drop that touches nothing of
-//! that is answered by the reply, and is worth no more. `DullDrops` has the squares of such drops.
+//! that is answered by the reply, and is worth no more, nor a quiet move of a piece that had no part in it.
+//! `DullMoves` has such moves.
 #![tactic(auto)]
 
-mod drops;
+mod moves;
 mod scene;
 
-pub use drops::DullDrops;
+pub use moves::DullMoves;

@@ -1,18 +1,19 @@
 //! What the side to move can do after a pass and a reply, by squares, whether it is legal or not.
 
-ghost use Rattle.std.specs.Prelude.{◌≡◌, ◌<◌, ◌≤◌, ℕ, true, false, Some};
+ghost use Rattle.std.specs.Prelude.{◌≡◌, ◌<◌, ℕ, true, false, None, Some, IfSome, slice_set};
 ghost use Rattle.std.proofs.Props.{props};
 ghost use Rattle.shogi_core.specs.Bits.{has_bit};
 ghost use Rattle.shogi_core.specs.Cell.{HasNoOtherKing, is_king};
 ghost use Rattle.shogi_core.specs.Movement.{piece_at};
 ghost use Rattle.shogi_core.specs.Pieces.{opponent_of};
+ghost use Rattle.shogi_core.specs.Zones.{may_promote};
 ghost use Rattle.shogi_moves.specs.Escapes.{AreEscapes};
-ghost use Rattle.dull_moves.specs.Dull.{AreDear, LeavesOne, without_king};
+ghost use Rattle.dull_moves.specs.Dull.{AreDear, LeavesOne, lifted};
 
 use shogi_core::bits::{cleared, lowest, without_lowest};
-use shogi_core::zones::{dead_squares, promoting_squares};
-use shogi_core::{Board, Kind, Piece, Square, Squares, line_mask};
-use shogi_eval::{Node, promotion_gain, taken_gain};
+use shogi_core::zones::{dead_squares, is_promotable, promoting_squares};
+use shogi_core::{Board, Color, Kind, Piece, Position, Square, Squares, line_mask};
+use shogi_eval::{Eval, Node, promotion_gain, taken_gain};
 use shogi_moves::{dropped, piece_moved};
 
 /// Squares from which the piece reaches each of some squares, but the one on which it stands.
@@ -35,17 +36,16 @@ pub fn covering_squares(board: &Board, piece: Piece, squares: Squares) -> Square
     covered
 }
 
-/// Squares of pieces of the side that is not to move whose capture gains more than so much.
-pub fn dear_squares(node: &Node, most: u32) -> Squares
-    ensures { AreDear node.now.position node.now.eval most result.bits }
+/// Squares of pieces of the other side whose capture gains more than so much.
+pub fn dear_squares(board: &Board, side: Color, eval: Eval, most: u32) -> Squares
+    ensures { AreDear board.now side eval most result.bits }
 {
-    let p = node.as_position();
-    let foes = p.as_board().own(p.side().opponent());
+    let foes = board.own(side.opponent());
     let mut left = foes.bits;
     let mut kept = foes.bits;
     while left != 0 {
         let square = lowest(left);
-        if taken_gain(node.eval(), p.at(Square::of_index(square))) <= most {
+        if taken_gain(eval, board.at(Square::of_index(square))) <= most {
             kept = cleared(kept, square);
         }
         left = without_lowest(left, square);
@@ -53,182 +53,289 @@ pub fn dear_squares(node: &Node, most: u32) -> Squares
     Squares { bits: kept }
 }
 
-/// The position after a pass and a reply, the only king of the side that has replied and the board
-/// without it, squares to which that king may go, and what the side to move may gain.
+/// Squares to which moves of a piece gain too much or leave the king none of some squares, without
+/// promotion and with it.
+#[derive(Clone, Copy)]
+pub struct ForbiddenSquares {
+    pub non_promoting: Squares,
+    pub promoting: Squares,
+}
+
+impl ForbiddenSquares {
+    /// Those of the targets to which a move of the piece is forbidden.
+    fn among(&self, piece: Piece, from: Square, targets: Squares) -> Squares
+        ensures within { (n : ℕ) → has_bit result.bits n ≡ true → has_bit targets.bits n ≡ true }
+        ensures non_promoting { (n : ℕ) → has_bit targets.bits n ≡ true
+            → has_bit result.bits n ≡ false → has_bit self.now.non_promoting.bits n ≡ false }
+        ensures promoting { (n : ℕ) → n < 81 → has_bit targets.bits n ≡ true
+            → has_bit result.bits n ≡ false → may_promote (Some piece) from n ≡ true
+            → has_bit self.now.promoting.bits n ≡ false }
+    {
+        let promoting = self.promoting & promoting_squares(Some(piece), from);
+        targets & (self.non_promoting | promoting)
+    }
+}
+
+/// The position after a pass and a reply, where a piece may be lifted from the ground: the only king
+/// of the side that has replied and the board without it, squares to which that king may go, and what
+/// the side to move may gain.
 #[derive(Clone, Copy)]
 pub struct Scene {
     pub node: Node,
+    pub ground: Board,
     pub king: Square,
     pub board: Board,
     pub squares: Squares,
     pub gains: u32,
     pub dear: Squares,
-    ghost lifted: { board ≡ without_king node.position king } by { Prim.hlevel props },
+    ghost kingless: { board ≡ slice_set ground king None } by { Prim.hlevel props },
     ghost king_fits: { king < 81 },
-    ghost crown: { is_king (opponent_of node.position.side) (piece_at node.position.cells king)
-        ≡ true },
-    ghost lone: { HasNoOtherKing node.position.cells (opponent_of node.position.side) king } by { Prim.hlevel props },
-    ghost escapes: { AreEscapes node.position squares.bits } by { Prim.hlevel props },
-    ghost dearer: { AreDear node.position node.eval gains dear.bits } by { Prim.hlevel props },
+    ghost crown: { is_king (opponent_of node.position.side) (piece_at ground king) ≡ true },
+    ghost lone: { HasNoOtherKing ground (opponent_of node.position.side) king } by { Prim.hlevel props },
+    ghost escapes: { AreEscapes (record { cells = ground; hands = node.position.hands; side = node.position.side }) squares.bits } by { Prim.hlevel props },
+    ghost dearer: { AreDear ground node.position.side node.eval gains dear.bits } by { Prim.hlevel props },
 }
 
 impl Scene {
-    ghost use Rattle.dull_moves.specs.Scenes.{AreCalmIn, AreIdleIn, IsIdleIn, IsQuietIn, KindIsCalmIn, PieceIsCalmIn, PiecesAreCalmIn, PromotesCalmlyIn};
+    ghost use Rattle.dull_moves.specs.Scenes.{AllowsIn, AreIdleDropsIn, AreIdleEnds, AreIdleFrom, AreIdleIn, AreQuietLifted, IsAlike, IsIdleIn, IsOwnIn, IsQuietIn, IsQuietLifted, IsQuietWithout, IsViewIn, KindIsCalmIn, KindLetsLeaveIn, PieceIsCalmIn, PieceLetsLeaveIn, PiecesAreCalmIn, PiecesLetLeaveIn, PromotionsAllowedIn, place_in};
 
-    /// Whether moves of this from the square to the targets, whether legal or not, gain no more than so
-    /// much, and leave the king one of the squares.
-    pub fn is_calm(
-        &self,
-        cell: Option<Piece>,
-        from: Square,
-        targets: Squares,
-        squares: Squares,
-    ) -> bool
-        ensures { result ≡ true → AreCalmIn self.now cell from targets.bits squares.bits }
+    /// The side to move.
+    fn side(&self) -> Color
+        ensures { result ≡ self.now.node.position.side }
     {
-        let Some(piece) = cell else {
-            return false;
-        };
-        let covered = covering_squares(&self.board, piece, squares);
-        if !(targets & (self.dear | covered)).is_empty() {
-            return false;
-        }
-        let ends = targets & promoting_squares(cell, from);
-        ends.is_empty() || self.is_calm_promoting(cell, ends, squares)
+        self.node.as_position().side()
     }
 
-    /// The same of moves that promote.
-    fn is_calm_promoting(&self, cell: Option<Piece>, ends: Squares, squares: Squares) -> bool
-        ensures { result ≡ true → PromotesCalmlyIn self.now cell ends.bits squares.bits }
+    /// Squares to which promotions of the piece are forbidden.
+    fn forbidden_promotions(&self, piece: Piece, squares: Squares) -> Squares
+        ensures { PromotionsAllowedIn self.now piece squares.bits result.bits }
     {
-        let more = promotion_gain(cell, true);
-        let Some(promoted) = piece_moved(cell, true) else {
-            return false;
-        };
+        let more = promotion_gain(Some(piece), true);
         if more > self.gains {
-            return false;
+            return Squares::all();
         }
-        let dear = dear_squares(&self.node, self.gains - more);
-        let covered = covering_squares(&self.board, promoted, squares);
-        (ends & (dear | covered)).is_empty()
+        let promoted = Piece {
+            color: piece.color,
+            role: piece.role.promoted(),
+        };
+        let dear = dear_squares(
+            &self.ground,
+            self.side(),
+            self.node.eval(),
+            self.gains - more,
+        );
+        dear | covering_squares(&self.board, promoted, squares)
     }
 
-    /// Whether so are all moves on the board of what stands on the square, with squares on no line with
-    /// it: those may be attacked once it has left.
-    fn is_piece_calm(&self, from: Square) -> bool
-        ensures { result ≡ true → PieceIsCalmIn self.now from }
+    /// Squares to which moves of the piece are forbidden that are to leave the king one of some squares.
+    fn forbidden_squares(&self, piece: Piece, squares: Squares, promotes: bool) -> ForbiddenSquares
+        ensures { AllowsIn self.now piece squares.bits result }
+    {
+        let promoting = if promotes {
+            self.forbidden_promotions(piece, squares)
+        } else {
+            Squares::all()
+        };
+        ForbiddenSquares {
+            non_promoting: self.dear | covering_squares(&self.board, piece, squares),
+            promoting,
+        }
+    }
+
+    /// Where all moves on the board of what stands on the square, whether legal or not, gain little and
+    /// leave the king a square: pieces of its side that have to stay for that. The king keeps one on no
+    /// line with the square: those may be attacked once it is left.
+    fn held_by_piece(&self, from: Square) -> Option<Squares>
+        ensures calm { IfSome result (λ held. PieceIsCalmIn self.now from) }
+        ensures held { IfSome result (λ held. PieceLetsLeaveIn self.now from held.bits) }
     {
         from.reveal_invariant();
-        let cell = self.node.as_position().at(from);
-        let Some(piece) = cell else {
-            return false;
-        };
+        let piece = self.ground.at(from)?;
         let targets = self.board.targets_of(piece, from);
-        let own = self
-            .node
-            .as_position()
-            .as_board()
-            .own(self.node.as_position().side());
         let squares = self.squares.without(line_mask(from.index()));
-        self.is_calm(cell, from, targets.without(own), squares)
+        let ends = targets & promoting_squares(Some(piece), from);
+        let forbidden = self
+            .forbidden_squares(piece, squares, !ends.is_empty())
+            .among(piece, from, targets);
+        if !forbidden.without(self.ground.own(self.side())).is_empty() {
+            return None;
+        }
+        if piece.role.is_sliding() {
+            return Some(targets);
+        }
+        Some(forbidden)
     }
 
-    /// Whether so are those of all pieces of the side to move.
-    fn are_pieces_calm(&self) -> bool
-        ensures { result ≡ true → PiecesAreCalmIn self.now }
+    /// The same of all pieces of the side to move.
+    fn held_by_pieces(&self) -> Option<Squares>
+        ensures calm { IfSome result (λ held. PiecesAreCalmIn self.now) }
+        ensures held { IfSome result (λ held. PiecesLetLeaveIn self.now held.bits) }
     {
-        let p = self.node.as_position();
-        let own = p.as_board().own(p.side());
-        let mut left = own.bits;
+        let mut left = self.ground.own(self.side()).bits;
+        let mut held = Squares::none();
         while left != 0 {
             let square = lowest(left);
-            if !self.is_piece_calm(Square::of_index(square)) {
-                return false;
-            }
+            held = held | self.held_by_piece(Square::of_index(square))?;
             left = without_lowest(left, square);
         }
-        true
+        Some(held)
     }
 
-    /// Whether a drop of the kind, if a piece of it is held, leaves the king a square wherever it ends.
-    fn is_kind_calm(&self, kind: Kind) -> bool
-        ensures { result ≡ true → KindIsCalmIn self.now kind }
+    /// Where a drop of the kind, if a piece of it is in hand, leaves the king a square wherever it ends:
+    /// squares on which it would not.
+    fn held_by_kind(&self, kind: Kind) -> Option<Squares>
+        ensures calm { IfSome result (λ held. KindIsCalmIn self.now kind) }
+        ensures held { IfSome result (λ held. KindLetsLeaveIn self.now kind held.bits) }
     {
-        let p = self.node.as_position();
-        if p.hand(p.side(), kind) == 0 {
-            return true;
+        let side = self.side();
+        if self.node.as_position().hand(side, kind) == 0 {
+            return Some(Squares::none());
         }
-        let cell = dropped(p.side(), kind);
-        let Some(piece) = cell else {
-            return false;
-        };
-        let covered = covering_squares(&self.board, piece, self.squares);
-        (covered & p.as_board().free())
-            .without(dead_squares(cell))
-            .is_empty()
+        let piece = dropped(side, kind)?;
+        let covered = covering_squares(&self.board, piece, self.squares).without(dead_squares(Some(
+            piece,
+        )));
+        if !(covered & self.ground.free()).is_empty() {
+            return None;
+        }
+        Some(covered)
     }
 
-    /// Whether so does a drop of each kind.
-    fn are_kinds_calm(&self) -> bool
-        ensures { result ≡ true → (kind : Kind) → KindIsCalmIn self.now kind }
+    /// The same of all kinds.
+    fn held_by_kinds(&self) -> Option<Squares>
+        ensures calm { IfSome result (λ held. (kind : Kind) → KindIsCalmIn self.now kind) }
+        ensures held { IfSome result (λ held. (kind : Kind) → KindLetsLeaveIn self.now kind held.bits) }
     {
-        if !self.is_kind_calm(Kind::Pawn) || !self.is_kind_calm(Kind::Lance) {
-            return false;
-        }
-        if !self.is_kind_calm(Kind::Knight) || !self.is_kind_calm(Kind::Silver) {
-            return false;
-        }
-        if !self.is_kind_calm(Kind::Gold) || !self.is_kind_calm(Kind::Bishop) {
-            return false;
-        }
-        self.is_kind_calm(Kind::Rook)
+        let pawn = self.held_by_kind(Kind::Pawn)?;
+        let lance = self.held_by_kind(Kind::Lance)?;
+        let knight = self.held_by_kind(Kind::Knight)?;
+        let silver = self.held_by_kind(Kind::Silver)?;
+        let gold = self.held_by_kind(Kind::Gold)?;
+        let bishop = self.held_by_kind(Kind::Bishop)?;
+        let rook = self.held_by_kind(Kind::Rook)?;
+        Some(pawn | lance | knight | silver | gold | bishop | rook)
     }
 
-    /// Whether the side to move gains no more than so much, and leaves the king a square, whatever it
-    /// does.
-    pub fn is_quiet(&self) -> bool
-        ensures { result ≡ true → IsQuietIn self.now }
+    /// The squares on open lines with the king or one of its squares.
+    fn view(&self) -> Squares
+        ensures { IsViewIn self.now result.bits }
+    {
+        let mut left = self.squares.bits;
+        let mut seen = self.board.open_lines(self.king);
+        while left != 0 {
+            let square = lowest(left);
+            seen = seen | self.board.open_lines(Square::of_index(square));
+            left = without_lowest(left, square);
+        }
+        seen
+    }
+
+    /// Where the side to move gains little and leaves the king a square, whatever it does: squares such
+    /// that so it is too with any piece of its own lifted from another square.
+    pub fn held_squares(&self) -> Option<Squares>
+        ensures quiet { IfSome result (λ held. IsQuietIn self.now) }
+        ensures held { IfSome result (λ held. IsQuietWithout self.now held.bits) }
     {
         self.king.reveal_invariant();
-        self.are_pieces_calm() && self.are_kinds_calm()
+        let pieces = self.held_by_pieces()?;
+        let kinds = self.held_by_kinds()?;
+        Some(pieces | kinds | self.view())
     }
 
-    /// Whether a piece of the kind, dropped on the square, reaches neither the king nor its squares, and
-    /// gains no more than so much by its next move, nor leaves the king no square.
-    fn is_idle(&self, kind: Kind, to: Square) -> bool
-        ensures { result ≡ true → IsIdleIn self.now kind to }
+    /// Whether the piece on the square reaches neither the king nor its squares, and by its next move
+    /// gains little and leaves the king a square.
+    fn is_idle(&self, piece: Piece, forbidden: &ForbiddenSquares, to: Square) -> bool
+        requires allowed { AllowsIn self.now piece self.now.squares.bits forbidden.now }
+        ensures { result ≡ true → IsIdleIn self.now (Some piece) to }
     {
-        let p = self.node.as_position();
-        let cell = dropped(p.side(), kind);
-        let Some(piece) = cell else {
-            return false;
-        };
         let reach = self.board.targets_of(piece, to);
         if self.squares.has(to) || !(reach & self.squares.with(self.king)).is_empty() {
             return false;
         }
-        let own = p.as_board().own(p.side());
-        self.is_calm(cell, to, reach.without(own), self.squares)
+        let targets = reach.without(self.ground.own(self.side()));
+        forbidden.among(piece, to, targets).is_empty()
     }
 
-    /// Those of the squares on which it is so, if a piece of the kind is held, and else all of them.
-    pub fn idle_squares(&self, kind: Kind, squares: Squares) -> Squares
+    /// Those of the squares on which the piece is so.
+    pub fn idle_squares(&self, piece: Piece, squares: Squares) -> Squares
         ensures among { (n : ℕ) → has_bit result.bits n ≡ true → has_bit squares.bits n ≡ true }
-        ensures idle { AreIdleIn self.now kind result.bits }
+        ensures idle { AreIdleIn self.now (Some piece) result.bits }
     {
-        let p = self.node.as_position();
-        if p.hand(p.side(), kind) == 0 {
-            return squares;
-        }
+        let forbidden = self.forbidden_squares(piece, self.squares, is_promotable(piece.role));
         let mut left = squares.bits;
         let mut kept = squares.bits;
         while left != 0 {
             let square = lowest(left);
-            if !self.is_idle(kind, Square::of_index(square)) {
+            if !self.is_idle(piece, &forbidden, Square::of_index(square)) {
                 kept = cleared(kept, square);
             }
             left = without_lowest(left, square);
         }
         Squares { bits: kept }
+    }
+
+    /// Those on which a piece of the kind is so, if one is in hand, and else all of them.
+    pub fn idle_drops(&self, kind: Kind, squares: Squares) -> Squares
+        ensures among { (n : ℕ) → has_bit result.bits n ≡ true → has_bit squares.bits n ≡ true }
+        ensures idle { AreIdleDropsIn self.now kind result.bits }
+    {
+        let side = self.side();
+        if self.node.as_position().hand(side, kind) == 0 {
+            return squares;
+        }
+        match dropped(side, kind) {
+            Some(piece) => self.idle_squares(piece, squares),
+            None => Squares::none(),
+        }
+    }
+
+    /// The same with what stands on the square lifted.
+    fn lifted(&self, from: Square) -> Scene
+        requires quiet { IsQuietLifted self.now from }
+        ensures ground { place_in result ≡ lifted (place_in self.now) from }
+        ensures unchanged { IsAlike self.now result }
+    {
+        Scene {
+            node: self.node,
+            ground: self.ground.put(from, None),
+            king: self.king,
+            board: self.board.put(from, None),
+            squares: self.squares,
+            gains: self.gains,
+            dear: self.dear,
+        }
+    }
+
+    /// The ends without those of the targets on which the piece from the square is not idle.
+    fn idle_ends_of(&self, from: Square, targets: Squares, ends: Squares) -> Squares
+        requires quiet { IsQuietLifted self.now from }
+        ensures among { (n : ℕ) → has_bit result.bits n ≡ true → has_bit ends.bits n ≡ true }
+        ensures idle { AreIdleFrom self.now from targets.bits result.bits }
+    {
+        match self.ground.at(from) {
+            Some(piece) => {
+                let idle = self.lifted(from).idle_squares(piece, targets & ends);
+                ends.without(targets) | idle
+            }
+            None => Squares::none(),
+        }
+    }
+
+    /// The squares to which none of the pieces moves, of those of the position before, or on which it is
+    /// idle.
+    pub fn idle_ends(&self, before: &Position, pieces: Squares, ends: Squares) -> Squares
+        requires quiet { AreQuietLifted self.now pieces.bits }
+        ensures among { (n : ℕ) → has_bit result.bits n ≡ true → has_bit ends.bits n ≡ true }
+        ensures idle { AreIdleEnds self.now before.now.cells pieces.bits result.bits }
+    {
+        let mut left = pieces.bits;
+        let mut kept = ends;
+        while left != 0 {
+            let square = lowest(left);
+            let from = Square::of_index(square);
+            kept = self.idle_ends_of(from, before.as_board().targets(from), kept);
+            left = without_lowest(left, square);
+        }
+        kept
     }
 }

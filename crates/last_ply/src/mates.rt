@@ -275,8 +275,8 @@ impl MateSearch<'_> {
     fn closing_ends(&self, from: Square, promote: bool, piece: Piece, ends: Squares) -> Squares
         requires { IsPieceMoved self.now.frontier.node.now.position from promote piece }
         ensures within { IsWithin result.bits ends.bits }
-        ensures answered {
-            FrontierAnsweredOff self.now.frontier from promote ends.bits result.bits }
+        ensures answered { FrontierAnsweredOff self.now.frontier
+            from promote ends.bits result.bits }
     {
         let _ = promote;
         from.reveal_invariant();
@@ -300,8 +300,8 @@ impl MateSearch<'_> {
     fn doubtful_among(&self, from: Square, promote: bool, piece: Piece, ends: Squares) -> Squares
         requires { IsPieceMoved self.now.frontier.node.now.position from promote piece }
         ensures within { IsWithin result.bits ends.bits }
-        ensures answered {
-            FrontierAnsweredOff self.now.frontier from promote ends.bits result.bits }
+        ensures answered { FrontierAnsweredOff self.now.frontier
+            from promote ends.bits result.bits }
     {
         let p = self.frontier.node.as_position();
         let closing = self.closing_ends(from, promote, piece, ends);
@@ -314,8 +314,8 @@ impl MateSearch<'_> {
     /// Where what stands on the square may go, without promotion and with it, legally or not, so that
     /// it is not certain that the other side has a legal move after it.
     fn doubtful_ends(&self, from: Square) -> Destinations
-        ensures non_promoting {
-            FrontierDoubtfulEnds self.now.frontier from false result.non_promoting.bits }
+        ensures non_promoting { FrontierDoubtfulEnds self.now.frontier
+            from false result.non_promoting.bits }
         ensures promoting { FrontierDoubtfulEnds self.now.frontier from true result.promoting.bits }
     {
         from.reveal_invariant();
@@ -403,8 +403,8 @@ impl MateSearch<'_> {
     /// stand on one: elsewhere the king has one left, or takes it.
     fn closing_drops(&self, kind: Kind, squares: Squares) -> Squares
         ensures among { IsWithin result.bits squares.bits }
-        ensures answered {
-            FrontierDropsAnsweredOff self.now.frontier kind squares.bits result.bits }
+        ensures answered { FrontierDropsAnsweredOff self.now.frontier
+            kind squares.bits result.bits }
     {
         let p = self.frontier.node.as_position();
         let side = p.side();

@@ -20,7 +20,7 @@ use crate::move_picker::MovePicker;
 use crate::priority_moves::{KILLERS, PriorityMoves, with_killer};
 use crate::threat::Threats;
 use crate::window::move_alpha;
-use dull_moves::DullDrops;
+use dull_moves::DullMoves;
 use minimax::{Entry, MATE};
 use shogi_core::{Move, Squares};
 use shogi_eval::{Eval, Node};
@@ -50,7 +50,7 @@ pub struct Frame {
     /// Captures that the other side may make after most moves, once they were looked for.
     pub threats: Option<Threats>,
     /// Drops that one reply refutes, if there are some, once they were looked for.
-    pub dull: Option<DullDrops>,
+    pub dull: Option<DullMoves>,
     pub alpha: i32,
     pub beta: i32,
     pub best_value: i32,
@@ -62,7 +62,8 @@ pub struct Frame {
     /// Set once the replies are those of the position.
     pub has_replies: bool,
     /// Set once drops that one reply refutes were looked for.
-    pub has_dull: bool,
+    pub dull_tries: u8,
+    pub dull_reply: Option<Move>,
     /// Codes of moves that cut off the last nodes of this place, the last one first.
     pub killers: [u16; KILLERS],
     ghost valid: { IsValid node.position },
@@ -157,7 +158,8 @@ impl Frame {
         self.escapes = None;
         self.threats = None;
         self.dull = None;
-        self.has_dull = false;
+        self.dull_tries = 0;
+        self.dull_reply = None;
     }
 
     /// Whether some move is legal, which the position is asked only where it is not known yet.
@@ -346,7 +348,8 @@ impl Default for Frame {
             escapes: None,
             threats: None,
             dull: None,
-            has_dull: false,
+            dull_tries: 0,
+            dull_reply: None,
             killers: [0; KILLERS],
         }
     }

@@ -10,7 +10,7 @@ use crate::frame::{Frame, NodeState};
 use crate::move_picker::MovePicker;
 use crate::threat::{Threat, Threats, slides, threats_of};
 use crate::window::move_alpha_at;
-use dull_moves::DullDrops;
+use dull_moves::DullMoves;
 use shogi_core::{Kind, Move, Squares};
 use shogi_eval::{PROMOTION_GAIN_MAX, loss_of_drops, taken_gain};
 use shogi_moves::dropped;
@@ -24,6 +24,9 @@ const ALL_BUT_PAWN: u32 = 16381;
 const SILVER_AND_KNIGHT: u32 = 24;
 
 const SILVER: u32 = 16;
+
+// How many replies to moves of a node are tried for refuting others.
+const DULL_TRIES_MAX: u8 = 4;
 
 /// Roles whose promotion gains no more than this, as such a mask; all roles where none gains more.
 #[inline(always)]
@@ -545,7 +548,16 @@ impl Frame {
         None
     }
 
-    /// Looks once for drops that the reply refutes, none of which is worth more than so much.
+    /// Whether the reply was the last one that was tried for refuting moves.
+    fn was_tried(&self, reply: &Move) -> bool {
+        match &self.dull_reply {
+            Some(tried) => tried == reply,
+            None => false,
+        }
+    }
+
+    /// Looks for moves that the reply refutes, none of which is worth more than so much, if few replies
+    /// were tried.
     fn look_for_dull(&mut self, reply: &Option<Move>, most: i32)
         requires most { most <ℤ INFINITY }
         ensures { KeepsMoves self.old self.new }
@@ -553,37 +565,47 @@ impl Frame {
         let Some(reply) = reply else {
             return;
         };
-        if !self.has_dull {
-            self.has_dull = true;
-            self.dull = DullDrops::of(&self.node, *reply, most);
+        if self.dull.is_some() || self.dull_tries >= DULL_TRIES_MAX || self.was_tried(reply) {
+            return;
+        }
+        self.dull_tries += 1;
+        self.dull_reply = Some(*reply);
+        self.dull = DullMoves::of(&self.node, *reply, most);
+    }
+
+    /// Whether the current move takes nothing and does not promote.
+    fn is_quiet(&self, current: &Move) -> bool
+        requires current { IsCurrent self.now.state current.now }
+        ensures { result ≡ true → IsQuietMove self.now.node.position current.now }
+    {
+        match current {
+            Move::Board { to, promote, .. } => {
+                !promote && self.node.as_position().at(*to).is_none()
+            }
+            Move::Drop { .. } => true,
         }
     }
 
-    /// Whether the current move of a node of depth 3 is a drop that the reply to a move before it refutes
-    /// as well, since it changes nothing of what that leaves.
+    /// Whether the current move of a node of depth 3 is a quiet one that the reply to a move before it
+    /// refutes as well, since it changes nothing of what that leaves.
     fn is_dull(&mut self, current: &Move, reply: &Option<Move>) -> bool
         requires current { IsCurrent self.old.state current.now }
         requires last { self.old.depth ≡ 3 }
         ensures lost { result ≡ true → IsLost self.new current.now }
         ensures unchanged { KeepsMoves self.old self.new }
     {
-        let Move::Drop { to, .. } = current else {
-            return false;
-        };
-        if !self.has_move && self.best_move.is_none() {
+        if !self.is_quiet(current) || !self.has_move && self.best_move.is_none() {
             return false;
         }
         let move_alpha = self.move_alpha(current);
         self.look_for_dull(reply, move_alpha);
-        current.reveal_invariant();
-        to.reveal_invariant();
         match &self.dull {
-            Some(dull) => dull.most <= move_alpha && dull.squares.has(*to),
+            Some(dull) => dull.most <= move_alpha && dull.has(current),
             None => false,
         }
     }
 
-    /// Prunes the current move of a node of depth 3, where it is such a drop, and returns whether it did.
+    /// Prunes the current move of a node of depth 3, where it is dull, and returns whether it did.
     fn prune_dull(&mut self, current: &Move, reply: &Option<Move>) -> bool
         requires asked { self.old.state ≡ NodeState.AwaitingChild current.now }
         requires last { self.old.depth ≡ 3 }
@@ -599,7 +621,7 @@ impl Frame {
         true
     }
 
-    /// Asks for the answer of the next move at depth 3, where such drops are pruned.
+    /// Asks for the answer of the next move at depth 3, where dull moves are pruned.
     fn next_unrefuted(&mut self, reply: &Option<Move>) -> Option<Move>
         requires next { self.old.state ≡ NodeState.Expanding }
         requires last { self.old.depth ≡ 3 }
@@ -614,8 +636,8 @@ impl Frame {
     }
 
     /// Asks for the answer of the next move, where there is one. At depth 2 the moves that surely are
-    /// not worth enough are pruned, and at depth 3 drops that change nothing of what the reply refutes:
-    /// the best move of the child before, or the one that cut it off.
+    /// not worth enough are pruned, and at depth 3 quiet moves that change nothing of what the reply
+    /// refutes: the best move of the child before, or the one that cut it off.
     #[inline(always)]
     pub fn next_move(&mut self, reply: Option<Move>) -> Option<Move>
         requires next { self.old.state ≡ NodeState.Expanding }

@@ -78,7 +78,9 @@ impl PvWalk {
         requires value { found.now.value ≡ value self.old.at self.old.eval self.old.plies }
         requires best { found.now.best ≡ best self.old.at self.old.eval self.old.plies }
         ensures unchanged { self.new ≡ record self.old {
-            at = self.new.at; plies = self.new.plies } }
+          at = self.new.at;
+          plies = self.new.plies;
+        } }
         ensures fewer { self.new.plies < self.old.plies }
         ensures cost { pv_cost self.new.at self.new.eval self.new.plies ≤ cost_after self.old }
         ensures roots { walk_roots self.new ≡ roots_after self.old }

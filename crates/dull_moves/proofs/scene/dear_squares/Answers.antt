@@ -5,7 +5,7 @@ use Rattle.dull_moves.proofs.scene.dear_squares.Goals as goal
 
 pub loop-left-init : goal.loop-left-init
 loop-left-init c = record {
-  dear = dear_first c.args.node.now.position c.args.node.now.eval c.args.most c.own-foes.result.bits (rw (c.opponent.ensures, c.side.ensures, c.as_board.ensures, c.as_position-p.ensures) at c.own-foes.ensures.squares);
+  dear = dear_first c.args.board.now c.args.side c.args.eval c.args.most c.own-foes.result.bits (rw c.opponent.ensures at c.own-foes.ensures.squares);
   left = c.own-foes.result.fits;
   fits = c.own-foes.result.fits;
 }
@@ -41,15 +41,15 @@ pub loop-left-preserved : goal.loop-left-preserved
 loop-left-preserved c = elim c.if-taken_gain-most.branch [
   | then-taken_gain-most w ↦ (rw w.kept-is
       (record {
-        dear = dear_fewer c.args.node.now.position c.args.node.now.eval c.args.most c.loop-left.left c.without_lowest-left.result c.loop-left.kept w.cleared-kept.result c.lowest-square.result c.loop-left.invariant.dear
+        dear = dear_fewer c.args.board.now c.args.side c.args.eval c.args.most c.loop-left.left c.without_lowest-left.result c.loop-left.kept w.cleared-kept.result c.lowest-square.result c.loop-left.invariant.dear
             c.without_lowest-left.ensures.bits w.cleared-kept.ensures.bits
-            (rw (c.taken_gain.ensures.value, c.eval.ensures, c.at.ensures, c.as_position-p.ensures, c.of_index.ensures) at w.if-taken_gain-most.true);
+            (rw (c.taken_gain.ensures.value, c.at.ensures, c.of_index.ensures) at w.if-taken_gain-most.true);
         left = omega (arith, c.without_lowest-left.ensures.less, c.loop-left.invariant.left);
         fits = omega (arith, w.cleared-kept.ensures.less, c.loop-left.invariant.fits);
       }))
   | else-taken_gain-most w ↦ (rw w.kept-is
       (record {
-        dear = dear_same c.args.node.now.position c.args.node.now.eval c.args.most c.loop-left.left c.without_lowest-left.result c.loop-left.kept c.lowest-square.result c.loop-left.invariant.dear c.without_lowest-left.ensures.bits;
+        dear = dear_same c.args.board.now c.args.side c.args.eval c.args.most c.loop-left.left c.without_lowest-left.result c.loop-left.kept c.lowest-square.result c.loop-left.invariant.dear c.without_lowest-left.ensures.bits;
         left = omega (arith, c.without_lowest-left.ensures.less, c.loop-left.invariant.left);
         fits = c.loop-left.invariant.fits;
       }))

@@ -4,7 +4,7 @@ use Rattle.dull_moves.proofs.scene.dear_squares.Given as goal
 
 abbrev pub invariant-loop-left : goal.invariant-loop-left
 invariant-loop-left l = record {
-  dear : DearSoFar l.node.position l.node.eval l.fn.most l.left l.kept;
+  dear : DearSoFar l.board l.fn.side l.fn.eval l.fn.most l.left l.kept;
   left : l.left < 2 ^ 81;
   fits : l.kept < 2 ^ 81;
 }

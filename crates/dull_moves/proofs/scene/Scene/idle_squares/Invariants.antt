@@ -1,11 +1,11 @@
-use Rattle.std.proofs.Common.{◌<◌, ◌^◌}
-use Rattle.dull_moves.specs.Dull.{IsIdle}
+use Rattle.std.proofs.Common.{◌<◌, ◌^◌, Some}
+use Rattle.dull_moves.specs.Scenes.{AllowsIn, IsIdleIn}
 use Rattle.dull_moves.proofs.Sets.{Kept}
 use Rattle.dull_moves.proofs.scene.Scene.idle_squares.Given as goal
 
 abbrev pub invariant-loop-left : goal.invariant-loop-left
 invariant-loop-left l = record {
-  sifts : Kept (IsIdle l.self.node.position l.self.node.eval l.self.gains l.self.king l.self.squares.bits l.kind) l.fn.squares.bits l.left l.kept;
+  sifts : Kept (IsIdleIn l.self (Some l.piece)) l.fn.squares.bits l.left l.kept;
   left : l.left < 2 ^ 81;
   fits : l.kept < 2 ^ 81;
 }

@@ -1,0 +1,13 @@
+use Rattle.std.proofs.Common.{ℕ, ap, arith, refl, ◌∙◌}
+use Rattle.shogi_core.specs.Bits.{has_bit}
+use Rattle.dull_moves.specs.Scenes.{place_in}
+use Rattle.dull_moves.proofs.SceneLaws.{promotes_nowhere, promotes_off}
+use Rattle.dull_moves.proofs.Sets.{has_bit-all}
+use Rattle.dull_moves.proofs.scene.Scene.forbidden_promotions.Goals as goal
+
+pub returns-then-more-self : goal.returns-then-more-self
+returns-then-more-self c = promotes_nowhere (place_in c.args.self.now) c.args.self.now.node.eval c.args.self.now.gains c.args.self.now.king c.args.piece c.args.squares.bits c.all.result.bits (λ n h. ap (λ (m : ℕ). has_bit m n) c.all.ensures ∙ has_bit-all n h)
+
+pub returns : goal.returns
+returns c = rw c.bitor.ensures (promotes_off (place_in c.args.self.now) c.args.self.now.node.eval c.args.self.now.gains c.args.self.now.king c.args.self.now.board c.args.piece (record { color = c.args.piece.color; role = c.promoted.result }) c.promotion_gain-more.result c.dear_squares-dear.result.bits c.covering_squares.result.bits c.args.squares.bits
+    c.args.self.now.kingless (rw c.promoted.ensures refl) c.promotion_gain-more.ensures.value (omega (arith, c.if-more-self.false)) (rw (c.side.ensures, c.eval.ensures) at c.dear_squares-dear.ensures) c.covering_squares.ensures)

@@ -1,0 +1,150 @@
+//! Moves that change nothing of what a reply refutes.
+
+ghost use Rattle.std.specs.Prelude.{◌≡◌, ◌≤ℤ◌, ◌<ℤ◌, ◌+ℤ◌, ℕ, pos, true, IfSome};
+ghost use Rattle.shogi_moves.specs.Legal.{is_pawn_drop};
+ghost use Rattle.shogi_eval.specs.Material.{material_of};
+ghost use Rattle.minimax.specs.declared.bounds.TheConstants.{INFINITY};
+ghost use Rattle.shogi_core.specs.Bits.{has_bit};
+ghost use Rattle.dull_moves.specs.Dull.{AreDull, AreNonInterfering, IsAmong, IsOnSquares};
+ghost use Rattle.dull_moves.specs.Scenes.{AreIdleDropsIn};
+
+use crate::scene::{Scene, dear_squares};
+use minimax::MATE;
+use shogi_core::{Kind, Move, Position, Squares};
+use shogi_eval::Node;
+use shogi_moves::{in_check, is_legal};
+use shogi_replies::{escape_squares, squares_between};
+
+/// Moves none of which is worth more than so much, with three plies left: drops of any kind on these
+/// squares, and moves of these pieces to these ends that take nothing and do not promote.
+#[derive(Clone, Copy, Debug)]
+pub struct DullMoves {
+    pub most: i32,
+    pub drops: Squares,
+    pub pieces: Squares,
+    pub ends: Squares,
+}
+
+/// The squares of a move, and those between.
+fn squares_touched(reply: &Move) -> Squares
+    ensures spared { AreNonInterfering reply.now result.bits }
+    ensures on_board { IsOnSquares reply.now }
+{
+    match reply {
+        Move::Board { from, to, .. } => {
+            from.reveal_invariant();
+            to.reveal_invariant();
+            squares_between(from.index(), to.index())
+                .with(*from)
+                .with(*to)
+        }
+        Move::Drop { to, .. } => {
+            to.reveal_invariant();
+            Squares::none().with(*to)
+        }
+    }
+}
+
+/// Whether the move drops a pawn.
+fn drops_pawn(m: &Move) -> bool
+    ensures { result ≡ is_pawn_drop m.now }
+{
+    matches!(
+        m,
+        Move::Drop {
+            kind: Kind::Pawn,
+            ..
+        }
+    )
+}
+
+/// The position as it is looked at, where its material is not more than so much and the side that is not
+/// to move has just one king.
+fn scene_of(node: Node, most: i32) -> Option<Scene>
+    requires most { most <ℤ INFINITY }
+    ensures node { IfSome result (λ scene. scene.node ≡ node) }
+    ensures ground { IfSome result (λ scene. scene.ground ≡ node.position.cells) }
+    ensures room { IfSome result (λ scene.
+        (material_of node.position node.eval +ℤ pos scene.gains) ≤ℤ most) }
+{
+    let score = node.score();
+    if score > most {
+        return None;
+    }
+    let gains = (most - score) as u32;
+    let p = node.as_position();
+    let king = p.king(p.side().opponent())?;
+    king.reveal_invariant();
+    let ground = p.board();
+    Some(Scene {
+        node,
+        ground,
+        king,
+        board: ground.put(king, None),
+        squares: escape_squares(p),
+        gains,
+        dear: dear_squares(&ground, p.side(), node.eval(), gains),
+    })
+}
+
+/// The squares of drops of any kind that are idle.
+fn idle_drops(scene: &Scene, free: Squares) -> Squares
+    ensures among { (n : ℕ) → has_bit result.bits n ≡ true → has_bit free.bits n ≡ true }
+    ensures idle { (kind : Kind) → AreIdleDropsIn scene.now kind result.bits }
+{
+    let pawn = scene.idle_drops(Kind::Pawn, free);
+    let lance = scene.idle_drops(Kind::Lance, pawn);
+    let knight = scene.idle_drops(Kind::Knight, lance);
+    let silver = scene.idle_drops(Kind::Silver, knight);
+    let gold = scene.idle_drops(Kind::Gold, silver);
+    let bishop = scene.idle_drops(Kind::Bishop, gold);
+    scene.idle_drops(Kind::Rook, bishop)
+}
+
+impl DullMoves {
+    /// Whether the move is one of these, if it takes nothing and does not promote.
+    pub fn has(&self, m: &Move) -> bool
+        ensures { result ≡ true → IsAmong self.now m.now }
+    {
+        m.reveal_invariant();
+        match m {
+            Move::Board { from, to, .. } => self.pieces.has(*from) && self.ends.has(*to),
+            Move::Drop { to, .. } => self.drops.has(*to),
+        }
+    }
+
+    /// The moves that the reply refutes since they change nothing of what it leaves: none is worth more
+    /// than so much. None where the reply is not legal after a pass, or drops a pawn, or leaves the side
+    /// to move more, or the king that it defends no square to go to after some move.
+    pub fn of(node: &Node, reply: Move, most: i32) -> Option<DullMoves>
+        requires most { most <ℤ INFINITY }
+        ensures dull { IfSome result (AreDull node.now.position node.now.eval) }
+        ensures most { IfSome result (λ moves. moves.most ≡ most) }
+    {
+        let p = node.as_position();
+        if most < -MATE - 1 || drops_pawn(&reply) || in_check(p) {
+            return None;
+        }
+        p.reveal_invariant();
+        let passed = Position::of_valid(p.board(), p.hands(), p.side().opponent());
+        let tried = reply;
+        if !is_legal(&passed, tried) {
+            return None;
+        }
+        let touched = squares_touched(&reply);
+        let mut next = Node::of(passed, node.eval());
+        next.advance(reply);
+        let scene = scene_of(next, most)?;
+        let held = scene.held_squares()?;
+        let free = p.as_board().free().without(touched);
+        let drops = idle_drops(&scene, free);
+        let pieces = p.as_board().own(p.side()).without(touched | held);
+        let ends = scene.idle_ends(p, pieces, free);
+        Some(DullMoves {
+            most,
+            drops,
+            pieces,
+            ends,
+        })
+    }
+}
