@@ -1,5 +1,5 @@
 -- What changes nothing of what a reply refutes is worth no more than what that leaves.
-use Rattle.std.proofs.Common.{◌≡◌, ◌≢◌, ◌⊎◌, ℕ, ℤ, pos, ◌-◌, ◌^◌, ◌<◌, bit_and, ◌+ℤ◌, ◌≤ℤ◌, true, false, Option, None, refl, sym, ap, subst, ◌∙◌, inl, inr, arith, set, length, length-set, get_or, get_or-set_same, get_or-set_other}
+use Rattle.std.proofs.Common.{◌≡◌, ◌≢◌, ℕ, ℤ, pos, ◌-◌, ◌^◌, ◌<◌, bit_and, ◌+ℤ◌, ◌≤ℤ◌, Bool, true, false, Option, None, refl, sym, ap, subst, ◌∙◌, inl, inr, arith, set, length, length-set, get_or, get_or-set_same, get_or-set_other}
 use Rattle.std.specs.Prelude.{is_none}
 use Rattle.std.specs.List.{list_any}
 use Rattle.std.proofs.lemmas.Bool.{and_parts, both_ways, cases_eq, false_from_ne_true, ltb-true}
@@ -11,7 +11,6 @@ use Rattle.shogi_core.specs.declared.piece.Color.TheVariants.{Black, White}
 use Rattle.shogi_core.specs.declared.piece.Kind.{Kind}
 use Rattle.shogi_core.specs.declared.piece.Piece.{Piece}
 use Rattle.shogi_core.specs.Attack.{in_check}
-use Rattle.shogi_core.specs.Below.{some_below}
 use Rattle.shogi_core.specs.Bits.{has_bit}
 use Rattle.shogi_core.specs.Cell.{HasNoOtherKing, is_king, is_piece_of}
 use Rattle.shogi_core.specs.Codes.{code_of}
@@ -33,7 +32,8 @@ use Rattle.shogi_eval.specs.declared.eval.Eval.{Eval}
 use Rattle.shogi_eval.specs.Material.{material_of}
 use Rattle.shogi_eval.proofs.Gains.{gain_of}
 use Rattle.minimax.specs.Minimax.{lost_value, value, worth}
-use Rattle.dull_moves.specs.Dull.{AreIdle, AreNonInterfering, DropsAreWorthAtMost, IsOnSquares, IsIdle, IsOff, IsQuietThere, IsUnseen, LetsBe, QuietsAreWorthAtMost, Survives, after_reply, lifted, passed, placed}
+use Rattle.dull_moves.specs.declared.moves.DullMoves.{DullMoves}
+use Rattle.dull_moves.specs.Dull.{AreDull, AreIdle, AreNonInterfering, DropsAreWorthAtMost, IsOnSquares, IsIdle, IsOff, IsQuietThere, IsUnseen, LetsBe, QuietsAreWorthAtMost, Survives, after_reply, lifted, passed, placed}
 use Rattle.dull_moves.proofs.BoardMoves.{quiet_dull}
 use Rattle.dull_moves.proofs.Commuting.{commute, stands}
 use Rattle.dull_moves.proofs.Idle.{board_parts, drop_parts, none_is, put_on, tame}
@@ -203,3 +203,10 @@ pub own_stays : (p q : Shogi) (r : Move) (a : ℕ) → q ≡ after_reply p r →
 own_stays p q r a is off own =
     subst (λ (x : Shogi). is_piece_of x.side (piece_at x.cells a) ≡ true) (sym is)
     (ap (λ (color : Color). is_piece_of color (piece_at (after_reply p r).cells a)) (opponent_twice p.side) ∙ (ap (is_piece_of p.side) (stands p.cells (opponent_of p.side) r a off) ∙ own))
+
+-- so no quiet move that is among these is worth more
+pub all_dull : (p : Shogi) (e : Eval) (d : DullMoves) → ((kind : Kind) → DropsAreWorthAtMost p e d.most kind d.drops.bits) → QuietsAreWorthAtMost p e d.most d.pieces.bits d.ends.bits → AreDull p e d
+all_dull p e d drops quiets (Board from to promote) on among quiet legal =
+    subst (λ (x : Bool). worth p e 2 (code_of (Board from to x)) ≤ℤ d.most) (sym quiet.0)
+    (quiets from to on.0 on.1 among.0 among.1 quiet.1 (subst (λ (x : Bool). is_legal p (Board from to x) ≡ true) quiet.0 legal))
+all_dull p e d drops quiets (Drop kind to) on among quiet legal = drops kind to on among legal

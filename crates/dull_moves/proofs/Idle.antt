@@ -1,12 +1,11 @@
 -- What changes nothing where it is put leaves its side no more gain, and the other side's king the squares that it had.
-use Rattle.std.proofs.Common.{◌≡◌, ◌≢◌, ◌⊎◌, ℕ, ℤ, pos, ◌+◌, ◌-◌, ◌<◌, ◌≤◌, ◌+ℤ◌, ◌≤ℤ◌, Bool, true, false, not, [], Option, Some, None, refl, sym, ap, subst, ◌∙◌, inl, inr, arith, set, length, length-set, get_or, get_or-set_same, get_or-set_other}
+use Rattle.std.proofs.Common.{◌≡◌, ◌≢◌, ◌⊎◌, ℕ, ℤ, pos, ◌+◌, ◌<◌, ◌≤◌, ◌+ℤ◌, ◌≤ℤ◌, Bool, true, false, not, [], Option, Some, None, refl, sym, ap, subst, ◌∙◌, inl, inr, arith, set, length, length-set, get_or-set_same, get_or-set_other}
 use Rattle.std.specs.Prelude.{◌&&◌, ◌||◌, is_none, nat_lt}
 use Rattle.std.proofs.lemmas.Bool.{and_from, and_parts, both_ways, cases_eq, false_from_ne_true, ltb-true, not-true}
 use Rattle.std.proofs.lemmas.Int.{ints}
 use Rattle.shogi_core.specs.declared.moves.Move.{Move}
 use Rattle.shogi_core.specs.declared.moves.Move.TheVariants.{Board, Drop}
 use Rattle.shogi_core.specs.declared.piece.Color.{Color}
-use Rattle.shogi_core.specs.declared.piece.Color.TheVariants.{Black, White}
 use Rattle.shogi_core.specs.declared.piece.Kind.{Kind}
 use Rattle.shogi_core.specs.declared.piece.Piece.{Piece}
 use Rattle.shogi_core.specs.Attack.{in_check, is_attacked, is_attacked_from, is_open_king}
@@ -22,7 +21,7 @@ use Rattle.shogi_core.proofs.Below.{some_below_not}
 use Rattle.shogi_core.proofs.Faults.{faultless_from}
 use Rattle.shogi_core.proofs.SeenLaws.{lined_aligned}
 use Rattle.shogi_core.proofs.Discovered.{attacked_was_but, reach_was}
-use Rattle.shogi_moves.specs.After.{after, cells_after, dropped, hands_after, piece_moved}
+use Rattle.shogi_moves.specs.After.{after, cells_after, dropped, piece_moved}
 use Rattle.shogi_moves.specs.Escapes.{IsEscape}
 use Rattle.shogi_moves.specs.Legal.{is_legal}
 use Rattle.shogi_moves.specs.LegalMoves.{legal_codes}

@@ -195,13 +195,18 @@ QuietsAreWorthAtMost p e most pieces ends = (from to : ℕ) → from < 81 → to
     → is_legal p (Board from to false) ≡ true
     → worth p e 2 (code_of (Board from to false)) ≤ℤ most
 
--- so it is of drops of each kind, and of quiet moves
-pub record AreDull (p : Shogi) (e : Eval) (d : DullMoves) : Type 0 where
-  pub drops : (kind : Kind) → DropsAreWorthAtMost p e d.most kind d.drops.bits
-  pub quiets : QuietsAreWorthAtMost p e d.most d.pieces.bits d.ends.bits
+-- the move takes nothing and does not promote
+abbrev pub IsQuietMove : Shogi → Move → Type 0
+IsQuietMove p (Board from to promote) = (promote ≡ false) × (piece_at p.cells to ≡ None)
+IsQuietMove p (Drop kind to) = Unit {0}
 
--- the move is one of these, if it takes nothing and does not promote
+-- the move is one of these, if it is quiet
 abbrev pub IsAmong : DullMoves → Move → Type 0
 IsAmong d (Board from to promote) =
     (has_bit d.pieces.bits from ≡ true) × (has_bit d.ends.bits to ≡ true)
 IsAmong d (Drop kind to) = has_bit d.drops.bits to ≡ true
+
+-- no legal quiet move that is one of these is worth more than so much, with three plies left
+abbrev pub AreDull : Shogi → Eval → DullMoves → Type 0
+AreDull p e d = (m : Move) → IsOnSquares m → IsAmong d m → IsQuietMove p m
+    → is_legal p m ≡ true → worth p e 2 (code_of m) ≤ℤ d.most

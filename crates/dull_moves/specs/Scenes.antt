@@ -1,6 +1,5 @@
 -- The same of a scene (own choice).
-use Rattle.std.specs.Prelude.{ℕ, ◌≡◌, ◌<◌, true, false, Option, Some}
-use Rattle.shogi_core.specs.declared.piece.Color.{Color}
+use Rattle.std.specs.Prelude.{ℕ, ◌≡◌, ◌<◌, true, false, Option}
 use Rattle.shogi_core.specs.declared.piece.Kind.{Kind}
 use Rattle.shogi_core.specs.declared.piece.Piece.{Piece}
 use Rattle.shogi_core.specs.Bits.{has_bit}

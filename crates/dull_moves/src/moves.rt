@@ -104,12 +104,19 @@ fn idle_drops(scene: &Scene, free: Squares) -> Squares
 impl DullMoves {
     /// Whether the move is one of these, if it takes nothing and does not promote.
     pub fn has(&self, m: &Move) -> bool
-        ensures { result ≡ true → IsAmong self.now m.now }
+        ensures among { result ≡ true → IsAmong self.now m.now }
+        ensures on_board { IsOnSquares m.now }
     {
-        m.reveal_invariant();
         match m {
-            Move::Board { from, to, .. } => self.pieces.has(*from) && self.ends.has(*to),
-            Move::Drop { to, .. } => self.drops.has(*to),
+            Move::Board { from, to, .. } => {
+                from.reveal_invariant();
+                to.reveal_invariant();
+                self.pieces.has(*from) && self.ends.has(*to)
+            }
+            Move::Drop { to, .. } => {
+                to.reveal_invariant();
+                self.drops.has(*to)
+            }
         }
     }
 

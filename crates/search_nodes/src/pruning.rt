@@ -4,6 +4,7 @@ ghost use Rattle.std.specs.Prelude.{◌≡◌, ◌≤ℤ◌, ◌<ℤ◌, ◌-ℤ
 ghost use Rattle.shogi_moves.specs.Escapes.{AreEscapes};
 ghost use Rattle.shogi_eval.specs.Exchange.{resolves_captures};
 ghost use Rattle.minimax.specs.declared.bounds.TheConstants.{INFINITY};
+ghost use Rattle.dull_moves.specs.Dull.{IsQuietMove};
 ghost use Rattle.search_nodes.specs.Frames.{PromotesWithin};
 
 use crate::frame::{Frame, NodeState};
@@ -575,12 +576,11 @@ impl Frame {
 
     /// Whether the current move takes nothing and does not promote.
     fn is_quiet(&self, current: &Move) -> bool
-        requires current { IsCurrent self.now.state current.now }
         ensures { result ≡ true → IsQuietMove self.now.node.position current.now }
     {
         match current {
             Move::Board { to, promote, .. } => {
-                !promote && self.node.as_position().at(*to).is_none()
+                !*promote && self.node.as_position().at(*to).is_none()
             }
             Move::Drop { .. } => true,
         }
@@ -599,6 +599,7 @@ impl Frame {
         }
         let move_alpha = self.move_alpha(current);
         self.look_for_dull(reply, move_alpha);
+        current.reveal_invariant();
         match &self.dull {
             Some(dull) => dull.most <= move_alpha && dull.has(current),
             None => false,

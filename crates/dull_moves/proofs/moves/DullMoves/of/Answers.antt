@@ -13,7 +13,7 @@ use Rattle.shogi_eval.specs.Material.{material_of}
 use Rattle.minimax.specs.Minimax.{lost_value}
 use Rattle.dull_moves.specs.Dull.{AreDull, after_reply, passed}
 use Rattle.dull_moves.specs.Scenes.{AreQuietLifted, IsOwnIn, place_in, with_cells}
-use Rattle.dull_moves.proofs.Dull.{own_stays, scene_dull, scene_quiets}
+use Rattle.dull_moves.proofs.Dull.{all_dull, own_stays, scene_dull, scene_quiets}
 use Rattle.dull_moves.proofs.Passing.{passed_valid}
 use Rattle.dull_moves.proofs.SceneLaws.{off_left, off_right, out_parts}
 use Rattle.dull_moves.proofs.moves.DullMoves.of.Goals as goal
@@ -55,11 +55,10 @@ returns-clause-dull c =
     let low : lost_value 1 ≤ℤ c.args.most = omega (arith, ints, c.if-most.false, same) in
     let before : (material_of c.in_ok-scene.scene.node.position c.in_ok-scene.scene.node.eval +ℤ pos c.in_ok-scene.scene.gains) ≤ℤ c.args.most = subst (λ (t : ℤ). (material_of c.in_ok-scene.scene.node.position c.in_ok-scene.scene.node.eval +ℤ pos c.in_ok-scene.scene.gains) ≤ℤ t) same (subst (λ (n : Evaluated). (material_of n.position n.eval +ℤ pos c.in_ok-scene.scene.gains) ≤ℤ to_z w32 (of_z w32 c.args.most)) (sym c.in_ok-scene.ensures.node) c.in_ok-scene.ensures.room) in
     let room : (material_of (place_in c.in_ok-scene.scene) c.in_ok-scene.scene.node.eval +ℤ pos c.in_ok-scene.scene.gains) ≤ℤ c.args.most = subst (λ (q : Shogi). (material_of q c.in_ok-scene.scene.node.eval +ℤ pos c.in_ok-scene.scene.gains) ≤ℤ c.args.most) (there ∙ sym is) before in
-    subst (λ (t : ℤ). AreDull c.args.node.now.position c.args.node.now.eval (record { most = t; drops = c.idle_drops-drops.result; pieces = c.without-pieces.result; ends = c.idle_ends-ends.result })) (sym same) (record {
-      drops = λ kind. scene_dull c.args.node.now.position (place_in c.in_ok-scene.scene) c.args.node.now.eval c.in_ok-scene.scene.node.eval kind c.args.reply c.in_ok-scene.scene.gains c.in_ok-scene.scene.king c.in_ok-scene.scene.squares.bits c.args.most c.free.result.bits c.squares_touched-touched.result.bits c.without-free.result.bits c.idle_drops-drops.result.bits
-          is alike v shut c.squares_touched-touched.ensures.on_board lr (sym c.drops_pawn.ensures ∙ c.if-drops_pawn.false) c.squares_touched-touched.ensures.spared c.squares_touched-touched.result.fits c.without-free.ensures
-          c.in_ok-held.ensures.quiet low room c.idle_drops-drops.ensures.among (c.idle_drops-drops.ensures.idle kind);
-      quiets = scene_quiets c.args.node.now.position (place_in c.in_ok-scene.scene) c.args.node.now.eval c.in_ok-scene.scene.node.eval c.args.reply c.in_ok-scene.scene.gains c.in_ok-scene.scene.king c.in_ok-scene.scene.squares.bits c.args.most c.free.result.bits c.squares_touched-touched.result.bits c.without-free.result.bits c.without-pieces.result.bits c.idle_ends-ends.result.bits
-          is alike v shut c.squares_touched-touched.ensures.on_board lr (sym c.drops_pawn.ensures ∙ c.if-drops_pawn.false) c.squares_touched-touched.ensures.spared c.squares_touched-touched.result.fits c.without-free.ensures
-          c.in_ok-held.ensures.quiet low room c.idle_ends-ends.ensures.among apart (λ a h set. c.in_ok-held.ensures.held.unseen a h (loose a h set)) lifts (rw c.as_position-p.ensures at c.idle_ends-ends.ensures.idle);
-    })
+    subst (λ (t : ℤ). AreDull c.args.node.now.position c.args.node.now.eval (record { most = t; drops = c.idle_drops-drops.result; pieces = c.without-pieces.result; ends = c.idle_ends-ends.result })) (sym same) (all_dull c.args.node.now.position c.args.node.now.eval (record { most = c.args.most; drops = c.idle_drops-drops.result; pieces = c.without-pieces.result; ends = c.idle_ends-ends.result })
+    (λ kind. scene_dull c.args.node.now.position (place_in c.in_ok-scene.scene) c.args.node.now.eval c.in_ok-scene.scene.node.eval kind c.args.reply c.in_ok-scene.scene.gains c.in_ok-scene.scene.king c.in_ok-scene.scene.squares.bits c.args.most c.free.result.bits c.squares_touched-touched.result.bits c.without-free.result.bits c.idle_drops-drops.result.bits
+    is alike v shut c.squares_touched-touched.ensures.on_board lr (sym c.drops_pawn.ensures ∙ c.if-drops_pawn.false) c.squares_touched-touched.ensures.spared c.squares_touched-touched.result.fits c.without-free.ensures
+    c.in_ok-held.ensures.quiet low room c.idle_drops-drops.ensures.among (c.idle_drops-drops.ensures.idle kind))
+    (scene_quiets c.args.node.now.position (place_in c.in_ok-scene.scene) c.args.node.now.eval c.in_ok-scene.scene.node.eval c.args.reply c.in_ok-scene.scene.gains c.in_ok-scene.scene.king c.in_ok-scene.scene.squares.bits c.args.most c.free.result.bits c.squares_touched-touched.result.bits c.without-free.result.bits c.without-pieces.result.bits c.idle_ends-ends.result.bits
+    is alike v shut c.squares_touched-touched.ensures.on_board lr (sym c.drops_pawn.ensures ∙ c.if-drops_pawn.false) c.squares_touched-touched.ensures.spared c.squares_touched-touched.result.fits c.without-free.ensures
+    c.in_ok-held.ensures.quiet low room c.idle_ends-ends.ensures.among apart (λ a h set. c.in_ok-held.ensures.held.unseen a h (loose a h set)) lifts (rw c.as_position-p.ensures at c.idle_ends-ends.ensures.idle)))

@@ -1,5 +1,4 @@
-use Rattle.std.proofs.Common.{ap, sym, ◌∙◌, ℕ}
-use Rattle.shogi_core.specs.Bits.{has_bit}
+use Rattle.std.proofs.Common.{◌∙◌}
 use Rattle.dull_moves.proofs.SceneLaws.{off_non_promoting, off_promoting, targets_within}
 use Rattle.dull_moves.proofs.scene.ForbiddenSquares.among.Goals as goal
 

@@ -1,7 +1,7 @@
 use Rattle.std.proofs.Common.{◌≡◌, ℕ, false}
 use Rattle.shogi_core.specs.Bits.{has_bit}
 use Rattle.dull_moves.specs.Dull.{IsQuietThere}
-use Rattle.dull_moves.specs.Scenes.{IsQuietIn, place_in}
+use Rattle.dull_moves.specs.Scenes.{place_in}
 use Rattle.dull_moves.proofs.Lifting.{lift_quiet}
 use Rattle.dull_moves.proofs.SceneLaws.{off_left, off_right}
 use Rattle.dull_moves.proofs.scene.Scene.held_squares.Goals as goal

@@ -1,4 +1,4 @@
-use Rattle.std.proofs.Common.{◌≡◌, ℕ, arith, true, ◌∙◌}
+use Rattle.std.proofs.Common.{◌≡◌, arith, true, ◌∙◌}
 use Rattle.shogi_core.specs.Movement.{piece_at, reaches}
 use Rattle.dull_moves.specs.Dull.{IsIdle, lifted}
 use Rattle.dull_moves.specs.Scenes.{place_in}

@@ -1,5 +1,5 @@
 use Rattle.std.proofs.Common.{◌<◌, ◌^◌, Some}
-use Rattle.dull_moves.specs.Scenes.{AllowsIn, IsIdleIn}
+use Rattle.dull_moves.specs.Scenes.{IsIdleIn}
 use Rattle.dull_moves.proofs.Sets.{Kept}
 use Rattle.dull_moves.proofs.scene.Scene.idle_squares.Given as goal
 

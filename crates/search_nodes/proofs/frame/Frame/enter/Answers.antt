@@ -8,7 +8,7 @@ use Rattle.minimax.specs.Minimax.{worth, negated}
 use Rattle.search_nodes.proofs.Nodes.{new_node}
 use Rattle.shogi_core.specs.declared.squares.Squares.{Squares}
 use Rattle.minimax.specs.declared.bounds.TheConstants.{INFINITY}
-use Rattle.dull_moves.specs.declared.drops.DullDrops.{DullDrops}
+use Rattle.dull_moves.specs.declared.moves.DullMoves.{DullMoves}
 use Rattle.search_nodes.specs.declared.threat.Threats.{Threats}
 use Rattle.search_nodes.proofs.frame.Frame.enter.Goals as goal
 
@@ -74,4 +74,4 @@ pub invariant_of-self-clause-threatened : goal.invariant_of-self-clause-threaten
 invariant_of-self-clause-threatened c = λ threats e. absurd (no_some Threats threats e)
 
 pub invariant_of-self-clause-refuted : goal.invariant_of-self-clause-refuted
-invariant_of-self-clause-refuted c = λ drops e. absurd (no_some DullDrops drops e)
+invariant_of-self-clause-refuted c = λ moves e. absurd (no_some DullMoves moves e)

@@ -1,8 +1,6 @@
-use Rattle.std.proofs.Common.{rules, ◌≡◌, ◌≤ℤ◌, ◌∙◌, ◌-◌, true, ℕ, sym, ap, subst, arith, FitsSigned, w32}
+use Rattle.std.proofs.Common.{rules, ◌≡◌, ◌≤ℤ◌, ◌-◌, true, ℕ, ap, subst, arith, FitsSigned, w32}
 use Rattle.std.proofs.lemmas.Int.{ints, to_z-of_z}
 use Rattle.shogi_core.specs.declared.moves.Move.{Move}
-use Rattle.shogi_core.specs.declared.moves.Move.TheVariants.{Drop}
-use Rattle.shogi_core.specs.Bits.{has_bit}
 use Rattle.shogi_core.specs.Codes.{code_of}
 use Rattle.shogi_moves.specs.Legal.{is_legal}
 use Rattle.shogi_moves.proofs.LegalLaws.{listed_to_legal}
@@ -22,12 +20,10 @@ returns-then-dull-move_alpha-clause-lost c = λ yes.
     let m : Move = c.args.current.now in
     let w : _ = waits _ _ _ _ _ _ _ _ _ _ c.requires.current c.args.self.now.known in
     let legal : is_legal f.node.position m ≡ true = listed_to_legal _ _ c.reveal_invariant.ensures.back w.is_listed in
-    let dropped : is_legal f.node.position (Drop c.in-Drop.kind c.in-Drop.to) ≡ true = subst (λ (x : Move). is_legal f.node.position x ≡ true) c.in-Drop.is legal in
     let dull : AreDull f.node.position f.node.eval c.in-Some.dull = subst (λ (n : Evaluated). AreDull n.position n.eval c.in-Some.dull) c.look_for_dull.ensures.0.0 (g.refuted c.in-Some.dull c.in-Some.is) in
-    let set : has_bit c.in-Some.dull.squares.bits c.in-Drop.to ≡ true = sym c.has.ensures ∙ yes in
-    let few : worth f.node.position f.node.eval 2 (code_of (Drop c.in-Drop.kind c.in-Drop.to)) ≤ℤ c.in-Some.dull.most = dull c.in-Drop.kind c.in-Drop.to c.reveal_invariant-2.ensures set dropped in
+    let few : worth f.node.position f.node.eval 2 (code_of m) ≤ℤ c.in-Some.dull.most = dull m c.has.ensures.on_board (c.has.ensures.among yes) (c.is_quiet.ensures c.if-is_quiet.true) legal in
     let two : f.depth - 1 ≡ 2 = ap (λ (d : ℕ). d - 1) c.requires.last in
-    let here : worth_of f m ≡ worth f.node.position f.node.eval 2 (code_of (Drop c.in-Drop.kind c.in-Drop.to)) = ap (λ (d : ℕ). worth f.node.position f.node.eval d (code_of m)) two ∙ ap (λ (x : Move). worth f.node.position f.node.eval 2 (code_of x)) c.in-Drop.is in
+    let here : worth_of f m ≡ worth f.node.position f.node.eval 2 (code_of m) = ap (λ (d : ℕ). worth f.node.position f.node.eval d (code_of m)) two in
     let fits : FitsSigned w32 c.in-Some.dull.most = search rules in
     let same = to_z-of_z w32 c.in-Some.dull.most fits in
     let lost : worth_of f m ≤ℤ move_alpha_of f m = omega (arith, ints, few, here, same, c.move_alpha-move_alpha.ensures.move_alpha, c.if-dull-move_alpha.true) in
