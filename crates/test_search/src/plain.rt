@@ -1,6 +1,6 @@
 //! The search written plainly, to count with: it calls itself, and remembers in a list.
 
-use crate::dull::Dull;
+use crate::dull::Replies;
 use crate::exchanges::left_after;
 use shogi_core::{Board, Color, KINDS, Move, Piece, Position, Role, Square};
 use shogi_eval::{Eval, drop_gain, material, taken_gain};
@@ -943,27 +943,17 @@ fn visit(
         is_looked_for: false,
         threats: [None, None],
     };
-    let mut dull = None;
-    let mut is_dull_known = false;
+    let mut replies = Replies::none();
     for turn in 0..8u8 {
         for branch in branches.as_slice() {
             let move_alpha = move_alpha(best_value, best, branch.code);
             if branch.turn != turn {
                 continue;
             }
-            // Before the first drop that comes after another move, the last reply is looked at, once.
-            let is_late = outlook.has_weak || best.is_some();
-            let is_drop = depth == 3 && is_late && branch.from.is_none();
-            if is_drop && !is_dull_known {
-                if let Some(reply) = notes.reply_at(2) {
-                    is_dull_known = true;
-                    dull = Dull::of(p, e, reply, move_alpha);
-                }
-            }
-            let is_dull = match &dull {
-                Some(dull) => is_drop && dull.most <= move_alpha && dull.is_dull(branch.to),
-                None => false,
-            };
+            // A quiet move that comes after another one may be refuted by the reply to one before.
+            let is_late = depth == 3 && (outlook.has_weak || best.is_some());
+            let is_dull = is_late
+                && replies.are_enough(p, e, branch.code, notes.reply_at(2), move_alpha);
             if is_dull {
                 outlook.has_weak = true;
             } else if depth == 2 && outlook.leaves_out(p, branch, e, beta, move_alpha) {
