@@ -3,21 +3,21 @@ use Rattle.std.proofs.Common.{◌≡◌, ◌∙◌, ◌<◌, ◌+◌, ℕ, ℤ, 
 use Rattle.std.specs.Prelude.{IfSome}
 use Rattle.std.proofs.lemmas.List.{length-map, length-take-le}
 use Rattle.std.proofs.lemmas.Option.{slice_get_within}
-use Rattle.minimax.specs.Entries.{IsConclusive}
+use Rattle.minimax.specs.Entries.{IsConclusive, IsEnoughBelow}
 use Rattle.minimax.specs.Minimax.{negated}
 use Rattle.minimax.specs.declared.bounds.TheConstants.{INFINITY}
 use Rattle.minimax.specs.declared.entry.Entry.{Entry}
 use Rattle.shogi_core.specs.Position.{Shogi}
 use Rattle.shogi_eval.specs.declared.eval.Eval.{Eval}
-use Rattle.shogi_search.specs.Calls.{Call, Probe, Note, CallsInSteps, EndsWith}
+use Rattle.shogi_search.specs.Calls.{AreCalled, Call, Probe, Note, CallsInSteps, EndsWith, probe_of}
 use Rattle.shogi_search.specs.Entered.{Entered}
 use Rattle.shogi_search.specs.Progress.{Progress, KeepsQuestion, untouched_below}
-use Rattle.shogi_search.specs.SearchCalls.{CallsOfSearch, CallsOfWhole, TellsRoot, asked_before}
+use Rattle.shogi_search.specs.SearchCalls.{AsksRoot, CallsOfSearch, CallsOfWhole, TellsRoot, asked_before}
 use Rattle.shogi_search.specs.SlicedSearch.{entered_in, entered_of}
 use Rattle.shogi_search.specs.Stack.{IsChain, IsStack, KeepsGoal, frames_of, note_of_root, parents_of}
 use Rattle.shogi_search.specs.declared.found.Found.{Found}
 use Rattle.shogi_search.specs.declared.stack.Stack.{Stack}
-use Rattle.shogi_search.proofs.CallLaws.{as_counted, ends_after, steps_and_steps}
+use Rattle.shogi_search.proofs.CallLaws.{as_counted, ends_after, no_calls, steps_and_steps}
 use Rattle.shogi_search.proofs.Places.{HasTop, has_top}
 
 -- so many frames are on the way down
@@ -111,3 +111,17 @@ pub whole_calls : {M : Type 0} (called : M → Call → M → Type 0) (a b : M) 
 whole_calls called a b later f k steps none =
     as_counted called a b 0 0 later.steps f.steps 0 0 (length later.entered) 0 1 k refl steps refl
     (sym (ap (λ (nodes : List Entered). length nodes) none))
+
+-- the root was asked for, and then others
+pub asks_root : {M : Type 0} (called : M → Call → M → Type 0) (answers : Shogi → Eval → ℕ → Option Entry) (a b c : M) (search : Progress) (calls : List Call)
+    → called a (probe_of answers search.root search.eval search.depth) b
+    → (IsEnoughBelow search.beta (answers search.root search.eval search.depth) → ⊥)
+    → AreCalled called b calls c → AsksRoot called answers a c search
+asks_root called answers a b c search calls first not_enough rest =
+    record { asked = b; first = first; only = λ enough. absurd (not_enough enough); calls = calls; rest = rest }
+
+-- and nothing else
+pub asks_root_alone : {M : Type 0} (called : M → Call → M → Type 0) (answers : Shogi → Eval → ℕ → Option Entry) (a b : M) (search : Progress)
+    → called a (probe_of answers search.root search.eval search.depth) b → AsksRoot called answers a b search
+asks_root_alone called answers a b search first =
+    record { asked = b; first = first; only = λ _. refl; calls = []; rest = no_calls called b }

@@ -1,10 +1,12 @@
 -- What a search asks and tells a memory (own choice).
-use Rattle.std.specs.Prelude.{◌≡◌, ◌⊎◌, ℕ, Bool, true, false, IfSome, None, Option, Some, length}
+use Rattle.std.specs.Prelude.{◌≡◌, ◌⊎◌, ℕ, Bool, true, false, IfSome, None, Option, Some, List, length}
 use Rattle.minimax.specs.declared.entry.Entry.{Entry}
 use Rattle.minimax.specs.declared.entry.Entry.TheVariants.{Exact, AtLeast, AtMost}
 use Rattle.minimax.specs.Entries.{IsEnoughBelow}
 use Rattle.shogi_search.specs.declared.found.Found.{Found}
-use Rattle.shogi_search.specs.Calls.{Call, Probe, Note, CallsInSteps, EndsWith}
+use Rattle.shogi_core.specs.Position.{Shogi}
+use Rattle.shogi_eval.specs.declared.eval.Eval.{Eval}
+use Rattle.shogi_search.specs.Calls.{AreCalled, Call, Probe, Note, CallsInSteps, EndsWith, probe_of}
 use Rattle.shogi_search.specs.Progress.{Progress}
 
 -- before the first step the root is asked for
@@ -46,6 +48,22 @@ abbrev pub TellsFound : {M : Type 0} → (M → Call → M → Type 0) → M →
     → Type 0
 TellsFound called old new search result =
     search.found ≡ None → IfSome result (TellsRoot called old new search)
+
+-- the first call asked for the root, and was the only one where the answer says enough
+pub record AsksRoot {M : Type 0} (called : M → Call → M → Type 0)
+    (answers : Shogi → Eval → ℕ → Option Entry) (old new : M) (search : Progress) : Type 0 where
+  pub asked : M
+  pub first : called old (probe_of answers search.root search.eval search.depth) asked
+  pub only :
+      IsEnoughBelow search.beta (answers search.root search.eval search.depth) → new ≡ asked
+  pub calls : List Call
+  pub rest : AreCalled called asked calls new
+
+-- a search that has made no step asks for its root first
+abbrev pub AsksRootFirst : {M : Type 0} → (M → Call → M → Type 0)
+    → (Shogi → Eval → ℕ → Option Entry) → M → M → Progress → Type 0
+AsksRootFirst called answers old new search =
+    search.started ≡ false → search.found ≡ None → AsksRoot called answers old new search
 
 -- the calls of a whole search, from before its first step to its end
 abbrev pub CallsOfWhole : {M : Type 0} → (M → Call → M → Type 0) → M → M → Found → Type 0

@@ -6,8 +6,8 @@ ghost use Rattle.std.specs.Option.{ForSome};
 ghost use Rattle.minimax.specs.Minimax.{IsTrueEntry, negated};
 ghost use Rattle.shogi_search.specs.Entered.{IsKnownNode};
 ghost use Rattle.minimax.specs.Entries.{IsConclusive};
-ghost use Rattle.shogi_search.specs.Calls.{Asks};
-ghost use Rattle.shogi_search.specs.SearchCalls.{CallsBetween, CallsOfSearch, Says, TellsFound, TellsRoot};
+ghost use Rattle.shogi_search.specs.Calls.{Asks, probe_of};
+ghost use Rattle.shogi_search.specs.SearchCalls.{AsksRootFirst, CallsBetween, CallsOfSearch, Says, TellsFound, TellsRoot};
 ghost use Rattle.shogi_search.specs.Progress.{untouched, untouched_below, left_of, HasPath, IsAnsweredBy, EndsWhereAnswered, EndsWhereKnown, KeepsQuestion, IsFoundBelow, IsFoundBy, FindsValue, FindsBest, FitsTree};
 ghost use Rattle.minimax.specs.declared.bounds.TheConstants.{SEARCH_DEPTH_MAX, INFINITY};
 
@@ -272,6 +272,8 @@ impl Search {
         ensures steps { IfSome result (λ f. f.steps ≡ self.now.steps) }
         ensures enough { IsSome result ↔ IsAnsweredBy (M.answers memo.old) self.now }
         ensures asked { Asks M.called memo.old memo.new 1 }
+        ensures first { M.called memo.old
+            (probe_of (M.answers memo.old) self.now.root self.now.eval self.now.depth) memo.new }
         ensures told { IfSome result (TellsRoot M.called memo.old memo.new self.now) }
         ensures capacity { M.capacity memo.new ≡ M.capacity memo.old }
     {
@@ -295,6 +297,8 @@ impl Search {
         ensures beta { self.new.beta ≡ self.old.beta }
         ensures capacity { M.capacity memo.new ≡ M.capacity memo.old }
         ensures calls { CallsOfSearch M.called memo.old memo.new self.old self.new }
+        // Its first call asks for the root, and is the only one where the answer says enough.
+        ensures asked { AsksRootFirst M.called (M.answers memo.old) memo.old memo.new self.old }
         // Its last call says what it found of the root.
         ensures told { TellsFound M.called memo.old memo.new self.old result }
         ensures found { self.new.found ≡ result }

@@ -1,6 +1,6 @@
 use Rattle.std.proofs.Common.{◌≡◌, ◌<◌, ◌≤◌, ◌+◌, ◌-◌, ◌*◌, ◌∙◌, ℕ, ℤ, Bool, true, false, Option, None, Some, refl, rules, arith, subst, sym}
-use Rattle.shogi_search.proofs.CallLaws.{stays, asked_first, steps_and_steps}
-use Rattle.shogi_search.proofs.SearchCallLaws.{with_root, told_after}
+use Rattle.shogi_search.proofs.CallLaws.{calls_and_calls, stays, asked_first, steps_and_steps}
+use Rattle.shogi_search.proofs.SearchCallLaws.{asks_root, asks_root_alone, with_root, told_after}
 use Rattle.std.specs.Prelude.{IfNone, IfSome, IsSome, is_some, min}
 use Rattle.std.specs.Option.{ForSome}
 use Rattle.shogi_core.specs.Position.{Shogi}
@@ -331,3 +331,28 @@ returns-clause-most g c = most_used _ _ _ _ _ (some_steps _ c.if-budget-eq0.fals
 
 pub returns-clause-fell : goal.returns-clause-fell
 returns-clause-fell g c = all_fell _ _ _ _ _ _ _ c.enter_root.ensures.steps c.enter_root.ensures.left c.resume-2.ensures.fell
+
+-- before the first step the root is asked for
+no_answer : (found : Option Found) → found ≡ None → IsSome found → ⊥
+no_answer None e some = absurd (cc)
+no_answer (Some f) e some = absurd (cc)
+
+pub returns-then-self-clause-asked : goal.returns-then-self-clause-asked
+returns-then-self-clause-asked g c = λ no _. absurd (begun_not c.args.self.now.started (sym (started_seen c.self.inside c.args.self.now c.self.view_is) ∙ c.if-self.true) no)
+
+pub returns-then-self-lt2-clause-asked : goal.returns-then-self-lt2-clause-asked
+returns-then-self-lt2-clause-asked g c = λ _ _.
+    asks_root g.M.Memo.called (g.M.Memo.answers c.args.memo.now) _ _ _ c.args.self.now _ c.probe_root.ensures.first
+    (λ enough. no_answer c.probe_root.result c.in_default.is (c.probe_root.ensures.enough.1 enough)) c.answer_root.ensures.calls.each
+
+pub returns-clause-asked : goal.returns-clause-asked
+returns-clause-asked g c = λ _ _.
+    asks_root g.M.Memo.called (g.M.Memo.answers c.args.memo.now) _ _ _ c.args.self.now _ c.probe_root.ensures.first
+    (λ enough. no_answer c.probe_root.result c.in_default.is (c.probe_root.ensures.enough.1 enough))
+    (calls_and_calls g.M.Memo.called _ _ _ _ _ c.enter_root.ensures.calls.each c.resume-2.ensures.calls.each)
+
+pub returns-then-budget-eq0-clause-asked : goal.returns-then-budget-eq0-clause-asked
+returns-then-budget-eq0-clause-asked g c = λ _ _. asks_root_alone g.M.Memo.called (g.M.Memo.answers c.args.memo.now) _ _ c.args.self.now c.probe_root.ensures.first
+
+pub returns-in-Some-clause-asked : goal.returns-in-Some-clause-asked
+returns-in-Some-clause-asked g c = λ _ _. asks_root_alone g.M.Memo.called (g.M.Memo.answers c.args.memo.now) _ _ c.args.self.now c.probe_root.ensures.first

@@ -23,3 +23,9 @@ returns-clause-told g c = rw (← c.self.view_is) (record {
       (subst (λ (o : Option Entry). g.M.Memo.called c.args.memo.now (Probe c.self.inside.stack.root c.self.inside.stack.eval c.self.inside.stack.depth o) c.probe.new.memo)
       (sym c.in_ok-entry.ensures.answer) c.probe.ensures.asked));
 })
+
+pub returns-in_err-entry-clause-first : goal.returns-in_err-entry-clause-first
+returns-in_err-entry-clause-first g c = rw (← c.self.view_is) c.probe.ensures.asked
+
+pub returns-clause-first : goal.returns-clause-first
+returns-clause-first g c = rw (← c.self.view_is) c.probe.ensures.asked
