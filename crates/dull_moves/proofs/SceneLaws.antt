@@ -100,8 +100,8 @@ pub king_off : (cells : Cells) (color : Color) (king a : ℕ) → is_king color 
 king_off cells color king a crown at = both_ways (is_king color None) refl (ap (is_king color) (sym (ap (piece_at (set cells a None)) at ∙ cleared_none cells a)) ∙ crown)
 
 -- the king and another piece are lifted in either order
-pub both_lifted : (board ground : Cells) (king a : ℕ) → board ≡ set ground king None → king ≢ a → set board a None ≡ set (set ground a None) king None
-both_lifted board ground king a lifted off = ap (λ (cells : Cells). set cells a None) lifted ∙ set_comm ground king a None None off
+pub both_lifted : (board standing : Cells) (king a : ℕ) → board ≡ set standing king None → king ≢ a → set board a None ≡ set (set standing a None) king None
+both_lifted board standing king a lifted off = ap (λ (cells : Cells). set cells a None) lifted ∙ set_comm standing king a None None off
 
 -- ---- what is forbidden
 

@@ -17,11 +17,11 @@ with_cells p cells = record { cells = cells; hands = p.hands; side = p.side }
 
 -- the position of a scene: that of its node, or with a piece lifted
 abbrev pub place_in : Scene → Shogi
-place_in s = with_cells s.node.position s.ground
+place_in s = with_cells s.node.position s.standing
 
 -- a piece of the side to move stands on the square
 abbrev pub IsOwnIn : Scene → ℕ → Type 0
-IsOwnIn s a = is_piece_of s.node.position.side (piece_at s.ground a) ≡ true
+IsOwnIn s a = is_piece_of s.node.position.side (piece_at s.standing a) ≡ true
 
 -- off the set, promotions of this are calm
 abbrev pub PromotionsAllowedIn : Scene → Piece → ℕ → ℕ → Type 0
@@ -112,11 +112,11 @@ abbrev pub AreIdleFrom : Scene → ℕ → ℕ → ℕ → Type 0
 AreIdleFrom s from targets set = (to : ℕ) → to < 81 → has_bit set to ≡ true
     → has_bit targets to ≡ true
     → IsIdle (lifted (place_in s) from) s.node.eval s.gains s.king s.squares.bits
-    (piece_at s.ground from) to
+    (piece_at s.standing from) to
 
 -- so is each of the pieces on those of the squares that it reaches on another board
 abbrev pub AreIdleEnds : Scene → Cells → ℕ → ℕ → Type 0
 AreIdleEnds s before pieces set = (from to : ℕ) → from < 81 → to < 81
     → has_bit pieces from ≡ true → has_bit set to ≡ true → reaches before from to ≡ true
     → IsIdle (lifted (place_in s) from) s.node.eval s.gains s.king s.squares.bits
-    (piece_at s.ground from) to
+    (piece_at s.standing from) to

@@ -63,7 +63,7 @@ fn drops_pawn(m: &Move) -> bool
 fn scene_of(node: Node, most: i32) -> Option<Scene>
     requires most { most <ℤ INFINITY }
     ensures node { IfSome result (λ scene. scene.node ≡ node) }
-    ensures ground { IfSome result (λ scene. scene.ground ≡ node.position.cells) }
+    ensures standing { IfSome result (λ scene. scene.standing ≡ node.position.cells) }
     ensures room { IfSome result (λ scene.
         (material_of node.position node.eval +ℤ pos scene.gains) ≤ℤ most) }
 {
@@ -75,15 +75,15 @@ fn scene_of(node: Node, most: i32) -> Option<Scene>
     let p = node.as_position();
     let king = p.king(p.side().opponent())?;
     king.reveal_invariant();
-    let ground = p.board();
+    let standing = p.board();
     Some(Scene {
         node,
-        ground,
+        standing,
         king,
-        board: ground.put(king, None),
+        board: standing.put(king, None),
         squares: escape_squares(p),
         gains,
-        dear: dear_squares(&ground, p.side(), node.eval(), gains),
+        dear: dear_squares(&standing, p.side(), node.eval(), gains),
     })
 }
 

@@ -76,24 +76,24 @@ impl ForbiddenSquares {
     }
 }
 
-/// The position after a pass and a reply, where a piece may be lifted from the ground: the only king
+/// The position after a pass and a reply, where a piece may be lifted: what stands, the only king
 /// of the side that has replied and the board without it, squares to which that king may go, and what
 /// the side to move may gain.
 #[derive(Clone, Copy)]
 pub struct Scene {
     pub node: Node,
-    pub ground: Board,
+    pub standing: Board,
     pub king: Square,
     pub board: Board,
     pub squares: Squares,
     pub gains: u32,
     pub dear: Squares,
-    ghost kingless: { board ≡ slice_set ground king None } by { Prim.hlevel props },
+    ghost kingless: { board ≡ slice_set standing king None } by { Prim.hlevel props },
     ghost king_fits: { king < 81 },
-    ghost crown: { is_king (opponent_of node.position.side) (piece_at ground king) ≡ true },
-    ghost lone: { HasNoOtherKing ground (opponent_of node.position.side) king } by { Prim.hlevel props },
-    ghost escapes: { AreEscapes (record { cells = ground; hands = node.position.hands; side = node.position.side }) squares.bits } by { Prim.hlevel props },
-    ghost dearer: { AreDear ground node.position.side node.eval gains dear.bits } by { Prim.hlevel props },
+    ghost crown: { is_king (opponent_of node.position.side) (piece_at standing king) ≡ true },
+    ghost lone: { HasNoOtherKing standing (opponent_of node.position.side) king } by { Prim.hlevel props },
+    ghost escapes: { AreEscapes (record { cells = standing; hands = node.position.hands; side = node.position.side }) squares.bits } by { Prim.hlevel props },
+    ghost dearer: { AreDear standing node.position.side node.eval gains dear.bits } by { Prim.hlevel props },
 }
 
 impl Scene {
@@ -119,7 +119,7 @@ impl Scene {
             role: piece.role.promoted(),
         };
         let dear = dear_squares(
-            &self.ground,
+            &self.standing,
             self.side(),
             self.node.eval(),
             self.gains - more,
@@ -150,14 +150,14 @@ impl Scene {
         ensures held { IfSome result (λ held. PieceLetsLeaveIn self.now from held.bits) }
     {
         from.reveal_invariant();
-        let piece = self.ground.at(from)?;
+        let piece = self.standing.at(from)?;
         let targets = self.board.targets_of(piece, from);
         let squares = self.squares.without(line_mask(from.index()));
         let ends = targets & promoting_squares(Some(piece), from);
         let forbidden = self
             .forbidden_squares(piece, squares, !ends.is_empty())
             .among(piece, from, targets);
-        if !forbidden.without(self.ground.own(self.side())).is_empty() {
+        if !forbidden.without(self.standing.own(self.side())).is_empty() {
             return None;
         }
         if piece.role.is_sliding() {
@@ -171,7 +171,7 @@ impl Scene {
         ensures calm { IfSome result (λ held. PiecesAreCalmIn self.now) }
         ensures held { IfSome result (λ held. PiecesLetLeaveIn self.now held.bits) }
     {
-        let mut left = self.ground.own(self.side()).bits;
+        let mut left = self.standing.own(self.side()).bits;
         let mut held = Squares::none();
         while left != 0 {
             let square = lowest(left);
@@ -195,7 +195,7 @@ impl Scene {
         let covered = covering_squares(&self.board, piece, self.squares).without(dead_squares(Some(
             piece,
         )));
-        if !(covered & self.ground.free()).is_empty() {
+        if !(covered & self.standing.free()).is_empty() {
             return None;
         }
         Some(covered)
@@ -252,7 +252,7 @@ impl Scene {
         if self.squares.has(to) || !(reach & self.squares.with(self.king)).is_empty() {
             return false;
         }
-        let targets = reach.without(self.ground.own(self.side()));
+        let targets = reach.without(self.standing.own(self.side()));
         forbidden.among(piece, to, targets).is_empty()
     }
 
@@ -292,12 +292,12 @@ impl Scene {
     /// The same with what stands on the square lifted.
     fn lifted(&self, from: Square) -> Scene
         requires quiet { IsQuietLifted self.now from }
-        ensures ground { place_in result ≡ lifted (place_in self.now) from }
+        ensures standing { place_in result ≡ lifted (place_in self.now) from }
         ensures unchanged { IsAlike self.now result }
     {
         Scene {
             node: self.node,
-            ground: self.ground.put(from, None),
+            standing: self.standing.put(from, None),
             king: self.king,
             board: self.board.put(from, None),
             squares: self.squares,
@@ -312,7 +312,7 @@ impl Scene {
         ensures among { (n : ℕ) → has_bit result.bits n ≡ true → has_bit ends.bits n ≡ true }
         ensures idle { AreIdleFrom self.now from targets.bits result.bits }
     {
-        match self.ground.at(from) {
+        match self.standing.at(from) {
             Some(piece) => {
                 let idle = self.lifted(from).idle_squares(piece, targets & ends);
                 ends.without(targets) | idle

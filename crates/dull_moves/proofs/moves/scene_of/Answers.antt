@@ -8,7 +8,7 @@ use Rattle.dull_moves.proofs.moves.scene_of.Goals as goal
 
 pub invariant_of-result : goal.invariant_of-result
 invariant_of-result c =
-    let same : c.board-ground.result ≡ c.args.node.position.cells = rw c.as_position-p.ensures at c.board-ground.ensures in
+    let same : c.board-standing.result ≡ c.args.node.position.cells = rw c.as_position-p.ensures at c.board-standing.ensures in
     record {
       kingless = c.put.ensures;
       king_fits = c.reveal_invariant.ensures;
@@ -18,5 +18,5 @@ invariant_of-result c =
       dearer = rw (c.side-2.ensures, c.eval.ensures, c.as_position-p.ensures) at c.dear_squares.ensures;
     }
 
-pub returns-clause-ground : goal.returns-clause-ground
-returns-clause-ground c = rw c.as_position-p.ensures at c.board-ground.ensures
+pub returns-clause-standing : goal.returns-clause-standing
+returns-clause-standing c = rw c.as_position-p.ensures at c.board-standing.ensures

@@ -28,7 +28,7 @@ pub idle_ends-ends-requires : goal.idle_ends-ends-requires
 idle_ends-ends-requires c =
     let away : c.of_valid-passed.result ≡ passed c.args.node.now.position = rw (c.board.ensures, c.hands.ensures, c.opponent.ensures, c.side.ensures, c.as_position-p.ensures) at c.of_valid-passed.ensures in
     let there : c.in_ok-scene.scene.node.position ≡ after_reply c.args.node.now.position c.args.reply = ap (λ (n : Evaluated). n.position) c.in_ok-scene.ensures.node ∙ (c.advance.ensures.after ∙ ap (λ (q : Shogi). after q c.args.reply) (c.of-next.ensures.position ∙ away)) in
-    let is : place_in c.in_ok-scene.scene ≡ after_reply c.args.node.now.position c.args.reply = ap (λ (cells : Cells). with_cells c.in_ok-scene.scene.node.position cells) (c.in_ok-scene.ensures.ground ∙ ap (λ (n : Evaluated). n.position.cells) (sym c.in_ok-scene.ensures.node)) ∙ there in
+    let is : place_in c.in_ok-scene.scene ≡ after_reply c.args.node.now.position c.args.reply = ap (λ (cells : Cells). with_cells c.in_ok-scene.scene.node.position cells) (c.in_ok-scene.ensures.standing ∙ ap (λ (n : Evaluated). n.position.cells) (sym c.in_ok-scene.ensures.node)) ∙ there in
     let out : (a : ℕ) → a < 81 → has_bit c.without-pieces.result.bits a ≡ true → (has_bit c.own.result.bits a ≡ true) × (has_bit c.bitor.result.bits a ≡ false) = λ a h set. out_parts c.own.result.bits c.bitor.result.bits a c.bitor.result.fits h (rw c.without-pieces.ensures at set) in
     let apart : (a : ℕ) → a < 81 → has_bit c.without-pieces.result.bits a ≡ true → has_bit c.squares_touched-touched.result.bits a ≡ false = λ a h set. off_left c.squares_touched-touched.result.bits c.in_ok-held.held.bits a (rw c.bitor.ensures at (out a h set).1) in
     let loose : (a : ℕ) → a < 81 → has_bit c.without-pieces.result.bits a ≡ true → has_bit c.in_ok-held.held.bits a ≡ false = λ a h set. off_right c.squares_touched-touched.result.bits c.in_ok-held.held.bits a (rw c.bitor.ensures at (out a h set).1) in
@@ -42,7 +42,7 @@ returns-clause-dull c =
     let v : IsValid c.args.node.now.position = rw c.as_position-p.ensures at c.reveal_invariant.ensures in
     let away : c.of_valid-passed.result ≡ passed c.args.node.now.position = rw (c.board.ensures, c.hands.ensures, c.opponent.ensures, c.side.ensures, c.as_position-p.ensures) at c.of_valid-passed.ensures in
     let there : c.in_ok-scene.scene.node.position ≡ after_reply c.args.node.now.position c.args.reply = ap (λ (n : Evaluated). n.position) c.in_ok-scene.ensures.node ∙ (c.advance.ensures.after ∙ ap (λ (q : Shogi). after q c.args.reply) (c.of-next.ensures.position ∙ away)) in
-    let is : place_in c.in_ok-scene.scene ≡ after_reply c.args.node.now.position c.args.reply = ap (λ (cells : Cells). with_cells c.in_ok-scene.scene.node.position cells) (c.in_ok-scene.ensures.ground ∙ ap (λ (n : Evaluated). n.position.cells) (sym c.in_ok-scene.ensures.node)) ∙ there in
+    let is : place_in c.in_ok-scene.scene ≡ after_reply c.args.node.now.position c.args.reply = ap (λ (cells : Cells). with_cells c.in_ok-scene.scene.node.position cells) (c.in_ok-scene.ensures.standing ∙ ap (λ (n : Evaluated). n.position.cells) (sym c.in_ok-scene.ensures.node)) ∙ there in
     let out : (a : ℕ) → a < 81 → has_bit c.without-pieces.result.bits a ≡ true → (has_bit c.own.result.bits a ≡ true) × (has_bit c.bitor.result.bits a ≡ false) = λ a h set. out_parts c.own.result.bits c.bitor.result.bits a c.bitor.result.fits h (rw c.without-pieces.ensures at set) in
     let apart : (a : ℕ) → a < 81 → has_bit c.without-pieces.result.bits a ≡ true → has_bit c.squares_touched-touched.result.bits a ≡ false = λ a h set. off_left c.squares_touched-touched.result.bits c.in_ok-held.held.bits a (rw c.bitor.ensures at (out a h set).1) in
     let loose : (a : ℕ) → a < 81 → has_bit c.without-pieces.result.bits a ≡ true → has_bit c.in_ok-held.held.bits a ≡ false = λ a h set. off_right c.squares_touched-touched.result.bits c.in_ok-held.held.bits a (rw c.bitor.ensures at (out a h set).1) in

@@ -14,9 +14,9 @@ returns-in-Some-clause-among c = λ n set. merged_among c.args.ends.bits c.args.
 
 pub returns-in-Some-clause-idle : goal.returns-in-Some-clause-idle
 returns-in-Some-clause-idle c = λ to h set on.
-    let is : piece_at c.args.self.now.ground c.args.from ≡ Some c.in-Some.piece = sym c.at.ensures ∙ c.in-Some.is in
+    let is : piece_at c.args.self.now.standing c.args.from ≡ Some c.in-Some.piece = sym c.at.ensures ∙ c.in-Some.is in
     subst (λ (cell : Option Piece). IsIdle (lifted (place_in c.args.self.now) c.args.from) c.args.self.now.node.eval c.args.self.now.gains c.args.self.now.king c.args.self.now.squares.bits cell to) (sym is)
-    (idle_alike c.args.self.now c.lifted.result c.args.from (Some c.in-Some.piece) to c.lifted.ensures.ground c.lifted.ensures.unchanged
+    (idle_alike c.args.self.now c.lifted.result c.args.from (Some c.in-Some.piece) to c.lifted.ensures.standing c.lifted.ensures.unchanged
     (c.idle_squares-idle.ensures.idle to h (merged_idle c.args.ends.bits c.args.targets.bits c.idle_squares-idle.result.bits to c.args.targets.fits h (rw (c.bitor.ensures, c.without.ensures) at set) on)))
 
 pub returns-in-None-clause-among : goal.returns-in-None-clause-among
