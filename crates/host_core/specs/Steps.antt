@@ -3,12 +3,13 @@ use Rattle.std.specs.Prelude.{◌≡◌, ℕ, ◌+◌, [], false, Option, Some, 
 use Rattle.session_slots.specs.declared.id.SessionId.{SessionId}
 use Rattle.session_slots.specs.Slots.{OpenSessions, find, with_session, count, Opens, OthersKept, IsFull}
 use Rattle.shared_table.specs.Recent.{Table, new_table}
-use Rattle.shared_table.specs.Uses.{IsUsed}
+use Rattle.shared_table.specs.Uses.{IsUsed, answers_of}
 use Rattle.usi_texts.specs.Setup.{default_setup}
 use Rattle.usi_texts.specs.declared.setup.Setup.{Setup}
-use Rattle.usi_session.specs.Due.{SessionView, EndsSearches, new_session_under}
+use Rattle.usi_session.specs.Due.{SessionView, EndsSearches, is_pending, new_session_under}
+use Rattle.usi_session.specs.Known.{IsAllKnown}
 use Rattle.host_core.specs.declared.event.HostFault.TheVariants.{Full, OutOfMemory, UnknownSession}
-use Rattle.host_core.specs.Events.{Event, Open, Feed, Work, Take, Close, Outcome, Opened, Done, Refused}
+use Rattle.host_core.specs.Events.{Event, Open, Feed, Work, Take, Close, Outcome, Opened, Done, Worked, Gave, Refused}
 use Rattle.host_core.specs.ById.{pending_of}
 use Rattle.host_core.specs.Sessions.{Feeds, Works, Takes}
 
@@ -79,19 +80,32 @@ abbrev pub IsClosed : HostState → SessionId → Option SessionView → Outcome
 IsClosed old id None outcome new = Unknown old outcome new
 IsClosed old id (Some session) outcome new = Closed old id outcome new
 
--- the table keeps its capacity, and is what it was where nothing of the session is pending; it was told of each search of the session that ended
-pub record KeepsTable (old : HostState) (id : SessionId) (new : HostState) : Type 0 where
+-- no step was made and nothing is pending, unless memory ran out
+abbrev pub NeedsNoStep : Outcome → SessionView → Type 0
+NeedsNoStep (Worked steps) after = (steps ≡ 0) × (is_pending after ≡ false)
+NeedsNoStep (Opened id) after = Unit {0}
+NeedsNoStep Done after = Unit {0}
+NeedsNoStep (Gave bytes) after = Unit {0}
+NeedsNoStep (Refused fault) after = Unit {0}
+
+-- the table keeps its capacity, and is what it was where nothing of the session is pending; it was told of each search of the session that ended; and where it had the value of each root of them, with one line, no step was made
+pub record KeepsTable (old : HostState) (id : SessionId) (outcome : Outcome) (new : HostState)
+    : Type 0 where
   pub capacity_is : new.table.capacity ≡ old.table.capacity
   pub idle : pending_of (find old.slots id) ≡ false → new.table ≡ old.table
   pub told :
       (before after : SessionView)
       → find old.slots id ≡ Some before → find new.slots id ≡ Some after
       → EndsSearches IsUsed old.table new.table before after
+  pub known :
+      (before after : SessionView)
+      → find old.slots id ≡ Some before → find new.slots id ≡ Some after
+      → IsAllKnown (answers_of old.table) before → NeedsNoStep outcome after
 
 -- the session of the id continues
 abbrev pub IsWorked : ℕ → HostState → SessionId → Outcome → HostState → Type 0
 IsWorked budget old id outcome new =
-    OnSession (Works budget) old id (find old.slots id) outcome new × KeepsTable old id new
+    OnSession (Works budget) old id (find old.slots id) outcome new × KeepsTable old id outcome new
 
 -- each event with its outcome, and the host after it; only a `Work` of a session that is pending may change the table, and none changes the setup
 abbrev pub Stepped : HostState → Event → Outcome → HostState → Type 0

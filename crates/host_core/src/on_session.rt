@@ -2,6 +2,7 @@
 
 ghost use Rattle.std.specs.Prelude.{◌≡◌, false, take, IsErrOf};
 ghost use Rattle.usi_session.specs.Due.{is_pending, EndsSearches};
+ghost use Rattle.usi_session.specs.Known.{TakesNoStep};
 ghost use Rattle.host_core.specs.Events.{Gave, Worked};
 ghost use Rattle.host_core.specs.Seen.{as_outcome, done_of, passed_of};
 ghost use Rattle.host_core.specs.Sessions.{Feeds, Works, Takes};
@@ -35,6 +36,7 @@ pub fn work<A: Allocator + Copy, M: Memo>(
     ensures works { Works budget session.old (as_outcome Worked result) session.new }
     ensures idle { is_pending session.old ≡ false → memo.new ≡ memo.old }
     ensures told { EndsSearches M.called memo.old memo.new session.old session.new }
+    ensures known { TakesNoStep M.answers M.called memo.old result session.old session.new }
     ensures capacity { M.capacity memo.new ≡ M.capacity memo.old }
 {
     if !session.pending() {

@@ -9,7 +9,9 @@ use Rattle.shared_table.specs.KeyLaws.{key_equivalence, key_same}
 use Rattle.shared_table.specs.Keys.{Key, is_same_key, key_of}
 use Rattle.shogi_search.specs.Calls.{AreCalled, Call, Note, Probe}
 use Rattle.shared_table.specs.Recent.{Pair, Table, entry_of, probed, without}
-use Rattle.shared_table.specs.Uses.{IsUsed, IsFresh, IsOfOthers}
+use Rattle.shared_table.specs.Uses.{IsUsed, IsFresh, IsOfOthers, answers_of}
+use Rattle.shogi_core.specs.Position.{Shogi}
+use Rattle.shogi_eval.specs.declared.eval.Eval.{Eval}
 
 both_bools : {b : Bool} → b ≡ true → b ≡ false → ⊥
 both_bools e f = let bad : true ≡ false = sym e ∙ f in cc
@@ -197,3 +199,37 @@ remembers old fresh new key entry calls others is_fresh called all room =
     let first = stands_fresh old fresh key entry others room is_fresh in
     answered key entry others new.pairs
     (stands_after key entry others fresh calls new (rw first.1 room) all called first.0)
+
+-- what is taken out under one key is answered under no other
+lookup_without : (key other : Key) (pairs : List Pair) → is_same_key other key ≡ false
+    → entry_of (without key pairs) other ≡ entry_of pairs other
+lookup_without key other [] n = refl
+lookup_without key other (pair ∷ pairs) n =
+    go (is_same_key key pair.0) refl (is_same_key other pair.0) refl (lookup_without key other pairs n)
+  where
+    go : (s : Bool) → is_same_key key pair.0 ≡ s → (t : Bool) → is_same_key other pair.0 ≡ t
+        → entry_of (without key pairs) other ≡ entry_of pairs other
+        → entry_of (cond s pairs (pair ∷ without key pairs)) other ≡ cond t (Some pair.1) (entry_of pairs other)
+    go true e true f rest =
+        absurd (both_bools ((key_same other key).1 ((key_same other pair.0).0 f ∙ sym ((key_same key pair.0).0 e))) n)
+    go true e false f rest = refl
+    go false e true f rest = rw f refl
+    go false e false f rest = rw f rest
+
+probe_keeps : (key other : Key) (pairs : List Pair) → entry_of (probed key pairs) other ≡ entry_of pairs other
+probe_keeps key other pairs = go (entry_of pairs key) refl (is_same_key other key) refl
+  where
+    go : (o : Option Entry) → entry_of pairs key ≡ o → (t : Bool) → is_same_key other key ≡ t
+        → entry_of (probed key pairs) other ≡ entry_of pairs other
+    go None e t f = rw e refl
+    go (Some found) e true f =
+        rw (e, f) (sym (ap (λ (k : Key). entry_of pairs k) ((key_same other key).0 f) ∙ e))
+    go (Some found) e false f = rw (e, f) (lookup_without key other pairs f)
+
+-- a question changes no answer
+pub question_keeps : (old new : Table) (p : Shogi) (e : Eval) (d : ℕ) (answer : Option Entry)
+    → IsUsed old (Probe p e d answer) new
+    → (q : Shogi) (f : Eval) (n : ℕ) → answers_of new q f n ≡ answers_of old q f n
+question_keeps old new p e d answer used q f n =
+    ap (λ (t : Table). entry_of t.pairs (key_of q f n)) used.1
+    ∙ probe_keeps (key_of p e d) (key_of q f n) old.pairs

@@ -1,10 +1,16 @@
 -- What a call leaves of a table, and what it still answers after further ones (own choice).
-use Rattle.std.specs.Prelude.{◌≡◌, ◌≢◌, ◌<◌, ◌⊎◌, ◌∷◌, List, [], Some, Contains, length}
+use Rattle.std.specs.Prelude.{◌≡◌, ◌≢◌, ◌<◌, ◌⊎◌, ◌∷◌, ℕ, List, [], Option, Some, Contains, length}
 use Rattle.std.specs.List.{AllByRecursion}
+use Rattle.shogi_core.specs.Position.{Shogi}
+use Rattle.shogi_eval.specs.declared.eval.Eval.{Eval}
 use Rattle.shared_table.specs.Keys.{Key, key_of}
 use Rattle.shared_table.specs.Recent.{IsNoted, Table, entry_of, with_note, with_probe}
 use Rattle.minimax.specs.declared.entry.Entry.{Entry}
 use Rattle.shogi_search.specs.Calls.{Call, Probe, Note, AreCalled}
+
+-- what a table answers
+abbrev pub answers_of : Table → Shogi → Eval → ℕ → Option Entry
+answers_of table p e d = entry_of table.pairs (key_of p e d)
 
 -- the table before and after a call: it answers with the entry under the key, which is used, or the entry is noted under it
 abbrev pub IsUsed : Table → Call → Table → Type 0

@@ -9,3 +9,4 @@ pub mod Steps
 pub mod Settled
 pub mod RootLaws
 pub mod TellsLaws
+pub mod KnownLaws

@@ -11,14 +11,13 @@ use Rattle.usi_session.specs.declared.state.State.{State}
 use Rattle.usi_session.specs.WholeStream.{replies_from, state_from, answer_to, answer_unless}
 use Rattle.usi_session.specs.GoTaskView.{GoTaskView, IsSameButForSearch, rest_of_go, rest_of_go_if, with_rest, load_after_search, load_of, load_of_if, infos_left, infos_after, bestmove_to, is_last, reports_of, reports_of_if, roots_of, roots_of_if, is_searching, most_reports}
 use Rattle.usi_session.specs.Costs.{costs_from, cost_to}
-use Rattle.usi_session.specs.Roots.{roots_to, roots_from}
-use Rattle.usi_session.specs.Due.{SessionView, IsMidSearch, KeepsDue, QueuesAnswer, QueuesEnd, QueuesLine, owed, owed_after, load_ahead, roots_ahead, is_pending, has_line, roots_left, turns}
+use Rattle.usi_session.specs.Roots.{Root, roots_to, roots_from}
+use Rattle.usi_session.specs.Due.{SessionView, IsMidSearch, KeepsDue, KeepsRoots, QueuesAnswer, QueuesEnd, QueuesLine, owed, owed_after, load_ahead, roots_ahead, roots_unless_over, is_pending, has_line, roots_left, turns}
 use Rattle.usi_session.proofs.Settled.{replies_from-over}
 use Rattle.usi_session.proofs.RootLaws.{roots_of-last}
 use Rattle.usi_session.proofs.WholeReplies.{grows_by_none, grows_then}
 use Rattle.shogi_search.specs.Calls.{Call}
-use Rattle.usi_session.specs.Told.{TellsEnded}
-use Rattle.usi_session.proofs.TellsLaws.{ended_ahead}
+use Rattle.usi_session.specs.Told.{TellsEnded, TellsEndedFor}
 
 -- a session that is not over answers the line
 replies_from-alive : (s : State) (line : Line) (rest : List Line) → s.is_over ≡ false → replies_from s (line ∷ rest) ≡ (answer_to s line).bytes ++ replies_from (answer_to s line).state rest
@@ -87,7 +86,7 @@ rest-state : (s : State) (go : GoTaskView) → (rest_of_go s go).state ≡ (writ
 rest-state s go = write_or_hold-state s (infos_left go) (last_bestmove go) go.go_request.hold
 
 -- a `go` that has reported a line more leads to the same state
-rest_reported-state : (s : State) (go more : GoTaskView) → more.go_request ≡ go.go_request → (rest_of_go s more).state ≡ (rest_of_go s go).state
+pub rest_reported-state : (s : State) (go more : GoTaskView) → more.go_request ≡ go.go_request → (rest_of_go s more).state ≡ (rest_of_go s go).state
 rest_reported-state s go more q =
     rest-state s more ∙ (ap (λ (go_request : GoRequest). (write_or_hold s [] (bestmove_to go_request go_request.depth) go_request.hold).state) q ∙ sym (rest-state s go))
 
@@ -148,6 +147,36 @@ unfolding roots_from
 roots_from-alive s line rest alive =
     ap (λ (over : Bool). cond over [] (roots_to s line) ++ roots_from (answer_unless over s line).state rest) alive
 
+-- and one that is over for none
+roots_from-over : (s : State) (lines : List Line) → s.is_over ≡ true → roots_from s lines ≡ []
+unfolding roots_from
+roots_from-over s [] over = refl
+roots_from-over s (line ∷ rest) over =
+    ap (λ (b : Bool). cond b [] (roots_to s line) ++ roots_from (answer_unless b s line).state rest) over
+    ∙ roots_from-over s rest over
+
+-- nothing is searched in a session that is over
+roots_either : (over : Bool) (s : State) (go_task : Option GoTaskView) (ahead : List Line) → s.is_over ≡ over → (over ≡ true → go_task ≡ None) → cond over [] (roots_ahead s go_task ahead) ≡ roots_ahead s go_task ahead
+roots_either false s go_task ahead e h = refl
+roots_either true s go_task ahead e h = rw (h refl) (sym (roots_from-over s ahead e))
+
+roots_where_idle : (s : State) (go_task : Option GoTaskView) (ahead : List Line) → (s.is_over ≡ true → go_task ≡ None) → roots_unless_over s go_task ahead ≡ roots_ahead s go_task ahead
+roots_where_idle s go_task ahead h = roots_either s.is_over s go_task ahead refl h
+
+pub roots-alive : (s : State) (go_task : Option GoTaskView) (ahead : List Line) → s.is_over ≡ false → roots_unless_over s go_task ahead ≡ roots_ahead s go_task ahead
+roots-alive s go_task ahead alive = ap (λ (over : Bool). cond over [] (roots_ahead s go_task ahead)) alive
+
+nothing_searched : (over : Bool) (s : State) (go_task : Option GoTaskView) (xs : List Line) → (not over && (is_some go_task || has_line xs)) ≡ false → cond over [] (roots_ahead s go_task xs) ≡ []
+unfolding roots_from
+nothing_searched true s go_task xs e = refl
+nothing_searched false s None [] e = refl
+nothing_searched false s None (line ∷ rest) e = absurd (cc)
+nothing_searched false s (Some go) xs e = absurd (cc)
+
+-- where nothing is pending no search is left
+pub no_roots : (s : SessionView) → is_pending s ≡ false → roots_left s ≡ []
+no_roots s settled = nothing_searched s.state.is_over s.state s.go_task (ahead s.input []) settled
+
 -- the `go` of a line searches what the line did
 pub roots_on : (s next : State) (idle go_task : Option GoTaskView) (line : Line) (all rest : List Line) → s.is_over ≡ false → idle ≡ None → all ≡ line ∷ rest → (rest_of_go_if next go_task).state ≡ (answer_to s line).state → roots_of_if go_task ≡ roots_to s line → roots_ahead next go_task rest ≡ roots_ahead s idle all
 roots_on s next idle go_task line all rest alive i e h same =
@@ -155,9 +184,9 @@ roots_on s next idle go_task line all rest alive i e h same =
     rw i (rw same (ap (λ (t : State). roots_to s line ++ roots_from t rest) h ∙ sym whole))
 
 -- so does a `go` that has reported a line more, with the lines ahead
-pub roots_reported : (s : State) (go more : GoTaskView) (go_task : Option GoTaskView) (ahead : List Line) → go_task ≡ Some go → more.go_request ≡ go.go_request → roots_of more ≡ roots_of go → roots_ahead s (Some more) ahead ≡ roots_ahead s go_task ahead
+pub roots_reported : (s : State) (go more : GoTaskView) (go_task : Option GoTaskView) (ahead : List Line) → go_task ≡ Some go → more.go_request ≡ go.go_request → roots_of more ≡ roots_of go → roots_unless_over s (Some more) ahead ≡ roots_unless_over s go_task ahead
 roots_reported s go more go_task ahead i q same =
-    rw i (rw same (ap (λ (t : State). roots_of go ++ roots_from t ahead) (rest_reported-state s go more q)))
+    rw i (ap (λ (roots : List Root). cond s.is_over [] roots) (rw same (ap (λ (t : State). roots_of go ++ roots_from t ahead) (rest_reported-state s go more q))))
 
 less_load : (new old budget : ℕ) (result : Option ℕ) → IfNone result (budget + new ≤ old) → IfSome result (λ made. made + new ≤ old) → new ≤ old
 less_load new old budget None spent made = let h : budget + new ≤ old = spent in omega arith
@@ -177,9 +206,10 @@ keeps_then a b c g h = record {
 }
 
 -- and one that ends has none left
-pub roots_ended : (s next : State) (queued more : List ℕ) (go : GoTaskView) (go_task : Option GoTaskView) (ahead : List Line) → go_task ≡ Some go → is_last go ≡ true → is_searching go ≡ false → QueuesEnd go s next queued more → roots_ahead next None ahead ≡ roots_ahead s go_task ahead
-roots_ended s next queued more go go_task ahead i last whole h =
-    rw i (rw (roots_of-last go whole last) (ap (λ (t : State). roots_from t ahead) h.state_is))
+pub roots_ended : (s next : State) (queued more : List ℕ) (go : GoTaskView) (go_task : Option GoTaskView) (ahead : List Line) → s.is_over ≡ false → go_task ≡ Some go → is_last go ≡ true → is_searching go ≡ false → QueuesEnd go s next queued more → roots_unless_over next None ahead ≡ roots_unless_over s go_task ahead
+roots_ended s next queued more go go_task ahead alive i last whole h =
+    let same : roots_ahead next None ahead ≡ roots_ahead s (Some go) ahead = rw (roots_of-last go whole last) (ap (λ (t : State). roots_from t ahead) h.state_is) in
+    rw i (roots_where_idle next None ahead (λ _. refl) ∙ (same ∙ sym (roots-alive s (Some go) ahead alive)))
 
 -- a search went on
 pub keeps_searched : (s : State) (queued : List ℕ) (input : Buffer) (go next : GoTaskView) (go_task : Option GoTaskView) (budget : ℕ) (result : Option ℕ) → go_task ≡ Some go → IsSameButForSearch go next
@@ -238,9 +268,12 @@ keeps_answered s next queued more input rest idle go_task line pending i first h
 
 pub roots_answered : (s next : State) (queued more : List ℕ) (input rest : Buffer) (idle go_task : Option GoTaskView) (line : Line) → is_pending (record { state = s; go_task = idle; queued = queued; input = input }) ≡ true → idle ≡ None
     → ((x : List ℕ) → ahead input x ≡ line ∷ ahead rest x) → QueuesAnswer s line next queued more go_task
-    → roots_left (record { state = next; go_task = go_task; queued = more; input = rest }) ≡ roots_left (record { state = s; go_task = idle; queued = queued; input = input })
+    → KeepsRoots (record { state = s; go_task = idle; queued = queued; input = input }) (record { state = next; go_task = go_task; queued = more; input = rest })
 roots_answered s next queued more input rest idle go_task line pending i first h =
-    roots_on s next idle go_task line (ahead input []) (ahead rest []) (pending_alive (record { state = s; go_task = idle; queued = queued; input = input }) pending) i (first []) h.begun.state_is h.begun.roots_are
+    let alive : s.is_over ≡ false = pending_alive (record { state = s; go_task = idle; queued = queued; input = input }) pending in
+    λ x. roots_where_idle next go_task (ahead rest x) h.idle
+    ∙ (roots_on s next idle go_task line (ahead input x) (ahead rest x) alive i (first x) h.begun.state_is h.begun.roots_are
+    ∙ sym (roots-alive s idle (ahead input x) alive))
 
 -- and a turn less may be taken
 pub fewer_answered : (s next : State) (queued more : List ℕ) (input rest : Buffer) (idle go_task : Option GoTaskView) (line : Line) → is_pending (record { state = s; go_task = idle; queued = queued; input = input }) ≡ true → idle ≡ None
@@ -282,10 +315,20 @@ fewer_searched (Some n) s queued input go next go_task i e fewer =
     fewer (costs_searched s go next (ahead input []) e) (ap (λ (g : GoTaskView). reports_of_if (Some g)) e))
 
 -- the searches that it ended are the first of the session
-pub told_searched : {M : Type 0} (called : M → Call → M → Type 0) (old new : M) (s : State) (go next : GoTaskView) (go_task : Option GoTaskView) (ahead : List Line) → go_task ≡ Some go → IsSameButForSearch go next
-    → TellsEnded called old new (roots_of go) (roots_of next) → TellsEnded called old new (roots_ahead s go_task ahead) (roots_ahead s (Some next) ahead)
-told_searched called old new s go next go_task ahead i e told =
-    rw i (ended_ahead called old new (roots_of go) (roots_of next) (roots_from (rest_of_go s go).state ahead) (roots_from (rest_of_go s next).state ahead) (ap (λ (g : GoTaskView). roots_from (rest_of_go s g).state ahead) e) told)
+pub told_searched : {M : Type 0} (called : M → Call → M → Type 0) (old new : M) (s : State) (go next : GoTaskView) (go_task : Option GoTaskView) (ahead : List ℕ → List Line) → s.is_over ≡ false → go_task ≡ Some go → IsSameButForSearch go next
+    → TellsEnded called old new (roots_of go) (roots_of next) → TellsEndedFor called old new (λ x. roots_unless_over s go_task (ahead x)) (λ x. roots_unless_over s (Some next) (ahead x))
+told_searched called old new s go next go_task ahead alive i e told =
+    let same : (x : List ℕ) → roots_from (rest_of_go s next).state (ahead x) ≡ roots_from (rest_of_go s go).state (ahead x) =
+    λ x. ap (λ (g : GoTaskView). roots_from (rest_of_go s g).state (ahead x)) e in
+    rw i (record {
+      ended = told.ended;
+      left = λ x. roots-alive s (Some go) (ahead x) alive
+      ∙ (ap (λ (roots : List Root). roots ++ roots_from (rest_of_go s go).state (ahead x)) told.left
+      ∙ (append_assoc told.ended (roots_of next) (roots_from (rest_of_go s go).state (ahead x))
+      ∙ (ap (λ (rest : List Root). told.ended ++ (roots_of next ++ rest)) (sym (same x))
+      ∙ ap (λ (roots : List Root). told.ended ++ roots) (sym (roots-alive s (Some next) (ahead x) alive)))));
+      told = told.told;
+    })
 
 -- what holds where nothing is returned holds together
 pub both_none : (A B : Type 0) (result : Option ℕ) → IfNone result A → IfNone result B → IfNone result (A × B)

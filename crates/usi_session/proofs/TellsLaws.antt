@@ -19,7 +19,7 @@ use Rattle.usi_session.specs.declared.go_request.GoRequest.{GoRequest}
 use Rattle.usi_session.specs.Roots.{Root, pv_roots, root_of}
 use Rattle.usi_session.specs.GoTaskView.{deeper_roots, lines_roots, roots_of}
 use Rattle.usi_session.specs.Walked.{IsUnder, Walked, roots_after, running_go_of, walk_roots}
-use Rattle.usi_session.specs.Told.{AreTold, IsCalled, TellsEnded, TellsValue, entry_of_root}
+use Rattle.usi_session.specs.Told.{AreTold, IsCalled, TellsEnded, TellsEndedFor, TellsValue, entry_of_root}
 use Rattle.usi_session.proofs.RootLaws.{walked_roots}
 
 -- no call
@@ -55,7 +55,7 @@ told_later called a b c [] first rest = is_called_then called a b c first rest
 told_later called a b c (root ∷ roots) first rest =
     (rest.0, (tells_later called a b rest.0 root first rest.1.0, rest.1.1))
 
-told_and_told : {M : Type 0} (called : M → Call → M → Type 0) (a b c : M) (xs ys : List Root)
+pub told_and_told : {M : Type 0} (called : M → Call → M → Type 0) (a b c : M) (xs ys : List Root)
     → AreTold called a xs b → AreTold called b ys c → AreTold called a (xs ++ ys) c
 unfolding AreTold
 told_and_told called a b c [] ys first second = told_later called a b c ys first second
@@ -68,6 +68,11 @@ pub none_ended : {M : Type 0} (called : M → Call → M → Type 0) (a b : M) (
 unfolding AreTold
 none_ended called a b old new calls e = record { ended = []; left = sym e; told = calls }
 
+pub none_ended_for : {M : Type 0} (called : M → Call → M → Type 0) (a b : M) (old new : List ℕ → List Root)
+    → IsCalled called a b → ((x : List ℕ) → new x ≡ old x) → TellsEndedFor called a b old new
+unfolding AreTold
+none_ended_for called a b old new calls e = record { ended = []; left = λ x. sym (e x); told = calls }
+
 -- the first search ended
 pub one_ended : {M : Type 0} (called : M → Call → M → Type 0) (a b : M) (root : Root) (old new : List Root)
     → TellsValue called a b root → old ≡ root ∷ new → TellsEnded called a b old new
@@ -76,21 +81,12 @@ one_ended called a b root old new told e =
     record { ended = root ∷ []; left = e; told = (b, (told, none_called called b)) }
 
 -- searches ended, and then further ones
-pub ended_then : {M : Type 0} (called : M → Call → M → Type 0) (a b c : M) (x y z : List Root)
-    → TellsEnded called a b x y → TellsEnded called b c y z → TellsEnded called a c x z
-ended_then called a b c x y z first second = record {
+pub ended_then_for : {M : Type 0} (called : M → Call → M → Type 0) (a b c : M) (x y z : List ℕ → List Root)
+    → TellsEndedFor called a b x y → TellsEndedFor called b c y z → TellsEndedFor called a c x z
+ended_then_for called a b c x y z first second = record {
   ended = first.ended ++ second.ended;
-  left = first.left ∙ (ap (λ rest. first.ended ++ rest) second.left ∙ sym (append_assoc first.ended second.ended z));
+  left = λ k. first.left k ∙ (ap (λ rest. first.ended ++ rest) (second.left k) ∙ sym (append_assoc first.ended second.ended (z k)));
   told = told_and_told called a b c first.ended second.ended first.told second.told;
-}
-
--- searches ended before others, which are left
-pub ended_ahead : {M : Type 0} (called : M → Call → M → Type 0) (a b : M) (x y z w : List Root)
-    → w ≡ z → TellsEnded called a b x y → TellsEnded called a b (x ++ z) (y ++ w)
-ended_ahead called a b x y z w e h = record {
-  ended = h.ended;
-  left = ap (λ roots. roots ++ z) h.left ∙ (append_assoc h.ended y z ∙ ap (λ rest. h.ended ++ (y ++ rest)) (sym e));
-  told = h.told;
 }
 
 -- an entry that says what was found below the end of the whole window is the value with the best move
@@ -107,7 +103,7 @@ whole_entry root (AtLeast v) f says enough is_value is_best below =
 whole_entry root (AtMost v) f says enough is_value is_best below = absurd says
 
 -- a search that has something left has not ended
-not_ended : (found result : Option Found) (old new : Progress) → ForSome found (λ f. (result ≡ Some f) × (new ≡ old))
+pub not_ended : (found result : Option Found) (old new : Progress) → ForSome found (λ f. (result ≡ Some f) × (new ≡ old))
     → new.left ≡ 0 → 0 < old.left → found ≡ None
 not_ended None result old new again over left = refl
 not_ended (Some f) result old new again over left =

@@ -10,7 +10,7 @@ use Rattle.usi_session.specs.GoTaskView.{GoTaskView, IsBegun, WritesLine, rest_o
 use Rattle.usi_session.specs.WholeStream.{answer_to, replies_from, state_from}
 use Rattle.usi_session.specs.Costs.{cost_to, costs_from}
 use Rattle.usi_session.specs.Roots.{Root, roots_from, roots_to}
-use Rattle.usi_session.specs.Told.{TellsEnded}
+use Rattle.usi_session.specs.Told.{TellsEndedFor}
 use Rattle.usi_session.specs.WholeLines.{AreWholeLines, GrowsByLines}
 use Rattle.usi_session.specs.declared.limits.TheConstants.{QUEUE_FULL}
 
@@ -59,15 +59,28 @@ abbrev pub roots_ahead : State → Option GoTaskView → List Line → List Root
 roots_ahead state go_task ahead =
     roots_of_if go_task ++ roots_from (rest_of_go_if state go_task).state ahead
 
--- the searches along pvs that a session has still to end
-abbrev pub roots_left : SessionView → List Root
-roots_left session = roots_ahead session.state session.go_task (ahead session.input [])
+-- none, where the session is over
+abbrev pub roots_unless_over : State → Option GoTaskView → List Line → List Root
+roots_unless_over state go_task ahead = cond state.is_over [] (roots_ahead state go_task ahead)
 
--- of the searches that a session has still to end, a memory was told the first, and the others are left to a later state of it
+-- the searches along pvs that are still to end once these further bytes were fed
+abbrev pub roots_due : SessionView → List ℕ → List Root
+roots_due session further =
+    roots_unless_over session.state session.go_task (ahead session.input further)
+
+-- those that a session has still to end
+abbrev pub roots_left : SessionView → List Root
+roots_left session = roots_due session []
+
+-- the searches that are still to end stay, whatever further bytes are fed
+abbrev pub KeepsRoots : SessionView → SessionView → Type 0
+KeepsRoots old new = (further : List ℕ) → roots_due new further ≡ roots_due old further
+
+-- of the searches that a session has still to end, whatever further bytes are fed, a memory was told the first, and the others are left to a later state of it
 abbrev pub EndsSearches : {M : Type 0} → (M → Call → M → Type 0) → M → M → SessionView → SessionView
     → Type 0
 EndsSearches called old new before after =
-    TellsEnded called old new (roots_left before) (roots_left after)
+    TellsEndedFor called old new (roots_due before) (roots_due after)
 
 -- what is owed stays, with the state after it; no more steps may be made than before, and the queue
 -- has only grown, by whole lines

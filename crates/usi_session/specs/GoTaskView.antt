@@ -1,5 +1,5 @@
 -- A running `go`: what it still owes, and the steps that it may still make (own choice).
-use Rattle.std.specs.Prelude.{◌≡◌, ◌≤◌, ℕ, zero, suc, ◌+◌, ◌-◌, ◌*◌, ◌==◌, List, [], ◌++◌, length, drop, Bool, true, false, OnSome, ◌||◌, ◌&&◌, cond, nat_lt, Option, Some, None, is_some, Result, IfOk, Vec}
+use Rattle.std.specs.Prelude.{◌≡◌, ◌≤◌, ℕ, zero, suc, ◌+◌, ◌-◌, ◌*◌, ◌==◌, List, [], ◌++◌, length, drop, Bool, true, false, OnSome, ◌||◌, ◌&&◌, cond, nat_lt, Option, Some, None, is_some, Result, IfOk, IfSome, Vec}
 use Rattle.shogi_core.specs.declared.moves.Move.{Move}
 use Rattle.shogi_core.specs.Position.{Shogi}
 use Rattle.shogi_moves.specs.LegalMoves.{legal_above}
@@ -22,7 +22,7 @@ use Rattle.usi_session.specs.WholeStream.{answer_to}
 
 -- what was asked; how many depths are done, so that the current depth is the next one, and a move of it has as many plies after it; how many lines of the current depth are done;
 -- with several lines the root move after which the position is searched for what the move is worth, and none where a pv is walked;
--- where one is walked, the position that its moves so far lead to, and the plies that are left of it; and the steps that are left of the current search
+-- where one is walked, the position that its moves so far lead to, and the plies that are left of it; whether the current search has begun; and the steps that are left of it
 pub record GoTaskView : Type 0 where
   pub go_request : GoRequest
   pub depths_done : ℕ
@@ -30,6 +30,7 @@ pub record GoTaskView : Type 0 where
   pub root_move : Option Move
   pub walk_position : Shogi
   pub walk_plies : ℕ
+  pub is_begun : Bool
   pub steps_left : ℕ
 
 -- the moves that are listed at the current depth
@@ -110,6 +111,7 @@ IsSameButForSearch old new =
       root_move = new.root_move;
       walk_position = new.walk_position;
       walk_plies = new.walk_plies;
+      is_begun = new.is_begun;
       steps_left = new.steps_left;
     }
 
@@ -244,6 +246,11 @@ reports_of_if (Some go) = reports_of go + 1
 abbrev pub most_reports : ℕ
 most_reports = MULTI_PV_MAX * DEPTH_MAX + 1
 
+-- a `go` that has just started has as many lines as the options say, and no search of it has begun
+abbrev pub IsNewGo : State → GoTaskView → Type 0
+IsNewGo state go =
+    (go.go_request.multi_pv ≡ state.options.multi_pv) × (go.is_begun ≡ false)
+
 -- the answer was given, or its `go` was started: what was written and what that `go` still says
 -- are the answer, and the `go` makes at most so many steps, in these searches
 pub record IsBegun (answer : Answer) (cost : ℕ) (roots : List Root) (before after : List ℕ)
@@ -254,6 +261,7 @@ pub record IsBegun (answer : Answer) (cost : ℕ) (roots : List Root) (before af
   pub roots_are : roots_of_if go_task ≡ roots
   pub reports : reports_of_if go_task ≤ most_reports
   pub quiet : OnSome go_task (after ≡ before)
+  pub new_go : IfSome go_task (IsNewGo state)
 
 -- where it succeeds, a `go` was started or answered at once
 abbrev pub BeginsGo : {A E : Type 0} → State → ℕ → Hold → Vec ℕ A → Vec ℕ A → State

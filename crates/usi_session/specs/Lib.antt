@@ -8,5 +8,6 @@ pub mod GoTaskView
 pub mod Walked
 pub mod GoTask
 pub mod Due
+pub mod Known
 pub mod WholeLines
 pub mod Numbers

@@ -1,5 +1,5 @@
 -- What a memory was told by searches that ended (own choice).
-use Rattle.std.specs.Prelude.{◌≡◌, ◌⊎◌, List, [], ◌∷◌, ◌++◌, Some}
+use Rattle.std.specs.Prelude.{◌≡◌, ◌⊎◌, ℕ, List, [], ◌∷◌, ◌++◌, Some}
 use Rattle.minimax.specs.Minimax.{value, best}
 use Rattle.minimax.specs.declared.entry.Entry.{Entry}
 use Rattle.minimax.specs.declared.entry.Entry.TheVariants.{Exact}
@@ -28,6 +28,13 @@ unfoldable pub AreTold : {M : Type 0} → (M → Call → M → Type 0) → M �
 AreTold called old [] new = IsCalled called old new
 AreTold {M} called old (root ∷ rest) new =
     (mid : M) × (TellsValue called old mid root × AreTold called mid rest new)
+
+-- of these searches, whatever further bytes are fed, the first have ended, and these are left
+pub record TellsEndedFor {M : Type 0} (called : M → Call → M → Type 0) (old new : M)
+    (before after : List ℕ → List Root) : Type 0 where
+  pub ended : List Root
+  pub left : (further : List ℕ) → before further ≡ ended ++ after further
+  pub told : AreTold called old ended new
 
 -- of these searches the first have ended, and these are left
 pub record TellsEnded {M : Type 0} (called : M → Call → M → Type 0) (old new : M)

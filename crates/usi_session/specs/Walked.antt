@@ -118,6 +118,7 @@ running_go_of go_request depths_done lines_done root_move walk search = record {
   root_move = root_move;
   walk_position = walk.at;
   walk_plies = walk.plies;
+  is_begun = search.started;
   steps_left = search.left;
 }
 

@@ -3,11 +3,12 @@
 ghost use Rattle.std.specs.Prelude.{◌≡◌, ◌≢◌, ◌≤◌, ◌<◌, ◌+◌, IfOk, IfSome, IfNone, OnSome, OnOk, length, true, false, is_some, ◌==◌, ◌&&◌};
 ghost use Rattle.std.specs.Option.{ForSome};
 ghost use Rattle.minimax.specs.Minimax.{value, best};
-ghost use Rattle.shogi_search.specs.Progress.{FindsBest, FindsValue, IsFoundBy, KeepsQuestion};
-ghost use Rattle.shogi_search.specs.SearchCalls.{TellsFound};
+ghost use Rattle.shogi_search.specs.Progress.{EndsWhereKnown, FindsBest, FindsValue, IsFoundBy, KeepsQuestion};
+ghost use Rattle.shogi_search.specs.SearchCalls.{AsksRootFirst, TellsFound};
 ghost use Rattle.usi_session.specs.Answer.{bestmove_of};
 ghost use Rattle.usi_session.specs.GoInfos.{move_to_play, move_to_ponder};
 ghost use Rattle.usi_session.specs.GoTaskView.{listed_at, infos_left, infos_after, deeper_infos, is_last, is_last_of_depth, is_searching, bestmove_to, cost_of_depths, load_of, reports_of, deeper_roots, first_roots, roots_of, EndsSearchesOfGo, HasDone, HasDoneLine, IsSameButForSearch, WritesLine};
+ghost use Rattle.usi_session.specs.Known.{AreKnown, IsBetweenSearches, PassesSearch};
 ghost use Rattle.usi_session.specs.Told.{IsCalled};
 ghost use Rattle.usi_session.specs.Walked.{IsQuestionInRange, IsFirst, IsRankedTo, IsRankedUpTo, IsRanked, BeginsLine, IsSearchedAlong, IsFoundOfChild, IsAtFirstLine, first_root_move, first_search, is_settled, child_search, cost_after, walk_cost, walk_roots, roots_after, LeavesLoad, LeavesRoots};
 ghost use Rattle.usi_session.specs.WholeLines.{GrowsByLines};
@@ -151,6 +152,7 @@ fn line_of(go_request: &GoRequest, depths_done: u8, ranks: &Ranks, lines_done: u
 fn search_pv(walk: &PvWalk, search: &mut Search)
     ensures under { IsSearchedAlong walk.now search.new }
     ensures cost { search.new.left + cost_after walk.now ≤ search.old.left + walk_cost walk.now }
+    ensures fresh { 0 < walk.now.plies → search.new.started ≡ false }
 {
     let plies = walk.plies();
     if plies > 0 {
@@ -176,6 +178,11 @@ fn continue_search<M: Memo>(
     ensures unfinished { IfNone result (0 < search.new.left) }
     ensures again { ForSome search.old.found (λ f. (result ≡ Some f) × (search.new ≡ search.old)) }
     ensures told { leaf ≡ false → TellsFound M.called memo.old memo.new search.old result }
+    ensures asked { leaf ≡ false
+        → AsksRootFirst M.called (M.answers memo.old) memo.old memo.new search.old }
+    ensures known { leaf ≡ false
+        → EndsWhereKnown (M.answers memo.old) result search.old search.new }
+    ensures counted { IfSome result (λ f. f.steps ≡ search.new.steps) }
     ensures calls { IsCalled M.called memo.old memo.new }
     ensures capacity { M.capacity memo.new ≡ M.capacity memo.old }
 {
@@ -195,6 +202,7 @@ fn advance_pv(walk: &mut PvWalk, search: &mut Search, found: &Found)
     ensures under { IsSearchedAlong walk.new search.new }
     ensures cost { search.new.left + cost_after walk.new ≤ cost_after walk.old }
     ensures roots { walk_roots walk.new ≡ roots_after walk.old }
+    ensures fresh { 0 < walk.new.plies → search.new.started ≡ false }
 {
     walk.follow(found);
     search_pv(walk, search);
@@ -292,6 +300,7 @@ impl<A: Allocator> GoTask<A> {
         ensures load { IfOk result (λ go.
             load_of go ≤ cost_of_depths go_request 0 go_request.depth) }
         ensures roots { IfOk result (λ go. roots_of go ≡ first_roots go_request) }
+        ensures fresh { IfOk result (λ go. go.is_begun ≡ false) }
     {
         let asked = go_request;
         first.reveal_invariant();
@@ -332,6 +341,9 @@ impl<A: Allocator> GoTask<A> {
         ensures made { IfSome result (λ made. made + load_of self.new ≤ load_of self.old) }
         ensures fewer { OnSome result (load_of self.new < load_of self.old) }
         ensures told { EndsSearchesOfGo M.called memo.old memo.new self.old self.new }
+        ensures known { IsBetweenSearches self.old
+            → AreKnown (M.answers memo.old) (roots_of self.old)
+            → PassesSearch M.called memo.old memo.new result self.new }
         ensures capacity { M.capacity memo.new ≡ M.capacity memo.old }
     {
         let before = self.search.steps();
@@ -425,6 +437,7 @@ impl<A: Allocator> GoTask<A> {
         requires whole { is_searching self.old ≡ false }
         requires more { is_last_of_depth self.old ≡ false }
         ensures done { HasDoneLine self.old self.new }
+        ensures fresh { is_searching self.new ≡ true → self.new.is_begun ≡ false }
         ensures roots { roots_of self.new ≡ roots_of self.old }
         ensures load { load_of self.new ≤ load_of self.old }
         ensures fewer { reports_of self.new < reports_of self.old }
@@ -443,6 +456,7 @@ impl<A: Allocator> GoTask<A> {
         requires whole { is_searching self.old ≡ false }
         requires more { self.old.depths_done + 1 ≢ self.old.go_request.depth }
         ensures done { HasDone self.old.go_request (self.old.depths_done + 1) 0 self.new }
+        ensures fresh { self.new.is_begun ≡ false }
         ensures rest { infos_left self.new ≡ deeper_infos self.old.go_request self.old.depths_done }
         ensures roots { roots_of self.new
             ≡ deeper_roots self.old.go_request self.old.depths_done }
@@ -474,6 +488,7 @@ impl<A: Allocator> GoTask<A> {
         requires whole { is_searching self.old ≡ false }
         requires more { is_last self.old ≡ false }
         ensures go_request { self.new.go_request ≡ self.old.go_request }
+        ensures fresh { is_searching self.new ≡ true → self.new.is_begun ≡ false }
         ensures rest { infos_left self.new ≡ infos_after self.old }
         ensures roots { roots_of self.new ≡ roots_of self.old }
         ensures load { load_of self.new ≤ load_of self.old }

@@ -1,7 +1,8 @@
 //! One USI session.
 
 ghost use Rattle.std.specs.Prelude.{◌≡◌, ◌≤◌, ◌++◌, ℕ, List, true, false, OnOk, OnErr, IfOk, OnSome, IfSome, IfNone, None, length, take, drop, ◌<◌, ◌+◌};
-ghost use Rattle.usi_session.specs.Due.{due, state_due, load, roots_left, turns, is_pending, wants_input, new_session, new_session_under, EndsSearches, HasSpent, IsMidSearch, IsPvWhole, IsSameAfter, KeepsDue, QueuesAnswer, QueuesEnd, QueuesLine};
+ghost use Rattle.usi_session.specs.Due.{due, state_due, load, roots_due, turns, is_pending, wants_input, new_session, new_session_under, EndsSearches, HasSpent, IsMidSearch, IsPvWhole, IsSameAfter, KeepsDue, KeepsRoots, QueuesAnswer, QueuesEnd, QueuesLine};
+ghost use Rattle.usi_session.specs.Known.{StaysKnown, TakesNoStep, TurnsKnown};
 ghost use Rattle.usi_session.specs.GoTaskView.{is_last, is_searching};
 ghost use Rattle.usi_session.specs.WholeStream.{replies, replies_under, state_from};
 ghost use Rattle.usi_session.specs.Answer.{initial_state, initial_state_under};
@@ -163,6 +164,7 @@ impl<A: Allocator + Copy> Session<A> {
         requires most { length chunk.now ≤ CHUNK_MAX }
         ensures due { OnOk result (IsSameAfter due chunk.now self.old self.new) }
         ensures after { OnOk result (IsSameAfter state_due chunk.now self.old self.new) }
+        ensures roots { OnOk result (IsSameAfter roots_due chunk.now self.old self.new) }
         ensures queued { self.new.queued ≡ self.old.queued }
         ensures state { self.new.state ≡ self.old.state }
         ensures go_task { self.new.go_task ≡ self.old.go_task }
@@ -179,7 +181,8 @@ impl<A: Allocator + Copy> Session<A> {
         requires idle { self.old.go_task ≡ None }
         requires pending { is_pending self.old ≡ true }
         ensures kept { KeepsDue self.old self.new }
-        ensures roots { roots_left self.new ≡ roots_left self.old }
+        ensures roots { KeepsRoots self.old self.new }
+        ensures known { OnOk result (StaysKnown self.old self.new) }
         ensures fewer { OnOk result (turns self.new < turns self.old) }
         ensures err { OnErr result (self.new ≡ self.old) }
     {
@@ -198,7 +201,8 @@ impl<A: Allocator + Copy> Session<A> {
         requires whole { IsPvWhole self.old.go_task }
         requires pending { is_pending self.old ≡ true }
         ensures kept { KeepsDue self.old self.new }
-        ensures roots { roots_left self.new ≡ roots_left self.old }
+        ensures roots { KeepsRoots self.old self.new }
+        ensures known { OnOk result (StaysKnown self.old self.new) }
         ensures fewer { OnOk result (turns self.new < turns self.old) }
         ensures err { OnErr result (self.new ≡ self.old) }
     {
@@ -227,6 +231,8 @@ impl<A: Allocator + Copy> Session<A> {
         ensures made { IfOk result (λ made. IfSome made (λ n. n + load self.new ≤ load self.old)) }
         ensures fewer { IfOk result (λ made. OnSome made (turns self.new < turns self.old)) }
         ensures told { EndsSearches M.called memo.old memo.new self.old self.new }
+        ensures known { TurnsKnown M.answers M.called memo.old memo.new
+            result self.old self.new }
         ensures capacity { M.capacity memo.new ≡ M.capacity memo.old }
         ensures err { OnErr result (self.new ≡ self.old) }
     {
@@ -248,7 +254,8 @@ impl<A: Allocator + Copy> Session<A> {
     /// Answers the pending lines in order, with at most so many steps of search, and returns the
     /// number of steps made. Where something is still pending the budget is used up, and a search
     /// is running. On `OutOfMemory` what is owed stays as it was, and a later call continues; the
-    /// memo may have changed. Either way the queue has only grown, by whole lines.
+    /// memo may have changed. Either way the queue has only grown, by whole lines. Where the memo knows
+    /// the value of each root along the pvs that are left, with one line, no step is made.
     pub fn work<M: Memo>(&mut self, memo: &mut M, budget: u64) -> Result<u64, SessionFault>
         ensures due { (x : List ℕ) → due self.new x ≡ due self.old x }
         ensures after { (x : List ℕ) → state_due self.new x ≡ state_due self.old x }
@@ -258,6 +265,7 @@ impl<A: Allocator + Copy> Session<A> {
         ensures enough { load self.old ≤ budget → OnOk result (is_pending self.new ≡ false) }
         ensures grown { GrowsByLines self.old.queued self.new.queued }
         ensures told { EndsSearches M.called memo.old memo.new self.old self.new }
+        ensures known { TakesNoStep M.answers M.called memo.old result self.old self.new }
         ensures capacity { M.capacity memo.new ≡ M.capacity memo.old }
         ensures err { OnErr result (load self.new ≤ load self.old) }
     {

@@ -23,7 +23,7 @@ use Rattle.usi_session.proofs.answer.answer.Goals as goal
 
 -- a command that starts no `go` is answered at once
 at_once : (answer : Answer) (before after : List ℕ) (state : State) → after ≡ before ++ answer.bytes → state ≡ answer.state → IsBegun answer 0 [] before after state None
-at_once answer before after state bytes is = record { bytes = bytes; state_is = is; load = omega arith; roots_are = refl; reports = omega arith; quiet = tt }
+at_once answer before after state bytes is = record { bytes = bytes; state_is = is; load = omega arith; roots_are = refl; reports = omega arith; quiet = tt; new_go = tt }
 
 position_keeps : (s : State) (outcome : Result Shogi Refusal) → (answer_position s outcome).state.options ≡ s.options
 position_keeps s (Ok position) = refl

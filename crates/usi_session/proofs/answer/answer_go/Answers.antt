@@ -21,6 +21,7 @@ returns-clause-begun g c =
       roots_are = c.in_ok-go_task.ensures.roots ∙ roots_begun c.args.state.now.position c.args.state.now.options.eval c.args.state.now.options.multi_pv c.args.depth (code_of c.in-Some.first) (legal_above c.args.state.now.position (Some c.in-Some.first)) (search rules);
       reports = omega (arith, ap (λ (q : GoRequest). q.depth) c.in_ok-go_task.ensures.done.question_is);
       quiet = refl;
+      new_go = (ap (λ (q : GoRequest). q.multi_pv) c.in_ok-go_task.ensures.done.question_is, c.in_ok-go_task.ensures.fresh);
     }
 
 -- no move is legal, and the pv is empty
@@ -34,4 +35,5 @@ returns-in_default-clause-begun g c =
       roots_are = roots_none c.args.state.now.position c.args.state.now.options.eval c.args.state.now.options.multi_pv c.args.depth none;
       reports = omega arith;
       quiet = tt;
+      new_go = tt;
     }

@@ -20,3 +20,13 @@ pub returns-else-plies-gt0-clause-cost : goal.returns-else-plies-gt0-clause-cost
 returns-else-plies-gt0-clause-cost c =
     let w = c.args.walk.now in
     cost_over w.at w.eval w.plies _ _ (omega (arith, c.plies-plies.ensures.plies, c.if-plies-gt0.false)) refl
+
+pub returns-then-plies-gt0-clause-fresh : goal.returns-then-plies-gt0-clause-fresh
+returns-then-plies-gt0-clause-fresh c =
+    let w = c.args.walk.now in
+    let s : c.restart.new.self ≡ untouched w.at w.eval w.plies = search rules in
+    λ _. ap (λ (p : Progress). p.started) s
+
+pub returns-else-plies-gt0-clause-fresh : goal.returns-else-plies-gt0-clause-fresh
+returns-else-plies-gt0-clause-fresh c =
+    λ h. absurd (omega (arith, h, c.plies-plies.ensures.plies, c.if-plies-gt0.false))

@@ -1,13 +1,16 @@
 use Rattle.std.proofs.Common.{◌≡◌, ◌∙◌, Some, refl, sym, ap}
 use Rattle.session_slots.specs.Slots.{OpenSessions, find, with_session}
 use Rattle.session_slots.proofs.Finds.{find-with_session-other}
-use Rattle.usi_session.specs.Due.{SessionView}
+use Rattle.shared_table.specs.Uses.{IsUsed, answers_of}
+use Rattle.usi_session.specs.Due.{EndsSearches, SessionView}
+use Rattle.usi_session.specs.Known.{IsAllKnown}
+use Rattle.host_core.specs.Steps.{NeedsNoStep}
 use Rattle.host_core.specs.ById.{pending_of}
 use Rattle.host_core.specs.Events.{Worked}
 use Rattle.host_core.specs.Seen.{as_outcome}
 use Rattle.host_core.specs.Sessions.{Works}
 use Rattle.host_core.proofs.Found.{on_found}
-use Rattle.host_core.proofs.Shares.{told_written}
+use Rattle.host_core.proofs.Shares.{no_step, of_written}
 use Rattle.host_core.proofs.Still.{still_written}
 use Rattle.host_core.proofs.host.Host.work.Goals as goal
 
@@ -26,7 +29,9 @@ returns-clause-worked g c =
       record {
         capacity_is = c.work-worked.ensures.capacity;
         idle = λ h. c.work-worked.ensures.idle (sym (ap pending_of is) ∙ h);
-        told = told_written slots (with_session slots c.args.id c.work-worked.new.session) c.args.id c.in-Some.session.now c.work-worked.new.session c.self.inside.table c.work-worked.new.memo is refl c.work-worked.ensures.told;
+        told = of_written (EndsSearches IsUsed c.self.inside.table c.work-worked.new.memo) slots (with_session slots c.args.id c.work-worked.new.session) c.args.id c.in-Some.session.now c.work-worked.new.session is refl c.work-worked.ensures.told;
+        known = of_written (λ before after. IsAllKnown (answers_of c.self.inside.table) before → NeedsNoStep (as_outcome Worked c.work-worked.result) after) slots (with_session slots c.args.id c.work-worked.new.session) c.args.id c.in-Some.session.now c.work-worked.new.session is refl
+        (no_step c.work-worked.result c.self.inside.table c.in-Some.session.now c.work-worked.new.session c.work-worked.ensures.known);
       },
     )
 

@@ -12,7 +12,10 @@ use Rattle.usi_session.specs.declared.go_request.GoRequest.{GoRequest}
 use Rattle.usi_session.specs.declared.state.HeldBestmove.{HeldBestmove}
 use Rattle.usi_session.specs.GoTaskView.{GoTaskView, deeper_cost, is_searching, lines_cost, load_after_root_move, load_after_search, load_of}
 use Rattle.usi_session.specs.Walked.{Walked, IsUnder, IsAtDepth, IsRanking, IsSearchedAlong, IsWalking, LeavesLoad, cost_after, running_go_of}
-use Rattle.usi_session.proofs.TellsLaws.{none_ended, told_value, walked_told}
+use Rattle.usi_session.proofs.TellsLaws.{none_ended, not_ended, told_value, walked_told}
+use Rattle.usi_session.proofs.KnownLaws.{answered_here, asked_here, no_result, no_steps}
+use Rattle.usi_session.specs.Known.{AreKnown, IsBetweenSearches}
+use Rattle.shogi_search.specs.Progress.{IsExactlyAnsweredBy}
 use Rattle.usi_session.proofs.RootLaws.{ranking_roots, same_roots, searching_plies}
 use Rattle.usi_session.proofs.go_task.GoTask.advance.Goals as goal
 
@@ -280,3 +283,60 @@ returns-clause-fewer g c =
     let ranking : IsRanking s.go_request s.depths_done s.lines_done c.in-Some.m s.ranks s.search.value = rw c.in-Some.is at c.self.invariant.at_depth in
     rw (← c.self.view_is) (fewer_of s.search.value.left _ _ ranking.searched.left
     (ranked_load s.go_request s.depths_done s.lines_done s.root_move c.rank_child-self-inside.result c.in-Some.m s.ranks s.walk c.rank_child-self-inside.new.walk s.search.value c.rank_child-self-inside.new.search c.in-Some.is ranking.none_done c.rank_child-self-inside.ensures.cost))
+
+-- with one line no root move is searched
+one_line_walks : (q : GoRequest) (depths_done lines_done : ℕ) (root_move : Option Move) (ranks : Ranking) (walk : Walked) (kept : HeldBestmove) (search : Progress)
+    → q.multi_pv ≡ 1 → IsAtDepth q depths_done lines_done root_move ranks walk kept search → root_move ≡ None
+one_line_walks q depths_done lines_done None ranks walk kept search one h = refl
+one_line_walks q depths_done lines_done (Some m) ranks walk kept search one h = absurd (h.several one)
+
+not_leaf : (depths_done : ℕ) (root_move : Option Move) → root_move ≡ None → (depths_done == 0 && is_some root_move) ≡ false
+not_leaf depths_done root_move none = ap (λ (m : Option Move). depths_done == 0 && is_some m) none ∙ and_false (depths_done == 0)
+
+some_zero : (n : ℕ) → n ≡ 0 → ◌≡◌ {A = Option ℕ} (Some n) (Some 0)
+some_zero n e = ap (λ (k : ℕ). Some k) e
+
+-- a search that is answered ends at once
+pub returns-in_err-found-clause-known : goal.returns-in_err-found-clause-known
+returns-in_err-found-clause-known g c =
+    let s = c.self.inside in
+    rw (← c.self.view_is) (λ (between : IsBetweenSearches (running_go_of s.go_request s.depths_done s.lines_done s.root_move s.walk s.search.value)) known.
+    let none : s.root_move ≡ None = one_line_walks s.go_request s.depths_done s.lines_done s.root_move s.ranks s.walk s.bestmove s.search.value between.0 c.self.invariant.at_depth in
+    let no : c.is_leaf-leaf.result ≡ false = c.is_leaf-leaf.ensures ∙ (ap (λ (go : GoTaskView). go.depths_done == 0 && is_some go.root_move) (sym c.self.view_is) ∙ not_leaf s.depths_done s.root_move none) in
+    let searching : is_searching (running_go_of s.go_request s.depths_done s.lines_done s.root_move s.walk s.search.value) ≡ true = ap is_searching c.self.view_is ∙ c.requires.searching in
+    let walking : IsWalking s.go_request s.depths_done s.lines_done s.ranks s.walk s.bestmove s.search.value = rw none at c.self.invariant.at_depth in
+    let some : 0 < s.walk.plies = searching_plies s.root_move s.walk.plies searching none in
+    let u : c.deref_mut.result.now ≡ s.search.value = c.deref_mut.ensures.value in
+    let answered : IsExactlyAnsweredBy (g.M.Memo.answers c.args.memo.now) s.search.value = answered_here (g.M.Memo.answers c.args.memo.now) s.go_request s.depths_done s.lines_done s.root_move s.walk s.search.value INFINITY none walking.line.eval_is some (walking.searched some) known in
+    let here : IsExactlyAnsweredBy (g.M.Memo.answers c.args.memo.now) c.deref_mut.result.now = rw u answered in
+    let fresh : c.deref_mut.result.now.started ≡ false = ap (λ (x : Progress). x.started) u ∙ between.1 searching in
+    absurd (no_result None refl (c.in_err-found.ensures.known no fresh here).0))
+
+pub returns-in_default-clause-known : goal.returns-in_default-clause-known
+returns-in_default-clause-known g c =
+    let s = c.self.inside in
+    rw (← c.self.view_is) (λ (between : IsBetweenSearches (running_go_of s.go_request s.depths_done s.lines_done s.root_move s.walk s.search.value)) known.
+    let none : s.root_move ≡ None = c.in_default.is in
+    let no : c.is_leaf-leaf.result ≡ false = c.is_leaf-leaf.ensures ∙ (ap (λ (go : GoTaskView). go.depths_done == 0 && is_some go.root_move) (sym c.self.view_is) ∙ not_leaf s.depths_done s.root_move none) in
+    let searching : is_searching (running_go_of s.go_request s.depths_done s.lines_done s.root_move s.walk s.search.value) ≡ true = ap is_searching c.self.view_is ∙ c.requires.searching in
+    let walking : IsWalking s.go_request s.depths_done s.lines_done s.ranks s.walk s.bestmove s.search.value = rw none at c.self.invariant.at_depth in
+    let some : 0 < s.walk.plies = searching_plies s.root_move s.walk.plies searching none in
+    let u : c.deref_mut.result.now ≡ s.search.value = c.deref_mut.ensures.value in
+    let under : IsUnder c.deref_mut.result.now s.walk.at s.walk.eval s.walk.plies INFINITY = rw u (walking.searched some) in
+    let answered : IsExactlyAnsweredBy (g.M.Memo.answers c.args.memo.now) s.search.value = answered_here (g.M.Memo.answers c.args.memo.now) s.go_request s.depths_done s.lines_done s.root_move s.walk s.search.value INFINITY none walking.line.eval_is some (walking.searched some) known in
+    let here : IsExactlyAnsweredBy (g.M.Memo.answers c.args.memo.now) c.deref_mut.result.now = rw u answered in
+    let fresh : c.deref_mut.result.now.started ≡ false = ap (λ (x : Progress). x.started) u ∙ between.1 searching in
+    let unfound : c.deref_mut.result.now.found ≡ None = not_ended c.deref_mut.result.now.found (Some c.in_ok-found.found) c.deref_mut.result.now c.continue_search.new.search c.in_ok-found.ensures.again c.in_ok-found.ensures.over under.left in
+    let before : c.steps-before.result ≡ c.deref_mut.result.now.steps = c.steps-before.ensures ∙ ap (λ (x : Progress). x.steps) (c.deref.ensures ∙ sym u) in
+    record {
+      made = some_zero c.saturating_sub-made.result (no_steps c.saturating_sub-made.result c.in_ok-found.found.steps c.steps-before.result c.continue_search.new.search.steps c.deref_mut.result.now.steps c.saturating_sub-made.ensures c.in_ok-found.ensures.counted (c.in_ok-found.ensures.known no fresh here).1 before);
+      asked = asked_here g.M.Memo.called (g.M.Memo.answers c.args.memo.now) c.args.memo.now c.continue_search.new.memo c.deref_mut.result.now (c.in_ok-found.ensures.asked no fresh unfound) here;
+      between = (between.0, λ searches. c.advance_pv.ensures.fresh (searching_plies s.root_move c.advance_pv.new.walk.plies searches none));
+    })
+
+pub returns-clause-known : goal.returns-clause-known
+returns-clause-known g c =
+    let s = c.self.inside in
+    rw (← c.self.view_is) (λ (between : IsBetweenSearches (running_go_of s.go_request s.depths_done s.lines_done s.root_move s.walk s.search.value)) known.
+    let ranking : IsRanking s.go_request s.depths_done s.lines_done c.in-Some.m s.ranks s.search.value = rw c.in-Some.is at c.self.invariant.at_depth in
+    absurd (ranking.several between.0))

@@ -15,3 +15,6 @@ returns-then-ends_depth-clause-rest g c =
 pub returns-then-ends_depth-clause-roots : goal.returns-then-ends_depth-clause-roots
 returns-then-ends_depth-clause-roots g c =
     c.next_depth.ensures.roots ∙ sym (ended_roots c.args.self.now c.requires.whole (sym c.ends_depth.ensures ∙ c.if-ends_depth.true))
+
+pub returns-then-ends_depth-clause-fresh : goal.returns-then-ends_depth-clause-fresh
+returns-then-ends_depth-clause-fresh g c = λ _. c.next_depth.ensures.fresh

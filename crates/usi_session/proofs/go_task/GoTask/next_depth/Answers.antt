@@ -4,7 +4,9 @@ use Rattle.usi_session.specs.GoTaskView.{GoTaskView, is_searching}
 use Rattle.usi_session.proofs.Listed.{line_below}
 use Rattle.usi_session.proofs.Reports.{reported_depth}
 use Rattle.usi_session.proofs.NextSearch.{begun, next_depth_cost, whole_line}
+use Rattle.usi_session.proofs.KnownLaws.{first_fresh}
 use Rattle.usi_session.proofs.RootLaws.{begun_roots}
+use Rattle.shogi_search.specs.Progress.{Progress}
 use Rattle.usi_session.proofs.go_task.GoTask.next_depth.Goals as goal
 
 pub shift_best-self-inside-requires : goal.shift_best-self-inside-requires
@@ -54,3 +56,8 @@ returns-clause-roots g c =
     let t : s.depths_done ≡ c.args.self.now.depths_done = ap (λ (x : GoTaskView). x.depths_done) c.self.view_is in
     let d : s.go_request.depth ≡ c.args.self.now.go_request.depth = ap (λ (x : GoTaskView). x.go_request.depth) c.self.view_is in
     rw (c.first_root_move-root_move.ensures, c.new-walk.ensures, ← c.self.view_is) (begun_roots s.go_request s.first (s.depths_done + 1) c.start_depth.new.search (omega (arith, t, d, c.self.invariant.left, c.requires.more)) c.self.invariant.first_is)
+
+pub returns-clause-fresh : goal.returns-clause-fresh
+returns-clause-fresh g c =
+    let s = c.self.inside in
+    ap (λ (x : Progress). x.started) c.start_depth.ensures ∙ first_fresh s.go_request s.first (s.depths_done + 1)

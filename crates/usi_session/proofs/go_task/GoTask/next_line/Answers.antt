@@ -4,7 +4,7 @@ use Rattle.usi_session.specs.Roots.{Root}
 use Rattle.usi_session.specs.GoTaskView.{GoTaskView, is_searching, is_last_of_depth, listed_at, lines_roots, deeper_roots, roots_of}
 use Rattle.usi_session.proofs.Listed.{line_below, line_within, one_listed, first_some}
 use Rattle.usi_session.proofs.NextSearch.{whole_line}
-use Rattle.usi_session.proofs.RootLaws.{whole_roots}
+use Rattle.usi_session.proofs.RootLaws.{searching_plies, whole_roots}
 use Rattle.usi_session.proofs.go_task.GoTask.next_line.Goals as goal
 
 pub line_of-walk-requires-clause-ranked : goal.line_of-walk-requires-clause-ranked
@@ -53,3 +53,9 @@ returns-clause-roots g c =
     let old : roots_of c.args.self.now ≡ lines_roots s.go_request s.depths_done (s.lines_done + 1) ++ deeper_roots s.go_request s.depths_done =
     whole_roots c.args.self.now c.requires.whole ∙ sym (ap (λ (x : GoTaskView). lines_roots x.go_request x.depths_done (x.lines_done + 1) ++ deeper_roots x.go_request x.depths_done) c.self.view_is) in
     rw w.none (ap (λ (roots : List Root). roots ++ deeper_roots s.go_request s.depths_done) c.line_of-walk.ensures.roots ∙ sym old)
+
+pub returns-clause-fresh : goal.returns-clause-fresh
+returns-clause-fresh g c =
+    let s = c.self.inside in
+    let w = whole_line _ _ _ _ _ _ _ _ c.self.invariant.at_depth (ap is_searching c.self.view_is ∙ c.requires.whole) in
+    λ searching. c.search_pv.ensures.fresh (searching_plies s.root_move c.line_of-walk.result.plies searching w.none)

@@ -4,7 +4,9 @@ use Rattle.shogi_search.specs.Ranked.{Ranking, child_beta}
 use Rattle.usi_session.specs.GoTaskView.{cost_of_depths}
 use Rattle.usi_session.specs.Walked.{first_search}
 use Rattle.usi_session.proofs.NextSearch.{begun, begun_cost}
+use Rattle.usi_session.proofs.KnownLaws.{first_fresh}
 use Rattle.usi_session.proofs.RootLaws.{begun_roots}
+use Rattle.shogi_search.specs.Progress.{Progress}
 use Rattle.usi_session.proofs.go_task.GoTask.start.Goals as goal
 
 pub invariant_of-result : goal.invariant_of-result
@@ -34,3 +36,9 @@ returns-clause-roots g c =
     let h = c.requires.go_request.depth_fits.least in
     let n : q.depth - 0 ≡ q.depth = omega arith in
     rw (c.first_root_move-root_move.ensures, c.new-walk.ensures) (begun_roots q c.args.first 0 c.in_ok-search.search.value (omega arith) c.requires.first ∙ ap (roots_of_depths q.position q.eval q.multi_pv 0) n)
+
+pub returns-clause-fresh : goal.returns-clause-fresh
+returns-clause-fresh g c =
+    let q = c.args.go_request in
+    let s : c.in_ok-search.search.value ≡ first_search q c.args.first 0 = search rules in
+    ap (λ (x : Progress). x.started) s ∙ first_fresh q c.args.first 0

@@ -1,17 +1,31 @@
-use Rattle.std.proofs.Common.{◌≤◌, ◌+◌, ◌∙◌, [], refl, sym, rules}
+use Rattle.std.proofs.Common.{◌≡◌, ◌≤◌, ◌+◌, ◌-◌, ◌∙◌, ℕ, [], Option, Some, None, refl, sym, arith, rules}
 use Rattle.usi_lines.specs.Lines.{ahead}
 use Rattle.usi_session.specs.Due.{IsMidSearch, load}
 use Rattle.usi_session.proofs.Steps.{keeps_same, keeps_then, made_all, made_on, made_so_far, mid_load, not_enough}
 use Rattle.usi_session.proofs.WholeReplies.{grows_then}
-use Rattle.usi_session.proofs.TellsLaws.{ended_then, none_called, none_ended}
+use Rattle.usi_session.proofs.TellsLaws.{ended_then_for, none_called, none_ended_for}
 use Rattle.usi_session.proofs.session.Session.work.Goals as goal
+
+-- where all is known no step was made
+some_of : (n m : ℕ) → Some n ≡ Some m → n ≡ m
+some_of n m e = cc
+
+still_all : (budget left n : ℕ) (made : Option ℕ) → left ≡ budget → made ≡ Some n → made ≡ Some 0 → left - n ≡ budget
+still_all budget left n made e is none = let zero : n ≡ 0 = some_of n 0 (sym is ∙ none) in omega arith
+
+none_or_some : (made : Option ℕ) → made ≡ None → made ≡ Some 0 → ⊥
+none_or_some made e f = let bad : ◌≡◌ {A = Option ℕ} None (Some 0) = sym e ∙ f in cc
+
+none_made : (budget left : ℕ) → left ≡ budget → budget - left ≡ 0
+none_made budget left e = omega arith
 
 pub turns-init : goal.turns-init
 turns-init g c = record {
   kept = keeps_same _ _ refl;
   within = search rules;
   made = search rules;
-  told = none_ended _ _ _ _ _ (none_called _ _) refl;
+  told = none_ended_for _ _ _ _ _ (none_called _ _) (λ x. refl);
+  known = λ keeps known. (refl, known);
   capacity = search rules;
 }
 
@@ -30,8 +44,9 @@ turns-preserved g c =
       kept = keeps_then _ _ _ c.turns.invariant.kept c.work_once.ensures.kept;
       within = search rules;
       made = made_on c.args.budget c.turns.left (load c.args.self.now) (load c.turns.self) c.in-Some.made (load c.work_once.new.self) c.turns.invariant.made most made;
-      told = ended_then _ _ _ _ _ _ _ c.turns.invariant.told c.work_once.ensures.told;
+      told = ended_then_for _ _ _ _ _ _ _ c.turns.invariant.told c.work_once.ensures.told;
       capacity = search rules;
+      known = λ keeps known. let so_far = c.turns.invariant.known keeps known in let turn = c.in_ok-made.ensures.known keeps so_far.1 in (still_all c.args.budget c.turns.left c.in-Some.made _ so_far.0 c.in-Some.is turn.0, turn.1);
     }
 
 -- the budget was used up within a search
@@ -77,7 +92,15 @@ pub returns-in-None-clause-grown : goal.returns-in-None-clause-grown
 returns-in-None-clause-grown g c = grows_then c.turns.invariant.kept.grown c.work_once.ensures.kept.grown
 
 pub returns-in-None-clause-told : goal.returns-in-None-clause-told
-returns-in-None-clause-told g c = ended_then _ _ _ _ _ _ _ c.turns.invariant.told c.work_once.ensures.told
+returns-in-None-clause-told g c = ended_then_for _ _ _ _ _ _ _ c.turns.invariant.told c.work_once.ensures.told
 
 pub returns-in_err-made-clause-told : goal.returns-in_err-made-clause-told
-returns-in_err-made-clause-told g c = ended_then _ _ _ _ _ _ _ c.turns.invariant.told c.work_once.ensures.told
+returns-in_err-made-clause-told g c = ended_then_for _ _ _ _ _ _ _ c.turns.invariant.told c.work_once.ensures.told
+
+pub returns-in-None-clause-known : goal.returns-in-None-clause-known
+returns-in-None-clause-known g c = λ keeps known.
+    absurd (none_or_some _ c.in-None.is (c.in_ok-made.ensures.known keeps (c.turns.invariant.known keeps known).1).0)
+
+pub returns-clause-known : goal.returns-clause-known
+returns-clause-known g c = λ keeps known.
+    (none_made c.args.budget c.turns.left (c.turns.invariant.known keeps known).0, sym c.pending.ensures ∙ c.turns-test.false)

@@ -1,0 +1,84 @@
+-- Sessions that a memory has the answers for: no step is left to make (own choice).
+use Rattle.std.specs.Prelude.{◌≡◌, ℕ, List, [], ◌∷◌, true, false, IfOk, IfSome, Option, Some, Result}
+use Rattle.std.specs.List.{AllByRecursion}
+use Rattle.shogi_core.specs.Position.{Shogi}
+use Rattle.shogi_eval.specs.declared.eval.Eval.{Eval}
+use Rattle.minimax.specs.Entries.{IsExactly}
+use Rattle.minimax.specs.declared.entry.Entry.{Entry}
+use Rattle.shogi_search.specs.Calls.{Call, Probe}
+use Rattle.usi_lines.specs.Lines.{Line, ahead}
+use Rattle.usi_session.specs.declared.state.State.{State}
+use Rattle.usi_session.specs.Due.{SessionView, is_pending, roots_left}
+use Rattle.usi_session.specs.GoTaskView.{GoTaskView, is_searching, rest_of_go_if}
+use Rattle.usi_session.specs.Roots.{Root}
+use Rattle.usi_session.specs.WholeStream.{answer_line}
+
+-- a memory that gives these answers has the value of the root
+abbrev pub IsKnown : (Shogi → Eval → ℕ → Option Entry) → Root → Type 0
+IsKnown answers root = IsExactly (answers root.position root.eval root.depth)
+
+-- and of each of these
+abbrev pub AreKnown : (Shogi → Eval → ℕ → Option Entry) → List Root → Type 0
+AreKnown answers roots = AllByRecursion (IsKnown answers) roots
+
+-- a memory answers after a question what it answered before
+abbrev pub KeepsAnswers : {M : Type 0} → (M → Shogi → Eval → ℕ → Option Entry)
+    → (M → Call → M → Type 0) → Type 0
+KeepsAnswers {M} answers called =
+    (old new : M) (p : Shogi) (e : Eval) (d : ℕ) (answer : Option Entry)
+    → called old (Probe p e d answer) new
+    → (q : Shogi) (f : Eval) (n : ℕ) → answers new q f n ≡ answers old q f n
+
+-- the memory was asked one question, and nothing else
+pub record IsAsked {M : Type 0} (called : M → Call → M → Type 0) (old new : M) : Type 0 where
+  pub position : Shogi
+  pub eval : Eval
+  pub depth : ℕ
+  pub answer : Option Entry
+  pub question : called old (Probe position eval depth answer) new
+
+-- a `go` with one line, of which no search is under way: what it searches next has not begun
+abbrev pub IsBetweenSearches : GoTaskView → Type 0
+IsBetweenSearches go =
+    (go.go_request.multi_pv ≡ 1) × (is_searching go ≡ true → go.is_begun ≡ false)
+
+-- its next search took no step and asked one question
+pub record PassesSearch {M : Type 0} (called : M → Call → M → Type 0) (old new : M)
+    (result : Option ℕ) (after : GoTaskView) : Type 0 where
+  pub made : result ≡ Some 0
+  pub asked : IsAsked called old new
+  pub between : IsBetweenSearches after
+
+-- MultiPV is 1 before and after each of these lines
+unfoldable pub HasOneLine : State → List Line → Type 0
+HasOneLine state [] = state.options.multi_pv ≡ 1
+HasOneLine state (line ∷ rest) =
+    (state.options.multi_pv ≡ 1) × HasOneLine (answer_line state line).state rest
+
+-- all that a session has still to search is along pvs with one line, and a memory that gives these answers has the value of each root; no search is under way
+pub record IsAllKnown (answers : Shogi → Eval → ℕ → Option Entry) (session : SessionView)
+    : Type 0 where
+  pub roots : AreKnown answers (roots_left session)
+  pub between : IfSome session.go_task IsBetweenSearches
+  pub one_line :
+      HasOneLine (rest_of_go_if session.state session.go_task).state (ahead session.input [])
+
+-- what is known stays known, whatever gives the answers
+abbrev pub StaysKnown : SessionView → SessionView → Type 0
+StaysKnown before after =
+    (answers : Shogi → Eval → ℕ → Option Entry)
+    → IsAllKnown answers before → IsAllKnown answers after
+
+-- where all is known to a memory, a turn that succeeds makes no step and leaves all known
+abbrev pub TurnsKnown : {M E : Type 0} → (M → Shogi → Eval → ℕ → Option Entry)
+    → (M → Call → M → Type 0) → M → M → Result (Option ℕ) E → SessionView → SessionView → Type 0
+TurnsKnown answers called old new result before after =
+    KeepsAnswers answers called → IsAllKnown (answers old) before
+    → IfOk result (λ made. (made ≡ Some 0) × IsAllKnown (answers new) after)
+
+-- where all is known to a memory, no step is made and nothing is pending
+abbrev pub TakesNoStep : {M E : Type 0} → (M → Shogi → Eval → ℕ → Option Entry)
+    → (M → Call → M → Type 0) → M → Result ℕ E → SessionView → SessionView → Type 0
+TakesNoStep answers called memory result before after =
+    KeepsAnswers answers called → IsAllKnown (answers memory) before
+    → IfOk result (λ made. (made ≡ 0) × (is_pending after ≡ false))
