@@ -407,12 +407,18 @@ def is_at_rest(running, descriptors):
     wait_until(lambda: running.descriptors() == descriptors, "the last descriptor is closed")
 
 
+def at_first(running):
+    """How many descriptors it has after a first client, whose end comes a little before its descriptor is closed."""
+    descriptors = running.descriptors()
+    want(running.ask(b"isready\n"), b"readyok\n", "a first client")
+    wait_until(lambda: running.descriptors() <= descriptors, "its descriptor is closed")
+    return descriptors
+
+
 def hostile_clients_leave_nothing_behind():
     """The table is small, so that it is full after the first round."""
     with host("--entries", "256") as running:
-        want(running.ask(b"isready\n"), b"readyok\n", "a first client")
-        wait_until(lambda: running.descriptors() < 8, "the first client's descriptor is closed")
-        descriptors = running.descriptors()
+        descriptors = at_first(running)
         memory = 0
         for number in range(4):
             for hostile in HOSTILE:
@@ -428,9 +434,7 @@ def hostile_clients_leave_nothing_behind():
 
 def a_full_host_turns_away_who_comes_then():
     with many_files(2_200), host("--slots", "1024", preexec_fn=files(1_100)) as running:
-        want(running.ask(b"isready\n"), b"readyok\n", "a first client")
-        wait_until(lambda: running.descriptors() < 8, "its descriptor is closed")
-        descriptors = running.descriptors()
+        descriptors = at_first(running)
         for _ in range(2):
             clients = [running.connect() for _ in range(1_030)]
             for client in clients[1_024:]:
@@ -442,6 +446,72 @@ def a_full_host_turns_away_who_comes_then():
             for client in clients:
                 client.close()
             is_at_rest(running, descriptors)
+
+
+def to_its_end(client):
+    """What a client is sent until the end, which is no reset."""
+    seen = b""
+    while piece := client.recv(65_536):
+        seen += piece
+    return seen
+
+
+def who_is_turned_away_is_told():
+    """Whatever each has sent by then, it is sent its line and an end, and a write of it does not fail."""
+    with host("--slots", "1") as running, running.connect() as first:
+        first.sendall(b"isready\n")
+        want(exactly(first, 8), b"readyok\n", "the one with the slot")
+        descriptors = running.descriptors()
+        for sent in (b"", b"usi\n", b"usi\n" * 16_384):
+            running.running.send_signal(signal.SIGSTOP)
+            clients = [running.connect() for _ in range(100)]
+            for client in clients:
+                client.sendall(sent)
+            running.running.send_signal(signal.SIGCONT)
+            for client in clients:
+                want(to_its_end(client), HOST_FULL, f"one that has sent {len(sent)} bytes")
+                client.close()
+        late = [running.connect() for _ in range(40)]
+        time.sleep(0.2)
+        for client in late:
+            client.sendall(b"usi\n" * 1_000)
+        for client in late:
+            want(to_its_end(client), HOST_FULL, "one that sends after it was shut")
+            client.close()
+        wait_until(lambda: running.descriptors() == descriptors, "each descriptor is closed")
+
+
+def who_never_ends_holds_nothing():
+    """Whether it was turned away or has sent `quit`, it is let go after a while, and nothing spins meanwhile."""
+    with host("--slots", "1") as running, contextlib.ExitStack() as stack:
+        descriptors = at_first(running)
+        first = stack.enter_context(running.connect())
+        first.sendall(b"isready\n")
+        want(exactly(first, 8), b"readyok\n", "the one with the slot")
+        clients = [stack.enter_context(running.connect()) for _ in range(300)]
+        for client in clients:
+            want(exactly(client, len(HOST_FULL)), HOST_FULL, "one that is turned away")
+        first.sendall(b"quit\nusi\n")
+        want(to_its_end(first), b"", "one that has sent `quit`")
+        # 256 that linger, and one that is shut just now.
+        if running.descriptors() > descriptors + 257:
+            raise Wrong(f"it holds {running.descriptors()} descriptors")
+        does_not_spin(running, "streams that linger")
+        wait_until(lambda: running.descriptors() == descriptors, "each descriptor is closed")
+
+
+def who_lingers_gives_way():
+    """Those who were turned away and do not end keep no descriptor from who comes then."""
+    with host("--slots", "3", preexec_fn=files(16)) as running, contextlib.ExitStack() as stack:
+        held = [stack.enter_context(running.connect()) for _ in range(3)]
+        for client in held:
+            client.sendall(b"isready\n")
+            want(exactly(client, 8), b"readyok\n", "one with a slot")
+        for _ in range(40):
+            client = stack.enter_context(running.connect())
+            want(exactly(client, len(HOST_FULL)), HOST_FULL, "one that is turned away")
+        held[0].close()
+        wait_until(lambda: running.ask(b"isready\n") == b"readyok\n", "the slot is free")
 
 
 def too_many_open_files_are_waited_for():
@@ -560,9 +630,7 @@ def does_not_spin(running, what):
 def attacked(*words, **how):
     """A host that is at rest before and after."""
     with host(*words, **how) as running:
-        want(running.ask(b"isready\n"), b"readyok\n", "a first client")
-        wait_until(lambda: running.descriptors() < 8, "its descriptor is closed")
-        descriptors = running.descriptors()
+        descriptors = at_first(running)
         yield running
         is_at_rest(running, descriptors)
         does_not_spin(running, "at rest")
@@ -1127,6 +1195,9 @@ CHECKS = (
     lines_of_their_own,
     hostile_clients_leave_nothing_behind,
     a_full_host_turns_away_who_comes_then,
+    who_is_turned_away_is_told,
+    who_never_ends_holds_nothing,
+    who_lingers_gives_way,
     too_many_open_files_are_waited_for,
     lines_that_the_table_answers,
     long_lines_of_moves,

@@ -6,3 +6,4 @@ pub mod Reports
 pub mod Waking
 pub mod Asked
 pub mod Noting
+pub mod Leaving

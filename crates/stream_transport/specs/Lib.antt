@@ -3,3 +3,4 @@ pub mod Streams
 pub mod Held
 pub mod Asking
 pub mod Reporting
+pub mod Lingering

@@ -3,6 +3,7 @@
 
 mod connection;
 mod kept;
+mod lingering;
 mod listener;
 mod places;
 mod sockets;

@@ -1,11 +1,13 @@
 //! A wire over a Unix socket.
 
-ghost use Rattle.std.specs.Prelude.{◌≡◌, [], Err, IfOk, OnErr};
+ghost use Rattle.std.specs.Prelude.{◌≡◌, [], is_some, true, false, Err, IfOk, OnErr};
 ghost use Rattle.std.specs.Io.{ReadsAtMost, WritesAtMost};
 ghost use Rattle.std.specs.IoError.{error_kind};
+ghost use Rattle.stream_transport.specs.Lingering.{Leave};
 ghost use Rattle.stream_transport.specs.Streams.{answer_of, fault_by};
 ghost use Rattle.transport.specs.declared.wire.WireFault.TheVariants.{Device};
 
+use crate::lingering::{LINGERING_MAX, Lingering};
 use crate::listener::{ByteStream, Listener, ListenerCall, Ready, StreamCall, StreamFault};
 use crate::wire::StreamWire;
 use http_server::Log;
@@ -15,13 +17,16 @@ use std::alloc::Allocator;
 use std::fs::Files;
 use std::io;
 use std::io::{ErrorKind, Read, Write};
-use std::net::Net;
+use std::net::{Net, Shutdown};
 use std::time::Duration;
 use transport::WireFault;
 
-/// How many events a poll may give: one for each connection of a full host, one for the listener, and one
-/// for a listener that is watched.
-const EVENTS: usize = 1026;
+/// How many events a poll may give: one for each connection of a full host and each that lingers, one for
+/// the listener, and one for a listener that is watched.
+const EVENTS: usize = 1026 + LINGERING_MAX;
+
+/// How many milliseconds a wait lasts at most after the listener that is watched was named.
+const VISIT_PATIENCE: u64 = 500;
 
 /// The token of the listener. Those of streams are their numbers.
 const LISTENER: Token = Token(usize::MAX);
@@ -98,6 +103,24 @@ pub struct MioListener<A: Allocator> {
     // Whom the last poll named, in the room for all.
     ready: Vec<Ready, A>,
     asked: Log<ListenerCall, ()>,
+    // The streams that it has back and whose peers have not ended.
+    lingering: Lingering<SocketStream, A>,
+    /// How often a look or a wait has named the listener that is watched.
+    pub visits: u64,
+    // It was named, and no wait has found nobody since.
+    is_visited: bool,
+}
+
+/// How long a wait lasts at most: for a while where a visitor may not have been answered.
+fn patience_while(is_visited: bool, patience: Option<Duration>) -> Option<Duration>
+    ensures visited { is_visited ≡ true → is_some result ≡ true }
+    ensures otherwise { is_visited ≡ false → result ≡ patience }
+{
+    if is_visited {
+        Some(Duration::from_millis(VISIT_PATIENCE))
+    } else {
+        patience
+    }
 }
 
 /// Whether somebody came.
@@ -115,6 +138,7 @@ impl<A: Allocator + Copy> MioListener<A> {
     fn look_for(&mut self, patience: Option<Duration>) -> Result<(), StreamFault>
         ensures nobody { OnErr result (self.new.ready.items ≡ []) }
         ensures asked { self.new.asked ≡ self.old.asked }
+        ensures lingering { self.new.lingering ≡ self.old.lingering }
     {
         self.ready.clear();
         if let Err(error) = self.poll.poll(&mut self.events, patience) {
@@ -123,6 +147,8 @@ impl<A: Allocator + Copy> MioListener<A> {
         for event in self.events.iter() {
             let token = event.token();
             if token == WATCHED {
+                self.visits = self.visits.saturating_add(1);
+                self.is_visited = true;
                 continue;
             }
             let _kept = self.ready.push(if token == LISTENER {
@@ -132,6 +158,58 @@ impl<A: Allocator + Copy> MioListener<A> {
             });
         }
         Ok(())
+    }
+
+    /// Looks who may be ready now, and so do those who linger.
+    fn look_and_drain(&mut self) -> Result<(), StreamFault>
+        ensures nobody { OnErr result (self.new.ready.items ≡ []) }
+        ensures asked { self.new.asked ≡ self.old.asked }
+        ensures leaves { Leave 1 self.old.lingering self.new.lingering }
+    {
+        let looked = self.look_for(Some(Duration::ZERO));
+        self.lingering.pass(self.ready.as_slice(), 1);
+        looked
+    }
+
+    /// Waits until somebody may be ready; not for long while somebody lingers, or after the listener that
+    /// is watched was named, as it may not have been answered.
+    fn wait_and_drain(&mut self, patience: Option<Duration>) -> Result<(), StreamFault>
+        ensures nobody { OnErr result (self.new.ready.items ≡ []) }
+        ensures asked { self.new.asked ≡ self.old.asked }
+        ensures leaves { Leave 1 self.old.lingering self.new.lingering }
+    {
+        let visits = self.visits;
+        let patience = self
+            .lingering
+            .patience(patience_while(self.is_visited, patience));
+        let looked = self.look_for(patience);
+        let looks = self.lingering.looks_of_wait(self.ready.as_slice());
+        self.lingering.pass(self.ready.as_slice(), looks);
+        if looks > 1 && self.visits == visits {
+            self.is_visited = false;
+        }
+        looked
+    }
+
+    /// Shuts the writing side of a stream, which then lingers until its peer ends.
+    fn linger(&mut self, number: u64, stream: SocketStream)
+        ensures asked { self.new.asked ≡ self.old.asked }
+        ensures named { self.new.ready.items ≡ self.old.ready.items }
+    {
+        if stream.stream.shutdown(Shutdown::Write).is_ok() {
+            self.lingering.linger(number, stream);
+        }
+    }
+
+    /// Accepts who waits first. Where that fails, those who linger leave, and it is tried once more.
+    fn accept_with_room(&mut self, number: u64) -> Result<SocketStream, StreamFault>
+        ensures asked { self.new.asked ≡ self.old.asked }
+        ensures named { self.new.ready.items ≡ self.old.ready.items }
+    {
+        match self.accept_as(number) {
+            Err(StreamFault::Failed) if self.lingering.release() => self.accept_as(number),
+            accepted => accepted,
+        }
     }
 
     /// Accepts who waits first, and has the poll name the stream by this number.
@@ -179,21 +257,21 @@ impl<A: Allocator + Copy> Listener for MioListener<A> {
     ghost named = { λ listener. listener.ready.items };
 
     fn accept(&mut self, number: u64) -> Result<SocketStream, StreamFault> {
-        let accepted = self.accept_as(number);
+        let accepted = self.accept_with_room(number);
         let answer = answer_for(&accepted);
         self.asked = self.asked.and(&ListenerCall::Accept(answer), &());
         accepted
     }
 
     fn look(&mut self) -> Result<(), StreamFault> {
-        let looked = self.look_for(Some(Duration::ZERO));
+        let looked = self.look_and_drain();
         self.asked = self.asked.and(&ListenerCall::Look(looked), &());
         looked
     }
 
     fn wait(&mut self, patience: Option<Duration>) -> Result<(), StreamFault> {
         let is_bounded = patience.is_some();
-        let looked = self.look_for(patience);
+        let looked = self.wait_and_drain(patience);
         self.asked = self.asked.and(&ListenerCall::Wait(is_bounded, looked), &());
         looked
     }
@@ -210,7 +288,9 @@ impl<A: Allocator + Copy> Listener for MioListener<A> {
 
     fn shut(&mut self, _number: u64) {}
 
-    fn take_back(&mut self, _number: u64, _stream: SocketStream, _kept: &[u8]) {}
+    fn take_back(&mut self, number: u64, stream: SocketStream, _kept: &[u8]) {
+        self.linger(number, stream);
+    }
 }
 
 /// The connections of a Unix socket.
@@ -228,6 +308,7 @@ impl<A: Allocator + Copy> StreamWire<MioListener<A>, A> {
         }
         let events = Events::with_capacity(alloc, EVENTS)?;
         let ready = Vec::with_capacity(alloc, EVENTS)?;
+        let lingering = Lingering::new(alloc)?;
         let Ok(poll) = Poll::new(rt) else {
             return Err(WireFault::Device);
         };
@@ -247,6 +328,9 @@ impl<A: Allocator + Copy> StreamWire<MioListener<A>, A> {
             events,
             ready,
             asked: Log::new(),
+            lingering,
+            visits: 0,
+            is_visited: false,
         };
         Ok(StreamWire::new(alloc, listener))
     }

@@ -4,4 +4,4 @@ use Rattle.stream_transport.proofs.sockets.MioListenerListener.look.Goals as goa
 
 -- the call was noted
 pub returns-clause-asked : goal.returns-clause-asked
-returns-clause-asked g c = noted c.args.self.now.asked.items c.look_for-looked.new.self.asked.items c.and-self.result.items _ tt (ap (λ l. l.items) c.look_for-looked.ensures.asked) c.and-self.ensures
+returns-clause-asked g c = noted c.args.self.now.asked.items c.look_and_drain-looked.new.self.asked.items c.and-self.result.items _ tt (ap (λ l. l.items) c.look_and_drain-looked.ensures.asked) c.and-self.ensures

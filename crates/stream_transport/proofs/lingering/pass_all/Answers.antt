@@ -1,0 +1,12 @@
+use Rattle.std.proofs.Common.{rules, drop, length}
+use Rattle.stream_transport.proofs.Leaving.{all_taken, passed_none, passed_more, passed_all}
+use Rattle.stream_transport.proofs.lingering.pass_all.Goals as goal
+
+pub loop-lingering-init : goal.loop-lingering-init
+loop-lingering-init g c = passed_none _ _ _ (search rules)
+
+pub loop-lingering-preserved : goal.loop-lingering-preserved
+loop-lingering-preserved g c = passed_more _ _ _ _ _ _ (search rules) c.loop-lingering.invariant c.pass.ensures
+
+pub returns-clause-leave : goal.returns-clause-leave
+returns-clause-leave g c = rw (all_taken c.args.streams.now.len c.loop-lingering.lingering-items (drop (length c.loop-lingering.lingering-items) c.args.streams.now.items) (search rules)) (passed_all _ _ _ _ c.loop-lingering.invariant (search rules))

@@ -1,0 +1,8 @@
+use Rattle.std.proofs.Common.{◌≡◌, ◌<◌, ◌≤◌, ◌-◌, ℕ, get_or}
+use Rattle.stream_transport.specs.declared.lingering.LingeringStream.{LingeringStream}
+use Rattle.stream_transport.proofs.Leaving.{HavePassed}
+use Rattle.stream_transport.proofs.lingering.pass_all.Given as goal
+
+-- those so far have fewer looks left, and the others are as they were
+abbrev pub invariant-loop-lingering : goal.invariant-loop-lingering
+invariant-loop-lingering g l = HavePassed l.looks l.fn.streams.items l.lingering-items l.lingering-index

@@ -1,0 +1,222 @@
+//! Streams that are shut and whose peers have not ended yet.
+
+ghost use Rattle.std.specs.Prelude.{◌≡◌, ◌≢◌, ◌≤◌, ◌+◌, ◌-◌, [], ℕ, length, filter, is_some, true, IfOk, vec_capacity};
+ghost use Rattle.stream_transport.specs.Lingering.{Leave, StayAtMost, has_looks, with_one};
+ghost use Rattle.stream_transport.specs.declared.lingering.TheConstants.{LINGERING_MAX, LOOKS_MAX};
+
+use crate::listener::{ByteStream, Ready, StreamFault};
+use std::alloc::{AllocError, Allocator};
+use std::marker::Model;
+use std::time::Duration;
+
+/// How many linger at most; the one that was shut first leaves for one more.
+pub const LINGERING_MAX: usize = 256;
+
+/// For how many looks one lingers at most.
+pub const LOOKS_MAX: u64 = 4096;
+
+/// For how many looks a wait counts that found nobody.
+const IDLE_LOOKS: u64 = 64;
+
+/// How many milliseconds a wait lasts at most while somebody lingers.
+const IDLE_PATIENCE: u64 = 50;
+
+/// The same where not all that was sent is read.
+const DRAINING_PATIENCE: u64 = 1;
+
+/// How often a stream is read at a look.
+const READS: usize = 4;
+
+/// A stream that is shut, and for how many looks it stays.
+#[derive(Drop)]
+pub struct LingeringStream<S: Drop> {
+    pub number: u64,
+    pub stream: S,
+    /// The last read found something, or a look has named it since.
+    pub readable: bool,
+    /// For how many looks it stays; it leaves with 0.
+    pub looks: u64,
+}
+
+/// The streams of connections that were shut, the oldest first. What their peers still send is read and
+/// dropped, since a close with bytes unread resets the connection, and the peer may lose what it was
+/// written. A stream leaves when its peer ends, when a read of it fails, or after `LOOKS_MAX` looks.
+#[derive(Drop)]
+pub struct Lingering<S: Drop, A: Allocator> {
+    streams: Vec<LingeringStream<S>, A>,
+}
+
+impl<S: Drop, A: Allocator> Model for Lingering<S, A> {
+    ghost use Rattle.std.specs.Prelude.{List, ◌≤◌, length};
+    ghost use Rattle.stream_transport.specs.Lingering.{IsWithin};
+    ghost use Rattle.stream_transport.specs.declared.lingering.LingeringStream.{LingeringStream};
+
+    ghost Value = { List (LingeringStream S) };
+
+    ghost view = { λ lingering. lingering.streams.items };
+
+    ghost invariant = { λ lingering. IsWithin lingering.streams };
+}
+
+/// Whether a look has named this number.
+fn is_named(ready: &[Ready], number: u64) -> bool {
+    for who in ready {
+        if *who == Ready::Stream(number) {
+            return true;
+        }
+    }
+    false
+}
+
+/// Reads and drops what a peer has sent, at most `READS` times. `None` where it has ended or the stream
+/// failed, and else whether it may have sent more.
+fn drain<S: ByteStream>(stream: &mut S) -> Option<bool> {
+    let mut buf = [0u8; 4096];
+    for _ in 0..READS {
+        match stream.receive(&mut buf) {
+            Ok(0) => return None,
+            Ok(_) => {}
+            Err(StreamFault::WouldBlock) => return Some(false),
+            Err(StreamFault::Interrupted) => {}
+            Err(StreamFault::Failed) => return None,
+        }
+    }
+    Some(true)
+}
+
+impl<S: ByteStream> LingeringStream<S> {
+    /// So many looks have passed, the last of which found these.
+    fn pass(&mut self, ready: &[Ready], looks: u64)
+        ensures { self.new.looks ≤ self.old.looks - looks }
+    {
+        self.looks = self.looks.saturating_sub(looks);
+        self.readable = self.readable | is_named(ready, self.number);
+        if !self.readable {
+            return;
+        }
+        match drain(&mut self.stream) {
+            Some(has_more) => self.readable = has_more,
+            None => self.looks = 0,
+        }
+    }
+}
+
+/// So many looks have passed for each of them.
+fn pass_all<S: ByteStream, A: Allocator>(
+    streams: &mut Vec<LingeringStream<S>, A>,
+    ready: &[Ready],
+    looks: u64,
+)
+    ensures leave { Leave looks streams.old.items streams.new.items }
+    ensures length { length streams.new.items ≡ length streams.old.items }
+    ensures capacity { vec_capacity streams.new ≡ vec_capacity streams.old }
+{
+    for lingering in streams.iter_mut() {
+        lingering.pass(ready, looks);
+    }
+}
+
+/// Drops those whose looks are over.
+fn retain_lingering<S: ByteStream, A: Allocator>(streams: &mut Vec<LingeringStream<S>, A>)
+    ensures left { streams.new.items ≡ filter has_looks streams.old.items }
+    ensures fewer { length streams.new.items ≤ length streams.old.items }
+    ensures capacity { vec_capacity streams.new ≡ vec_capacity streams.old }
+{
+    streams.retain(|lingering| lingering.looks > 0);
+}
+
+impl<S: ByteStream, A: Allocator + Copy> Lingering<S, A> {
+    /// Nobody lingers. There is room for all.
+    pub fn new(alloc: A) -> Result<Lingering<S, A>, AllocError>
+        ensures { IfOk result (λ lingering. lingering ≡ []) }
+    {
+        let streams = Vec::with_capacity(alloc, LINGERING_MAX)?;
+        Ok(Lingering { streams })
+    }
+
+    /// One more lingers, for the longest. Where all places are taken the oldest one leaves.
+    fn push(&mut self, lingering: LingeringStream<S>)
+        requires { lingering.looks ≤ LOOKS_MAX }
+        ensures added { self.new ≡ with_one self.old lingering }
+        ensures few { length self.new ≤ LINGERING_MAX }
+        ensures within { StayAtMost LOOKS_MAX self.new }
+    {
+        if self.streams.len() >= LINGERING_MAX {
+            let _oldest = self.streams.remove(0);
+        }
+        let _room = self.streams.push(lingering);
+    }
+
+    /// The stream of a connection that was shut lingers, unless its peer has ended.
+    pub fn linger(&mut self, number: u64, stream: S)
+        ensures few { length self.new ≤ LINGERING_MAX }
+        ensures within { StayAtMost LOOKS_MAX self.new }
+    {
+        let _within = &self.streams;
+        let mut stream = stream;
+        if let Some(has_more) = drain(&mut stream) {
+            self.push(LingeringStream {
+                number,
+                stream,
+                readable: has_more,
+                looks: LOOKS_MAX,
+            });
+        }
+    }
+
+    /// So many looks have passed, the last of which found these.
+    pub fn pass(&mut self, ready: &[Ready], looks: u64)
+        ensures leaves { Leave looks self.old self.new }
+        ensures gone { StayAtMost looks self.old → self.new ≡ [] }
+        ensures few { length self.new ≤ LINGERING_MAX }
+        ensures within { StayAtMost LOOKS_MAX self.new }
+    {
+        pass_all(&mut self.streams, ready, looks);
+        retain_lingering(&mut self.streams);
+    }
+
+    /// Whether all that was sent by those who linger is read.
+    fn is_drained(&self) -> bool {
+        for lingering in self.streams.as_slice() {
+            if lingering.readable {
+                return false;
+            }
+        }
+        true
+    }
+
+    /// How long a wait lasts at most: while somebody lingers, not for long.
+    pub fn patience(&self, patience: Option<Duration>) -> Option<Duration>
+        ensures nobody { self.now ≡ [] → result ≡ patience }
+        ensures bounded { self.now ≢ [] → is_some result ≡ true }
+    {
+        if self.streams.is_empty() {
+            return patience;
+        }
+        Some(Duration::from_millis(if self.is_drained() {
+            IDLE_PATIENCE
+        } else {
+            DRAINING_PATIENCE
+        }))
+    }
+
+    /// For how many looks a wait counts that found these.
+    pub fn looks_of_wait(&self, ready: &[Ready]) -> u64
+        ensures { 1 ≤ result }
+    {
+        if ready.is_empty() && self.is_drained() {
+            IDLE_LOOKS
+        } else {
+            1
+        }
+    }
+
+    /// Nobody lingers any more. Whether somebody did.
+    pub fn release(&mut self) -> bool
+        ensures { self.new ≡ [] }
+    {
+        let had_some = !self.streams.is_empty();
+        self.streams.clear();
+        had_some
+    }
+}
