@@ -7,3 +7,4 @@ pub mod Waking
 pub mod Asked
 pub mod Noting
 pub mod Leaving
+pub mod Telling

@@ -1,13 +1,14 @@
 -- What stands in the place of a number, and what is held under it.
-use Rattle.std.proofs.Common.{◌≡◌, ◌≢◌, ℕ, Bool, true, false, ◌<◌, ◌≤◌, ◌%◌, List, [], ◌∷◌, ◌++◌, Option, Some, None, Ok, length, get_or, refl, sym, ap, subst, ◌∙◌, inl, inr}
+use Rattle.std.proofs.Common.{◌≡◌, ◌≢◌, ℕ, Bool, true, false, ◌<◌, ◌≤◌, ◌%◌, List, [], ◌∷◌, ◌++◌, Option, Some, None, Ok, length, get_or, refl, sym, ap, subst, ◌∙◌, append-nil, inl, inr}
 use Rattle.std.specs.Prelude.{◌==◌, ◌||◌, ◌&&◌, cond, is_some, nat_eq, not, suc, zero, IfSome}
+use Rattle.std.proofs.KnownBytes.{Appends-nil}
 use Rattle.std.proofs.Math.ListN.{set}
 use Rattle.std.proofs.lemmas.Bool.{cases_eq}
 use Rattle.std.proofs.lemmas.List.{get_or_past, get_or_read, get_or-set_same, get_or-set_other}
 use borrow.Author.Tests.{eqb-true, ne_eqb}
 use Rattle.stream_transport.specs.declared.connection.BufferedStream.{BufferedStream}
 use Rattle.stream_transport.specs.declared.connection.TheConstants.{PLACES}
-use Rattle.stream_transport.specs.Held.{HoldsOthers, IsFree, held, kept_in, of_number}
+use Rattle.stream_transport.specs.Held.{HasPassed, HoldsOthers, IsFree, held, kept_in, of_number}
 use Rattle.stream_transport.specs.declared.listener.StreamCall.{StreamCall}
 use Rattle.stream_transport.specs.Asking.{AsksToGive, IsQuiet, OfHeld, readable}
 use Rattle.transport.specs.declared.wire.Got.TheVariants.{Nothing}
@@ -134,6 +135,10 @@ module _ {S A : Type 0} where
     awake = λ may found. may;
     takes = λ may. may;
   }
+
+  pub quiet_passes : (given : S → Option (List ℕ)) (a : Option (BufferedStream S A)) → IsQuiet a → OfHeld (λ old new. HasPassed given old new []) a a
+  quiet_passes given None q = absurd q
+  quiet_passes given (Some p) q = record { came = []; gave = Appends-nil (given p.stream); passed = sym (append-nil p.kept) }
 
   pub quiet_sleeps : (a : Option (BufferedStream S A)) → IsQuiet a → readable a ≡ false
   quiet_sleeps None q = absurd q

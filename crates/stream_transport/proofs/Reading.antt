@@ -1,11 +1,13 @@
 -- What a read of a stream leaves of its connection.
-use Rattle.std.proofs.Common.{◌≡◌, ◌≢◌, ℕ, Bool, true, false, ◌+◌, ◌<◌, ◌≤◌, List, [], ◌∷◌, ◌++◌, Option, Some, None, length, take, drop, refl, sym, ap, subst, ◌∙◌, append_assoc, arith}
+use Rattle.std.proofs.Common.{◌≡◌, ◌≢◌, ℕ, Bool, true, false, ◌+◌, ◌<◌, ◌≤◌, List, [], ◌∷◌, ◌++◌, Option, Some, None, length, take, drop, refl, sym, ap, subst, ◌∙◌, append_assoc, append-nil, arith}
 use Rattle.std.specs.Prelude.{◌==◌, suc}
 use borrow.Author.Tests.{eqb-true}
 use Rattle.std.proofs.lemmas.List.{take_at, take-append-drop, length-take-le, length-append}
-use Rattle.std.specs.Io.KnownBytes.{Consumes, Keeps, prepend_known}
+use Rattle.std.specs.Io.KnownBytes.{Appends, Consumes, Keeps, prepend_known}
+use Rattle.std.proofs.KnownBytes.{Appends-nil}
+use Rattle.transport.proofs.Reported.{Appends-none}
 use Rattle.stream_transport.specs.declared.connection.BufferedStream.{BufferedStream}
-use Rattle.stream_transport.specs.Held.{HasGiven, unread_of}
+use Rattle.stream_transport.specs.Held.{HasGiven, HasPassed, unread_of}
 
 -- ---- the bytes that came
 
@@ -79,3 +81,18 @@ module _ {S A : Type 0} where
   -- some of what is kept was given
   pub gives_kept : (r : S → Option (List ℕ)) (p q : BufferedStream S A) (given : List ℕ) → q.stream ≡ p.stream → given ++ q.kept ≡ p.kept → HasGiven r p q given
   gives_kept r p q given same e = subst (λ x. Consumes (unread_of r p) (prepend_known q.kept (r x)) given) (sym same) (given_of p.kept q.kept given (r p.stream) e)
+
+  -- ---- the bytes that passed
+
+  pub passes_none : (g : S → Option (List ℕ)) (p q : BufferedStream S A) → q.kept ≡ p.kept → Keeps (g p.stream) (g q.stream) → HasPassed g p q []
+  passes_none g p q e k = record { came = []; gave = Appends-none (g p.stream) (g q.stream) k; passed = e ∙ sym (append-nil p.kept) }
+
+  pub passes_line : (g : S → Option (List ℕ)) (p q : BufferedStream S A) (line rest got given : List ℕ) → p.kept ≡ [] → got ≡ line ++ rest → given ≡ line → q.kept ≡ rest → Appends (g p.stream) (g q.stream) got → HasPassed g p q given
+  passes_line g p q line rest got given none split is kept came = record {
+    came = got;
+    gave = came;
+    passed = ap (λ x. x ++ q.kept) is ∙ (ap (λ x. line ++ x) kept ∙ (sym split ∙ sym (ap (λ x. x ++ got) none)));
+  }
+
+  pub passes_kept : (g : S → Option (List ℕ)) (p q : BufferedStream S A) (given : List ℕ) → q.stream ≡ p.stream → given ++ q.kept ≡ p.kept → HasPassed g p q given
+  passes_kept g p q given same e = record { came = []; gave = subst (λ x. Appends (g p.stream) (g x) []) (sym same) (Appends-nil (g p.stream)); passed = e ∙ sym (append-nil p.kept) }

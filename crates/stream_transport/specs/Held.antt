@@ -1,5 +1,5 @@
 -- The connections that a wire holds, and what it reports of them and of all others (own choice).
-use Rattle.std.specs.Prelude.{◌≡◌, ◌≢◌, ◌==◌, ◌%◌, ◌+◌, ◌-◌, ◌^◌, cond, length, min, nat_eq, not, ℕ, Bool, List, [], Option, None, Some, slice_index_or}
+use Rattle.std.specs.Prelude.{◌≡◌, ◌≢◌, ◌==◌, ◌%◌, ◌+◌, ◌-◌, ◌^◌, ◌++◌, cond, length, min, nat_eq, not, ℕ, Bool, List, [], Option, None, Some, slice_index_or}
 use Rattle.std.specs.Io.KnownBytes.{Appends, Consumes, prepend_known}
 use Rattle.transport.specs.Report.{Report}
 use Rattle.stream_transport.specs.declared.connection.BufferedStream.{BufferedStream}
@@ -38,6 +38,13 @@ module _ {S A : Type 0} where
   -- writes to it took these bytes
   abbrev pub HasTaken : (S → Option (List ℕ)) → BufferedStream S A → BufferedStream S A → List ℕ → Type 0
   HasTaken contents old new bytes = Appends (written_of contents old) (written_of contents new) bytes
+
+  -- the stream gave some bytes more: these were given, behind what was kept and before what is
+  pub record HasPassed (given : S → Option (List ℕ)) (old new : BufferedStream S A) (bytes : List ℕ)
+      : Type 0 where
+    pub came : List ℕ
+    pub gave : Appends (given old.stream) (given new.stream) came
+    pub passed : bytes ++ new.kept ≡ old.kept ++ came
 
   -- of a connection that is held its bytes, and else what is told
   abbrev pub bytes_of : (BufferedStream S A → Option (List ℕ)) → Option (List ℕ)

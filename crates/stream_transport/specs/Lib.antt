@@ -1,4 +1,6 @@
 pub mod ReadBuffer
+pub mod Noted
+pub mod Told
 pub mod Streams
 pub mod Held
 pub mod Asking

@@ -1,11 +1,20 @@
 -- What a wire of the code reports before and after a call, and what it counts (own choice).
-use Rattle.std.specs.Prelude.{◌≡◌, ℕ, List, Result}
-use Rattle.transport.specs.Report.{KeepsAll, Reads, Writes, Shuts, bytes_read, bytes_written}
+use Rattle.std.specs.Prelude.{◌≡◌, ℕ, List, [], false, Some, Result}
+use Rattle.transport.specs.Report.{KeepsAll, Report, Reads, Writes, Shuts, bytes_read, bytes_written}
 use Rattle.transport.specs.declared.wire.Got.{Got}
 use Rattle.transport.specs.declared.wire.Wire.{Ghosts}
 use Rattle.transport.specs.declared.wire.WireFault.{WireFault}
 use Rattle.stream_transport.specs.Held.{counted}
 use Rattle.stream_transport.specs.declared.wire.StreamWire.{StreamWire}
+
+-- of a number is reported that nothing was written, that it is not shut, and that no call of it has failed
+pub record IsBlank (report : Report) (number : ℕ) : Type 0 where
+  pub written : report.written number ≡ Some []
+  pub shut : report.is_shut number ≡ Some false
+  pub failed : report.has_failed number ≡ Some false
+
+abbrev pub AreBlank : Report → Type 0
+AreBlank report = (number : ℕ) → IsBlank report number
 
 module _ {W : Type 0} (wires : Ghosts W) (old new : W) where
   abbrev pub KeepsReport : Type 0

@@ -41,6 +41,11 @@ abbrev pub Receives : {S E : Type 0} → (S → Option (List ℕ)) → (old new 
     → Result ℕ E → List ℕ → Type 0
 Receives remaining old new result buf = ReadConsumes (remaining old) (remaining new) result buf
 
+-- a read of a stream added to the bytes that its reads gave
+abbrev pub Gave : {S E : Type 0} → (S → Option (List ℕ)) → (old new : S)
+    → Result ℕ E → List ℕ → Type 0
+Gave given old new result buf = WriteAppends (given old) (given new) result buf
+
 -- a write to a stream added to the bytes that it took
 abbrev pub Sends : {S E : Type 0} → (S → Option (List ℕ)) → (old new : S)
     → Result ℕ E → List ℕ → Type 0

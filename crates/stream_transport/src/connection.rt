@@ -7,7 +7,7 @@ ghost use Rattle.transport.specs.Report.{EndsAt, IsWithin, bytes_read, bytes_wri
 ghost use Rattle.transport.specs.declared.wire.Got.TheVariants.{Nothing};
 ghost use Rattle.transport.specs.declared.wire.WireFault.TheVariants.{OutOfMemory};
 ghost use Rattle.stream_transport.specs.Asking.{AsksToGive, AsksToTake, GivesKept, IsAwake};
-ghost use Rattle.stream_transport.specs.Held.{HasGiven, HasTaken, unread_of, written_of};
+ghost use Rattle.stream_transport.specs.Held.{HasGiven, HasPassed, HasTaken, unread_of, written_of};
 
 use crate::kept::ReadBuffer;
 use crate::listener::{ByteStream, StreamFault};
@@ -57,6 +57,7 @@ impl<S: ByteStream, A: Allocator + Copy> BufferedStream<S, A> {
         ensures within { IsWithin result (length buf.new) }
         ensures line { IsOneLine (bytes_read result buf.new) }
         ensures unread { HasGiven S.unread self.old self.new (bytes_read result buf.new) }
+        ensures came { HasPassed S.given self.old self.new (bytes_read result buf.new) }
         ensures written { Keeps (written_of S.written self.old) (written_of S.written self.new) }
         ensures ended { EndsAt result (unread_of S.unread self.new) }
         ensures asked { AsksToGive S.calls (length buf.old) result self.old self.new }
@@ -89,6 +90,7 @@ impl<S: ByteStream, A: Allocator + Copy> BufferedStream<S, A> {
         ensures within { IsWithin result (length buf.new) }
         ensures line { IsOneLine (bytes_read result buf.new) }
         ensures unread { HasGiven S.unread self.old self.new (bytes_read result buf.new) }
+        ensures came { HasPassed S.given self.old self.new (bytes_read result buf.new) }
         ensures written { Keeps (written_of S.written self.old) (written_of S.written self.new) }
         ensures ended { EndsAt result (unread_of S.unread self.new) }
         ensures first { GivesKept self.old.kept result buf.new }
@@ -109,6 +111,7 @@ impl<S: ByteStream, A: Allocator + Copy> BufferedStream<S, A> {
         ensures within { IfOk result (λ n. n ≤ length buf.now) }
         ensures unread { Keeps (unread_of S.unread self.old) (unread_of S.unread self.new) }
         ensures written { HasTaken S.written self.old self.new (bytes_written result buf.now) }
+        ensures came { HasPassed S.given self.old self.new [] }
         ensures kept { self.new.kept ≡ self.old.kept }
         ensures asked { AsksToTake S.calls (length buf.now) result self.old self.new }
     {

@@ -5,7 +5,7 @@ ghost use Rattle.std.specs.Io.{ReadsAtMost, WritesAtMost};
 ghost use Rattle.std.specs.Io.KnownBytes.{Keeps};
 ghost use Rattle.transport.specs.Asked.{Asks};
 ghost use Rattle.transport.specs.Report.{Report, KeepsAll, nothing_reported};
-ghost use Rattle.stream_transport.specs.Streams.{HandsOut, HasBack, IsToldFailed, IsToldShut, KeepsElse, Receives, Sends, answer_of};
+ghost use Rattle.stream_transport.specs.Streams.{Gave, HandsOut, HasBack, IsToldFailed, IsToldShut, KeepsElse, Receives, Sends, answer_of};
 ghost use Rattle.stream_transport.specs.declared.listener.ListenerCall.{ListenerCall};
 ghost use Rattle.stream_transport.specs.declared.listener.ListenerCall.TheVariants.{Accept, Look, Wait};
 ghost use Rattle.stream_transport.specs.declared.listener.Ready.{Ready};
@@ -53,6 +53,9 @@ pub trait ByteStream: Drop {
     /// The bytes that its writes took. It may not tell.
     ghost written: { Self → Option (List ℕ) } = { λ _. None };
 
+    /// The bytes that its reads gave. It may not tell.
+    ghost given: { Self → Option (List ℕ) } = { λ _. None };
+
     /// The calls of `receive` and `send` that it was asked for, with their answers. It may tell none.
     ghost calls: { Self → Option (List StreamCall) } = { λ _. None };
 
@@ -60,6 +63,7 @@ pub trait ByteStream: Drop {
     fn receive(&mut self, buf: &mut [u8]) -> Result<usize, StreamFault>
         ensures bound { ReadsAtMost result buf.new }
         ensures bytes { Receives unread self.old self.new result buf.new }
+        ensures gave { Gave given self.old self.new result buf.new }
         ensures written { Keeps (written self.old) (written self.new) }
         ensures called { Asks (calls self.old) (calls self.new)
             (Receive (length buf.old) result ∷ []) };
@@ -69,6 +73,7 @@ pub trait ByteStream: Drop {
         ensures bound { WritesAtMost result buf.now }
         ensures bytes { Sends written self.old self.new result buf.now }
         ensures unread { Keeps (unread self.old) (unread self.new) }
+        ensures given { Keeps (given self.old) (given self.new) }
         ensures called { Asks (calls self.old) (calls self.new)
             (Send (length buf.now) result ∷ []) };
 }

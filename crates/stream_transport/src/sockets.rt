@@ -1,14 +1,18 @@
 //! A wire over a Unix socket.
 
-ghost use Rattle.std.specs.Prelude.{◌≡◌, [], is_some, true, false, Err, IfOk, OnErr};
+ghost use Rattle.std.specs.Prelude.{◌≡◌, ◌≤◌, [], is_some, length, true, false, Err, IfOk, OnErr, Some};
 ghost use Rattle.std.specs.Io.{ReadsAtMost, WritesAtMost};
+ghost use Rattle.std.specs.Io.KnownBytes.{WriteAppends};
 ghost use Rattle.std.specs.IoError.{error_kind};
 ghost use Rattle.stream_transport.specs.Lingering.{Leave};
+ghost use Rattle.stream_transport.specs.Noted.{last_under};
+ghost use Rattle.stream_transport.specs.Reporting.{AreBlank};
 ghost use Rattle.stream_transport.specs.Streams.{answer_of, fault_by};
 ghost use Rattle.transport.specs.declared.wire.WireFault.TheVariants.{Device};
 
 use crate::lingering::{LINGERING_MAX, Lingering};
 use crate::listener::{ByteStream, Listener, ListenerCall, Ready, StreamCall, StreamFault};
+use crate::log::Bytes;
 use crate::wire::StreamWire;
 use http_server::Log;
 use mio::net::{UnixListener, UnixStream};
@@ -19,7 +23,7 @@ use std::io;
 use std::io::{ErrorKind, Read, Write};
 use std::net::{Net, Shutdown};
 use std::time::Duration;
-use transport::WireFault;
+use transport::{Wire, WireFault};
 
 /// How many events a poll may give: one for each connection of a full host and each that lingers, one for
 /// the listener, and one for a listener that is watched.
@@ -65,17 +69,34 @@ fn write_once(stream: &mut UnixStream, buf: &[u8]) -> Result<usize, StreamFault>
     }
 }
 
-/// A stream of a Unix socket. It tells its calls, by a log that takes no memory; of its bytes it tells
-/// nothing.
+/// Notes as much of a buffer as a call passed.
+fn note_passed(log: &mut Bytes, answer: Result<usize, StreamFault>, buf: &[u8])
+    requires { IfOk answer (λ n. n ≤ length buf.now) }
+    ensures { WriteAppends (Some log.old.items) (Some log.new.items) answer buf.now }
+{
+    if let Ok(n) = answer {
+        log.note(buf.split_at(n).0);
+    }
+}
+
+/// A stream of a Unix socket. It tells its calls, what its reads gave and what its writes took, by logs
+/// that take no memory.
 #[derive(Drop)]
 pub struct SocketStream {
     stream: UnixStream,
     calls: Log<StreamCall, ()>,
+    given: Bytes,
+    // Behind what was noted under its number before it came.
+    written: Bytes,
 }
 
 impl ByteStream for SocketStream {
     ghost use Rattle.std.specs.Prelude.{Some};
     ghost use Rattle.stream_transport.specs.Streams.{firsts};
+
+    ghost written = { λ stream. Some stream.written.items };
+
+    ghost given = { λ stream. Some stream.given.items };
 
     ghost calls = { λ stream. Some (firsts stream.calls.items) };
 
@@ -83,18 +104,30 @@ impl ByteStream for SocketStream {
         let room = buf.len();
         let answer = read_once(&mut self.stream, buf);
         self.calls = self.calls.and(&StreamCall::Receive(room, answer), &());
+        note_passed(&mut self.given, answer, buf);
         answer
     }
 
     fn send(&mut self, buf: &[u8]) -> Result<usize, StreamFault> {
         let answer = write_once(&mut self.stream, buf);
         self.calls = self.calls.and(&StreamCall::Send(buf.len(), answer), &());
+        note_passed(&mut self.written, answer, buf);
         answer
     }
 }
 
-/// A Unix socket, and a poll that names its streams. It tells its calls, by a log that takes no memory;
-/// of connections it tells nothing.
+/// What a listener was told of numbers, by logs that take no memory.
+#[derive(Drop)]
+struct Past {
+    // What the stream of a number took that came back.
+    back: Log<u64, Bytes>,
+    shut: Log<u64, ()>,
+    failed: Log<u64, ()>,
+}
+
+/// A Unix socket, and a poll that names its streams. It tells its calls, and of each number what its
+/// stream took that came back, whether it was shut and whether a call failed, by logs that take no
+/// memory.
 #[derive(Drop)]
 pub struct MioListener<A: Allocator> {
     listener: UnixListener,
@@ -109,6 +142,7 @@ pub struct MioListener<A: Allocator> {
     pub visits: u64,
     // It was named, and no wait has found nobody since.
     is_visited: bool,
+    past: Past,
 }
 
 /// How long a wait lasts at most: for a while where a visitor may not have been answered.
@@ -139,6 +173,7 @@ impl<A: Allocator + Copy> MioListener<A> {
         ensures nobody { OnErr result (self.new.ready.items ≡ []) }
         ensures asked { self.new.asked ≡ self.old.asked }
         ensures lingering { self.new.lingering ≡ self.old.lingering }
+        ensures past { self.new.past ≡ self.old.past }
     {
         self.ready.clear();
         if let Err(error) = self.poll.poll(&mut self.events, patience) {
@@ -164,6 +199,7 @@ impl<A: Allocator + Copy> MioListener<A> {
     fn look_and_drain(&mut self) -> Result<(), StreamFault>
         ensures nobody { OnErr result (self.new.ready.items ≡ []) }
         ensures asked { self.new.asked ≡ self.old.asked }
+        ensures past { self.new.past ≡ self.old.past }
         ensures leaves { Leave 1 self.old.lingering self.new.lingering }
     {
         let looked = self.look_for(Some(Duration::ZERO));
@@ -176,6 +212,7 @@ impl<A: Allocator + Copy> MioListener<A> {
     fn wait_and_drain(&mut self, patience: Option<Duration>) -> Result<(), StreamFault>
         ensures nobody { OnErr result (self.new.ready.items ≡ []) }
         ensures asked { self.new.asked ≡ self.old.asked }
+        ensures past { self.new.past ≡ self.old.past }
         ensures leaves { Leave 1 self.old.lingering self.new.lingering }
     {
         let visits = self.visits;
@@ -194,6 +231,7 @@ impl<A: Allocator + Copy> MioListener<A> {
     /// Shuts the writing side of a stream, which then lingers until its peer ends.
     fn linger(&mut self, number: u64, stream: SocketStream)
         ensures asked { self.new.asked ≡ self.old.asked }
+        ensures past { self.new.past ≡ self.old.past }
         ensures named { self.new.ready.items ≡ self.old.ready.items }
     {
         if stream.stream.shutdown(Shutdown::Write).is_ok() {
@@ -203,7 +241,10 @@ impl<A: Allocator + Copy> MioListener<A> {
 
     /// Accepts who waits first. Where that fails, those who linger leave, and it is tried once more.
     fn accept_with_room(&mut self, number: u64) -> Result<SocketStream, StreamFault>
+        ensures written { IfOk result (λ stream. stream.written.items
+            ≡ last_under (λ bytes. bytes.items) self.old.past.back.items number) }
         ensures asked { self.new.asked ≡ self.old.asked }
+        ensures past { self.new.past ≡ self.old.past }
         ensures named { self.new.ready.items ≡ self.old.ready.items }
     {
         match self.accept_as(number) {
@@ -213,7 +254,10 @@ impl<A: Allocator + Copy> MioListener<A> {
     }
 
     /// Accepts who waits first, and has the poll name the stream by this number.
-    fn accept_as(&self, number: u64) -> Result<SocketStream, StreamFault> {
+    fn accept_as(&self, number: u64) -> Result<SocketStream, StreamFault>
+        ensures written { IfOk result (λ stream. stream.written.items
+            ≡ last_under (λ bytes. bytes.items) self.now.past.back.items number) }
+    {
         let mut stream = match self.listener.accept() {
             Ok((stream, _)) => stream,
             Err(error) => return Err(fault_of(error)),
@@ -229,6 +273,8 @@ impl<A: Allocator + Copy> MioListener<A> {
         Ok(SocketStream {
             stream,
             calls: Log::new(),
+            given: Bytes::new(),
+            written: Bytes::last_under(&self.past.back, &number),
         })
     }
 
@@ -251,6 +297,10 @@ impl<A: Allocator + Copy> Listener for MioListener<A> {
 
     ghost use Rattle.std.specs.Prelude.{Some};
     ghost use Rattle.stream_transport.specs.Streams.{firsts};
+    ghost use Rattle.stream_transport.specs.Told.{told_by};
+
+    ghost told = { λ listener. told_by
+        listener.past.back.items listener.past.shut.items listener.past.failed.items };
 
     ghost asked = { λ listener. Some (firsts listener.asked.items) };
 
@@ -284,11 +334,16 @@ impl<A: Allocator + Copy> Listener for MioListener<A> {
         self.ready.get(place).copied()
     }
 
-    fn fail(&mut self, _number: u64) {}
+    fn fail(&mut self, number: u64) {
+        self.past.failed = self.past.failed.and(&number, &());
+    }
 
-    fn shut(&mut self, _number: u64) {}
+    fn shut(&mut self, number: u64) {
+        self.past.shut = self.past.shut.and(&number, &());
+    }
 
     fn take_back(&mut self, number: u64, stream: SocketStream, _kept: &[u8]) {
+        self.past.back = self.past.back.and(&number, &stream.written);
         self.linger(number, stream);
     }
 }
@@ -302,6 +357,7 @@ impl<A: Allocator + Copy> StreamWire<MioListener<A>, A> {
     pub fn bind<R: Files + Net>(rt: &R, alloc: A, path: &str) -> Result<MioWire<A>, WireFault>
         ensures unnamed { path.now ≡ [] → result ≡ Err Device }
         ensures unused { IfOk result (λ wire. (wire.next ≡ 0) × (wire.failed ≡ 0)) }
+        ensures blank { IfOk result (λ wire. AreBlank (⟦<Self as Wire>⟧.report wire)) }
     {
         if path.is_empty() {
             return Err(WireFault::Device);
@@ -331,6 +387,11 @@ impl<A: Allocator + Copy> StreamWire<MioListener<A>, A> {
             lingering,
             visits: 0,
             is_visited: false,
+            past: Past {
+                back: Log::new(),
+                shut: Log::new(),
+                failed: Log::new(),
+            },
         };
         Ok(StreamWire::new(alloc, listener))
     }

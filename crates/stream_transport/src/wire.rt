@@ -5,7 +5,7 @@ ghost use Rattle.usi_lines.specs.OneLine.{IsOneLine};
 ghost use Rattle.transport.specs.Report.{GivesNumber, HasCause, HasRisen, IsWithin, KeepsAll, bytes_read, bytes_written};
 ghost use Rattle.transport.specs.declared.wire.WireFault.TheVariants.{Device};
 ghost use Rattle.stream_transport.specs.Asking.{AnswersAs, AreAwake, AreAwakeStill, AsksByAccept, AsksByRead, AsksByWait, AsksNext, AsksToTake, GivesKept, HoldsAccepted, IsNamedAwake, LeavesMore, NotesByRead, NotesByWrite, OfNumber, OpensIfNamed, StaysOpen, WakesByAccept, WakesByWait, found_nothing, is_made, took_nothing};
-ghost use Rattle.stream_transport.specs.Held.{AreAlike, HoldsOthers, held, kept_of};
+ghost use Rattle.stream_transport.specs.Held.{AreAlike, HasPassed, HoldsOthers, held, kept_of};
 ghost use Rattle.stream_transport.specs.Reporting.{CountsRead, CountsWrite, KeepsReport, ReportsRead, ReportsShut, ReportsWrite};
 ghost use Rattle.stream_transport.specs.Streams.{Notes};
 ghost use Rattle.stream_transport.specs.declared.listener.Ready.TheVariants as who;
@@ -300,6 +300,8 @@ impl<L: Listener, A: Allocator + Copy> StreamWire<L, A> {
         ensures first { GivesKept (kept_of self.old.places.items number) result buf.new }
         ensures asks { L.asked self.new.listener ≡ L.asked self.old.listener }
         ensures gives { AsksByRead L.Stream.calls number buf.old result self.old self.new }
+        ensures came { OfNumber number (λ old new.
+            HasPassed L.Stream.given old new (bytes_read result buf.new)) self.old self.new }
         ensures others { HoldsOthers self.old.places.items self.new.places.items number }
         ensures opens { self.new.acceptable ≡ self.old.acceptable }
         ensures more { LeavesMore number self.old self.new }
@@ -325,6 +327,8 @@ impl<L: Listener, A: Allocator + Copy> StreamWire<L, A> {
         ensures asks { L.asked self.new.listener ≡ L.asked self.old.listener }
         ensures takes { OfNumber number
             (AsksToTake L.Stream.calls (length buf.now) result) self.old self.new }
+        ensures came { OfNumber number (λ old new.
+            HasPassed L.Stream.given old new []) self.old self.new }
         ensures unsure { NotesByWrite number result self.old self.new }
         ensures others { HoldsOthers self.old.places.items self.new.places.items number }
         ensures opens { self.new.acceptable ≡ self.old.acceptable }
@@ -385,6 +389,8 @@ impl<L: Listener, A: Allocator + Copy> Wire for StreamWire<L, A> {
         ensures first { GivesKept (kept_of self.old.places.items number) result buf.new }
         ensures asks { L.asked self.new.listener ≡ L.asked self.old.listener }
         ensures gives { AsksByRead L.Stream.calls number buf.old result self.old self.new }
+        ensures came { OfNumber number (λ old new.
+            HasPassed L.Stream.given old new (bytes_read result buf.new)) self.old self.new }
         ensures others { HoldsOthers self.old.places.items self.new.places.items number }
         ensures opens { self.new.acceptable ≡ self.old.acceptable }
         ensures more { LeavesMore number self.old self.new }
@@ -408,6 +414,8 @@ impl<L: Listener, A: Allocator + Copy> Wire for StreamWire<L, A> {
         ensures asks { L.asked self.new.listener ≡ L.asked self.old.listener }
         ensures takes { OfNumber number
             (AsksToTake L.Stream.calls (length buf.now) result) self.old self.new }
+        ensures came { OfNumber number (λ old new.
+            HasPassed L.Stream.given old new []) self.old self.new }
         ensures unsure { NotesByWrite number result self.old self.new }
         ensures others { HoldsOthers self.old.places.items self.new.places.items number }
         ensures opens { self.new.acceptable ≡ self.old.acceptable }

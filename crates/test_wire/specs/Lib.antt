@@ -1,1 +1,3 @@
 pub mod Memory
+pub mod Below
+pub mod Telling

@@ -45,8 +45,8 @@ fn skip_empty<A: Allocator + Copy>(chunks: &mut Vec<Vec<u8, A>, A>)
     }
 }
 
-// Moves bytes from the start of a chunk to the start of the buffer.
-fn take_prefix<A: Allocator + Copy>(chunk: &mut Vec<u8, A>, buf: &mut [u8]) -> usize
+/// Moves bytes from the start of a chunk to the start of the buffer.
+pub fn take_prefix<A: Allocator + Copy>(chunk: &mut Vec<u8, A>, buf: &mut [u8]) -> usize
     ensures count { result ≡ min (length chunk.old.items) (length buf.old) }
     ensures len { length buf.new ≡ length buf.old }
     ensures given { take result buf.new ≡ take (length buf.old) chunk.old.items }

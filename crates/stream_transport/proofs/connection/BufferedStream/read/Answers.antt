@@ -1,6 +1,6 @@
 use Rattle.std.proofs.Common.{[], take, refl}
 use Rattle.std.proofs.KnownBytes.{Keeps-refl}
-use Rattle.stream_transport.proofs.Reading.{gives_kept, none_left, some_left}
+use Rattle.stream_transport.proofs.Reading.{gives_kept, none_left, passes_kept, some_left}
 use Rattle.stream_transport.proofs.connection.BufferedStream.read.Goals as goal
 
 -- nothing is kept
@@ -46,3 +46,13 @@ returns-in_default-clause-written g c = Keeps-refl (g.S.ByteStream.written c.arg
 
 pub returns-in_default-clause-asked : goal.returns-in_default-clause-asked
 returns-in_default-clause-asked g c = record { called = λ may none room. absurd (some_left c.args.self.now.kept c.is_empty.result c.is_empty.ensures c.if-is_empty.false none); awake = λ may found. may; takes = λ may. may }
+
+-- what passed
+pub returns-then-is_empty-clause-came : goal.returns-then-is_empty-clause-came
+returns-then-is_empty-clause-came g c = c.read_stream.ensures.came
+
+pub returns-in-0-clause-came : goal.returns-in-0-clause-came
+returns-in-0-clause-came g c = passes_kept g.S.ByteStream.given c.args.self.now (record c.args.self.now { kept = c.give_line.new.self }) [] refl (rw c.in-0.is at c.give_line.ensures.kept)
+
+pub returns-in_default-clause-came : goal.returns-in_default-clause-came
+returns-in_default-clause-came g c = passes_kept g.S.ByteStream.given c.args.self.now (record c.args.self.now { kept = c.give_line.new.self }) (take c.give_line.result c.give_line.new.buf) refl (c.give_line.ensures.kept)

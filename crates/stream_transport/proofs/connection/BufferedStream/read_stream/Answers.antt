@@ -1,7 +1,7 @@
 use Rattle.std.proofs.Common.{◌≡◌, true, false, ◌++◌, length, take, refl, sym, subst, inl, inr, ◌∙◌}
 use Rattle.std.proofs.KnownBytes.{Keeps-refl}
 use Rattle.usi_lines.specs.OneLine.{IsOneLine}
-use Rattle.stream_transport.proofs.Reading.{gives_line, gives_none, line_in_front, line_within, no_room, none_left, rest_fits, some_left}
+use Rattle.stream_transport.proofs.Reading.{gives_line, gives_none, line_in_front, line_within, no_room, none_left, passes_line, passes_none, rest_fits, some_left}
 use Rattle.stream_transport.proofs.connection.BufferedStream.read_stream.Goals.{then-is_empty-via-then-is_empty, then-is_empty-via-else-is_empty+then-not-self}
 use Rattle.stream_transport.proofs.connection.BufferedStream.read_stream.Goals as goal
 
@@ -100,3 +100,26 @@ returns-clause-written g c = c.receive.ensures.written
 
 pub returns-clause-asked : goal.returns-clause-asked
 returns-clause-asked g c = record { called = λ may kept room. inr (c.receive.result, (c.receive.ensures.called, rw (c.in-Err-Failed.is, c.in-Err-Failed.field-0-is) (refl, may))); awake = λ may found. may; takes = λ may. may }
+
+-- what passed
+pub returns-then-is_empty-clause-came : goal.returns-then-is_empty-clause-came
+returns-then-is_empty-clause-came g c = passes_none g.S.ByteStream.given c.args.self.now c.args.self.now refl (Keeps-refl (g.S.ByteStream.given c.args.self.now.stream))
+
+pub returns-then-not-is_empty-clause-came : goal.returns-then-not-is_empty-clause-came
+returns-then-not-is_empty-clause-came g c =
+    let split : take c.in-Ok.n c.receive.new.buf ≡ c.cut_line.result.0.now ++ c.cut_line.result.1.now = sym c.split_at.ensures.front ∙ c.cut_line.ensures.whole in
+    passes_line g.S.ByteStream.given c.args.self.now (record c.args.self.now { stream = c.receive.new.self; kept = c.within.result }) c.cut_line.result.0.now c.cut_line.result.1.now (take c.in-Ok.n c.receive.new.buf) (take (length c.cut_line.result.0.now) c.receive.new.buf) c.requires split (line_in_front c.receive.new.buf c.cut_line.result.0.now c.cut_line.result.1.now c.in-Ok.n split) c.within.ensures c.in-Ok.ensures.gave
+
+pub returns-else-not-is_empty-clause-came : goal.returns-else-not-is_empty-clause-came
+returns-else-not-is_empty-clause-came g c =
+    let split : take c.in-Ok.n c.receive.new.buf ≡ c.cut_line.result.0.now ++ c.cut_line.result.1.now = sym c.split_at.ensures.front ∙ c.cut_line.ensures.whole in
+    passes_line g.S.ByteStream.given c.args.self.now (record c.args.self.now { stream = c.receive.new.self; kept = c.args.self.now.kept }) c.cut_line.result.0.now c.cut_line.result.1.now (take c.in-Ok.n c.receive.new.buf) (take (length c.cut_line.result.0.now) c.receive.new.buf) c.requires split (line_in_front c.receive.new.buf c.cut_line.result.0.now c.cut_line.result.1.now c.in-Ok.n split) (c.requires ∙ sym (none_left c.cut_line.result.1.now c.is_empty-in-Ok.result c.is_empty-in-Ok.ensures c.if-not-is_empty.false)) c.in-Ok.ensures.gave
+
+pub returns-in-Err-WouldBlock-clause-came : goal.returns-in-Err-WouldBlock-clause-came
+returns-in-Err-WouldBlock-clause-came g c = passes_none g.S.ByteStream.given c.args.self.now (record c.args.self.now { stream = c.receive.new.self; readable = false }) refl c.in-Err-WouldBlock.ensures.gave
+
+pub returns-in-Err-Interrupted-clause-came : goal.returns-in-Err-Interrupted-clause-came
+returns-in-Err-Interrupted-clause-came g c = passes_none g.S.ByteStream.given c.args.self.now (record c.args.self.now { stream = c.receive.new.self }) refl c.in-Err-Interrupted.ensures.gave
+
+pub returns-clause-came : goal.returns-clause-came
+returns-clause-came g c = passes_none g.S.ByteStream.given c.args.self.now (record c.args.self.now { stream = c.receive.new.self }) refl c.in-Err-Failed.ensures.gave

@@ -2,7 +2,7 @@ use Rattle.std.proofs.Common.{◌≡◌, true, false, refl}
 use Rattle.std.proofs.KnownBytes.{Appends-nil, Keeps-refl}
 use Rattle.transport.proofs.Reported.{Appends-none}
 use Rattle.stream_transport.specs.Held.{unread_of}
-use Rattle.stream_transport.proofs.Reading.{unread_stays}
+use Rattle.stream_transport.proofs.Reading.{passes_none, unread_stays}
 use Rattle.stream_transport.proofs.connection.BufferedStream.write.Goals as goal
 
 -- the stream is not asked
@@ -58,3 +58,19 @@ returns-in-Err-Failed-clause-written g c = Appends-none (g.S.ByteStream.written 
 
 pub returns-in-Err-Failed-clause-asked : goal.returns-in-Err-Failed-clause-asked
 returns-in-Err-Failed-clause-asked g c = record { called = λ may. (c.send.result, (c.send.ensures.called, rw (c.in-Err-Failed.is, c.in-Err-Failed.field-0-is) (refl, may))); gives = λ may. may }
+
+-- nothing came
+pub returns-then-not-self-clause-came : goal.returns-then-not-self-clause-came
+returns-then-not-self-clause-came g c = passes_none g.S.ByteStream.given c.args.self.now c.args.self.now refl (Keeps-refl (g.S.ByteStream.given c.args.self.now.stream))
+
+pub returns-in-Ok-clause-came : goal.returns-in-Ok-clause-came
+returns-in-Ok-clause-came g c = passes_none g.S.ByteStream.given c.args.self.now (record c.args.self.now { stream = c.send.new.self }) refl c.send.ensures.given
+
+pub returns-in-Err-WouldBlock-clause-came : goal.returns-in-Err-WouldBlock-clause-came
+returns-in-Err-WouldBlock-clause-came g c = passes_none g.S.ByteStream.given c.args.self.now (record c.args.self.now { stream = c.send.new.self; writable = false }) refl c.send.ensures.given
+
+pub returns-in-Err-Interrupted-clause-came : goal.returns-in-Err-Interrupted-clause-came
+returns-in-Err-Interrupted-clause-came g c = passes_none g.S.ByteStream.given c.args.self.now (record c.args.self.now { stream = c.send.new.self }) refl c.send.ensures.given
+
+pub returns-in-Err-Failed-clause-came : goal.returns-in-Err-Failed-clause-came
+returns-in-Err-Failed-clause-came g c = passes_none g.S.ByteStream.given c.args.self.now (record c.args.self.now { stream = c.send.new.self }) refl c.send.ensures.given

@@ -62,3 +62,12 @@ returns-clause-unsure g c =
     let same : c.write-taken.new.self.number ≡ c.args.number = c.write-taken.ensures.number ∙ c.in-Some.ensures.number in
     let there : held c.insert.new.places.items c.args.number ≡ Some c.write-taken.new.self = held_as c.insert.new.places.items c.args.number c.write-taken.new.self.number c.write-taken.new.self same c.insert.ensures.held in
     rw (c.answer-2.ensures.places, c.answer-2.ensures.unchanged, c.answer-2.ensures.unsure, there, c.took_nothing.ensures) refl
+
+-- nothing came
+pub returns-in_default-clause-came : goal.returns-in_default-clause-came
+returns-in_default-clause-came g c = of_none _ (held c.args.self.now.places.items c.args.number) _ (sym c.remove.ensures.out ∙ c.in_default.is)
+
+pub returns-clause-came : goal.returns-clause-came
+returns-clause-came g c =
+    let same : c.write-taken.new.self.number ≡ c.args.number = c.write-taken.ensures.number ∙ c.in-Some.ensures.number in
+    rw c.answer-2.ensures.places (of_held _ (held c.args.self.now.places.items c.args.number) (held c.insert.new.places.items c.args.number) c.in-Some.connection c.write-taken.new.self (sym c.remove.ensures.out ∙ c.in-Some.is) (held_as c.insert.new.places.items c.args.number c.write-taken.new.self.number c.write-taken.new.self same c.insert.ensures.held) c.write-taken.ensures.came)

@@ -2,7 +2,7 @@ use Rattle.std.proofs.Common.{refl}
 use Rattle.stream_transport.specs.Asking.{IsQuiet}
 use Rattle.stream_transport.specs.Held.{held}
 use Rattle.stream_transport.proofs.Outcomes.{cause_of_ok, not_below}
-use Rattle.stream_transport.proofs.Placing.{no_more, none_noted, quiet_asks, quiet_kept, quiet_sleeps}
+use Rattle.stream_transport.proofs.Placing.{no_more, none_noted, quiet_asks, quiet_kept, quiet_passes, quiet_sleeps}
 use Rattle.stream_transport.proofs.Reports.{reads_none}
 use Rattle.stream_transport.proofs.wire.StreamWireWire.read.Goals as goal
 
@@ -66,3 +66,11 @@ returns-clause-others g c = c.read_from-got.ensures.others
 
 pub returns-clause-unsure : goal.returns-clause-unsure
 returns-clause-unsure g c = c.read_from-got.ensures.unsure
+
+pub returns-then-is_quiet-clause-came : goal.returns-then-is_quiet-clause-came
+returns-then-is_quiet-clause-came g c =
+    let quiet : IsQuiet (held c.args.self.now.places.items c.args.number) = rw c.as_slice.ensures.value at c.is_quiet.ensures c.if-is_quiet.true in
+    quiet_passes _ (held c.args.self.now.places.items c.args.number) quiet
+
+pub returns-clause-came : goal.returns-clause-came
+returns-clause-came g c = c.read_from-got.ensures.came

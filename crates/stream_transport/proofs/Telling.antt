@@ -1,0 +1,87 @@
+-- What was noted under a number, after one more.
+use Rattle.std.proofs.Common.{◌≡◌, ◌≢◌, ℕ, Bool, true, false, List, [], ◌∷◌, ◌++◌, Some, refl, sym, ap, ◌∙◌}
+use Rattle.std.specs.Prelude.{◌==◌, ◌||◌, cond}
+use borrow.Author.Tests.{eqb-false, ne_eqb}
+use Rattle.stream_transport.specs.Streams.{IsToldFailed, IsToldShut, KeepsElse}
+use Rattle.stream_transport.specs.Noted.{is_noted, last_after, last_under}
+use Rattle.stream_transport.specs.Told.{told_by}
+use Rattle.stream_transport.specs.declared.log.Bytes.{Bytes}
+
+is_true : (b : Bool) → (b ≡ false → ⊥) → b ≡ true
+is_true true h = refl
+is_true false h = absurd (h refl)
+
+same : (n : ℕ) → (n == n) ≡ true
+same n = is_true (n == n) (λ e. eqb-false n n e refl)
+
+or_true : (b : Bool) → (b || true) ≡ true
+or_true true = refl
+or_true false = refl
+
+module _ {X : Type 0} where
+  noted_at : (number : ℕ) (x : X) → is_noted ((number, x) ∷ []) number ≡ true
+  noted_at number x = ap (λ (b : Bool). b || false) (same number)
+
+  pub noted_now : (xs : List (ℕ × X)) (number : ℕ) (x : X) → is_noted (xs ++ (number, x) ∷ []) number ≡ true
+  noted_now [] number x = noted_at number x
+  noted_now (y ∷ xs) number x = ap (λ (b : Bool). (y.0 == number) || b) (noted_now xs number x) ∙ or_true (y.0 == number)
+
+  pub noted_else : (xs : List (ℕ × X)) (number other : ℕ) (x : X) → other ≢ number → is_noted (xs ++ (number, x) ∷ []) other ≡ is_noted xs other
+  noted_else [] number other x apart = ap (λ (b : Bool). b || false) (ne_eqb number other (λ e. apart (sym e)))
+  noted_else (y ∷ xs) number other x apart = ap (λ (b : Bool). (y.0 == other) || b) (noted_else xs number other x apart)
+
+  module _ (f : X → List ℕ) where
+    pub last_now : (bytes : List ℕ) (xs : List (ℕ × X)) (number : ℕ) (x : X) → last_after f bytes (xs ++ (number, x) ∷ []) number ≡ f x
+    last_now bytes [] number x = ap (λ (b : Bool). cond b (f x) bytes) (same number)
+    last_now bytes (y ∷ xs) number x = last_now (cond (y.0 == number) (f y.1) bytes) xs number x
+
+    pub last_else : (bytes : List ℕ) (xs : List (ℕ × X)) (number other : ℕ) (x : X) → other ≢ number → last_after f bytes (xs ++ (number, x) ∷ []) other ≡ last_after f bytes xs other
+    last_else bytes [] number other x apart = ap (λ (b : Bool). cond b (f x) bytes) (ne_eqb number other (λ e. apart (sym e)))
+    last_else bytes (y ∷ xs) number other x apart = last_else (cond (y.0 == other) (f y.1) bytes) xs number other x apart
+
+module _ (back : List (ℕ × Bytes)) (shut failed : List (ℕ × Unit {0})) (number : ℕ) where
+  -- one more call failed
+  pub told_failed : (now : List (ℕ × Unit {0})) → now ≡ failed ++ (number, tt) ∷ [] → IsToldFailed (told_by back shut failed) (told_by back shut now) number
+  told_failed now e = record {
+    unread = tt;
+    written = refl;
+    shut = refl;
+    failed = ap (λ (b : Bool). Some b) (ap (λ xs. is_noted xs number) e ∙ noted_now failed number tt);
+    others = λ other apart. record {
+      unread = tt;
+      written = refl;
+      shut = refl;
+      failed = ap (λ (b : Bool). Some b) (ap (λ xs. is_noted xs other) e ∙ noted_else failed number other tt apart);
+    };
+  }
+
+  -- one more number is shut
+  pub told_shut : (now : List (ℕ × Unit {0})) → now ≡ shut ++ (number, tt) ∷ [] → IsToldShut (told_by back shut failed) (told_by back now failed) number
+  told_shut now e = record {
+    unread = tt;
+    written = refl;
+    shut = ap (λ (b : Bool). Some b) (ap (λ xs. is_noted xs number) e ∙ noted_now shut number tt);
+    failed = refl;
+    others = λ other apart. record {
+      unread = tt;
+      written = refl;
+      shut = ap (λ (b : Bool). Some b) (ap (λ xs. is_noted xs other) e ∙ noted_else shut number other tt apart);
+      failed = refl;
+    };
+  }
+
+  -- one more stream came back
+  pub told_taken : (now : List (ℕ × Bytes)) (bytes : Bytes) → now ≡ back ++ (number, bytes) ∷ [] → last_under (λ (b : Bytes). b.items) now number ≡ bytes.items
+  told_taken now bytes e = ap (λ xs. last_under (λ (b : Bytes). b.items) xs number) e ∙ last_now (λ (b : Bytes). b.items) [] back number bytes
+
+  pub told_rest : (now : List (ℕ × Bytes)) (bytes : Bytes) → now ≡ back ++ (number, bytes) ∷ [] → KeepsElse (told_by back shut failed) (told_by now shut failed) number
+  told_rest now bytes e = record {
+    shut = refl;
+    failed = refl;
+    others = λ other apart. record {
+      unread = tt;
+      written = ap (λ xs. last_under (λ (b : Bytes). b.items) xs other) e ∙ last_else (λ (b : Bytes). b.items) [] back number other bytes apart;
+      shut = refl;
+      failed = refl;
+    };
+  }
