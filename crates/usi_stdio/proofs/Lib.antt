@@ -3,3 +3,4 @@ pub mod Writing
 pub mod Working
 pub mod Lining
 pub mod Between
+pub mod Remembering

@@ -2,3 +2,4 @@ pub mod Calls
 pub mod Dialogue
 pub mod Saying
 pub mod Stdio
+pub mod Remembered

@@ -5,4 +5,4 @@ mod front_end;
 mod streams;
 
 pub use front_end::{Duplex, FrontEnd};
-pub use streams::{SLICE, StdioFault, stdio, stdio_with_setup, write_out};
+pub use streams::{SLICE, StdioFault, stdio, stdio_on, stdio_with_setup, write_out};

@@ -2,6 +2,7 @@
 
 ghost use Rattle.std.specs.Prelude.{◌≡◌, ◌<◌, ◌≤◌, ℕ, List, [], true, false, length, IfErr, OnOk, OnErr, Err};
 ghost use Rattle.usi_stdio.specs.Dialogue.{Talks};
+ghost use Rattle.usi_stdio.specs.Remembered.{TellsFed, TellsMemory, TellsTable};
 ghost use Rattle.usi_stdio.specs.Saying.{CutShort, CutShortDue, IsAnsweredInFull, SaidDue, Says, Worked, Wrote, WrotePrefix, slices_of};
 ghost use Rattle.usi_stdio.specs.Stdio.{IsLeft, IsServed};
 ghost use Rattle.usi_stdio.specs.declared.streams.StdioFault.TheVariants.{OutOfMemory, WriteFailed};
@@ -9,7 +10,7 @@ ghost use Rattle.usi_lines.specs.OneLine.{IsOneLine};
 ghost use Rattle.usi_lines.specs.Lines.{lines};
 ghost use Rattle.usi_texts.specs.Setup.{default_setup};
 ghost use Rattle.usi_session.specs.Answer.{initial_state_under};
-ghost use Rattle.usi_session.specs.Due.{due, is_pending, new_session_under, state_due, wants_input};
+ghost use Rattle.usi_session.specs.Due.{due, is_pending, new_session_under, state_due, wants_input, EndsSearches};
 ghost use Rattle.usi_session.specs.WholeStream.{replies_under, state_from};
 ghost use Rattle.usi_session.specs.declared.limits.TheConstants.{CHUNK_MAX};
 ghost use Rattle.shared_table.specs.declared.table.TheConstants.{CAPACITY_MAX};
@@ -113,6 +114,9 @@ fn work_slice<A: Allocator + Copy, M: Memo, T: FrontEnd>(
     ensures ok { OnOk result (Worked T.report session.old session.new front_end.old front_end.new) }
     ensures fewer { OnOk result (slices_of session.new < slices_of session.old) }
     ensures err { CutShortDue T.report result front_end.old front_end.new session.old [] }
+    ensures told { OnOk result
+        (EndsSearches M.called memo.old memo.new session.old session.new) }
+    ensures capacity { M.capacity memo.new ≡ M.capacity memo.old }
 {
     session.work(memo, SLICE)?;
     write_queued(session, front_end)
@@ -128,6 +132,9 @@ fn work_off<A: Allocator + Copy, M: Memo, T: FrontEnd>(
     ensures ok { OnOk result (Worked T.report session.old session.new front_end.old front_end.new) }
     ensures settled { OnOk result (is_pending session.new ≡ false) }
     ensures err { CutShortDue T.report result front_end.old front_end.new session.old [] }
+    ensures told { OnOk result
+        (EndsSearches M.called memo.old memo.new session.old session.new) }
+    ensures capacity { M.capacity memo.new ≡ M.capacity memo.old }
 {
     'slices: while session.pending() {
         work_slice(session, memo, front_end)?;
@@ -149,6 +156,9 @@ fn answer_line<A: Allocator + Copy, M: Memo, T: FrontEnd>(
     ensures ok { OnOk result (SaidDue T.report front_end.old front_end.new session.old line.now) }
     ensures answered { OnOk result (IsAnsweredInFull session.old session.new line.now) }
     ensures err { CutShortDue T.report result front_end.old front_end.new session.old line.now }
+    ensures told { OnOk result
+        (TellsFed M.called memo.old memo.new session.old line.now session.new) }
+    ensures capacity { M.capacity memo.new ≡ M.capacity memo.old }
 {
     session.feed(line)?;
     work_off(session, memo, front_end)
@@ -168,6 +178,9 @@ fn answer_chunk<A: Allocator + Copy, M: Memo, T: FrontEnd>(
     ensures ok { OnOk result (SaidDue T.report front_end.old front_end.new session.old chunk.now) }
     ensures answered { OnOk result (IsAnsweredInFull session.old session.new chunk.now) }
     ensures err { CutShort T.report result front_end.old front_end.new (due session.old chunk.now) }
+    ensures told { OnOk result
+        (TellsFed M.called memo.old memo.new session.old chunk.now session.new) }
+    ensures capacity { M.capacity memo.new ≡ M.capacity memo.old }
 {
     let mut rest = chunk;
     'lines: while !rest.is_empty() && !session.is_over() {
@@ -194,6 +207,9 @@ fn answer_all<A: Allocator + Copy, M: Memo, T: FrontEnd>(
         (IsLeft session.old.state.setup (T.report front_end.old) (T.report front_end.new)) }
     ensures calls { Talks session.old.state.setup
         (T.report front_end.old).calls (T.report front_end.new).calls result }
+    ensures told { OnOk result (TellsMemory M.called session.old.state.setup
+        (T.report front_end.old) (T.report front_end.new) memo.old memo.new) }
+    ensures capacity { M.capacity memo.new ≡ M.capacity memo.old }
 {
     let mut chunk = [0u8; CHUNK_MAX];
     'chunks: for _reads in 0..u64::MAX {
@@ -226,6 +242,8 @@ pub fn stdio<A: Allocator + Copy, T: FrontEnd>(
         (IsLeft default_setup (T.report front_end.old) (T.report front_end.new)) }
     ensures calls { Talks default_setup
         (T.report front_end.old).calls (T.report front_end.new).calls result }
+    ensures table { OnOk result
+        (TellsTable default_setup entries (T.report front_end.old) (T.report front_end.new)) }
 {
     stdio_with_setup(alloc, Setup::new(), front_end, entries)
 }
@@ -252,9 +270,31 @@ pub fn stdio_with_setup<A: Allocator + Copy, T: FrontEnd>(
     ensures err { OnErr result (IsLeft setup (T.report front_end.old) (T.report front_end.new)) }
     ensures calls { Talks setup
         (T.report front_end.old).calls (T.report front_end.new).calls result }
+    ensures table { OnOk result
+        (TellsTable setup entries (T.report front_end.old) (T.report front_end.new)) }
 {
     let hasher = BuildHasherDefault::<FoldHasher>::new();
     let mut table = SharedTable::new(alloc, entries, hasher)?;
+    stdio_on(alloc, setup, front_end, &mut table)
+}
+
+/// Runs one session as `stdio_with_setup` does, over a memory that the caller keeps: a table, or
+/// `NoMemo`. After a success it was told each search along a pv of what was read.
+pub fn stdio_on<A: Allocator + Copy, M: Memo, T: FrontEnd>(
+    alloc: A,
+    setup: Setup,
+    front_end: &mut T,
+    memo: &mut M,
+) -> Result<(), StdioFault>
+    ensures ok { OnOk result
+        (IsServed setup (T.report front_end.old) (T.report front_end.new)) }
+    ensures err { OnErr result (IsLeft setup (T.report front_end.old) (T.report front_end.new)) }
+    ensures calls { Talks setup
+        (T.report front_end.old).calls (T.report front_end.new).calls result }
+    ensures told { OnOk result (TellsMemory M.called setup
+        (T.report front_end.old) (T.report front_end.new) memo.old memo.new) }
+    ensures capacity { M.capacity memo.new ≡ M.capacity memo.old }
+{
     let mut session = Session::with_setup(alloc, setup);
-    answer_all(&mut session, &mut table, front_end)
+    answer_all(&mut session, memo, front_end)
 }

@@ -1,6 +1,7 @@
 use Rattle.std.proofs.lemmas.Result.{IfErr-weaker}
 use Rattle.usi_stdio.proofs.Lining.{in_full, line_answers, said_due}
 use Rattle.usi_stdio.proofs.Working.{on_ok_both, prefix_of_fed}
+use Rattle.usi_stdio.proofs.Remembering.{on_ok, told_fed}
 use Rattle.usi_stdio.proofs.streams.answer_line.Goals as goal
 
 -- a prefix of what was due to the line is one whatever follows
@@ -16,3 +17,7 @@ returns-clause-ok g c =
 pub returns-clause-answered : goal.returns-clause-answered
 returns-clause-answered g c =
     on_ok_both c.work_off.result (λ w settled. in_full _ _ _ _ _ (line_answers c.args.session.now c.feed.new.self c.work_off.new.session c.args.line.now _ _ c.in_ok-feed.ensures.due c.in_ok-feed.ensures.after w settled)) c.work_off.ensures.ok c.work_off.ensures.settled
+
+pub returns-clause-told : goal.returns-clause-told
+returns-clause-told g c =
+    on_ok c.work_off.result (told_fed g.M.Memo.called _ _ c.args.session.now c.feed.new.self c.work_off.new.session c.args.line.now c.in_ok-feed.ensures.roots) c.work_off.ensures.told
