@@ -66,11 +66,10 @@ pub known_later : (before after : Shogi → Eval → ℕ → Option Entry)
     → ((q : Shogi) (f : Eval) (n : ℕ) → after q f n ≡ before q f n) → (xs : List Root)
     → AreKnown before xs → AreKnown after xs
 known_later before after same [] all = tt
-known_later before after same (x ∷ xs) all =
-    (
-      subst IsExactly (sym (same x.position x.eval x.depth)) all.0,
-      known_later before after same xs all.1,
-    )
+known_later before after same (x ∷ xs) all = (
+  subst IsExactly (sym (same x.position x.eval x.depth)) all.0,
+  known_later before after same xs all.1,
+)
 
 -- the root where a walk stands is the first
 known_here : (answers : Shogi → Eval → ℕ → Option Entry) (q : GoRequest) (depths_done lines_done : ℕ)

@@ -323,10 +323,10 @@ told_searched called old new s go next go_task ahead alive i e told =
     rw i (record {
       ended = told.ended;
       left = λ x. roots-alive s (Some go) (ahead x) alive
-      ∙ (ap (λ (roots : List Root). roots ++ roots_from (rest_of_go s go).state (ahead x)) told.left
-      ∙ (append_assoc told.ended (roots_of next) (roots_from (rest_of_go s go).state (ahead x))
-      ∙ (ap (λ (rest : List Root). told.ended ++ (roots_of next ++ rest)) (sym (same x))
-      ∙ ap (λ (roots : List Root). told.ended ++ roots) (sym (roots-alive s (Some next) (ahead x) alive)))));
+          ∙ (ap (λ (roots : List Root). roots ++ roots_from (rest_of_go s go).state (ahead x)) told.left
+          ∙ (append_assoc told.ended (roots_of next) (roots_from (rest_of_go s go).state (ahead x))
+          ∙ (ap (λ (rest : List Root). told.ended ++ (roots_of next ++ rest)) (sym (same x))
+          ∙ ap (λ (roots : List Root). told.ended ++ roots) (sym (roots-alive s (Some next) (ahead x) alive)))));
       told = told.told;
     })
 

@@ -53,8 +53,8 @@ pub told_line : {M : Type 0} (called : M → Call → M → Type 0) (a b c : M) 
 told_line called a b c before mid now chunk rest line after h split w = record {
   ended = h.ended ++ w.ended;
   left = λ x. h.left x
-  ∙ (ap (λ xs. h.ended ++ roots_due mid xs) (behind rest line after x split)
-  ∙ (ap (λ (roots : List Root). h.ended ++ roots) (w.left (after ++ x)) ∙ sym (append_assoc h.ended w.ended (roots_due now (after ++ x)))));
+      ∙ (ap (λ xs. h.ended ++ roots_due mid xs) (behind rest line after x split)
+      ∙ (ap (λ (roots : List Root). h.ended ++ roots) (w.left (after ++ x)) ∙ sym (append_assoc h.ended w.ended (roots_due now (after ++ x)))));
   told = told_and_told called a b c h.ended w.ended h.told w.told;
 }
 
@@ -108,8 +108,8 @@ told_chunk called setup before mid now new a b c s t n buf chunk h r same kept w
   consumed = rw (kept, same) (Consumes-trans before.unread mid.unread now.unread h.read (take n buf) h.consumed r.consumed.0);
   ended = h.ended ++ w.ended;
   left = λ x. ap (roots_under setup) (append_assoc h.read chunk x)
-  ∙ (h.left (chunk ++ x)
-  ∙ (ap (λ (roots : List Root). h.ended ++ roots) (w.left x) ∙ sym (append_assoc h.ended w.ended (roots_due t x))));
+      ∙ (h.left (chunk ++ x)
+      ∙ (ap (λ (roots : List Root). h.ended ++ roots) (w.left x) ∙ sym (append_assoc h.ended w.ended (roots_due t x))));
   told = told_and_told called a b c h.ended w.ended h.told w.told;
 }
 

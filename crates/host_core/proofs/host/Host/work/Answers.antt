@@ -31,7 +31,7 @@ returns-clause-worked g c =
         idle = λ h. c.work-worked.ensures.idle (sym (ap pending_of is) ∙ h);
         told = of_written (EndsSearches IsUsed c.self.inside.table c.work-worked.new.memo) slots (with_session slots c.args.id c.work-worked.new.session) c.args.id c.in-Some.session.now c.work-worked.new.session is refl c.work-worked.ensures.told;
         known = of_written (λ before after. IsAllKnown (answers_of c.self.inside.table) before → NeedsNoStep (as_outcome Worked c.work-worked.result) after) slots (with_session slots c.args.id c.work-worked.new.session) c.args.id c.in-Some.session.now c.work-worked.new.session is refl
-        (no_step c.work-worked.result c.self.inside.table c.in-Some.session.now c.work-worked.new.session c.work-worked.ensures.known);
+            (no_step c.work-worked.result c.self.inside.table c.in-Some.session.now c.work-worked.new.session c.work-worked.ensures.known);
       },
     )
 

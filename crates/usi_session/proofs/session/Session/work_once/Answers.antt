@@ -89,11 +89,10 @@ returns-then-is_searching-clause-known g c =
     rw (← c.self.view_is) (λ keeps known.
     let running = known_running (g.M.Memo.answers c.args.memo.now) s.state s.queue s.input c.in-Some.go_task s.go_task (pending_alive (record { state = s.state; go_task = s.go_task; queued = s.queue; input = s.input }) (ap is_pending c.self.view_is ∙ c.requires.pending)) c.in-Some.is known in
     let passed = c.advance.ensures.known running.0 running.1 in
-    let told = told_searched g.M.Memo.called c.args.memo.now c.advance.new.memo s.state c.in-Some.go_task c.advance.new.self s.go_task (ahead s.input) (pending_alive (record { state = s.state; go_task = s.go_task; queued = s.queue; input = s.input }) (ap is_pending c.self.view_is ∙ c.requires.pending)) c.in-Some.is c.advance.ensures.unchanged c.advance.ensures.told in
-    (
+    let told = told_searched g.M.Memo.called c.args.memo.now c.advance.new.memo s.state c.in-Some.go_task c.advance.new.self s.go_task (ahead s.input) (pending_alive (record { state = s.state; go_task = s.go_task; queued = s.queue; input = s.input }) (ap is_pending c.self.view_is ∙ c.requires.pending)) c.in-Some.is c.advance.ensures.unchanged c.advance.ensures.told in (
       passed.made,
       known_passed (g.M.Memo.answers c.args.memo.now) (g.M.Memo.answers c.advance.new.memo) s.state s.queue s.input c.in-Some.go_task c.advance.new.self s.go_task c.in-Some.is c.advance.ensures.unchanged passed.between
-      (answers_kept g.M.Memo.answers g.M.Memo.called c.args.memo.now c.advance.new.memo keeps passed.asked) told.ended (told.left []) known,
+          (answers_kept g.M.Memo.answers g.M.Memo.called c.args.memo.now c.advance.new.memo keeps passed.asked) told.ended (told.left []) known,
     ))
 
 pub returns-in_ok-answer_next-in-None-clause-known : goal.returns-in_ok-answer_next-in-None-clause-known
