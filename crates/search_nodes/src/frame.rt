@@ -49,7 +49,7 @@ pub struct Frame {
     pub escapes: Option<Squares>,
     /// Captures that the other side may make after most moves, once they were looked for.
     pub threats: Option<Threats>,
-    /// Drops that one reply refutes, if there are some, once they were looked for.
+    /// Quiet moves that one reply refutes, once a reply was found that does.
     pub dull: Option<DullMoves>,
     pub alpha: i32,
     pub beta: i32,
@@ -61,8 +61,9 @@ pub struct Frame {
     pub has_move: bool,
     /// Set once the replies are those of the position.
     pub has_replies: bool,
-    /// Set once drops that one reply refutes were looked for.
+    /// How many replies were tried for that.
     pub dull_tries: u8,
+    /// The last of them.
     pub dull_reply: Option<Move>,
     /// Codes of moves that cut off the last nodes of this place, the last one first.
     pub killers: [u16; KILLERS],
