@@ -11,6 +11,7 @@ import struct
 import threading
 
 EPOLL_CTL = 233
+ACCEPT4 = 288
 
 # prctl(2), seccomp(2) and its structures
 SECCOMP = 317

@@ -1115,6 +1115,40 @@ def a_status_while_the_host_is_full():
             until_status(running, "it is counted", full=number, used=2)
 
 
+def a_status_while_no_more_files_can_be_opened():
+    """One descriptor is kept for it, again and again."""
+    with told(preexec_fn=files(16)) as running, contextlib.ExitStack() as stack:
+        clients = [stack.enter_context(running.connect()) for _ in range(30)]
+        clients[0].sendall(b"isready\n")
+        want(exactly(clients[0], 8), b"readyok\n", "a client with a descriptor")
+        until_status(running, "an accept has failed", full=0, searching=0)
+        for _ in range(40):
+            if not 0 < status(running)["used"] < 16:
+                raise Wrong(f"those who are served: {status(running)}")
+        does_not_spin(running, "no more files can be opened")
+        clients[0].close()
+        for client in clients[1:25]:
+            client.sendall(b"quit\n")
+        until_status(running, "those who waited are served", used=5)
+
+
+def a_status_whose_accept_fails_is_answered_later():
+    """Nothing else happens meanwhile. The first accept is that of the other socket."""
+    with refusals.refusing(refusals.ACCEPT4, set(range(2, 8))) as how, told(**how) as running:
+        before = running.seconds()
+        seen = status(running)
+        if seen["faults"] < 3:
+            raise Wrong(f"the accepts that failed: {seen}")
+        if running.seconds() - before > 0.2:
+            raise Wrong("it spins while an accept fails")
+
+
+def what_comes_behind_quit_is_not_counted():
+    with told() as running:
+        want(running.ask(b"isready\nquit\n" + b"usi\n" * 100), b"readyok\n", "a client")
+        until_status(running, "its end", finished=1, bytes_in=13, bytes_out=8)
+
+
 def a_status_socket_that_cannot_be_made_is_told():
     with folder() as place:
         there = os.path.join(place, "there")
@@ -1225,6 +1259,9 @@ CHECKS = (
     sixty_four_status_clients_at_once,
     hostile_status_clients,
     a_status_while_the_host_is_full,
+    a_status_while_no_more_files_can_be_opened,
+    a_status_whose_accept_fails_is_answered_later,
+    what_comes_behind_quit_is_not_counted,
     a_status_socket_that_cannot_be_made_is_told,
     words_of_serve,
 )

@@ -40,10 +40,10 @@ counted totals tally = record {
   refused_work = plus totals.refused_work tally.refused;
 }
 
--- the numbers of a host, its connections and its wire
-abbrev pub status_from : {L A S : Type 0} → Limits → Totals → HostState → LoopState
+-- the numbers of a host, its connections and its wire; so many calls failed beside those of the wire
+abbrev pub status_from : {L A S : Type 0} → Limits → Totals → ℕ → HostState → LoopState
     → StreamWire L A S → Status
-status_from limits totals host connections wire = record {
+status_from limits totals faults host connections wire = record {
   limits = limits;
   setup = host.setup;
   totals = totals;
@@ -53,5 +53,5 @@ status_from limits totals host connections wire = record {
   refused_notes = host.table.refused;
   received = wire.received;
   sent = wire.sent;
-  faults = wire.failed;
+  faults = plus wire.failed faults;
 }

@@ -11,6 +11,7 @@ mod status_socket;
 mod tally;
 mod turn;
 mod visit;
+mod visitors;
 
 pub use connection::{Connection, Link};
 pub use laws::{answers_as_alone, isolation};

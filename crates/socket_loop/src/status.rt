@@ -63,7 +63,7 @@ pub struct Status {
     pub received: u64,
     /// The bytes that were written to connections.
     pub sent: u64,
-    /// The calls of the wire that the system failed.
+    /// The calls that the system failed, of the wire and of the status.
     pub faults: u64,
 }
 
@@ -99,15 +99,16 @@ impl Totals {
     }
 }
 
-/// The numbers of a host, its connections and its wire.
+/// The numbers of a host, its connections and its wire; so many calls failed beside those of the wire.
 pub fn status_of<S: BuildHasher, A: Allocator + Copy>(
     limits: Limits,
     totals: Totals,
+    faults: u64,
     host: &Host<S, A>,
     connections: &Loop<A>,
     wire: &MioWire<A>,
 ) -> Status
-    ensures { result ≡ status_from limits totals host.now connections.now wire.now }
+    ensures { result ≡ status_from limits totals faults host.now connections.now wire.now }
 {
     Status {
         limits,
@@ -119,6 +120,6 @@ pub fn status_of<S: BuildHasher, A: Allocator + Copy>(
         refused_notes: host.refused_notes(),
         received: wire.received,
         sent: wire.sent,
-        faults: wire.faults(),
+        faults: wire.faults().saturating_add(faults),
     }
 }

@@ -8,48 +8,26 @@ use crate::monitor::Monitor;
 use crate::status::{Limits, Totals, status_of};
 use crate::status_line::{LINE_MAX, write_line};
 use crate::turn::{Loop, Turn};
+use crate::visitors::Visitors;
 use host_core::Host;
-use mio::Registry;
-use mio::net::{UnixListener, UnixStream};
+use mio::net::UnixListener;
 use std::alloc::Allocator;
 use std::fs::Files;
 use std::hash::BuildHasher;
-use std::io::Write;
 use std::net::Net;
-use stream_transport::{MioWire, watch_again};
+use stream_transport::MioWire;
 use transport::WireFault;
-
-/// How many are answered after a turn.
-const ANSWERS: usize = 16;
 
 /// A Unix socket that tells the status of a host to whoever connects: one line, in one write that does
 /// not wait, and then the connection is closed, whatever was taken of it.
 #[derive(Drop)]
 pub struct StatusSocket<A: Allocator> {
-    listener: UnixListener,
-    registry: Registry,
+    visitors: Visitors,
     line: Vec<u8, A>,
     /// What the host was given.
     pub limits: Limits,
     /// What was counted so far.
     pub totals: Totals,
-}
-
-/// Writes the line in one write, and closes the connection, whatever was taken.
-fn answer(stream: UnixStream, line: &[u8]) {
-    let mut client = stream;
-    let _taken = client.write(line);
-}
-
-/// Answers those who wait, one fewer than `ANSWERS`. Returns whether more may wait.
-fn answer_more(listener: &UnixListener, line: &[u8]) -> bool {
-    for _ in 1..ANSWERS {
-        let Ok((stream, _)) = listener.accept() else {
-            return false;
-        };
-        answer(stream, line);
-    }
-    true
 }
 
 impl<A: Allocator + Copy> StatusSocket<A> {
@@ -77,8 +55,7 @@ impl<A: Allocator + Copy> StatusSocket<A> {
             return Err(WireFault::Device);
         };
         Ok(StatusSocket {
-            listener,
-            registry,
+            visitors: Visitors::new(listener, registry),
             line,
             limits,
             totals: Totals::NONE,
@@ -90,7 +67,8 @@ impl<A: Allocator + Copy> StatusSocket<A> {
         ensures limits { self.new.limits ≡ self.old.limits }
         ensures totals { self.new.totals ≡ self.old.totals }
     {
-        let status = status_of(self.limits, self.totals, host, connections, wire);
+        let faults = self.visitors.faults;
+        let status = status_of(self.limits, self.totals, faults, host, connections, wire);
         if write_line(&mut self.line, &status).is_err() {
             self.line.clear();
         }
@@ -109,13 +87,9 @@ impl<S: BuildHasher, A: Allocator + Copy> Monitor<MioWire<A>, S, A> for StatusSo
         ensures totals { self.new.totals ≡ counted self.old.totals turn.now.tally }
     {
         self.totals.count(&turn.tally);
-        let Ok((first, _)) = self.listener.accept() else {
-            return;
-        };
-        self.tell(host, connections, wire);
-        answer(first, self.line.as_slice());
-        if answer_more(&self.listener, self.line.as_slice()) {
-            let _watched = watch_again(&self.registry, &mut self.listener);
+        if let Some(first) = self.visitors.next_after(wire.listener.visits) {
+            self.tell(host, connections, wire);
+            self.visitors.answer_all(first, self.line.as_slice());
         }
     }
 }
