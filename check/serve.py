@@ -1179,8 +1179,22 @@ def a_status_socket_that_cannot_be_made_is_told():
             )
             seen = (ended.returncode, ended.stdout, ended.stderr)
             want(seen, (1, b"", failed + why), f"a status at {other!r}")
-            os.unlink(path)
+            want(os.path.lexists(path), False, "the file of the other socket")
         listener.close()
+        names = sorted(os.listdir(place))
+        want(names, ["left", "listens", "there"], "the files that were there")
+
+
+def too_few_files_are_told_at_the_start():
+    with folder() as place:
+        for slots, most, said in (
+            (20, 30, b""),
+            (20, 29, b"usi_host: 30 files are wanted, and 29 may be open (ulimit -n)\n"),
+        ):
+            running = Host(place, "--slots", str(slots), preexec_fn=files(most))
+            want(running.ask(b"isready\n"), b"readyok\n", "a client")
+            want(running.stop(), (b"", said), f"what it wrote, which may open {most} files")
+            os.unlink(running.path)
 
 
 def words_of_serve():
@@ -1263,6 +1277,7 @@ CHECKS = (
     a_status_whose_accept_fails_is_answered_later,
     what_comes_behind_quit_is_not_counted,
     a_status_socket_that_cannot_be_made_is_told,
+    too_few_files_are_told_at_the_start,
     words_of_serve,
 )
 

@@ -13,12 +13,14 @@ use host_core::Host;
 use socket_loop::{Limits, Loop, StatusSocket, serve};
 use std::alloc::Global;
 use std::hash::RandomState;
-use std::io;
 use std::io::IsTerminal;
 use std::process::ExitCode;
+use std::{fs, io};
 use stream_transport::MioWire;
 use transport::WireFault;
-use usi_app::{DONE, ServeFault, counting, listing, print_out, socket_fault, status_fault};
+use usi_app::{
+    DONE, ServeFault, counting, listing, print_out, socket_fault, status_fault, warn_of_files,
+};
 use usi_arguments::{Job, SetupOptions, asked, complaint, status, version_text};
 use usi_stdio::Duplex;
 
@@ -57,7 +59,7 @@ fn watched(
 }
 
 /// Serves a host on a Unix socket at this path, for so many turns, and where there is another path its
-/// status on one there.
+/// status on one there. Where that one cannot be made, the file of the first is removed again.
 fn serve_host(
     rt: &HostRuntime,
     host: &mut Host<RandomState, Global>,
@@ -72,7 +74,13 @@ fn serve_host(
         return Err(ServeFault::OutOfMemory);
     };
     let mut wire = bound(rt, socket)?;
-    let mut watch = watched(rt, status, limits, &wire)?;
+    let mut watch = match watched(rt, status, limits, &wire) {
+        Ok(watch) => watch,
+        Err(fault) => {
+            let _removed = fs::remove_file(rt, socket);
+            return Err(fault);
+        }
+    };
     match serve(host, &mut connections, &mut wire, &mut watch, turns) {
         Ok(()) => Ok(()),
         Err(fault) => Err(fault.into()),
@@ -108,6 +116,7 @@ fn run_socket(
         slice,
     };
     let mut host = host_of(rt.alloc(), slots, entries, hasher, setup)?;
+    warn_of_files(rt, limits.slots);
     serve_host(rt, &mut host, socket, status, limits, turns)
 }
 
