@@ -10,6 +10,8 @@ use test_support::pv_lines::TWO_AT_ONE;
 use test_support::rows::{INFO_ONE, Row, joined};
 use test_support::tables::{more_lines_than_moves, sliced, three_of_a_mate, two_plies};
 use test_support::{holds, same};
+use usi_stdio::{Duplex, stdio_on};
+use usi_texts::Setup;
 
 // The most slices that a test works.
 const SLICES: u64 = 200_000;
@@ -229,6 +231,22 @@ fn a_second_session_finds_what_the_first_one_searched(rt: HostRuntime) -> Result
     for row in sliced() {
         let steps = assert_worked(&rt, rt.alloc(), &mut table, &row, 1)?;
         holds!(rt; steps > 0);
+        same!(rt; assert_worked(&rt, rt.alloc(), &mut table, &row, 0)?, 0);
+    }
+    Ok(())
+}
+
+// A run over a table of the caller leaves each root in it, so a session makes no step.
+#[test]
+fn a_session_finds_what_a_run_searched(rt: HostRuntime) -> Result<(), Fail> {
+    let mut table = table_of(rt.alloc(), 4096)?;
+    for row in sliced() {
+        let mut ends = Duplex {
+            input: row.sent.as_bytes(),
+            output: Vec::new(rt.alloc()),
+        };
+        stdio_on(rt.alloc(), Setup::new(), &mut ends, &mut table)?;
+        assert_answer(&rt, rt.alloc(), &row, ends.output.as_slice())?;
         same!(rt; assert_worked(&rt, rt.alloc(), &mut table, &row, 0)?, 0);
     }
     Ok(())

@@ -6,6 +6,7 @@ use Rattle.usi_replay.specs.Replayed.{Leaves, Recites, Replays, ReplaysAsked}
 use Rattle.usi_stdio.specs.declared.streams.StdioFault.{StdioFault}
 use Rattle.usi_stdio.specs.Calls.{Report}
 use Rattle.usi_stdio.specs.Dialogue.{Talks}
+use Rattle.usi_stdio.specs.Remembered.{TellsTable}
 use Rattle.usi_stdio.specs.Saying.{Says, SaysPrefix}
 use Rattle.usi_stdio.specs.Stdio.{IsLeft, IsServed}
 use Rattle.usi_texts.specs.declared.setup.Setup.{Setup}
@@ -28,12 +29,13 @@ replayed_status (Ok done) = 0
 replayed_status (Err fault) = replay_status fault
 
 -- the front end was served one session under the setup, with this status: all replies to what was read were written, or a prefix of them
--- after a fault, and the calls are a dialogue
-pub record IsSession (setup : Setup) (old new : Report) (status : ℕ) : Type 0 where
+-- after a fault, and the calls are a dialogue; a new table with room for so many entries was told each search of what was read
+pub record IsSession (setup : Setup) (entries : ℕ) (old new : Report) (status : ℕ) : Type 0 where
   pub ended : Result (Unit {0}) StdioFault
   pub ok : OnOk ended (IsServed setup old new)
   pub err : OnErr ended (IsLeft setup old new)
   pub calls : Talks setup old.calls new.calls ended
+  pub table : OnOk ended (TellsTable setup entries old new)
   pub status_is : status ≡ ended_status ended
 
 -- what was read is a script, and its output under the setup was written and flushed, with this status; or it is bad, or a fault came; and the calls are a replay

@@ -52,7 +52,8 @@ pub fn session<E: Eprint, A: Allocator + Copy, T: FrontEnd>(
 ) -> u8
     requires least { 1 ≤ entries }
     requires most { entries ≤ CAPACITY_MAX }
-    ensures { IsSession setup (T.report front_end.old) (T.report front_end.new) result }
+    ensures { IsSession setup entries
+        (T.report front_end.old) (T.report front_end.new) result }
 {
     let ended = stdio_with_setup(alloc, setup, front_end, entries);
     status_of_run(errors, &ended)

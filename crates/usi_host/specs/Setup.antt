@@ -23,9 +23,9 @@ IsAskedFor options setup =
     IsSetupOf options.depth options.max_depth options.lines (eval_of options.evaluation) setup
 
 -- under it the front end was served one session, or what was read was replayed, with this status
-abbrev pub IsSessionAsked : SetupOptions → Report → Report → ℕ → Type 0
-IsSessionAsked options old new status =
-    (setup : Setup) × IsAskedFor options setup × IsSession setup old new status
+abbrev pub IsSessionAsked : SetupOptions → (entries : ℕ) → Report → Report → ℕ → Type 0
+IsSessionAsked options entries old new status =
+    (setup : Setup) × IsAskedFor options setup × IsSession setup entries old new status
 
 abbrev pub IsReplayAsked : SetupOptions → (slots entries slice : ℕ) → Report → Report → ℕ → Type 0
 IsReplayAsked options slots entries slice old new status =

@@ -50,7 +50,8 @@ pub(crate) fn run_session<T: FrontEnd>(
     requires most { entries ≤ CAPACITY_MAX }
     requires ranges { HasSetupRanges options }
     requires reach { IsInReach options }
-    ensures { IsSessionAsked options (T.report front_end.old) (T.report front_end.new) result }
+    ensures { IsSessionAsked options entries
+        (T.report front_end.old) (T.report front_end.new) result }
 {
     session(rt, rt.alloc(), setup_of(options), front_end, entries)
 }
