@@ -1,6 +1,5 @@
 -- A move on the board that takes nothing and does not promote, and a reply that lets it be, may be made in either order.
 use Rattle.std.proofs.Common.{◌≡◌, ℕ, ℤ, pos, ◌+◌, ◌<◌, ◌≤ℤ◌, ◌+ℤ◌, true, false, Option, Some, None, refl, sym, ap, subst, ◌∙◌, arith, inl, inr, set, length, length-set, get_or-set_same, get_or-set_other}
-use Rattle.std.specs.Prelude.{is_none}
 use Rattle.std.proofs.lemmas.Bool.{and_left, both_ways}
 use Rattle.std.proofs.lemmas.Int.{ints}
 use Rattle.std.proofs.lemmas.List.{set_comm}
@@ -12,15 +11,13 @@ use Rattle.shogi_core.specs.Attack.{in_check}
 use Rattle.shogi_core.specs.Cell.{is_piece_of}
 use Rattle.shogi_core.specs.Codes.{code_of}
 use Rattle.shogi_core.specs.Lines.{is_lined_with_king}
-use Rattle.shogi_core.specs.Movement.{Cells, cell_reaches, piece_at}
+use Rattle.shogi_core.specs.Movement.{Cells, piece_at}
 use Rattle.shogi_core.specs.Pieces.{opponent_of}
 use Rattle.shogi_core.specs.Position.{HandCounts, Shogi}
 use Rattle.shogi_core.specs.Validity.{IsValid}
-use Rattle.shogi_core.proofs.Replies.{no_check}
 use Rattle.shogi_moves.specs.After.{after, cells_after, dropped, hands_after, piece_moved, with_captured}
 use Rattle.shogi_moves.specs.Legal.{is_legal, is_mated_by_drop, is_pawn_drop, is_pawn_drop_mate, is_pseudo_legal}
-use Rattle.shogi_moves.proofs.CheckInfoLaws.{look, other_side, own_some}
-use Rattle.shogi_moves.proofs.KingLaws.{king_own}
+use Rattle.shogi_moves.proofs.CheckInfoLaws.{look, other_side}
 use Rattle.shogi_replies.specs.ReplyInfo.{IsHarmless}
 use Rattle.shogi_replies.proofs.ReplyLaws.{left_board, legal_own, moved_own, other_counts, unmoved}
 use Rattle.shogi_eval.specs.declared.eval.Eval.{Eval}
@@ -30,6 +27,7 @@ use Rattle.minimax.specs.Minimax.{value, worth}
 use Rattle.dull_moves.specs.Dull.{IsOff, IsOnSquares, Survives, after_reply, lifted, passed, placed}
 use Rattle.dull_moves.proofs.Commuting.{one_by_two, other_way, position, stands}
 use Rattle.dull_moves.proofs.Materials.{material_both, move_valid}
+use Rattle.dull_moves.proofs.Unchecked.{unchecked_by}
 use Rattle.dull_moves.proofs.StillLegal.{StandsStill, legal_from, legal_parts, length-after, pseudo_board, pseudo_drop}
 use Rattle.dull_moves.proofs.Worth.{worth_by_reply}
 
@@ -81,23 +79,10 @@ module _ (q : Cells) (side : Color) (cell : Option Piece) (a b : ℕ) (len : len
   -- a piece in whose place no king is seen, and which reaches none from where it is put, gives no check
   board_shut : is_lined_with_king q (opponent_of side) a ≡ false → IsHarmless q (opponent_of side) cell b → in_check q (opponent_of side) ≡ false → in_check moved (opponent_of side) ≡ false
   board_shut free far safe =
-      no_check q moved (λ x. x ≡ a)
-      (λ x e. elim (look q side a b cell len ha hb x) [
-        | inl there ↦ absurd (both_ways (is_none cell) (own_some side cell own) (ap is_none (sym there.1) ∙ e))
-        | inr rest ↦ elim rest [ inl here ↦ inr here.0 | inr same ↦ inl (ap is_none (sym same) ∙ e) ]
-      ])
-      (opponent_of side) b hb
-      (λ x e. elim (look q side a b cell len ha hb x) [
-        | inl there ↦ inr there.0
-        | inr rest ↦ elim rest [
-          | inl here ↦ absurd (let clash : false ≡ true = ap (is_piece_of (opponent_of (opponent_of side))) (sym here.1) ∙ e in cc)
-          | inr same ↦ inl (sym same)
-        ]
-      ])
-      (λ k e. foes_board k (king_own (opponent_of side) (piece_at moved k) e))
+      unchecked_by q moved side (λ x. x ≡ a) b cell hb own (look q side a b cell len ha hb)
+      (get_or-set_same (set q a None) b cell None (omega (arith, length-set q a None, len)))
       (λ x left. subst (λ (y : ℕ). is_lined_with_king q (opponent_of side) y ≡ false) (sym left) free)
-      (λ k l e. ap (λ (piece : Option Piece). cell_reaches q piece b k) (get_or-set_same (set q a None) b cell None (omega (arith, length-set q a None, len))) ∙ far k l e)
-      safe
+      far safe
 
 -- the reply may be made, apart from checks
 pseudo_kept : (p : Shogi) (a b : ℕ) (r : Move) → IsValid p → a < 81 → b < 81 → IsOnSquares r → is_piece_of p.side (piece_at p.cells a) ≡ true → Survives r b → is_pseudo_legal (passed p) r ≡ true → is_pseudo_legal (after p (Board a b false)) r ≡ true

@@ -1,8 +1,7 @@
 -- What changes nothing of what a reply refutes is worth no more than what that leaves.
-use Rattle.std.proofs.Common.{◌≡◌, ◌≢◌, ℕ, ℤ, pos, ◌-◌, ◌^◌, ◌<◌, bit_and, ◌+ℤ◌, ◌≤ℤ◌, Bool, true, false, Option, None, refl, sym, ap, subst, ◌∙◌, inl, inr, arith, set, length, length-set, get_or, get_or-set_same, get_or-set_other}
+use Rattle.std.proofs.Common.{◌≡◌, ◌≢◌, ℕ, ℤ, pos, ◌-◌, ◌^◌, ◌<◌, bit_and, bit_or, ◌+ℤ◌, ◌≤ℤ◌, Bool, true, false, Option, None, refl, sym, ap, subst, ◌∙◌, inl, inr, arith, set, length, length-set, get_or, get_or-set_same, get_or-set_other}
 use Rattle.std.specs.Prelude.{is_none}
-use Rattle.std.specs.List.{list_any}
-use Rattle.std.proofs.lemmas.Bool.{and_parts, both_ways, cases_eq, false_from_ne_true, ltb-true}
+use Rattle.std.proofs.lemmas.Bool.{both_ways, cases_eq, ltb-true, or_parts}
 use Rattle.std.proofs.lemmas.Int.{ints}
 use Rattle.shogi_core.specs.declared.moves.Move.{Move}
 use Rattle.shogi_core.specs.declared.moves.Move.TheVariants.{Board, Drop}
@@ -12,16 +11,15 @@ use Rattle.shogi_core.specs.declared.piece.Kind.{Kind}
 use Rattle.shogi_core.specs.declared.piece.Piece.{Piece}
 use Rattle.shogi_core.specs.Attack.{in_check}
 use Rattle.shogi_core.specs.Bits.{has_bit}
-use Rattle.shogi_core.specs.Cell.{HasNoOtherKing, is_king, is_piece_of}
+use Rattle.shogi_core.specs.Cell.{HasNoOtherKing, is_piece_of}
 use Rattle.shogi_core.specs.Codes.{code_of}
-use Rattle.shogi_core.specs.Lines.{are_lined, around, is_line_to_king, is_lined_with_king}
-use Rattle.shogi_core.specs.Movement.{Cells, cell_reaches, piece_at, reaches, slides}
+use Rattle.shogi_core.specs.Lines.{is_lined_with_king}
+use Rattle.shogi_core.specs.Movement.{Cells, cell_reaches, piece_at, reaches}
 use Rattle.shogi_core.specs.Pieces.{kind_number, opponent_of}
 use Rattle.shogi_core.specs.Position.{Shogi, count_in_hand, place_of}
 use Rattle.shogi_core.specs.Validity.{IsValid}
-use Rattle.shogi_core.proofs.Below.{some_below_no}
+use Rattle.shogi_core.proofs.BitLaws.{has_bit-or}
 use Rattle.shogi_core.proofs.Faults.{number_below}
-use Rattle.shogi_core.proofs.Discovered.{list_any_kept, reach_was, slides_was}
 use Rattle.shogi_moves.specs.After.{after, dropped, hands_after}
 use Rattle.shogi_moves.specs.Legal.{is_legal, is_pawn_drop}
 use Rattle.shogi_moves.proofs.CheckInfoLaws.{dropped_of}
@@ -33,14 +31,15 @@ use Rattle.shogi_eval.specs.Material.{material_of}
 use Rattle.shogi_eval.proofs.Gains.{gain_of}
 use Rattle.minimax.specs.Minimax.{lost_value, value, worth}
 use Rattle.dull_moves.specs.declared.moves.DullMoves.{DullMoves}
-use Rattle.dull_moves.specs.Dull.{AreDull, AreIdle, AreNonInterfering, DropsAreWorthAtMost, IsOnSquares, IsIdle, IsOff, IsQuietThere, IsUnseen, LetsBe, QuietsAreWorthAtMost, Survives, after_reply, lifted, passed, placed}
+use Rattle.dull_moves.specs.Dull.{AreDull, AreIdle, AreNonInterfering, DropsAreWorthAtMost, IsOnSquares, IsIdle, IsOff, IsQuietThere, IsUnseen, LetsBe, QuietsAreWorthAtMost, Survives, after_reply, drops_of, lifted, passed, placed}
 use Rattle.dull_moves.proofs.BoardMoves.{quiet_dull}
 use Rattle.dull_moves.proofs.Commuting.{commute, stands}
 use Rattle.dull_moves.proofs.Idle.{board_parts, drop_parts, none_is, put_on, tame}
 use Rattle.dull_moves.proofs.Materials.{drop_little, material_moved, move_valid}
 use Rattle.dull_moves.proofs.Passing.{passed_valid}
-use Rattle.dull_moves.proofs.SceneLaws.{out_parts}
+use Rattle.dull_moves.proofs.Sets.{out_parts}
 use Rattle.dull_moves.proofs.StillLegal.{still_legal}
+use Rattle.dull_moves.proofs.Unchecked.{harmless_there, unlined_with_king}
 use Rattle.dull_moves.proofs.Worth.{IsTame, value_of_tame, worth_by_reply}
 
 -- the position with a piece dropped, and the same side to move
@@ -68,54 +67,32 @@ held_before q kind b held other some = elim (cases_eq (place_of q.side other) (p
   | inr off ↦ subst (λ (n : ℕ). 0 < n) (get_or-set_other q.hands (place_of q.side kind) (place_of q.side other) (count_in_hand q.hands q.side kind - 1) 0 off) some
 ]
 
--- ---- what is looked at where the king has left its square
-
-kingless : (cells : Cells) (king : ℕ) → length cells ≡ 81 → king < 81 → (x : ℕ) → is_none (piece_at cells x) ≡ true → is_none (piece_at (set cells king None) x) ≡ true
-kingless cells king len low x n = elim (cases_eq x king) [
-  | inl at ↦ ap (λ (y : ℕ). is_none (piece_at (set cells king None) y)) at ∙ ap is_none (get_or-set_same cells king None None (omega (arith, len, low)))
-  | inr off ↦ ap is_none (get_or-set_other cells king x None None off) ∙ n
-]
-
--- where nothing more is empty, what reaches a square reached it with the king away
-reached_kingless : (cells now : Cells) (king : ℕ) → length cells ≡ 81 → king < 81 → ((x : ℕ) → is_none (piece_at now x) ≡ true → is_none (piece_at cells x) ≡ true) → (cell : Option Piece) (a s : ℕ) → cell_reaches now cell a s ≡ true → cell_reaches (set cells king None) cell a s ≡ true
-reached_kingless cells now king len low emptied cell a s r = reach_was (set cells king None) now (λ x. ⊥) (λ x n. inl (kingless cells king len low x (emptied x n))) cell a s (λ x left. absurd left) r
-
--- so a square that is on no open line with the king then is on none before
-unlined_before : (cells : Cells) (king a : ℕ) → length cells ≡ 81 → king < 81 → are_lined (set cells king None) a king ≡ false → are_lined cells a king ≡ false
-unfolding are_lined
-unlined_before cells king a len low out = false_from_ne_true _ (λ lined. both_ways (list_any (λ o. slides (set cells king None) o a king) around) out (list_any_kept (λ o. slides cells o a king) (λ o. slides (set cells king None) o a king) around (λ o s. elim (slides_was (set cells king None) cells (λ x. ⊥) (λ x n. inl (kingless cells king len low x n)) o a king s) [ inl met ↦ absurd met.1 | inr was ↦ was ]) lined))
-
-unlined_with_king : (q : Shogi) (e : Eval) (gains king squares a : ℕ) → length q.cells ≡ 81 → IsQuietThere q e gains king squares → IsUnseen q king squares a → is_lined_with_king q.cells (opponent_of q.side) a ≡ false
-unfolding is_lined_with_king
-unlined_with_king q e gains king squares a len quiet unseen = some_below_no 81 (is_line_to_king q.cells (opponent_of q.side) a) (λ k hk. false_from_ne_true _ (λ on. (
-    let parts : (is_king (opponent_of q.side) (piece_at q.cells k) ≡ true) × (are_lined q.cells a k ≡ true) = and_parts _ _ on in
-    elim (cases_eq k king) [
-      | inl at ↦ both_ways (are_lined q.cells a king) (unlined_before q.cells king a len quiet.king_fits unseen.off_king) (subst (λ (x : ℕ). are_lined q.cells a x ≡ true) at parts.1)
-      | inr other ↦ both_ways (is_king (opponent_of q.side) (piece_at q.cells k)) (quiet.lone k hk other) parts.0
-    ])))
-
--- what reaches no king from a square once that is lifted reaches none before
-harmless_there : (q : Shogi) (king : ℕ) (cells : Cells) (cell : Option Piece) (b : ℕ) → length cells ≡ 81 → king < 81 → HasNoOtherKing q.cells (opponent_of q.side) king → ((x : ℕ) → is_none (piece_at q.cells x) ≡ true → is_none (piece_at cells x) ≡ true) → cell_reaches (set cells king None) cell b king ≡ false → IsHarmless q.cells (opponent_of q.side) cell b
-harmless_there q king cells cell b len low lone emptied far k hk crown = elim (cases_eq k king) [
-  | inl here ↦ subst (λ (x : ℕ). cell_reaches q.cells cell b x ≡ false) (sym here) (false_from_ne_true _ (λ r. both_ways (cell_reaches (set cells king None) cell b king) far (reached_kingless cells q.cells king len low emptied cell b king r)))
-  | inr other ↦ absurd (both_ways (is_king (opponent_of q.side) (piece_at q.cells k)) (lone k hk other) crown)
-]
-
--- the same for the reply's side, which has replied
+-- what reaches no king from a square once that is lifted reaches none before, for the reply's side
 harmless_after : (p : Shogi) (r : Move) (king : ℕ) (cells : Cells) (cell : Option Piece) (b : ℕ) → length cells ≡ 81 → king < 81 → HasNoOtherKing (after_reply p r).cells (opponent_of (after_reply p r).side) king → ((x : ℕ) → is_none (piece_at (after_reply p r).cells x) ≡ true → is_none (piece_at cells x) ≡ true)
     → cell_reaches (set cells king None) cell b king ≡ false → IsHarmless (after_reply p r).cells (opponent_of p.side) cell b
-harmless_after p r king cells cell b len low lone emptied far = subst (λ (color : Color). IsHarmless (after_reply p r).cells color cell b) (ap opponent_of (opponent_twice p.side)) (harmless_there (after_reply p r) king cells cell b len low lone emptied far)
+harmless_after p r king cells cell b len low lone emptied far = subst (λ (color : Color). IsHarmless (after_reply p r).cells color cell b) (ap opponent_of (opponent_twice p.side)) (harmless_there (after_reply p r).cells (opponent_of (after_reply p r).side) king cells cell b len low lone emptied far)
+
+-- the reply does not touch the squares of the set, and the shut ones are not among them
+abbrev AreSpared : Move → ℕ → ℕ → Type 0
+AreSpared r shut set = (n : ℕ) → n < 81 → has_bit set n ≡ true → Survives r n × (has_bit shut n ≡ false)
+
+-- so are those of a set without both
+pub spared_among : (r : Move) (shut touched both free among set : ℕ) → AreNonInterfering r touched → both ≡ bit_or touched shut → both < 2 ^ 81 → among ≡ bit_and free (2 ^ 128 - 1 - both) → ((n : ℕ) → has_bit set n ≡ true → has_bit among n ≡ true) → AreSpared r shut set
+spared_among r shut touched both free among set spared join fits meet within n h on =
+    let out : has_bit both n ≡ false = (out_parts free both n fits h (sym (ap (λ (m : ℕ). has_bit m n) meet) ∙ within n on)).1 in
+    let apart = or_parts (has_bit touched n) (has_bit shut n) (sym (has_bit-or touched shut n) ∙ (ap (λ (m : ℕ). has_bit m n) (sym join) ∙ out)) in
+    (spared n h apart.0, apart.1)
 
 -- ---- a drop
 
-pub dull : (p : Shogi) (e : Eval) (kind : Kind) (b : ℕ) (r : Move) (gains king squares : ℕ) (t : ℤ) → IsValid p → in_check p.cells p.side ≡ false → b < 81 → IsOnSquares r → is_legal p (Drop kind b) ≡ true → is_legal (passed p) r ≡ true → is_pawn_drop r ≡ false → Survives r b
-    → IsQuietThere (after_reply p r) e gains king squares → IsIdle (after_reply p r) e gains king squares (dropped (after_reply p r).side kind) b → lost_value 1 ≤ℤ t → (material_of (after_reply p r) e +ℤ pos gains) ≤ℤ t → worth p e 2 (code_of (Drop kind b)) ≤ℤ t
-dull p e kind b r gains king squares t v shut on there lm lr plain spared quiet idle low room =
-    let v0 : IsValid (passed p) = passed_valid p v shut in
+pub dull : (p : Shogi) (e : Eval) (kind : Kind) (b : ℕ) (r : Move) (gains king squares shut : ℕ) (t : ℤ) → IsValid p → in_check p.cells p.side ≡ false → b < 81 → IsOnSquares r → is_legal p (Drop kind b) ≡ true → is_legal (passed p) r ≡ true → is_pawn_drop r ≡ false → Survives r b → has_bit shut b ≡ false
+    → IsQuietThere (after_reply p r) e gains king squares shut → IsIdle (after_reply p r) e gains king squares (dropped (after_reply p r).side kind) b → lost_value 1 ≤ℤ t → (material_of (after_reply p r) e +ℤ pos gains) ≤ℤ t → worth p e 2 (code_of (Drop kind b)) ≤ℤ t
+dull p e kind b r gains king squares shut t v safe on there lm lr plain spared off quiet idle low room =
+    let v0 : IsValid (passed p) = passed_valid p v safe in
     let vq : IsValid (after_reply p r) = move_valid (passed p) r v0 there lr in
     let be : LetsBe p kind b r = record {
       spared = spared;
-      harmless = subst (λ (color : Color). IsHarmless (after_reply p r).cells (opponent_of p.side) (dropped color kind) b) (opponent_twice p.side) (harmless_after p r king (after_reply p r).cells (dropped (after_reply p r).side kind) b vq.cells_fit quiet.king_fits quiet.lone (λ x n. n) idle.king_far);
+      harmless = subst (λ (color : Color). IsHarmless (after_reply p r).cells (opponent_of p.side) (dropped color kind) b) (opponent_twice p.side) (harmless_after p r king (after_reply p r).cells (dropped (after_reply p r).side kind) b vq.cells_fit quiet.standing.king_fits quiet.standing.lone (λ x n. n) idle.king_far);
       plain = plain;
     } in
     let l : is_legal (after p (Drop kind b)) r ≡ true = still_legal p kind b r v.cells_fit on there lr be in
@@ -124,20 +101,18 @@ dull p e kind b r gains king squares t v shut on there lm lr plain spared quiet 
     let same : after (after p (Drop kind b)) r ≡ after_drop (after_reply p r) kind b = as_left p kind b r spared in
     let vw : IsValid (after_drop (after_reply p r) kind b) = subst IsValid same vn in
     let bare : piece_at (after_reply p r).cells b ≡ None = stands p.cells (opponent_of p.side) r b spared.0 ∙ none_is (piece_at p.cells b) (drop_parts p kind b lm).1 in
-    let moved : material_of (after (after p (Drop kind b)) r) e ≡ material_of (after_reply p r) e +ℤ gain_of p e (Drop kind b) = material_moved p e kind b r v shut on there spared.0 lm lr l in
+    let moved : material_of (after (after p (Drop kind b)) r) e ≡ material_of (after_reply p r) e +ℤ gain_of p e (Drop kind b) = material_moved p e kind b r v safe on there spared.0 lm lr l in
     let little : gain_of p e (Drop kind b) ≤ℤ pos 0 = drop_little e kind in
     let here : material_of (after (after p (Drop kind b)) r) e ≡ material_of (after_drop (after_reply p r) kind b) e = ap (λ (q : Shogi). material_of q e) same in
     let less : (material_of (after_drop (after_reply p r) kind b) e +ℤ pos gains) ≤ℤ t = omega (arith, ints, moved, little, here, room) in
-    let calm : IsTame (after_drop (after_reply p r) kind b) e t = tame (after_reply p r) e gains king squares (dropped (after_reply p r).side kind) (hands_after (after_reply p r).hands (after_reply p r).cells (after_reply p r).side (Drop kind b)) b vq.cells_fit (dropped_of (after_reply p r).side kind) (held_before (after_reply p r) kind b vq.hands_fit) on bare quiet idle vw t less in
+    let calm : IsTame (after_drop (after_reply p r) kind b) e t = tame (after_reply p r) e gains king squares shut (dropped (after_reply p r).side kind) (hands_after (after_reply p r).hands (after_reply p r).cells (after_reply p r).side (Drop kind b)) b vq.cells_fit (dropped_of (after_reply p r).side kind) (held_before (after_reply p r) kind b vq.hands_fit) on bare off quiet idle vw t less in
     worth_by_reply p e (Drop kind b) r t on there l (subst (λ (q : Shogi). value q e 1 ≤ℤ t) (sym same) (value_of_tame (after_drop (after_reply p r) kind b) e t vw low calm))
 
 -- so is none of its kind on squares that are spared and idle
-drops_dull : (p : Shogi) (e : Eval) (kind : Kind) (r : Move) (gains king squares : ℕ) (t : ℤ) (free touched among idle : ℕ) → IsValid p → in_check p.cells p.side ≡ false → IsOnSquares r → is_legal (passed p) r ≡ true → is_pawn_drop r ≡ false → AreNonInterfering r touched → touched < 2 ^ 81 → among ≡ bit_and free (2 ^ 128 - 1 - touched)
-    → IsQuietThere (after_reply p r) e gains king squares → ((n : ℕ) → has_bit idle n ≡ true → has_bit among n ≡ true) → AreIdle (after_reply p r) e gains king squares (dropped (after_reply p r).side kind) idle → lost_value 1 ≤ℤ t → (material_of (after_reply p r) e +ℤ pos gains) ≤ℤ t → DropsAreWorthAtMost p e t kind idle
-drops_dull p e kind r gains king squares t free touched among idle v shut there lr plain spared fits meet quiet within all low room to h set legal =
-    dull p e kind to r gains king squares t v shut h there legal lr plain
-    (spared to h (out_parts free touched to fits h (sym (ap (λ (m : ℕ). has_bit m to) meet) ∙ within to set)).1)
-    quiet (all to h set) low room
+drops_dull : (p : Shogi) (e : Eval) (kind : Kind) (r : Move) (gains king squares shut : ℕ) (t : ℤ) (idle : ℕ) → IsValid p → in_check p.cells p.side ≡ false → IsOnSquares r → is_legal (passed p) r ≡ true → is_pawn_drop r ≡ false → AreSpared r shut idle
+    → IsQuietThere (after_reply p r) e gains king squares shut → AreIdle (after_reply p r) e gains king squares (dropped (after_reply p r).side kind) idle → lost_value 1 ≤ℤ t → (material_of (after_reply p r) e +ℤ pos gains) ≤ℤ t → DropsAreWorthAtMost p e t kind idle
+drops_dull p e kind r gains king squares shut t idle v safe there lr plain spared quiet all low room to h set legal =
+    dull p e kind to r gains king squares shut t v safe h there legal lr plain (spared to h set).0 (spared to h set).1 quiet (all to h set) low room
 
 -- a side that drops a piece after a pass and a reply held one before
 held_there : (p : Shogi) (kind : Kind) (b : ℕ) (r : Move) → is_legal p (Drop kind b) ≡ true → 0 < count_in_hand (after_reply p r).hands (after_reply p r).side kind
@@ -145,12 +120,12 @@ held_there p kind b r legal =
     subst (λ (n : ℕ). 0 < n) (sym (other_counts (passed p) r kind ∙ ap (λ (color : Color). count_in_hand p.hands color kind) (opponent_twice p.side))) (ltb-true 0 (count_in_hand p.hands p.side kind) (drop_parts p kind b legal).0)
 
 -- the same of a position that is that one, where the squares are idle if a piece of the kind is held
-pub scene_dull : (p q : Shogi) (e f : Eval) (kind : Kind) (r : Move) (gains king squares : ℕ) (t : ℤ) (free touched among idle : ℕ) → q ≡ after_reply p r → f ≡ e → IsValid p → in_check p.cells p.side ≡ false → IsOnSquares r → is_legal (passed p) r ≡ true → is_pawn_drop r ≡ false → AreNonInterfering r touched → touched < 2 ^ 81 → among ≡ bit_and free (2 ^ 128 - 1 - touched)
-    → IsQuietThere q f gains king squares → lost_value 1 ≤ℤ t → (material_of q f +ℤ pos gains) ≤ℤ t → ((n : ℕ) → has_bit idle n ≡ true → has_bit among n ≡ true) → (0 < count_in_hand q.hands q.side kind → AreIdle q f gains king squares (dropped q.side kind) idle) → DropsAreWorthAtMost p e t kind idle
-scene_dull p q e f kind r gains king squares t free touched among idle is alike v shut there lr plain spared fits meet quiet low room within each to h set legal =
+pub scene_dull : (p q : Shogi) (e f : Eval) (kind : Kind) (r : Move) (gains king squares shut : ℕ) (t : ℤ) (idle : ℕ) → q ≡ after_reply p r → f ≡ e → IsValid p → in_check p.cells p.side ≡ false → IsOnSquares r → is_legal (passed p) r ≡ true → is_pawn_drop r ≡ false → AreSpared r shut idle
+    → IsQuietThere q f gains king squares shut → lost_value 1 ≤ℤ t → (material_of q f +ℤ pos gains) ≤ℤ t → (0 < count_in_hand q.hands q.side kind → AreIdle q f gains king squares (dropped q.side kind) idle) → DropsAreWorthAtMost p e t kind idle
+scene_dull p q e f kind r gains king squares shut t idle is alike v safe there lr plain spared quiet low room each to h set legal =
     let held : 0 < count_in_hand q.hands q.side kind = subst (λ (x : Shogi). 0 < count_in_hand x.hands x.side kind) (sym is) (held_there p kind to r legal) in
-    drops_dull p e kind r gains king squares t free touched among idle v shut there lr plain spared fits meet
-    (subst (λ (x : Shogi). IsQuietThere x e gains king squares) is (subst (λ (y : Eval). IsQuietThere q y gains king squares) alike quiet)) within
+    drops_dull p e kind r gains king squares shut t idle v safe there lr plain spared
+    (subst (λ (x : Shogi). IsQuietThere x e gains king squares shut) is (subst (λ (y : Eval). IsQuietThere q y gains king squares shut) alike quiet))
     (subst (λ (x : Shogi). AreIdle x e gains king squares (dropped x.side kind) idle) is (subst (λ (y : Eval). AreIdle q y gains king squares (dropped q.side kind) idle) alike (each held))) low
     (subst (λ (x : Shogi). (material_of x e +ℤ pos gains) ≤ℤ t) is (subst (λ (y : Eval). (material_of q y +ℤ pos gains) ≤ℤ t) alike room))
     to h set legal
@@ -160,11 +135,11 @@ scene_dull p q e f kind r gains king squares t free touched among idle is alike 
 legal_owns : (p : Shogi) (a b : ℕ) → is_legal p (Board a b false) ≡ true → (is_piece_of p.side (piece_at p.cells a) ≡ true) × (reaches p.cells a b ≡ true)
 legal_owns p a b l = let parts = board_parts p a b false l in (parts.0, parts.2)
 
-pub quiet_is_dull : (p : Shogi) (e : Eval) (a b : ℕ) (r : Move) (gains king squares : ℕ) (t : ℤ) → IsValid p → in_check p.cells p.side ≡ false → a < 81 → b < 81 → IsOnSquares r → is_legal p (Board a b false) ≡ true → piece_at p.cells b ≡ None → is_legal (passed p) r ≡ true → is_pawn_drop r ≡ false → IsOff r a → Survives r b
-    → IsQuietThere (after_reply p r) e gains king squares → IsUnseen (after_reply p r) king squares a → IsQuietThere (lifted (after_reply p r) a) e gains king squares → IsIdle (lifted (after_reply p r) a) e gains king squares (piece_at (after_reply p r).cells a) b
+pub quiet_is_dull : (p : Shogi) (e : Eval) (a b : ℕ) (r : Move) (gains king squares shut : ℕ) (t : ℤ) → IsValid p → in_check p.cells p.side ≡ false → a < 81 → b < 81 → IsOnSquares r → is_legal p (Board a b false) ≡ true → piece_at p.cells b ≡ None → is_legal (passed p) r ≡ true → is_pawn_drop r ≡ false → IsOff r a → Survives r b → has_bit shut b ≡ false
+    → IsQuietThere (after_reply p r) e gains king squares shut → IsUnseen (after_reply p r) king squares a → IsQuietThere (lifted (after_reply p r) a) e gains king squares shut → IsIdle (lifted (after_reply p r) a) e gains king squares (piece_at (after_reply p r).cells a) b
     → lost_value 1 ≤ℤ t → (material_of (after_reply p r) e +ℤ pos gains) ≤ℤ t → worth p e 2 (code_of (Board a b false)) ≤ℤ t
-quiet_is_dull p e a b r gains king squares t v shut ha on there lm bare lr plain apart spared quiet unseen quiet_lifted idle low room =
-    let vq : IsValid (after_reply p r) = move_valid (passed p) r (passed_valid p v shut) there lr in
+quiet_is_dull p e a b r gains king squares shut t v safe ha on there lm bare lr plain apart spared off quiet unseen quiet_lifted idle low room =
+    let vq : IsValid (after_reply p r) = move_valid (passed p) r (passed_valid p v safe) there lr in
     let own : is_piece_of p.side (piece_at p.cells a) ≡ true = (legal_owns p a b lm).0 in
     let stays_there : piece_at (after_reply p r).cells a ≡ piece_at p.cells a = stands p.cells (opponent_of p.side) r a apart in
     let ne : b ≢ a = λ at. both_ways (is_piece_of p.side None) refl (ap (is_piece_of p.side) (sym (ap (piece_at p.cells) (sym at) ∙ bare)) ∙ own) in
@@ -172,11 +147,11 @@ quiet_is_dull p e a b r gains king squares t v shut ha on there lm bare lr plain
     let len : length (lifted (after_reply p r) a).cells ≡ 81 = length-set (after_reply p r).cells a None ∙ vq.cells_fit in
     let idle_there : IsIdle (lifted (after_reply p r) a) e gains king squares (piece_at p.cells a) b = subst (λ (cell : Option Piece). IsIdle (lifted (after_reply p r) a) e gains king squares cell b) stays_there idle in
     let mine : is_piece_of (after_reply p r).side (piece_at p.cells a) ≡ true = ap (λ (color : Color). is_piece_of color (piece_at p.cells a)) (opponent_twice p.side) ∙ own in
-    quiet_dull p e a b r t v shut ha on there lm bare lr plain apart spared
-    (ap (λ (color : Color). is_lined_with_king (after_reply p r).cells color a) (sym (ap opponent_of (opponent_twice p.side))) ∙ unlined_with_king (after_reply p r) e gains king squares a vq.cells_fit quiet unseen)
-    (harmless_after p r king (lifted (after_reply p r) a).cells (piece_at p.cells a) b len quiet.king_fits quiet.lone (emptied vq.cells_fit) idle_there.king_far)
+    quiet_dull p e a b r t v safe ha on there lm bare lr plain apart spared
+    (ap (λ (color : Color). is_lined_with_king (after_reply p r).cells color a) (sym (ap opponent_of (opponent_twice p.side))) ∙ unlined_with_king (after_reply p r).cells (opponent_of (after_reply p r).side) king a vq.cells_fit quiet.standing.king_fits quiet.standing.lone unseen.off_king)
+    (harmless_after p r king (lifted (after_reply p r) a).cells (piece_at p.cells a) b len quiet.standing.king_fits quiet.standing.lone (emptied vq.cells_fit) idle_there.king_far)
     (λ vw material. value_of_tame (placed (lifted (after_reply p r) a) (piece_at p.cells a) b) e t vw low
-    (tame (lifted (after_reply p r) a) e gains king squares (piece_at p.cells a) (after_reply p r).hands b len mine (λ other some. some) on empty quiet_lifted idle_there vw t (omega (arith, ints, material, room))))
+    (tame (lifted (after_reply p r) a) e gains king squares shut (piece_at p.cells a) (after_reply p r).hands b len mine (λ other some. some) on empty off quiet_lifted idle_there vw t (omega (arith, ints, material, room))))
   where
     emptied : length (after_reply p r).cells ≡ 81 → (x : ℕ) → is_none (piece_at (after_reply p r).cells x) ≡ true → is_none (piece_at (lifted (after_reply p r) a).cells x) ≡ true
     emptied len x n = elim (cases_eq x a) [
@@ -185,16 +160,15 @@ quiet_is_dull p e a b r gains king squares t v shut ha on there lm bare lr plain
     ]
 
 -- the same of a position that is that one, for pieces that are lifted there and ends on which they are idle
-pub scene_quiets : (p q : Shogi) (e f : Eval) (r : Move) (gains king squares : ℕ) (t : ℤ) (free touched among pieces ends : ℕ) → q ≡ after_reply p r → f ≡ e → IsValid p → in_check p.cells p.side ≡ false → IsOnSquares r → is_legal (passed p) r ≡ true → is_pawn_drop r ≡ false → AreNonInterfering r touched → touched < 2 ^ 81 → among ≡ bit_and free (2 ^ 128 - 1 - touched)
-    → IsQuietThere q f gains king squares → lost_value 1 ≤ℤ t → (material_of q f +ℤ pos gains) ≤ℤ t → ((n : ℕ) → has_bit ends n ≡ true → has_bit among n ≡ true) → ((a : ℕ) → a < 81 → has_bit pieces a ≡ true → has_bit touched a ≡ false)
-    → ((a : ℕ) → a < 81 → has_bit pieces a ≡ true → IsUnseen q king squares a) → ((a : ℕ) → a < 81 → has_bit pieces a ≡ true → IsQuietThere (lifted q a) f gains king squares)
+pub scene_quiets : (p q : Shogi) (e f : Eval) (r : Move) (gains king squares shut : ℕ) (t : ℤ) (pieces ends : ℕ) → q ≡ after_reply p r → f ≡ e → IsValid p → in_check p.cells p.side ≡ false → IsOnSquares r → is_legal (passed p) r ≡ true → is_pawn_drop r ≡ false → AreSpared r shut ends
+    → IsQuietThere q f gains king squares shut → lost_value 1 ≤ℤ t → (material_of q f +ℤ pos gains) ≤ℤ t → ((a : ℕ) → a < 81 → has_bit pieces a ≡ true → IsOff r a)
+    → ((a : ℕ) → a < 81 → has_bit pieces a ≡ true → IsUnseen q king squares a) → ((a : ℕ) → a < 81 → has_bit pieces a ≡ true → IsQuietThere (lifted q a) f gains king squares shut)
     → ((from to : ℕ) → from < 81 → to < 81 → has_bit pieces from ≡ true → has_bit ends to ≡ true → reaches p.cells from to ≡ true → IsIdle (lifted q from) f gains king squares (piece_at q.cells from) to) → QuietsAreWorthAtMost p e t pieces ends
-scene_quiets p q e f r gains king squares t free touched among pieces ends is alike v shut there lr plain spared fits meet quiet low room within apart unseen lifts idle from to hf ht mine on bare legal =
-    quiet_is_dull p e from to r gains king squares t v shut hf ht there legal bare lr plain (spared from hf (apart from hf mine)).0
-    (spared to ht (out_parts free touched to fits ht (sym (ap (λ (m : ℕ). has_bit m to) meet) ∙ within to on)).1)
-    (subst (λ (x : Shogi). IsQuietThere x e gains king squares) is (subst (λ (y : Eval). IsQuietThere q y gains king squares) alike quiet))
+scene_quiets p q e f r gains king squares shut t pieces ends is alike v safe there lr plain spared quiet low room apart unseen lifts idle from to hf ht mine on bare legal =
+    quiet_is_dull p e from to r gains king squares shut t v safe hf ht there legal bare lr plain (apart from hf mine) (spared to ht on).0 (spared to ht on).1
+    (subst (λ (x : Shogi). IsQuietThere x e gains king squares shut) is (subst (λ (y : Eval). IsQuietThere q y gains king squares shut) alike quiet))
     (subst (λ (x : Shogi). IsUnseen x king squares from) is (unseen from hf mine))
-    (subst (λ (x : Shogi). IsQuietThere (lifted x from) e gains king squares) is (subst (λ (y : Eval). IsQuietThere (lifted q from) y gains king squares) alike (lifts from hf mine)))
+    (subst (λ (x : Shogi). IsQuietThere (lifted x from) e gains king squares shut) is (subst (λ (y : Eval). IsQuietThere (lifted q from) y gains king squares shut) alike (lifts from hf mine)))
     (subst (λ (x : Shogi). IsIdle (lifted x from) e gains king squares (piece_at x.cells from) to) is (subst (λ (y : Eval). IsIdle (lifted q from) y gains king squares (piece_at q.cells from) to) alike (idle from to hf ht mine on (legal_owns p from to legal).1))) low
     (subst (λ (x : Shogi). (material_of x e +ℤ pos gains) ≤ℤ t) is (subst (λ (y : Eval). (material_of q y +ℤ pos gains) ≤ℤ t) alike room))
 
@@ -205,7 +179,7 @@ own_stays p q r a is off own =
     (ap (λ (color : Color). is_piece_of color (piece_at (after_reply p r).cells a)) (opponent_twice p.side) ∙ (ap (is_piece_of p.side) (stands p.cells (opponent_of p.side) r a off) ∙ own))
 
 -- so no quiet move that is among these is worth more
-pub all_dull : (p : Shogi) (e : Eval) (d : DullMoves) → ((kind : Kind) → DropsAreWorthAtMost p e d.most kind d.drops.bits) → QuietsAreWorthAtMost p e d.most d.pieces.bits d.ends.bits → AreDull p e d
+pub all_dull : (p : Shogi) (e : Eval) (d : DullMoves) → ((kind : Kind) → DropsAreWorthAtMost p e d.most kind (drops_of d.drops kind).bits) → QuietsAreWorthAtMost p e d.most d.pieces.bits d.ends.bits → AreDull p e d
 all_dull p e d drops quiets (Board from to promote) on among quiet legal =
     subst (λ (x : Bool). worth p e 2 (code_of (Board from to x)) ≤ℤ d.most) (sym quiet.0)
     (quiets from to on.0 on.1 among.0 among.1 quiet.1 (subst (λ (x : Bool). is_legal p (Board from to x) ≡ true) quiet.0 legal))

@@ -10,9 +10,9 @@ use Rattle.shogi_core.specs.declared.piece.Kind.{Kind}
 use Rattle.shogi_core.specs.declared.piece.Piece.{Piece}
 use Rattle.shogi_core.specs.Attack.{in_check, is_attacked, is_attacked_from, is_open_king}
 use Rattle.shogi_core.specs.Bits.{has_bit}
-use Rattle.shogi_core.specs.Cell.{is_immobile, is_king, is_piece_of}
-use Rattle.shogi_core.specs.Lines.{are_aligned, are_lined}
-use Rattle.shogi_core.specs.Movement.{cell_reaches, piece_at, reaches}
+use Rattle.shogi_core.specs.Cell.{HasNoOtherKing, is_immobile, is_king, is_piece_of}
+use Rattle.shogi_core.specs.Lines.{are_aligned, are_lined, is_lined_with_king}
+use Rattle.shogi_core.specs.Movement.{Cells, cell_reaches, piece_at, reaches}
 use Rattle.shogi_core.specs.Pieces.{opponent_of}
 use Rattle.shogi_core.specs.Position.{HandCounts, Shogi, count_in_hand}
 use Rattle.shogi_core.specs.Validity.{IsValid}
@@ -25,28 +25,28 @@ use Rattle.shogi_moves.specs.After.{after, cells_after, dropped, piece_moved}
 use Rattle.shogi_moves.specs.Escapes.{IsEscape}
 use Rattle.shogi_moves.specs.Legal.{is_legal}
 use Rattle.shogi_moves.specs.LegalMoves.{legal_codes}
-use Rattle.shogi_moves.proofs.CheckInfoLaws.{dropped_of, is_piece_of-piece_moved, look, other_side}
+use Rattle.shogi_moves.proofs.CheckInfoLaws.{dropped_of, is_piece_of-piece_moved, look, other_side, own_some}
 use Rattle.shogi_moves.proofs.DropChecks as drops
 use Rattle.shogi_moves.proofs.EscapeLaws.{kept, king_reach}
 use Rattle.shogi_moves.proofs.KingLaws.{king_own}
 use Rattle.shogi_moves.proofs.MovedPieces.{opponent_twice}
 use Rattle.shogi_replies.proofs.EscapeLaws.{king_steps}
-use Rattle.shogi_replies.proofs.ReplyLaws.{reply_by}
+use Rattle.shogi_replies.specs.ReplyInfo.{IsHarmless}
+use Rattle.shogi_replies.proofs.ReplyLaws.{LeavesStanding, left_board, left_drop, reply_by, shut_drop}
 use Rattle.shogi_eval.specs.declared.eval.Eval.{Eval}
 use Rattle.shogi_eval.specs.Material.{drop_gain, material_of, promotion_gain, taken_gain}
 use Rattle.shogi_eval.proofs.Gains.{gain_of}
-use Rattle.dull_moves.specs.Dull.{IsOnSquares, IsCalm, IsIdle, IsQuietThere, without_king}
+use Rattle.dull_moves.specs.Dull.{AreOffLines, HasSpareMoves, IsOnSquares, IsCalm, IsIdle, IsQuietThere, LeavesOne, without_king}
 use Rattle.dull_moves.proofs.Materials.{drop_little}
+use Rattle.dull_moves.proofs.Shut.{still_shut}
+use Rattle.dull_moves.proofs.SpareMoves.{replies_by_step, step_same}
 use Rattle.dull_moves.proofs.StillLegal.{legal_parts, length-after}
+use Rattle.dull_moves.proofs.Unchecked.{harmless_there, unchecked_by, unlined_with}
 use Rattle.dull_moves.proofs.Worth.{IsTame}
 
 -- the position with a piece put on a square, and these hands
 abbrev pub put_on : Shogi → Option Piece → HandCounts → ℕ → Shogi
 put_on q arrived hands b = record { cells = set q.cells b arrived; hands = hands; side = q.side }
-
-own_some : (color : Color) (cell : Option Piece) → is_piece_of color cell ≡ true → is_none cell ≡ false
-own_some color None e = absurd (cc)
-own_some color (Some piece) e = refl
 
 -- what a pseudo-legal move on the board is
 pub board_parts : (q : Shogi) (c d : ℕ) (promote : Bool) → is_legal q (Board c d promote) ≡ true → (is_piece_of q.side (piece_at q.cells c) ≡ true) × (is_piece_of q.side (piece_at q.cells d) ≡ false) × (reaches q.cells c d ≡ true) × ((not promote || may_promote (piece_at q.cells c) c d) ≡ true)
@@ -85,8 +85,8 @@ takes_no_king q c k v hc hk crown own =
     false_from_ne_true _ (λ reach. both_ways (is_attacked_from q.cells (opponent_of (opponent_of q.side)) k c)
     (some_below_not 81 (is_attacked_from q.cells (opponent_of (opponent_of q.side)) k) c calm hc) (and_from _ _ mine reach))
 
-module _ (q : Shogi) (e : Eval) (gains king squares : ℕ) (arrived : Option Piece) (hands : HandCounts) (b : ℕ) (len : length q.cells ≡ 81) (owned : is_piece_of q.side arrived ≡ true) (fewer : (other : Kind) → 0 < count_in_hand hands q.side other → 0 < count_in_hand q.hands q.side other) (hb : b < 81) (bare : piece_at q.cells b ≡ None)
-    (quiet : IsQuietThere q e gains king squares) (idle : IsIdle q e gains king squares arrived b) (v : IsValid (put_on q arrived hands b)) where
+module _ (q : Shogi) (e : Eval) (gains king squares shut : ℕ) (arrived : Option Piece) (hands : HandCounts) (b : ℕ) (len : length q.cells ≡ 81) (owned : is_piece_of q.side arrived ≡ true) (fewer : (other : Kind) → 0 < count_in_hand hands q.side other → 0 < count_in_hand q.hands q.side other) (hb : b < 81) (bare : piece_at q.cells b ≡ None) (off_shut : has_bit shut b ≡ false)
+    (quiet : IsQuietThere q e gains king squares shut) (idle : IsIdle q e gains king squares arrived b) (v : IsValid (put_on q arrived hands b)) where
   no_foe_king : is_king (opponent_of q.side) arrived ≡ false
   no_foe_king = false_from_ne_true _ (λ crown. both_ways (is_piece_of (opponent_of q.side) arrived) (other_side q.side arrived owned) (king_own (opponent_of q.side) arrived crown))
 
@@ -94,7 +94,7 @@ module _ (q : Shogi) (e : Eval) (gains king squares : ℕ) (arrived : Option Pie
   fits = length-set q.cells b arrived ∙ len
 
   king_off : king ≢ b
-  king_off same = both_ways (is_king (opponent_of q.side) None) refl (ap (is_king (opponent_of q.side)) (sym bare) ∙ subst (λ (x : ℕ). is_king (opponent_of q.side) (piece_at q.cells x) ≡ true) same quiet.crown)
+  king_off same = both_ways (is_king (opponent_of q.side) None) refl (ap (is_king (opponent_of q.side)) (sym bare) ∙ subst (λ (x : ℕ). is_king (opponent_of q.side) (piece_at q.cells x) ≡ true) same quiet.standing.crown)
 
   put : piece_at (put_on q arrived hands b).cells b ≡ arrived
   put = get_or-set_same q.cells b arrived None (omega (arith, len, hb))
@@ -111,7 +111,7 @@ module _ (q : Shogi) (e : Eval) (gains king squares : ℕ) (arrived : Option Pie
   -- the king lifted, nothing is empty that was not
   opened_lifted : (x : ℕ) → is_none (piece_at (set (put_on q arrived hands b).cells king None) x) ≡ true → (is_none (piece_at (without_king q king) x) ≡ true) ⊎ ⊥
   opened_lifted x n = elim (cases_eq x king) [
-    | inl here ↦ inl (ap (λ (y : ℕ). is_none (piece_at (set q.cells king None) y)) here ∙ ap is_none (get_or-set_same q.cells king None None (omega (arith, len, quiet.king_fits))))
+    | inl here ↦ inl (ap (λ (y : ℕ). is_none (piece_at (set q.cells king None) y)) here ∙ ap is_none (get_or-set_same q.cells king None None (omega (arith, len, quiet.standing.king_fits))))
     | inr off ↦ elim (cases_eq x b) [
       | inl at ↦ inl (ap is_none (get_or-set_other q.cells king x None None off) ∙ (ap (λ (y : ℕ). is_none (piece_at q.cells y)) at ∙ ap is_none bare))
       | inr other ↦ inl (ap is_none (get_or-set_other q.cells king x None None off) ∙ (ap is_none (sym (same x other)) ∙ (ap is_none (sym (get_or-set_other (put_on q arrived hands b).cells king x None None off)) ∙ n)))
@@ -120,7 +120,7 @@ module _ (q : Shogi) (e : Eval) (gains king squares : ℕ) (arrived : Option Pie
 
   opened_now : (x : ℕ) → is_none (piece_at (put_on q arrived hands b).cells x) ≡ true → (is_none (piece_at (without_king q king) x) ≡ true) ⊎ ⊥
   opened_now x n = elim (cases_eq x king) [
-    | inl here ↦ inl (ap (λ (y : ℕ). is_none (piece_at (set q.cells king None) y)) here ∙ ap is_none (get_or-set_same q.cells king None None (omega (arith, len, quiet.king_fits))))
+    | inl here ↦ inl (ap (λ (y : ℕ). is_none (piece_at (set q.cells king None) y)) here ∙ ap is_none (get_or-set_same q.cells king None None (omega (arith, len, quiet.standing.king_fits))))
     | inr off ↦ elim (cases_eq x b) [
       | inl at ↦ inl (ap is_none (get_or-set_other q.cells king x None None off) ∙ (ap (λ (y : ℕ). is_none (piece_at q.cells y)) at ∙ ap is_none bare))
       | inr other ↦ inl (ap is_none (get_or-set_other q.cells king x None None off) ∙ (ap is_none (sym (same x other)) ∙ n))
@@ -142,30 +142,55 @@ module _ (q : Shogi) (e : Eval) (gains king squares : ℕ) (arrived : Option Pie
   square_off n bit at = both_ways (has_bit squares b) idle.off (subst (λ (x : ℕ). has_bit squares x ≡ true) at bit)
 
   crown_now : is_king (opponent_of q.side) (piece_at (put_on q arrived hands b).cells king) ≡ true
-  crown_now = ap (is_king (opponent_of q.side)) (same king king_off) ∙ quiet.crown
+  crown_now = ap (is_king (opponent_of q.side)) (same king king_off) ∙ quiet.standing.crown
 
-  escape_before : (n : ℕ) → n < 81 → has_bit squares n ≡ true → IsEscape q.cells (opponent_of q.side) king n
-  escape_before n h bit = quiet.escapes king n quiet.king_fits quiet.crown h bit
-
-  escape_now : (n : ℕ) → n < 81 → has_bit squares n ≡ true → IsEscape (put_on q arrived hands b).cells (opponent_of q.side) king n
+  escape_now : (n : ℕ) → n < 81 → has_bit squares n ≡ true → IsEscape q.cells (opponent_of q.side) king n → IsEscape (put_on q arrived hands b).cells (opponent_of q.side) king n
   unfolding reaches
-  escape_now n h bit =
-      let was : IsEscape q.cells (opponent_of q.side) king n = escape_before n h bit in
+  escape_now n h bit was =
       record {
         step = record {
           lone = λ x hx other. elim (see x) [
             | inl at ↦ ap (is_king (opponent_of q.side)) at.1 ∙ no_foe_king
-            | inr rest ↦ elim rest [ inl gone ↦ absurd gone.0 | inr stood ↦ ap (is_king (opponent_of q.side)) stood ∙ quiet.lone x hx other ]
+            | inr rest ↦ elim rest [ inl gone ↦ absurd gone.0 | inr stood ↦ ap (is_king (opponent_of q.side)) stood ∙ quiet.standing.lone x hx other ]
           ];
-          reached = ap (λ (cell : Option Piece). cell_reaches (put_on q arrived hands b).cells cell king n) (same king king_off) ∙ king_reach q.cells (put_on q arrived hands b).cells (opponent_of q.side) (piece_at q.cells king) king n quiet.crown was.step.reached;
+          reached = ap (λ (cell : Option Piece). cell_reaches (put_on q arrived hands b).cells cell king n) (same king king_off) ∙ king_reach q.cells (put_on q arrived hands b).cells (opponent_of q.side) (piece_at q.cells king) king n quiet.standing.crown was.step.reached;
           open_end = ap (is_piece_of (opponent_of q.side)) (same n (square_off n bit)) ∙ was.step.open_end;
         };
         safe =
             attacked_was_but (set q.cells king None) (set (put_on q arrived hands b).cells king None) (λ x. ⊥) opened_lifted (opponent_of (opponent_of q.side)) n
-            (kept q (put_on q arrived hands b).cells (put_on q arrived hands b).hands (λ x. ⊥) b arrived len fits owned see king n quiet.king_fits h quiet.crown (λ left. left) (king_off, square_off n bit) was
+            (kept q (put_on q arrived hands b).cells (put_on q arrived hands b).hands (λ x. ⊥) b arrived len fits owned see king n quiet.standing.king_fits h quiet.standing.crown (λ left. left) (king_off, square_off n bit) was
             (short_lifted arrived b n (idle.far n h bit)))
             (λ x left. absurd left) was.safe;
       }
+
+  -- ---- or its side has spare moves
+
+  lone_now : HasNoOtherKing (put_on q arrived hands b).cells (opponent_of q.side) king
+  lone_now x hx other = elim (see x) [
+    | inl at ↦ ap (is_king (opponent_of q.side)) at.1 ∙ no_foe_king
+    | inr rest ↦ elim rest [ inl gone ↦ absurd gone.0 | inr stood ↦ ap (is_king (opponent_of q.side)) stood ∙ quiet.standing.lone x hx other ]
+  ]
+
+  unchecked_now : in_check (put_on q arrived hands b).cells (opponent_of q.side) ≡ false
+  unchecked_now = (faultless_from (put_on q arrived hands b) v.no_fault).shut
+
+  by_spare : (new : Cells) (held : HandCounts) (d : ℕ) → HasSpareMoves q king → LeavesStanding (put_on q arrived hands b).cells new (opponent_of q.side) d → in_check new (opponent_of q.side) ≡ false → legal_codes (record { cells = new; hands = held; side = opponent_of q.side }) ≢ []
+  by_spare new held d spares stays safe =
+      let one = spares b d in
+      let from_off : one.0 ≢ b = λ at. both_ways (is_piece_of (opponent_of q.side) None) refl (ap (is_piece_of (opponent_of q.side)) (sym bare) ∙ subst (λ (x : ℕ). is_piece_of (opponent_of q.side) (piece_at q.cells x) ≡ true) at one.7.own) in
+      replies_by_step (put_on q arrived hands b).cells new held (opponent_of q.side) king d one.0 one.1 lone_now stays safe one.2 one.3 one.4 one.5
+      (ap (is_piece_of (opponent_of q.side)) (same one.0 from_off) ∙ one.7.own) one.7.off_king one.7.off_lines
+      (step_same q.cells (put_on q arrived hands b).cells one.0 one.1 (same one.0 from_off) (same one.1 one.6) one.7.step)
+
+  -- what stands in the new position stood where the king is lifted
+  emptied : (x : ℕ) → is_none (piece_at (put_on q arrived hands b).cells x) ≡ true → is_none (piece_at q.cells x) ≡ true
+  emptied x n = elim (see x) [
+    | inl at ↦ absurd (both_ways (is_none arrived) (own_some q.side arrived owned) (ap is_none (sym at.1) ∙ n))
+    | inr rest ↦ elim rest [ inl gone ↦ absurd gone.0 | inr stood ↦ ap is_none (sym stood) ∙ n ]
+  ]
+
+  harmless_now : (cell : Option Piece) (d e : ℕ) → e ≡ king → cell_reaches (without_king q king) cell d e ≡ false → IsHarmless (put_on q arrived hands b).cells (opponent_of q.side) cell d
+  harmless_now cell d e at far = harmless_there (put_on q arrived hands b).cells (opponent_of q.side) king q.cells cell d len quiet.standing.king_fits lone_now emptied (subst (λ (x : ℕ). cell_reaches (without_king q king) cell d x ≡ false) at far)
 
   -- ---- a move of another piece
 
@@ -189,13 +214,19 @@ module _ (q : Shogi) (e : Eval) (gains king squares : ℕ) (arrived : Option Pie
     free_before = ap (is_piece_of q.side) (sym (same d end_off)) ∙ free
 
     not_king : king ≢ d
-    not_king at = both_ways (reaches (put_on q arrived hands b).cells c king) (takes_no_king (put_on q arrived hands b) c king v hc quiet.king_fits crown_now own) (subst (λ (x : ℕ). reaches (put_on q arrived hands b).cells c x ≡ true) (sym at) reach)
+    not_king at = both_ways (reaches (put_on q arrived hands b).cells c king) (takes_no_king (put_on q arrived hands b) c king v hc quiet.standing.king_fits crown_now own) (subst (λ (x : ℕ). reaches (put_on q arrived hands b).cells c x ≡ true) (sym at) reach)
 
     gain_here : (cell : Option Piece) → piece_at (put_on q arrived hands b).cells c ≡ cell → taken_gain e (piece_at q.cells d) + promotion_gain promote cell ≤ gains → taken_gain e (piece_at (put_on q arrived hands b).cells d) + promotion_gain promote (piece_at (put_on q arrived hands b).cells c) ≤ gains
     gain_here cell at few =
         let one : taken_gain e (piece_at (put_on q arrived hands b).cells d) ≡ taken_gain e (piece_at q.cells d) = ap (taken_gain e) (same d end_off) in
         let two : promotion_gain promote (piece_at (put_on q arrived hands b).cells c) ≡ promotion_gain promote cell = ap (promotion_gain promote) at in
         omega (arith, one, two, few)
+
+    own_moved : is_piece_of q.side (piece_moved promote (piece_at (put_on q arrived hands b).cells c)) ≡ true
+    own_moved = is_piece_of-piece_moved q.side promote (piece_at (put_on q arrived hands b).cells c) ∙ own
+
+    end_there : piece_at (cells_after (put_on q arrived hands b).cells q.side (Board c d promote)) d ≡ piece_moved promote (piece_at (put_on q arrived hands b).cells c)
+    end_there = get_or-set_same (set (put_on q arrived hands b).cells c None) d (piece_moved promote (piece_at (put_on q arrived hands b).cells c)) None (omega (arith, length-set (put_on q arrived hands b).cells c None, fits, hd))
 
     -- of what was dropped
     dropped_moves : c ≡ b → (taken_gain e (piece_at (put_on q arrived hands b).cells d) + promotion_gain promote (piece_at (put_on q arrived hands b).cells c) ≤ gains) × (legal_codes (after (put_on q arrived hands b) (Board c d promote)) ≢ [])
@@ -208,29 +239,38 @@ module _ (q : Shogi) (e : Eval) (gains king squares : ℕ) (arrived : Option Pie
         let one = calm.leaves in
         let moved : piece_moved promote (piece_at (put_on q arrived hands b).cells c) ≡ piece_moved promote arrived = ap (piece_moved promote) there in (
           gain_here arrived there calm.gain,
-          reply_by (after (put_on q arrived hands b) (Board c d promote)) king one.0 quiet.king_fits one.1
+          λ none. quiet.standing.replies one.0 one.1 one.2
+              (λ escape. reply_by (after (put_on q arrived hands b) (Board c d promote)) king one.0 quiet.standing.king_fits one.1
               (king_steps q (cells_after (put_on q arrived hands b).cells q.side (Board c d promote)) (after (put_on q arrived hands b) (Board c d promote)).hands (λ x. ⊥) d (piece_moved promote (piece_at (put_on q arrived hands b).cells c)) len
               (length-after (put_on q arrived hands b).cells q.side (Board c d promote) ∙ fits)
-              (is_piece_of-piece_moved q.side promote (piece_at (put_on q arrived hands b).cells c) ∙ own)
-              (λ x. elim (look (put_on q arrived hands b).cells q.side c d (piece_moved promote (piece_at (put_on q arrived hands b).cells c)) fits hc hd x) [
-                | inl end ↦ inl end
-                | inr rest ↦ elim rest [
-                  | inl gone ↦ inr (inr (gone.1 ∙ (sym bare ∙ ap (piece_at q.cells) (sym (gone.0 ∙ at)))))
-                  | inr stood ↦ elim (cases_eq x b) [
-                    | inl here ↦ inr (inr (let clash : x ≡ c = here ∙ sym at in absurd (both_ways (is_none (piece_at (cells_after (put_on q arrived hands b).cells q.side (Board c d promote)) x)) (ap is_none stood ∙ (ap (λ (y : ℕ). is_none (piece_at (put_on q arrived hands b).cells y)) clash ∙ (ap is_none there ∙ own_some q.side arrived owned))) (left_none x clash))))
-                    | inr other ↦ inr (inr (stood ∙ same x other))
-                  ]
-                ]
-              ])
-              king one.0 quiet.king_fits one.1 quiet.crown (λ left. left) (not_king, one.3) (escape_before one.0 one.1 one.2)
+              own_moved (seen_after at)
+              king one.0 quiet.standing.king_fits one.1 quiet.standing.crown (λ left. left) (not_king, one.3) escape
               (ap (λ (cell : Option Piece). cell_reaches (set q.cells king None) cell d one.0) moved ∙ one.4)
-              (λ x left. absurd left)),
+              (λ x left. absurd left)) none)
+              (λ home. by_spare (cells_after (put_on q arrived hands b).cells q.side (Board c d promote)) (after (put_on q arrived hands b) (Board c d promote)).hands d home.1
+              (left_board (put_on q arrived hands b) c d promote v hc hd own)
+              (unchecked_by q.cells (cells_after (put_on q arrived hands b).cells q.side (Board c d promote)) q.side (λ x. ⊥) d (piece_moved promote (piece_at (put_on q arrived hands b).cells c)) hd own_moved (seen_after at) end_there (λ x left. absurd left)
+              (subst (λ (cell : Option Piece). IsHarmless q.cells (opponent_of q.side) cell d) (sym moved)
+              (harmless_there q.cells (opponent_of q.side) king q.cells (piece_moved promote arrived) d len quiet.standing.king_fits quiet.standing.lone (λ x n. n) (subst (λ (x : ℕ). cell_reaches (without_king q king) (piece_moved promote arrived) d x ≡ false) home.0 one.4)))
+              quiet.standing.unchecked) none),
         )
       where
-        left_none : (x : ℕ) → x ≡ c → is_none (piece_at (cells_after (put_on q arrived hands b).cells q.side (Board c d promote)) x) ≡ true
-        left_none x here =
+        left_none : (x : ℕ) → c ≡ b → x ≡ c → is_none (piece_at (cells_after (put_on q arrived hands b).cells q.side (Board c d promote)) x) ≡ true
+        left_none x at here =
             let other : x ≢ d = λ end. end_off (sym end ∙ (here ∙ at)) in
             ap is_none (get_or-set_other (set (put_on q arrived hands b).cells c None) d x (piece_moved promote (piece_at (put_on q arrived hands b).cells c)) None other ∙ (ap (piece_at (set (put_on q arrived hands b).cells c None)) here ∙ get_or-set_same (put_on q arrived hands b).cells c None None (omega (arith, fits, hc))))
+
+        seen_after : c ≡ b → (x : ℕ) → ((x ≡ d) × (piece_at (cells_after (put_on q arrived hands b).cells q.side (Board c d promote)) x ≡ piece_moved promote (piece_at (put_on q arrived hands b).cells c))) ⊎ ((⊥ × (piece_at (cells_after (put_on q arrived hands b).cells q.side (Board c d promote)) x ≡ None)) ⊎ (piece_at (cells_after (put_on q arrived hands b).cells q.side (Board c d promote)) x ≡ piece_at q.cells x))
+        seen_after at x = elim (look (put_on q arrived hands b).cells q.side c d (piece_moved promote (piece_at (put_on q arrived hands b).cells c)) fits hc hd x) [
+          | inl end ↦ inl end
+          | inr rest ↦ elim rest [
+            | inl gone ↦ inr (inr (gone.1 ∙ (sym bare ∙ ap (piece_at q.cells) (sym (gone.0 ∙ at)))))
+            | inr stood ↦ elim (cases_eq x b) [
+              | inl here ↦ inr (inr (let clash : x ≡ c = here ∙ sym at in absurd (both_ways (is_none (piece_at (cells_after (put_on q arrived hands b).cells q.side (Board c d promote)) x)) (ap is_none stood ∙ (ap (λ (y : ℕ). is_none (piece_at (put_on q arrived hands b).cells y)) clash ∙ own_some q.side (piece_at (put_on q arrived hands b).cells c) own)) (left_none x at clash))))
+              | inr other ↦ inr (inr (stood ∙ same x other))
+            ]
+          ]
+        ]
 
     -- of one that stood there
     other_moves : c ≢ b → (taken_gain e (piece_at (put_on q arrived hands b).cells d) + promotion_gain promote (piece_at (put_on q arrived hands b).cells c) ≤ gains) × (legal_codes (after (put_on q arrived hands b) (Board c d promote)) ≢ [])
@@ -239,22 +279,39 @@ module _ (q : Shogi) (e : Eval) (gains king squares : ℕ) (arrived : Option Pie
         let there : piece_at (put_on q arrived hands b).cells c ≡ piece_at q.cells c = same c off in
         let led : cell_reaches (without_king q king) (piece_at q.cells c) c d ≡ true = reached_now (piece_at q.cells c) c d (ap (λ (cell : Option Piece). cell_reaches (put_on q arrived hands b).cells cell c d) (sym there) ∙ reach) in
         let lets : promote ≡ true → may_promote (piece_at q.cells c) c d ≡ true = λ p. ap (λ (cell : Option Piece). may_promote cell c d) (sym there) ∙ may p in
-        let calm = quiet.pieces c hc (ap (is_piece_of q.side) (sym there) ∙ own) d promote hd free_before led lets in
-        let one = calm.1.2 in
-        let out = calm.1.1 one.0 one.1 one.2 in
-        let moved : piece_moved promote (piece_at (put_on q arrived hands b).cells c) ≡ piece_moved promote (piece_at q.cells c) = ap (piece_moved promote) there in (
-          gain_here (piece_at q.cells c) there calm.0,
-          reply_by (after (put_on q arrived hands b) (Board c d promote)) king one.0 quiet.king_fits one.1
-              (king_steps (put_on q arrived hands b) (cells_after (put_on q arrived hands b).cells q.side (Board c d promote)) (after (put_on q arrived hands b) (Board c d promote)).hands (λ x. x ≡ c) d (piece_moved promote (piece_at (put_on q arrived hands b).cells c)) fits
-              (length-after (put_on q arrived hands b).cells q.side (Board c d promote) ∙ fits)
-              (is_piece_of-piece_moved q.side promote (piece_at (put_on q arrived hands b).cells c) ∙ own)
-              (look (put_on q arrived hands b).cells q.side c d (piece_moved promote (piece_at (put_on q arrived hands b).cells c)) fits hc hd)
-              king one.0 quiet.king_fits one.1 crown_now
-              (λ at. both_ways (is_piece_of (opponent_of q.side) (piece_at (put_on q arrived hands b).cells c)) (other_side q.side (piece_at (put_on q arrived hands b).cells c) own) (subst (λ (x : ℕ). is_piece_of (opponent_of q.side) (piece_at (put_on q arrived hands b).cells x) ≡ true) at (king_own (opponent_of q.side) (piece_at (put_on q arrived hands b).cells king) crown_now)))
-              (not_king, one.3) (escape_now one.0 one.1 out.0)
-              (short_lifted (piece_moved promote (piece_at (put_on q arrived hands b).cells c)) d one.0 (ap (λ (cell : Option Piece). cell_reaches (without_king q king) cell d one.0) moved ∙ one.4))
-              (λ x left. subst (λ (y : ℕ). are_lined (set (put_on q arrived hands b).cells king None) y one.0 ≡ false) (sym left) (false_from_ne_true _ (λ lined. both_ways (are_aligned c one.0) out.1 (lined_aligned (set (put_on q arrived hands b).cells king None) c one.0 lined))))),
-        )
+        let moved : piece_moved promote (piece_at (put_on q arrived hands b).cells c) ≡ piece_moved promote (piece_at q.cells c) = ap (piece_moved promote) there in
+        let own_before : is_piece_of q.side (piece_at q.cells c) ≡ true = ap (is_piece_of q.side) (sym there) ∙ own in
+        elim (quiet.pieces c hc own_before d promote hd free_before led lets) [
+          | inl calm ↦ (gain_here (piece_at q.cells c) there calm.0, left_one there moved calm.1)
+          | inr stopped ↦ absurd (both_ways (in_check (cells_after (put_on q arrived hands b).cells q.side (Board c d promote)) q.side)
+              (legal_parts (put_on q arrived hands b) (Board c d promote) l).1
+              (still_shut q arrived shut b c d promote len hb hc hd own_before (λ at. off (sym at)) (λ at. end_off (sym at)) off_shut stopped))
+        ]
+      where
+        left_one : piece_at (put_on q arrived hands b).cells c ≡ piece_at q.cells c → piece_moved promote (piece_at (put_on q arrived hands b).cells c) ≡ piece_moved promote (piece_at q.cells c) → ((set : ℕ) × AreOffLines c squares set × LeavesOne (without_king q king) (piece_moved promote (piece_at q.cells c)) d set) → legal_codes (after (put_on q arrived hands b) (Board c d promote)) ≢ []
+        left_one there moved calm =
+            let one = calm.2 in
+            let out = calm.1 one.0 one.1 one.2 in
+            let short : cell_reaches (without_king q king) (piece_moved promote (piece_at (put_on q arrived hands b).cells c)) d one.0 ≡ false = ap (λ (cell : Option Piece). cell_reaches (without_king q king) cell d one.0) moved ∙ one.4 in
+            λ none. quiet.standing.replies one.0 one.1 out.0
+            (λ escape. reply_by (after (put_on q arrived hands b) (Board c d promote)) king one.0 quiet.standing.king_fits one.1
+            (king_steps (put_on q arrived hands b) (cells_after (put_on q arrived hands b).cells q.side (Board c d promote)) (after (put_on q arrived hands b) (Board c d promote)).hands (λ x. x ≡ c) d (piece_moved promote (piece_at (put_on q arrived hands b).cells c)) fits
+            (length-after (put_on q arrived hands b).cells q.side (Board c d promote) ∙ fits)
+            own_moved
+            (look (put_on q arrived hands b).cells q.side c d (piece_moved promote (piece_at (put_on q arrived hands b).cells c)) fits hc hd)
+            king one.0 quiet.standing.king_fits one.1 crown_now
+            (λ at. both_ways (is_piece_of (opponent_of q.side) (piece_at (put_on q arrived hands b).cells c)) (other_side q.side (piece_at (put_on q arrived hands b).cells c) own) (subst (λ (x : ℕ). is_piece_of (opponent_of q.side) (piece_at (put_on q arrived hands b).cells x) ≡ true) at (king_own (opponent_of q.side) (piece_at (put_on q arrived hands b).cells king) crown_now)))
+            (not_king, one.3) (escape_now one.0 one.1 out.0 escape)
+            (short_lifted (piece_moved promote (piece_at (put_on q arrived hands b).cells c)) d one.0 short)
+            (λ x left. subst (λ (y : ℕ). are_lined (set (put_on q arrived hands b).cells king None) y one.0 ≡ false) (sym left) (false_from_ne_true _ (λ lined. both_ways (are_aligned c one.0) out.1 (lined_aligned (set (put_on q arrived hands b).cells king None) c one.0 lined))))) none)
+            (λ home. by_spare (cells_after (put_on q arrived hands b).cells q.side (Board c d promote)) (after (put_on q arrived hands b) (Board c d promote)).hands d home.1
+            (left_board (put_on q arrived hands b) c d promote v hc hd own)
+            (unchecked_by (put_on q arrived hands b).cells (cells_after (put_on q arrived hands b).cells q.side (Board c d promote)) q.side (λ x. x ≡ c) d (piece_moved promote (piece_at (put_on q arrived hands b).cells c)) hd own_moved
+            (look (put_on q arrived hands b).cells q.side c d (piece_moved promote (piece_at (put_on q arrived hands b).cells c)) fits hc hd) end_there
+            (λ x left. subst (λ (y : ℕ). is_lined_with_king (put_on q arrived hands b).cells (opponent_of q.side) y ≡ false) (sym left) (unlined_with (put_on q arrived hands b).cells (opponent_of q.side) king c lone_now
+            (false_from_ne_true _ (λ lined. both_ways (are_aligned c king) (subst (λ (x : ℕ). are_aligned c x ≡ false) home.0 out.1) (lined_aligned (put_on q arrived hands b).cells c king lined)))))
+            (harmless_now (piece_moved promote (piece_at (put_on q arrived hands b).cells c)) d one.0 home.0 short)
+            unchecked_now) none)
 
     board_calm : (taken_gain e (piece_at (put_on q arrived hands b).cells d) + promotion_gain promote (piece_at (put_on q arrived hands b).cells c) ≤ gains) × (legal_codes (after (put_on q arrived hands b) (Board c d promote)) ≢ [])
     board_calm = elim (cases_eq c b) [ inl here ↦ dropped_moves here | inr off ↦ other_moves off ]
@@ -268,14 +325,17 @@ module _ (q : Shogi) (e : Eval) (gains king squares : ℕ) (arrived : Option Pie
       let off : d ≢ b = λ at. both_ways (is_none arrived) (own_some q.side arrived owned) (ap is_none (sym put) ∙ (ap (λ (x : ℕ). is_none (piece_at (put_on q arrived hands b).cells x)) (sym at) ∙ parts.1)) in
       let one = quiet.kinds other (fewer other (ltb-true 0 (count_in_hand (put_on q arrived hands b).hands q.side other) parts.0)) d hd (sym (same d off) ∙ empty) parts.2 in
       let not_there : king ≢ d = λ at. both_ways (is_king (opponent_of q.side) None) refl (ap (is_king (opponent_of q.side)) (sym empty) ∙ subst (λ (x : ℕ). is_king (opponent_of q.side) (piece_at (put_on q arrived hands b).cells x) ≡ true) at crown_now) in
-      reply_by (after (put_on q arrived hands b) (Drop other d)) king one.0 quiet.king_fits one.1
+      λ none. quiet.standing.replies one.0 one.1 one.2
+      (λ escape. reply_by (after (put_on q arrived hands b) (Drop other d)) king one.0 quiet.standing.king_fits one.1
       (king_steps (put_on q arrived hands b) (cells_after (put_on q arrived hands b).cells q.side (Drop other d)) (after (put_on q arrived hands b) (Drop other d)).hands (λ x. ⊥) d (dropped q.side other) fits
       (length-after (put_on q arrived hands b).cells q.side (Drop other d) ∙ fits)
       (dropped_of q.side other)
       (λ x. elim (drops.look (put_on q arrived hands b).cells q.side other d fits hd x) [ inl here ↦ inl here | inr stood ↦ inr (inr stood) ])
-      king one.0 quiet.king_fits one.1 crown_now (λ left. left) (not_there, one.3) (escape_now one.0 one.1 one.2)
+      king one.0 quiet.standing.king_fits one.1 crown_now (λ left. left) (not_there, one.3) (escape_now one.0 one.1 one.2 escape)
       (short_lifted (dropped q.side other) d one.0 one.4)
-      (λ x left. absurd left))
+      (λ x left. absurd left)) none)
+      (λ home. by_spare (cells_after (put_on q arrived hands b).cells q.side (Drop other d)) (after (put_on q arrived hands b) (Drop other d)).hands d home.1
+      (left_drop (put_on q arrived hands b) other d v hd) (shut_drop (put_on q arrived hands b) other d v hd (harmless_now (dropped q.side other) d one.0 home.0 one.4)) none)
 
   -- so it gains no more than it did, and mates by nothing
   pub tame : (t : ℤ) → (material_of (put_on q arrived hands b) e +ℤ pos gains) ≤ℤ t → IsTame (put_on q arrived hands b) e t

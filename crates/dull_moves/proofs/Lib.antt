@@ -10,3 +10,6 @@ pub mod Lifting
 pub mod Dull
 pub mod Sets
 pub mod SceneLaws
+pub mod Unchecked
+pub mod SpareMoves
+pub mod Shut

@@ -1,5 +1,5 @@
 -- A piece that has no part in it may leave a position in which its side gains little and leaves the king a square.
-use Rattle.std.proofs.Common.{◌≡◌, ◌≢◌, ◌⊎◌, ℕ, zero, suc, ◌+◌, ◌<◌, ◌≤◌, true, false, List, [], ◌∷◌, Option, Some, None, refl, sym, ap, subst, ◌∙◌, inl, inr, arith, set, get_or-set_other}
+use Rattle.std.proofs.Common.{◌≡◌, ◌≢◌, ◌⊎◌, ℕ, ◌+◌, ◌<◌, ◌≤◌, true, false, List, [], ◌∷◌, Option, Some, None, refl, sym, ap, subst, ◌∙◌, inl, inr, arith, set, length-set, get_or-set_other}
 use Rattle.std.specs.Prelude.{is_none}
 use Rattle.std.specs.List.{list_any}
 use Rattle.std.proofs.lemmas.Bool.{both_ways, cases_eq, false_from_ne_true, or_cases, or_left, or_right}
@@ -9,24 +9,30 @@ use Rattle.shogi_core.specs.declared.piece.Kind.{Kind}
 use Rattle.shogi_core.specs.declared.piece.Piece.{Piece}
 use Rattle.shogi_core.specs.declared.piece.Role.{Role}
 use Rattle.shogi_core.specs.declared.piece.Role.TheVariants.{Lance, Bishop, Rook, Horse, Dragon}
+use Rattle.shogi_core.specs.Attack.{in_check}
 use Rattle.shogi_core.specs.Bits.{has_bit}
 use Rattle.shogi_core.specs.Cell.{is_immobile, is_king, is_piece_of, is_sliding_role}
-use Rattle.shogi_core.specs.Lines.{are_lined}
+use Rattle.shogi_core.specs.Lines.{are_lined, is_lined_with_king}
 use Rattle.shogi_core.specs.Movement.{Cells, cell_reaches, for_side, has_slide, has_step, piece_at, reaches, slides, slides_of}
 use Rattle.shogi_core.specs.Pieces.{opponent_of}
 use Rattle.shogi_core.specs.Position.{Shogi, count_in_hand}
 use Rattle.shogi_core.specs.Zones.{may_promote}
 use Rattle.shogi_core.proofs.Discovered.{attacked_was_but, reach_was, slides_was}
+use Rattle.shogi_core.proofs.Replies.{no_check}
 use Rattle.shogi_moves.specs.After.{dropped, piece_moved}
 use Rattle.shogi_moves.specs.Escapes.{IsEscape}
-use Rattle.shogi_moves.proofs.CheckInfoLaws.{other_side}
+use Rattle.shogi_moves.proofs.CheckInfoLaws.{other_side, own_some}
 use Rattle.shogi_moves.proofs.EscapeLaws.{king_reach}
 use Rattle.shogi_moves.proofs.KingLaws.{king_own}
 use Rattle.shogi_moves.proofs.MovedPieces.{opponent_twice}
 use Rattle.shogi_replies.proofs.CheckLaws.{reach_both_ways}
 use Rattle.shogi_eval.specs.declared.eval.Eval.{Eval}
 use Rattle.shogi_eval.specs.Material.{promotion_gain, taken_gain}
-use Rattle.dull_moves.specs.Dull.{AreOffLines, IsQuietThere, IsUnseen, KindLetsLeave, LeavesOne, PieceIsCalm, PieceLetsLeave, lifted, without_king}
+use Rattle.dull_moves.specs.Dull.{AreOffLines, HasSpareMoves, IsCalmOffLines, IsQuietThere, IsShut, IsUnseen, KindLetsLeave, LeavesOne, PieceIsCalm, PieceLetsLeave, lifted, without_king}
+use Rattle.dull_moves.proofs.Sets.{cleared_none}
+use Rattle.dull_moves.proofs.Shut.{shut_lifted}
+use Rattle.dull_moves.proofs.SpareMoves.{step_parts, step_same}
+use Rattle.dull_moves.proofs.Unchecked.{unlined_with_king}
 
 -- ---- a slide that a square was in the way of
 
@@ -72,17 +78,11 @@ module _ (old new : Cells) (a : ℕ) (opened : (x : ℕ) → is_none (piece_at n
       turn : (x : ℕ) → cell_reaches old (Some (record { color = opponent_of (opponent_of piece.color); role = piece.role })) from x ≡ true → cell_reaches old (Some piece) from x ≡ true
       turn x r = ap (λ (color : Color). cell_reaches old (Some (record { color = color; role = piece.role })) from x) (sym (opponent_twice piece.color)) ∙ r
 
--- nothing stands on a square that is cleared
-pub cleared_none : (cells : Cells) (a : ℕ) → piece_at (set cells a None) a ≡ None
-cleared_none [] a = refl
-cleared_none (cell ∷ cells) zero = refl
-cleared_none (cell ∷ cells) (suc a) = cleared_none cells a
-
 -- ---- a piece is lifted
 
-module _ (q : Shogi) (e : Eval) (gains king squares a : ℕ) (ha : a < 81) (mine : is_piece_of q.side (piece_at q.cells a) ≡ true) (quiet : IsQuietThere q e gains king squares) (unseen : IsUnseen q king squares a) where
+module _ (q : Shogi) (e : Eval) (gains king squares shut a : ℕ) (ha : a < 81) (mine : is_piece_of q.side (piece_at q.cells a) ≡ true) (off : has_bit shut a ≡ false) (quiet : IsQuietThere q e gains king squares shut) (unseen : IsUnseen q king squares a) where
   king_off : king ≢ a
-  king_off at = both_ways (is_piece_of (opponent_of q.side) (piece_at q.cells a)) (other_side q.side (piece_at q.cells a) mine) (subst (λ (x : ℕ). is_piece_of (opponent_of q.side) (piece_at q.cells x) ≡ true) at (king_own (opponent_of q.side) (piece_at q.cells king) quiet.crown))
+  king_off at = both_ways (is_piece_of (opponent_of q.side) (piece_at q.cells a)) (other_side q.side (piece_at q.cells a) mine) (subst (λ (x : ℕ). is_piece_of (opponent_of q.side) (piece_at q.cells x) ≡ true) at (king_own (opponent_of q.side) (piece_at q.cells king) quiet.standing.crown))
 
   same : (x : ℕ) → x ≢ a → piece_at (lifted q a).cells x ≡ piece_at q.cells x
   same x off = get_or-set_other q.cells a x None None off
@@ -109,12 +109,12 @@ module _ (q : Shogi) (e : Eval) (gains king squares a : ℕ) (ha : a < 81) (mine
   -- ---- the king has its squares still
 
   crown_now : is_king (opponent_of q.side) (piece_at (lifted q a).cells king) ≡ true
-  crown_now = ap (is_king (opponent_of q.side)) (same king king_off) ∙ quiet.crown
+  crown_now = ap (is_king (opponent_of q.side)) (same king king_off) ∙ quiet.standing.crown
 
   lone_now : (x : ℕ) → x < 81 → x ≢ king → is_king (opponent_of q.side) (piece_at (lifted q a).cells x) ≡ false
   lone_now x hx other = elim (cases_eq x a) [
     | inl at ↦ ap (λ (y : ℕ). is_king (opponent_of q.side) (piece_at (lifted q a).cells y)) at ∙ ap (is_king (opponent_of q.side)) gone
-    | inr off ↦ ap (is_king (opponent_of q.side)) (same x off) ∙ quiet.lone x hx other
+    | inr off ↦ ap (is_king (opponent_of q.side)) (same x off) ∙ quiet.standing.lone x hx other
   ]
 
   opened_up : (x : ℕ) → is_none (piece_at (set (lifted q a).cells king None) x) ≡ true → (is_none (piece_at (set q.cells king None) x) ≡ true) ⊎ (x ≡ a)
@@ -129,14 +129,13 @@ module _ (q : Shogi) (e : Eval) (gains king squares a : ℕ) (ha : a < 81) (mine
     ]
   ]
 
-  escape_now : (n : ℕ) → n < 81 → has_bit squares n ≡ true → IsEscape (lifted q a).cells (opponent_of q.side) king n
+  escape_now : (n : ℕ) → n < 81 → has_bit squares n ≡ true → IsEscape q.cells (opponent_of q.side) king n → IsEscape (lifted q a).cells (opponent_of q.side) king n
   unfolding reaches
-  escape_now n h bit =
-      let was : IsEscape q.cells (opponent_of q.side) king n = quiet.escapes king n quiet.king_fits quiet.crown h bit in
+  escape_now n h bit was =
       record {
         step = record {
           lone = lone_now;
-          reached = ap (λ (cell : Option Piece). cell_reaches (lifted q a).cells cell king n) (same king king_off) ∙ king_reach q.cells (lifted q a).cells (opponent_of q.side) (piece_at q.cells king) king n quiet.crown was.step.reached;
+          reached = ap (λ (cell : Option Piece). cell_reaches (lifted q a).cells cell king n) (same king king_off) ∙ king_reach q.cells (lifted q a).cells (opponent_of q.side) (piece_at q.cells king) king n quiet.standing.crown was.step.reached;
           open_end = elim (cases_eq n a) [
             | inl at ↦ ap (λ (y : ℕ). is_piece_of (opponent_of q.side) (piece_at (lifted q a).cells y)) at ∙ ap (is_piece_of (opponent_of q.side)) gone
             | inr off ↦ ap (is_piece_of (opponent_of q.side)) (same n off) ∙ was.step.open_end
@@ -146,22 +145,53 @@ module _ (q : Shogi) (e : Eval) (gains king squares a : ℕ) (ha : a < 81) (mine
             (λ x left. subst (λ (y : ℕ). are_lined (without_king q king) y n ≡ false) (sym left) (unseen.off_squares n h bit)) was.safe;
       }
 
-  the_king : (k : ℕ) → k < 81 → is_king (opponent_of q.side) (piece_at (lifted q a).cells k) ≡ true → k ≡ king
-  the_king k hk crown = elim (cases_eq k king) [
-    | inl here ↦ here
-    | inr other ↦ absurd (both_ways (is_king (opponent_of q.side) (piece_at (lifted q a).cells k)) (lone_now k hk other) crown)
-  ]
+  -- the other side is in no check still
+  unchecked_now : in_check (lifted q a).cells (opponent_of q.side) ≡ false
+  unchecked_now =
+      no_check q.cells (lifted q a).cells (λ x. x ≡ a)
+      (λ x e. elim (cases_eq x a) [ inl at ↦ inr at | inr other ↦ inl (ap is_none (sym (same x other)) ∙ e) ])
+      (opponent_of q.side) a ha
+      (λ x e. elim (cases_eq x a) [ inl at ↦ inr at | inr other ↦ inl (sym (same x other)) ])
+      (λ k e. elim (cases_eq k a) [
+        | inl at ↦ absurd (both_ways (is_king (opponent_of q.side) None) refl (ap (is_king (opponent_of q.side)) (sym (ap (piece_at (lifted q a).cells) at ∙ gone)) ∙ e))
+        | inr other ↦ sym (same k other)
+      ])
+      (λ x left. subst (λ (y : ℕ). is_lined_with_king q.cells (opponent_of q.side) y ≡ false) (sym left) (unlined_with_king q.cells (opponent_of q.side) king a quiet.standing.cells_fit quiet.standing.king_fits quiet.standing.lone unseen.off_king))
+      (λ k l e. ap (λ (cell : Option Piece). cell_reaches q.cells cell a k) gone)
+      quiet.standing.unchecked
+
+  -- and has its spare moves
+  spare_now : HasSpareMoves q king → HasSpareMoves (lifted q a) king
+  spare_now spares b d =
+      let one = spares b d in
+      let step = step_parts q.cells one.0 one.1 one.7.step in
+      let from_off : one.0 ≢ a = λ at. both_ways (is_piece_of (opponent_of q.side) (piece_at q.cells a)) (other_side q.side (piece_at q.cells a) mine) (subst (λ (x : ℕ). is_piece_of (opponent_of q.side) (piece_at q.cells x) ≡ true) at one.7.own) in
+      let end_off : one.1 ≢ a = λ at. both_ways (is_none (piece_at q.cells a)) (own_some q.side (piece_at q.cells a) mine) (subst (λ (x : ℕ). is_none (piece_at q.cells x) ≡ true) at step.1) in (
+        one.0,
+        one.1,
+        one.2,
+        one.3,
+        one.4,
+        one.5,
+        one.6,
+        record {
+          own = ap (is_piece_of (opponent_of q.side)) (same one.0 from_off) ∙ one.7.own;
+          off_king = one.7.off_king;
+          off_lines = one.7.off_lines;
+          step = step_same q.cells (lifted q a).cells one.0 one.1 (same one.0 from_off) (same one.1 end_off) one.7.step;
+        },
+      )
 
   -- ---- what the other pieces do
 
-  piece_calm : (from : ℕ) → from < 81 → is_piece_of q.side (piece_at (lifted q a).cells from) ≡ true → PieceLetsLeave q e gains king squares from a → PieceIsCalm (lifted q a) e gains king squares from
+  piece_calm : (from : ℕ) → from < 81 → is_piece_of q.side (piece_at (lifted q a).cells from) ≡ true → PieceLetsLeave q e gains king squares from a → PieceIsCalm (lifted q a) e gains king squares shut from
   piece_calm from hf own lets n promote h free reached may = by_cell (piece_at q.cells from) refl
     where
-      off : from ≢ a
-      off at = both_ways (is_piece_of q.side None) refl (ap (is_piece_of q.side) (sym (ap (piece_at (lifted q a).cells) at ∙ gone)) ∙ own)
+      off_a : from ≢ a
+      off_a at = both_ways (is_piece_of q.side None) refl (ap (is_piece_of q.side) (sym (ap (piece_at (lifted q a).cells) at ∙ gone)) ∙ own)
 
       there : piece_at (lifted q a).cells from ≡ piece_at q.cells from
-      there = same from off
+      there = same from off_a
 
       mine_there : is_piece_of q.side (piece_at q.cells from) ≡ true
       mine_there = ap (is_piece_of q.side) (sym there) ∙ own
@@ -169,36 +199,42 @@ module _ (q : Shogi) (e : Eval) (gains king squares a : ℕ) (ha : a < 81) (mine
       may_there : promote ≡ true → may_promote (piece_at q.cells from) from n ≡ true
       may_there p = ap (λ (cell : Option Piece). may_promote cell from n) (sym there) ∙ may p
 
-      out : (some : cell_reaches (without_king q king) (piece_at q.cells from) from n ≡ true) → (taken_gain e (piece_at (lifted q a).cells n) + promotion_gain promote (piece_at (lifted q a).cells from) ≤ gains) × ((set : ℕ) × AreOffLines from squares set × LeavesOne (without_king (lifted q a) king) (piece_moved promote (piece_at (lifted q a).cells from)) n set)
+      out : (some : cell_reaches (without_king q king) (piece_at q.cells from) from n ≡ true) → IsCalmOffLines (lifted q a) e gains king squares from n promote ⊎ IsShut (lifted q a) shut from n
       out some = elim (cases_eq n a) [
         | inl at ↦ (
             let calm = lets.calm promote (subst (λ (y : ℕ). cell_reaches (without_king q king) (piece_at q.cells from) from y ≡ true) at some) (λ p. subst (λ (y : ℕ). may_promote (piece_at q.cells from) from y ≡ true) at (may_there p)) in
             let none : taken_gain e (piece_at (lifted q a).cells n) ≡ 0 = ap (λ (y : ℕ). taken_gain e (piece_at (lifted q a).cells y)) at ∙ ap (taken_gain e) gone in
             let little : promotion_gain promote (piece_at (lifted q a).cells from) ≡ promotion_gain promote (piece_at q.cells from) = ap (promotion_gain promote) there in
             let few : promotion_gain promote (piece_at q.cells from) ≤ gains = calm.0 in
-            (omega (arith, none, little, few), (calm.1.0, calm.1.1, moved n calm.1.0 calm.1.1 (subst (λ (y : ℕ). LeavesOne (without_king q king) (piece_moved promote (piece_at q.cells from)) y calm.1.0) (sym at) calm.1.2))))
-        | inr other ↦ (
-            let calm = quiet.pieces from hf mine_there n promote h (ap (is_piece_of q.side) (sym (same n other)) ∙ free) some may_there in
-            let alike : taken_gain e (piece_at (lifted q a).cells n) ≡ taken_gain e (piece_at q.cells n) = ap (taken_gain e) (same n other) in
-            let little : promotion_gain promote (piece_at (lifted q a).cells from) ≡ promotion_gain promote (piece_at q.cells from) = ap (promotion_gain promote) there in
-            let few : taken_gain e (piece_at q.cells n) + promotion_gain promote (piece_at q.cells from) ≤ gains = calm.0 in
-            (omega (arith, alike, little, few), (calm.1.0, calm.1.1, moved n calm.1.0 calm.1.1 calm.1.2)))
+            inl (omega (arith, none, little, few), (calm.1.0, calm.1.1, moved_there n calm.1.0 calm.1.1 (subst (λ (y : ℕ). LeavesOne (without_king q king) (piece_moved promote (piece_at q.cells from)) y calm.1.0) (sym at) calm.1.2))))
+        | inr other ↦ elim (quiet.pieces from hf mine_there n promote h (ap (is_piece_of q.side) (sym (same n other)) ∙ free) some may_there) [
+          | inl calm ↦ (
+              let alike : taken_gain e (piece_at (lifted q a).cells n) ≡ taken_gain e (piece_at q.cells n) = ap (taken_gain e) (same n other) in
+              let little : promotion_gain promote (piece_at (lifted q a).cells from) ≡ promotion_gain promote (piece_at q.cells from) = ap (promotion_gain promote) there in
+              let few : taken_gain e (piece_at q.cells n) + promotion_gain promote (piece_at q.cells from) ≤ gains = calm.0 in
+              inl (omega (arith, alike, little, few), (calm.1.0, calm.1.1, moved_there n calm.1.0 calm.1.1 calm.1.2)))
+          | inr stopped ↦ inr (shut_lifted q shut a from n quiet.standing.cells_fit ha hf h (λ at. off_a (sym at)) (λ at. other (sym at)) off stopped)
+        ]
       ]
         where
-          moved : (m set : ℕ) → AreOffLines from squares set → LeavesOne (without_king q king) (piece_moved promote (piece_at q.cells from)) m set → LeavesOne (without_king (lifted q a) king) (piece_moved promote (piece_at (lifted q a).cells from)) m set
-          moved m set lines one = subst (λ (cell : Option Piece). LeavesOne (without_king (lifted q a) king) (piece_moved promote cell) m set) (sym there) (leaves (piece_moved promote (piece_at q.cells from)) m set (λ i hi bit. (lines i hi bit).0) one)
+          moved_there : (m set : ℕ) → AreOffLines from squares set → LeavesOne (without_king q king) (piece_moved promote (piece_at q.cells from)) m set → LeavesOne (without_king (lifted q a) king) (piece_moved promote (piece_at (lifted q a).cells from)) m set
+          moved_there m set lines one = subst (λ (cell : Option Piece). LeavesOne (without_king (lifted q a) king) (piece_moved promote cell) m set) (sym there) (leaves (piece_moved promote (piece_at q.cells from)) m set (λ i hi bit. (lines i hi bit).0) one)
 
-      by_cell : (cell : Option Piece) → piece_at q.cells from ≡ cell → (taken_gain e (piece_at (lifted q a).cells n) + promotion_gain promote (piece_at (lifted q a).cells from) ≤ gains) × ((set : ℕ) × AreOffLines from squares set × LeavesOne (without_king (lifted q a) king) (piece_moved promote (piece_at (lifted q a).cells from)) n set)
+      by_cell : (cell : Option Piece) → piece_at q.cells from ≡ cell → IsCalmOffLines (lifted q a) e gains king squares from n promote ⊎ IsShut (lifted q a) shut from n
       by_cell None is = absurd (both_ways (is_piece_of q.side None) refl (ap (is_piece_of q.side) (sym is) ∙ mine_there))
       by_cell (Some piece) is = out (ap (λ (cell : Option Piece). cell_reaches (without_king q king) cell from n) is ∙ reach_cut (without_king q king) (without_king (lifted q a) king) a opened piece from n hf h ha (lets.shut piece is) (ap (λ (cell : Option Piece). cell_reaches (without_king (lifted q a) king) cell from n) (sym (there ∙ is)) ∙ reached))
 
   -- so it may leave
-  pub lift_quiet : ((from : ℕ) → from < 81 → is_piece_of q.side (piece_at q.cells from) ≡ true → PieceLetsLeave q e gains king squares from a) → ((kind : Kind) → 0 < count_in_hand q.hands q.side kind → KindLetsLeave q king squares kind a) → IsQuietThere (lifted q a) e gains king squares
+  pub lift_quiet : ((from : ℕ) → from < 81 → is_piece_of q.side (piece_at q.cells from) ≡ true → PieceLetsLeave q e gains king squares from a) → ((kind : Kind) → 0 < count_in_hand q.hands q.side kind → KindLetsLeave q king squares kind a) → IsQuietThere (lifted q a) e gains king squares shut
   lift_quiet pieces kinds = record {
-    king_fits = quiet.king_fits;
-    crown = crown_now;
-    lone = lone_now;
-    escapes = λ k n hk crown h bit. subst (λ (x : ℕ). IsEscape (lifted q a).cells (opponent_of q.side) x n) (sym (the_king k hk crown)) (escape_now n h bit);
+    standing = record {
+      cells_fit = length-set q.cells a None ∙ quiet.standing.cells_fit;
+      king_fits = quiet.standing.king_fits;
+      crown = crown_now;
+      lone = lone_now;
+      unchecked = unchecked_now;
+      replies = λ n h bit no nor. quiet.standing.replies n h bit (λ was. no (escape_now n h bit was)) (λ own. nor (own.0, spare_now own.1));
+    };
     pieces = λ from hf own. piece_calm from hf own (pieces from hf (elim (cases_eq from a) [
       | inl at ↦ absurd (both_ways (is_piece_of q.side None) refl (ap (is_piece_of q.side) (sym (ap (piece_at (lifted q a).cells) at ∙ gone)) ∙ own))
       | inr off ↦ ap (is_piece_of q.side) (sym (same from off)) ∙ own

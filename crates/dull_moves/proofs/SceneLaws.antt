@@ -2,7 +2,7 @@
 use Rattle.std.proofs.Common.{◌≡◌, ◌≢◌, ◌⊎◌, ℕ, ◌+◌, ◌-◌, ◌^◌, ◌<◌, ◌≤◌, Bool, true, false, not, Option, Some, None, refl, sym, ap, subst, ◌∙◌, inl, inr, arith, bit_and, bit_or, set, get_or-set_other}
 use Rattle.std.proofs.lemmas.List.{set_comm}
 use Rattle.std.specs.Prelude.{◌&&◌, ◌||◌, ◌==◌, is_none}
-use Rattle.std.proofs.lemmas.Bool.{and_from, and_parts, both_ways, cases_eq, eq-eqb, false_from_ne_true, not_from_false, not-true, or_cases, or_left, or_parts, or_right}
+use Rattle.std.proofs.lemmas.Bool.{and_from, and_parts, both_ways, cases_Bool, cases_eq, eq-eqb, false_from_ne_true, not_from_false, or_cases, or_left, or_parts, or_right}
 use Rattle.shogi_core.specs.declared.piece.Color.{Color}
 use Rattle.shogi_core.specs.declared.piece.Color.TheVariants.{Black, White}
 use Rattle.shogi_core.specs.declared.piece.Kind.{Kind}
@@ -22,13 +22,13 @@ use Rattle.shogi_core.proofs.SeenLaws.{lined_back}
 use Rattle.shogi_moves.specs.After.{dropped, piece_moved}
 use Rattle.shogi_eval.specs.declared.eval.Eval.{Eval}
 use Rattle.shogi_eval.specs.Material.{promotion_gain, taken_gain}
-use Rattle.dull_moves.proofs.Lifting.{cleared_none}
-use Rattle.dull_moves.proofs.Sets.{another, less, stays}
+use Rattle.dull_moves.proofs.Sets.{another, cleared_none, less, out_parts, stays}
+use Rattle.dull_moves.proofs.Shut.{shut_more}
 use Rattle.shogi_eval.specs.Evaluated.{Evaluated}
 use Rattle.dull_moves.specs.declared.scene.ForbiddenSquares.{ForbiddenSquares}
 use Rattle.dull_moves.specs.declared.scene.Scene.{Scene}
 use Rattle.dull_moves.specs.Scenes.{IsAlike, IsIdleIn, place_in}
-use Rattle.dull_moves.specs.Dull.{Allows, AllowsPromotions, AreDear, AreOffLines, IsIdle, IsUnseen, KindIsCalm, KindLetsLeave, LeavesOne, PieceIsCalm, PieceLetsLeave, lifted, without_king}
+use Rattle.dull_moves.specs.Dull.{Allows, AllowsPromotions, AreDear, AreOffLines, IsIdle, IsUnseen, IsShut, KindIsCalm, KindLetsLeave, LeavesOne, PieceIsCalm, PieceLetsLeave, lifted, without_king}
 
 -- a square of a set that shares none with another one
 none_in : (a b n : ℕ) → bit_and a b ≡ 0 → has_bit a n ≡ true → has_bit b n ≡ false
@@ -40,11 +40,6 @@ none_of_two a b c n none set = or_parts (has_bit b n) (has_bit c n) (sym (has_bi
 -- one of the first set and not of the second
 kept_out : (a b n : ℕ) → b < 2 ^ 81 → n < 81 → has_bit a n ≡ true → has_bit b n ≡ false → has_bit (bit_and a (2 ^ 128 - 1 - b)) n ≡ true
 kept_out a b n fits h on off = has_bit-and a (2 ^ 128 - 1 - b) n ∙ and_from _ _ on (has_bit-not b n (omega (arith, fits)) (omega (arith, h)) ∙ not_from_false _ off)
-
-pub out_parts : (a b n : ℕ) → b < 2 ^ 81 → n < 81 → has_bit (bit_and a (2 ^ 128 - 1 - b)) n ≡ true → (has_bit a n ≡ true) × (has_bit b n ≡ false)
-out_parts a b n fits h on =
-    let both : (has_bit a n ≡ true) × (has_bit (2 ^ 128 - 1 - b) n ≡ true) = and_parts _ _ (sym (has_bit-and a (2 ^ 128 - 1 - b) n) ∙ on) in
-    (both.0, not-true _ (sym (has_bit-not b n (omega (arith, fits)) (omega (arith, h))) ∙ both.1))
 
 -- ---- what is dear
 
@@ -169,7 +164,7 @@ pub record AreForbidden (piece : Piece) (from targets : ℕ) (forbidden : Forbid
   pub non_promoting : (n : ℕ) → has_bit targets n ≡ true → has_bit found n ≡ false → has_bit forbidden.non_promoting.bits n ≡ false
   pub promoting : (n : ℕ) → n < 81 → has_bit targets n ≡ true → has_bit found n ≡ false → may_promote (Some piece) from n ≡ true → has_bit forbidden.promoting.bits n ≡ false
 
--- a piece whose forbidden targets are squares of its side alone
+-- a piece whose moves to forbidden targets are shut, but to squares of its own side
 module _ (q : Shogi) (e : Eval) (gains king : ℕ) (board : Cells) (piece : Piece) (from targets own lines clear squares found : ℕ) (forbidden : ForbiddenSquares) (lifted : board ≡ without_king q king) (is : piece_at q.cells from ≡ Some piece) (reach : (n : ℕ) → n < 81 → has_bit targets n ≡ cell_reaches board (Some piece) from n)
     (lined : (n : ℕ) → n < 81 → has_bit lines n ≡ are_aligned from n) (lines_fit : lines < 2 ^ 81) (opens : clear ≡ bit_and squares (2 ^ 128 - 1 - lines)) (allows : Allows q e gains king piece clear forbidden) (these : AreForbidden piece from targets forbidden found) where
   led : (n : ℕ) → n < 81 → cell_reaches (without_king q king) (piece_at q.cells from) from n ≡ true → has_bit targets n ≡ true
@@ -184,12 +179,14 @@ module _ (q : Shogi) (e : Eval) (gains king : ℕ) (board : Cells) (piece : Piec
       let one = calm_there q e gains king piece clear n promote forbidden allows h (these.non_promoting n on out) (λ p. these.promoting n h on out (ap (λ (x : Option Piece). may_promote x from n) (sym is) ∙ lets p)) in
       (subst (λ (x : Option Piece). promotion_gain promote x ≤ gains) (sym is) one.0, (clear, off_lines, subst (λ (x : Option Piece). LeavesOne (without_king q king) (piece_moved promote x) n clear) (sym is) one.1))
 
-  pub piece_calm : (rest : ℕ) → ((n : ℕ) → n < 81 → has_bit own n ≡ is_piece_of q.side (piece_at q.cells n)) → own < 2 ^ 81 → rest ≡ bit_and found (2 ^ 128 - 1 - own) → rest ≡ 0 → PieceIsCalm q e gains king squares from
-  piece_calm rest owned own_fits left none n promote h free reached lets =
-      let on : has_bit targets n ≡ true = led n h reached in
-      let out : has_bit found n ≡ false = false_from_ne_true (has_bit found n) (λ some. both_ways (has_bit rest n) (ap (λ (m : ℕ). has_bit m n) none ∙ has_bit-none n) (ap (λ (m : ℕ). has_bit m n) left ∙ kept_out found own n own_fits h some (owned n h ∙ free))) in
-      let few : taken_gain e (piece_at q.cells n) + promotion_gain promote (Some piece) ≤ gains = gain_there q e gains king piece clear n promote forbidden allows h free (these.non_promoting n on out) (λ p. these.promoting n h on out (ap (λ (x : Option Piece). may_promote x from n) (sym is) ∙ lets p)) in
-      (subst (λ (x : Option Piece). taken_gain e (piece_at q.cells n) + promotion_gain promote x ≤ gains) (sym is) few, (calm_off n promote h on out lets).1)
+  pub piece_calm : (rest shut : ℕ) → ((n : ℕ) → n < 81 → has_bit own n ≡ is_piece_of q.side (piece_at q.cells n)) → own < 2 ^ 81 → rest ≡ bit_and found (2 ^ 128 - 1 - own) → ((n : ℕ) → n < 81 → has_bit rest n ≡ true → IsShut q shut from n) → PieceIsCalm q e gains king squares shut from
+  piece_calm rest shut owned own_fits left stopped n promote h free reached lets = elim (cases_Bool (has_bit found n)) [
+    | inl some ↦ inr (stopped n h (ap (λ (m : ℕ). has_bit m n) left ∙ kept_out found own n own_fits h some (owned n h ∙ free)))
+    | inr out ↦ (
+        let on : has_bit targets n ≡ true = led n h reached in
+        let few : taken_gain e (piece_at q.cells n) + promotion_gain promote (Some piece) ≤ gains = gain_there q e gains king piece clear n promote forbidden allows h free (these.non_promoting n on out) (λ p. these.promoting n h on out (ap (λ (x : Option Piece). may_promote x from n) (sym is) ∙ lets p)) in
+        inl (subst (λ (x : Option Piece). taken_gain e (piece_at q.cells n) + promotion_gain promote x ≤ gains) (sym is) few, (calm_off n promote h on out lets).1))
+  ]
 
   same_piece : (other : Piece) → piece_at q.cells from ≡ Some other → Some other ≡ Some piece
   same_piece other at = sym at ∙ is
@@ -260,29 +257,59 @@ idle_there q e gains king board piece to reach squares closed own rest found for
 
 -- ---- the pieces one by one
 
+-- what is calm is so where more is shut
+calm_more : (q : Shogi) (e : Eval) (gains king squares shut more from : ℕ) → ((x : ℕ) → has_bit more x ≡ false → has_bit shut x ≡ false) → PieceIsCalm q e gains king squares shut from → PieceIsCalm q e gains king squares more from
+calm_more q e gains king squares shut more from within calm n promote h free reached lets = elim (calm n promote h free reached lets) [ inl little ↦ inl little | inr stopped ↦ inr (shut_more q shut more from n within stopped) ]
+
 -- each piece is still to be looked at, or its moves are calm, and it lets those leave that are not held
-pub record PiecesSoFar (q : Shogi) (e : Eval) (gains king squares left held : ℕ) : Type 0 where
-  pub calm : (n : ℕ) → n < 81 → is_piece_of q.side (piece_at q.cells n) ≡ true → (has_bit left n ≡ true) ⊎ (PieceIsCalm q e gains king squares n
+pub record PiecesSoFar (q : Shogi) (e : Eval) (gains king squares left held shut : ℕ) : Type 0 where
+  pub calm : (n : ℕ) → n < 81 → is_piece_of q.side (piece_at q.cells n) ≡ true → (has_bit left n ≡ true) ⊎ (PieceIsCalm q e gains king squares shut n
       × ((a : ℕ) → a < 81 → has_bit held a ≡ false → is_piece_of q.side (piece_at q.cells a) ≡ true → PieceLetsLeave q e gains king squares n a))
 
-pub pieces_first : (q : Shogi) (e : Eval) (gains king squares own held : ℕ) → ((n : ℕ) → n < 81 → has_bit own n ≡ is_piece_of q.side (piece_at q.cells n)) → PiecesSoFar q e gains king squares own held
-pieces_first q e gains king squares own held bits = record { calm = λ n h mine. inl (bits n h ∙ mine) }
+pub pieces_first : (q : Shogi) (e : Eval) (gains king squares own held shut : ℕ) → ((n : ℕ) → n < 81 → has_bit own n ≡ is_piece_of q.side (piece_at q.cells n)) → PiecesSoFar q e gains king squares own held shut
+pieces_first q e gains king squares own held shut bits = record { calm = λ n h mine. inl (bits n h ∙ mine) }
 
-pub pieces_next : (q : Shogi) (e : Eval) (gains king squares left next held more square : ℕ) → PiecesSoFar q e gains king squares left held → ((i : ℕ) → has_bit next i ≡ (has_bit left i && not (i == square))) → PieceIsCalm q e gains king squares square
-    → ((a : ℕ) → a < 81 → has_bit more a ≡ false → is_piece_of q.side (piece_at q.cells a) ≡ true → PieceLetsLeave q e gains king squares square a) → PiecesSoFar q e gains king squares next (bit_or held more)
-pieces_next q e gains king squares left next held more square s bits one lets = record {
+pub pieces_next : (q : Shogi) (e : Eval) (gains king squares left next held shut more stop square : ℕ) → PiecesSoFar q e gains king squares left held shut → ((i : ℕ) → has_bit next i ≡ (has_bit left i && not (i == square))) → PieceIsCalm q e gains king squares stop square
+    → ((a : ℕ) → a < 81 → has_bit more a ≡ false → is_piece_of q.side (piece_at q.cells a) ≡ true → PieceLetsLeave q e gains king squares square a) → PiecesSoFar q e gains king squares next (bit_or held more) (bit_or shut stop)
+pieces_next q e gains king squares left next held shut more stop square s bits one lets = record {
   calm = λ n h mine. elim (cases_eq n square) [
-    | inl same ↦ inr (subst (PieceIsCalm q e gains king squares) (sym same) one, λ a ha out own. subst (λ (x : ℕ). PieceLetsLeave q e gains king squares x a) (sym same) (lets a ha (off_two held more a out).1 own))
+    | inl same ↦ inr (subst (PieceIsCalm q e gains king squares (bit_or shut stop)) (sym same) (calm_more q e gains king squares stop (bit_or shut stop) square (λ x out. (off_two shut stop x out).1) one), λ a ha out own. subst (λ (x : ℕ). PieceLetsLeave q e gains king squares x a) (sym same) (lets a ha (off_two held more a out).1 own))
     | inr other ↦ elim (s.calm n h mine) [
       | inl still ↦ inl (stays left next square n bits still other)
-      | inr found ↦ inr (found.0, λ a ha out own. found.1 a ha (off_two held more a out).0 own)
+      | inr found ↦ inr (calm_more q e gains king squares shut (bit_or shut stop) n (λ x out. (off_two shut stop x out).0) found.0, λ a ha out own. found.1 a ha (off_two held more a out).0 own)
     ]
   ];
 }
 
-pub pieces_done : (q : Shogi) (e : Eval) (gains king squares left held : ℕ) → PiecesSoFar q e gains king squares left held → left ≡ 0 → (n : ℕ) → n < 81 → is_piece_of q.side (piece_at q.cells n) ≡ true → PieceIsCalm q e gains king squares n
+pub pieces_done : (q : Shogi) (e : Eval) (gains king squares left held shut : ℕ) → PiecesSoFar q e gains king squares left held shut → left ≡ 0 → (n : ℕ) → n < 81 → is_piece_of q.side (piece_at q.cells n) ≡ true → PieceIsCalm q e gains king squares shut n
     × ((a : ℕ) → a < 81 → has_bit held a ≡ false → is_piece_of q.side (piece_at q.cells a) ≡ true → PieceLetsLeave q e gains king squares n a)
-pieces_done q e gains king squares left held s none n h mine = elim (s.calm n h mine) [
+pieces_done q e gains king squares left held shut s none n h mine = elim (s.calm n h mine) [
+  | inl still ↦ absurd (both_ways (has_bit left n) (ap (λ (m : ℕ). has_bit m n) none ∙ has_bit-none n) still)
+  | inr found ↦ found
+]
+
+-- ---- the moves that leave their own king attacked
+
+-- the moves to these ends are still to be looked at, or are shut
+pub record ShutSoFar (q : Shogi) (from ends left shut : ℕ) : Type 0 where
+  pub each : (n : ℕ) → n < 81 → has_bit ends n ≡ true → (has_bit left n ≡ true) ⊎ IsShut q shut from n
+
+pub shut_first : (q : Shogi) (from ends shut : ℕ) → ShutSoFar q from ends ends shut
+shut_first q from ends shut = record { each = λ n h on. inl on }
+
+pub shut_next : (q : Shogi) (from ends left next shut more square : ℕ) → ShutSoFar q from ends left shut → ((i : ℕ) → has_bit next i ≡ (has_bit left i && not (i == square))) → IsShut q more from square → ShutSoFar q from ends next (bit_or shut more)
+shut_next q from ends left next shut more square s bits one = record {
+  each = λ n h on. elim (cases_eq n square) [
+    | inl same ↦ inr (subst (IsShut q (bit_or shut more) from) (sym same) (shut_more q more (bit_or shut more) from square (λ x out. (off_two shut more x out).1) one))
+    | inr other ↦ elim (s.each n h on) [
+      | inl still ↦ inl (stays left next square n bits still other)
+      | inr found ↦ inr (shut_more q shut (bit_or shut more) from n (λ x out. (off_two shut more x out).0) found)
+    ]
+  ];
+}
+
+pub shut_done : (q : Shogi) (from ends left shut : ℕ) → ShutSoFar q from ends left shut → left ≡ 0 → (n : ℕ) → n < 81 → has_bit ends n ≡ true → IsShut q shut from n
+shut_done q from ends left shut s none n h on = elim (s.each n h on) [
   | inl still ↦ absurd (both_ways (has_bit left n) (ap (λ (m : ℕ). has_bit m n) none ∙ has_bit-none n) still)
   | inr found ↦ found
 ]

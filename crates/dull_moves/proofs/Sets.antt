@@ -1,11 +1,12 @@
 -- Sets of squares that are sifted one by one.
-use Rattle.std.proofs.Common.{◌≡◌, ◌≢◌, ◌⊎◌, ℕ, ◌-◌, ◌^◌, ◌<◌, true, false, not, Some, sym, ap, subst, ◌∙◌, inl, inr, bit_and}
+use Rattle.std.proofs.Common.{◌≡◌, ◌≢◌, ◌⊎◌, ℕ, zero, suc, ◌-◌, ◌^◌, ◌<◌, true, false, not, [], ◌∷◌, Some, None, refl, sym, ap, subst, ◌∙◌, inl, inr, arith, bit_and, set}
 use Rattle.std.specs.Prelude.{◌&&◌, ◌||◌, ◌==◌}
-use Rattle.std.proofs.lemmas.Bool.{and_from, and_parts, both_ways, cases_Bool, cases_eq, eq-eqb, false_from_ne_true, ne_eqb, not_from_false, or_parts}
+use Rattle.std.proofs.lemmas.Bool.{and_from, and_parts, both_ways, cases_Bool, cases_eq, eq-eqb, false_from_ne_true, ne_eqb, not-true, not_from_false, or_parts}
+use Rattle.shogi_core.proofs.LineBits.{has_bit-not}
 use Rattle.std.proofs.lemmas.Nat.Bits.{bit_at_ones}
 use Rattle.shogi_core.specs.declared.piece.Piece.{Piece}
 use Rattle.shogi_core.specs.Bits.{has_bit}
-use Rattle.shogi_core.specs.Movement.{Cells, cell_reaches}
+use Rattle.shogi_core.specs.Movement.{Cells, cell_reaches, piece_at}
 use Rattle.shogi_core.specs.Pieces.{opponent_of}
 use Rattle.shogi_core.proofs.BitLaws.{has_bit-and, has_bit-none}
 use Rattle.dull_moves.specs.Dull.{LeavesOne}
@@ -14,6 +15,18 @@ use Rattle.shogi_replies.proofs.CheckLaws.{reach_both_ways}
 pub has_bit-all : (n : ℕ) → n < 81 → has_bit (2 ^ 81 - 1) n ≡ true
 unfolding has_bit
 has_bit-all n h = eq-eqb _ 1 (bit_at_ones 81 n h)
+
+-- one of the first set and not of the second
+pub out_parts : (a b n : ℕ) → b < 2 ^ 81 → n < 81 → has_bit (bit_and a (2 ^ 128 - 1 - b)) n ≡ true → (has_bit a n ≡ true) × (has_bit b n ≡ false)
+out_parts a b n fits h on =
+    let both : (has_bit a n ≡ true) × (has_bit (2 ^ 128 - 1 - b) n ≡ true) = and_parts _ _ (sym (has_bit-and a (2 ^ 128 - 1 - b) n) ∙ on) in
+    (both.0, not-true _ (sym (has_bit-not b n (omega (arith, fits)) (omega (arith, h))) ∙ both.1))
+
+-- nothing stands on a square that is cleared
+pub cleared_none : (cells : Cells) (a : ℕ) → piece_at (set cells a None) a ≡ None
+cleared_none [] a = refl
+cleared_none (cell ∷ cells) zero = refl
+cleared_none (cell ∷ cells) (suc a) = cleared_none cells a
 
 -- ---- those from which a piece covers some squares
 

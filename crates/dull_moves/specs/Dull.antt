@@ -1,5 +1,5 @@
 -- Drops and quiet moves three plies before the end that change nothing of what one reply refutes (own choice).
-use Rattle.std.specs.Prelude.{ℕ, ◌≡◌, ◌≢◌, ◌⊎◌, ◌<◌, ◌≤◌, ◌≤ℤ◌, ◌+◌, ℤ, Bool, true, false, Option, None, Some, slice_set}
+use Rattle.std.specs.Prelude.{ℕ, ◌≡◌, ◌≢◌, ◌⊎◌, ◌<◌, ◌≤◌, ◌≤ℤ◌, ◌+◌, ℤ, Bool, true, false, Option, None, Some, length, slice_set}
 use Rattle.shogi_core.specs.declared.moves.Move.{Move}
 use Rattle.shogi_core.specs.declared.moves.Move.TheVariants.{Board, Drop}
 use Rattle.shogi_core.specs.declared.piece.Color.{Color}
@@ -7,20 +7,24 @@ use Rattle.shogi_core.specs.declared.piece.Kind.{Kind}
 use Rattle.shogi_core.specs.declared.piece.Piece.{Piece}
 use Rattle.shogi_core.specs.Bits.{has_bit}
 use Rattle.shogi_core.specs.Cell.{HasNoOtherKing, is_immobile, is_king, is_piece_of, is_sliding_role}
+use Rattle.shogi_core.specs.Attack.{in_check}
 use Rattle.shogi_core.specs.Codes.{code_of}
 use Rattle.shogi_core.specs.Lines.{are_aligned, are_lined}
-use Rattle.shogi_core.specs.Movement.{Cells, cell_reaches, piece_at}
+use Rattle.shogi_core.specs.Movement.{Cells, cell_reaches, piece_at, reaches}
 use Rattle.shogi_core.specs.Pieces.{opponent_of}
 use Rattle.shogi_core.specs.Position.{Shogi, count_in_hand}
 use Rattle.shogi_core.specs.Rays.{direction_at, is_on_ray}
 use Rattle.shogi_core.specs.Zones.{may_promote}
 use Rattle.shogi_moves.specs.After.{after, dropped, piece_moved}
-use Rattle.shogi_moves.specs.Escapes.{AreEscapes}
+use Rattle.shogi_moves.specs.Escapes.{IsEscape}
 use Rattle.shogi_moves.specs.Legal.{is_legal, is_pawn_drop}
-use Rattle.shogi_replies.specs.ReplyInfo.{IsHarmless}
+use Rattle.shogi_replies.specs.ReplyInfo.{IsHarmless, is_quiet_step}
 use Rattle.shogi_eval.specs.declared.eval.Eval.{Eval}
 use Rattle.shogi_eval.specs.Material.{promotion_gain, taken_gain}
 use Rattle.minimax.specs.Minimax.{worth}
+use Rattle.shogi_core.specs.declared.piece.Kind.TheVariants as kinds
+use Rattle.shogi_core.specs.declared.squares.Squares.{Squares}
+use Rattle.dull_moves.specs.declared.moves.DropSquares.{DropSquares}
 use Rattle.dull_moves.specs.declared.moves.DullMoves.{DullMoves}
 use Rattle.dull_moves.specs.declared.scene.ForbiddenSquares.{ForbiddenSquares}
 
@@ -80,7 +84,7 @@ LeavesOne cells cell n squares = (e : ℕ) × (e < 81) × (has_bit squares e ≡
 abbrev pub without_king : Shogi → ℕ → Cells
 without_king q king = slice_set q.cells king None
 
--- a move of this from a square to another one gains no more than so much, and leaves the king one of the squares
+-- a move of this from a square to another one gains no more than so much, and leaves one of the squares
 pub record IsCalm (q : Shogi) (e : Eval) (gains king : ℕ) (cell : Option Piece)
     (squares n : ℕ) (promote : Bool) : Type 0 where
   pub gain : taken_gain e (piece_at q.cells n) + promotion_gain promote cell ≤ gains
@@ -115,30 +119,76 @@ abbrev pub AreOffLines : ℕ → ℕ → ℕ → Type 0
 AreOffLines from squares set = (n : ℕ) → n < 81 → has_bit set n ≡ true
     → (has_bit squares n ≡ true) × (are_aligned from n ≡ false)
 
--- the moves on the board of what stands on the square are calm, whether legal or not, and each leaves a square on no line with it
-abbrev pub PieceIsCalm : Shogi → Eval → ℕ → ℕ → ℕ → ℕ → Type 0
-PieceIsCalm q e gains king squares from = (n : ℕ) (promote : Bool) → n < 81
-    → is_piece_of q.side (piece_at q.cells n) ≡ false
-    → cell_reaches (without_king q king) (piece_at q.cells from) from n ≡ true
-    → (promote ≡ true → may_promote (piece_at q.cells from) from n ≡ true)
-    → (taken_gain e (piece_at q.cells n) + promotion_gain promote (piece_at q.cells from) ≤ gains)
+-- the board after a move without promotion
+abbrev pub moved : Cells → ℕ → ℕ → Cells
+moved cells from n = slice_set (slice_set cells from None) n (piece_at cells from)
+
+-- the move leaves the king of its side attacked, whatever comes to stand off the set
+pub record IsShut (q : Shogi) (shut from n : ℕ) : Type 0 where
+  pub foe : ℕ
+  pub home : ℕ
+  pub on_board : (foe < 81) × (home < 81)
+  pub stands : is_piece_of (opponent_of q.side) (piece_at (moved q.cells from n) foe) ≡ true
+  pub crown : is_king q.side (piece_at (moved q.cells from n) home) ≡ true
+  pub attacks : reaches (moved q.cells from n) foe home ≡ true
+  pub way : AreNonInterfering (Board foe home false) shut
+
+-- a move of what stands on the square gains no more than so much, and leaves unattacked one of the squares that is on no line with it
+abbrev pub IsCalmOffLines : Shogi → Eval → ℕ → ℕ → ℕ → ℕ → ℕ → Bool → Type 0
+IsCalmOffLines q e gains king squares from n promote =
+    (taken_gain e (piece_at q.cells n) + promotion_gain promote (piece_at q.cells from) ≤ gains)
     × ((set : ℕ) × AreOffLines from squares set
     × LeavesOne (without_king q king) (piece_moved promote (piece_at q.cells from)) n set)
 
--- a drop of the kind leaves the king one of the squares wherever it may end
+-- the moves on the board of what stands on the square do so, but those that leave their own king attacked
+abbrev pub PieceIsCalm : Shogi → Eval → ℕ → ℕ → ℕ → ℕ → ℕ → Type 0
+PieceIsCalm q e gains king squares shut from = (n : ℕ) (promote : Bool) → n < 81
+    → is_piece_of q.side (piece_at q.cells n) ≡ false
+    → cell_reaches (without_king q king) (piece_at q.cells from) from n ≡ true
+    → (promote ≡ true → may_promote (piece_at q.cells from) from n ≡ true)
+    → IsCalmOffLines q e gains king squares from n promote ⊎ IsShut q shut from n
+
+-- a drop of the kind leaves one of the squares wherever it may end
 abbrev pub KindIsCalm : Shogi → ℕ → ℕ → Kind → Type 0
 KindIsCalm q king squares kind = (n : ℕ) → n < 81 → piece_at q.cells n ≡ None
     → is_immobile n (dropped q.side kind) ≡ false
     → LeavesOne (without_king q king) (dropped q.side kind) n squares
 
--- the side to move gains no more than so much by any move on the board, and whatever it moves or drops, the king of the other side has one of the squares left
-pub record IsQuietThere (q : Shogi) (e : Eval) (gains king squares : ℕ) : Type 0 where
+-- a piece of the side that is not to move, on no line with its king, steps to an empty square
+pub record IsSpareMove (q : Shogi) (king a t : ℕ) : Type 0 where
+  pub own : is_piece_of (opponent_of q.side) (piece_at q.cells a) ≡ true
+  pub off_king : a ≢ king
+  pub off_lines : are_aligned king a ≡ false
+  pub step : is_quiet_step q.cells a t ≡ true
+
+-- it has such a step whatever one square is filled, and wherever a move ends
+abbrev pub HasSpareMoves : Shogi → ℕ → Type 0
+HasSpareMoves q king = (b d : ℕ) → (a : ℕ) × (t : ℕ) × (a < 81) × (t < 81) × (a ≢ d) × (t ≢ d)
+    × (t ≢ b) × IsSpareMove q king a t
+
+-- one of both holds
+abbrev pub HoldsEither : Type 0 → Type 0 → Type 0
+HoldsEither A B = (A → ⊥) → (B → ⊥) → ⊥
+
+-- one of the squares that is not attacked leaves that side a reply: the king may go there, or it is the king's own and there are spare moves
+abbrev pub AreReplySquares : Shogi → ℕ → ℕ → Type 0
+AreReplySquares q king squares = (n : ℕ) → n < 81 → has_bit squares n ≡ true
+    → HoldsEither (IsEscape q.cells (opponent_of q.side) king n) ((n ≡ king) × HasSpareMoves q king)
+
+-- the only king of the side that is not to move stands there unattacked, and these squares leave its side a reply
+pub record IsStanding (q : Shogi) (king squares : ℕ) : Type 0 where
+  pub cells_fit : length q.cells ≡ 81
   pub king_fits : king < 81
   pub crown : is_king (opponent_of q.side) (piece_at q.cells king) ≡ true
   pub lone : HasNoOtherKing q.cells (opponent_of q.side) king
-  pub escapes : AreEscapes q squares
+  pub unchecked : in_check q.cells (opponent_of q.side) ≡ false
+  pub replies : AreReplySquares q king squares
+
+-- the side to move gains no more than so much by any move on the board, and whatever it moves or drops, one of the squares is left
+pub record IsQuietThere (q : Shogi) (e : Eval) (gains king squares shut : ℕ) : Type 0 where
+  pub standing : IsStanding q king squares
   pub pieces : (from : ℕ) → from < 81 → is_piece_of q.side (piece_at q.cells from) ≡ true
-      → PieceIsCalm q e gains king squares from
+      → PieceIsCalm q e gains king squares shut from
   pub kinds : (kind : Kind) → 0 < count_in_hand q.hands q.side kind
       → KindIsCalm q king squares kind
 
@@ -154,7 +204,7 @@ pub record PieceLetsLeave (q : Shogi) (e : Eval) (gains king squares from a : �
       × ((set : ℕ) × AreOffLines from squares set
       × LeavesOne (without_king q king) (piece_moved promote (piece_at q.cells from)) a set)
 
--- a drop of the kind on the square leaves the king one of the squares
+-- a drop of the kind on the square leaves one of the squares
 abbrev pub KindLetsLeave : Shogi → ℕ → ℕ → Kind → ℕ → Type 0
 KindLetsLeave q king squares kind a = is_immobile a (dropped q.side kind) ≡ false
     → LeavesOne (without_king q king) (dropped q.side kind) a squares
@@ -200,11 +250,21 @@ abbrev pub IsQuietMove : Shogi → Move → Type 0
 IsQuietMove p (Board from to promote) = (promote ≡ false) × (piece_at p.cells to ≡ None)
 IsQuietMove p (Drop kind to) = Unit {0}
 
+-- the squares for drops of the kind
+abbrev pub drops_of : DropSquares → Kind → Squares
+drops_of drops kinds.Pawn = drops.pawn
+drops_of drops kinds.Lance = drops.lance
+drops_of drops kinds.Knight = drops.knight
+drops_of drops kinds.Silver = drops.silver
+drops_of drops kinds.Gold = drops.gold
+drops_of drops kinds.Bishop = drops.bishop
+drops_of drops kinds.Rook = drops.rook
+
 -- the move is one of these, if it is quiet
 abbrev pub IsAmong : DullMoves → Move → Type 0
 IsAmong d (Board from to promote) =
     (has_bit d.pieces.bits from ≡ true) × (has_bit d.ends.bits to ≡ true)
-IsAmong d (Drop kind to) = has_bit d.drops.bits to ≡ true
+IsAmong d (Drop kind to) = has_bit (drops_of d.drops kind).bits to ≡ true
 
 -- no legal quiet move that is one of these is worth more than so much, with three plies left
 abbrev pub AreDull : Shogi → Eval → DullMoves → Type 0

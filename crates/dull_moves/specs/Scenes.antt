@@ -9,7 +9,7 @@ use Rattle.shogi_core.specs.Position.{Shogi, count_in_hand}
 use Rattle.shogi_moves.specs.After.{dropped}
 use Rattle.dull_moves.specs.declared.scene.ForbiddenSquares.{ForbiddenSquares}
 use Rattle.dull_moves.specs.declared.scene.Scene.{Scene}
-use Rattle.dull_moves.specs.Dull.{Allows, AllowsPromotions, AreIdle, IsIdle, IsQuietThere, IsUnseen, KindIsCalm, KindLetsLeave, PieceIsCalm, PieceLetsLeave, lifted}
+use Rattle.dull_moves.specs.Dull.{Allows, AllowsPromotions, AreIdle, IsIdle, IsQuietThere, IsShut, IsStanding, IsUnseen, KindIsCalm, KindLetsLeave, PieceIsCalm, PieceLetsLeave, lifted}
 
 -- the position with other cells
 abbrev pub with_cells : Shogi → Cells → Shogi
@@ -33,14 +33,18 @@ abbrev pub AllowsIn : Scene → Piece → ℕ → ForbiddenSquares → Type 0
 AllowsIn s piece squares forbidden =
     Allows (place_in s) s.node.eval s.gains s.king piece squares forbidden
 
--- the moves on the board of what stands on the square are calm
-abbrev pub PieceIsCalmIn : Scene → ℕ → Type 0
-PieceIsCalmIn s from =
-    PieceIsCalm (place_in s) s.node.eval s.gains s.king s.squares.bits from
+-- the moves on the board of what stands on the square are calm, but those that are shut
+abbrev pub PieceIsCalmIn : Scene → ℕ → ℕ → Type 0
+PieceIsCalmIn s shut from =
+    PieceIsCalm (place_in s) s.node.eval s.gains s.king s.squares.bits shut from
 
 -- and those of each piece of the side to move
-abbrev pub PiecesAreCalmIn : Scene → Type 0
-PiecesAreCalmIn s = (from : ℕ) → from < 81 → IsOwnIn s from → PieceIsCalmIn s from
+abbrev pub PiecesAreCalmIn : Scene → ℕ → Type 0
+PiecesAreCalmIn s shut = (from : ℕ) → from < 81 → IsOwnIn s from → PieceIsCalmIn s shut from
+
+-- moves of what stands on the square to those of a set are shut
+abbrev pub AreShutIn : Scene → ℕ → ℕ → ℕ → Type 0
+AreShutIn s from set shut = (n : ℕ) → n < 81 → has_bit set n ≡ true → IsShut (place_in s) shut from n
 
 -- it lets the pieces of its side leave that are not in the set
 abbrev pub PieceLetsLeaveIn : Scene → ℕ → ℕ → Type 0
@@ -69,21 +73,31 @@ abbrev pub IsViewIn : Scene → ℕ → Type 0
 IsViewIn s view = (a : ℕ) → a < 81 → has_bit view a ≡ false
     → IsUnseen (place_in s) s.king s.squares.bits a
 
--- the side to move gains little, and the king keeps one of its squares, whatever that side does
-abbrev pub IsQuietIn : Scene → Type 0
-IsQuietIn s = IsQuietThere (place_in s) s.node.eval s.gains s.king s.squares.bits
+-- the king stands, and its squares leave its side a reply
+abbrev pub IsStandingIn : Scene → Type 0
+IsStandingIn s = IsStanding (place_in s) s.king s.squares.bits
 
 -- and so with what stands on the square lifted
-abbrev pub IsQuietLifted : Scene → ℕ → Type 0
-IsQuietLifted s a = IsQuietThere (lifted (place_in s) a) s.node.eval s.gains s.king s.squares.bits
+abbrev pub IsStandingLifted : Scene → ℕ → Type 0
+IsStandingLifted s a = IsStanding (lifted (place_in s) a) s.king s.squares.bits
 
 -- or with one of the pieces
-abbrev pub AreQuietLifted : Scene → ℕ → Type 0
-AreQuietLifted s pieces = (a : ℕ) → a < 81 → has_bit pieces a ≡ true → IsQuietLifted s a
+abbrev pub AreStandingLifted : Scene → ℕ → Type 0
+AreStandingLifted s pieces = (a : ℕ) → a < 81 → has_bit pieces a ≡ true → IsStandingLifted s a
+
+-- the side to move gains little, and one of the squares is left, whatever that side does
+abbrev pub IsQuietIn : Scene → ℕ → Type 0
+IsQuietIn s shut =
+    IsQuietThere (place_in s) s.node.eval s.gains s.king s.squares.bits shut
+
+-- and so with what stands on the square lifted
+abbrev pub IsQuietLifted : Scene → ℕ → ℕ → Type 0
+IsQuietLifted s shut a =
+    IsQuietThere (lifted (place_in s) a) s.node.eval s.gains s.king s.squares.bits shut
 
 -- or with any piece of the side to move that is not in the set, and none of those is seen
-pub record IsQuietWithout (s : Scene) (held : ℕ) : Type 0 where
-  pub quiet : (a : ℕ) → a < 81 → IsOwnIn s a → has_bit held a ≡ false → IsQuietLifted s a
+pub record IsQuietWithout (s : Scene) (shut held : ℕ) : Type 0 where
+  pub quiet : (a : ℕ) → a < 81 → IsOwnIn s a → has_bit held a ≡ false → IsQuietLifted s shut a
   pub unseen : (a : ℕ) → a < 81 → has_bit held a ≡ false
       → IsUnseen (place_in s) s.king s.squares.bits a
 

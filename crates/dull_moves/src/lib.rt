@@ -1,12 +1,13 @@
 //! Moves three plies before the end that one reply refutes, found by squares alone.
 //!
 //! Let a reply be legal after a pass, let its other side then gain no more than so much by any move,
-//! and let the king that it defends keep a square to go to after each. A drop that touches nothing of
-//! that is answered by the reply, and is worth no more, nor a quiet move of a piece that had no part in it.
-//! `DullMoves` has such moves.
+//! and let the king that it defends keep a square to go to after each check. A drop that touches nothing
+//! of that is answered by the reply, and is worth no more, nor a quiet move of a piece that had no part
+//! in it. `DullMoves` has such moves.
 #![tactic(auto)]
 
 mod moves;
 mod scene;
+mod spare_moves;
 
-pub use moves::DullMoves;
+pub use moves::{DropSquares, DullMoves};

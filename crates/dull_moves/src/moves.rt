@@ -5,44 +5,53 @@ ghost use Rattle.shogi_moves.specs.Legal.{is_pawn_drop};
 ghost use Rattle.shogi_eval.specs.Material.{material_of};
 ghost use Rattle.minimax.specs.declared.bounds.TheConstants.{INFINITY};
 ghost use Rattle.shogi_core.specs.Bits.{has_bit};
-ghost use Rattle.dull_moves.specs.Dull.{AreDull, AreNonInterfering, IsAmong, IsOnSquares};
+ghost use Rattle.dull_moves.specs.Dull.{AreDull, IsAmong, IsOnSquares, drops_of};
 ghost use Rattle.dull_moves.specs.Scenes.{AreIdleDropsIn};
 
-use crate::scene::{Scene, dear_squares};
+use crate::scene::{Scene, dear_squares, squares_touched};
+use crate::spare_moves::reply_squares;
 use minimax::MATE;
 use shogi_core::{Kind, Move, Position, Squares};
 use shogi_eval::Node;
 use shogi_moves::{in_check, is_legal};
-use shogi_replies::{escape_squares, squares_between};
 
-/// Moves none of which is worth more than so much, with three plies left: drops of any kind on these
-/// squares, and moves of these pieces to these ends that take nothing and do not promote.
+/// Squares for drops, by kind.
+#[derive(Clone, Copy, Debug)]
+pub struct DropSquares {
+    pub pawn: Squares,
+    pub lance: Squares,
+    pub knight: Squares,
+    pub silver: Squares,
+    pub gold: Squares,
+    pub bishop: Squares,
+    pub rook: Squares,
+}
+
+impl DropSquares {
+    /// Those for drops of the kind.
+    pub fn of(&self, kind: Kind) -> Squares
+        ensures { result ≡ drops_of self.now kind }
+    {
+        match kind {
+            Kind::Pawn => self.pawn,
+            Kind::Lance => self.lance,
+            Kind::Knight => self.knight,
+            Kind::Silver => self.silver,
+            Kind::Gold => self.gold,
+            Kind::Bishop => self.bishop,
+            Kind::Rook => self.rook,
+        }
+    }
+}
+
+/// Moves none of which is worth more than so much, with three plies left: drops on squares for their
+/// kind, and moves of these pieces to these ends that take nothing and do not promote.
 #[derive(Clone, Copy, Debug)]
 pub struct DullMoves {
     pub most: i32,
-    pub drops: Squares,
+    pub drops: DropSquares,
     pub pieces: Squares,
     pub ends: Squares,
-}
-
-/// The squares of a move, and those between.
-fn squares_touched(reply: &Move) -> Squares
-    ensures spared { AreNonInterfering reply.now result.bits }
-    ensures on_board { IsOnSquares reply.now }
-{
-    match reply {
-        Move::Board { from, to, .. } => {
-            from.reveal_invariant();
-            to.reveal_invariant();
-            squares_between(from.index(), to.index())
-                .with(*from)
-                .with(*to)
-        }
-        Move::Drop { to, .. } => {
-            to.reveal_invariant();
-            Squares::none().with(*to)
-        }
-    }
 }
 
 /// Whether the move drops a pawn.
@@ -73,6 +82,7 @@ fn scene_of(node: Node, most: i32) -> Option<Scene>
     }
     let gains = (most - score) as u32;
     let p = node.as_position();
+    p.reveal_invariant();
     let king = p.king(p.side().opponent())?;
     king.reveal_invariant();
     let standing = p.board();
@@ -81,24 +91,27 @@ fn scene_of(node: Node, most: i32) -> Option<Scene>
         standing,
         king,
         board: standing.put(king, None),
-        squares: escape_squares(p),
+        squares: reply_squares(p, king),
         gains,
         dear: dear_squares(&standing, p.side(), node.eval(), gains),
     })
 }
 
-/// The squares of drops of any kind that are idle.
-fn idle_drops(scene: &Scene, free: Squares) -> Squares
-    ensures among { (n : ℕ) → has_bit result.bits n ≡ true → has_bit free.bits n ≡ true }
-    ensures idle { (kind : Kind) → AreIdleDropsIn scene.now kind result.bits }
+/// The squares of drops that are idle, by kind.
+fn idle_drops(scene: &Scene, free: Squares) -> DropSquares
+    ensures among { (kind : Kind) (n : ℕ) → has_bit (drops_of result kind).bits n ≡ true
+        → has_bit free.bits n ≡ true }
+    ensures idle { (kind : Kind) → AreIdleDropsIn scene.now kind (drops_of result kind).bits }
 {
-    let pawn = scene.idle_drops(Kind::Pawn, free);
-    let lance = scene.idle_drops(Kind::Lance, pawn);
-    let knight = scene.idle_drops(Kind::Knight, lance);
-    let silver = scene.idle_drops(Kind::Silver, knight);
-    let gold = scene.idle_drops(Kind::Gold, silver);
-    let bishop = scene.idle_drops(Kind::Bishop, gold);
-    scene.idle_drops(Kind::Rook, bishop)
+    DropSquares {
+        pawn: scene.idle_drops(Kind::Pawn, free),
+        lance: scene.idle_drops(Kind::Lance, free),
+        knight: scene.idle_drops(Kind::Knight, free),
+        silver: scene.idle_drops(Kind::Silver, free),
+        gold: scene.idle_drops(Kind::Gold, free),
+        bishop: scene.idle_drops(Kind::Bishop, free),
+        rook: scene.idle_drops(Kind::Rook, free),
+    }
 }
 
 impl DullMoves {
@@ -113,16 +126,16 @@ impl DullMoves {
                 to.reveal_invariant();
                 self.pieces.has(*from) && self.ends.has(*to)
             }
-            Move::Drop { to, .. } => {
+            Move::Drop { kind, to } => {
                 to.reveal_invariant();
-                self.drops.has(*to)
+                self.drops.of(*kind).has(*to)
             }
         }
     }
 
     /// The moves that the reply refutes since they change nothing of what it leaves: none is worth more
     /// than so much. None where the reply is not legal after a pass, or drops a pawn, or leaves the side
-    /// to move more, or the king that it defends no square to go to after some move.
+    /// to move more, or a check after which the king that it defends has no square to go to.
     pub fn of(node: &Node, reply: Move, most: i32) -> Option<DullMoves>
         requires most { most <ℤ INFINITY }
         ensures dull { IfSome result (AreDull node.now.position node.now.eval) }
@@ -143,9 +156,9 @@ impl DullMoves {
         next.advance(reply);
         let scene = scene_of(next, most)?;
         let held = scene.held_squares()?;
-        let free = p.as_board().free().without(touched);
+        let free = p.as_board().free().without(touched | held.shut);
         let drops = idle_drops(&scene, free);
-        let pieces = p.as_board().own(p.side()).without(touched | held);
+        let pieces = p.as_board().own(p.side()).without(touched | held.pieces);
         let ends = scene.idle_ends(p, pieces, free);
         Some(DullMoves {
             most,

@@ -3,18 +3,36 @@
 ghost use Rattle.std.specs.Prelude.{◌≡◌, ◌<◌, ℕ, true, false, None, Some, IfSome, slice_set};
 ghost use Rattle.std.proofs.Props.{props};
 ghost use Rattle.shogi_core.specs.Bits.{has_bit};
-ghost use Rattle.shogi_core.specs.Cell.{HasNoOtherKing, is_king};
 ghost use Rattle.shogi_core.specs.Movement.{piece_at};
-ghost use Rattle.shogi_core.specs.Pieces.{opponent_of};
 ghost use Rattle.shogi_core.specs.Zones.{may_promote};
-ghost use Rattle.shogi_moves.specs.Escapes.{AreEscapes};
-ghost use Rattle.dull_moves.specs.Dull.{AreDear, LeavesOne, lifted};
+ghost use Rattle.dull_moves.specs.Dull.{AreDear, AreNonInterfering, IsOnSquares, IsShut, IsStanding, LeavesOne, lifted};
 
 use shogi_core::bits::{cleared, lowest, without_lowest};
 use shogi_core::zones::{dead_squares, is_promotable, promoting_squares};
-use shogi_core::{Board, Color, Kind, Piece, Position, Square, Squares, line_mask};
+use shogi_core::{Board, Color, Kind, Move, Piece, Position, Square, Squares, line_mask};
 use shogi_eval::{Eval, Node, promotion_gain, taken_gain};
 use shogi_moves::{dropped, piece_moved};
+use shogi_replies::squares_between;
+
+/// The squares of a move, and those between.
+pub fn squares_touched(reply: &Move) -> Squares
+    ensures spared { AreNonInterfering reply.now result.bits }
+    ensures on_board { IsOnSquares reply.now }
+{
+    match reply {
+        Move::Board { from, to, .. } => {
+            from.reveal_invariant();
+            to.reveal_invariant();
+            squares_between(from.index(), to.index())
+                .with(*from)
+                .with(*to)
+        }
+        Move::Drop { to, .. } => {
+            to.reveal_invariant();
+            Squares::none().with(*to)
+        }
+    }
+}
 
 /// Squares from which the piece reaches each of some squares, but the one on which it stands.
 pub fn covering_squares(board: &Board, piece: Piece, squares: Squares) -> Squares
@@ -53,8 +71,8 @@ pub fn dear_squares(board: &Board, side: Color, eval: Eval, most: u32) -> Square
     Squares { bits: kept }
 }
 
-/// Squares to which moves of a piece gain too much or leave the king none of some squares, without
-/// promotion and with it.
+/// Squares to which moves of a piece gain too much or leave none of some squares, without promotion
+/// and with it.
 #[derive(Clone, Copy)]
 pub struct ForbiddenSquares {
     pub non_promoting: Squares,
@@ -76,9 +94,17 @@ impl ForbiddenSquares {
     }
 }
 
+/// Squares to and from which no moves are idle: with pieces that have to stay, and others on which
+/// nothing may come to stand between a king and what attacks it.
+#[derive(Clone, Copy)]
+pub struct HeldSquares {
+    pub pieces: Squares,
+    pub shut: Squares,
+}
+
 /// The position after a pass and a reply, where a piece may be lifted: what stands, the only king
-/// of the side that has replied and the board without it, squares to which that king may go, and what
-/// the side to move may gain.
+/// of the side that has replied and the board without it, squares of which one that is not attacked
+/// leaves that side a reply, and what the side to move may gain.
 #[derive(Clone, Copy)]
 pub struct Scene {
     pub node: Node,
@@ -89,15 +115,12 @@ pub struct Scene {
     pub gains: u32,
     pub dear: Squares,
     ghost kingless: { board ≡ slice_set standing king None } by { Prim.hlevel props },
-    ghost king_fits: { king < 81 },
-    ghost crown: { is_king (opponent_of node.position.side) (piece_at standing king) ≡ true },
-    ghost lone: { HasNoOtherKing standing (opponent_of node.position.side) king } by { Prim.hlevel props },
-    ghost escapes: { AreEscapes (record { cells = standing; hands = node.position.hands; side = node.position.side }) squares.bits } by { Prim.hlevel props },
+    ghost stands: { IsStanding (record { cells = standing; hands = node.position.hands; side = node.position.side }) king squares.bits } by { Prim.hlevel props },
     ghost dearer: { AreDear standing node.position.side node.eval gains dear.bits } by { Prim.hlevel props },
 }
 
 impl Scene {
-    ghost use Rattle.dull_moves.specs.Scenes.{AllowsIn, AreIdleDropsIn, AreIdleEnds, AreIdleFrom, AreIdleIn, AreQuietLifted, IsAlike, IsIdleIn, IsOwnIn, IsQuietIn, IsQuietLifted, IsQuietWithout, IsViewIn, KindIsCalmIn, KindLetsLeaveIn, PieceIsCalmIn, PieceLetsLeaveIn, PiecesAreCalmIn, PiecesLetLeaveIn, PromotionsAllowedIn, place_in};
+    ghost use Rattle.dull_moves.specs.Scenes.{AllowsIn, AreIdleDropsIn, AreIdleEnds, AreIdleFrom, AreIdleIn, AreShutIn, AreStandingLifted, IsAlike, IsIdleIn, IsOwnIn, IsQuietIn, IsQuietWithout, IsStandingLifted, IsViewIn, KindIsCalmIn, KindLetsLeaveIn, PieceIsCalmIn, PieceLetsLeaveIn, PiecesAreCalmIn, PiecesLetLeaveIn, PromotionsAllowedIn, place_in};
 
     /// The side to move.
     fn side(&self) -> Color
@@ -127,7 +150,7 @@ impl Scene {
         dear | covering_squares(&self.board, promoted, squares)
     }
 
-    /// Squares to which moves of the piece are forbidden that are to leave the king one of some squares.
+    /// Squares to which moves of the piece are forbidden that are to leave one of some squares.
     fn forbidden_squares(&self, piece: Piece, squares: Squares, promotes: bool) -> ForbiddenSquares
         ensures { AllowsIn self.now piece squares.bits result }
     {
@@ -142,12 +165,58 @@ impl Scene {
         }
     }
 
-    /// Where all moves on the board of what stands on the square, whether legal or not, gain little and
-    /// leave the king a square: pieces of its side that have to stay for that. The king keeps one on no
-    /// line with the square: those may be attacked once it is left.
-    fn held_by_piece(&self, from: Square) -> Option<Squares>
-        ensures calm { IfSome result (λ held. PieceIsCalmIn self.now from) }
-        ensures held { IfSome result (λ held. PieceLetsLeaveIn self.now from held.bits) }
+    /// What attacks the king of the side to move, and the way between, once the piece has moved from the
+    /// one square to the other.
+    fn shut_by(&self, piece: Piece, from: Square, to: Square) -> Option<Squares>
+        requires stands { piece_at self.now.standing from ≡ Some piece }
+        ensures { IfSome result (λ shut. IsShut (place_in self.now) shut.bits from to) }
+    {
+        from.reveal_invariant();
+        to.reveal_invariant();
+        let side = self.side();
+        let moved = self.standing.put(from, None).put(to, Some(piece));
+        let kings = moved.kings(side);
+        if kings.is_empty() {
+            return None;
+        }
+        let home = Square::of_index(lowest(kings.bits));
+        let mut left = moved.own(side.opponent()).bits;
+        while left != 0 {
+            let square = lowest(left);
+            let foe = Square::of_index(square);
+            if moved.targets(foe).has(home) {
+                return Some(squares_touched(&Move::Board {
+                    from: foe,
+                    to: home,
+                    promote: false,
+                }));
+            }
+            left = without_lowest(left, square);
+        }
+        None
+    }
+
+    /// The same for moves to each of some squares.
+    fn shut_squares(&self, piece: Piece, from: Square, ends: Squares) -> Option<Squares>
+        requires stands { piece_at self.now.standing from ≡ Some piece }
+        ensures { IfSome result (λ shut. AreShutIn self.now from ends.bits shut.bits) }
+    {
+        let mut left = ends.bits;
+        let mut shut = Squares::none();
+        while left != 0 {
+            let square = lowest(left);
+            shut = shut | self.shut_by(piece, from, Square::of_index(square))?;
+            left = without_lowest(left, square);
+        }
+        Some(shut)
+    }
+
+    /// Where all moves on the board of what stands on the square gain little and leave one of the
+    /// squares, or leave its own king attacked: what has to stay for that. One is left that is on no line
+    /// with the square: those may be attacked once it is left.
+    fn held_by_piece(&self, from: Square) -> Option<HeldSquares>
+        ensures calm { IfSome result (λ held. PieceIsCalmIn self.now held.shut.bits from) }
+        ensures held { IfSome result (λ held. PieceLetsLeaveIn self.now from held.pieces.bits) }
     {
         from.reveal_invariant();
         let piece = self.standing.at(from)?;
@@ -157,31 +226,38 @@ impl Scene {
         let forbidden = self
             .forbidden_squares(piece, squares, !ends.is_empty())
             .among(piece, from, targets);
-        if !forbidden.without(self.standing.own(self.side())).is_empty() {
-            return None;
-        }
-        if piece.role.is_sliding() {
-            return Some(targets);
-        }
-        Some(forbidden)
+        let shut = self.shut_squares(
+            piece,
+            from,
+            forbidden.without(self.standing.own(self.side())),
+        )?;
+        let pieces = if piece.role.is_sliding() {
+            targets
+        } else {
+            forbidden
+        };
+        Some(HeldSquares { pieces, shut })
     }
 
     /// The same of all pieces of the side to move.
-    fn held_by_pieces(&self) -> Option<Squares>
-        ensures calm { IfSome result (λ held. PiecesAreCalmIn self.now) }
-        ensures held { IfSome result (λ held. PiecesLetLeaveIn self.now held.bits) }
+    fn held_by_pieces(&self) -> Option<HeldSquares>
+        ensures calm { IfSome result (λ held. PiecesAreCalmIn self.now held.shut.bits) }
+        ensures held { IfSome result (λ held. PiecesLetLeaveIn self.now held.pieces.bits) }
     {
         let mut left = self.standing.own(self.side()).bits;
-        let mut held = Squares::none();
+        let mut pieces = Squares::none();
+        let mut shut = Squares::none();
         while left != 0 {
             let square = lowest(left);
-            held = held | self.held_by_piece(Square::of_index(square))?;
+            let held = self.held_by_piece(Square::of_index(square))?;
+            pieces = pieces | held.pieces;
+            shut = shut | held.shut;
             left = without_lowest(left, square);
         }
-        Some(held)
+        Some(HeldSquares { pieces, shut })
     }
 
-    /// Where a drop of the kind, if a piece of it is in hand, leaves the king a square wherever it ends:
+    /// Where a drop of the kind, if a piece of it is in hand, leaves one of the squares wherever it ends:
     /// squares on which it would not.
     fn held_by_kind(&self, kind: Kind) -> Option<Squares>
         ensures calm { IfSome result (λ held. KindIsCalmIn self.now kind) }
@@ -204,7 +280,8 @@ impl Scene {
     /// The same of all kinds.
     fn held_by_kinds(&self) -> Option<Squares>
         ensures calm { IfSome result (λ held. (kind : Kind) → KindIsCalmIn self.now kind) }
-        ensures held { IfSome result (λ held. (kind : Kind) → KindLetsLeaveIn self.now kind held.bits) }
+        ensures held { IfSome result (λ held. (kind : Kind)
+            → KindLetsLeaveIn self.now kind held.bits) }
     {
         let pawn = self.held_by_kind(Kind::Pawn)?;
         let lance = self.held_by_kind(Kind::Lance)?;
@@ -230,20 +307,24 @@ impl Scene {
         seen
     }
 
-    /// Where the side to move gains little and leaves the king a square, whatever it does: squares such
+    /// Where the side to move gains little and leaves one of the squares, whatever it does: squares such
     /// that so it is too with any piece of its own lifted from another square.
-    pub fn held_squares(&self) -> Option<Squares>
-        ensures quiet { IfSome result (λ held. IsQuietIn self.now) }
-        ensures held { IfSome result (λ held. IsQuietWithout self.now held.bits) }
+    pub fn held_squares(&self) -> Option<HeldSquares>
+        ensures quiet { IfSome result (λ held. IsQuietIn self.now held.shut.bits) }
+        ensures held { IfSome result (λ held.
+            IsQuietWithout self.now held.shut.bits held.pieces.bits) }
     {
         self.king.reveal_invariant();
-        let pieces = self.held_by_pieces()?;
+        let held = self.held_by_pieces()?;
         let kinds = self.held_by_kinds()?;
-        Some(pieces | kinds | self.view())
+        Some(HeldSquares {
+            pieces: held.pieces | held.shut | kinds | self.view(),
+            shut: held.shut,
+        })
     }
 
     /// Whether the piece on the square reaches neither the king nor its squares, and by its next move
-    /// gains little and leaves the king a square.
+    /// gains little and leaves one of them.
     fn is_idle(&self, piece: Piece, forbidden: &ForbiddenSquares, to: Square) -> bool
         requires allowed { AllowsIn self.now piece self.now.squares.bits forbidden.now }
         ensures { result ≡ true → IsIdleIn self.now (Some piece) to }
@@ -291,7 +372,7 @@ impl Scene {
 
     /// The same with what stands on the square lifted.
     fn lifted(&self, from: Square) -> Scene
-        requires quiet { IsQuietLifted self.now from }
+        requires standing { IsStandingLifted self.now from }
         ensures standing { place_in result ≡ lifted (place_in self.now) from }
         ensures unchanged { IsAlike self.now result }
     {
@@ -308,7 +389,7 @@ impl Scene {
 
     /// The ends without those of the targets on which the piece from the square is not idle.
     fn idle_ends_of(&self, from: Square, targets: Squares, ends: Squares) -> Squares
-        requires quiet { IsQuietLifted self.now from }
+        requires standing { IsStandingLifted self.now from }
         ensures among { (n : ℕ) → has_bit result.bits n ≡ true → has_bit ends.bits n ≡ true }
         ensures idle { AreIdleFrom self.now from targets.bits result.bits }
     {
@@ -324,7 +405,7 @@ impl Scene {
     /// The squares to which none of the pieces moves, of those of the position before, or on which it is
     /// idle.
     pub fn idle_ends(&self, before: &Position, pieces: Squares, ends: Squares) -> Squares
-        requires quiet { AreQuietLifted self.now pieces.bits }
+        requires standing { AreStandingLifted self.now pieces.bits }
         ensures among { (n : ℕ) → has_bit result.bits n ≡ true → has_bit ends.bits n ≡ true }
         ensures idle { AreIdleEnds self.now before.now.cells pieces.bits result.bits }
     {

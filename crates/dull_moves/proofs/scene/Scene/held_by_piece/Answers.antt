@@ -1,5 +1,4 @@
 use Rattle.std.proofs.Common.{◌∙◌, sym}
-use Rattle.std.proofs.lemmas.Bool.{eqb-true}
 use Rattle.dull_moves.specs.Scenes.{place_in}
 use Rattle.dull_moves.proofs.SceneLaws.{piece_calm, slider_lets, stepper_lets}
 use Rattle.dull_moves.proofs.scene.Scene.held_by_piece.Goals as goal
@@ -9,7 +8,7 @@ returns-then-is_sliding-clause-calm c =
     piece_calm (place_in c.args.self.now) c.args.self.now.node.eval c.args.self.now.gains c.args.self.now.king c.args.self.now.board c.in_ok-piece.piece c.args.from c.targets_of-targets.result.bits c.own.result.bits c.line_mask.result.bits c.without-squares.result.bits c.args.self.now.squares.bits c.among-forbidden.result.bits c.forbidden_squares.result
     c.args.self.now.kingless (sym c.at.ensures ∙ c.in_ok-piece.was) c.targets_of-targets.ensures.squares
     (rw c.index.ensures.index at c.line_mask.ensures.squares) c.line_mask.result.fits c.without-squares.ensures c.forbidden_squares.ensures (record { non_promoting = c.among-forbidden.ensures.non_promoting; promoting = c.among-forbidden.ensures.promoting })
-    c.without.result.bits (rw c.side.ensures at c.own.ensures.squares) c.own.result.fits c.without.ensures (eqb-true _ _ (sym c.is_empty-2.ensures ∙ c.if-not-is_empty.false))
+    c.without.result.bits c.in_ok-shut.shut.bits (rw c.side.ensures at c.own.ensures.squares) c.own.result.fits c.without.ensures c.in_ok-shut.ensures
 
 pub returns-then-is_sliding-clause-held : goal.returns-then-is_sliding-clause-held
 returns-then-is_sliding-clause-held c = λ a h out own.
@@ -18,15 +17,15 @@ returns-then-is_sliding-clause-held c = λ a h out own.
     (rw c.index.ensures.index at c.line_mask.ensures.squares) c.line_mask.result.fits c.without-squares.ensures c.forbidden_squares.ensures (record { non_promoting = c.among-forbidden.ensures.non_promoting; promoting = c.among-forbidden.ensures.promoting })
     a h out
 
-pub returns-clause-calm : goal.returns-clause-calm
-returns-clause-calm c =
+pub returns-else-is_sliding-clause-calm : goal.returns-else-is_sliding-clause-calm
+returns-else-is_sliding-clause-calm c =
     piece_calm (place_in c.args.self.now) c.args.self.now.node.eval c.args.self.now.gains c.args.self.now.king c.args.self.now.board c.in_ok-piece.piece c.args.from c.targets_of-targets.result.bits c.own.result.bits c.line_mask.result.bits c.without-squares.result.bits c.args.self.now.squares.bits c.among-forbidden.result.bits c.forbidden_squares.result
     c.args.self.now.kingless (sym c.at.ensures ∙ c.in_ok-piece.was) c.targets_of-targets.ensures.squares
     (rw c.index.ensures.index at c.line_mask.ensures.squares) c.line_mask.result.fits c.without-squares.ensures c.forbidden_squares.ensures (record { non_promoting = c.among-forbidden.ensures.non_promoting; promoting = c.among-forbidden.ensures.promoting })
-    c.without.result.bits (rw c.side.ensures at c.own.ensures.squares) c.own.result.fits c.without.ensures (eqb-true _ _ (sym c.is_empty-2.ensures ∙ c.if-not-is_empty.false))
+    c.without.result.bits c.in_ok-shut.shut.bits (rw c.side.ensures at c.own.ensures.squares) c.own.result.fits c.without.ensures c.in_ok-shut.ensures
 
-pub returns-clause-held : goal.returns-clause-held
-returns-clause-held c = λ a h out own.
+pub returns-else-is_sliding-clause-held : goal.returns-else-is_sliding-clause-held
+returns-else-is_sliding-clause-held c = λ a h out own.
     stepper_lets (place_in c.args.self.now) c.args.self.now.node.eval c.args.self.now.gains c.args.self.now.king c.args.self.now.board c.in_ok-piece.piece c.args.from c.targets_of-targets.result.bits c.own.result.bits c.line_mask.result.bits c.without-squares.result.bits c.args.self.now.squares.bits c.among-forbidden.result.bits c.forbidden_squares.result
     c.args.self.now.kingless (sym c.at.ensures ∙ c.in_ok-piece.was) c.targets_of-targets.ensures.squares
     (rw c.index.ensures.index at c.line_mask.ensures.squares) c.line_mask.result.fits c.without-squares.ensures c.forbidden_squares.ensures (record { non_promoting = c.among-forbidden.ensures.non_promoting; promoting = c.among-forbidden.ensures.promoting })

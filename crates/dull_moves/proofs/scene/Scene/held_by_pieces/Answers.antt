@@ -5,19 +5,19 @@ use Rattle.dull_moves.proofs.scene.Scene.held_by_pieces.Goals as goal
 
 pub loop-left-init : goal.loop-left-init
 loop-left-init c = record {
-  pieces = pieces_first (place_in c.args.self.now) c.args.self.now.node.eval c.args.self.now.gains c.args.self.now.king c.args.self.now.squares.bits c.own-left.result.bits c.none-held.result.bits (rw c.side.ensures at c.own-left.ensures.squares);
+  pieces = pieces_first (place_in c.args.self.now) c.args.self.now.node.eval c.args.self.now.gains c.args.self.now.king c.args.self.now.squares.bits c.own-left.result.bits c.none-pieces.result.bits c.none-shut.result.bits (rw c.side.ensures at c.own-left.ensures.squares);
   left = c.own-left.result.fits;
 }
 
 pub loop-left-preserved : goal.loop-left-preserved
 loop-left-preserved c = record {
-  pieces = rw c.bitor-held.ensures (pieces_next (place_in c.args.self.now) c.args.self.now.node.eval c.args.self.now.gains c.args.self.now.king c.args.self.now.squares.bits c.loop-left.left c.without_lowest-left.result c.loop-left.held.bits c.in_ok-held_by_piece.field-0.bits c.lowest-square.result c.loop-left.invariant.pieces c.without_lowest-left.ensures.bits
-      (rw c.of_index.ensures at c.in_ok-held_by_piece.ensures.calm) (rw c.of_index.ensures at c.in_ok-held_by_piece.ensures.held));
+  pieces = rw (c.bitor-pieces.ensures, c.bitor-shut.ensures) (pieces_next (place_in c.args.self.now) c.args.self.now.node.eval c.args.self.now.gains c.args.self.now.king c.args.self.now.squares.bits c.loop-left.left c.without_lowest-left.result c.loop-left.pieces.bits c.loop-left.shut.bits c.in_ok-held.held.pieces.bits c.in_ok-held.held.shut.bits c.lowest-square.result c.loop-left.invariant.pieces c.without_lowest-left.ensures.bits
+      (rw c.of_index.ensures at c.in_ok-held.ensures.calm) (rw c.of_index.ensures at c.in_ok-held.ensures.held));
   left = omega (arith, c.without_lowest-left.ensures.less, c.loop-left.invariant.left);
 }
 
 pub returns-clause-calm : goal.returns-clause-calm
-returns-clause-calm c = λ from h own. (pieces_done (place_in c.args.self.now) c.args.self.now.node.eval c.args.self.now.gains c.args.self.now.king c.args.self.now.squares.bits c.loop-left.left c.loop-left.held.bits c.loop-left.invariant.pieces c.loop-left-test.false from h own).0
+returns-clause-calm c = λ from h own. (pieces_done (place_in c.args.self.now) c.args.self.now.node.eval c.args.self.now.gains c.args.self.now.king c.args.self.now.squares.bits c.loop-left.left c.loop-left.pieces.bits c.loop-left.shut.bits c.loop-left.invariant.pieces c.loop-left-test.false from h own).0
 
 pub returns-clause-held : goal.returns-clause-held
-returns-clause-held c = λ from h own. (pieces_done (place_in c.args.self.now) c.args.self.now.node.eval c.args.self.now.gains c.args.self.now.king c.args.self.now.squares.bits c.loop-left.left c.loop-left.held.bits c.loop-left.invariant.pieces c.loop-left-test.false from h own).1
+returns-clause-held c = λ from h own. (pieces_done (place_in c.args.self.now) c.args.self.now.node.eval c.args.self.now.gains c.args.self.now.king c.args.self.now.squares.bits c.loop-left.left c.loop-left.pieces.bits c.loop-left.shut.bits c.loop-left.invariant.pieces c.loop-left-test.false from h own).1

@@ -14,7 +14,7 @@ loop-left-init c = record {
 }
 
 pub idle_ends_of-kept-requires : goal.idle_ends_of-kept-requires
-idle_ends_of-kept-requires c = record { quiet = rw c.of_index-from.ensures (c.requires.quiet c.lowest-square.result c.lowest-square.ensures.range (c.loop-left.invariant.within c.lowest-square.result c.lowest-square.ensures.set)) }
+idle_ends_of-kept-requires c = record { standing = rw c.of_index-from.ensures (c.requires.standing c.lowest-square.result c.lowest-square.ensures.range (c.loop-left.invariant.within c.lowest-square.result c.lowest-square.ensures.set)) }
 
 pub loop-left-preserved : goal.loop-left-preserved
 loop-left-preserved c = record {

@@ -1,9 +1,7 @@
-use Rattle.std.proofs.Common.{◌≡◌, true, None, ap, set, subst, sym, ◌∙◌}
-use Rattle.shogi_core.specs.Cell.{HasNoOtherKing, is_king}
-use Rattle.shogi_core.specs.Movement.{Cells, piece_at}
+use Rattle.std.proofs.Common.{◌≡◌, None, ap, set, subst, sym, ◌∙◌}
+use Rattle.shogi_core.specs.Movement.{Cells}
 use Rattle.shogi_core.specs.Pieces.{opponent_of}
-use Rattle.shogi_moves.specs.Escapes.{AreEscapes}
-use Rattle.dull_moves.specs.Dull.{AreDear}
+use Rattle.dull_moves.specs.Dull.{AreDear, IsStanding}
 use Rattle.dull_moves.specs.Scenes.{with_cells}
 use Rattle.dull_moves.proofs.SceneLaws.{both_lifted, dear_lifted, king_off}
 use Rattle.dull_moves.proofs.scene.Scene.lifted.Goals as goal
@@ -12,10 +10,7 @@ pub invariant_of-result : goal.invariant_of-result
 invariant_of-result c =
     let same : set c.args.self.now.standing c.args.from None ≡ c.put.result = sym c.put.ensures in
     record {
-      kingless = c.put-2.ensures ∙ (both_lifted c.args.self.now.board c.args.self.now.standing c.args.self.now.king c.args.from c.args.self.now.kingless (king_off c.args.self.now.standing (opponent_of c.args.self.now.node.position.side) c.args.self.now.king c.args.from c.requires.quiet.crown) ∙ ap (λ (cells : Cells). set cells c.args.self.now.king None) same);
-      king_fits = c.requires.quiet.king_fits;
-      crown = subst (λ (cells : Cells). is_king (opponent_of c.args.self.now.node.position.side) (piece_at cells c.args.self.now.king) ≡ true) same c.requires.quiet.crown;
-      lone = subst (λ (cells : Cells). HasNoOtherKing cells (opponent_of c.args.self.now.node.position.side) c.args.self.now.king) same c.requires.quiet.lone;
-      escapes = subst (λ (cells : Cells). AreEscapes (with_cells c.args.self.now.node.position cells) c.args.self.now.squares.bits) same c.requires.quiet.escapes;
+      kingless = c.put-2.ensures ∙ (both_lifted c.args.self.now.board c.args.self.now.standing c.args.self.now.king c.args.from c.args.self.now.kingless (king_off c.args.self.now.standing (opponent_of c.args.self.now.node.position.side) c.args.self.now.king c.args.from c.requires.standing.crown) ∙ ap (λ (cells : Cells). set cells c.args.self.now.king None) same);
+      stands = subst (λ (cells : Cells). IsStanding (with_cells c.args.self.now.node.position cells) c.args.self.now.king c.args.self.now.squares.bits) same c.requires.standing;
       dearer = subst (λ (cells : Cells). AreDear cells c.args.self.now.node.position.side c.args.self.now.node.eval c.args.self.now.gains c.args.self.now.dear.bits) same (dear_lifted c.args.self.now.standing c.args.self.now.node.position.side c.args.self.now.node.eval c.args.self.now.gains c.args.self.now.dear.bits c.args.from c.args.self.now.dearer);
     }

@@ -1,0 +1,86 @@
+//! Squares of which one that is not attacked leaves a side a reply.
+
+ghost use Rattle.std.specs.Prelude.{◌≡◌, true, IfSome};
+ghost use Rattle.shogi_core.specs.Cell.{HasNoOtherKing, is_king};
+ghost use Rattle.shogi_core.specs.Movement.{piece_at};
+ghost use Rattle.shogi_core.specs.Pieces.{opponent_of};
+ghost use Rattle.shogi_replies.specs.ReplyInfo.{AreQuietSteps};
+ghost use Rattle.dull_moves.specs.Dull.{AreReplySquares, HasSpareMoves};
+ghost use Rattle.dull_moves.specs.SpareMoves.{IsFreeStep};
+
+use shogi_core::bits::{lowest, without_lowest};
+use shogi_core::zones::dead_squares;
+use shogi_core::{Position, Square, Squares, line_mask, step_squares};
+use shogi_replies::escape_squares;
+
+/// A step of a piece to an empty square.
+#[derive(Clone, Copy)]
+pub struct FreeStep {
+    pub from: Square,
+    pub to: Square,
+}
+
+/// The empty squares to which what stands on the square may step, and from where it can move again
+/// without promotion.
+fn quiet_steps(p: &Position, from: Square) -> Squares
+    ensures { AreQuietSteps p.now.cells from result.bits }
+{
+    let cell = p.at(from);
+    let Some(piece) = cell else {
+        return Squares::none()
+    };
+    from.reveal_invariant();
+    let steps = step_squares(piece, from.index()) & p.as_board().free();
+    steps.without(dead_squares(cell))
+}
+
+/// A step of one of the pieces to an empty square that is not among those taken.
+fn free_step(p: &Position, pieces: Squares, taken: Squares) -> Option<FreeStep>
+    ensures { IfSome result (IsFreeStep p.now.cells pieces.bits taken.bits) }
+{
+    let mut left = pieces.bits;
+    while left != 0 {
+        let square = lowest(left);
+        let from = Square::of_index(square);
+        let steps = quiet_steps(p, from).without(taken);
+        if !steps.is_empty() {
+            let to = Square::of_index(lowest(steps.bits));
+            return Some(FreeStep { from, to });
+        }
+        left = without_lowest(left, square);
+    }
+    None
+}
+
+/// Whether the side that is not to move surely has a step of a piece on no line with its king, whatever
+/// one square is filled, and wherever a move ends: three pieces have one, each to another square.
+fn has_spare_moves(p: &Position, king: Square) -> bool
+    ensures { result ≡ true → HasSpareMoves p.now king }
+{
+    king.reveal_invariant();
+    let lines = line_mask(king.index()).with(king);
+    let pieces = p.as_board().own(p.side().opponent()).without(lines);
+    let Some(one) = free_step(p, pieces, Squares::none()) else {
+        return false
+    };
+    let others = pieces.except(one.from);
+    let taken = Squares::none().with(one.to);
+    let Some(two) = free_step(p, others, taken) else {
+        return false
+    };
+    free_step(p, others.except(two.from), taken.with(two.to)).is_some()
+}
+
+/// The squares to which the king may go, and its own where its side has spare moves.
+pub fn reply_squares(p: &Position, king: Square) -> Squares
+    requires crown { is_king (opponent_of p.now.side) (piece_at p.now.cells king) ≡ true }
+    requires lone { HasNoOtherKing p.now.cells (opponent_of p.now.side) king }
+    ensures { AreReplySquares p.now king result.bits }
+{
+    king.reveal_invariant();
+    let squares = escape_squares(p);
+    if has_spare_moves(p, king) {
+        return squares.with(king);
+    }
+    squares
+}
