@@ -30,13 +30,13 @@ use Rattle.shogi_moves.proofs.DropChecks as drops
 use Rattle.shogi_moves.proofs.EscapeLaws.{kept, king_reach}
 use Rattle.shogi_moves.proofs.KingLaws.{king_own}
 use Rattle.shogi_moves.proofs.MovedPieces.{opponent_twice}
-use Rattle.shogi_replies.proofs.EscapeLaws.{king_steps}
 use Rattle.shogi_replies.specs.ReplyInfo.{IsHarmless}
 use Rattle.shogi_replies.proofs.ReplyLaws.{LeavesStanding, left_board, left_drop, reply_by, shut_drop}
 use Rattle.shogi_eval.specs.declared.eval.Eval.{Eval}
 use Rattle.shogi_eval.specs.Material.{drop_gain, material_of, promotion_gain, taken_gain}
 use Rattle.shogi_eval.proofs.Gains.{gain_of}
 use Rattle.dull_moves.specs.Dull.{AreOffLines, HasSpareMoves, IsOnSquares, IsCalm, IsIdle, IsQuietThere, LeavesOne, without_king}
+use Rattle.dull_moves.proofs.KingGoes.{king_goes}
 use Rattle.dull_moves.proofs.Materials.{drop_little}
 use Rattle.dull_moves.proofs.Shut.{still_shut}
 use Rattle.dull_moves.proofs.SpareMoves.{replies_by_step, step_same}
@@ -241,17 +241,17 @@ module _ (q : Shogi) (e : Eval) (gains king squares shut : ℕ) (arrived : Optio
           gain_here arrived there calm.gain,
           λ none. quiet.standing.replies one.0 one.1 one.2
               (λ escape. reply_by (after (put_on q arrived hands b) (Board c d promote)) king one.0 quiet.standing.king_fits one.1
-              (king_steps q (cells_after (put_on q arrived hands b).cells q.side (Board c d promote)) (after (put_on q arrived hands b) (Board c d promote)).hands (λ x. ⊥) d (piece_moved promote (piece_at (put_on q arrived hands b).cells c)) len
+              (king_goes q.cells (cells_after (put_on q arrived hands b).cells q.side (Board c d promote)) (after (put_on q arrived hands b) (Board c d promote)).hands q.side (λ x. ⊥) d (piece_moved promote (piece_at (put_on q arrived hands b).cells c))
               (length-after (put_on q arrived hands b).cells q.side (Board c d promote) ∙ fits)
               own_moved (seen_after at)
-              king one.0 quiet.standing.king_fits one.1 quiet.standing.crown (λ left. left) (not_king, one.3) escape
-              (ap (λ (cell : Option Piece). cell_reaches (set q.cells king None) cell d one.0) moved ∙ one.4)
+              king one.0 quiet.standing.king_fits one.1 quiet.standing.crown (λ left. left) not_king escape
+              (ap (λ (cell : Option Piece). cell_reaches (set q.cells king None) cell d one.0) moved ∙ one.3)
               (λ x left. absurd left)) none)
               (λ home. by_spare (cells_after (put_on q arrived hands b).cells q.side (Board c d promote)) (after (put_on q arrived hands b) (Board c d promote)).hands d home.1
               (left_board (put_on q arrived hands b) c d promote v hc hd own)
               (unchecked_by q.cells (cells_after (put_on q arrived hands b).cells q.side (Board c d promote)) q.side (λ x. ⊥) d (piece_moved promote (piece_at (put_on q arrived hands b).cells c)) hd own_moved (seen_after at) end_there (λ x left. absurd left)
               (subst (λ (cell : Option Piece). IsHarmless q.cells (opponent_of q.side) cell d) (sym moved)
-              (harmless_there q.cells (opponent_of q.side) king q.cells (piece_moved promote arrived) d len quiet.standing.king_fits quiet.standing.lone (λ x n. n) (subst (λ (x : ℕ). cell_reaches (without_king q king) (piece_moved promote arrived) d x ≡ false) home.0 one.4)))
+              (harmless_there q.cells (opponent_of q.side) king q.cells (piece_moved promote arrived) d len quiet.standing.king_fits quiet.standing.lone (λ x n. n) (subst (λ (x : ℕ). cell_reaches (without_king q king) (piece_moved promote arrived) d x ≡ false) home.0 one.3)))
               quiet.standing.unchecked) none),
         )
       where
@@ -292,16 +292,16 @@ module _ (q : Shogi) (e : Eval) (gains king squares shut : ℕ) (arrived : Optio
         left_one there moved calm =
             let one = calm.2 in
             let out = calm.1 one.0 one.1 one.2 in
-            let short : cell_reaches (without_king q king) (piece_moved promote (piece_at (put_on q arrived hands b).cells c)) d one.0 ≡ false = ap (λ (cell : Option Piece). cell_reaches (without_king q king) cell d one.0) moved ∙ one.4 in
+            let short : cell_reaches (without_king q king) (piece_moved promote (piece_at (put_on q arrived hands b).cells c)) d one.0 ≡ false = ap (λ (cell : Option Piece). cell_reaches (without_king q king) cell d one.0) moved ∙ one.3 in
             λ none. quiet.standing.replies one.0 one.1 out.0
             (λ escape. reply_by (after (put_on q arrived hands b) (Board c d promote)) king one.0 quiet.standing.king_fits one.1
-            (king_steps (put_on q arrived hands b) (cells_after (put_on q arrived hands b).cells q.side (Board c d promote)) (after (put_on q arrived hands b) (Board c d promote)).hands (λ x. x ≡ c) d (piece_moved promote (piece_at (put_on q arrived hands b).cells c)) fits
+            (king_goes (put_on q arrived hands b).cells (cells_after (put_on q arrived hands b).cells q.side (Board c d promote)) (after (put_on q arrived hands b) (Board c d promote)).hands q.side (λ x. x ≡ c) d (piece_moved promote (piece_at (put_on q arrived hands b).cells c))
             (length-after (put_on q arrived hands b).cells q.side (Board c d promote) ∙ fits)
             own_moved
             (look (put_on q arrived hands b).cells q.side c d (piece_moved promote (piece_at (put_on q arrived hands b).cells c)) fits hc hd)
             king one.0 quiet.standing.king_fits one.1 crown_now
             (λ at. both_ways (is_piece_of (opponent_of q.side) (piece_at (put_on q arrived hands b).cells c)) (other_side q.side (piece_at (put_on q arrived hands b).cells c) own) (subst (λ (x : ℕ). is_piece_of (opponent_of q.side) (piece_at (put_on q arrived hands b).cells x) ≡ true) at (king_own (opponent_of q.side) (piece_at (put_on q arrived hands b).cells king) crown_now)))
-            (not_king, one.3) (escape_now one.0 one.1 out.0 escape)
+            not_king (escape_now one.0 one.1 out.0 escape)
             (short_lifted (piece_moved promote (piece_at (put_on q arrived hands b).cells c)) d one.0 short)
             (λ x left. subst (λ (y : ℕ). are_lined (set (put_on q arrived hands b).cells king None) y one.0 ≡ false) (sym left) (false_from_ne_true _ (λ lined. both_ways (are_aligned c one.0) out.1 (lined_aligned (set (put_on q arrived hands b).cells king None) c one.0 lined))))) none)
             (λ home. by_spare (cells_after (put_on q arrived hands b).cells q.side (Board c d promote)) (after (put_on q arrived hands b) (Board c d promote)).hands d home.1
@@ -327,15 +327,15 @@ module _ (q : Shogi) (e : Eval) (gains king squares shut : ℕ) (arrived : Optio
       let not_there : king ≢ d = λ at. both_ways (is_king (opponent_of q.side) None) refl (ap (is_king (opponent_of q.side)) (sym empty) ∙ subst (λ (x : ℕ). is_king (opponent_of q.side) (piece_at (put_on q arrived hands b).cells x) ≡ true) at crown_now) in
       λ none. quiet.standing.replies one.0 one.1 one.2
       (λ escape. reply_by (after (put_on q arrived hands b) (Drop other d)) king one.0 quiet.standing.king_fits one.1
-      (king_steps (put_on q arrived hands b) (cells_after (put_on q arrived hands b).cells q.side (Drop other d)) (after (put_on q arrived hands b) (Drop other d)).hands (λ x. ⊥) d (dropped q.side other) fits
+      (king_goes (put_on q arrived hands b).cells (cells_after (put_on q arrived hands b).cells q.side (Drop other d)) (after (put_on q arrived hands b) (Drop other d)).hands q.side (λ x. ⊥) d (dropped q.side other)
       (length-after (put_on q arrived hands b).cells q.side (Drop other d) ∙ fits)
       (dropped_of q.side other)
       (λ x. elim (drops.look (put_on q arrived hands b).cells q.side other d fits hd x) [ inl here ↦ inl here | inr stood ↦ inr (inr stood) ])
-      king one.0 quiet.standing.king_fits one.1 crown_now (λ left. left) (not_there, one.3) (escape_now one.0 one.1 one.2 escape)
-      (short_lifted (dropped q.side other) d one.0 one.4)
+      king one.0 quiet.standing.king_fits one.1 crown_now (λ left. left) not_there (escape_now one.0 one.1 one.2 escape)
+      (short_lifted (dropped q.side other) d one.0 one.3)
       (λ x left. absurd left)) none)
       (λ home. by_spare (cells_after (put_on q arrived hands b).cells q.side (Drop other d)) (after (put_on q arrived hands b) (Drop other d)).hands d home.1
-      (left_drop (put_on q arrived hands b) other d v hd) (shut_drop (put_on q arrived hands b) other d v hd (harmless_now (dropped q.side other) d one.0 home.0 one.4)) none)
+      (left_drop (put_on q arrived hands b) other d v hd) (shut_drop (put_on q arrived hands b) other d v hd (harmless_now (dropped q.side other) d one.0 home.0 one.3)) none)
 
   -- so it gains no more than it did, and mates by nothing
   pub tame : (t : ℤ) → (material_of (put_on q arrived hands b) e +ℤ pos gains) ≤ℤ t → IsTame (put_on q arrived hands b) e t

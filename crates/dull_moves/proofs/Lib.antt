@@ -13,3 +13,4 @@ pub mod SceneLaws
 pub mod Unchecked
 pub mod SpareMoves
 pub mod Shut
+pub mod KingGoes

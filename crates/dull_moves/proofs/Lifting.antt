@@ -104,7 +104,7 @@ module _ (q : Shogi) (e : Eval) (gains king squares shut a : ℕ) (ha : a < 81) 
       (reach_was (without_king q king) (without_king (lifted q a) king) (λ x. x ≡ a) opened cell n s (λ x left. subst (λ (y : ℕ). are_lined (without_king q king) y s ≡ false) (sym left) off) r))
 
   leaves : (cell : Option Piece) (n among : ℕ) → ((m : ℕ) → m < 81 → has_bit among m ≡ true → has_bit squares m ≡ true) → LeavesOne (without_king q king) cell n among → LeavesOne (without_king (lifted q a) king) cell n among
-  leaves cell n among within one = (one.0, one.1, one.2, one.3, short cell n one.0 (unseen.off_squares one.0 one.1 (within one.0 one.1 one.2)) one.4)
+  leaves cell n among within one = (one.0, one.1, one.2, short cell n one.0 (unseen.off_squares one.0 one.1 (within one.0 one.1 one.2)) one.3)
 
   -- ---- the king has its squares still
 

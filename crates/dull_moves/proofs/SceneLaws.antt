@@ -31,7 +31,7 @@ use Rattle.dull_moves.specs.Scenes.{IsAlike, IsIdleIn, place_in}
 use Rattle.dull_moves.specs.Dull.{Allows, AllowsPromotions, AreDear, AreOffLines, IsIdle, IsUnseen, IsShut, KindIsCalm, KindLetsLeave, LeavesOne, PieceIsCalm, PieceLetsLeave, lifted, without_king}
 
 -- a square of a set that shares none with another one
-none_in : (a b n : ℕ) → bit_and a b ≡ 0 → has_bit a n ≡ true → has_bit b n ≡ false
+pub none_in : (a b n : ℕ) → bit_and a b ≡ 0 → has_bit a n ≡ true → has_bit b n ≡ false
 none_in a b n none set = false_from_ne_true (has_bit b n) (λ on. both_ways (has_bit (bit_and a b) n) (ap (λ (m : ℕ). has_bit m n) none ∙ has_bit-none n) (has_bit-and a b n ∙ and_from _ _ set on))
 
 none_of_two : (a b c n : ℕ) → bit_and a (bit_or b c) ≡ 0 → has_bit a n ≡ true → (has_bit b n ≡ false) × (has_bit c n ≡ false)

@@ -1,7 +1,7 @@
 -- Sets of squares that are sifted one by one.
 use Rattle.std.proofs.Common.{◌≡◌, ◌≢◌, ◌⊎◌, ℕ, zero, suc, ◌-◌, ◌^◌, ◌<◌, true, false, not, [], ◌∷◌, Some, None, refl, sym, ap, subst, ◌∙◌, inl, inr, arith, bit_and, set}
-use Rattle.std.specs.Prelude.{◌&&◌, ◌||◌, ◌==◌}
-use Rattle.std.proofs.lemmas.Bool.{and_from, and_parts, both_ways, cases_Bool, cases_eq, eq-eqb, false_from_ne_true, ne_eqb, not-true, not_from_false, or_parts}
+use Rattle.std.specs.Prelude.{◌&&◌, ◌==◌}
+use Rattle.std.proofs.lemmas.Bool.{and_from, and_parts, both_ways, cases_Bool, cases_eq, eq-eqb, false_from_ne_true, ne_eqb, not-true, not_from_false}
 use Rattle.shogi_core.proofs.LineBits.{has_bit-not}
 use Rattle.std.proofs.lemmas.Nat.Bits.{bit_at_ones}
 use Rattle.shogi_core.specs.declared.piece.Piece.{Piece}
@@ -41,21 +41,15 @@ covers_first cells piece squares covered all = record { among = λ n set. set; l
 pub less : (next left square : ℕ) → ((i : ℕ) → has_bit next i ≡ (has_bit left i && not (i == square))) → (n : ℕ) → has_bit next n ≡ true → has_bit left n ≡ true
 less next left square bits n set = (and_parts (has_bit left n) (not (n == square)) (sym (bits n) ∙ set)).0
 
-pub covers_next : (cells : Cells) (piece : Piece) (squares left next covered targets there square : ℕ) → Covers cells piece squares left covered → ((i : ℕ) → has_bit next i ≡ (has_bit left i && not (i == square))) → square < 81 → has_bit left square ≡ true
-    → ((n : ℕ) → n < 81 → has_bit targets n ≡ cell_reaches cells (Some (record { color = opponent_of piece.color; role = piece.role })) square n) → ((i : ℕ) → has_bit there i ≡ (has_bit targets i || i == square)) → Covers cells piece squares next (bit_and covered there)
-covers_next cells piece squares left next covered targets there square c bits low set reach with_it = record {
+pub covers_next : (cells : Cells) (piece : Piece) (squares left next covered targets square : ℕ) → Covers cells piece squares left covered → ((i : ℕ) → has_bit next i ≡ (has_bit left i && not (i == square))) → square < 81 → has_bit left square ≡ true
+    → ((n : ℕ) → n < 81 → has_bit targets n ≡ cell_reaches cells (Some (record { color = opponent_of piece.color; role = piece.role })) square n) → Covers cells piece squares next (bit_and covered targets)
+covers_next cells piece squares left next covered targets square c bits low set reach = record {
   among = λ n stays. c.among n (less next left square bits n stays);
   leaves = λ n h out. elim (cases_Bool (has_bit covered n)) [
     | inr before ↦ c.leaves n h before
     | inl was ↦ (
-        let off : has_bit there n ≡ false = false_from_ne_true _ (λ on. both_ways (has_bit (bit_and covered there) n) out (has_bit-and covered there n ∙ and_from _ _ was on)) in
-        let parts : (has_bit targets n ≡ false) × ((n == square) ≡ false) = or_parts _ _ (sym (with_it n) ∙ off) in (
-          square,
-          low,
-          c.among square set,
-          (λ (same : square ≡ n). both_ways (n == square) parts.1 (eq-eqb n square (sym same))),
-          false_from_ne_true _ (λ r. both_ways (has_bit targets n) parts.0 (reach n h ∙ reach_both_ways cells piece n square h r)),
-        ))
+        let off : has_bit targets n ≡ false = false_from_ne_true _ (λ on. both_ways (has_bit (bit_and covered targets) n) out (has_bit-and covered targets n ∙ and_from _ _ was on)) in
+        (square, low, c.among square set, false_from_ne_true _ (λ r. both_ways (has_bit targets n) off (reach n h ∙ reach_both_ways cells piece n square h r))))
   ];
 }
 

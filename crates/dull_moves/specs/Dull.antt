@@ -75,9 +75,9 @@ pub record LetsBe (p : Shogi) (kind : Kind) (to : ℕ) (r : Move) : Type 0 where
       IsHarmless (after_reply p r).cells (opponent_of p.side) (dropped p.side kind) to
   pub plain : is_pawn_drop r ≡ false
 
--- one of the squares is another one than that on which this stands, and out of its reach
+-- one of the squares is out of reach of this where it stands
 abbrev pub LeavesOne : Cells → Option Piece → ℕ → ℕ → Type 0
-LeavesOne cells cell n squares = (e : ℕ) × (e < 81) × (has_bit squares e ≡ true) × (e ≢ n)
+LeavesOne cells cell n squares = (e : ℕ) × (e < 81) × (has_bit squares e ≡ true)
     × (cell_reaches cells cell n e ≡ false)
 
 -- the squares of a board on which the king of the side that is not to move has left its own

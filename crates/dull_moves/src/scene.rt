@@ -8,7 +8,7 @@ ghost use Rattle.shogi_core.specs.Zones.{may_promote};
 ghost use Rattle.dull_moves.specs.Dull.{AreDear, AreNonInterfering, IsOnSquares, IsShut, IsStanding, LeavesOne, lifted};
 
 use shogi_core::bits::{cleared, lowest, without_lowest};
-use shogi_core::zones::{dead_squares, is_promotable, promoting_squares};
+use shogi_core::zones::{dead_squares, is_promotable, promoting_squares, squares_near_zone};
 use shogi_core::{Board, Color, Kind, Move, Piece, Position, Square, Squares, line_mask};
 use shogi_eval::{Eval, Node, promotion_gain, taken_gain};
 use shogi_moves::{dropped, piece_moved};
@@ -34,7 +34,7 @@ pub fn squares_touched(reply: &Move) -> Squares
     }
 }
 
-/// Squares from which the piece reaches each of some squares, but the one on which it stands.
+/// Squares from which the piece reaches each of some squares.
 pub fn covering_squares(board: &Board, piece: Piece, squares: Squares) -> Squares
     ensures { (n : ℕ) → n < 81 → has_bit result.bits n ≡ false
         → LeavesOne board.now (Some piece) n squares.bits }
@@ -45,10 +45,10 @@ pub fn covering_squares(board: &Board, piece: Piece, squares: Squares) -> Square
     };
     let mut left = squares.bits;
     let mut covered = Squares::all();
-    while left != 0 {
+    while left != 0 && !covered.is_empty() {
         let square = lowest(left);
         let to = Square::of_index(square);
-        covered = covered & board.targets_of(back, to).with(to);
+        covered = covered & board.targets_of(back, to);
         left = without_lowest(left, square);
     }
     covered
@@ -342,7 +342,10 @@ impl Scene {
         ensures among { (n : ℕ) → has_bit result.bits n ≡ true → has_bit squares.bits n ≡ true }
         ensures idle { AreIdleIn self.now (Some piece) result.bits }
     {
-        let forbidden = self.forbidden_squares(piece, self.squares, is_promotable(piece.role));
+        let near_zone = squares & squares_near_zone(self.side());
+        let promotes = is_promotable(piece.role)
+            && (piece.role.is_sliding() || !near_zone.is_empty());
+        let forbidden = self.forbidden_squares(piece, self.squares, promotes);
         let mut left = squares.bits;
         let mut kept = squares.bits;
         while left != 0 {
@@ -395,7 +398,11 @@ impl Scene {
     {
         match self.standing.at(from) {
             Some(piece) => {
-                let idle = self.lifted(from).idle_squares(piece, targets & ends);
+                let met = targets & ends;
+                if met.is_empty() {
+                    return ends;
+                }
+                let idle = self.lifted(from).idle_squares(piece, met);
                 ends.without(targets) | idle
             }
             None => Squares::none(),

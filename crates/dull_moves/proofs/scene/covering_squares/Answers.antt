@@ -11,8 +11,8 @@ loop-left-init c = record {
 
 pub loop-left-preserved : goal.loop-left-preserved
 loop-left-preserved c = record {
-  covers = rw c.bitand-covered.ensures (covers_next c.args.board.now c.args.piece c.args.squares.bits c.loop-left.left c.without_lowest-left.result c.loop-left.covered.bits c.targets_of.result.bits c.with.result.bits c.lowest-square.result
+  covers = rw c.bitand-covered.ensures (covers_next c.args.board.now c.args.piece c.args.squares.bits c.loop-left.left c.without_lowest-left.result c.loop-left.covered.bits c.targets_of.result.bits c.lowest-square.result
       c.loop-left.invariant.covers c.without_lowest-left.ensures.bits c.lowest-square.ensures.range c.lowest-square.ensures.set
-      (rw (c.opponent.ensures, c.of_index-to.ensures) at c.targets_of.ensures.squares) (rw c.of_index-to.ensures at c.with.ensures));
+      (rw (c.opponent.ensures, c.of_index-to.ensures) at c.targets_of.ensures.squares));
   left = omega (arith, c.without_lowest-left.ensures.less, c.loop-left.invariant.left);
 }

@@ -1,19 +1,19 @@
 use Rattle.std.proofs.Common.{◌≡◌, ℕ, ap, subst, sym, ◌∙◌, Option, Some}
-use Rattle.std.proofs.lemmas.Bool.{both_ways}
+use Rattle.std.proofs.lemmas.Bool.{both_ways, eqb-true}
 use Rattle.shogi_core.specs.declared.piece.Piece.{Piece}
 use Rattle.shogi_core.specs.Bits.{has_bit}
 use Rattle.shogi_core.specs.Movement.{piece_at}
 use Rattle.shogi_core.proofs.BitLaws.{has_bit-none}
 use Rattle.dull_moves.specs.Dull.{IsIdle, lifted}
 use Rattle.dull_moves.specs.Scenes.{place_in}
-use Rattle.dull_moves.proofs.SceneLaws.{idle_alike, merged_among, merged_idle}
+use Rattle.dull_moves.proofs.SceneLaws.{idle_alike, merged_among, merged_idle, none_in}
 use Rattle.dull_moves.proofs.scene.Scene.idle_ends_of.Goals as goal
 
-pub returns-in-Some-clause-among : goal.returns-in-Some-clause-among
-returns-in-Some-clause-among c = λ n set. merged_among c.args.ends.bits c.args.targets.bits c.idle_squares-idle.result.bits n (rw c.bitand.ensures at c.idle_squares-idle.ensures.among) (rw (c.bitor.ensures, c.without.ensures) at set)
+pub returns-else-is_empty-clause-among : goal.returns-else-is_empty-clause-among
+returns-else-is_empty-clause-among c = λ n set. merged_among c.args.ends.bits c.args.targets.bits c.idle_squares-idle.result.bits n (rw c.bitand-met.ensures at c.idle_squares-idle.ensures.among) (rw (c.bitor.ensures, c.without.ensures) at set)
 
-pub returns-in-Some-clause-idle : goal.returns-in-Some-clause-idle
-returns-in-Some-clause-idle c = λ to h set on.
+pub returns-else-is_empty-clause-idle : goal.returns-else-is_empty-clause-idle
+returns-else-is_empty-clause-idle c = λ to h set on.
     let is : piece_at c.args.self.now.standing c.args.from ≡ Some c.in-Some.piece = sym c.at.ensures ∙ c.in-Some.is in
     subst (λ (cell : Option Piece). IsIdle (lifted (place_in c.args.self.now) c.args.from) c.args.self.now.node.eval c.args.self.now.gains c.args.self.now.king c.args.self.now.squares.bits cell to) (sym is)
     (idle_alike c.args.self.now c.lifted.result c.args.from (Some c.in-Some.piece) to c.lifted.ensures.standing c.lifted.ensures.unchanged
@@ -24,3 +24,9 @@ returns-in-None-clause-among c = λ n set. absurd (both_ways (has_bit c.none.res
 
 pub returns-in-None-clause-idle : goal.returns-in-None-clause-idle
 returns-in-None-clause-idle c = λ n h set on. absurd (both_ways (has_bit c.none.result.bits n) (ap (λ (m : ℕ). has_bit m n) c.none.ensures ∙ has_bit-none n) set)
+
+pub returns-then-is_empty-clause-among : goal.returns-then-is_empty-clause-among
+returns-then-is_empty-clause-among c = λ n set. set
+
+pub returns-then-is_empty-clause-idle : goal.returns-then-is_empty-clause-idle
+returns-then-is_empty-clause-idle c = λ to h set on. absurd (both_ways (has_bit c.args.ends.bits to) (none_in c.args.targets.bits c.args.ends.bits to (sym c.bitand-met.ensures ∙ eqb-true _ _ (sym c.is_empty.ensures ∙ c.if-is_empty.true)) on) set)
