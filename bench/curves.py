@@ -1,14 +1,14 @@
 #!/usr/bin/env python3
-"""Measures three positions with `bench_measure`: the time of a search against its depth, and the steps of a
-search against the size of its table. Prints both as tables, and writes the plots of docs/BENCHMARKS.md and
-the machine. The program `bench_measure` has to be built: bench/rates.sh does that."""
+"""Measures three positions by `bench_jobs`: the time of a search against its depth, and the steps of a search
+against the size of its table. Prints both as tables, and writes the plots of docs/BENCHMARKS.md and the
+machine. The program has to be built: bench/rates.sh does that."""
 
 import os
 import subprocess
 
 from report import TOP, machine, plot, put, table
 
-MEASURE = os.path.join(TOP, "crates", "bench_measure", "out", "bench_measure")
+JOBS = os.path.join(TOP, "crates", "bench_jobs", "out", "bench_jobs")
 POSITIONS = {
     "opening": "startpos",
     "middle game": "l6nl/5+P1gk/2np1S3/p1p4Pp/3P2Sp1/1PPb2P1P/P5GS1/R8/LN4bKL w RGgsn5p 1",
@@ -23,7 +23,7 @@ TRIES = 15
 def search(name, depth, entries):
     """The steps of a search, and its time in milliseconds."""
     line = f"search {depth} {entries} {POSITIONS[name]}\n"
-    ended = subprocess.run([MEASURE], input=line, stdout=subprocess.PIPE, text=True, check=True)
+    ended = subprocess.run([JOBS, "measure"], input=line, stdout=subprocess.PIPE, text=True, check=True)
     answer = ended.stdout.split()
     return int(answer[4]), float(answer[5]) * 1000
 

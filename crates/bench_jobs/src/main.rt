@@ -1,5 +1,5 @@
 //! The jobs of the benchmark: does one of them on games that it reads from standard input, and prints
-//! how much was answered and a digest of it.
+//! how much was answered and a digest of it. The job `measure` answers requests instead.
 #![tactic(auto)]
 
 mod clients;
@@ -7,7 +7,9 @@ mod count;
 mod digest;
 mod game;
 mod library;
+mod measure;
 mod random;
+mod request;
 mod session;
 
 use crate::digest::Digest;
@@ -31,16 +33,22 @@ fn run(rt: &HostRuntime, name: &str, games: &[Game], random: &mut Random) -> Res
     Ok(digest)
 }
 
+/// Does the job of this name on the games of standard input, and prints the digest.
+fn run_on_games(rt: &HostRuntime, name: &str, seed: &str) -> Result<()> {
+    let seed = seed.parse::<u32>()?;
+    let games = read_games(rt)?;
+    let mut random = Random::new(u64::from(seed));
+    let digest = run(rt, name, games.as_slice(), &mut random)?;
+    println!(rt; "{digest}")?;
+    Ok(())
+}
+
 fn main(rt: HostRuntime) -> Result<()> {
     let mut words = env::args(&rt)?;
     let _program = words.next();
-    let (Some(name), Some(seed)) = (words.next(), words.next()) else {
-        bail!("there have to be two words: a job and a seed");
-    };
-    let seed = seed.as_str().parse::<u32>()?;
-    let games = read_games(&rt)?;
-    let mut random = Random::new(u64::from(seed));
-    let digest = run(&rt, name.as_str(), games.as_slice(), &mut random)?;
-    println!(rt; "{digest}")?;
-    Ok(())
+    match (words.next(), words.next()) {
+        (Some(name), None) if name.as_str() == "measure" => measure::measure(&rt),
+        (Some(name), Some(seed)) => run_on_games(&rt, name.as_str(), seed.as_str()),
+        _ => bail!("there have to be two words, a job and a seed, or the word measure"),
+    }
 }

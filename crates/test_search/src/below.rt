@@ -1,10 +1,9 @@
-//! Searches below a bound: against plain minimax, the search written plainly, and themselves in slices.
+//! Searches below a bound: against plain minimax, and themselves in slices.
 
-use crate::counted::{Counted, over_none, over_table};
 use crate::forgetful::Forgetful;
-use crate::plain::{branches_of, minimax, search_on, search_plainly_below};
+use crate::plain::{children_of, minimax};
 use crate::positions::{each_twentieth, position};
-use crate::searches::{TestSearch, brief, code_of, has_few, search, search_below};
+use crate::searches::{TestSearch, brief, has_few, search, search_below};
 use crate::tables::{TWO_PAWNS, table_of};
 use shogi_core::Position;
 use shogi_eval::Eval;
@@ -102,29 +101,22 @@ fn third_game_below(rt: HostRuntime) -> Result<(), Fail> {
     walk(&rt, rt.alloc(), games::third())
 }
 
-// The search below each of four bounds, and the plain one.
-fn assert_bounds<M: Memo>(
-    rt: &impl Abort,
-    alloc: Global,
-    p: &Position,
-    depth: u8,
-    both: &mut Counted<M>,
-) -> Result<(), Fail> {
+// Below each of four bounds, one search after another.
+fn assert_bounds<M: Memo>(rt: &impl Abort, p: &Position, depth: u8, plain: &Found, memo: &mut M) {
     for beta in [-30999, 0, 1, 200] {
-        let found = search_below(p, Eval::Plain, depth, beta, &mut both.recorder);
-        let plain = search_plainly_below(alloc, p, Eval::Plain, depth, beta, &mut both.notes)?;
-        both.take_in(rt, &found, plain, beta);
+        let found = search_below(p, Eval::Plain, depth, beta, memo);
+        assert_below(rt, &found, plain, beta);
     }
-    Ok(())
 }
 
 #[test]
-fn steps_below_a_bound(rt: HostRuntime) -> Result<(), Fail> {
+fn bounds_over_tables(rt: HostRuntime) -> Result<(), Fail> {
     for (p, depth) in [(Position::start(), 4u8), (position(TWO_PAWNS)?, 5)] {
-        assert_bounds(&rt, rt.alloc(), &p, depth, &mut over_none(rt.alloc()))?;
+        let plain = minimax(&p, Eval::Plain, depth);
+        assert_bounds(&rt, &p, depth, &plain, &mut NoMemo);
         for capacity in [1, 30, 1000] {
-            let mut both = over_table(rt.alloc(), capacity)?;
-            assert_bounds(&rt, rt.alloc(), &p, depth, &mut both)?;
+            let mut table = table_of(rt.alloc(), capacity)?;
+            assert_bounds(&rt, &p, depth, &plain, &mut table);
         }
     }
     Ok(())
@@ -137,66 +129,26 @@ fn assert_children<M: Memo>(
     alloc: Global,
     p: &Position,
     depth: u8,
-    both: &mut Counted<M>,
+    memo: &mut M,
 ) -> Result<(), Fail> {
     let mut search = TestSearch::start(p, Eval::Plain, 0);
     let mut beta = INFINITY;
-    for branch in branches_of(alloc, p, [None; 6])?.as_slice() {
-        let next = branch.position;
-        search.restart_below(&next, Eval::Plain, depth, beta);
-        let found = search
-            .advance(&mut both.recorder, u64::MAX)
-            .ok_or("an end")?;
-        let plain = search_on(alloc, &next, Eval::Plain, depth, beta, &mut both.notes)?;
-        both.take_in(rt, &found, plain, beta);
+    for child in children_of(alloc, p)?.as_slice() {
+        search.restart_below(&child.position, Eval::Plain, depth, beta);
+        let found = search.advance(memo, u64::MAX).ok_or("an end")?;
+        let plain = minimax(&child.position, Eval::Plain, depth);
+        assert_below(rt, &found, &plain, beta);
         beta = i32::min(beta, found.value);
     }
     Ok(())
 }
 
-// What refuted one move is visited first after the next one.
 #[test]
-fn steps_of_one_search_after_another(rt: HostRuntime) -> Result<(), Fail> {
+fn one_search_after_another(rt: HostRuntime) -> Result<(), Fail> {
     for (p, depth) in [(Position::start(), 3u8), (position(TWO_PAWNS)?, 4)] {
-        assert_children(&rt, rt.alloc(), &p, depth, &mut over_none(rt.alloc()))?;
-        let mut both = over_table(rt.alloc(), 1000)?;
-        assert_children(&rt, rt.alloc(), &p, depth, &mut both)?;
-    }
-    Ok(())
-}
-
-// One search in the room of another, each a ply deeper, with the best moves of the two before to visit
-// first, as a `go` makes them.
-fn assert_deeper<M: Memo>(
-    rt: &impl Abort,
-    alloc: Global,
-    p: &Position,
-    deepest: u8,
-    both: &mut Counted<M>,
-) -> Result<(), Fail> {
-    let mut search = TestSearch::start(p, Eval::Plain, 0);
-    let mut best_moves = [None; 2];
-    for depth in 1..=deepest {
-        search.restart(p, Eval::Plain, depth);
-        search.advise([best_moves[0], best_moves[1]]);
-        both.notes.advised = [code_of(&best_moves[0]), code_of(&best_moves[1])];
-        let found = search
-            .advance(&mut both.recorder, u64::MAX)
-            .ok_or("an end")?;
-        let plain = search_on(alloc, p, Eval::Plain, depth, INFINITY, &mut both.notes)?;
-        both.take_in(rt, &found, plain, i32::from(depth));
-        best_moves = [best_moves[1], found.best];
-    }
-    Ok(())
-}
-
-#[test]
-fn steps_of_one_search_after_another_that_is_less_deep(rt: HostRuntime) -> Result<(), Fail> {
-    for (p, deepest) in [(Position::start(), 4u8), (position(TWO_PAWNS)?, 6)] {
-        for capacity in [1usize, 30, 1000] {
-            let mut both = over_table(rt.alloc(), capacity)?;
-            assert_deeper(&rt, rt.alloc(), &p, deepest, &mut both)?;
-        }
+        assert_children(&rt, rt.alloc(), &p, depth, &mut NoMemo)?;
+        let mut table = table_of(rt.alloc(), 1000)?;
+        assert_children(&rt, rt.alloc(), &p, depth, &mut table)?;
     }
     Ok(())
 }

@@ -1,6 +1,6 @@
 //! What is known at once of a node with one ply left, in windows around its value.
 
-use crate::plain::{branches_of, minimax};
+use crate::plain::{children_of, minimax};
 use crate::positions::{each_twentieth, position};
 use last_ply::last_ply;
 use shogi_core::Position;
@@ -55,8 +55,8 @@ fn assert_known(rt: &impl Abort, p: &Position, e: Eval) {
 fn assert_known_around(rt: &impl Abort, alloc: Global, p: &Position) -> Result<(), Fail> {
     for e in [Eval::Plain, Eval::Hand, Eval::Exchange] {
         assert_known(rt, p, e);
-        for branch in branches_of(alloc, p, [None; 6])?.as_slice() {
-            assert_known(rt, &branch.position, e);
+        for child in children_of(alloc, p)?.as_slice() {
+            assert_known(rt, &child.position, e);
         }
     }
     Ok(())

@@ -1,5 +1,4 @@
-//! Tests of the search over a memory: agreement with plain minimax, counts of steps, what is asked and
-//! noted, and slices.
+//! Tests of the search over a memory: agreement with plain minimax, what is asked and noted, and slices.
 #![tactic(auto)]
 
 #[cfg(test)]
@@ -8,12 +7,6 @@ mod agreement;
 mod assertions;
 #[cfg(test)]
 mod below;
-#[cfg(test)]
-mod counted;
-#[cfg(test)]
-mod counts;
-#[cfg(test)]
-mod dull;
 #[cfg(test)]
 mod exchanges;
 #[cfg(test)]
@@ -46,3 +39,5 @@ mod table_rows;
 mod tables;
 #[cfg(test)]
 mod turns;
+#[cfg(test)]
+mod values;

@@ -1,8 +1,8 @@
-//! Lists of several lines, each child searched below the bound that its place in the list needs: against a
-//! plain ranking, and in how many steps.
+//! Lists of several lines, each child searched below the bound that its place in the list needs, against a
+//! plain ranking.
 
-use crate::plain::{Branch, Notes, branches_of, minimax, search_plainly_below};
-use crate::positions::{each_twentieth, position};
+use crate::plain::{Child, children_of, minimax};
+use crate::positions::each_twentieth;
 use crate::ranks::TestRanks;
 use crate::searches::{has_few, search_below};
 use crate::tables::table_of;
@@ -23,22 +23,20 @@ fn child_beta(ranks: &TestRanks) -> i32 {
 }
 
 // Searches the position after a move below its bound, and lists the move where it is worth more than
-// the last line. Gives the bound and the steps.
+// the last line.
 fn take_in<M: Memo>(
     rt: &impl Abort,
     ranks: &mut TestRanks,
-    branch: &Branch,
-    e: Eval,
+    child: &Child,
     depth: u8,
     memo: &mut M,
-) -> (i32, u64) {
+) {
     let beta = child_beta(ranks);
-    let found = search_below(&branch.position, e, depth, beta, memo);
+    let found = search_below(&child.position, Eval::Plain, depth, beta, memo);
     if found.value < beta {
-        let m = Move::of_code(branch.code).expect(rt, "a move");
+        let m = Move::of_code(child.code).expect(rt, "a move");
         ranks.offer(rt, m, found.value.saturating_neg());
     }
-    (beta, found.steps)
 }
 
 // A move of the code and the worth stands on the line: so many other moves are worth more, or as much
@@ -69,10 +67,10 @@ fn assert_ranked<M: Memo>(
 ) -> Result<(), Fail> {
     let mut ranks = TestRanks::new(lines);
     let mut worths = Vec::new(alloc);
-    for branch in branches_of(alloc, p, [None; 6])?.as_slice() {
-        take_in(rt, &mut ranks, branch, Eval::Plain, depth, memo);
-        let plain = minimax(&branch.position, Eval::Plain, depth);
-        worths.push((branch.code, plain.value.saturating_neg()))?;
+    for child in children_of(alloc, p)?.as_slice() {
+        take_in(rt, &mut ranks, child, depth, memo);
+        let plain = minimax(&child.position, Eval::Plain, depth);
+        worths.push((child.code, plain.value.saturating_neg()))?;
     }
     same!(*rt; ranks.list().len(), worths.len().min(lines));
     for (line, (m, value)) in ranks.list().iter().enumerate() {
@@ -105,49 +103,4 @@ fn lines_of_the_first_game(rt: HostRuntime) -> Result<(), Fail> {
 #[test]
 fn lines_of_the_second_game(rt: HostRuntime) -> Result<(), Fail> {
     walk(&rt, rt.alloc(), games::second())
-}
-
-// The children of a position take the steps of the plain search below the same bounds.
-fn assert_steps(
-    rt: &impl Abort,
-    alloc: Global,
-    p: &Position,
-    depth: u8,
-    lines: usize,
-) -> Result<(), Fail> {
-    let mut ranks = TestRanks::new(lines);
-    let mut notes = Notes::new(alloc, 0, false);
-    let mut steps: u64 = 0;
-    for branch in branches_of(alloc, p, [None; 6])?.as_slice() {
-        let (beta, made) = take_in(rt, &mut ranks, branch, Eval::Plain, depth, &mut NoMemo);
-        steps = steps.saturating_add(made);
-        let p = &branch.position;
-        search_plainly_below(alloc, p, Eval::Plain, depth, beta, &mut notes)?;
-    }
-    same!(*rt; steps, notes.steps, lines);
-    Ok(())
-}
-
-// The same for lists of 1, 2, 4 and 8 lines.
-fn assert_steps_of_lines(
-    rt: &impl Abort,
-    alloc: Global,
-    p: &Position,
-    depth: u8,
-) -> Result<(), Fail> {
-    for lines in [1usize, 2, 4, 8] {
-        assert_steps(rt, alloc, p, depth, lines)?;
-    }
-    Ok(())
-}
-
-#[test]
-fn steps_of_several_lines_from_the_opening(rt: HostRuntime) -> Result<(), Fail> {
-    assert_steps_of_lines(&rt, rt.alloc(), &Position::start(), 3)
-}
-
-#[test]
-fn steps_of_several_lines_in_a_middle_game(rt: HostRuntime) -> Result<(), Fail> {
-    let sfen = "l6nl/5+P1gk/2np1S3/p1p4Pp/3P2Sp1/1PPb2P1P/P5GS1/R8/LN4bKL w RGgsn5p";
-    assert_steps_of_lines(&rt, rt.alloc(), &position(sfen)?, 2)
 }

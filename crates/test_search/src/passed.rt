@@ -1,6 +1,6 @@
 //! Moves that are passed near the leaves, where it is easy to pass one too many.
 
-use crate::plain::{Notes, branches_of, minimax, search_plainly};
+use crate::plain::{children_of, minimax};
 use crate::positions::position;
 use crate::searches::{brief, has_few, search, search_below};
 use shogi_core::Position;
@@ -90,45 +90,27 @@ const PLACES: [(&str, (i32, &str), (i32, &str)); 12] = [
     ),
 ];
 
-// The search finds the value and the best move of plain minimax, in as many steps as the search
-// written plainly.
-fn assert_agrees(
-    rt: &impl Abort,
-    alloc: Global,
-    p: &Position,
-    e: Eval,
-    depth: u8,
-) -> Result<(), Fail> {
+// The search finds the value and the best move of plain minimax.
+fn assert_agrees(rt: &impl Abort, p: &Position, e: Eval, depth: u8) {
     let found = search(p, e, depth, &mut NoMemo);
-    holds!(*rt; brief(&found) == brief(&minimax(p, e, depth)), depth);
-    let mut notes = Notes::new(alloc, 0, false);
-    search_plainly(alloc, p, e, depth, &mut notes)?;
-    same!(*rt; found.steps, notes.steps, depth);
-    Ok(())
+    same!(*rt; brief(&found), brief(&minimax(p, e, depth)), depth);
 }
 
 // The same at depths 1 to 3, with this value and best move at depth 2.
-fn assert_found(
-    rt: &impl Abort,
-    alloc: Global,
-    p: &Position,
-    e: Eval,
-    (value, text): (i32, &str),
-) -> Result<(), Fail> {
+fn assert_found(rt: &impl Abort, p: &Position, e: Eval, (value, text): (i32, &str)) {
     for depth in 1..4u8 {
-        assert_agrees(rt, alloc, p, e, depth)?;
+        assert_agrees(rt, p, e, depth);
     }
     let found = search(p, e, 2, &mut NoMemo);
     holds!(*rt; found.value == value && found.best == read_move(text.as_bytes()), text);
-    Ok(())
 }
 
 #[test]
 fn places_where_a_move_is_easily_passed(rt: HostRuntime) -> Result<(), Fail> {
     for (sfen, plain, hand) in PLACES {
         let p = position(sfen)?;
-        assert_found(&rt, rt.alloc(), &p, Eval::Plain, plain)?;
-        assert_found(&rt, rt.alloc(), &p, Eval::Hand, hand)?;
+        assert_found(&rt, &p, Eval::Plain, plain);
+        assert_found(&rt, &p, Eval::Hand, hand);
     }
     Ok(())
 }
@@ -147,10 +129,10 @@ fn every_move_passed(rt: HostRuntime) {
 
 // One of the positions after a move of this one, by chance.
 fn after_some_move(alloc: Global, p: &Position, random: &mut Random) -> Result<Position, Fail> {
-    let branches = branches_of(alloc, p, [None; 6])?;
-    let place = random.below(branches.len().max(1) as u64) as usize;
-    match branches.as_slice().get(place) {
-        Some(branch) => Ok(branch.position),
+    let children = children_of(alloc, p)?;
+    let place = random.below(children.len().max(1) as u64) as usize;
+    match children.as_slice().get(place) {
+        Some(child) => Ok(child.position),
         None => Ok(*p),
     }
 }
@@ -166,7 +148,7 @@ fn random_games(rt: HostRuntime) -> Result<(), Fail> {
                 let is_short = depth < 3 || at % 4 == 0;
                 if is_short && has_few(&p, depth.saturating_sub(1), 1000) {
                     for e in [Eval::Plain, Eval::Hand] {
-                        assert_agrees(&rt, rt.alloc(), &p, e, depth)?;
+                        assert_agrees(&rt, &p, e, depth);
                     }
                 }
             }

@@ -1,4 +1,4 @@
-//! A memory that records its calls and leaves the rest to another one.
+//! A memory that records its calls and leaves the rest to another one. Each depth serves it.
 
 use shogi_core::Position;
 use shogi_eval::Eval;
@@ -18,25 +18,13 @@ pub struct Call {
 #[derive(Drop)]
 pub struct Recorder<M: Memo> {
     memo: M,
-    asks_all: bool,
     calls: Vec<Call>,
 }
 
 impl<M: Memo> Recorder<M> {
-    /// One that each depth serves.
     pub fn new(alloc: Global, memo: M) -> Recorder<M> {
         Recorder {
             memo,
-            asks_all: true,
-            calls: Vec::new(alloc),
-        }
-    }
-
-    /// One that the depths serve that serve the other memory.
-    pub fn sparing(alloc: Global, memo: M) -> Recorder<M> {
-        Recorder {
-            memo,
-            asks_all: false,
             calls: Vec::new(alloc),
         }
     }
@@ -49,10 +37,6 @@ impl<M: Memo> Recorder<M> {
 
 impl<M: Memo> Memo for Recorder<M> {
     ghost answers = { λ recorder p e d. M.answers recorder.memo p e d };
-
-    fn serves(&self, d: u8) -> bool {
-        self.asks_all || self.memo.serves(d)
-    }
 
     fn probe(&mut self, p: &Position, e: Eval, d: u8) -> Option<Entry> {
         let _ = self.calls.push(Call {

@@ -35,15 +35,7 @@ pub fn search_below<M: Memo>(p: &Position, e: Eval, depth: u8, beta: i32, memo: 
 
 /// The value, and the code of the best move.
 pub fn brief(found: &Found) -> (i32, Option<u16>) {
-    (found.value, code_of(&found.best))
-}
-
-/// The code of a move, where there is one.
-pub fn code_of(m: &Option<Move>) -> Option<u16> {
-    match m {
-        Some(m) => Some(m.code()),
-        None => None,
-    }
+    (found.value, found.best.map(|m| m.code()))
 }
 
 /// Whether there are at most so many sequences of so many moves.

@@ -1,6 +1,6 @@
 //! What a search leaves in a table, and what it finds there.
 
-use crate::plain::branches_of;
+use crate::plain::children_of;
 use crate::positions::position;
 use crate::searches::search;
 use shared_table::{SharedTable, TableFault};
@@ -39,8 +39,8 @@ pub fn note_search<M: Memo>(memo: &mut M, p: &Position, depth: u8) {
 /// that are not left out are answered, and it is left.
 fn steps_over_children(alloc: Global, root: &Position, depth: u8) -> Result<u64, Fail> {
     let mut table = table_of(alloc, 100000)?;
-    for branch in branches_of(alloc, root, [None; 6])?.as_slice() {
-        search(&branch.position, Eval::Plain, depth, &mut table);
+    for child in children_of(alloc, root)?.as_slice() {
+        search(&child.position, Eval::Plain, depth, &mut table);
     }
     Ok(search(root, Eval::Plain, depth.saturating_add(1), &mut table).steps)
 }
@@ -54,7 +54,7 @@ fn assert_answered(
     count: usize,
     depths: u8,
 ) -> Result<(), Fail> {
-    same!(*rt; branches_of(alloc, root, [None; 6])?.len(), count);
+    same!(*rt; children_of(alloc, root)?.len(), count);
     for depth in 0..depths {
         let wanted = match depth {
             0 => 1,
@@ -78,8 +78,8 @@ fn left_of(alloc: Global, root: &Position, depth: u8) -> Result<usize, Fail> {
     let mut table = table_of(alloc, 100000)?;
     search(root, Eval::Plain, depth.saturating_add(1), &mut table);
     let mut entries = 0usize;
-    for branch in branches_of(alloc, root, [None; 6])?.as_slice() {
-        let is_left = table.peek(&branch.position, Eval::Plain, depth).is_some();
+    for child in children_of(alloc, root)?.as_slice() {
+        let is_left = table.peek(&child.position, Eval::Plain, depth).is_some();
         entries = entries.saturating_add(usize::from(is_left));
     }
     Ok(entries)
@@ -91,12 +91,12 @@ fn assert_exactly_left(rt: &impl Abort, alloc: Global, root: &Position) -> Resul
     let mut table = table_of(alloc, 100000)?;
     let found = search(root, Eval::Plain, 3, &mut table);
     let best = found.best.map(|m| m.code()).ok_or("a move")?;
-    for branch in branches_of(alloc, root, [None; 6])?.as_slice() {
-        match table.peek(&branch.position, Eval::Plain, 2) {
+    for child in children_of(alloc, root)?.as_slice() {
+        match table.peek(&child.position, Eval::Plain, 2) {
             Some(Entry::Exact(value, _)) => {
-                holds!(*rt; branch.code != best || value.saturating_neg() == found.value);
+                holds!(*rt; child.code != best || value.saturating_neg() == found.value);
             }
-            left => holds!(*rt; branch.code != best && left.is_none(), branch.code),
+            left => holds!(*rt; child.code != best && left.is_none(), child.code),
         }
     }
     Ok(())

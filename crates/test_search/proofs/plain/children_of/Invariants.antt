@@ -1,5 +1,5 @@
 use Rattle.std.proofs.Common.{◌≡◌, length}
-use Rattle.test_search.proofs.plain.branches_of.Given as goal
+use Rattle.test_search.proofs.plain.children_of.Given as goal
 
 abbrev pub invariant-moves : goal.invariant-moves
 invariant-moves l = l.walk.position ≡ l.p
