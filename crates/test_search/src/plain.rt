@@ -19,9 +19,10 @@ pub fn children_of(alloc: Global, p: &Position) -> Result<Vec<Child>, AllocError
     let mut children = Vec::new(alloc);
     let mut walk = Walk::new(p);
     'moves: while let Some(m) = walk.next() {
+        let tried = m;
         children.push(Child {
             code: m.code(),
-            position: apply(p, m),
+            position: apply(p, tried),
         })?;
     }
     Ok(children)
