@@ -16,6 +16,6 @@ pub fn replay_script<A: Allocator + Copy, T: FrontEnd>(
     ensures { OnOk result
         (Replays default_setup 64 (T.report front_end.old) (T.report front_end.new)) }
 {
-    let (slots, entries, slice) = (64, 4096, 500);
+    let (slots, entries, slice) = (64, 4096, 300);
     replay(alloc, front_end, slots, entries, slice)
 }

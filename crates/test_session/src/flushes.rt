@@ -35,9 +35,8 @@ fn assert_begun(rt: &impl Abort, writer: &NotingWriter) -> Result<(), Fail> {
     Ok(())
 }
 
-// Depth 1 takes a step, and depth 5 more than 500: each of the 30 first moves has a reply after which all moves
-// are gone through, with a step for each, and there are at least 23 of them. So the first slice is written before
-// the search at depth 5 has made its last step.
+// Depth 1 takes a step, and depth 5 more than a slice: the kept counts of steps tell (`bench_jobs`). So the first
+// slice is written before the search at depth 5 has made its last step.
 #[test]
 fn lines_are_flushed_as_they_are_found(rt: HostRuntime) -> Result<(), Fail> {
     let writer = noted(rt.alloc(), b"go depth 5\n", 4096)?;

@@ -75,7 +75,7 @@ abbrev stdio_rows : List Row
 stdio_rows = row (codes "entries") (codes "4096") ∷ setup_rows
 
 abbrev replay_rows : List Row
-replay_rows = row (codes "slots") (codes "64") ∷ row (codes "entries") (codes "4096") ∷ row (codes "slice") (codes "500") ∷ setup_rows
+replay_rows = row (codes "slots") (codes "64") ∷ row (codes "entries") (codes "4096") ∷ row (codes "slice") (codes "300") ∷ setup_rows
 
 pub stdio_faults : faults_of (codes "stdio" ∷ []) ≡ []
 unfolding clap_on_literals
@@ -243,8 +243,8 @@ is_16 = ((lit< tt, (lit< tt, (lit< tt, tt))), refl)
 is_1 : IsNumber (codes "1") 1
 is_1 = ((lit< tt, (lit< tt, tt)), refl)
 
-is_500 : IsNumber (codes "500") 500
-is_500 = ((lit< tt, (lit< tt, (lit< tt, (lit< tt, tt)))), refl)
+is_300 : IsNumber (codes "300") 300
+is_300 = ((lit< tt, (lit< tt, (lit< tt, (lit< tt, tt)))), refl)
 
 stdio_entries : NamesNumber (codes "entries") stdio_rows 4096
 stdio_entries = (codes "4096", refl, is_4096)
@@ -285,18 +285,18 @@ replay_slots = (codes "64", refl, is_64)
 replay_entries : NamesNumber (codes "entries") replay_rows 4096
 replay_entries = (codes "4096", refl, is_4096)
 
-replay_slice : NamesNumber (codes "slice") replay_rows 500
-replay_slice = (codes "500", refl, is_500)
+replay_slice : NamesNumber (codes "slice") replay_rows 300
+replay_slice = (codes "300", refl, is_300)
 
 replay_setup : NamesSetup replay_rows usual_setup
 replay_setup = (inr (refl, refl), (codes "16", refl, is_16), (codes "1", refl, is_1), refl)
 
-replay_only : (job : Job) → IsReplayOf replay_rows job → job ≡ Replay 64 4096 500 usual_setup
+replay_only : (job : Job) → IsReplayOf replay_rows job → job ≡ Replay 64 4096 300 usual_setup
 replay_only (Stdio entries setup) is = absurd is
 replay_only (Replay slots entries slice setup) is =
     let a : slots ≡ 64 = names_once (codes "slots") replay_rows slots 64 is.0 replay_slots in
     let b : entries ≡ 4096 = names_once (codes "entries") replay_rows entries 4096 is.1 replay_entries in
-    let c : slice ≡ 500 = names_once (codes "slice") replay_rows slice 500 is.2 replay_slice in
+    let c : slice ≡ 300 = names_once (codes "slice") replay_rows slice 300 is.2 replay_slice in
     let d : setup ≡ usual_setup = setup_once replay_rows setup usual_setup is.3 replay_setup in
     λ k. Replay (a k) (b k) (c k) (d k)
 replay_only (Serve socket status slots entries slice turns setup) is = absurd is
@@ -305,7 +305,7 @@ replay_only (Moves sfen) is = absurd is
 replay_only (Help text) is = absurd is
 replay_only Version is = absurd is
 
-replay_names : (job : Job) → NamesJob (Some (codes "replay", replay_rows)) job → job ≡ Replay 64 4096 500 usual_setup
+replay_names : (job : Job) → NamesJob (Some (codes "replay", replay_rows)) job → job ≡ Replay 64 4096 300 usual_setup
 replay_names job (inl is) = let bad : codes "replay" ≡ codes "stdio" = is.0 in cc
 replay_names job (inr (inl is)) = replay_only job is.1
 replay_names job (inr (inr (inl is))) = let bad : codes "replay" ≡ codes "serve" = is.0 in cc
@@ -316,7 +316,7 @@ pub gives_replay : (arguments : List Text) (r : Result Job ArgumentsFault)
     → arguments ≡ codes "replay" ∷ []
     → IfOk r (IsAskedBy arguments) → IfErr r (IsRefusedFor arguments) → GivesReplay r
 gives_replay arguments r is asked refused =
-    gives_of (codes "replay" ∷ []) (Replay 64 4096 500 usual_setup) (Some (codes "replay", replay_rows)) r replay_faults replay_command_is (inr (Plain, refl))
+    gives_of (codes "replay" ∷ []) (Replay 64 4096 300 usual_setup) (Some (codes "replay", replay_rows)) r replay_faults replay_command_is (inr (Plain, refl))
     (inr (inl (refl, (replay_slots, replay_entries, replay_slice, replay_setup)))) ((lit≤ tt, lit≤ tt), (lit≤ tt, lit≤ tt), (lit≤ tt, lit≤ tt), usual_ranges)
     usual_reach replay_names
     (subst (λ (a : List Text). IfOk r (IsAskedBy a)) is asked) (subst (λ (a : List Text). IfErr r (IsRefusedFor a)) is refused)

@@ -191,7 +191,7 @@ Gives job result = (result ≡ Ok job) ⊎ (result ≡ Err OutOfMemory)
 
 -- the job of `replay` with the numbers that it has where none is given, or memory ran out
 abbrev pub GivesReplay : Result Job ArgumentsFault → Type 0
-GivesReplay result = Gives (Replay 64 4096 500 usual_setup) result
+GivesReplay result = Gives (Replay 64 4096 300 usual_setup) result
 
 -- the job of `stdio` with the number that it has where none is given, or memory ran out
 abbrev pub GivesStdio : Result Job ArgumentsFault → Type 0

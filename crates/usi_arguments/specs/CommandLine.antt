@@ -31,9 +31,9 @@ slots_option = number_option (codes "slots") 1024 (codes "64")
 abbrev pub entries_option : Rule
 entries_option = number_option (codes "entries") 1000000 (codes "4096")
 
--- how many steps a session may make in a round: `--slice N`, from 1 to 1000000000, and 500 where it is left out
+-- how many steps a session may make in a round: `--slice N`, from 1 to 1000000000, and 300 where it is left out
 abbrev pub slice_option : Rule
-slice_option = number_option (codes "slice") 1000000000 (codes "500")
+slice_option = number_option (codes "slice") 1000000000 (codes "300")
 
 -- after how many turns the program ends: `--turns N`, from 1 to the greatest number of 64 bits, which it is where it is left out
 abbrev pub turns_option : Rule

@@ -285,7 +285,7 @@ fn slice_option<'a>(alloc: Global) -> Arg<'a>
         alloc,
         "slice",
         1_000_000_000,
-        "500",
+        "300",
         "How many steps a session searches before the others' turn, from 1 to 1000000000",
     )
 }

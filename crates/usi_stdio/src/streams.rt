@@ -26,7 +26,7 @@ use usi_session::{CHUNK_MAX, Session, SessionFault};
 use usi_texts::Setup;
 
 /// The most steps of search before what is queued is written.
-pub const SLICE: u64 = 500;
+pub const SLICE: u64 = 300;
 
 /// Why a run over a front end ended early.
 #[derive(Debug, PartialEq, Eq, Drop, Error)]
