@@ -1,10 +1,12 @@
 -- Calls of a memory, one after another.
-use Rattle.std.proofs.Common.{◌≡◌, ◌≤◌, ◌+◌, ◌-◌, ◌*◌, ◌^◌, ℕ, Option, List, [], ◌∷◌, ◌++◌, refl, subst, sym, arith}
+use Rattle.std.proofs.Common.{◌≡◌, ◌≤◌, ◌+◌, ◌-◌, ◌*◌, ◌^◌, ℕ, Option, List, [], ◌∷◌, ◌++◌, refl, subst, sym, arith, ◌∙◌}
 use Rattle.std.specs.Prelude.{min}
 use Rattle.std.proofs.lemmas.List.Sums.{sum_by-append}
 use Rattle.shogi_core.specs.Position.{Shogi}
 use Rattle.shogi_eval.specs.declared.eval.Eval.{Eval}
 use Rattle.minimax.specs.declared.entry.Entry.{Entry}
+use Rattle.shogi_search.specs.Stack.{OnlyAsks}
+use Rattle.shogi_search.specs.declared.memo.Memo.{Ghosts}
 use Rattle.shogi_search.specs.Calls.{Call, Probe, Note, AreCalled, Asks, CallsInSteps, EndsWith, TellsOnce, question_of, telling_of}
 
 -- calls and then further ones
@@ -87,11 +89,23 @@ at_most called a b s t x y p q k fits = record {
   walked = k.walked;
 }
 
--- questions and further ones
-pub asks_and_asks : {M : Type 0} (called : M → Call → M → Type 0) (a b c : M) (p q r : ℕ)
-    → Asks called a b p → Asks called b c q → p + q ≤ r → Asks called a c r
-asks_and_asks called a b c p q r first second fits =
-    at_most called a c 0 0 0 0 (p + q) r (steps_and_steps called a b c 0 0 0 0 0 0 p q first second) fits
+-- the same of a memory with what it holds at most
+pub only_asks_one : {M : Type 0} (memory : Ghosts M) (a b : M) (p : Shogi) (e : Eval) (d : ℕ) (answer : Option Entry)
+    → memory.called a (Probe p e d answer) b → memory.capacity b ≡ memory.capacity a → OnlyAsks memory a b 1
+only_asks_one memory a b p e d answer one same = record { asked = asks_one memory.called a b p e d answer one; capacity = same }
+
+pub only_asks_none : {M : Type 0} (memory : Ghosts M) (a : M) (most : ℕ) → OnlyAsks memory a a most
+only_asks_none memory a most = record { asked = asks_none memory.called a most; capacity = refl }
+
+pub only_at_most : {M : Type 0} (memory : Ghosts M) (a b : M) (p q : ℕ) → OnlyAsks memory a b p → p ≤ q → OnlyAsks memory a b q
+only_at_most memory a b p q k fits = record { asked = at_most memory.called a b 0 0 0 0 p q k.asked fits; capacity = k.capacity }
+
+pub asks_further : {M : Type 0} (memory : Ghosts M) (a b c : M) (p q r : ℕ)
+    → OnlyAsks memory a b p → OnlyAsks memory b c q → p + q ≤ r → OnlyAsks memory a c r
+asks_further memory a b c p q r first second fits = record {
+  asked = at_most memory.called a c 0 0 0 0 (p + q) r (steps_and_steps memory.called a b c 0 0 0 0 0 0 p q first.asked second.asked) fits;
+  capacity = second.capacity ∙ first.capacity;
+}
 
 -- a step that only asks
 pub asks_in_step : {M : Type 0} (called : M → Call → M → Type 0) (a b : M) (s t x y p : ℕ)

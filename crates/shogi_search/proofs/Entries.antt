@@ -59,3 +59,11 @@ whole_best p eval d beta f h e = h.best_is (let m : f.value <ℤ INFINITY = h.mo
 pub same_truth : (p p' : Shogi) (eval eval' : Eval) (d d' : ℕ) (e : Entry) → p ≡ p' → eval ≡ eval' → d ≡ d' → IsTrueEntry p eval d e → IsTrueEntry p' eval' d' e
 same_truth p p' eval eval' d d' e a k b t =
     subst (λ (x : ℕ). IsTrueEntry p' eval' x e) b (subst (λ (x : Eval). IsTrueEntry p' x d e) k (subst (λ (x : Shogi). IsTrueEntry x eval d e) a t))
+
+-- what is found of the same position, below the same bound
+pub same_found : (p p' : Shogi) (eval eval' : Eval) (d d' : ℕ) (beta beta' : ℤ) (f : Found) → p ≡ p' → eval ≡ eval' → d ≡ d' → beta ≡ beta' → IsFoundBelow p eval d beta f → IsFoundBelow p' eval' d' beta' f
+same_found p p' eval eval' d d' beta beta' f a e h b k =
+    subst (λ (x : Shogi). IsFoundBelow x eval' d' beta' f) a
+    (subst (λ (x : Eval). IsFoundBelow p x d' beta' f) e
+    (subst (λ (x : ℕ). IsFoundBelow p eval x beta' f) h
+    (subst (λ (x : ℤ). IsFoundBelow p eval d x f) b k)))

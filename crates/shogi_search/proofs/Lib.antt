@@ -4,8 +4,10 @@ pub mod Chains
 pub mod Again
 pub mod CallLaws
 pub mod Places
+pub mod Runs
 pub mod NarrowRoots
 pub mod SearchCallLaws
+pub mod SliceLaws
 pub mod Known
 pub mod RankedLaws
 pub mod RankedUse

@@ -18,7 +18,7 @@ use Rattle.shogi_search.specs.declared.stack.Stack.{Stack}
 use Rattle.search_nodes.specs.Frames.{position_after}
 use Rattle.search_nodes.specs.Order.{todo}
 use Rattle.search_nodes.specs.Changes.{IsAt, KeepsAsked, left_of_frame, steps_after}
-use Rattle.shogi_search.specs.Stack.{IsChain, IsChildAfter, IsNarrow, IsStack, OnTop, UsesSteps, parents_of, steps_for, steps_left}
+use Rattle.shogi_search.specs.Stack.{IsChain, IsParentOf, IsNarrow, IsStack, OnTop, UsesSteps, parents_of, steps_for, steps_left}
 use Rattle.shogi_search.proofs.Again.{left_narrow, left_root}
 use Rattle.shogi_search.proofs.Chains.{IsChild, left_above, same_asked}
 use Rattle.shogi_search.proofs.Places.{HasTop, IsBelow, IsTop, below, has_top, left_in, left_read, of_top, on_top, on_with, stack_with, top_with, with_frame}
@@ -137,16 +137,15 @@ left_widened s m f g bound r narrow same =
     of_top (with_frame (with_bound s bound) (s.height - 1) g) g (λ (root : Frame). steps_left (with_frame (with_bound s bound) (s.height - 1) g) + 1 + steps_after root m ≤ steps_left s) there
     (omega (arith, none, tree, left_alone (with_frame (with_bound s bound) (s.height - 1) g) g there r.first (same.1.0 ∙ r.at.depth), asked_kept f g same, left_read s r.top r.is, left_above (left_in s) (parents_of s) (take (s.height - 1) s.frames) f r.parents, left_root s.depth s.bound s.beta f r.at.depth, left_narrow s.depth s.bound s.beta r.top below narrow.1))
 
-pub child_widened : (s : Stack) (m : Move) (f g : Frame) (bound : ℤ) → IsRootBelow s m f → KeepsAsked f g → OnTop s (λ child. OnTop (with_frame (with_bound s bound) (s.height - 1) g) (IsChildAfter child m))
+pub child_widened : (s : Stack) (m : Move) (f g : Frame) (bound : ℤ) → IsRootBelow s m f → KeepsAsked f g → OnTop s (λ child. OnTop (with_frame (with_bound s bound) (s.height - 1) g) (IsParentOf child m))
 child_widened s m f g bound r same =
-    of_top s r.top (λ (child : Frame). OnTop (with_frame (with_bound s bound) (s.height - 1) g) (IsChildAfter child m)) r.is
-    (on_with (with_bound s bound) (s.height - 1) g (IsChildAfter r.top m) (omega (arith, slice_get_within s.frames s.height r.top r.is)) (
-      (let low : 1 < r.top.depth = r.child.at_child.deep in let next : r.top.depth ≡ f.depth - 1 = r.child.at_child.depth in let stays : g.depth ≡ f.depth = same.1.0 in omega (arith, low, next, stays)),
-      (
-        r.child.at_child.position ∙ ap (λ (x : Evaluated). after_code x.position (code_of m)) (sym same.0),
-        (
-          r.child.at_child.eval ∙ ap (λ (x : Evaluated). x.eval) (sym same.0),
-          r.child.at_child.depth ∙ ap (λ (n : ℕ). n - 1) (sym same.1.0),
-        ),
-      ),
-    ))
+    of_top s r.top (λ (child : Frame). OnTop (with_frame (with_bound s bound) (s.height - 1) g) (IsParentOf child m)) r.is
+    (on_with (with_bound s bound) (s.height - 1) g (IsParentOf r.top m) (omega (arith, slice_get_within s.frames s.height r.top r.is)) (record {
+      waits = record {
+        asked = same.1.1.1.1.0 ∙ r.child.asks;
+        deep = (let low : 1 < r.top.depth = r.child.at_child.deep in let next : r.top.depth ≡ f.depth - 1 = r.child.at_child.depth in let stays : g.depth ≡ f.depth = same.1.0 in omega (arith, low, next, stays));
+        position = r.child.at_child.position ∙ ap (λ (x : Evaluated). after_code x.position (code_of m)) (sym same.0);
+        eval = r.child.at_child.eval ∙ ap (λ (x : Evaluated). x.eval) (sym same.0);
+      };
+      depth_is = r.child.at_child.depth ∙ ap (λ (n : ℕ). n - 1) (sym same.1.0);
+    }))

@@ -1,11 +1,12 @@
 -- The stack of a search in slices: the nodes that wait for a child, from the root on, and the node on top.
-use Rattle.std.specs.Prelude.{◌≡◌, ◌==◌, ◌≤◌, ◌≤ℤ◌, ◌<ℤ◌, ℕ, ◌+◌, ◌*◌, ◌-◌, ◌<◌, ℤ, List, [], ◌∷◌, cond, ◌&&◌, not, sum_by, take, slice_get, IsSomeAnd, Option, Some, None}
+use Rattle.std.specs.Prelude.{◌≡◌, ◌==◌, ◌≤◌, ◌≤ℤ◌, ◌<ℤ◌, ℕ, ◌+◌, ◌*◌, ◌-◌, ◌<◌, ℤ, List, [], ◌∷◌, cond, ◌&&◌, not, sum_by, take, slice_get, IsSomeAnd, Option, Some, None, IfSome, IfNone, ◌^◌, min}
 use Rattle.std.specs.Ordering.{int_eq}
 use Rattle.shogi_core.specs.declared.moves.Move.{Move}
 use Rattle.shogi_core.specs.Codes.{code_of}
 use Rattle.shogi_core.specs.Position.{Shogi}
 use Rattle.shogi_core.specs.Validity.{IsValid}
 use Rattle.shogi_moves.specs.After.{after_code}
+use Rattle.shogi_eval.specs.Evaluated.{Evaluated}
 use Rattle.shogi_eval.specs.declared.eval.Eval.{Eval}
 use Rattle.search_nodes.specs.declared.frame.Frame.{Frame}
 use Rattle.search_nodes.specs.declared.frame.NodeState.{NodeState}
@@ -14,6 +15,8 @@ use Rattle.minimax.specs.declared.entry.Entry.{Entry}
 use Rattle.shogi_search.specs.declared.memo.Memo.{Ghosts}
 use Rattle.shogi_search.specs.declared.stack.Stack.{Stack}
 use Rattle.search_nodes.specs.Frames.{position_after, move_alpha_of}
+use Rattle.search_nodes.specs.Visits.{IsFree}
+use Rattle.minimax.specs.Entries.{IsConclusive}
 use Rattle.minimax.specs.Minimax.{negated, tree_size, IsTrueEntry}
 use Rattle.shogi_search.specs.Calls.{Asks, Call, CallsInSteps, EndsWith, Note}
 use Rattle.minimax.specs.declared.bounds.TheConstants.{SEARCH_DEPTH_MAX, INFINITY}
@@ -53,20 +56,27 @@ frames_of s = take (s.height + 1) s.frames
 abbrev pub OnTop : Stack → (Frame → Type 0) → Type 0
 OnTop s fact = IsSomeAnd (slice_get s.frames s.height) fact
 
--- the position is the one after the move of the node on top
-abbrev pub IsPositionAfter : Stack → Move → Shogi → Type 0
-IsPositionAfter s m p = OnTop s (λ top. p ≡ position_after top m)
+-- a node waits for the answer of a move, and this is the child after it, with two plies left or more
+pub record AwaitsChild (m : Move) (child : Evaluated) (f : Frame) : Type 0 where
+  pub asked : f.state ≡ AwaitingChild m
+  pub deep : 2 < f.depth
+  pub position : child.position ≡ position_after f m
+  pub eval : child.eval ≡ f.node.eval
 
--- one frame stands for the position after the move of the other one, one ply less deep
-abbrev pub IsChildAfter : Frame → Move → Frame → Type 0
-IsChildAfter child m f =
-    (2 < f.depth)
-    × ((child.node.position ≡ position_after f m)
-    × ((child.node.eval ≡ f.node.eval) × (child.depth ≡ f.depth - 1)))
+-- the same of the child that is entered, one ply less deep
+pub record IsParentOf (child : Frame) (m : Move) (f : Frame) : Type 0 where
+  pub waits : AwaitsChild m child.node f
+  pub depth_is : child.depth ≡ f.depth - 1
 
--- what an entry says of the root holds
-abbrev pub IsTrueOfRoot : Stack → Entry → Type 0
-IsTrueOfRoot s entry = IsTrueEntry s.root s.eval s.depth entry
+-- an entry is true of a position, and says enough for a window
+pub record IsConclusiveEntry (p : Shogi) (e : Eval) (d : ℕ) (alpha beta : ℤ) (entry : Entry)
+    : Type 0 where
+  pub truth : IsTrueEntry p e d entry
+  pub conclusive : IsConclusive alpha beta entry
+
+-- and that of the root, for its whole window
+abbrev pub IsRootEntry : Stack → Entry → Type 0
+IsRootEntry s entry = IsConclusiveEntry s.root s.eval s.depth (negated INFINITY) s.beta entry
 
 -- what an entry says holds of every position at this depth
 abbrev pub IsTrueAnywhere : ℕ → Entry → Type 0
@@ -83,6 +93,12 @@ pub record IsStack (s : Stack) : Type 0 where
 -- the root on top has its whole window
 abbrev pub IsWhole : Stack → Type 0
 IsWhole s = s.height ≡ 0 → s.bound ≡ s.beta
+
+-- between two steps the node on top waits for no child
+pub record IsReady (s : Stack) : Type 0 where
+  pub stack : IsStack s
+  pub whole : IsWhole s
+  pub free : OnTop s (λ top. IsFree top.state)
 
 -- a child of the root is on top, under a window that is narrower than the one that is left for its move
 abbrev pub IsNarrow : Stack → Type 0
@@ -135,9 +151,38 @@ EndsWithRoot called old new s entry = EndsWith called old new (note_of_root s en
 abbrev pub NotesRoot : {M : Type 0} → (M → Call → M → Type 0) → M → M → Stack → Entry → Type 0
 NotesRoot called old new s entry = s.height ≡ 0 → called old (note_of_root s entry) new
 
--- as the node on top is left, the memory was asked at most once for each node that is entered in its place, and told nothing
-abbrev pub AsksForEach : {M : Type 0} → (M → Call → M → Type 0) → M → M → Stack → Stack → Type 0
-AsksForEach called old new before after = Asks called old new (after.height + 1 - before.height)
+-- the memory was asked so often at most, and told nothing
+pub record OnlyAsks {M : Type 0} (memory : Ghosts M) (memo_before memo_after : M) (most : ℕ)
+    : Type 0 where
+  pub asked : Asks memory.called memo_before memo_after most
+  pub capacity : memory.capacity memo_after ≡ memory.capacity memo_before
+
+-- the child after a move of the node on top is entered, and the memory asked once at most
+pub record EntersChild {M : Type 0} (memory : Ghosts M) (memo_before memo_after : M)
+    (old : Stack) (m : Move) (new : Stack) : Type 0 where
+  pub ready : IsReady new
+  pub height : new.height ≡ old.height + 1
+  pub left : UsesSteps old new m 1
+  pub once : UsesStepsOnce old new m
+  pub unchanged : KeepsGoal old new
+  pub asks : OnlyAsks memory memo_before memo_after 1
+
+-- the node on top is left, and one below it or a node in its place is on top: the memory was asked at most once for each node that is entered in its place, and told nothing
+pub record LeavesTop {M : Type 0} (memory : Ghosts M) (memo_before memo_after : M)
+    (old new : Stack) : Type 0 where
+  pub ready : IsReady new
+  pub fewer : steps_left new < steps_left old
+  pub some : 0 < old.height
+  pub above : new.height ≤ old.height
+  pub below : old.height ≤ new.height + 1
+  pub unchanged : KeepsGoal old new
+  pub asks : OnlyAsks memory memo_before memo_after (new.height + 1 - old.height)
+
+-- a count of steps rises by a budget until there is a result, and stays at the greatest number once it is there; and by no more at the end
+pub record CountsSteps {A : Type 0} (budget before after : ℕ) (result : Option A) : Type 0 where
+  pub all : IfNone result (after ≡ min (before + budget) (2 ^ 64 - 1))
+  pub rises : before ≤ after
+  pub most : after ≤ before + budget
 
 -- how many nodes are entered and not left: none once the root is left
 abbrev pub entered_unless : Option Entry → Stack → ℕ
@@ -150,6 +195,17 @@ abbrev pub CallsOnStack : {M : Type 0} → (M → Call → M → Type 0) → M �
 CallsOnStack called old new before after stack left next =
     CallsInSteps called old new before after (stack.height + 1) (entered_unless left next) 0
 
--- the same of a memory in a run of steps
-abbrev pub Runs : {M : Type 0} → Ghosts M → M → M → ℕ → ℕ → Stack → Option Entry → Stack → Type 0
-Runs memory = CallsOnStack memory.called
+-- a run of so many steps, or of fewer where the root is left, with what is known of the root then, of which the memory is told at last; the memory's calls are those between two counts of steps
+pub record IsRunOf {M : Type 0} (memory : Ghosts M) (memo_before memo_after : M)
+    (before after budget : ℕ) (old : Stack) (left : Option Entry) (new : Stack) : Type 0 where
+  pub ready : IfNone left (IsReady new)
+  pub fewer : IfNone left (steps_left new + budget ≤ steps_left old)
+  pub known : IfSome left (IsRootEntry old)
+  pub unchanged : KeepsGoal old new
+  pub calls : CallsOnStack memory.called memo_before memo_after before after old left new
+  pub told : IfSome left (EndsWithRoot memory.called memo_before memo_after old)
+  pub capacity : memory.capacity memo_after ≡ memory.capacity memo_before
+
+-- a run of one step
+abbrev pub IsStep : {M : Type 0} → Ghosts M → M → M → Stack → Option Entry → Stack → Type 0
+IsStep memory memo_before memo_after = IsRunOf memory memo_before memo_after 0 1 1

@@ -3,12 +3,13 @@
 ghost use Rattle.std.specs.Prelude.{◌≡◌, ◌≤◌, ◌<◌, ◌+◌, ◌*◌, ◌-◌, ◌^◌, ◌≤ℤ◌, ◌<ℤ◌, [], true, false, Some, None, IfSome, IfNone, OnSome, IsSome, ◌↔◌, min};
 ghost use Rattle.std.specs.List.{All};
 ghost use Rattle.std.specs.Option.{ForSome};
-ghost use Rattle.minimax.specs.Minimax.{IsTrueEntry, negated};
+ghost use Rattle.minimax.specs.Minimax.{negated};
 ghost use Rattle.shogi_search.specs.Entered.{IsKnownNode};
-ghost use Rattle.minimax.specs.Entries.{IsConclusive};
-ghost use Rattle.shogi_search.specs.Calls.{Asks, probe_of};
-ghost use Rattle.shogi_search.specs.SearchCalls.{AsksRootFirst, CallsBetween, CallsOfSearch, Says, TellsFound, TellsRoot};
-ghost use Rattle.shogi_search.specs.Progress.{untouched, untouched_below, left_of, HasPath, IsAnsweredBy, EndsWhereAnswered, EndsWhereKnown, KeepsQuestion, IsFoundBelow, IsFoundBy, FindsValue, FindsBest, FitsTree};
+ghost use Rattle.shogi_search.specs.Calls.{probe_of};
+ghost use Rattle.shogi_search.specs.SearchCalls.{AsksRootFirst, CallsOfSearch, Says, TellsFound, TellsRoot};
+ghost use Rattle.shogi_search.specs.Slices.{CallsInSlice, IsSliceOf};
+ghost use Rattle.shogi_search.specs.Stack.{IsConclusiveEntry, OnlyAsks};
+ghost use Rattle.shogi_search.specs.Progress.{untouched, untouched_below, left_of, HasPath, IsAnsweredBy, EndsWhereAnswered, EndsWhereKnown, IsFoundBelow, IsFoundBy, FindsValue, FindsBest, FitsTree};
 ghost use Rattle.minimax.specs.declared.bounds.TheConstants.{SEARCH_DEPTH_MAX, INFINITY};
 
 use crate::found::Found;
@@ -59,8 +60,7 @@ impl Model for Search {
 fn found_of(entry: &Entry, root: &Position, e: Eval, depth: u8, beta: i32, steps: u64) -> Found
     requires shallow { depth ≤ SEARCH_DEPTH_MAX }
     requires open { negated INFINITY <ℤ beta }
-    requires truth { IsTrueEntry root.now e depth entry.now }
-    requires conclusive { IsConclusive (negated INFINITY) beta entry.now }
+    requires known { IsConclusiveEntry root.now e depth (negated INFINITY) beta entry.now }
     ensures below { IsFoundBelow root.now e depth beta result }
     ensures steps { result.steps ≡ steps }
     ensures says { Says entry.now result }
@@ -180,13 +180,9 @@ impl Search {
         requires fresh { self.old.started ≡ false }
         requires open { self.old.found ≡ None }
         requires deep { 2 ≤ self.old.depth }
+        ensures slice { IsSliceOf 1 self.old None self.new }
+        ensures calls { CallsInSlice M.Memo memo.old memo.new self.old None self.new }
         ensures begun { self.new.started ≡ true }
-        ensures found { self.new.found ≡ None }
-        ensures unchanged { KeepsQuestion self.old self.new }
-        ensures calls { CallsBetween M.called memo.old memo.new self.old self.new 0 }
-        ensures capacity { M.capacity memo.new ≡ M.capacity memo.old }
-        ensures steps { self.new.steps ≡ min (self.old.steps + 1) (2 ^ 64 - 1) }
-        ensures left { left_of self.new < left_of self.old }
     {
         self.stack.height = 0;
         let (root, e, depth) = (&self.stack.root, self.stack.eval, self.stack.depth);
@@ -205,21 +201,9 @@ impl Search {
         requires fresh { self.old.started ≡ false }
         requires open { self.old.found ≡ None }
         requires last { self.old.depth < 2 }
-        ensures below { IfSome result (IsFoundBy self.old) }
-        ensures value { IfSome result (FindsValue self.old) }
-        ensures best { IfSome result (FindsBest self.old) }
+        ensures slice { IsSliceOf 1 self.old result self.new }
+        ensures calls { CallsInSlice M.Memo memo.old memo.new self.old result self.new }
         ensures some { IsSome result }
-        ensures counted { IfSome result (λ f. f.steps ≡ self.new.steps) }
-        ensures range { IfSome result (FitsTree self.old) }
-        ensures unchanged { KeepsQuestion self.old self.new }
-        ensures calls { CallsBetween M.called memo.old memo.new self.old self.new 0 }
-        ensures told { IfSome result (TellsRoot M.called memo.old memo.new self.old) }
-        ensures capacity { M.capacity memo.new ≡ M.capacity memo.old }
-        ensures found { self.new.found ≡ result }
-        ensures over { OnSome result (self.new.left ≡ 0) }
-        ensures left_all { OnSome result (self.new.entered ≡ []) }
-        ensures steps { self.new.steps ≡ self.old.steps + 1 }
-        ensures fell { self.new.steps + left_of self.new ≤ self.old.steps + left_of self.old }
     {
         let (root, e, depth) = (&self.stack.root, self.stack.eval, self.stack.depth);
         let beta = self.stack.beta;
@@ -234,28 +218,9 @@ impl Search {
     fn resume<M: Memo>(&mut self, memo: &mut M, budget: u64) -> Option<Found>
         requires begun { self.old.started ≡ true }
         requires open { self.old.found ≡ None }
-        ensures below { IfSome result (IsFoundBy self.old) }
-        // Below the end of the whole window lies every value.
-        ensures value { IfSome result (FindsValue self.old) }
-        ensures best { IfSome result (FindsBest self.old) }
-        ensures counted { IfSome result (λ f. f.steps ≡ self.new.steps) }
-        ensures range { IfSome result (FitsTree self.old) }
-        ensures unchanged { KeepsQuestion self.old self.new }
-        ensures calls { CallsBetween M.called memo.old memo.new self.old self.new 0 }
-        ensures told { IfSome result (TellsRoot M.called memo.old memo.new self.old) }
-        ensures capacity { M.capacity memo.new ≡ M.capacity memo.old }
-        ensures found { self.new.found ≡ result }
-        ensures over { OnSome result (self.new.left ≡ 0) }
-        ensures left_all { OnSome result (self.new.entered ≡ []) }
-        ensures unfinished { IfNone result (0 < self.new.left) }
+        ensures slice { IsSliceOf budget self.old result self.new }
+        ensures calls { CallsInSlice M.Memo memo.old memo.new self.old result self.new }
         ensures begun { self.new.started ≡ true }
-
-        // Until the end the whole budget is used.
-        ensures all { IfNone result (self.new.steps ≡ min (self.old.steps + budget) (2 ^ 64 - 1)) }
-        ensures left { IfNone result (left_of self.new + budget ≤ left_of self.old) }
-        ensures rises { self.old.steps ≤ self.new.steps }
-        ensures most { self.new.steps ≤ self.old.steps + budget }
-        ensures fell { self.new.steps + left_of self.new ≤ self.old.steps + left_of self.old }
     {
         let entry = self
             .stack
@@ -271,11 +236,10 @@ impl Search {
         ensures below { IfSome result (IsFoundBy self.now) }
         ensures steps { IfSome result (λ f. f.steps ≡ self.now.steps) }
         ensures enough { IsSome result ↔ IsAnsweredBy (M.answers memo.old) self.now }
-        ensures asked { Asks M.called memo.old memo.new 1 }
+        ensures asks { OnlyAsks M.Memo memo.old memo.new 1 }
         ensures first { M.called memo.old
             (probe_of (M.answers memo.old) self.now.root self.now.eval self.now.depth) memo.new }
         ensures told { IfSome result (TellsRoot M.called memo.old memo.new self.now) }
-        ensures capacity { M.capacity memo.new ≡ M.capacity memo.old }
     {
         let (root, e, depth) = (&self.stack.root, self.stack.eval, self.stack.depth);
         let beta = self.stack.beta;

@@ -1,14 +1,13 @@
 //! The stack of a search in slices.
 
-ghost use Rattle.std.specs.Prelude.{◌≡◌, ◌≤◌, ◌<ℤ◌, ◌<◌, ◌+◌, ◌*◌, ◌-◌, ◌^◌, true, false, None, Some, IfSome, IfNone, OnSome, IsSome, min, IsTrue, ◌↔◌};
-ghost use Rattle.minimax.specs.Minimax.{negated, IsTrueEntry};
+ghost use Rattle.std.specs.Prelude.{◌≡◌, ◌≤◌, ◌<ℤ◌, ◌<◌, ◌+◌, ◌*◌, ◌-◌, true, false, None, Some, IfSome, IfNone, OnSome, IsSome, IsTrue, ◌↔◌};
 ghost use Rattle.minimax.specs.Entries.{IsConclusive, IsEnough, move_in};
-ghost use Rattle.search_nodes.specs.Visits.{IsAsked, IsFree};
+ghost use Rattle.search_nodes.specs.Visits.{IsAsked};
 ghost use Rattle.search_nodes.specs.Frames.{IsTrueOf, IsToBeLeft};
 ghost use Rattle.search_nodes.specs.Changes.{KeepsAsked};
-ghost use Rattle.shogi_search.specs.Stack.{AsksForEach, EndsWithRoot, IsStack, IsWhole, IsNarrow, IsChildAfter, IsPositionAfter, OnTop, IsTrueAnywhere, IsTrueOfRoot, KeepsGoal, CallsOnStack, LeavesStepsFor, NotesRoot, Runs, UsesSteps, UsesStepsOnce, steps_left};
-ghost use Rattle.shogi_search.specs.Calls.{probe_of, Asks, TellsOnce};
-ghost use Rattle.minimax.specs.declared.bounds.TheConstants.{SEARCH_DEPTH_MAX, INFINITY};
+ghost use Rattle.shogi_search.specs.Stack.{AwaitsChild, CallsOnStack, CountsSteps, EntersChild, IsConclusiveEntry, IsNarrow, IsParentOf, IsReady, IsRootEntry, IsRunOf, IsStack, IsStep, IsTrueAnywhere, IsWhole, KeepsGoal, LeavesStepsFor, LeavesTop, NotesRoot, OnTop, OnlyAsks, UsesSteps, steps_left};
+ghost use Rattle.shogi_search.specs.Calls.{probe_of, TellsOnce};
+ghost use Rattle.minimax.specs.declared.bounds.TheConstants.{SEARCH_DEPTH_MAX};
 
 use crate::memo::Memo;
 use last_ply::last_ply;
@@ -57,8 +56,7 @@ pub fn probe<M: Memo>(
     beta: i32,
     memo: &mut M,
 ) -> Option<Entry>
-    ensures truth { IfSome result (IsTrueEntry p.now e depth) }
-    ensures conclusive { IfSome result (IsConclusive alpha beta) }
+    ensures known { IfSome result (IsConclusiveEntry p.now e depth alpha beta) }
     ensures enough { IsSome result ↔ IsEnough alpha beta (M.answers memo.old p.now e depth) }
     ensures asked { M.called memo.old (probe_of (M.answers memo.old) p.now e depth) memo.new }
     ensures answer { OnSome result (result ≡ M.answers memo.old p.now e depth) }
@@ -75,8 +73,7 @@ pub fn probe<M: Memo>(
 pub fn answer_at_once(node: &Node, depth: u8, alpha: i32, beta: i32) -> Entry
     requires last { depth < 2 }
     requires open { alpha <ℤ beta }
-    ensures truth { IsTrueEntry node.now.position node.now.eval depth result }
-    ensures conclusive { IsConclusive alpha beta result }
+    ensures { IsConclusiveEntry node.now.position node.now.eval depth alpha beta result }
 {
     if depth == 0 {
         return Entry::Exact(leaf(node), None);
@@ -115,14 +112,13 @@ fn mate_distance_bound(depth: u8, alpha: i32, beta: i32) -> Option<Entry>
 
 /// What is known of a child that is not entered: one with one ply left or none, or one of which the
 /// memo knows enough, where its depth serves the memo.
-#[tactic(auto, using(crate::proofs::CallLaws::asks_none, crate::proofs::CallLaws::asks_one))]
+#[tactic(auto, using(crate::proofs::CallLaws::only_asks_none, crate::proofs::CallLaws::only_asks_one))]
 fn answer_of<M: Memo>(node: &Node, depth: u8, alpha: i32, beta: i32, memo: &mut M) -> Option<Entry>
     requires open { alpha <ℤ beta }
-    ensures truth { IfSome result (IsTrueEntry node.now.position node.now.eval depth) }
-    ensures conclusive { IfSome result (IsConclusive alpha beta) }
+    ensures known { IfSome result
+        (IsConclusiveEntry node.now.position node.now.eval depth alpha beta) }
     ensures deep { IfNone result (2 ≤ depth) }
-    ensures asked { Asks M.called memo.old memo.new 1 }
-    ensures capacity { M.capacity memo.new ≡ M.capacity memo.old }
+    ensures asks { OnlyAsks M.Memo memo.old memo.new 1 }
 {
     if depth < 2 {
         return Some(answer_at_once(node, depth, alpha, beta));
@@ -134,12 +130,11 @@ fn answer_of<M: Memo>(node: &Node, depth: u8, alpha: i32, beta: i32, memo: &mut 
 }
 
 /// The best move one ply less deep, where the memo has it.
-#[tactic(auto, using(crate::proofs::CallLaws::asks_none, crate::proofs::CallLaws::asks_one))]
+#[tactic(auto, using(crate::proofs::CallLaws::only_asks_none, crate::proofs::CallLaws::only_asks_one))]
 pub fn hash_move_of<M: Memo>(p: &Position, e: Eval, depth: u8, memo: &mut M) -> Option<Move>
     ensures shallow { depth < 2 → result ≡ None }
     ensures deep { 2 ≤ depth → result ≡ move_in (M.answers memo.old p.now e (depth - 1)) }
-    ensures asked { Asks M.called memo.old memo.new 1 }
-    ensures capacity { M.capacity memo.new ≡ M.capacity memo.old }
+    ensures asks { OnlyAsks M.Memo memo.old memo.new 1 }
 {
     if depth < 2 {
         return None;
@@ -151,10 +146,9 @@ pub fn hash_move_of<M: Memo>(p: &Position, e: Eval, depth: u8, memo: &mut M) -> 
 }
 
 /// The same for a node below the root, where the depth below it serves the memo.
-#[tactic(auto, using(crate::proofs::CallLaws::asks_none))]
+#[tactic(auto, using(crate::proofs::CallLaws::only_asks_none))]
 fn child_hash_move_of<M: Memo>(p: &Position, e: Eval, depth: u8, memo: &mut M) -> Option<Move>
-    ensures asked { Asks M.called memo.old memo.new 1 }
-    ensures capacity { M.capacity memo.new ≡ M.capacity memo.old }
+    ensures { OnlyAsks M.Memo memo.old memo.new 1 }
 {
     if depth == 0 || !memo.serves(depth - 1) {
         return None;
@@ -193,8 +187,7 @@ impl Stack {
         ensures stack { IsStack self.new }
         ensures whole { self.new.bound ≡ self.new.beta }
         ensures root { self.new.height ≡ 0 }
-        ensures asked { OnTop self.new (λ root. root.state ≡ NodeState.AwaitingChild result) }
-        ensures child { OnTop self.old (λ child. OnTop self.new (IsChildAfter child result)) }
+        ensures child { OnTop self.old (λ child. OnTop self.new (IsParentOf child result)) }
         ensures left { LeavesStepsFor self.old self.new result }
         ensures unchanged { KeepsGoal self.old self.new }
     {
@@ -219,20 +212,9 @@ impl Stack {
         memo: &mut M,
     )
         requires stack { IsStack self.old }
-        requires asked { OnTop self.old (λ top. top.state ≡ NodeState.AwaitingChild current.now) }
         requires room { self.old.height + 1 < SEARCH_DEPTH_MAX }
-        requires deep { OnTop self.old (λ top. 2 < top.depth) }
-        requires position { IsPositionAfter self.old current.now node.now.position }
-        requires eval { OnTop self.old (λ top. node.now.eval ≡ top.node.eval) }
-        ensures stack { IsStack self.new }
-        ensures free { OnTop self.new (λ top. IsFree top.state) }
-        ensures height { self.new.height ≡ self.old.height + 1 }
-        ensures bound { self.new.bound ≡ self.old.bound }
-        ensures left { UsesSteps self.old self.new current.now 1 }
-        ensures once { UsesStepsOnce self.old self.new current.now }
-        ensures unchanged { KeepsGoal self.old self.new }
-        ensures asked { Asks M.called memo.old memo.new 1 }
-        ensures capacity { M.capacity memo.new ≡ M.capacity memo.old }
+        requires child { OnTop self.old (AwaitsChild current.now node.now) }
+        ensures { EntersChild M.Memo memo.old memo.new self.old current.now self.new }
     {
         let top = &self.frames[self.height];
         let (alpha, beta) = top.window(current);
@@ -255,14 +237,7 @@ impl Stack {
         requires stack { IsStack self.old }
         requires narrow { IsNarrow self.old }
         requires truth { OnTop self.old (λ top. IsTrueOf top entry.now) }
-        ensures stack { IsStack self.new }
-        ensures whole { self.new.bound ≡ self.new.beta }
-        ensures free { OnTop self.new (λ top. IsFree top.state) }
-        ensures height { self.new.height ≤ 1 }
-        ensures left { steps_left self.new < steps_left self.old }
-        ensures unchanged { KeepsGoal self.old self.new }
-        ensures asked { Asks M.called memo.old memo.new self.new.height }
-        ensures capacity { M.capacity memo.new ≡ M.capacity memo.old }
+        ensures { LeavesTop M.Memo memo.old memo.new self.old self.new }
     {
         let node = self.frames[self.height].node;
         let current = self.widen();
@@ -281,21 +256,9 @@ impl Stack {
         requires whole { IsWhole self.old }
         requires truth { OnTop self.old (λ top. IsTrueOf top entry.now) }
         requires conclusive { OnTop self.old (λ top. IsConclusive top.alpha top.beta entry.now) }
-        ensures stack { IsStack self.new }
-        ensures whole { IsWhole self.new }
-        ensures free { result ≡ true → OnTop self.new (λ top. IsFree top.state) }
-        ensures left { result ≡ true → steps_left self.new < steps_left self.old }
-        ensures truth { result ≡ false → IsTrueOfRoot self.old entry.now }
-        ensures conclusive { result ≡ false
-            → IsConclusive (negated INFINITY) self.old.beta entry.now }
-        ensures if_none { result ≡ false → memo.new ≡ memo.old }
-        ensures below { result ≡ true → self.old.height ≤ self.new.height + 1 }
-        ensures above { result ≡ true → self.new.height ≤ self.old.height }
-        ensures some { result ≡ true → 0 < self.old.height }
-        ensures root { result ≡ false → self.old.height ≡ 0 }
-        ensures unchanged { KeepsGoal self.old self.new }
-        ensures asked { result ≡ true → AsksForEach M.called memo.old memo.new self.old self.new }
-        ensures capacity { M.capacity memo.new ≡ M.capacity memo.old }
+        ensures left { result ≡ true → LeavesTop M.Memo memo.old memo.new self.old self.new }
+        ensures root { result ≡ false → (self.old.height ≡ 0) × IsRootEntry self.old entry.now }
+        ensures kept { result ≡ false → (memo.new ≡ memo.old) × KeepsGoal self.old self.new }
     {
         if self.height == 0 {
             return false;
@@ -320,9 +283,7 @@ impl Stack {
         requires stack { IsStack self.old }
         requires whole { IsWhole self.old }
         requires asked { OnTop self.old (λ top. top.state ≡ NodeState.AwaitingChild current.now) }
-        ensures stack { IsStack self.new }
-        ensures whole { IsWhole self.new }
-        ensures free { OnTop self.new (λ top. IsFree top.state) }
+        ensures ready { IsReady self.new }
         ensures left { UsesSteps self.old self.new current.now 1 }
         ensures unchanged { KeepsGoal self.old self.new }
         ensures calls { CallsOnStack M.called memo.old memo.new 0 1 self.old None self.new }
@@ -349,8 +310,7 @@ impl Stack {
     /// Asks the memo for the nodes along the best line so far, so that they stay in use.
     #[inline(never)]
     fn keep_line<M: Memo>(&self, memo: &mut M)
-        ensures asked { Asks M.called memo.old memo.new 14 }
-        ensures capacity { M.capacity memo.new ≡ M.capacity memo.old }
+        ensures { OnlyAsks M.Memo memo.old memo.new 14 }
     {
         let root = &self.frames[0];
         if root.depth < DEEP_ROOT_MIN || !root.is_next() {
@@ -414,16 +374,7 @@ impl Stack {
         requires stack { IsStack self.old }
         requires whole { IsWhole self.old }
         requires over { OnTop self.old (λ top. IsToBeLeft top) }
-        ensures stack { IfNone result (IsStack self.new) }
-        ensures whole { IfNone result (IsWhole self.new) }
-        ensures free { IfNone result (OnTop self.new (λ top. IsFree top.state)) }
-        ensures left { IfNone result (steps_left self.new < steps_left self.old) }
-        ensures truth { IfSome result (IsTrueOfRoot self.old) }
-        ensures conclusive { IfSome result (IsConclusive (negated INFINITY) self.old.beta) }
-        ensures unchanged { KeepsGoal self.old self.new }
-        ensures calls { CallsOnStack M.called memo.old memo.new 0 1 self.old result self.new }
-        ensures told { IfSome result (EndsWithRoot M.called memo.old memo.new self.old) }
-        ensures capacity { M.capacity memo.new ≡ M.capacity memo.old }
+        ensures { IsStep M.Memo memo.old memo.new self.old result self.new }
     {
         let entry = self.frames[self.height].to_entry();
         self.store_top(&entry, memo);
@@ -453,19 +404,8 @@ impl Stack {
 
     /// Makes one step; gives what is known of the root where that was left.
     fn step<M: Memo>(&mut self, counter_moves: &mut CounterMoves, memo: &mut M) -> Option<Entry>
-        requires stack { IsStack self.old }
-        requires whole { IsWhole self.old }
-        requires free { OnTop self.old (λ top. IsFree top.state) }
-        ensures stack { IfNone result (IsStack self.new) }
-        ensures whole { IfNone result (IsWhole self.new) }
-        ensures free { IfNone result (OnTop self.new (λ top. IsFree top.state)) }
-        ensures left { IfNone result (steps_left self.new < steps_left self.old) }
-        ensures truth { IfSome result (IsTrueOfRoot self.old) }
-        ensures conclusive { IfSome result (IsConclusive (negated INFINITY) self.old.beta) }
-        ensures unchanged { KeepsGoal self.old self.new }
-        ensures calls { CallsOnStack M.called memo.old memo.new 0 1 self.old result self.new }
-        ensures told { IfSome result (EndsWithRoot M.called memo.old memo.new self.old) }
-        ensures capacity { M.capacity memo.new ≡ M.capacity memo.old }
+        requires { IsReady self.old }
+        ensures { IsStep M.Memo memo.old memo.new self.old result self.new }
     {
         let reply = self.last_reply();
         let top = &mut self.frames[self.height];
@@ -487,23 +427,11 @@ impl Stack {
         budget: u64,
         steps: &mut u64,
     ) -> Option<Entry>
-        requires stack { IsStack self.old }
-        requires whole { IsWhole self.old }
-        requires free { OnTop self.old (λ top. IsFree top.state) }
-        ensures stack { IfNone result (IsStack self.new) }
-        ensures whole { IfNone result (IsWhole self.new) }
-        ensures free { IfNone result (OnTop self.new (λ top. IsFree top.state)) }
-        ensures left { IfNone result (steps_left self.new + budget ≤ steps_left self.old) }
-        ensures all { IfNone result (steps.new ≡ min (steps.old + budget) (2 ^ 64 - 1)) }
-        ensures rises { steps.old ≤ steps.new }
-        ensures most { steps.new ≤ steps.old + budget }
+        requires { IsReady self.old }
+        ensures run { IsRunOf M.Memo memo.old memo.new steps.old steps.new budget
+            self.old result self.new }
+        ensures counts { CountsSteps budget steps.old steps.new result }
         ensures fell { IfSome result (λ _. steps.new ≤ steps.old + steps_left self.old) }
-        ensures truth { IfSome result (IsTrueOfRoot self.old) }
-        ensures conclusive { IfSome result (IsConclusive (negated INFINITY) self.old.beta) }
-        ensures unchanged { KeepsGoal self.old self.new }
-        ensures calls { Runs M.Memo memo.old memo.new steps.old steps.new self.old result self.new }
-        ensures told { IfSome result (EndsWithRoot M.called memo.old memo.new self.old) }
-        ensures capacity { M.capacity memo.new ≡ M.capacity memo.old }
     {
         let mut made = 0;
         'steps: while made < budget {

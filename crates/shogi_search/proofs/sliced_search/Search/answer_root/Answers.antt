@@ -4,7 +4,9 @@ use Rattle.minimax.specs.Minimax.{tree_size, negated}
 use Rattle.minimax.specs.declared.bounds.TheConstants.{INFINITY}
 use Rattle.shogi_search.proofs.CallLaws.{as_counted, notes_root, ends_at_once}
 use Rattle.shogi_search.proofs.SearchCallLaws.{conclusive_as, none_entered}
+use Rattle.shogi_search.proofs.Entries.{same_found}
 use Rattle.shogi_search.proofs.Searches.{known_found}
+use Rattle.shogi_search.proofs.SliceLaws.{finds_by}
 use Rattle.minimax.proofs.MinimaxLaws.{tree_size-positive}
 use Rattle.shogi_search.specs.declared.found.Found.{Found}
 use Rattle.shogi_search.specs.SlicedSearch.{left_in, steps_of_tree}
@@ -37,32 +39,39 @@ invariant_of-self g c =
       counted = omega (arith, zero, tree_size-positive s.stack.root s.stack.depth, c.saturating_add-self-inside.ensures);
     }
 
-pub returns-clause-range : goal.returns-clause-range
-returns-clause-range g c =
-    let s = c.self.inside in
-    let zero : s.steps ≡ 0 = none_made s.found s.started s.steps _ _ (search rules) (search rules) c.self.invariant.counted in
-    let some : 1 ≤ tree_size s.stack.root s.stack.depth = tree_size-positive s.stack.root s.stack.depth in
-    rw (← c.self.view_is) (omega (arith, zero, some, c.found_of.ensures.steps, c.saturating_add-self-inside.ensures))
-
-pub returns-clause-fell : goal.returns-clause-fell
-returns-clause-fell g c =
+pub returns-clause-slice : goal.returns-clause-slice
+returns-clause-slice g c =
     let s = c.self.inside in
     let zero : s.steps ≡ 0 = none_made s.found s.started s.steps _ _ (search rules) (search rules) c.self.invariant.counted in
     let some : 1 ≤ tree_size s.stack.root s.stack.depth = tree_size-positive s.stack.root s.stack.depth in
     let left : left_in s.found s.started (steps_of_tree s.stack) (steps_left s.stack) ≡ steps_of_tree s.stack = all_left s.found s.started (steps_of_tree s.stack) (steps_left s.stack) (search rules) (search rules) in
-    rw (← c.self.view_is) (omega (arith, zero, some, left, c.saturating_add-self-inside.ensures))
+    rw (← c.self.view_is) (record {
+      unchanged = (refl, (refl, (refl, refl)));
+      finds = finds_by _ _ _ (same_found _ _ _ _ _ _ _ _ c.found_of.result refl refl refl (omega (arith, ints)) c.found_of.ensures.below) c.found_of.ensures.steps
+          (omega (arith, zero, some, c.found_of.ensures.steps, c.saturating_add-self-inside.ensures));
+      counts = record {
+        all = tt;
+        rises = omega (arith, zero);
+        most = omega (arith, c.saturating_add-self-inside.ensures);
+      };
+      left = tt;
+      fell = omega (arith, zero, some, left, c.saturating_add-self-inside.ensures);
+      found = refl;
+      over = refl;
+      left_all = refl;
+      unfinished = tt;
+    })
 
 pub returns-clause-calls : goal.returns-clause-calls
-returns-clause-calls g c =
-    rw (← c.self.view_is)
-    (as_counted g.M.Memo.called _ _ _ _ _ _ _ _ _ _ _
-    (notes_root g.M.Memo.called _ _ _ _ _ _ c.self.inside.steps c.saturating_add-self-inside.result c.note.ensures.called c.saturating_add-self-inside.ensures)
-    refl refl (none_entered c.self.inside.found c.self.inside.started _ (search rules) (search rules)) refl)
-
-pub returns-clause-told : goal.returns-clause-told
-returns-clause-told g c = rw (← c.self.view_is) (record {
-  entry = c.answer_at_once-entry.result;
-  says = c.found_of.ensures.says;
-  enough = conclusive_as _ _ (negated INFINITY) c.self.inside.stack.beta c.answer_at_once-entry.result c.answer_at_once-entry.ensures.conclusive (omega (arith, ints)) (omega (arith, ints));
-  last = inl (ends_at_once g.M.Memo.called _ _ _ c.note.ensures.called);
+returns-clause-calls g c = rw (← c.self.view_is) (record {
+  calls = as_counted g.M.Memo.called _ _ _ _ _ _ _ _ _ _ _
+      (notes_root g.M.Memo.called _ _ _ _ _ _ c.self.inside.steps c.saturating_add-self-inside.result c.note.ensures.called c.saturating_add-self-inside.ensures)
+      refl refl (none_entered c.self.inside.found c.self.inside.started _ (search rules) (search rules)) refl;
+  told = record {
+    entry = c.answer_at_once-entry.result;
+    says = c.found_of.ensures.says;
+    enough = conclusive_as _ _ (negated INFINITY) c.self.inside.stack.beta c.answer_at_once-entry.result c.answer_at_once-entry.ensures.conclusive (omega (arith, ints)) (omega (arith, ints));
+    last = inl (ends_at_once g.M.Memo.called _ _ _ c.note.ensures.called);
+  };
+  capacity = c.note.ensures.capacity;
 })

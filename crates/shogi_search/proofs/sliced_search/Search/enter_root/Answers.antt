@@ -21,15 +21,19 @@ use Rattle.shogi_search.specs.declared.sliced_search.Search.TheInside.{Inside}
 use Rattle.shogi_search.specs.SlicedSearch.{IsSearch, entered_in, entered_of, left_in, progress_of, steps_of_tree}
 use Rattle.shogi_search.specs.declared.found.Found.{Found}
 use Rattle.shogi_search.specs.declared.stack.Stack.{Stack}
-use Rattle.shogi_search.proofs.Places.{stack_with, on_with, with_frame, left_begun, free_next}
+use Rattle.shogi_search.proofs.Places.{stack_with, on_with, with_frame, left_begun, left_positive, free_next}
 use Rattle.shogi_search.proofs.NarrowRoots.{with_bound}
 use Rattle.shogi_search.proofs.sliced_search.Search.enter_root.Goals as goal
 
 -- the root waits for its first move, and less is left than before it was entered
-left_less : (found : Option Found) (started : Bool) (whole rest rest' : ℕ) → found ≡ None → started ≡ false → rest' + 1 < whole → left_in found true whole rest' < left_in found started whole rest
+left_less : (found : Option Found) (started : Bool) (whole rest rest' : ℕ) → found ≡ None → started ≡ false → rest' + 1 < whole → left_in found true whole rest' + 1 ≤ left_in found started whole rest
 left_less None false whole rest rest' e f h = omega arith
 left_less None true whole rest rest' e f h = absurd (cc)
 left_less (Some x) started whole rest rest' e f h = absurd (cc)
+
+left_some : (found : Option Found) (whole rest : ℕ) → found ≡ None → 0 < rest → 0 < left_in found true whole rest
+left_some None whole rest e some = some
+left_some (Some x) whole rest e some = absurd (cc)
 
 counted_begun : (found : Option Found) (started : Bool) (whole rest rest' steps now : ℕ) → found ≡ None → started ≡ false → steps + left_in found started whole rest ≤ whole → now ≡ min (steps + 1) (2 ^ 64 - 1) → rest' + 1 < whole → now + left_in found true whole rest' ≤ whole
 counted_begun None false whole rest rest' steps now e f k n h = omega arith
@@ -93,16 +97,29 @@ invariant_of-self g c =
       counted = counted_begun c.self.inside.found c.self.inside.started (steps_of_tree s) _ _ c.self.inside.steps _ none fresh i.counted c.saturating_add-self-inside.ensures left;
     }
 
-pub returns-clause-left : goal.returns-clause-left
-returns-clause-left g c =
+pub returns-clause-slice : goal.returns-clause-slice
+returns-clause-slice g c =
     let s : Stack = c.self.inside.stack in
     let i : IsSearch c.self.inside = c.self.invariant in
     let n : Stack = with_bound s (to_z w32 (of_z w32 s.beta)) in
     let none : c.self.inside.found ≡ None = found_seen c.self.inside c.args.self.now c.self.view_is ∙ c.requires.«open» in
     let fresh : c.self.inside.started ≡ false = started_seen c.self.inside c.args.self.now c.self.view_is ∙ c.requires.fresh in
     let root : IsAt s.root s.eval s.depth (negated INFINITY) n.bound c.enter.new.self = root_at s c.enter.new.self c.of-node.result _ c.of-node.ensures.position c.of-node.ensures.eval c.enter.ensures.place in
-    let left : steps_left (with_frame n 0 c.enter.new.self) + 1 < 4 * tree_size s.root s.depth = left_begun n c.enter.new.self _ _ _ _ (omega arith) root (counted_as s.root s.depth c.enter.new.self c.of-node.ensures.position c.enter.ensures.counted) in
-    rw (← c.self.view_is) (left_less c.self.inside.found c.self.inside.started (steps_of_tree s) (steps_left s) (steps_left (with_frame n 0 c.enter.new.self)) none fresh left)
+    let chain : IsStack (with_frame n 0 c.enter.new.self) = stack_with n 0 c.enter.new.self (omega arith) first_fits i.shallow (not_above _ _ (end_kept s.beta i.above i.most)) i.most root in
+    let rest : steps_left (with_frame n 0 c.enter.new.self) + 1 < 4 * tree_size s.root s.depth = left_begun n c.enter.new.self _ _ _ _ (omega arith) root (counted_as s.root s.depth c.enter.new.self c.of-node.ensures.position c.enter.ensures.counted) in
+    let left : left_in c.self.inside.found true (steps_of_tree s) (steps_left (with_frame n 0 c.enter.new.self)) + 1 ≤ left_in c.self.inside.found c.self.inside.started (steps_of_tree s) (steps_left s) = left_less c.self.inside.found c.self.inside.started (steps_of_tree s) (steps_left s) (steps_left (with_frame n 0 c.enter.new.self)) none fresh rest in
+    let steps : c.saturating_add-self-inside.result ≡ min (c.self.inside.steps + 1) (2 ^ 64 - 1) = c.saturating_add-self-inside.ensures in
+    rw (← c.self.view_is) (record {
+      unchanged = (refl, (refl, (refl, refl)));
+      finds = record { below = tt; value = tt; best = tt; counted = tt; range = tt };
+      counts = record { all = steps; rises = omega (arith, steps, c.self.ranges); most = omega (arith, steps) };
+      left = left;
+      fell = omega (arith, steps, left);
+      found = none;
+      over = tt;
+      left_all = tt;
+      unfinished = left_some c.self.inside.found (steps_of_tree s) _ none (left_positive (with_frame n 0 c.enter.new.self) chain);
+    })
 
 pub returns-clause-calls : goal.returns-clause-calls
 returns-clause-calls g c =
@@ -112,6 +129,10 @@ returns-clause-calls g c =
     let none : c.self.inside.found ≡ None = found_seen c.self.inside c.args.self.now c.self.view_is ∙ c.requires.«open» in
     let fresh : c.self.inside.started ≡ false = started_seen c.self.inside c.args.self.now c.self.view_is ∙ c.requires.fresh in
     let root : IsAt s.root s.eval s.depth (negated INFINITY) n.bound c.enter.new.self = root_at s c.enter.new.self c.of-node.result _ c.of-node.ensures.position c.of-node.ensures.eval c.enter.ensures.place in
-    root_calls g.M.Memo.called c.args.memo.now c.hash_move_of-hash_move.new.memo c.self.inside c.args.self.now c.saturating_add-self-inside.result (with_frame n 0 c.enter.new.self) c.self.view_is none fresh
-    (stack_with n 0 c.enter.new.self (omega arith) first_fits i.shallow (not_above _ _ (end_kept s.beta i.above i.most)) i.most root)
-    refl c.hash_move_of-hash_move.ensures.asked c.saturating_add-self-inside.ensures
+    record {
+      calls = root_calls g.M.Memo.called c.args.memo.now c.hash_move_of-hash_move.new.memo c.self.inside c.args.self.now c.saturating_add-self-inside.result (with_frame n 0 c.enter.new.self) c.self.view_is none fresh
+          (stack_with n 0 c.enter.new.self (omega arith) first_fits i.shallow (not_above _ _ (end_kept s.beta i.above i.most)) i.most root)
+          refl c.hash_move_of-hash_move.ensures.asks.asked c.saturating_add-self-inside.ensures;
+      told = tt;
+      capacity = c.hash_move_of-hash_move.ensures.asks.capacity;
+    }

@@ -2,12 +2,14 @@ use Rattle.std.proofs.Common.{arith, get_or, rules, refl, ap, subst, sym, ℕ, �
 use Rattle.shogi_moves.proofs.LegalLaws.{listed_to_legal}
 use Rattle.shogi_moves.specs.After.{after_code}
 use Rattle.shogi_eval.specs.Evaluated.{Evaluated}
+use Rattle.shogi_core.specs.declared.moves.Move.{Move}
 use Rattle.std.proofs.lemmas.Int.{ints}
+use Rattle.std.proofs.lemmas.Option.{slice_get_within}
 use Rattle.search_nodes.specs.Frames.{IsConclusiveAfter, position_after, move_alpha_of}
 use Rattle.shogi_search.proofs.Entries.{same_truth, same_window}
 use Rattle.minimax.specs.Minimax.{IsTrueEntry, negated}
-use Rattle.search_nodes.specs.Changes.{KeepsAsked}
-use Rattle.shogi_search.specs.Stack.{OnTop}
+use Rattle.search_nodes.specs.Changes.{EndsVisit, KeepsAsked}
+use Rattle.shogi_search.specs.Stack.{AwaitsChild, IsReady, IsStack, IsWhole, OnTop}
 use Rattle.search_nodes.specs.Visits.{IsAsked, IsFree}
 use Rattle.search_nodes.specs.declared.frame.Frame.{Frame}
 use Rattle.search_nodes.specs.declared.frame.NodeState.TheVariants.{AwaitingChild}
@@ -15,9 +17,9 @@ use Rattle.minimax.proofs.Valid.{after_valid}
 use Rattle.shogi_core.specs.Codes.{code_of}
 use Rattle.shogi_search.specs.declared.stack.Stack.{Stack}
 use Rattle.search_nodes.proofs.Nodes.{asked, is_asked, waits}
-use Rattle.shogi_search.proofs.Places.{top_deep, IsTop, one_top, read_top, on_map, on_top, on_with, changed, room, left_visited}
+use Rattle.shogi_search.proofs.Places.{top_deep, IsTop, one_top, read_top, on_map, on_top, on_with, with_frame, changed, room, left_visited}
 use Rattle.shogi_search.proofs.NarrowRoots.{uses_after}
-use Rattle.shogi_search.proofs.CallLaws.{asks_in_step, asks_and_asks, asks_none}
+use Rattle.shogi_search.proofs.CallLaws.{asks_in_step, asks_none, steps_and_steps}
 use Rattle.shogi_search.proofs.stack.Stack.enter_child.Goals as goal
 
 pub advance-requires : goal.advance-requires
@@ -46,12 +48,6 @@ back_up-requires-clause-current g c =
     let asks : f.state ≡ AwaitingChild c.args.current.now = on_top c.args.self.now f (λ (top : Frame). top.state ≡ AwaitingChild c.args.current.now) is c.requires.asked in
     asked f.state c.args.current.now asks
 
-pub returns-in-Some-clause-stack : goal.returns-in-Some-clause-stack
-returns-in-Some-clause-stack g c = changed c.args.self.now _ c.back_up.new.self (read_top c.args.self.now c.index-self-self-in-Some.result (omega (arith, c.requires.stack.height_fits))) c.requires.stack c.back_up.ensures.0
-
-pub returns-in-Some-clause-free : goal.returns-in-Some-clause-free
-returns-in-Some-clause-free g c = on_with c.args.self.now c.args.self.now.height c.back_up.new.self (λ (top : Frame). IsFree top.state) (omega (arith, c.requires.stack.height_fits)) c.back_up.ensures.1.1
-
 pub returns-in-Some-clause-left : goal.returns-in-Some-clause-left
 returns-in-Some-clause-left g c =
     let f : Frame = get_or c.args.self.now.frames c.args.self.now.height c.index-self-self-in-Some.result in
@@ -73,18 +69,20 @@ back_up-requires-in-Some-answer_of-clause-conclusive g c =
     (same_window _ (negated h.beta) _ (negated (move_alpha_of h c.args.current.now)) c.in-Some-answer_of.entry
     (omega (arith, ints, c.window-alpha.ensures.alpha, c.window-alpha.ensures.least, c.window-alpha.ensures.«open», c.window-alpha.ensures.most))
     (omega (arith, ints, c.window-alpha.ensures.beta, c.window-alpha.ensures.least, c.window-alpha.ensures.«open», c.window-alpha.ensures.most))
-    c.in-Some-answer_of.ensures.conclusive)
-
-pub returns-in-Some-answer_of-clause-stack : goal.returns-in-Some-answer_of-clause-stack
-returns-in-Some-answer_of-clause-stack g c = changed c.args.self.now _ c.back_up-in-Some-answer_of.new.self (read_top c.args.self.now c.index-self-self-in-Some-answer_of.result (omega (arith, c.requires.stack.height_fits))) c.requires.stack c.back_up-in-Some-answer_of.ensures.0
-
-pub returns-in-Some-answer_of-clause-free : goal.returns-in-Some-answer_of-clause-free
-returns-in-Some-answer_of-clause-free g c = on_with c.args.self.now c.args.self.now.height c.back_up-in-Some-answer_of.new.self (λ (top : Frame). IsFree top.state) (omega (arith, c.requires.stack.height_fits)) c.back_up-in-Some-answer_of.ensures.1.1
+    c.in-Some-answer_of.ensures.known.conclusive)
 
 pub returns-in-Some-answer_of-clause-left : goal.returns-in-Some-answer_of-clause-left
 returns-in-Some-answer_of-clause-left g c =
     let f : Frame = get_or c.args.self.now.frames c.args.self.now.height c.index-self-self-in-Some-answer_of.result in
     left_visited c.args.self.now c.args.current.now f c.back_up-in-Some-answer_of.new.self (read_top c.args.self.now c.index-self-self-in-Some-answer_of.result (omega (arith, c.requires.stack.height_fits))) c.back_up-in-Some-answer_of.ensures.0 c.back_up-in-Some-answer_of.ensures.1.0
+
+-- the visit of the current move of the node on top has ended
+ready_on : (s : Stack) (f h : Frame) → IsTop s f → IsStack s → IsWhole s → EndsVisit f h → IsReady (with_frame s s.height h)
+ready_on s f h is stack whole ends = record {
+  stack = changed s f h is stack ends.0;
+  whole = whole;
+  free = on_with s s.height h (λ (top : Frame). IsFree top.state) (slice_get_within s.frames s.height f is) ends.1.1;
+}
 
 -- the node on top after the window of a root was narrowed
 topmost : (s : Stack) (d : Frame) (n : Stack) → IsTop s (get_or s.frames s.height d) → OnTop s (λ old. OnTop n (λ new. KeepsAsked old new)) → OnTop n (λ new. KeepsAsked (get_or s.frames s.height d) new)
@@ -93,40 +91,12 @@ topmost s d n is top = on_top s (get_or s.frames s.height d) (λ (old : Frame). 
 pub narrow-requires-clause-asked : goal.narrow-requires-clause-asked
 narrow-requires-clause-asked g c = on_map c.args.self.now (λ top. top.state ≡ AwaitingChild c.args.current.now) (λ top. IsAsked top.state) (λ f e. is_asked f.state c.args.current.now e) c.requires.asked
 
-pub push-requires-clause-asked : goal.push-requires-clause-asked
-push-requires-clause-asked g c =
-    let f : Frame = get_or c.args.self.now.frames c.args.self.now.height c.index-self-self.result in
-    let is : IsTop c.args.self.now f = read_top c.args.self.now c.index-self-self.result (omega (arith, c.requires.stack.height_fits)) in
-    let asks : f.state ≡ AwaitingChild c.args.current.now = on_top c.args.self.now f (λ (top : Frame). top.state ≡ AwaitingChild c.args.current.now) is c.requires.asked in
-    on_map c.narrow.new.self (λ new. KeepsAsked f new) (λ top. top.state ≡ AwaitingChild c.args.current.now) (λ new k. k.1.1.1.1.0 ∙ asks) (topmost c.args.self.now c.index-self-self.result c.narrow.new.self is c.narrow.ensures.top)
-
 pub push-requires-clause-room : goal.push-requires-clause-room
 push-requires-clause-room g c =
     let f : Frame = get_or c.args.self.now.frames c.args.self.now.height c.index-self-self.result in
     let is : IsTop c.args.self.now f = read_top c.args.self.now c.index-self-self.result (omega (arith, c.requires.stack.height_fits)) in
     let deep : 2 ≤ f.depth - 1 = c.in_default-answer_of.ensures.deep in
     omega (arith, c.narrow.ensures.height, room c.args.self.now f is c.requires.stack (omega (arith, deep)))
-
-pub push-requires-clause-deep : goal.push-requires-clause-deep
-push-requires-clause-deep g c =
-    let f : Frame = get_or c.args.self.now.frames c.args.self.now.height c.index-self-self.result in
-    let is : IsTop c.args.self.now f = read_top c.args.self.now c.index-self-self.result (omega (arith, c.requires.stack.height_fits)) in
-    let deep : 2 ≤ f.depth - 1 = c.in_default-answer_of.ensures.deep in
-    on_map c.narrow.new.self (λ new. KeepsAsked f new) (λ top. 2 < top.depth) (λ new k. subst (λ (n : ℕ). 2 < n) (sym k.1.0) (omega (arith, deep))) (topmost c.args.self.now c.index-self-self.result c.narrow.new.self is c.narrow.ensures.top)
-
-pub push-requires-clause-position : goal.push-requires-clause-position
-push-requires-clause-position g c =
-    let f : Frame = get_or c.args.self.now.frames c.args.self.now.height c.index-self-self.result in
-    let is : IsTop c.args.self.now f = read_top c.args.self.now c.index-self-self.result (omega (arith, c.requires.stack.height_fits)) in
-    let made : c.advance.new.self.position ≡ position_after f c.args.current.now = search rules in
-    on_map c.narrow.new.self (λ new. KeepsAsked f new) (λ top. c.advance.new.self.position ≡ position_after top c.args.current.now) (λ new k. made ∙ ap (λ (x : Evaluated). after_code x.position (code_of c.args.current.now)) (sym k.0)) (topmost c.args.self.now c.index-self-self.result c.narrow.new.self is c.narrow.ensures.top)
-
-pub push-requires-clause-eval : goal.push-requires-clause-eval
-push-requires-clause-eval g c =
-    let f : Frame = get_or c.args.self.now.frames c.args.self.now.height c.index-self-self.result in
-    let is : IsTop c.args.self.now f = read_top c.args.self.now c.index-self-self.result (omega (arith, c.requires.stack.height_fits)) in
-    let made : c.advance.new.self.eval ≡ f.node.eval = search rules in
-    on_map c.narrow.new.self (λ new. KeepsAsked f new) (λ top. c.advance.new.self.eval ≡ top.node.eval) (λ new k. made ∙ ap (λ (x : Evaluated). x.eval) (sym k.0)) (topmost c.args.self.now c.index-self-self.result c.narrow.new.self is c.narrow.ensures.top)
 
 pub returns-clause-left : goal.returns-clause-left
 returns-clause-left g c =
@@ -138,12 +108,12 @@ pub returns-in-Some-clause-calls : goal.returns-in-Some-clause-calls
 returns-in-Some-clause-calls g c = asks_in_step g.M.Memo.called _ _ 0 1 _ _ 0 (asks_none g.M.Memo.called _ 0) refl (omega arith) (omega arith)
 
 pub returns-in-Some-answer_of-clause-calls : goal.returns-in-Some-answer_of-clause-calls
-returns-in-Some-answer_of-clause-calls g c = asks_in_step g.M.Memo.called _ _ 0 1 _ _ 1 c.answer_of.ensures.asked refl (omega arith) (omega arith)
+returns-in-Some-answer_of-clause-calls g c = asks_in_step g.M.Memo.called _ _ 0 1 _ _ 1 c.answer_of.ensures.asks.asked refl (omega arith) (omega arith)
 
 pub returns-clause-calls : goal.returns-clause-calls
 returns-clause-calls g c =
     asks_in_step g.M.Memo.called _ _ 0 1 _ _ 2
-    (asks_and_asks g.M.Memo.called _ _ _ 1 1 2 c.answer_of.ensures.asked c.push.ensures.asked (omega arith))
+    (steps_and_steps g.M.Memo.called _ _ _ 0 0 0 0 0 0 1 1 c.answer_of.ensures.asks.asked c.push.ensures.asks.asked)
     refl (omega (arith, c.push.ensures.height, c.narrow.ensures.height)) (omega (arith, c.push.ensures.height, c.narrow.ensures.height))
 
 pub window-alpha-requires : goal.window-alpha-requires
@@ -188,16 +158,7 @@ back_up-requires-in-Some-answer_of-clause-truth g c =
     let place : c.advance.new.self.position ≡ position_after h c.args.current.now = search rules in
     let eval : c.advance.new.self.eval ≡ h.node.eval = search rules in
     subst (λ (x : Frame). IsTrueEntry (position_after x c.args.current.now) x.node.eval (x.depth - 1) c.in-Some-answer_of.entry) same
-    (same_truth _ _ _ _ _ _ c.in-Some-answer_of.entry place eval refl c.in-Some-answer_of.ensures.truth)
-
-pub returns-clause-stack : goal.returns-clause-stack
-returns-clause-stack g c = c.push.ensures.stack
-
-pub returns-clause-free : goal.returns-clause-free
-returns-clause-free g c = c.push.ensures.free
-
-pub returns-clause-whole : goal.returns-clause-whole
-returns-clause-whole g c = λ root. absurd (omega (arith, root, c.push.ensures.height))
+    (same_truth _ _ _ _ _ _ c.in-Some-answer_of.entry place eval refl c.in-Some-answer_of.ensures.known.truth)
 
 pub back_up-requires-clause-deep : goal.back_up-requires-clause-deep
 back_up-requires-clause-deep g c =
@@ -208,3 +169,28 @@ pub back_up-requires-in-Some-answer_of-clause-deep : goal.back_up-requires-in-So
 back_up-requires-in-Some-answer_of-clause-deep g c =
     let f : Frame = get_or c.args.self.now.frames c.args.self.now.height c.index-self-self-in-Some-answer_of.result in
     top_deep c.args.self.now f (read_top c.args.self.now c.index-self-self-in-Some-answer_of.result (omega (arith, c.requires.stack.height_fits))) c.requires.stack
+
+pub push-requires-clause-child : goal.push-requires-clause-child
+push-requires-clause-child g c =
+    let m : Move = c.args.current.now in
+    let f : Frame = get_or c.args.self.now.frames c.args.self.now.height c.index-self-self.result in
+    let is : IsTop c.args.self.now f = read_top c.args.self.now c.index-self-self.result (omega (arith, c.requires.stack.height_fits)) in
+    let asks : f.state ≡ AwaitingChild m = on_top c.args.self.now f (λ (top : Frame). top.state ≡ AwaitingChild m) is c.requires.asked in
+    let deep : 2 ≤ f.depth - 1 = c.in_default-answer_of.ensures.deep in
+    let position : c.advance.new.self.position ≡ position_after f m = search rules in
+    let eval : c.advance.new.self.eval ≡ f.node.eval = search rules in
+    on_map c.narrow.new.self (λ new. KeepsAsked f new) (AwaitsChild m c.advance.new.self) (λ new k. record {
+      asked = k.1.1.1.1.0 ∙ asks;
+      deep = subst (λ (n : ℕ). 2 < n) (sym k.1.0) (omega (arith, deep));
+      position = position ∙ ap (λ (x : Evaluated). after_code x.position (code_of m)) (sym k.0);
+      eval = eval ∙ ap (λ (x : Evaluated). x.eval) (sym k.0);
+    }) (topmost c.args.self.now c.index-self-self.result c.narrow.new.self is c.narrow.ensures.top)
+
+pub returns-in-Some-clause-ready : goal.returns-in-Some-clause-ready
+returns-in-Some-clause-ready g c = ready_on c.args.self.now _ c.back_up.new.self (read_top c.args.self.now c.index-self-self-in-Some.result (omega (arith, c.requires.stack.height_fits))) c.requires.stack c.requires.whole c.back_up.ensures
+
+pub returns-in-Some-answer_of-clause-ready : goal.returns-in-Some-answer_of-clause-ready
+returns-in-Some-answer_of-clause-ready g c = ready_on c.args.self.now _ c.back_up-in-Some-answer_of.new.self (read_top c.args.self.now c.index-self-self-in-Some-answer_of.result (omega (arith, c.requires.stack.height_fits))) c.requires.stack c.requires.whole c.back_up-in-Some-answer_of.ensures
+
+pub returns-clause-ready : goal.returns-clause-ready
+returns-clause-ready g c = c.push.ensures.ready

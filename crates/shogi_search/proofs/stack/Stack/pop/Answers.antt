@@ -1,4 +1,4 @@
-use Rattle.std.proofs.Common.{FitsSigned, w32, arith, refl, rules, ◌≡◌, ◌-◌, ◌∙◌}
+use Rattle.std.proofs.Common.{FitsSigned, w32, arith, length, refl, rules, ◌≡◌, ◌<◌, ◌-◌, ◌∙◌}
 use Rattle.std.proofs.lemmas.Int.{ints, to_z-of_z}
 use Rattle.search_nodes.specs.Visits.{IsFree}
 use Rattle.search_nodes.specs.Changes.{IsAt}
@@ -7,12 +7,13 @@ use Rattle.search_nodes.proofs.Nodes.{asked}
 use Rattle.minimax.specs.Entries.{IsConclusive}
 use Rattle.minimax.specs.Minimax.{negated}
 use Rattle.minimax.specs.declared.bounds.TheConstants.{INFINITY}
+use Rattle.shogi_search.specs.Stack.{IsChain, parents_of}
 use Rattle.shogi_search.specs.declared.stack.Stack.{Stack}
 use Rattle.shogi_search.proofs.Entries.{same_truth, same_window}
 use Rattle.shogi_search.proofs.NarrowRoots.{first_at}
 use Rattle.search_nodes.specs.declared.frame.Frame.{Frame}
 use Rattle.shogi_search.proofs.Places.{below_deep, HasTop, has_top, on_top, asked_below, truth_below, conclusive_below, stack_popped, left_popped, on_with}
-use Rattle.shogi_search.proofs.CallLaws.{asks_nothing, at_most}
+use Rattle.shogi_search.proofs.CallLaws.{only_asks_none}
 use Rattle.shogi_search.proofs.stack.Stack.pop.Goals as goal
 use Rattle.shogi_search.proofs.stack.Stack.pop.Goals.{else-self-eq1-via-then-self-eq1+else-self, else-self-eq1-via-else-self-eq1}
 
@@ -25,46 +26,11 @@ back_up-requires-clause-truth g c = truth_below c.args.self.now _ _ _ c.requires
 pub back_up-requires-clause-conclusive : goal.back_up-requires-clause-conclusive
 back_up-requires-clause-conclusive g c = conclusive_below c.args.self.now _ _ _ c.requires.stack (omega (arith, c.if-self-eq0.false)) (omega (arith, c.requires.stack.height_fits)) c.in-AwaitingChild.is c.requires.conclusive
 
-pub returns-clause-stack : goal.returns-clause-stack
-returns-clause-stack g c = stack_popped c.args.self.now _ c.back_up.new.self c.requires.stack (omega (arith, c.if-self-eq0.false)) (omega (arith, c.requires.stack.height_fits)) c.back_up.ensures.0
-
-pub returns-clause-free : goal.returns-clause-free
-returns-clause-free g c = λ _. on_with c.args.self.now (c.args.self.now.height - 1) c.back_up.new.self (λ (top : Frame). IsFree top.state) (omega (arith, c.requires.stack.height_fits)) c.back_up.ensures.1.1
-
-pub returns-clause-left : goal.returns-clause-left
-returns-clause-left g c = λ _. left_popped c.args.self.now _ c.back_up.new.self c.requires.stack (omega (arith, c.if-self-eq0.false)) (omega (arith, c.requires.stack.height_fits)) c.back_up.ensures.0 c.back_up.ensures.1.0
-
-pub returns-clause-asked : goal.returns-clause-asked
-returns-clause-asked g c = λ _. asks_nothing g.M.Memo.called _ _ _ refl
-
-pub returns-then-self-eq0-clause-truth : goal.returns-then-self-eq0-clause-truth
-returns-then-self-eq0-clause-truth g c = λ _.
-    let s : Stack = c.args.self.now in
-    let t : HasTop s (λ (top : Frame). IsTrueOf top c.args.entry.now) = has_top s _ c.requires.truth in
-    let at : IsAt s.root s.eval s.depth (negated INFINITY) s.bound t.top = first_at s s.height t.top c.if-self-eq0.true (on_top s t.top _ t.is c.requires.stack.chain) in
-    same_truth _ _ _ _ _ _ c.args.entry.now at.position at.eval at.depth t.has
-
-pub returns-then-self-eq0-clause-conclusive : goal.returns-then-self-eq0-clause-conclusive
-returns-then-self-eq0-clause-conclusive g c = λ _.
-    let s : Stack = c.args.self.now in
-    let t : HasTop s (λ (top : Frame). IsConclusive top.alpha top.beta c.args.entry.now) = has_top s _ c.requires.conclusive in
-    let at : IsAt s.root s.eval s.depth (negated INFINITY) s.bound t.top = first_at s s.height t.top c.if-self-eq0.true (on_top s t.top _ t.is c.requires.stack.chain) in
-    same_window _ _ _ _ c.args.entry.now at.alpha_is (at.beta_is ∙ c.requires.whole c.if-self-eq0.true) t.has
-
 pub leave_narrow-requires-clause-truth : goal.leave_narrow-requires-clause-truth
 leave_narrow-requires-clause-truth g c = c.requires.truth
 
 pub back_up-requires-clause-current : goal.back_up-requires-clause-current
 back_up-requires-clause-current g c = asked _ _ c.in-AwaitingChild.is
-
-pub returns-then-self-clause-left : goal.returns-then-self-clause-left
-returns-then-self-clause-left g c = λ _. c.leave_narrow.ensures.left
-
-pub returns-then-self-clause-whole : goal.returns-then-self-clause-whole
-returns-then-self-clause-whole g c = λ _. c.leave_narrow.ensures.whole
-
-pub returns-then-self-clause-asked : goal.returns-then-self-clause-asked
-returns-then-self-clause-asked g c = λ _. at_most g.M.Memo.called _ _ 0 0 0 0 _ _ c.leave_narrow.ensures.asked (omega (arith, c.if-self-eq1.true))
 
 pub leave_narrow-requires-clause-narrow : goal.leave_narrow-requires-clause-narrow
 leave_narrow-requires-clause-narrow g c =
@@ -73,15 +39,44 @@ leave_narrow-requires-clause-narrow g c =
     let high : FitsSigned w32 s.beta = search rules in
     (c.if-self-eq1.true, omega (arith, ints, to_z-of_z w32 s.bound low, to_z-of_z w32 s.beta high, c.if-self.true))
 
-pub returns-clause-whole : goal.returns-clause-whole
-returns-clause-whole g c = λ zero.
-    let s : Stack = c.args.self.now in
-    let low : FitsSigned w32 s.bound = search rules in
-    let high : FitsSigned w32 s.beta = search rules in
-    elim c.else-self-eq1.branch [
-      | else-self-eq1-via-then-self-eq1+else-self w ↦ omega (arith, ints, to_z-of_z w32 s.bound low, to_z-of_z w32 s.beta high, w.if-self.false, c.requires.stack.within)
-      | else-self-eq1-via-else-self-eq1 w ↦ absurd {A = s.bound ≡ s.beta} (omega (arith, zero, c.if-self-eq0.false, w.if-self-eq1.false))
-    ]
-
 pub back_up-requires-clause-deep : goal.back_up-requires-clause-deep
 back_up-requires-clause-deep g c = below_deep c.args.self.now _ c.requires.stack (omega (arith, c.if-self-eq0.false)) (omega (arith, c.requires.stack.height_fits))
+
+pub returns-then-self-eq0-clause-root : goal.returns-then-self-eq0-clause-root
+returns-then-self-eq0-clause-root g c = λ _.
+    let s : Stack = c.args.self.now in
+    let t : HasTop s (IsChain s.root s.eval s.depth (negated INFINITY) s.bound (parents_of s)) = has_top s _ c.requires.stack.chain in
+    let at : IsAt s.root s.eval s.depth (negated INFINITY) s.bound t.top = first_at s s.height t.top c.if-self-eq0.true t.has in (
+      c.if-self-eq0.true,
+      record {
+        truth = same_truth _ _ _ _ _ _ c.args.entry.now at.position at.eval at.depth (on_top s t.top (λ (top : Frame). IsTrueOf top c.args.entry.now) t.is c.requires.truth);
+        conclusive = same_window _ _ _ _ c.args.entry.now at.alpha_is (at.beta_is ∙ c.requires.whole c.if-self-eq0.true) (on_top s t.top (λ (top : Frame). IsConclusive top.alpha top.beta c.args.entry.now) t.is c.requires.conclusive);
+      },
+    )
+
+pub returns-then-self-clause-left : goal.returns-then-self-clause-left
+returns-then-self-clause-left g c = λ _. c.leave_narrow.ensures
+
+pub returns-clause-left : goal.returns-clause-left
+returns-clause-left g c = λ _.
+    let s : Stack = c.args.self.now in
+    let some : 0 < s.height = omega (arith, c.if-self-eq0.false) in
+    let fits : s.height < length s.frames = omega (arith, c.requires.stack.height_fits) in
+    let low : FitsSigned w32 s.bound = search rules in
+    let high : FitsSigned w32 s.beta = search rules in
+    record {
+      ready = record {
+        stack = stack_popped s _ c.back_up.new.self c.requires.stack some fits c.back_up.ensures.0;
+        whole = λ zero. elim c.else-self-eq1.branch [
+          | else-self-eq1-via-then-self-eq1+else-self w ↦ omega (arith, ints, to_z-of_z w32 s.bound low, to_z-of_z w32 s.beta high, w.if-self.false, c.requires.stack.within)
+          | else-self-eq1-via-else-self-eq1 w ↦ absurd {A = s.bound ≡ s.beta} (omega (arith, zero, c.if-self-eq0.false, w.if-self-eq1.false))
+        ];
+        free = on_with s (s.height - 1) c.back_up.new.self (λ (top : Frame). IsFree top.state) (omega (arith, fits)) c.back_up.ensures.1.1;
+      };
+      fewer = left_popped s _ c.back_up.new.self c.requires.stack some fits c.back_up.ensures.0 c.back_up.ensures.1.0;
+      some = some;
+      above = omega arith;
+      below = omega arith;
+      unchanged = (refl, (refl, (refl, refl)));
+      asks = only_asks_none g.M.Memo _ _;
+    }

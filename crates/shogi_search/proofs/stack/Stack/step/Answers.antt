@@ -1,6 +1,4 @@
-use Rattle.std.proofs.Common.{arith, get_or, refl, ℕ, ◌≡◌, ◌<◌, ◌≤◌, length, Option, Some, None}
-use Rattle.std.specs.Prelude.{IfNone}
-use Rattle.minimax.specs.declared.entry.Entry.{Entry}
+use Rattle.std.proofs.Common.{arith, get_or, refl, ◌≡◌}
 use Rattle.shogi_search.specs.declared.stack.Stack.{Stack}
 use Rattle.std.proofs.lemmas.Bool.{both_ways}
 use Rattle.search_nodes.specs.Order.{todo}
@@ -8,6 +6,7 @@ use Rattle.search_nodes.specs.Visits.{IsFree, IsOver}
 use Rattle.search_nodes.specs.declared.frame.Frame.{Frame}
 use Rattle.search_nodes.specs.declared.frame.NodeState.TheVariants.{AwaitingChild}
 use Rattle.shogi_search.proofs.Places.{IsTop, left_passed, read_top, on_top, on_with, changed, over_next, over_cut, left_descended}
+use Rattle.shogi_search.proofs.Runs.{step_from}
 use Rattle.shogi_search.proofs.stack.Stack.step.Goals as goal
 
 pub enter_child-requires-clause-stack : goal.enter_child-requires-clause-stack
@@ -22,43 +21,11 @@ leave-requires-clause-stack g c = changed c.args.self.now _ c.next_move.new.self
 pub leave-requires-clause-over : goal.leave-requires-clause-over
 leave-requires-clause-over g c = on_with c.args.self.now c.args.self.now.height c.next_move.new.self (λ (top : Frame). IsOver top.state (todo top.node.position top.picker)) (omega (arith, c.requires.stack.height_fits)) (over_next c.next_move.new.self c.in_default.ensures.1.0 c.in_default.ensures.1.1.1)
 
-pub returns-then-is_next-clause-left : goal.returns-then-is_next-clause-left
-returns-then-is_next-clause-left g c =
-    let fits : c.args.self.now.height < length c.args.self.now.frames = omega (arith, c.requires.stack.height_fits) in
-    omega (arith, left_descended c.args.self.now c.enter_child.new.self c.in-Some.current (get_or c.args.self.now.frames c.args.self.now.height c.index-self-self.result) c.next_move.new.self 1 (read_top c.args.self.now c.index-self-self.result fits) c.next_move.ensures.0 c.in-Some.ensures.1.1.0 c.enter_child.ensures.left)
-
 pub leave-requires-2-clause-over : goal.leave-requires-2-clause-over
 leave-requires-2-clause-over g c =
     let f : Frame = get_or c.args.self.now.frames c.args.self.now.height c.index-self-self.result in
     let free : IsFree f.state = on_top c.args.self.now f (λ (top : Frame). IsFree top.state) (read_top c.args.self.now c.index-self-self.result (omega (arith, c.requires.stack.height_fits))) c.requires.free in
     on_with c.args.self.now c.args.self.now.height f (λ (top : Frame). IsOver top.state (todo top.node.position top.picker)) (omega (arith, c.requires.stack.height_fits)) (over_cut f.state (todo f.node.position f.picker) (λ next. both_ways c.is_next.result c.if-is_next.false (c.is_next.ensures.1 next)) free)
-
--- less than what was passed on is less than what was
-less_still : (o : Option Entry) (a b n : ℕ) → IfNone o (a < b) → b ≤ n → IfNone o (a < n)
-less_still None a b n less more = omega arith
-less_still (Some entry) a b n less more = tt
-
-pub returns-in_default-clause-left : goal.returns-in_default-clause-left
-returns-in_default-clause-left g c =
-    let s : Stack = c.args.self.now in
-    let f : Frame = get_or s.frames s.height c.index-self-self.result in
-    let is : IsTop s f = read_top s c.index-self-self.result (omega (arith, c.requires.stack.height_fits)) in
-    less_still c.leave.result _ _ _ c.leave.ensures.left (left_passed s f c.next_move.new.self is c.next_move.ensures.0 c.in_default.ensures.1.1.0)
-
-pub returns-in_default-clause-calls : goal.returns-in_default-clause-calls
-returns-in_default-clause-calls g c = c.leave.ensures.calls
-
-pub returns-in_default-clause-told : goal.returns-in_default-clause-told
-returns-in_default-clause-told g c = c.leave.ensures.told
-
-pub returns-in_default-clause-truth : goal.returns-in_default-clause-truth
-returns-in_default-clause-truth g c = c.leave.ensures.truth
-
-pub returns-in_default-clause-conclusive : goal.returns-in_default-clause-conclusive
-returns-in_default-clause-conclusive g c = c.leave.ensures.conclusive
-
-pub returns-then-is_next-clause-calls : goal.returns-then-is_next-clause-calls
-returns-then-is_next-clause-calls g c = c.enter_child.ensures.calls
 
 pub leave-requires-2-clause-stack : goal.leave-requires-2-clause-stack
 leave-requires-2-clause-stack g c =
@@ -67,9 +34,26 @@ leave-requires-2-clause-stack g c =
     let is : IsTop s f = read_top s c.index-self-self.result (omega (arith, c.requires.stack.height_fits)) in
     changed s f f is c.requires.stack (refl, (refl, (refl, refl)))
 
-pub returns-clause-left : goal.returns-clause-left
-returns-clause-left g c =
+pub returns-then-is_next : goal.returns-then-is_next
+returns-then-is_next g c = record {
+  ready = c.enter_child.ensures.ready;
+  fewer = left_descended c.args.self.now c.enter_child.new.self c.in-Some.current (get_or c.args.self.now.frames c.args.self.now.height c.index-self-self.result) c.next_move.new.self 1 (read_top c.args.self.now c.index-self-self.result (omega (arith, c.requires.stack.height_fits))) c.next_move.ensures.0 c.in-Some.ensures.1.1.0 c.enter_child.ensures.left;
+  known = tt;
+  unchanged = c.enter_child.ensures.unchanged;
+  calls = c.enter_child.ensures.calls;
+  told = tt;
+  capacity = c.enter_child.ensures.capacity;
+}
+
+pub returns-in_default : goal.returns-in_default
+returns-in_default g c =
+    let s : Stack = c.args.self.now in
+    let is = read_top s c.index-self-self.result (omega (arith, c.requires.stack.height_fits)) in
+    step_from g.M.Memo _ _ s c.next_move.new.self _ _ (left_passed s _ c.next_move.new.self is c.next_move.ensures.0 c.in_default.ensures.1.1.0) c.leave.ensures
+
+pub returns : goal.returns
+returns g c =
     let s : Stack = c.args.self.now in
     let f : Frame = get_or s.frames s.height c.index-self-self.result in
     let is : IsTop s f = read_top s c.index-self-self.result (omega (arith, c.requires.stack.height_fits)) in
-    less_still c.leave-2.result _ _ _ c.leave-2.ensures.left (left_passed s f f is (refl, (refl, (refl, refl))) (omega arith))
+    step_from g.M.Memo _ _ s f _ _ (left_passed s f f is (refl, (refl, (refl, refl))) (omega arith)) c.leave-2.ensures

@@ -1,11 +1,10 @@
-use Rattle.std.proofs.Common.{arith, rules, FitsSigned, w32, ◌≡◌, ◌-◌, ◌∙◌, get_or, length, ◌<◌}
+use Rattle.std.proofs.Common.{arith, rules, FitsSigned, w32, ◌-◌, get_or}
 use Rattle.std.proofs.lemmas.Int.{ints, to_z-of_z}
 use mir.Val.{to_z, of_z}
 use Rattle.search_nodes.specs.declared.frame.Frame.{Frame}
-use Rattle.search_nodes.specs.declared.frame.NodeState.TheVariants.{AwaitingChild}
 use Rattle.search_nodes.proofs.Nodes.{is_asked}
-use Rattle.shogi_search.proofs.Places.{asked_below, on_with}
-use Rattle.shogi_search.proofs.NarrowRoots.{with_bound, root_below, widened, left_widened, child_widened}
+use Rattle.shogi_search.proofs.Places.{asked_below}
+use Rattle.shogi_search.proofs.NarrowRoots.{root_below, widened, left_widened, child_widened}
 use Rattle.shogi_search.proofs.stack.Stack.widen.Goals as goal
 
 pub unreachable-requires : goal.unreachable-requires
@@ -27,11 +26,6 @@ returns-clause-stack c =
     let r = root_below c.args.self.now _ c.in-AwaitingChild.current c.requires.stack c.requires.narrow (omega (arith, c.requires.stack.height_fits)) c.in-AwaitingChild.is in
     let fits : FitsSigned w32 c.args.self.now.beta = search rules in
     widened c.args.self.now c.in-AwaitingChild.current _ c.end_at.new.self (to_z w32 (of_z w32 c.args.self.now.beta)) r c.requires.stack c.end_at.ensures.unchanged c.end_at.ensures.beta (to_z-of_z w32 c.args.self.now.beta fits)
-
-pub returns-clause-asked : goal.returns-clause-asked
-returns-clause-asked c =
-    let fits : c.args.self.now.height - 1 < length c.args.self.now.frames = omega (arith, c.requires.stack.height_fits) in
-    on_with (with_bound c.args.self.now (to_z w32 (of_z w32 c.args.self.now.beta))) (c.args.self.now.height - 1) c.end_at.new.self (λ (top : Frame). top.state ≡ AwaitingChild c.in-AwaitingChild.current) fits (c.end_at.ensures.unchanged.1.1.1.1.0 ∙ c.in-AwaitingChild.is)
 
 pub returns-clause-child : goal.returns-clause-child
 returns-clause-child c =
