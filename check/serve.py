@@ -993,6 +993,15 @@ def until_status(running, what, **wanted):
     wait_until(lambda: all(status(running).get(name) == n for name, n in wanted.items()), what)
 
 
+def a_status_names_its_process():
+    before = time.time()
+    with told() as running:
+        picked(running, pid=running.running.pid)
+        # The clock of the host may be that of the last tick.
+        if not before - 2 <= status(running)["started"] <= time.time():
+            raise Wrong(f"the start: {status(running)}")
+
+
 def a_status_counts_what_happened():
     with told("--slots", "3", "--entries", "500", "--slice", "70") as running:
         version = subprocess.run(
@@ -1266,6 +1275,7 @@ CHECKS = (
     a_socket_that_cannot_be_made_is_told,
     a_socket_that_was_left_is_told_from_a_live_one,
     want_of_memory_is_told,
+    a_status_names_its_process,
     a_status_counts_what_happened,
     a_status_shows_the_setup,
     a_session_begins_under_the_setup,

@@ -15,6 +15,8 @@ PATIENCE = 5
 
 LABELS = (
     ("version", "version"),
+    ("pid", "process"),
+    ("started", "started, in seconds since 1970"),
     ("slots", "sessions at most"),
     ("used", "sessions open"),
     ("searching", "  with work"),

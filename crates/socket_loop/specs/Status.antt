@@ -6,6 +6,7 @@ use Rattle.socket_loop.specs.Turns.{LoopState}
 use Rattle.socket_loop.specs.Tallies.{pending_count}
 use Rattle.socket_loop.specs.declared.tally.Tally.{Tally}
 use Rattle.stream_transport.specs.declared.wire.StreamWire.{StreamWire}
+use Rattle.socket_loop.specs.declared.status.Process.{Process}
 use Rattle.socket_loop.specs.declared.status.Limits.{Limits}
 use Rattle.socket_loop.specs.declared.status.Totals.{Totals}
 use Rattle.socket_loop.specs.declared.status.Status.{Status}
@@ -41,9 +42,10 @@ counted totals tally = record {
 }
 
 -- the numbers of a host, its connections and its wire; so many calls failed beside those of the wire
-abbrev pub status_from : {L A S : Type 0} → Limits → Totals → ℕ → HostState → LoopState
+abbrev pub status_from : {L A S : Type 0} → Process → Limits → Totals → ℕ → HostState → LoopState
     → StreamWire L A S → Status
-status_from limits totals faults host connections wire = record {
+status_from process limits totals faults host connections wire = record {
+  process = process;
   limits = limits;
   setup = host.setup;
   totals = totals;

@@ -3,9 +3,17 @@ use Rattle.std.specs.Prelude.{ℕ, ◌-◌, ◌++◌, List, codes, decimal}
 use Rattle.shogi_eval.specs.declared.eval.Eval.{Eval}
 use Rattle.shogi_eval.specs.declared.eval.Eval.TheVariants.{Plain, Hand, Exchange}
 use Rattle.usi_texts.specs.declared.setup.Setup.{Setup}
+use Rattle.socket_loop.specs.declared.status.Process.{Process}
 use Rattle.socket_loop.specs.declared.status.Limits.{Limits}
 use Rattle.socket_loop.specs.declared.status.Totals.{Totals}
 use Rattle.socket_loop.specs.declared.status.Status.{Status}
+
+-- which process it is, and since when
+abbrev pub with_process : Process → List ℕ → List ℕ
+with_process process before =
+    before
+    ++ codes ",\"pid\":" ++ decimal process.pid
+    ++ codes ",\"started\":" ++ decimal process.started
 
 -- what the host was started with
 abbrev pub with_limits : Limits → List ℕ → List ℕ
@@ -69,5 +77,6 @@ with_others status before =
 abbrev pub status_line : Status → List ℕ
 status_line status =
     with_others status (with_ends status.totals (with_arrivals status.totals (with_loads status
-    (with_setup status.setup (with_limits status.limits (codes "{\"version\":\"0.1.0\""))))))
+    (with_setup status.setup (with_limits status.limits (with_process status.process
+    (codes "{\"version\":\"0.1.0\"")))))))
     ++ codes "}\n"

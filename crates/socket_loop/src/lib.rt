@@ -17,7 +17,7 @@ pub use connection::{Connection, Link};
 pub use laws::{answers_as_alone, isolation};
 pub use monitor::{Monitor, NoMonitor};
 pub use serving::serve;
-pub use status::{Limits, Status, Totals, status_of};
+pub use status::{Limits, Process, Status, Totals, status_of};
 pub use status_line::{LINE_MAX, write_line};
 pub use status_socket::StatusSocket;
 pub use tally::Tally;

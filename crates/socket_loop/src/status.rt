@@ -12,6 +12,15 @@ use stream_transport::MioWire;
 use transport::Wire;
 use usi_texts::Setup;
 
+/// The process of a host.
+#[derive(Clone, Copy, Debug, PartialEq, Eq)]
+pub struct Process {
+    /// The number by which signals reach it.
+    pub pid: u32,
+    /// When it was started, in seconds since 1970 began (UTC); 0 where no clock told it.
+    pub started: u64,
+}
+
 /// What a host was started with.
 #[derive(Clone, Copy, Debug, PartialEq, Eq)]
 pub struct Limits {
@@ -47,6 +56,7 @@ pub struct Totals {
 /// The numbers of a host at one moment.
 #[derive(Clone, Copy, Debug)]
 pub struct Status {
+    pub process: Process,
     pub limits: Limits,
     /// Under what each session begins.
     pub setup: Setup,
@@ -101,6 +111,7 @@ impl Totals {
 
 /// The numbers of a host, its connections and its wire; so many calls failed beside those of the wire.
 pub fn status_of<S: BuildHasher, A: Allocator + Copy>(
+    process: Process,
     limits: Limits,
     totals: Totals,
     faults: u64,
@@ -108,9 +119,10 @@ pub fn status_of<S: BuildHasher, A: Allocator + Copy>(
     connections: &Loop<A>,
     wire: &MioWire<A>,
 ) -> Status
-    ensures { result ≡ status_from limits totals faults host.now connections.now wire.now }
+    ensures { result ≡ status_from process limits totals faults host.now connections.now wire.now }
 {
     Status {
+        process,
         limits,
         setup: host.setup(),
         totals,

@@ -1,9 +1,9 @@
 //! The numbers of a status as one line of JSON.
 
 ghost use Rattle.std.specs.Prelude.{◌≡◌, ◌++◌, codes, decimal, OnOk};
-ghost use Rattle.socket_loop.specs.StatusLine.{eval_word, status_line, with_arrivals, with_ends, with_limits, with_loads, with_others, with_setup};
+ghost use Rattle.socket_loop.specs.StatusLine.{eval_word, status_line, with_arrivals, with_ends, with_limits, with_loads, with_others, with_process, with_setup};
 
-use crate::status::{Limits, Status, Totals};
+use crate::status::{Limits, Process, Status, Totals};
 use itoa::Buffer;
 use shogi_eval::Eval;
 use std::alloc::{AllocError, Allocator};
@@ -43,6 +43,18 @@ fn put_text<A: Allocator>(out: &mut Vec<u8, A>, text: &[u8], word: &[u8]) -> Res
     out.extend_from_slice(text)?;
     out.extend_from_slice(word)?;
     out.extend_from_slice(b"\"")
+}
+
+fn put_process<A: Allocator>(out: &mut Vec<u8, A>, process: &Process) -> Result<(), AllocError>
+    ensures { OnOk result (out.new.items ≡ with_process process.now out.old.items) }
+{
+    put_two(
+        out,
+        b",\"pid\":",
+        process.pid as u64,
+        b",\"started\":",
+        process.started,
+    )
 }
 
 fn put_limits<A: Allocator>(out: &mut Vec<u8, A>, limits: &Limits) -> Result<(), AllocError>
@@ -161,6 +173,7 @@ pub fn write_line<A: Allocator>(out: &mut Vec<u8, A>, status: &Status) -> Result
 {
     out.clear();
     out.extend_from_slice(b"{\"version\":\"0.1.0\"")?;
+    put_process(out, &status.process)?;
     put_limits(out, &status.limits)?;
     put_setup(out, &status.setup)?;
     put_loads(out, status)?;

@@ -5,7 +5,7 @@ ghost use Rattle.socket_loop.specs.Status.{counted, no_totals};
 ghost use Rattle.transport.specs.declared.wire.WireFault.TheVariants.{Device};
 
 use crate::monitor::Monitor;
-use crate::status::{Limits, Totals, status_of};
+use crate::status::{Limits, Process, Totals, status_of};
 use crate::status_line::{LINE_MAX, write_line};
 use crate::turn::{Loop, Turn};
 use crate::visitors::Visitors;
@@ -24,6 +24,8 @@ use transport::WireFault;
 pub struct StatusSocket<A: Allocator> {
     visitors: Visitors,
     line: Vec<u8, A>,
+    /// The process of the host.
+    pub process: Process,
     /// What the host was given.
     pub limits: Limits,
     /// What was counted so far.
@@ -37,10 +39,12 @@ impl<A: Allocator + Copy> StatusSocket<A> {
         rt: &R,
         alloc: A,
         path: &str,
+        process: Process,
         limits: Limits,
         wire: &MioWire<A>,
     ) -> Result<StatusSocket<A>, WireFault>
         ensures unnamed { path.now ≡ [] → result ≡ Err Device }
+        ensures process { IfOk result (λ socket. socket.process ≡ process) }
         ensures limits { IfOk result (λ socket. socket.limits ≡ limits) }
         ensures if_none { IfOk result (λ socket. socket.totals ≡ no_totals) }
     {
@@ -57,6 +61,7 @@ impl<A: Allocator + Copy> StatusSocket<A> {
         Ok(StatusSocket {
             visitors: Visitors::new(listener, registry),
             line,
+            process,
             limits,
             totals: Totals::NONE,
         })
@@ -64,11 +69,20 @@ impl<A: Allocator + Copy> StatusSocket<A> {
 
     /// Makes the line of now. There is none where memory is refused.
     fn tell<S: BuildHasher>(&mut self, host: &Host<S, A>, connections: &Loop<A>, wire: &MioWire<A>)
+        ensures process { self.new.process ≡ self.old.process }
         ensures limits { self.new.limits ≡ self.old.limits }
         ensures totals { self.new.totals ≡ self.old.totals }
     {
         let faults = self.visitors.faults;
-        let status = status_of(self.limits, self.totals, faults, host, connections, wire);
+        let status = status_of(
+            self.process,
+            self.limits,
+            self.totals,
+            faults,
+            host,
+            connections,
+            wire,
+        );
         if write_line(&mut self.line, &status).is_err() {
             self.line.clear();
         }
@@ -83,6 +97,7 @@ impl<S: BuildHasher, A: Allocator + Copy> Monitor<MioWire<A>, S, A> for StatusSo
         connections: &Loop<A>,
         wire: &MioWire<A>,
     )
+        ensures process { self.new.process ≡ self.old.process }
         ensures limits { self.new.limits ≡ self.old.limits }
         ensures totals { self.new.totals ≡ counted self.old.totals turn.now.tally }
     {

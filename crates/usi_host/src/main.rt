@@ -10,12 +10,13 @@ mod setup;
 
 use crate::setup::{host_of, run_script, run_session};
 use host_core::Host;
-use socket_loop::{Limits, Loop, StatusSocket, serve};
+use socket_loop::{Limits, Loop, Process, StatusSocket, serve};
 use std::alloc::Global;
 use std::hash::RandomState;
 use std::io::IsTerminal;
 use std::process::ExitCode;
-use std::{fs, io};
+use std::time::{SystemTime, UNIX_EPOCH};
+use std::{fs, io, process};
 use stream_transport::MioWire;
 use transport::WireFault;
 use usi_app::{
@@ -41,6 +42,17 @@ fn bound(rt: &HostRuntime, socket: &str) -> Result<MioWire<Global>, ServeFault> 
     }
 }
 
+/// The seconds since 1970 began (UTC), or 0 where no clock tells them.
+fn seconds_now(rt: &HostRuntime) -> u64 {
+    let Ok(now) = SystemTime::now(rt) else {
+        return 0;
+    };
+    match now.duration_since(UNIX_EPOCH) {
+        Ok(passed) => passed.as_secs(),
+        Err(_) => 0,
+    }
+}
+
 /// A socket for the status at the path, where there is one, watched by the wire of another socket.
 fn watched(
     rt: &HostRuntime,
@@ -51,7 +63,11 @@ fn watched(
     let Some(path) = status else {
         return Ok(None);
     };
-    match StatusSocket::bind(rt, rt.alloc(), path.as_str(), limits, wire) {
+    let process = Process {
+        pid: process::id(rt.process()),
+        started: seconds_now(rt),
+    };
+    match StatusSocket::bind(rt, rt.alloc(), path.as_str(), process, limits, wire) {
         Ok(bound) => Ok(Some(bound)),
         Err(WireFault::Device) => Err(status_fault(rt, path.as_str())),
         Err(WireFault::OutOfMemory) => Err(ServeFault::OutOfMemory),
