@@ -133,6 +133,20 @@ impl<S: BuildHasher, A: Allocator + Copy> Host<S, A> {
         self.table.refused()
     }
 
+    /// How many probes of the table there were. The count stays at the greatest number once it is there.
+    pub fn probes(&self) -> u64
+        ensures { result ≡ self.now.table.probes }
+    {
+        self.table.probes()
+    }
+
+    /// How many of them found an entry. The count stays at the greatest number once it is there.
+    pub fn hits(&self) -> u64
+        ensures { result ≡ self.now.table.hits }
+    {
+        self.table.hits()
+    }
+
     /// How many entries the table has.
     pub fn entries(&self) -> usize
         ensures { result ≡ length self.now.table.pairs }

@@ -98,14 +98,14 @@ table_probed key pairs capacity t = record {
 }
 
 -- what `lru` makes of a put that succeeds is what the table means by a note
-pub put_noted : {T E : Type 0} (key : Key) (entry : Entry) (old new : LruCache Key Entry) (count : ℕ) (r : Result T E)
+pub put_noted : {T E : Type 0} (key : Key) (entry : Entry) (old new : LruCache Key Entry) (count probes hits : ℕ) (r : Result T E)
     → 0 < old.cap → length old.entries ≤ old.cap → is_err r ≡ false
     → OnOk r (new ≡ lru_cache (put_entries is_same_key old key entry) old.cap)
-    → IsNoted (table_of old count) key entry (table_of new count)
-put_noted key entry old new count (Ok x) room fits succeeds ok =
+    → IsNoted (table_of old count probes hits) key entry (table_of new count probes hits)
+put_noted key entry old new count probes hits (Ok x) room fits succeeds ok =
     let same = ok ∙ ap (λ (l : List Pair). lru_cache l old.cap) (put_is key entry old.entries old.cap room fits) in
-    inl (ap (λ (cache : LruCache Key Entry). table_of cache count) same)
-put_noted key entry old new count (Err x) room fits succeeds ok = cc
+    inl (ap (λ (cache : LruCache Key Entry). table_of cache count probes hits) same)
+put_noted key entry old new count probes hits (Err x) room fits succeeds ok = cc
 
 -- a pair of the list after a note is the noted one or was there
 noted_pair : (capacity : ℕ) (key : Key) (entry : Entry) (pairs : List Pair) (pair : Pair)
@@ -117,15 +117,15 @@ noted_pair capacity key entry pairs pair at =
     ]
 
 -- a note of a true entry keeps what holds of the table
-pub table_noted : (key : Key) (entry : Entry) (old new : LruCache Key Entry) (before after : ℕ)
+pub table_noted : (key : Key) (entry : Entry) (old new : LruCache Key Entry) (before after probes hits : ℕ)
     → IsTable old.entries old.cap → IsTrueEntry key.position key.eval key.depth entry
-    → IsNoted (table_of old before) key entry (table_of new after)
+    → IsNoted (table_of old before probes hits) key entry (table_of new after probes hits)
     → IsTable new.entries new.cap
-table_noted key entry old new before after t true_entry (inr same) =
+table_noted key entry old new before after probes hits t true_entry (inr same) =
     let pairs : new.entries ≡ old.entries = ap (λ (x : Table). x.pairs) same.1 in
     let capacity : new.cap ≡ old.cap = ap (λ (x : Table). x.capacity) same.1 in
     record { truth = rw pairs t.truth; least = rw capacity t.least; most = rw capacity t.most }
-table_noted key entry old new before after t true_entry (inl same) =
+table_noted key entry old new before after probes hits t true_entry (inl same) =
     let pairs : new.entries ≡ noted old.cap key entry old.entries = ap (λ (x : Table). x.pairs) same in
     let capacity : new.cap ≡ old.cap = ap (λ (x : Table). x.capacity) same in
     record {
@@ -136,3 +136,8 @@ table_noted key entry old new before after t true_entry (inl same) =
       least = rw capacity t.least;
       most = rw capacity t.most;
     }
+
+-- a note keeps the capacity
+pub noted_capacity : (old new : Table) (key : Key) (entry : Entry) → IsNoted old key entry new → new.capacity ≡ old.capacity
+noted_capacity old new key entry (inl same) = ap (λ (t : Table). t.capacity) same
+noted_capacity old new key entry (inr same) = ap (λ (t : Table). t.capacity) same.1

@@ -1,5 +1,5 @@
 -- The entries of a table as a list, the most recently used first (own choice).
-use Rattle.std.specs.Prelude.{◌≡◌, ◌≤◌, ◌+◌, ◌-◌, ◌^◌, ◌⊎◌, [], ◌∷◌, ℕ, List, Option, None, Contains, min, take}
+use Rattle.std.specs.Prelude.{◌≡◌, ◌≤◌, ◌+◌, ◌-◌, ◌^◌, ◌⊎◌, [], ◌∷◌, ℕ, List, Option, Some, None, Contains, min, take}
 use Rattle.std.specs.Map.{lookup, remove_entry}
 use Rattle.std.specs.Option.{option_map_or}
 use Rattle.lru.specs.LruCache.{LruCache, lru_cache, promoted}
@@ -12,23 +12,36 @@ use Rattle.minimax.specs.declared.entry.Entry.{Entry}
 abbrev pub Pair : Type 0
 Pair = Key × Entry
 
--- the pairs, the most recently used first, how many there may be, and how many notes found no memory
+-- the pairs, the most recently used first, how many there may be, and counts: of notes that found no memory, of probes, and of those that were hits
 pub record Table : Type 0 where
   pub pairs : List Pair
   pub capacity : ℕ
   pub refused : ℕ
+  pub probes : ℕ
+  pub hits : ℕ
 
 -- an empty table for so many pairs
 abbrev pub new_table : ℕ → Table
-new_table capacity = record { pairs = []; capacity = capacity; refused = 0 }
+new_table capacity = record { pairs = []; capacity = capacity; refused = 0; probes = 0; hits = 0 }
 
--- a cache as the table that it holds, after so many refused notes
-abbrev pub table_of : LruCache Key Entry → ℕ → Table
-table_of cache refused = record {
+-- a cache as the table that it holds, after so many refused notes, probes and hits
+abbrev pub table_of : LruCache Key Entry → ℕ → ℕ → ℕ → Table
+table_of cache refused probes hits = record {
   pairs = cache.entries;
   capacity = cache.cap;
   refused = refused;
+  probes = probes;
+  hits = hits;
 }
+
+-- so many more; a count stays at the greatest number once it is there
+abbrev pub plus : ℕ → ℕ → ℕ
+plus count more = min (count + more) (2 ^ 64 - 1)
+
+-- one for a probe that found an entry
+abbrev pub hit_of : Option Entry → ℕ
+hit_of (Some entry) = 1
+hit_of None = 0
 
 -- the entry under the key, or none
 abbrev pub entry_of : List Pair → Key → Option Entry
@@ -47,9 +60,13 @@ probed key pairs =
 abbrev pub noted : ℕ → Key → Entry → List Pair → List Pair
 noted capacity key entry pairs = take capacity ((key, entry) ∷ without key pairs)
 
--- the table after a probe for the key
+-- the table after a probe for the key, which is counted
 abbrev pub with_probe : Table → Key → Table
-with_probe table key = record table { pairs = probed key table.pairs }
+with_probe table key = record table {
+  pairs = probed key table.pairs;
+  probes = plus table.probes 1;
+  hits = plus table.hits (hit_of (entry_of table.pairs key));
+}
 
 -- the same, as the cache does it
 abbrev pub recalled : Key → LruCache Key Entry → LruCache Key Entry
@@ -59,9 +76,9 @@ recalled key cache = lru_cache (promoted (is_same_key key) cache.entries) cache.
 abbrev pub with_note : Table → Key → Entry → Table
 with_note table key entry = record table { pairs = noted table.capacity key entry table.pairs }
 
--- the table after a note that found no memory: that is counted, and all else stays; the count stays at the greatest number once it is there
+-- the table after a note that found no memory: that is counted, and all else stays
 abbrev pub with_refusal : Table → Table
-with_refusal table = record table { refused = min (table.refused + 1) (2 ^ 64 - 1) }
+with_refusal table = record table { refused = plus table.refused 1 }
 
 -- the entry was noted under the key, or a new key found no memory, which is counted
 abbrev pub IsNoted : Table → Key → Entry → Table → Type 0

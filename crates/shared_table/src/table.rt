@@ -1,11 +1,11 @@
 //! The table: a bounded map whose entries are ordered by their last use.
 
-ghost use Rattle.std.specs.Prelude.{◌≡◌, ◌≤◌, ◌↔◌, IsTrue, length, IfOk};
+ghost use Rattle.std.specs.Prelude.{◌≡◌, ◌≤◌, ◌↔◌, ℕ, IsTrue, length, IfOk};
 ghost use Rattle.std.specs.List.{IsDistinct};
 ghost use Rattle.std.specs.Map.{keys_of};
 ghost use Rattle.std.specs.Map.Iter.{ShowsInOrder, deref_pair};
 ghost use Rattle.shared_table.specs.Keys.{is_same_key, key_of};
-ghost use Rattle.shared_table.specs.Recent.{AreTrue, IsNoted, entry_of, new_table, recalled, table_of, with_probe};
+ghost use Rattle.shared_table.specs.Recent.{AreTrue, IsNoted, entry_of, hit_of, new_table, plus, recalled, table_of, with_probe};
 ghost use Rattle.shared_table.specs.declared.table.TheConstants.{CAPACITY_MAX};
 ghost use Rattle.minimax.specs.declared.bounds.TheConstants.{SEARCH_DEPTH_MAX};
 ghost use Rattle.shared_table.specs.declared.table.TableFault.TheVariants.{OutOfMemory};
@@ -39,11 +39,14 @@ impl From<AllocError> for TableFault {
 }
 
 /// Transposition table of bounded size, seen as its pairs, the most recently used first, its
-/// capacity and how many notes found no memory. Each entry is true.
+/// capacity, how many notes found no memory, and how many probes and hits there were. Each entry is
+/// true.
 #[derive(Drop)]
 pub struct SharedTable<S: BuildHasher, A: Allocator> {
     cache: LruCache<TableKey, Entry, S, A>,
     refused: u64,
+    probes: u64,
+    hits: u64,
 }
 
 impl<S: BuildHasher, A: Allocator> Model for SharedTable<S, A> {
@@ -51,7 +54,7 @@ impl<S: BuildHasher, A: Allocator> Model for SharedTable<S, A> {
 
     ghost Value = { Table };
 
-    ghost view = { λ t. table_of t.cache t.refused };
+    ghost view = { λ t. table_of t.cache t.refused t.probes t.hits };
 
     ghost invariant = { λ t. IsTable t.cache.entries t.cache.cap };
 }
@@ -65,7 +68,12 @@ impl<S: BuildHasher + Drop, A: Allocator + Clone> SharedTable<S, A> {
     {
         let bound = NonZeroUsize::new(capacity).unwrap();
         let cache = LruCache::with_hasher(alloc, bound, hasher)?;
-        Ok(SharedTable { cache, refused: 0 })
+        Ok(SharedTable {
+            cache,
+            refused: 0,
+            probes: 0,
+            hits: 0,
+        })
     }
 }
 
@@ -108,6 +116,20 @@ impl<S: BuildHasher, A: Allocator> SharedTable<S, A> {
         self.refused
     }
 
+    /// How many probes there were. The count stays at the greatest number once it is there.
+    pub fn probes(&self) -> u64
+        ensures { result ≡ self.now.probes }
+    {
+        self.probes
+    }
+
+    /// How many of the probes found an entry. The count stays at the greatest number once it is there.
+    pub fn hits(&self) -> u64
+        ensures { result ≡ self.now.hits }
+    {
+        self.hits
+    }
+
     /// The keys with their entries, the most recently used first.
     pub fn entries(&self) -> Iter<'_, TableKey, Entry>
         ensures rest { result ≡ self.now.pairs }
@@ -143,7 +165,10 @@ impl<S: BuildHasher, A: Allocator + Clone> Memo for SharedTable<S, A> {
         ensures capacity { self.new.capacity ≡ self.old.capacity }
     {
         let key = TableKey::of(p, e, d);
-        recall(&mut self.cache, &key)
+        let answer = recall(&mut self.cache, &key);
+        count(&mut self.probes, 1);
+        count(&mut self.hits, hit_of(&answer));
+        answer
     }
 
     fn note(&mut self, p: &Position, e: Eval, d: u8, entry: Entry)
@@ -154,6 +179,23 @@ impl<S: BuildHasher, A: Allocator + Clone> Memo for SharedTable<S, A> {
     {
         let key = TableKey::of(p, e, d);
         remember(&mut self.cache, &mut self.refused, key, entry);
+    }
+}
+
+// Counts so many more.
+fn count(count: &mut u64, more: u64)
+    ensures { count.new ≡ plus count.old more }
+{
+    *count = count.saturating_add(more);
+}
+
+// One where an entry was found, and else none.
+fn hit_of(answer: &Option<Entry>) -> u64
+    ensures { result ≡ hit_of answer.now }
+{
+    match answer {
+        Some(_) => 1,
+        None => 0,
     }
 }
 
@@ -175,10 +217,11 @@ fn remember<S: BuildHasher, A: Allocator + Clone>(
     key: TableKey,
     entry: Entry,
 )
-    ensures { IsNoted (table_of cache.old refused.old) key entry (table_of cache.new refused.new) }
+    ensures { (probes hits : ℕ) → IsNoted (table_of cache.old refused.old probes hits)
+        key entry (table_of cache.new refused.new probes hits) }
 {
     cache.len();
     if cache.push(key, entry).is_err() {
-        *refused = refused.saturating_add(1);
+        count(refused, 1);
     }
 }
