@@ -350,13 +350,13 @@ def table_of_a_status():
             ended = subprocess.run([*script, path], capture_output=True, timeout=120, check=False)
             rows = [line.rsplit(None, 1) for line in ended.stdout.decode().splitlines()]
             seen = {label.strip(): number for label, number in rows}
-            want((ended.returncode, len(rows)), (0, 26), ended.stderr.decode())
+            want((ended.returncode, len(rows)), (0, 30), ended.stderr.decode())
             want([seen["sessions at most"], seen["connections accepted"]], ["7", "1"], "the table")
             want([seen["greatest depth"], seen["evaluation at first"]], ["16", "plain"], "the table")
             watch = [*script, "--watch", path]
             with subprocess.Popen(watch, stdout=subprocess.PIPE) as watching:
-                lines = [watching.stdout.readline() for _ in range(53)]
-                want((lines[0], lines[26]), (lines[27], b"\n"), "a second table")
+                lines = [watching.stdout.readline() for _ in range(61)]
+                want((lines[0], lines[30]), (lines[31], b"\n"), "a second table")
                 watching.terminate()
 
 

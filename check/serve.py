@@ -1002,6 +1002,28 @@ def a_status_names_its_process():
             raise Wrong(f"the start: {status(running)}")
 
 
+def a_status_counts_searches():
+    with told() as running:
+        picked(running, bestmoves=0, steps=0, probes=0, hits=0)
+        want(running.ask(b"isready\ngo depth 3\nquit\n"), b"readyok\n" + DEPTH_THREE, "a client")
+        until_status(running, "its end", finished=1, bestmoves=1)
+        first = status(running)
+        if not (first["steps"] > 0 and first["probes"] > first["hits"] >= 0):
+            raise Wrong(f"a search: {first}")
+        # What the table has takes no step.
+        want(running.ask(b"go depth 3\ngo depth 3\nquit\n"), DEPTH_THREE * 2, "another client")
+        until_status(running, "its end", finished=2, bestmoves=3, steps=first["steps"])
+        if not first["hits"] < status(running)["hits"]:
+            raise Wrong(f"what the table has: {first}, {status(running)}")
+        # A bestmove that is held is counted once it is written.
+        with running.connect() as client:
+            client.sendall(b"go ponder depth 1\n")
+            want(exactly(client, len(DEPTH_ONE)), DEPTH_ONE, "a client that ponders")
+            picked(running, bestmoves=3)
+            client.sendall(b"ponderhit\n")
+            until_status(running, "the held bestmove", bestmoves=4)
+
+
 def a_status_counts_what_happened():
     with told("--slots", "3", "--entries", "500", "--slice", "70") as running:
         version = subprocess.run(
@@ -1276,6 +1298,7 @@ CHECKS = (
     a_socket_that_was_left_is_told_from_a_live_one,
     want_of_memory_is_told,
     a_status_names_its_process,
+    a_status_counts_searches,
     a_status_counts_what_happened,
     a_status_shows_the_setup,
     a_session_begins_under_the_setup,

@@ -1,11 +1,13 @@
 -- What a call does to the session of an id, where it is found and where it is not.
-use Rattle.std.proofs.Common.{◌≡◌, Option, Some, None, refl}
+use Rattle.std.proofs.Common.{◌≡◌, ℕ, List, [], Option, Some, None, refl}
+use Rattle.std.specs.Borrow.{Bor}
 use Rattle.std.specs.Prelude.{IsSome, OnSome}
 use Rattle.session_slots.specs.declared.id.SessionId.{SessionId}
 use Rattle.session_slots.specs.Slots.{find, with_session}
 use Rattle.shared_table.specs.Recent.{Table}
 use Rattle.usi_session.specs.Due.{SessionView}
 use Rattle.host_core.specs.declared.event.HostFault.TheVariants.{UnknownSession}
+use Rattle.host_core.specs.ById.{IsQueue, queued_of}
 use Rattle.host_core.specs.Events.{Outcome, Refused}
 use Rattle.host_core.specs.Steps.{HostState, Closed, IsClosed, OnSession}
 
@@ -35,3 +37,13 @@ closed_found old new id o (Some s) e some c = rw e c
 pub closed_none : (old new : HostState) (id : SessionId) → find old.slots id ≡ None → new ≡ old
     → IsClosed old id (find old.slots id) (Refused UnknownSession) new
 closed_none old new id e same = rw e (record { refused = refl; same = same })
+
+-- the bytes that are handed out are the queue
+pub queue_some : (found : Option SessionView) (bytes : Bor (List ℕ)) → IsQueue found (Some bytes) → bytes.now ≡ queued_of found
+queue_some None bytes q = absurd q
+queue_some (Some t) bytes q = q
+
+-- where none are, no session is open
+pub queue_none : (found : Option SessionView) → IsQueue found None → [] ≡ queued_of found
+queue_none None q = refl
+queue_none (Some t) q = absurd q

@@ -1,3 +1,4 @@
+pub mod BestmoveLaws
 pub mod Ids
 pub mod Sees
 pub mod Chains

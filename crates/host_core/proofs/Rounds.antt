@@ -15,7 +15,9 @@ use Rattle.host_core.specs.Made.{is_same_id}
 use Rattle.host_core.specs.Steps.{HostState, Stepped, OnSession}
 use Rattle.host_core.specs.Sessions.{Works}
 use Rattle.host_core.specs.Still.{AreSettled, IsNext}
-use Rattle.host_core.specs.Rounds.{pending_from, pending_ids, works, has_worked, was_refused, IsRound, RoundTo}
+use Rattle.host_core.specs.Rounds.{bestmoves_since, pending_from, pending_ids, with_steps, works, has_worked, was_refused, CountsRound, CountsWorks, IsRound, MakesRound, RoundTo}
+use Rattle.host_core.specs.declared.round.Round.{Round}
+use Rattle.shared_table.specs.Recent.{plus}
 use Rattle.host_core.proofs.Chains.{run-start, run-last}
 use Rattle.host_core.proofs.Ids.{is_same_id-refl}
 
@@ -100,13 +102,32 @@ counted_on budget old new id Done (Some s) c = absurd c.went
 counted_on budget old new id (Opened at) (Some s) c = absurd c.went
 counted_on budget old new id (Gave bytes) (Some s) c = absurd c.went
 
+-- one more work is counted
+counts_last : (old : HostState) (budget : ℕ) (ids : List SessionId) (steps bestmoves so_far answered : ℕ) (now next : HostState) (id : SessionId) (o : Outcome) (n m : ℕ)
+    → CountsWorks old budget ids steps bestmoves so_far answered now → Stepped now (Work id budget) o next
+    → n ≡ with_steps so_far o → m ≡ plus answered (bestmoves_since now id next)
+    → CountsWorks old budget (ids ++ id ∷ []) steps bestmoves n m next
+unfolding CountsWorks
+counts_last old budget [] steps bestmoves so_far answered now next id o n m c stepped s b =
+    let same : now ≡ old = c.0 in
+    let made : so_far ≡ steps = c.1 in
+    let lines : answered ≡ bestmoves = c.2 in
+    (o, next, rw same at stepped, (refl, rw made at s, rw (same, lines) at b))
+counts_last old budget (first ∷ ids) steps bestmoves so_far answered now next id o n m c stepped s b =
+    (c.0, c.1, c.2, counts_last c.1 budget ids _ _ so_far answered now next id o n m c.3 stepped s b)
+
+-- no work is counted yet
+counts_none : (h : HostState) (budget : ℕ) → CountsWorks h budget [] 0 0 0 0 h
+unfolding CountsWorks
+counts_none h budget = (refl, refl, refl)
+
 -- before the first slot
-pub round_start : (h : HostState) (budget : ℕ) → RoundTo h budget 0 0 0 h
-round_start h budget = record { ids = []; so_far = record { outcomes = []; each = refl; run = run-start h; worked_is = refl; refused_is = refl; all = refl }; rest = refl }
+pub round_start : (h : HostState) (budget : ℕ) → RoundTo h budget 0 (record { worked = 0; refused = 0; steps = 0; bestmoves = 0 }) h
+round_start h budget = record { ids = []; so_far = record { outcomes = []; each = refl; run = run-start h; worked_is = refl; refused_is = refl; all = refl }; counted = counts_none h budget; rest = refl }
 
 -- at a later slot, where none between is pending
-pub round_settled : (old : HostState) (budget slot last worked refused : ℕ) (now : HostState) → RoundTo old budget slot worked refused now → AreSettled slot last now.slots.slots → RoundTo old budget last worked refused now
-round_settled old budget slot last worked refused now r same = record { ids = r.ids; so_far = r.so_far; rest = ap (λ xs. r.ids ++ xs) (sym same) ∙ r.rest }
+pub round_settled : (old : HostState) (budget slot last : ℕ) (round : Round) (now : HostState) → RoundTo old budget slot round now → AreSettled slot last now.slots.slots → RoundTo old budget last round now
+round_settled old budget slot last round now r same = record { ids = r.ids; so_far = r.so_far; counted = r.counted; rest = ap (λ xs. r.ids ++ xs) (sym same) ∙ r.rest }
 
 -- what is pending from the slot of an open session on
 pending_at : (h : HostState) (id : SessionId) (t : SessionView) → find h.slots id ≡ Some t → pending_from id.slot (drop id.slot h.slots.slots) ≡ cond (is_pending t) (id ∷ pending_from (id.slot + 1) (drop (id.slot + 1) h.slots.slots)) (pending_from (id.slot + 1) (drop (id.slot + 1) h.slots.slots))
@@ -132,10 +153,11 @@ first_pending h id (Some t) e pending =
     pending_at h id t e ∙ ap (λ b. cond b (id ∷ pending_from (id.slot + 1) (drop (id.slot + 1) h.slots.slots)) (pending_from (id.slot + 1) (drop (id.slot + 1) h.slots.slots))) pending
 
 -- a session that has something pending
-pub round_more : (old : HostState) (budget : ℕ) (id : SessionId) (worked refused : ℕ) (now next : HostState) (o : Outcome) (w r : ℕ) → RoundTo old budget id.slot worked refused now → pending_of (find now.slots id) ≡ true
-    → IsBelow now.slots → Stepped now (Work id budget) o next → w ≡ worked + cond (has_worked o) 1 0 → r ≡ refused + cond (was_refused o) 1 0 → RoundTo old budget (id.slot + 1) w r next
-round_more old budget id worked refused now next o w r t pending below stepped f g =
-    let a : IsRound old budget t.ids worked refused now = t.so_far in
+pub round_more : (old : HostState) (budget : ℕ) (id : SessionId) (round : Round) (now next : HostState) (o : Outcome) (after : Round) → RoundTo old budget id.slot round now → pending_of (find now.slots id) ≡ true
+    → IsBelow now.slots → Stepped now (Work id budget) o next → after.worked ≡ round.worked + cond (has_worked o) 1 0 → after.refused ≡ round.refused + cond (was_refused o) 1 0
+    → after.steps ≡ with_steps round.steps o → after.bestmoves ≡ plus round.bestmoves (bestmoves_since now id next) → RoundTo old budget (id.slot + 1) after next
+round_more old budget id round now next o after t pending below stepped f g s b =
+    let a : IsRound old budget t.ids round.worked round.refused now = t.so_far in
     let e : pending_from id.slot (drop id.slot now.slots.slots) ≡ id ∷ pending_from (id.slot + 1) (drop (id.slot + 1) now.slots.slots) = first_pending now id (find now.slots id) refl pending in
     let one : cond (has_worked o) 1 0 + cond (was_refused o) 1 0 ≡ 1 = counted_on budget now next id o (find now.slots id) stepped.0 in
     record {
@@ -148,17 +170,19 @@ round_more old budget id worked refused now next o w r t pending below stepped f
         refused_is = g ∙ (ap (λ n. n + cond (was_refused o) 1 0) a.refused_is ∙ sym (count-last was_refused a.outcomes o));
         all = omega (arith, a.all, one, f, g, length-append t.ids (id ∷ []));
       };
+      counted = counts_last old budget t.ids 0 0 round.steps round.bestmoves now next id o after.steps after.bestmoves t.counted stepped s b;
       rest =
           append_assoc t.ids (id ∷ []) (pending_from (id.slot + 1) (drop (id.slot + 1) next.slots.slots))
           ∙ (ap (λ xs. t.ids ++ id ∷ pending_from (id.slot + 1) xs) (works_later budget now next id o (find now.slots id) stepped.0) ∙ (ap (λ xs. t.ids ++ xs) (sym e) ∙ t.rest));
     }
 
 -- where nothing more is pending
-pub round_all : (old : HostState) (budget slot worked refused : ℕ) (now : HostState) → RoundTo old budget slot worked refused now → pending_from slot (drop slot now.slots.slots) ≡ [] → IsRound old budget (pending_ids old) worked refused now
-round_all old budget slot worked refused now t e =
+pub round_all : (old : HostState) (budget slot : ℕ) (round : Round) (now : HostState) → RoundTo old budget slot round now → pending_from slot (drop slot now.slots.slots) ≡ [] → MakesRound old budget round now × CountsRound old budget round.steps round.bestmoves now
+round_all old budget slot round now t e =
     let all : t.ids ≡ pending_ids old = sym (append-nil t.ids) ∙ (ap (λ xs. t.ids ++ xs) (sym e) ∙ t.rest) in
-    let r : IsRound old budget t.ids worked refused now = t.so_far in
-    rw all at r
+    let r : IsRound old budget t.ids round.worked round.refused now = t.so_far in
+    let counted : CountsWorks old budget t.ids 0 0 round.steps round.bestmoves now = t.counted in
+    (rw all at r, rw all at counted)
 
 -- the id is one of these
 abbrev pub is_in : SessionId → List SessionId → Bool

@@ -1,5 +1,6 @@
 pub mod Events
 pub mod Made
+pub mod Bestmoves
 pub mod ById
 pub mod Sessions
 pub mod Steps

@@ -1,12 +1,15 @@
 -- A round: one `Work` for each session that is pending, by rising slot (own choice).
 use Rattle.std.specs.Prelude.{◌≡◌, ℕ, ◌+◌, List, [], ◌∷◌, ◌++◌, Bool, true, false, cond, Option, Some, None, length, drop, count_by}
 use Rattle.session_slots.specs.declared.id.SessionId.{SessionId}
-use Rattle.session_slots.specs.Slots.{OpenSession}
+use Rattle.session_slots.specs.Slots.{OpenSession, find}
+use Rattle.shared_table.specs.Recent.{plus}
 use Rattle.usi_session.specs.Due.{is_pending, SessionView}
-use Rattle.host_core.specs.Events.{Outcome, Worked, Refused, Work}
+use Rattle.host_core.specs.Bestmoves.{bestmove_count}
+use Rattle.host_core.specs.ById.{queued_of}
+use Rattle.host_core.specs.Events.{Outcome, Opened, Done, Worked, Gave, Refused, Work}
 use Rattle.host_core.specs.Made.{Step}
 use Rattle.host_core.specs.Runs.{IsRun}
-use Rattle.host_core.specs.Steps.{HostState}
+use Rattle.host_core.specs.Steps.{HostState, Stepped}
 use Rattle.host_core.specs.declared.round.Round.{Round}
 
 -- the id of an open session in this slot
@@ -50,20 +53,49 @@ pub record IsRound (old : HostState) (budget : ℕ) (ids : List SessionId)
   pub refused_is : refused ≡ count_by was_refused outcomes
   pub all : worked + refused ≡ length ids
 
+-- the `bestmove` lines queued for an id since a state, behind the bytes that were queued then
+abbrev pub bestmoves_since : HostState → SessionId → HostState → ℕ
+bestmoves_since old id new =
+    bestmove_count
+    (drop (length (queued_of (find old.slots id))) (queued_of (find new.slots id)))
+
+-- the steps with those of a work, which a refusal does not tell
+abbrev pub with_steps : ℕ → Outcome → ℕ
+with_steps steps (Worked made) = plus steps made
+with_steps steps (Refused fault) = steps
+with_steps steps (Opened id) = steps
+with_steps steps Done = steps
+with_steps steps (Gave bytes) = steps
+
+-- one `Work` for each of these ids in order: the steps and `bestmove` lines before them, and after
+unfoldable pub CountsWorks : HostState → ℕ → List SessionId → ℕ → ℕ → ℕ → ℕ → HostState → Type 0
+CountsWorks old budget [] steps bestmoves all_steps all_bestmoves new =
+    (new ≡ old) × (all_steps ≡ steps) × (all_bestmoves ≡ bestmoves)
+CountsWorks old budget (id ∷ ids) steps bestmoves all_steps all_bestmoves new =
+    (outcome : Outcome) × (mid : HostState) × Stepped old (Work id budget) outcome mid
+    × CountsWorks mid budget ids (with_steps steps outcome)
+    (plus bestmoves (bestmoves_since old id mid)) all_steps all_bestmoves new
+
+-- the steps and the `bestmove` lines of a round
+abbrev pub CountsRound : HostState → ℕ → ℕ → ℕ → HostState → Type 0
+CountsRound old budget steps bestmoves new =
+    CountsWorks old budget (pending_ids old) 0 0 steps bestmoves new
+
 -- a round: one `Work` for each session that was pending, by rising slot, with these numbers
 abbrev pub MakesRound : HostState → ℕ → Round → HostState → Type 0
 MakesRound old budget round new =
     IsRound old budget (pending_ids old) round.worked round.refused new
 
 -- a round that has come to a slot: it did its part for some ids, and those that are still pending from there on are the rest
-pub record RoundTo (old : HostState) (budget slot worked refused : ℕ)
+pub record RoundTo (old : HostState) (budget slot : ℕ) (round : Round)
     (now : HostState) : Type 0 where
   pub ids : List SessionId
-  pub so_far : IsRound old budget ids worked refused now
+  pub so_far : IsRound old budget ids round.worked round.refused now
+  pub counted : CountsWorks old budget ids 0 0 round.steps round.bestmoves now
   pub rest : ids ++ pending_from slot (drop slot now.slots.slots) ≡ pending_ids old
 
 -- a round that had come to the slot has come to the next one
 abbrev pub PassesSlot : ℕ → ℕ → Round → HostState → Round → HostState → Type 0
 PassesSlot budget slot before now after next =
-    (old : HostState) → RoundTo old budget slot before.worked before.refused now
-    → RoundTo old budget (slot + 1) after.worked after.refused next
+    (old : HostState) → RoundTo old budget slot before now
+    → RoundTo old budget (slot + 1) after next

@@ -1,6 +1,7 @@
 //! Many sessions over one table, one event at a time.
 #![tactic(auto)]
 
+mod bestmoves;
 mod bytes;
 mod event;
 mod host;

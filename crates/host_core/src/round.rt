@@ -1,31 +1,43 @@
 //! A round of works.
 
-ghost use Rattle.std.specs.Prelude.{◌≡◌, ◌≤◌, ◌<◌, ◌+◌, ◌-◌, ◌^◌, IfSome, IfNone, IsSome, [], drop};
+ghost use Rattle.std.specs.Prelude.{◌≡◌, ◌≤◌, ◌<◌, ◌+◌, ◌-◌, ◌^◌, IfSome, IfNone, IsSome, [], drop, length};
 ghost use Rattle.session_slots.specs.Slots.{find};
-ghost use Rattle.host_core.specs.Rounds.{pending_from, MakesRound, PassesSlot};
+ghost use Rattle.host_core.specs.Bestmoves.{bestmove_count};
+ghost use Rattle.host_core.specs.ById.{queued_of};
+ghost use Rattle.host_core.specs.Rounds.{pending_from, CountsRound, MakesRound, PassesSlot};
 ghost use Rattle.host_core.specs.Still.{AreSettled, IsNext};
 
+use crate::bestmoves::bestmove_count;
 use crate::host::Host;
 use session_slots::SessionId;
 use std::alloc::Allocator;
 use std::hash::BuildHasher;
 
-/// How many works of a round succeeded, and how many ran out of memory.
+/// What a round did. Steps and `bestmove` lines stay at the greatest number once they are there.
 #[derive(Clone, Copy, Debug, PartialEq, Eq)]
 pub struct Round {
+    /// The works that succeeded.
     pub worked: usize,
+    /// The works that ran out of memory.
     pub refused: usize,
+    /// The steps of those that succeeded.
+    pub steps: u64,
+    /// The `bestmove` lines that were queued: one for each `go` that was answered.
+    pub bestmoves: u64,
 }
 
 impl<S: BuildHasher, A: Allocator + Copy> Host<S, A> {
     /// One `Work` with this budget for each session that is pending as the call starts, by rising slot,
     /// and for no other.
     pub fn round(&mut self, budget: u64) -> Round
-        ensures { MakesRound self.old budget result self.new }
+        ensures round { MakesRound self.old budget result self.new }
+        ensures counted { CountsRound self.old budget result.steps result.bestmoves self.new }
     {
         let mut round = Round {
             worked: 0,
             refused: 0,
+            steps: 0,
+            bestmoves: 0,
         };
         let mut from = 0;
         while let Some(id) = self.next_from(from) {
@@ -46,16 +58,48 @@ impl<S: BuildHasher, A: Allocator + Copy> Host<S, A> {
         if !self.pending(id) {
             return round;
         }
-        let Round { worked, refused } = round;
-        match self.work(id, budget) {
-            Ok(_) => Round {
+        let Round {
+            worked,
+            refused,
+            steps,
+            bestmoves,
+        } = round;
+        let queued = self.queued(id).len();
+        let outcome = self.work(id, budget);
+        let bestmoves = bestmoves.saturating_add(self.bestmoves_behind(id, queued));
+        match outcome {
+            Ok(made) => Round {
                 worked: worked + 1,
                 refused,
+                steps: steps.saturating_add(made),
+                bestmoves,
             },
             Err(_) => Round {
                 worked,
                 refused: refused + 1,
+                steps,
+                bestmoves,
             },
+        }
+    }
+
+    /// The queued bytes of a session, and none where none is open under the id.
+    fn queued(&self, id: SessionId) -> &[u8]
+        ensures { result.now ≡ queued_of (find self.now.slots id) }
+    {
+        match self.output(id) {
+            Some(bytes) => bytes,
+            None => &[],
+        }
+    }
+
+    /// The `bestmove` lines that are queued for a session behind the first so many bytes.
+    fn bestmoves_behind(&self, id: SessionId, first: usize) -> u64
+        ensures { result ≡ bestmove_count (drop first (queued_of (find self.now.slots id))) }
+    {
+        match self.queued(id).get(first..) {
+            Some(bytes) => bestmove_count(bytes),
+            None => 0,
         }
     }
 

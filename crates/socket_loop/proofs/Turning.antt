@@ -11,7 +11,7 @@ use Rattle.host_core.specs.Steps.{HostState}
 use Rattle.host_core.specs.Events.{Event}
 use Rattle.host_core.specs.Made.{Step, own, taken, is_opened}
 use Rattle.host_core.specs.Runs.{IsRun}
-use Rattle.host_core.specs.Rounds.{IsRound, works, pending_ids}
+use Rattle.host_core.specs.Rounds.{CountsRound, IsRound, works, pending_ids}
 use Rattle.host_core.specs.Headline.{EndsFrom}
 use Rattle.host_core.proofs.OneSession.{kept, opened_under}
 use Rattle.socket_loop.specs.declared.connection.Link.{Link}
@@ -230,8 +230,8 @@ turn_with slice p q r s w held accepted_ read_ written_ last f t a b c d e h i j
 -- the calls of a turn
 pub asks_turn : (slice : ℕ) (moved : Bool) (tally : Tally) (before after : Scene) (met read written last : List Connection) (i j k l : HostState) (admissions : List Step) (items : List Accepted) (accepted asked_reads asked_writes : Option (List Call)) (refused : ℕ) → TurnWith slice moved before after admissions (links_of met) j k written items refused
     → AsksAll before.host (links_of before.held) (links_of met) items before.asked accepted → IsRun before.host admissions i → Grows before.held met → (IsRising (links_of before.held) → IsRising (links_of met)) → AsksEach reads_of IsInput i met read accepted asked_reads j → AsksEach writes_of IsOutput k read written asked_reads asked_writes l → AsksEach ends_of IsEnd l written last asked_writes after.asked after.host
-    → after.held ≡ filter (λ x. not x.is_shut) last → IsTally items met read written last refused tally → AsksTurn slice moved tally before after
-asks_turn slice moved tally before after met read written last i j k l admissions items accepted asked_reads asked_writes refused w accepts run grows rising reads writes ends left tallied = record {
+    → after.held ≡ filter (λ x. not x.is_shut) last → IsTally items met read written last refused tally → CountsRound j slice tally.steps tally.bestmoves k → AsksTurn slice moved tally before after
+asks_turn slice moved tally before after met read written last i j k l admissions items accepted asked_reads asked_writes refused w accepts run grows rising reads writes ends left tallied counted = record {
   turn = w.turn;
   accepted = accepted;
   accepts = rw (w.met_are, w.accepted_are) accepts;
@@ -251,6 +251,7 @@ asks_turn slice moved tally before after met read written last i j k l admission
   ends = rw w.marks_are ends;
   left = left;
   tallied = rw (w.accepted_are, w.marks_are, w.refused_is) tallied;
+  counted = rw (w.start_is, w.end_is) counted;
 }
 
 continues : (slice : ℕ) (moved : Bool) (before after : Scene) → IsTurn slice moved before after → ContinuesServing before after

@@ -8,6 +8,7 @@ use Rattle.host_core.specs.ById.{wants_input_of, queued_of}
 use Rattle.host_core.specs.Events.{Event, Outcome, Opened, Refused, Open, Feed, Work, Take, Close}
 use Rattle.host_core.specs.Made.{Step}
 use Rattle.transport.specs.Report.{Report}
+use Rattle.host_core.specs.Rounds.{CountsRound}
 use Rattle.host_core.specs.Runs.{IsRun}
 use Rattle.transport.specs.declared.wire.Wire.{Ghosts}
 use Rattle.transport.specs.declared.wire.WireFault.{WireFault}
@@ -219,6 +220,7 @@ pub record AsksTurn (slice : ℕ) (moved : Bool) (tally : Tally) (before after :
   pub ends : AsksEach ends_of IsEnd passed turn.marks last asked_writes after.asked after.host
   pub left : after.held ≡ unshut_of last
   pub tallied : IsTally turn.accepted met read turn.marks last turn.refused tally
+  pub counted : CountsRound turn.start slice tally.steps tally.bestmoves turn.end
 
 -- a turn, its calls, its numbers, and what it did: where it moved and where it did not, and which bytes it served
 pub record Turns (slice : ℕ) (moved : Bool) (tally : Tally) (before after : Scene) : Type 0 where

@@ -1,5 +1,6 @@
 -- The numbers of a status (own choice).
-use Rattle.std.specs.Prelude.{ℕ, ◌+◌, ◌-◌, ◌^◌, length, min}
+use Rattle.std.specs.Prelude.{ℕ, length}
+use Rattle.shared_table.specs.Recent.{plus}
 use Rattle.host_core.specs.Steps.{HostState}
 use Rattle.socket_loop.specs.Links.{links_of}
 use Rattle.socket_loop.specs.Turns.{LoopState}
@@ -10,10 +11,6 @@ use Rattle.socket_loop.specs.declared.status.Process.{Process}
 use Rattle.socket_loop.specs.declared.status.Limits.{Limits}
 use Rattle.socket_loop.specs.declared.status.Totals.{Totals}
 use Rattle.socket_loop.specs.declared.status.Status.{Status}
-
--- so many more; the sum stays at the greatest number once it is there
-abbrev pub plus : ℕ → ℕ → ℕ
-plus sum more = min (sum + more) (2 ^ 64 - 1)
 
 -- no turn yet
 abbrev pub no_totals : Totals
@@ -26,6 +23,8 @@ no_totals = record {
   ended_writing = 0;
   finished = 0;
   refused_work = 0;
+  steps = 0;
+  bestmoves = 0;
 }
 
 -- one more turn, of these numbers
@@ -39,6 +38,8 @@ counted totals tally = record {
   ended_writing = plus totals.ended_writing tally.ended_writing;
   finished = plus totals.finished tally.finished;
   refused_work = plus totals.refused_work tally.refused;
+  steps = plus totals.steps tally.steps;
+  bestmoves = plus totals.bestmoves tally.bestmoves;
 }
 
 -- the numbers of a host, its connections and its wire; so many calls failed beside those of the wire
@@ -53,6 +54,8 @@ status_from process limits totals faults host connections wire = record {
   searching = pending_count host (links_of connections.held);
   filled = length host.table.pairs;
   refused_notes = host.table.refused;
+  probes = host.table.probes;
+  hits = host.table.hits;
   received = wire.received;
   sent = wire.sent;
   faults = plus wire.failed faults;

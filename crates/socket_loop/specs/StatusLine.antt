@@ -65,6 +65,15 @@ with_ends totals before =
     ++ codes ",\"finished\":" ++ decimal totals.finished
     ++ codes ",\"refused_work\":" ++ decimal totals.refused_work
 
+-- what was searched, and what the table answered
+abbrev pub with_searches : Status → List ℕ → List ℕ
+with_searches status before =
+    before
+    ++ codes ",\"bestmoves\":" ++ decimal status.totals.bestmoves
+    ++ codes ",\"steps\":" ++ decimal status.totals.steps
+    ++ codes ",\"probes\":" ++ decimal status.probes
+    ++ codes ",\"hits\":" ++ decimal status.hits
+
 -- what was refused, what failed, and the bytes
 abbrev pub with_others : Status → List ℕ → List ℕ
 with_others status before =
@@ -76,7 +85,7 @@ with_others status before =
 
 abbrev pub status_line : Status → List ℕ
 status_line status =
-    with_others status (with_ends status.totals (with_arrivals status.totals (with_loads status
-    (with_setup status.setup (with_limits status.limits (with_process status.process
-    (codes "{\"version\":\"0.1.0\"")))))))
+    with_others status (with_searches status (with_ends status.totals (with_arrivals status.totals
+    (with_loads status (with_setup status.setup (with_limits status.limits
+    (with_process status.process (codes "{\"version\":\"0.1.0\""))))))))
     ++ codes "}\n"

@@ -51,6 +51,10 @@ pub struct Totals {
     pub finished: u64,
     /// How often a session had no memory for its work.
     pub refused_work: u64,
+    /// The steps of search.
+    pub steps: u64,
+    /// The `bestmove` lines that were queued: one for each `go` that was answered.
+    pub bestmoves: u64,
 }
 
 /// The numbers of a host at one moment.
@@ -69,6 +73,10 @@ pub struct Status {
     pub filled: u64,
     /// How often there was no memory for what the table was to note.
     pub refused_notes: u64,
+    /// How often the table was asked.
+    pub probes: u64,
+    /// How often it had an answer.
+    pub hits: u64,
     /// The bytes that were read from connections.
     pub received: u64,
     /// The bytes that were written to connections.
@@ -88,6 +96,8 @@ impl Totals {
         ended_writing: 0,
         finished: 0,
         refused_work: 0,
+        steps: 0,
+        bestmoves: 0,
     };
 
     /// Counts one more turn.
@@ -106,6 +116,8 @@ impl Totals {
             .saturating_add(tally.ended_writing as u64);
         self.finished = self.finished.saturating_add(tally.finished as u64);
         self.refused_work = self.refused_work.saturating_add(tally.refused as u64);
+        self.steps = self.steps.saturating_add(tally.steps);
+        self.bestmoves = self.bestmoves.saturating_add(tally.bestmoves);
     }
 }
 
@@ -130,6 +142,8 @@ pub fn status_of<S: BuildHasher, A: Allocator + Copy>(
         searching: connections.count_pending(host) as u64,
         filled: host.entries() as u64,
         refused_notes: host.refused_notes(),
+        probes: host.probes(),
+        hits: host.hits(),
         received: wire.received,
         sent: wire.sent,
         faults: wire.faults().saturating_add(faults),

@@ -1,7 +1,7 @@
 //! The numbers of a status as one line of JSON.
 
 ghost use Rattle.std.specs.Prelude.{◌≡◌, ◌++◌, codes, decimal, OnOk};
-ghost use Rattle.socket_loop.specs.StatusLine.{eval_word, status_line, with_arrivals, with_ends, with_limits, with_loads, with_others, with_process, with_setup};
+ghost use Rattle.socket_loop.specs.StatusLine.{eval_word, status_line, with_arrivals, with_ends, with_limits, with_loads, with_others, with_process, with_searches, with_setup};
 
 use crate::status::{Limits, Process, Status, Totals};
 use itoa::Buffer;
@@ -148,6 +148,25 @@ fn put_ends<A: Allocator>(out: &mut Vec<u8, A>, totals: &Totals) -> Result<(), A
     )
 }
 
+fn put_searches<A: Allocator>(out: &mut Vec<u8, A>, status: &Status) -> Result<(), AllocError>
+    ensures { OnOk result (out.new.items ≡ with_searches status.now out.old.items) }
+{
+    put_two(
+        out,
+        b",\"bestmoves\":",
+        status.totals.bestmoves,
+        b",\"steps\":",
+        status.totals.steps,
+    )?;
+    put_two(
+        out,
+        b",\"probes\":",
+        status.probes,
+        b",\"hits\":",
+        status.hits,
+    )
+}
+
 fn put_others<A: Allocator>(out: &mut Vec<u8, A>, status: &Status) -> Result<(), AllocError>
     ensures { OnOk result (out.new.items ≡ with_others status.now out.old.items) }
 {
@@ -179,6 +198,7 @@ pub fn write_line<A: Allocator>(out: &mut Vec<u8, A>, status: &Status) -> Result
     put_loads(out, status)?;
     put_arrivals(out, &status.totals)?;
     put_ends(out, &status.totals)?;
+    put_searches(out, status)?;
     put_others(out, status)?;
     out.extend_from_slice(b"}\n")
 }

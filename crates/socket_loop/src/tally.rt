@@ -21,6 +21,10 @@ pub struct Tally {
     pub finished: usize,
     /// The sessions that had no memory for their work in this turn.
     pub refused: usize,
+    /// The steps of search.
+    pub steps: u64,
+    /// The `bestmove` lines that were queued: one for each `go` that was answered.
+    pub bestmoves: u64,
 }
 
 /// What became of those who came.

@@ -312,6 +312,8 @@ impl<A: Allocator + Copy> Loop<A> {
                 ended_writing: written.shut,
                 finished: closed.shut,
                 refused: round.refused,
+                steps: round.steps,
+                bestmoves: round.bestmoves,
             },
         }
     }

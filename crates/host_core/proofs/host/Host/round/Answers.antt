@@ -8,9 +8,12 @@ loop-id-init g c = record { so_far = round_start c.args.self.now c.args.budget; 
 pub loop-id-preserved : goal.loop-id-preserved
 loop-id-preserved g c =
     record {
-      so_far = c.round_at-round.ensures.continues c.args.self.now (round_settled c.args.self.now c.args.budget c.loop-id.from c.in-Some.id.slot _ _ c.loop-id.self c.loop-id.invariant.so_far c.in-Some.ensures.next.1);
+      so_far = c.round_at-round.ensures.continues c.args.self.now (round_settled c.args.self.now c.args.budget c.loop-id.from c.in-Some.id.slot _ c.loop-id.self c.loop-id.invariant.so_far c.in-Some.ensures.next.1);
       few = search rules;
     }
 
-pub returns : goal.returns
-returns g c = round_all c.args.self.now c.args.budget c.loop-id.from _ _ c.loop-id.self c.loop-id.invariant.so_far (search rules)
+pub returns-clause-round : goal.returns-clause-round
+returns-clause-round g c = (round_all c.args.self.now c.args.budget c.loop-id.from _ c.loop-id.self c.loop-id.invariant.so_far (search rules)).0
+
+pub returns-clause-counted : goal.returns-clause-counted
+returns-clause-counted g c = (round_all c.args.self.now c.args.budget c.loop-id.from _ c.loop-id.self c.loop-id.invariant.so_far (search rules)).1

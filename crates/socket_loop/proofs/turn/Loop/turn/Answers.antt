@@ -29,14 +29,14 @@ returns-clause-turn g c = record {
       c.accept_all-arrivals.ensures.scenes.more.marks
       (c.read_all-read.ensures.all.scenes.carries c.write_all-written.new.self.held)
       c.read_all-read.ensures.all.scenes.visited.marks
-      (rw slice at c.round-round.ensures)
+      (rw slice at c.round-round.ensures.round)
       (rw (bound_read, c.read_all-read.ensures.all.scenes.visited.links) at (c.write_all-written.ensures.all.scenes.carries c.write_all-written.new.self.held))
       (rw bound_read at c.write_all-written.ensures.all.scenes.visited.marks)
       (rw (bound_written, c.write_all-written.ensures.all.scenes.visited.links, c.read_all-read.ensures.all.scenes.visited.links) at c.close_all-closed.ensures.all.scenes.carries)
       (rw bound_written at c.close_all-closed.ensures.all.scenes.visited.marks)
       c.close_all-closed.ensures.all.scenes.ended
       same
-      (shuts_all c.args.self.now.held c.accept_all-arrivals.new.self.held c.read_all-read.new.self.held c.write_all-written.new.self.held c.close_all-closed.new.self.held _ c.accept_all-arrivals.new.host c.read_all-read.new.host c.round-round.new.self c.write_all-written.new.host c.close_all-closed.new.host _ _ _ _ _ c.accept_all-arrivals.ensures.scenes.more.marks (c.accept_all-arrivals.ensures.scenes.accepts.accepts.fits c.requires.fits) c.read_all-read.ensures.all.scenes.visited.links (c.write_all-written.ensures.all.scenes.visited.links ∙ c.read_all-read.ensures.all.scenes.visited.links) c.read_all-read.ensures.all.scenes.visited.asked c.round-round.ensures.run c.write_all-written.ensures.all.scenes.visited.asked c.close_all-closed.ensures.all.scenes.visited.asked)))
+      (shuts_all c.args.self.now.held c.accept_all-arrivals.new.self.held c.read_all-read.new.self.held c.write_all-written.new.self.held c.close_all-closed.new.self.held _ c.accept_all-arrivals.new.host c.read_all-read.new.host c.round-round.new.self c.write_all-written.new.host c.close_all-closed.new.host _ _ _ _ _ c.accept_all-arrivals.ensures.scenes.more.marks (c.accept_all-arrivals.ensures.scenes.accepts.accepts.fits c.requires.fits) c.read_all-read.ensures.all.scenes.visited.links (c.write_all-written.ensures.all.scenes.visited.links ∙ c.read_all-read.ensures.all.scenes.visited.links) c.read_all-read.ensures.all.scenes.visited.asked c.round-round.ensures.round.run c.write_all-written.ensures.all.scenes.visited.asked c.close_all-closed.ensures.all.scenes.visited.asked)))
       c.accept_all-arrivals.ensures.scenes.accepts.asked
       c.accept_all-arrivals.ensures.scenes.accepts.accepts.chain
       c.accept_all-arrivals.ensures.scenes.more.grows
@@ -53,7 +53,8 @@ returns-clause-turn g c = record {
         ended_writing = c.write_all-written.ensures.shut;
         finished = c.close_all-closed.ensures.shut;
         refused = refl;
-      }))
+      })
+      (rw slice at c.round-round.ensures.counted))
       )
       (
       let same : links_of c.close_all-closed.new.self.held ≡ links_of c.accept_all-arrivals.new.self.held = c.close_all-closed.ensures.all.scenes.visited.links ∙ (c.write_all-written.ensures.all.scenes.visited.links ∙ c.read_all-read.ensures.all.scenes.visited.links) in
@@ -90,7 +91,7 @@ returns-clause-fits g c =
     let same : links_of c.close_all-closed.new.self.held ≡ links_of c.accept_all-arrivals.new.self.held = c.close_all-closed.ensures.all.scenes.visited.links ∙ (c.write_all-written.ensures.all.scenes.visited.links ∙ c.read_all-read.ensures.all.scenes.visited.links) in
     let bound = c.close_all-closed.ensures.all.scenes.visited.bound ∙ (c.write_all-written.ensures.all.scenes.visited.bound ∙ c.read_all-read.ensures.all.scenes.visited.bound) in
     let u : c.accept_all-arrivals.new.host.slots.next ≤ c.read_all-read.new.host.slots.next = carries_by_rises _ _ _ _ _ _ _ _ (c.read_all-read.ensures.all.scenes.carries c.args.self.now.held) in
-    let v : c.read_all-read.new.host.slots.next ≤ c.round-round.new.self.slots.next = next_rises _ _ _ c.round-round.ensures.run in
+    let v : c.read_all-read.new.host.slots.next ≤ c.round-round.new.self.slots.next = next_rises _ _ _ c.round-round.ensures.round.run in
     let w : c.round-round.new.self.slots.next ≤ c.write_all-written.new.host.slots.next = carries_by_rises _ _ _ _ _ _ _ _ (c.write_all-written.ensures.all.scenes.carries c.args.self.now.held) in
     let x : c.write_all-written.new.host.slots.next ≤ c.close_all-closed.new.host.slots.next = carries_by_rises _ _ _ _ _ _ _ _ c.close_all-closed.ensures.all.scenes.carries in
     rw (bound, c.remove_shut.ensures.held) (
