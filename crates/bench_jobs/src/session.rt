@@ -43,10 +43,7 @@ fn analyse(
 
 /// Takes in the answer of a session to what is sent.
 fn answer(alloc: Global, sent: &[u8], digest: &mut Digest) -> Result<()> {
-    let mut ends = Duplex {
-        input: sent,
-        output: Vec::new(alloc),
-    };
+    let mut ends = Duplex::new(sent, Vec::new(alloc));
     stdio(alloc, &mut ends, ENTRIES)?;
     digest.take_in(ends.output.as_slice());
     Ok(())

@@ -43,6 +43,7 @@ written_prefix (Err e) bytes = (bytes, refl)
 pub away : (a b c : Report) (bound number : ℕ) (r : Result ℕ WireFault) (bytes text : List ℕ) → bytes ≡ text → Writes a b number r bytes → Shuts bound b c number → IsShutAfterPrefix bound text a c number
 away a b c bound number r bytes text e w s = record {
   unread = Keeps-trans _ _ _ w.unread s.unread;
+  given = Keeps-trans _ _ _ w.given s.given;
   bytes = bytes_written r bytes;
   prefix = subst (λ (xs : List ℕ). IsPrefixOf (bytes_written r bytes) xs) e (written_prefix r bytes);
   appended = Appends-kept _ _ _ _ w.appended s.written;
@@ -56,6 +57,7 @@ away a b c bound number r bytes text e w s = record {
 pub away_mute : (a b : Report) (bound number : ℕ) (text : List ℕ) → Shuts bound a b number → IsShutAfterPrefix bound text a b number
 away_mute a b bound number text s = record {
   unread = s.unread;
+  given = s.given;
   bytes = [];
   prefix = (text, refl);
   appended = Appends-none _ _ s.written;
@@ -66,7 +68,7 @@ away_mute a b bound number text s = record {
 }
 
 away_move : (a b : Report) (bound number : ℕ) (text : List ℕ) → IsShutAfterPrefix bound text a b number → AllMove a b
-away_move a b bound number text w = away_moves a b number [] w.bytes w.only_rises w.failed (Consumes-none _ _ w.unread) w.appended w.others
+away_move a b bound number text w = away_moves a b number [] w.bytes w.only_rises w.failed (Consumes-none _ _ w.unread) (Appends-none _ _ w.given) w.appended w.others
 
 -- ---- nothing new is held
 
@@ -107,6 +109,7 @@ away_one a b c from number to o k least most w = record {
   fault = o;
   answered = inl refl;
   unread = Keeps-trans _ _ _ (k number).unread w.unread;
+  given = Keeps-trans _ _ _ (k number).given w.given;
   bytes = w.bytes;
   prefix = w.prefix;
   appended = Keeps-Appends _ _ _ _ (k number).written w.appended;
@@ -308,6 +311,7 @@ turned_then f m t x y a b c n v w k =
       fault = w.fault;
       answered = one_left x y _ w.answered;
       unread = Keeps-trans _ _ _ w.unread k.unread;
+      given = Keeps-trans _ _ _ w.given k.given;
       bytes = w.bytes;
       prefix = w.prefix;
       appended = Appends-kept _ _ _ _ w.appended k.written;
@@ -325,6 +329,7 @@ then_away f m t x y a b c n v k w =
       fault = w.fault;
       answered = one_right x y _ w.answered;
       unread = Keeps-trans _ _ _ k.unread w.unread;
+      given = Keeps-trans _ _ _ k.given w.given;
       bytes = w.bytes;
       prefix = w.prefix;
       appended = Keeps-Appends _ _ _ _ k.written w.appended;

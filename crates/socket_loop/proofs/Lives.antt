@@ -47,12 +47,13 @@ then_whole h m id steps lost more (Some t) e lt r p q some = rw (p refl, q some)
 
 -- a connection was served, and then its session stored and gave bytes
 abbrev pub served_then : (owes : List ℕ → List ℕ) (a b c : Report) (h m : HostState) (n : ℕ) (id : SessionId) (steps : List Step) (lost : List ℕ) → id.generation < h.slots.next → IsRun h steps m → Served owes a b n (find h.slots id)
-    → Consumes (b.unread n) (c.unread n) (own id steps ++ lost) → Appends (b.written n) (c.written n) (taken id steps) → (IsSome (find m.slots id) → lost ≡ []) → Served owes a c n (find m.slots id)
-served_then owes a b c h m n id steps lost lt r s u w whole = record {
+    → Consumes (b.unread n) (c.unread n) (own id steps ++ lost) → Appends (b.given n) (c.given n) (own id steps ++ lost) → Appends (b.written n) (c.written n) (taken id steps) → (IsSome (find m.slots id) → lost ≡ []) → Served owes a c n (find m.slots id)
+served_then owes a b c h m n id steps lost lt r s u g w whole = record {
   read = s.read ++ own id steps;
   lost = s.lost ++ lost;
   written = s.written ++ taken id steps;
   consumed = subst (Consumes (a.unread n) (c.unread n)) (lost_order s.read s.lost (own id steps) lost (then_order h m id steps s.lost (find h.slots id) refl lt r s.whole)) (Consumes-trans _ _ _ (s.read ++ s.lost) (own id steps ++ lost) s.consumed u);
+  given = subst (Appends (a.given n) (c.given n)) (lost_order s.read s.lost (own id steps) lost (then_order h m id steps s.lost (find h.slots id) refl lt r s.whole)) (Appends-trans _ _ _ (s.read ++ s.lost) (own id steps ++ lost) s.given g);
   appended = Appends-trans _ _ _ s.written (taken id steps) s.appended w;
   ends = then_ends owes h m id steps s.read s.written (find h.slots id) refl lt r s.ends;
   whole = then_whole h m id steps s.lost lost (find h.slots id) refl lt r s.whole whole;
@@ -61,12 +62,12 @@ served_then owes a b c h m n id steps lost lt r s u w whole = record {
 -- it was met
 abbrev pub served_on : (owes : List ℕ → List ℕ) (marks : List Connection) (bound : ℕ) (a b c : Report) (h m : HostState) (steps : List Step) (l : Link) → l.id.generation < h.slots.next → IsRun h steps m → Served owes a b l.number (find h.slots l.id) → Transferred marks bound b h steps c m l → Served owes a c l.number (find m.slots l.id)
 served_on owes marks bound a b c h m steps l lt r s k =
-    served_then owes a b c h m l.number l.id steps k.lost lt r s k.consumed k.appended (λ some. not_lost m l.id k.lost k.whole some)
+    served_then owes a b c h m l.number l.id steps k.lost lt r s k.consumed k.given k.appended (λ some. not_lost m l.id k.lost k.whole some)
 
 -- it was not met
 abbrev pub served_aside : (owes : List ℕ → List ℕ) (a b c : Report) (h m : HostState) (n : ℕ) (id : SessionId) (steps : List Step) → id.generation < h.slots.next → IsRun h steps m → Served owes a b n (find h.slots id) → LeavesUntouched id steps → KeepsConnection b c n → Served owes a c n (find m.slots id)
 served_aside owes a b c h m n id steps lt r s alone k =
-    served_then owes a b c h m n id steps [] lt r s (rw alone.stored (Consumes-none _ _ k.unread)) (rw alone.passed (Appends-none _ _ k.written)) (λ some. refl)
+    served_then owes a b c h m n id steps [] lt r s (rw alone.stored (Consumes-none _ _ k.unread)) (rw alone.stored (Appends-none _ _ k.given)) (rw alone.passed (Appends-none _ _ k.written)) (λ some. refl)
 
 pub Keeps-Consumes : (a b c : Option (List ℕ)) (bs : List ℕ) → Keeps a b → Consumes b c bs → Consumes a c bs
 Keeps-Consumes None b c bs p q = tt

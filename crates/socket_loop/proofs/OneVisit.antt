@@ -14,7 +14,7 @@ use Rattle.transport.specs.Report.{Report, KeepsAll, Reads, Shuts, Stays, Writes
 use Rattle.transport.specs.Moves.{IsEmptied}
 use Rattle.transport.proofs.Asked.{asks_none}
 use Rattle.transport.proofs.Reported.{Keeps-nothing, nothing_keeps, stays_raised}
-use Rattle.transport.proofs.Transfers.{read_shorter, write_longer}
+use Rattle.transport.proofs.Transfers.{read_transfers, write_longer}
 use Rattle.socket_loop.specs.declared.connection.Connection.{Connection}
 use Rattle.socket_loop.specs.Scenes.{Scene}
 use Rattle.socket_loop.specs.Parts.{IsEnd, IsInput, IsOutput, is_finished}
@@ -108,7 +108,7 @@ none_taken : (a b : Report) (number n : ℕ) (bytes : List ℕ) → n ≡ 0 → 
 none_taken a b number n bytes e w other =
     let z : Writes a b number (Ok 0) bytes = rw e at w in
     elim (cases_eq other number) [
-      | inl same ↦ rw same (record { unread = z.unread; written = Keeps-nothing _ _ z.appended; shut = z.shut; failed = z.failed })
+      | inl same ↦ rw same (record { unread = z.unread; given = z.given; written = Keeps-nothing _ _ z.appended; shut = z.shut; failed = z.failed })
       | inr apart ↦ z.others other apart
     ]
 
@@ -201,7 +201,7 @@ read_bytes x y before mid after n buf chunk due «open» bound faults r asked st
   };
   asked = asks_due before.asked mid.asked after.asked (is_to_read before.host x) (Read x.link.number CHUNK_MAX) (shuts_of x y) due asked (fed.asked «open»);
   quiet = λ q. absurd (cc);
-  stirs = λ e. inl (inl (read_shorter before.report mid.report after.report x.link.number n buf r fed.unread));
+  stirs = λ e. inl (read_transfers before.report mid.report after.report x.link.number n buf r fed.unread fed.given);
 }
 
 -- ---- an end

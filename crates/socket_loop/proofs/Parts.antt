@@ -3,7 +3,7 @@ use Rattle.std.proofs.Common.{◌≡◌, ◌≢◌, ◌⊎◌, ℕ, zero, suc, �
 use Rattle.std.proofs.lemmas.List.{get_or-map, length-map}
 use Rattle.std.proofs.Math.Seq.{map-set_same}
 use Rattle.std.proofs.lemmas.Bool.{both_ways}
-use Rattle.std.specs.Io.KnownBytes.{Consumes}
+use Rattle.std.specs.Io.KnownBytes.{Appends, Consumes}
 use Rattle.std.proofs.KnownBytes.{Appends-trans, Consumes-trans}
 use Rattle.session_slots.specs.declared.id.SessionId.{SessionId}
 use Rattle.host_core.specs.Steps.{HostState}
@@ -80,6 +80,7 @@ pub carried_nothing : (m : List Connection) (n : ℕ) (a b : Report) (h i : Host
 carried_nothing m n a b h i s l o g e f k = record {
   lost = [];
   consumed = rw o (Consumes-none _ _ k.unread);
+  given = rw o (Appends-none _ _ k.given);
   appended = rw g (Appends-none _ _ k.written);
   whole = inl refl;
   fed = λ e. absurd (both_ways (feed_out_of_memory l.id s) f e);
@@ -124,6 +125,9 @@ carried_then m n a b c h i j l s t before after r q x y = record {
   consumed = rw (own-append l.id s t)
       (subst (Consumes (a.unread l.number) (c.unread l.number)) (lost_order (own l.id s) x.lost (own l.id t) y.lost (lost_then i j l.id t x.lost q x.whole))
       (Consumes-trans _ _ _ (own l.id s ++ x.lost) (own l.id t ++ y.lost) x.consumed y.consumed));
+  given = rw (own-append l.id s t)
+      (subst (Appends (a.given l.number) (c.given l.number)) (lost_order (own l.id s) x.lost (own l.id t) y.lost (lost_then i j l.id t x.lost q x.whole))
+      (Appends-trans _ _ _ (own l.id s ++ x.lost) (own l.id t ++ y.lost) x.given y.given));
   appended = rw (taken-append l.id s t) (Appends-trans _ _ _ (taken l.id s) (taken l.id t) x.appended y.appended);
   whole = lost_whole h i j l.id s t x.lost y.lost x.whole y.whole (stays_gone i j l.id t q);
   fed = lost_fed l.id s t x.lost y.lost x.fed y.fed;

@@ -41,6 +41,7 @@ away_kept f t x a b c n w q = record {
   fault = w.fault;
   answered = w.answered;
   unread = Keeps-trans _ _ _ w.unread q.unread;
+  given = Keeps-trans _ _ _ w.given q.given;
   bytes = w.bytes;
   prefix = w.prefix;
   appended = Appends-kept _ _ _ _ w.appended q.written;
@@ -101,7 +102,7 @@ not_lost host id lost (inr g) some = some_none (find host.slots id) lost g.0.non
 
 served : (owes : List ℕ → List ℕ) (marks : List Connection) (bound : ℕ) (a b : Report) (h m : HostState) (steps : List Step) (l : Link) → Transferred marks bound a h steps b m l → EndsFrom owes (own l.id steps) (taken l.id steps) (find m.slots l.id) → Served owes a b l.number (find m.slots l.id)
 served owes marks bound a b h m steps l c ends =
-    record { read = own l.id steps; lost = c.lost; written = taken l.id steps; consumed = c.consumed; appended = c.appended; ends = ends; whole = λ some. not_lost m l.id c.lost c.whole some }
+    record { read = own l.id steps; lost = c.lost; written = taken l.id steps; consumed = c.consumed; given = c.given; appended = c.appended; ends = ends; whole = λ some. not_lost m l.id c.lost c.whole some }
 
 starts_one : (ls : List Link) (f t : ℕ) (x : List Accepted) (g : ℕ) (marks : List Connection) (a b : Report) (h m : HostState) (first steps : List Step) (l : Link) → IsRun h steps m → Transferred marks t a h steps b m l → ((is_opened l.id first ≡ true) → is_opened l.id steps ≡ true) → IsAmong ls l ⊎ Joins f t x g m.slots.next first l → IsAmong ls l ⊎ Served (replies_under h.setup) a b l.number (find m.slots l.id)
 starts_one ls f t x g marks a b h m first steps l r c up (inl old) = inl old

@@ -4,7 +4,7 @@ use Rattle.std.proofs.lemmas.Bool.{cases_eq, or_left}
 use Rattle.std.specs.Prelude.{IsSome, IsErrOf, ◌||◌}
 use Rattle.std.specs.Borrow.{Bor}
 use Rattle.std.specs.Io.KnownBytes.{Keeps, Appends, Consumes}
-use Rattle.std.proofs.KnownBytes.{Consumes-kept, Consumes-nil, Keeps-trans, Keeps-refl}
+use Rattle.std.proofs.KnownBytes.{Appends-kept, Appends-nil, Consumes-kept, Consumes-nil, Keeps-trans, Keeps-refl}
 use Rattle.session_slots.specs.declared.id.SessionId.{SessionId}
 use Rattle.session_slots.specs.Slots.{find, IsBelow}
 use Rattle.usi_session.specs.Due.{SessionView}
@@ -61,18 +61,18 @@ gave_others a b h bytes x g apart = g.others x (λ e. apart (sym e))
 -- ---- reads
 
 pub gave : (a b : Report) (number n : ℕ) (buf : List ℕ) → Reads a b number (Ok (Bytes n)) buf → GaveBytes a b number (take n buf)
-gave a b number n buf r = record { consumed = r.consumed; written = r.written; shut = r.shut; failed = stays_rise _ _ r.failed; others = r.others }
+gave a b number n buf r = record { consumed = r.consumed; given = r.given; written = r.written; shut = r.shut; failed = stays_rise _ _ r.failed; others = r.others }
 
 -- a read that failed gave nothing
 pub read_fault : (a b : Report) (number : ℕ) (e : WireFault) (buf : List ℕ) → Reads a b number (Err e) buf → GaveBytes a b number []
-read_fault a b number e buf r = record { consumed = r.consumed; written = r.written; shut = r.shut; failed = raised_rise _ _ r.failed; others = r.others }
+read_fault a b number e buf r = record { consumed = r.consumed; given = r.given; written = r.written; shut = r.shut; failed = raised_rise _ _ r.failed; others = r.others }
 
 -- a write that failed took nothing
 pub write_fault : (a b : Report) (number : ℕ) (e : WireFault) (buf : List ℕ) → Writes a b number (Err e) buf → GaveBytes a b number []
-write_fault a b number e buf w = record { consumed = Consumes-none _ _ w.unread; written = Keeps-nothing _ _ w.appended; shut = w.shut; failed = raised_rise _ _ w.failed; others = w.others }
+write_fault a b number e buf w = record { consumed = Consumes-none _ _ w.unread; given = Appends-none _ _ w.given; written = Keeps-nothing _ _ w.appended; shut = w.shut; failed = raised_rise _ _ w.failed; others = w.others }
 
 pub gave_nothing : (a : Report) (number : ℕ) → GaveBytes a a number []
-gave_nothing a number = record { consumed = Consumes-nil _; written = Keeps-refl _; shut = stays-refl _; failed = rises-refl _; others = λ x apart. kept_same a x }
+gave_nothing a number = record { consumed = Consumes-nil _; given = Appends-nil _; written = Keeps-refl _; shut = stays-refl _; failed = rises-refl _; others = λ x apart. kept_same a x }
 
 carried_fed : (m : List Connection) (bound : ℕ) (h : Link) (a b : Report) (before after : HostState) (chunk : List ℕ) (l : Link) → Ties h l → GaveBytes a b h.number chunk → Stays (a.has_failed h.number) (b.has_failed h.number) → Transferred m bound a before (record { event = Feed h.id chunk; outcome = Done } ∷ []) b after l
 carried_fed m bound h a b before after chunk l t g none =
@@ -80,12 +80,14 @@ carried_fed m bound h a b before after chunk l t g none =
       | inl same ↦
           let at : cond (is_same_id h.id l.id) chunk [] ≡ chunk = at_id h.id l.id chunk (t.by_number same) in
           let u : Consumes (a.unread l.number) (b.unread l.number) chunk = rw same at g.consumed in
+          let v : Appends (a.given l.number) (b.given l.number) chunk = rw same at g.given in
           let w : Keeps (a.written l.number) (b.written l.number) = rw same at g.written in
           let f : Stays (a.is_shut l.number) (b.is_shut l.number) = rw same at g.shut in
           let n : Stays (a.has_failed l.number) (b.has_failed l.number) = rw same at none in
           record {
             lost = [];
             consumed = rw at (subst (Consumes (a.unread l.number) (b.unread l.number)) (sym (append-nil (chunk ++ []) ∙ append-nil chunk)) u);
+            given = rw at (subst (Appends (a.given l.number) (b.given l.number)) (sym (append-nil (chunk ++ []) ∙ append-nil chunk)) v);
             appended = Appends-none _ _ w;
             whole = inl refl;
             fed = λ e. absurd (cc);
@@ -133,6 +135,7 @@ shut_ends m bound h a b c before after steps chunk l t g s closing whole fed why
       | inl same ↦
           let id : h.id ≡ l.id = t.by_number same in
           let u : Consumes (a.unread l.number) (c.unread l.number) chunk = rw same at (Consumes-kept _ _ _ chunk g.consumed s.unread) in
+          let v : Appends (a.given l.number) (c.given l.number) chunk = rw same at (Appends-kept _ _ _ chunk g.given s.given) in
           let w : Keeps (a.written l.number) (c.written l.number) = rw same at (Keeps-trans _ _ _ g.written s.written) in
           let f : l.number < bound → IsRaised (a.is_shut l.number) (c.is_shut l.number) = rw same at (λ (lt : h.number < bound). stays_raised (a.is_shut h.number) (b.is_shut h.number) (c.is_shut h.number) g.shut (s.shut lt)) in
           let none : own l.id steps ≡ [] = closing.no_own l.id in
@@ -140,6 +143,7 @@ shut_ends m bound h a b c before after steps chunk l t g s closing whole fed why
           record {
             lost = chunk;
             consumed = rw none u;
+            given = rw none v;
             appended = rw no_taken (Appends-none _ _ w);
             whole = (rw id at whole);
             fed = (rw id at fed);
@@ -243,11 +247,13 @@ carried_passed m bound h a b before after n bytes l t w =
           let at : cond (is_same_id h.id l.id) (take n bytes) [] ≡ take n bytes = at_id h.id l.id (take n bytes) (t.by_number same) in
           let u : Appends (a.written l.number) (b.written l.number) (take n bytes) = rw same at w.appended in
           let k : Keeps (a.unread l.number) (b.unread l.number) = rw same at w.unread in
+          let g : Keeps (a.given l.number) (b.given l.number) = rw same at w.given in
           let f : Stays (a.is_shut l.number) (b.is_shut l.number) = rw same at w.shut in
           let none : Stays (a.has_failed l.number) (b.has_failed l.number) = rw same at w.failed in
           record {
             lost = [];
             consumed = Consumes-none _ _ k;
+            given = Appends-none _ _ g;
             appended = rw at (subst (Appends (a.written l.number) (b.written l.number)) (sym (append-nil (take n bytes))) u);
             whole = inl refl;
             fed = λ e. absurd (cc);

@@ -80,7 +80,7 @@ enough : (slice n more : ℕ) (a b : Scene) (turns : AreTurns slice n a b) (id :
 enough slice n more a b turns id s lt (inl through) = through
 enough slice n more a b turns id s lt (inr near) = (let m : more * slice + load near.session ≤ load s = near.made in absurd (omega arith))
 
-answers_in_last : (slice n more : ℕ) (a b : Scene) (turns : AreTurns slice n a b) → Fits (links_of a.held) a.bound a.host → more ≤ n → AnswersInLast slice n more a b turns
+pub answers_in_last : (slice n more : ℕ) (a b : Scene) (turns : AreTurns slice n a b) → Fits (links_of a.held) a.bound a.host → more ≤ n → AnswersInLast slice n more a b turns
 answers_in_last slice n more a b turns fit le =
     let fits = fits_last slice n more a b turns fit in
     record {

@@ -31,7 +31,7 @@ use Rattle.host_core.proofs.OneSession.{gone, opened_under, IsGone as IsOut}
 use Rattle.host_core.proofs.Overs.{over_under}
 use Rattle.socket_loop.specs.Scenes.{Scene}
 use Rattle.socket_loop.specs.Serving.{AreTurns, IsAcceptedIn, IsTurnAndWait, IsWait, Stops, WasAccepted}
-use Rattle.socket_loop.specs.Patience.{AnswersInTime}
+use Rattle.socket_loop.specs.Patience.{AnswersInLast, AnswersInTime}
 use Rattle.socket_loop.specs.Promises.{IsDone, IsStopped}
 use Rattle.socket_loop.specs.Life.{Duty, new_duty, duty_of, ReadsEnded, EndsItself, HasEnded, IsAnswered, IsHeldOrGone, IsAccountedFor, IsServed, Life, Lives}
 
@@ -95,6 +95,7 @@ life_start_held s l among f = inl (
         lost = [];
         written = [];
         consumed = Consumes-nil _;
+        given = Appends-nil _;
         appended = Appends-nil _;
         ends = ends_start (find s.host.slots l.id);
         whole = λ some. refl;
@@ -236,6 +237,7 @@ rejected_now slice moved a b c t n le p w (inl u) =
       most = w.most;
       fault = w.fault;
       unread = Keeps-trans _ _ _ u.kept.unread w.unread;
+      given = Keeps-trans _ _ _ u.kept.given w.given;
       bytes = w.bytes;
       prefix = w.prefix;
       appended = Keeps-Appends _ _ _ w.bytes u.kept.written w.appended;
@@ -256,6 +258,7 @@ accounted_apart slice moved a b c t n p (inl k) (inl w) =
       most = omega arith;
       fault = w.fault;
       unread = Keeps-trans _ _ _ w.unread k.unread;
+      given = Keeps-trans _ _ _ w.given k.given;
       bytes = w.bytes;
       prefix = w.prefix;
       appended = Appends-kept _ _ _ w.bytes w.appended k.written;
@@ -391,6 +394,7 @@ new_answered slice moved a b c t l lives among new kept_ =
       lost = k.lost;
       written = taken l.id t.steps;
       consumed = Keeps-Consumes _ _ _ (own l.id t.steps ++ k.lost) kept_.unread k.consumed;
+      given = Keeps-Appends _ _ _ (own l.id t.steps ++ k.lost) kept_.given k.given;
       appended = Keeps-Appends _ _ _ (taken l.id t.steps) kept_.written k.appended;
       ends = opened_under a.host.setup b.host c.host l.id t.steps lives.setup (opened_all slice moved b c t l new) t.chain;
       whole = λ some. not_lost c.host l.id k.lost k.whole some;
@@ -471,6 +475,7 @@ answered_wait a b c duty l w x =
       lost = s.lost;
       written = s.written;
       consumed = Consumes-kept _ _ _ (s.read ++ s.lost) s.consumed k.unread;
+      given = Appends-kept _ _ _ (s.read ++ s.lost) s.given k.given;
       appended = Appends-kept _ _ _ s.written s.appended k.written;
       ends = rw w.host s.ends;
       whole = rw w.host s.whole;
@@ -492,6 +497,7 @@ accounted_wait a b c n w (inl x) =
       most = rw w.bound x.most;
       fault = x.fault;
       unread = Keeps-trans _ _ _ x.unread k.unread;
+      given = Keeps-trans _ _ _ x.given k.given;
       bytes = x.bytes;
       prefix = x.prefix;
       appended = Appends-kept _ _ _ x.bytes x.appended k.written;
@@ -544,15 +550,20 @@ accounted_turns slice (suc n) a b fit p number h =
 pub done_by : (slice n : ℕ) (a b : Scene) → Fits (links_of a.held) a.bound a.host → AnswersInTime slice n a b → IsDone slice n a b
 done_by slice n a b fit t = record { in_time = t; accounted = accounted_turns slice n a b fit t.turns }
 
-stopped_one : (slice n : ℕ) (a b : Scene) (fault : WireFault) → Fits (links_of a.held) a.bound a.host → Stops slice n a b fault → IsStopped slice n a b fault
-stopped_one slice n a b fault fit s = record {
+-- each connection is answered in time, however many turns are taken
+abbrev pub AnswersFrom : ℕ → Scene → Type 0
+AnswersFrom slice a = (n : ℕ) (b : Scene) (turns : AreTurns slice n a b) (more : ℕ) → more ≤ n → AnswersInLast slice n more a b turns
+
+stopped_one : (slice n : ℕ) (a b : Scene) (fault : WireFault) → Fits (links_of a.held) a.bound a.host → AnswersFrom slice a → Stops slice n a b fault → IsStopped slice n a b fault
+stopped_one slice n a b fault fit time s = record {
   stops = s;
+  in_time = time s.count s.between s.turns;
   accounted = λ number h.
       let before : IsAccountedFor a s.between number ⊎ IsAcceptedIn s.turn.turned.asked.turn.accepted number =
       elim h [ inl was ↦ inl (accounted_turns slice s.count a s.between fit s.turns number was) | inr now ↦ inr now ] in
       accounted_wait a s.last b number s.wait (accounted_turn slice s.turn.moved a s.between s.last s.turn.turned.asked.turn number (lives_turns slice s.count a s.between fit s.turns).lives before);
 }
 
-pub stopped_by : (slice n : ℕ) (a b : Scene) (result : Result (Unit {0}) WireFault) → Fits (links_of a.held) a.bound a.host → IfErr result (λ fault. Stops slice n a b fault) → IfErr result (λ fault. IsStopped slice n a b fault)
-stopped_by slice n a b (Ok value) fit s = tt
-stopped_by slice n a b (Err fault) fit s = stopped_one slice n a b fault fit s
+pub stopped_by : (slice n : ℕ) (a b : Scene) (result : Result (Unit {0}) WireFault) → Fits (links_of a.held) a.bound a.host → AnswersFrom slice a → IfErr result (λ fault. Stops slice n a b fault) → IfErr result (λ fault. IsStopped slice n a b fault)
+stopped_by slice n a b (Ok value) fit time s = tt
+stopped_by slice n a b (Err fault) fit time s = stopped_one slice n a b fault fit time s

@@ -96,6 +96,7 @@ pub record WasRejected (before after : Scene) (number : ℕ) : Type 0 where
   pub most : number < after.bound
   pub fault : HostFault
   pub unread : Keeps (before.report.unread number) (after.report.unread number)
+  pub given : Keeps (before.report.given number) (after.report.given number)
   pub bytes : List ℕ
   pub prefix : IsPrefixOf bytes (rejection_text fault)
   pub appended : Appends (before.report.written number) (after.report.written number) bytes

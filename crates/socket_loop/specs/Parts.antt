@@ -161,6 +161,7 @@ pub record Transferred (marks : List Connection) (bound : ℕ) (old : Report) (b
   pub lost : List ℕ
   pub consumed : Consumes (old.unread link.number) (new.unread link.number)
       (own link.id steps ++ lost)
+  pub given : Appends (old.given link.number) (new.given link.number) (own link.id steps ++ lost)
   pub appended : Appends (old.written link.number) (new.written link.number) (taken link.id steps)
   pub whole : (lost ≡ []) ⊎ (IsGone after link.id × (feed_out_of_memory link.id steps ≡ true))
   pub fed : feed_out_of_memory link.id steps ≡ true → lost ≢ []

@@ -8,7 +8,7 @@ use Rattle.socket_loop.specs.Scenes.{Scene}
 use Rattle.socket_loop.specs.Turns.{LoopState, Over}
 use Rattle.socket_loop.specs.Serving.{IsAcceptedIn, Stops, WasAccepted}
 use Rattle.socket_loop.specs.Life.{EndsByBytes, IsAccountedFor, Lives}
-use Rattle.socket_loop.specs.Patience.{AnswersInTime}
+use Rattle.socket_loop.specs.Patience.{AnswersInLast, AnswersInTime}
 
 -- so many turns were taken, each with a wait after it; each connection is answered in time, and none that was accepted is forgotten
 pub record IsDone (slice turns : ℕ) (before after : Scene) : Type 0 where
@@ -16,9 +16,11 @@ pub record IsDone (slice turns : ℕ) (before after : Scene) : Type 0 where
   pub accounted : (number : ℕ) → WasAccepted slice turns before after in_time.turns number
       → IsAccountedFor before after number
 
--- a wait failed, and none that was accepted is forgotten
+-- a wait failed; each connection is answered in time before the turn that it follows, and none that was accepted is forgotten
 pub record IsStopped (slice turns : ℕ) (before after : Scene) (fault : WireFault) : Type 0 where
   pub stops : Stops slice turns before after fault
+  pub in_time : (more : ℕ) → more ≤ stops.count
+      → AnswersInLast slice stops.count more before stops.between stops.turns
   pub accounted : (number : ℕ)
       → WasAccepted slice stops.count before stops.between stops.turns number
       ⊎ IsAcceptedIn stops.turn.turned.asked.turn.accepted number

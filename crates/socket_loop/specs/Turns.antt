@@ -91,6 +91,7 @@ rejection_text _ = []
 -- a connection was written a prefix of a text, and shut
 pub record IsShutAfterPrefix (bound : ℕ) (text : List ℕ) (old new : Report) (number : ℕ) : Type 0 where
   pub unread : Keeps (old.unread number) (new.unread number)
+  pub given : Keeps (old.given number) (new.given number)
   pub bytes : List ℕ
   pub prefix : IsPrefixOf bytes text
   pub appended : Appends (old.written number) (new.written number) bytes
@@ -112,6 +113,7 @@ pub record IsRejected (from to : ℕ) (accepted : List Accepted) (old new : Repo
   pub fault : HostFault
   pub answered : IsOneOf accepted (record { number = number; outcome = Refused fault })
   pub unread : Keeps (old.unread number) (new.unread number)
+  pub given : Keeps (old.given number) (new.given number)
   pub bytes : List ℕ
   pub prefix : IsPrefixOf bytes (rejection_text fault)
   pub appended : Appends (old.written number) (new.written number) bytes
@@ -182,6 +184,7 @@ pub record Served (owes : List ℕ → List ℕ) (old new : Report) (number : �
   pub lost : List ℕ
   pub written : List ℕ
   pub consumed : Consumes (old.unread number) (new.unread number) (read ++ lost)
+  pub given : Appends (old.given number) (new.given number) (read ++ lost)
   pub appended : Appends (old.written number) (new.written number) written
   pub ends : EndsFrom owes read written now
   pub whole : IsSome now → lost ≡ []

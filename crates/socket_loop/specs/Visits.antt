@@ -58,6 +58,7 @@ pub record FeedsOne (chunk : List ℕ) (old new : Connection) (before after : Sc
   pub asked : old.is_shut ≡ false → Asks before.asked after.asked (shuts_of old new)
   pub carries : CarriesGiven old.link chunk before after
   pub unread : Keeps (before.report.unread old.link.number) (after.report.unread old.link.number)
+  pub given : Keeps (before.report.given old.link.number) (after.report.given old.link.number)
 
 -- where the reads of a connection have ended, they had ended before, or nothing is left to be read
 abbrev pub EndsEmptied : Connection → Connection → Report → Report → Type 0

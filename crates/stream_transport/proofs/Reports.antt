@@ -1,9 +1,9 @@
 -- What is reported of the connections that are held, and of all others.
-use Rattle.std.proofs.Common.{◌≡◌, ℕ, ◌≤◌, List, [], Option, Some, None, Result, Ok, Err, length, sym, ap, subst, ◌∙◌, inl, inr}
+use Rattle.std.proofs.Common.{◌≡◌, ◌≢◌, ℕ, ◌≤◌, List, [], ◌++◌, Option, Some, None, Result, Ok, Err, append-nil, length, refl, sym, ap, subst, ◌∙◌, inl, inr}
 use Rattle.std.proofs.lemmas.Bool.{cases_eq}
 use Rattle.std.specs.Prelude.{IfOk}
 use Rattle.std.specs.Io.KnownBytes.{Appends, Consumes, Keeps, prepend_known}
-use Rattle.std.proofs.KnownBytes.{Consumes-nil, Keeps-refl}
+use Rattle.std.proofs.KnownBytes.{Appends-nil, Consumes-nil, Keeps-refl}
 use Rattle.transport.specs.Report.{EndsAt, IsWithin, Report, KeepsAll, KeepsOthers, KeepsConnection, Reads, Shuts, Writes, bytes_read, bytes_written}
 use Rattle.transport.specs.declared.wire.Got.{Got}
 use Rattle.transport.specs.declared.wire.Got.TheVariants.{Nothing}
@@ -23,6 +23,7 @@ pub reads_none : (t : Report) (number : ℕ) (buf : List ℕ) → Reads t t numb
 reads_none t number buf = record {
   within = tt;
   consumed = Consumes-nil (t.unread number);
+  given = Appends-nil (t.given number);
   ended = tt;
   written = Keeps-refl (t.written number);
   shut = stays-refl (t.is_shut number);
@@ -67,103 +68,111 @@ module _ {S A : Type 0} where
 
   -- ---- of all numbers
 
-  others_kept : (r c : S → Option (List ℕ)) (t u : Report) (old new : List (Option (BufferedStream S A))) (number : ℕ) → HoldsOthers old new number → KeepsOthers t u number → KeepsOthers (reported r c t old) (reported r c u new) number
-  others_kept r c t u old new number holds kept other apart = record {
+  others_kept : (r c : S → Option (List ℕ)) (g h : ℕ → List ℕ) (t u : Report) (old new : List (Option (BufferedStream S A))) (number : ℕ) → HoldsOthers old new number → KeepsOthers t u number → ((other : ℕ) → other ≢ number → h other ≡ g other) → KeepsOthers (reported r c g t old) (reported r c h u new) number
+  others_kept r c g h t u old new number holds kept same other apart = record {
     unread = keeps_is (unread_of r) (t.unread other) (u.unread other) (held old other) (held new other) (holds other apart) (kept other apart).unread;
+    given = same other apart;
     written = keeps_is (written_of c) (t.written other) (u.written other) (held old other) (held new other) (holds other apart) (kept other apart).written;
     shut = (kept other apart).shut;
     failed = (kept other apart).failed;
   }
 
-  pub alike_keeps : (r c : S → Option (List ℕ)) (t u : Report) (old new : List (Option (BufferedStream S A))) → AreAlike old new → KeepsAll t u → KeepsAll (reported r c t old) (reported r c u new)
-  alike_keeps r c t u old new alike kept n = record {
+  pub alike_keeps : (r c : S → Option (List ℕ)) (g : ℕ → List ℕ) (t u : Report) (old new : List (Option (BufferedStream S A))) → AreAlike old new → KeepsAll t u → KeepsAll (reported r c g t old) (reported r c g u new)
+  alike_keeps r c g t u old new alike kept n = record {
     unread = alike_unread r (t.unread n) (u.unread n) (held old n) (held new n) (alike n) (kept n).unread;
+    given = refl;
     written = alike_written c (t.written n) (u.written n) (held old n) (held new n) (alike n) (kept n).written;
     shut = (kept n).shut;
     failed = (kept n).failed;
   }
 
   -- nothing moved
-  pub unmoved : (r c : S → Option (List ℕ)) (t u : Report) (old new : List (Option (BufferedStream S A))) → u ≡ t → new ≡ old → KeepsAll (reported r c t old) (reported r c u new)
-  unmoved r c t u old new e f =
-      subst (λ x. KeepsAll (reported r c t old) (reported r c x new)) (sym e)
-      (subst (λ x. KeepsAll (reported r c t old) (reported r c t x)) (sym f) (kept_same (reported r c t old)))
+  pub unmoved : (r c : S → Option (List ℕ)) (g : ℕ → List ℕ) (t u : Report) (old new : List (Option (BufferedStream S A))) → u ≡ t → new ≡ old → KeepsAll (reported r c g t old) (reported r c g u new)
+  unmoved r c g t u old new e f =
+      subst (λ x. KeepsAll (reported r c g t old) (reported r c g x new)) (sym e)
+      (subst (λ x. KeepsAll (reported r c g t old) (reported r c g t x)) (sym f) (kept_same (reported r c g t old)))
 
   -- the listener was asked, and what it found was remembered
-  pub looked : (r c : S → Option (List ℕ)) (t u v : Report) (old new : List (Option (BufferedStream S A))) → v ≡ u → AreAlike old new → KeepsAll t u → KeepsAll (reported r c t old) (reported r c v new)
-  looked r c t u v old new e alike kept = subst (λ x. KeepsAll (reported r c t old) (reported r c x new)) (sym e) (alike_keeps r c t u old new alike kept)
+  pub looked : (r c : S → Option (List ℕ)) (g : ℕ → List ℕ) (t u v : Report) (old new : List (Option (BufferedStream S A))) → v ≡ u → AreAlike old new → KeepsAll t u → KeepsAll (reported r c g t old) (reported r c g v new)
+  looked r c g t u v old new e alike kept = subst (λ x. KeepsAll (reported r c g t old) (reported r c g x new)) (sym e) (alike_keeps r c g t u old new alike kept)
 
   -- a stream comes, under its number
-  pub comes : (r c : S → Option (List ℕ)) (t u : Report) (old mid new : List (Option (BufferedStream S A))) (number : ℕ) (q : BufferedStream S A) → AreAlike old mid → held mid number ≡ None → held new number ≡ Some q → HoldsOthers mid new number
-      → Keeps (t.unread number) (r q.stream) × Keeps (t.written number) (c q.stream) → KeepsElse t u number → q.kept ≡ [] → KeepsAll (reported r c t old) (reported r c u new)
-  comes r c t u old mid new number q alike none some holds out rest nil n =
-      kept_then (reported r c t old) (reported r c t mid) (reported r c u new) n
-      (alike_keeps r c t t old mid alike (kept_same t) n)
+  pub comes : (r c : S → Option (List ℕ)) (g : ℕ → List ℕ) (t u : Report) (old mid new : List (Option (BufferedStream S A))) (number : ℕ) (q : BufferedStream S A) → AreAlike old mid → held mid number ≡ None → held new number ≡ Some q → HoldsOthers mid new number
+      → Keeps (t.unread number) (r q.stream) × Keeps (t.written number) (c q.stream) → KeepsElse t u number → q.kept ≡ [] → KeepsAll (reported r c g t old) (reported r c g u new)
+  comes r c g t u old mid new number q alike none some holds out rest nil n =
+      kept_then (reported r c g t old) (reported r c g t mid) (reported r c g u new) n
+      (alike_keeps r c g t t old mid alike (kept_same t) n)
       (elim (cases_eq n number) [
-        | inl same ↦ subst (λ (m : ℕ). KeepsConnection (reported r c t mid) (reported r c u new) m) (sym same) (record {
+        | inl same ↦ subst (λ (m : ℕ). KeepsConnection (reported r c g t mid) (reported r c g u new) m) (sym same) (record {
           unread = at_start (λ a b. Keeps a b) (unread_of r) (t.unread number) (u.unread number) (held mid number) (held new number) q none some (subst (λ x. Keeps (t.unread number) (prepend_known x (r q.stream))) (sym nil) (keeps_nil (t.unread number) (r q.stream) out.0));
+          given = refl;
           written = at_start (λ a b. Keeps a b) (written_of c) (t.written number) (u.written number) (held mid number) (held new number) q none some out.1;
           shut = rest.shut;
           failed = rest.failed;
         })
-        | inr apart ↦ others_kept r c t u mid new number holds rest.others n apart
+        | inr apart ↦ others_kept r c g g t u mid new number holds rest.others (λ other apart. refl) n apart
       ])
 
   -- a connection is shut
-  pub shuts_held : (r c : S → Option (List ℕ)) (t u v : Report) (old new : List (Option (BufferedStream S A))) (number bound : ℕ) (p : BufferedStream S A) → held old number ≡ Some p → held new number ≡ None → HoldsOthers old new number → IsToldShut t u number → HasBack r c v number p.kept p.stream → KeepsElse u v number → Shuts bound (reported r c t old) (reported r c v new) number
-  shuts_held r c t u v old new number bound p d e holds told back rest =
+  pub shuts_held : (r c : S → Option (List ℕ)) (g : ℕ → List ℕ) (t u v : Report) (old new : List (Option (BufferedStream S A))) (number bound : ℕ) (p : BufferedStream S A) → held old number ≡ Some p → held new number ≡ None → HoldsOthers old new number → IsToldShut t u number → HasBack r c v number p.kept p.stream → KeepsElse u v number → Shuts bound (reported r c g t old) (reported r c g v new) number
+  shuts_held r c g t u v old new number bound p d e holds told back rest =
       let raised = raised_rises (t.is_shut number) (u.is_shut number) (v.is_shut number) told.shut (stays_rise (u.is_shut number) (v.is_shut number) rest.shut) in
       record {
         shut = λ lt. raised;
         only_rises = raised_rise (t.is_shut number) (v.is_shut number) raised;
         written = at_end (λ a b. Keeps a b) (written_of c) (t.written number) (v.written number) (held old number) (held new number) p d e back.taken;
         unread = at_end (λ a b. Keeps a b) (unread_of r) (t.unread number) (v.unread number) (held old number) (held new number) p d e back.left;
+        given = refl;
         failed = stays_then (t.has_failed number) (u.has_failed number) (v.has_failed number) told.failed rest.failed;
-        others = others_kept r c t v old new number holds (λ other apart. kept_then t u v other (told.others other apart) (rest.others other apart));
+        others = others_kept r c g g t v old new number holds (λ other apart. kept_then t u v other (told.others other apart) (rest.others other apart)) (λ other apart. refl);
       }
 
   -- ---- reads and writes
 
   -- no connection is held under this number
-  pub reads_missing : (r c : S → Option (List ℕ)) (t u : Report) (old new : List (Option (BufferedStream S A))) (number : ℕ) (fault : WireFault) (buf : List ℕ) → held old number ≡ None → held new number ≡ None → HoldsOthers old new number → Notes {T = Got} t u number (Err fault) → Reads (reported r c t old) (reported r c u new) number (Err fault) buf
-  reads_missing r c t u old new number fault buf d e holds n = record {
+  pub reads_missing : (r c : S → Option (List ℕ)) (g : ℕ → List ℕ) (t u : Report) (old new : List (Option (BufferedStream S A))) (number : ℕ) (fault : WireFault) (buf : List ℕ) → held old number ≡ None → held new number ≡ None → HoldsOthers old new number → Notes {T = Got} t u number (Err fault) → Reads (reported r c g t old) (reported r c g u new) number (Err fault) buf
+  reads_missing r c g t u old new number fault buf d e holds n = record {
     within = tt;
     consumed = Consumes-none _ _ (keeps_is (unread_of r) (t.unread number) (u.unread number) (held old number) (held new number) (e ∙ sym d) n.unread);
+    given = sym (append-nil (g number));
     ended = tt;
     written = keeps_is (written_of c) (t.written number) (u.written number) (held old number) (held new number) (e ∙ sym d) n.written;
     shut = n.shut;
     failed = n.failed;
-    others = others_kept r c t u old new number holds n.others;
+    others = others_kept r c g g t u old new number holds n.others (λ other apart. refl);
   }
 
-  pub writes_missing : (r c : S → Option (List ℕ)) (t u : Report) (old new : List (Option (BufferedStream S A))) (number : ℕ) (fault : WireFault) (buf : List ℕ) → held old number ≡ None → held new number ≡ None → HoldsOthers old new number → Notes {T = ℕ} t u number (Err fault) → Writes (reported r c t old) (reported r c u new) number (Err fault) buf
-  writes_missing r c t u old new number fault buf d e holds n = record {
+  pub writes_missing : (r c : S → Option (List ℕ)) (g : ℕ → List ℕ) (t u : Report) (old new : List (Option (BufferedStream S A))) (number : ℕ) (fault : WireFault) (buf : List ℕ) → held old number ≡ None → held new number ≡ None → HoldsOthers old new number → Notes {T = ℕ} t u number (Err fault) → Writes (reported r c g t old) (reported r c g u new) number (Err fault) buf
+  writes_missing r c g t u old new number fault buf d e holds n = record {
     within = tt;
     appended = Appends-none _ _ (keeps_is (written_of c) (t.written number) (u.written number) (held old number) (held new number) (e ∙ sym d) n.written);
     unread = keeps_is (unread_of r) (t.unread number) (u.unread number) (held old number) (held new number) (e ∙ sym d) n.unread;
+    given = refl;
     shut = n.shut;
     failed = n.failed;
-    others = others_kept r c t u old new number holds n.others;
+    others = others_kept r c g g t u old new number holds n.others (λ other apart. refl);
   }
 
   -- this connection was read from, and is held again
-  pub reads_held : (r c : S → Option (List ℕ)) (t u : Report) (old new : List (Option (BufferedStream S A))) (number : ℕ) (p q : BufferedStream S A) (result : Result Got WireFault) (buf : List ℕ) → held old number ≡ Some p → held new number ≡ Some q → HoldsOthers old new number → IsWithin result (length buf) → HasGiven r p q (bytes_read result buf) → Keeps (written_of c p) (written_of c q) → EndsAt result (unread_of r q) → Notes t u number result → Reads (reported r c t old) (reported r c u new) number result buf
-  reads_held r c t u old new number p q result buf d e holds within gave kept ended n = record {
+  pub reads_held : (r c : S → Option (List ℕ)) (g h : ℕ → List ℕ) (t u : Report) (old new : List (Option (BufferedStream S A))) (number : ℕ) (p q : BufferedStream S A) (result : Result Got WireFault) (buf : List ℕ) → held old number ≡ Some p → held new number ≡ Some q → HoldsOthers old new number → IsWithin result (length buf) → HasGiven r p q (bytes_read result buf) → Keeps (written_of c p) (written_of c q) → EndsAt result (unread_of r q) → Notes t u number result → h number ≡ g number ++ bytes_read result buf → ((other : ℕ) → other ≢ number → h other ≡ g other) → Reads (reported r c g t old) (reported r c h u new) number result buf
+  reads_held r c g h t u old new number p q result buf d e holds within gave kept ended n more same = record {
     within = within;
     consumed = at_both (λ a b. Consumes a b (bytes_read result buf)) (unread_of r) (t.unread number) (u.unread number) (held old number) (held new number) p q d e gave;
+    given = more;
     ended = subst (λ x. EndsAt result (bytes_of (unread_of r) (u.unread number) x)) (sym e) ended;
     written = at_both (λ a b. Keeps a b) (written_of c) (t.written number) (u.written number) (held old number) (held new number) p q d e kept;
     shut = n.shut;
     failed = n.failed;
-    others = others_kept r c t u old new number holds n.others;
+    others = others_kept r c g h t u old new number holds n.others same;
   }
 
-  pub writes_held : (r c : S → Option (List ℕ)) (t u : Report) (old new : List (Option (BufferedStream S A))) (number : ℕ) (p q : BufferedStream S A) (result : Result ℕ WireFault) (buf : List ℕ) → held old number ≡ Some p → held new number ≡ Some q → HoldsOthers old new number → IfOk result (λ k. k ≤ length buf) → HasTaken c p q (bytes_written result buf) → Keeps (unread_of r p) (unread_of r q) → Notes t u number result → Writes (reported r c t old) (reported r c u new) number result buf
-  writes_held r c t u old new number p q result buf d e holds within took kept n = record {
+  pub writes_held : (r c : S → Option (List ℕ)) (g : ℕ → List ℕ) (t u : Report) (old new : List (Option (BufferedStream S A))) (number : ℕ) (p q : BufferedStream S A) (result : Result ℕ WireFault) (buf : List ℕ) → held old number ≡ Some p → held new number ≡ Some q → HoldsOthers old new number → IfOk result (λ k. k ≤ length buf) → HasTaken c p q (bytes_written result buf) → Keeps (unread_of r p) (unread_of r q) → Notes t u number result → Writes (reported r c g t old) (reported r c g u new) number result buf
+  writes_held r c g t u old new number p q result buf d e holds within took kept n = record {
     within = within;
     appended = at_both (λ a b. Appends a b (bytes_written result buf)) (written_of c) (t.written number) (u.written number) (held old number) (held new number) p q d e took;
     unread = at_both (λ a b. Keeps a b) (unread_of r) (t.unread number) (u.unread number) (held old number) (held new number) p q d e kept;
+    given = refl;
     shut = n.shut;
     failed = n.failed;
-    others = others_kept r c t u old new number holds n.others;
+    others = others_kept r c g g t u old new number holds n.others (λ other apart. refl);
   }

@@ -1,11 +1,16 @@
 -- What was noted under a number, after one more.
-use Rattle.std.proofs.Common.{◌≡◌, ◌≢◌, ℕ, Bool, true, false, List, [], ◌∷◌, ◌++◌, Some, refl, sym, ap, ◌∙◌}
+use Rattle.std.proofs.Common.{◌≡◌, ◌≢◌, ℕ, Bool, true, false, List, [], ◌∷◌, ◌++◌, Some, Result, Ok, take, append-nil, append_assoc, refl, sym, ap, ◌∙◌}
 use Rattle.std.specs.Prelude.{◌==◌, ◌||◌, cond}
 use borrow.Author.Tests.{eqb-false, ne_eqb}
+use Rattle.transport.specs.Report.{bytes_read}
+use Rattle.transport.specs.declared.wire.Got.{Got}
+use Rattle.transport.specs.declared.wire.Got.TheVariants as found
+use Rattle.transport.specs.declared.wire.WireFault.{WireFault}
+use Rattle.stream_transport.specs.Held.{given_under}
 use Rattle.stream_transport.specs.Streams.{IsToldFailed, IsToldShut, KeepsElse}
-use Rattle.stream_transport.specs.Noted.{is_noted, last_after, last_under}
+use Rattle.byte_logs.specs.Noted.{all_under, is_noted, last_after, last_under}
 use Rattle.stream_transport.specs.Told.{told_by}
-use Rattle.stream_transport.specs.declared.log.Bytes.{Bytes}
+use Rattle.byte_logs.specs.declared.log.Bytes.{Bytes}
 
 is_true : (b : Bool) → (b ≡ false → ⊥) → b ≡ true
 is_true true h = refl
@@ -39,16 +44,35 @@ module _ {X : Type 0} where
     last_else bytes [] number other x apart = ap (λ (b : Bool). cond b (f x) bytes) (ne_eqb number other (λ e. apart (sym e)))
     last_else bytes (y ∷ xs) number other x apart = last_else (cond (y.0 == other) (f y.1) bytes) xs number other x apart
 
+    pub all_now : (xs : List (ℕ × X)) (number : ℕ) (x : X) → all_under f (xs ++ (number, x) ∷ []) number ≡ all_under f xs number ++ f x
+    all_now [] number x = ap (λ (b : Bool). cond b (f x) [] ++ []) (same number) ∙ append-nil (f x)
+    all_now (y ∷ xs) number x = ap (λ (l : List ℕ). cond (y.0 == number) (f y.1) [] ++ l) (all_now xs number x) ∙ sym (append_assoc (cond (y.0 == number) (f y.1) []) (all_under f xs number) (f x))
+
+    pub all_else : (xs : List (ℕ × X)) (number other : ℕ) (x : X) → other ≢ number → all_under f (xs ++ (number, x) ∷ []) other ≡ all_under f xs other
+    all_else [] number other x apart = ap (λ (b : Bool). cond b (f x) [] ++ []) (ne_eqb number other (λ e. apart (sym e)))
+    all_else (y ∷ xs) number other x apart = ap (λ (l : List ℕ). cond (y.0 == other) (f y.1) [] ++ l) (all_else xs number other x apart)
+
+-- what one more read gave was noted
+pub given_now : (noted now : List (ℕ × Bytes)) (number n : ℕ) (moved : Bytes) (none front : List ℕ) (got : Result Got WireFault) (buf : List ℕ) → now ≡ noted ++ (number, moved) ∷ [] → moved.items ≡ none ++ front → none ≡ [] → front ≡ take n buf → got ≡ Ok (found.Bytes n) → given_under now number ≡ given_under noted number ++ bytes_read got buf
+given_now noted now number n moved none front got buf e m z f g =
+    let bytes : moved.items ≡ bytes_read got buf = m ∙ (ap (λ (l : List ℕ). l ++ front) z ∙ (f ∙ sym (ap (λ (r : Result Got WireFault). bytes_read r buf) g))) in
+    ap (λ (xs : List (ℕ × Bytes)). given_under xs number) e ∙ (all_now (λ (b : Bytes). b.items) noted number moved ∙ ap (λ (l : List ℕ). given_under noted number ++ l) bytes)
+
+pub given_else : (noted now : List (ℕ × Bytes)) (number other : ℕ) (moved : Bytes) → other ≢ number → now ≡ noted ++ (number, moved) ∷ [] → given_under now other ≡ given_under noted other
+given_else noted now number other moved apart e = ap (λ (xs : List (ℕ × Bytes)). given_under xs other) e ∙ all_else (λ (b : Bytes). b.items) noted number other moved apart
+
 module _ (back : List (ℕ × Bytes)) (shut failed : List (ℕ × Unit {0})) (number : ℕ) where
   -- one more call failed
   pub told_failed : (now : List (ℕ × Unit {0})) → now ≡ failed ++ (number, tt) ∷ [] → IsToldFailed (told_by back shut failed) (told_by back shut now) number
   told_failed now e = record {
     unread = tt;
+    given = tt;
     written = refl;
     shut = refl;
     failed = ap (λ (b : Bool). Some b) (ap (λ xs. is_noted xs number) e ∙ noted_now failed number tt);
     others = λ other apart. record {
       unread = tt;
+      given = tt;
       written = refl;
       shut = refl;
       failed = ap (λ (b : Bool). Some b) (ap (λ xs. is_noted xs other) e ∙ noted_else failed number other tt apart);
@@ -59,11 +83,13 @@ module _ (back : List (ℕ × Bytes)) (shut failed : List (ℕ × Unit {0})) (nu
   pub told_shut : (now : List (ℕ × Unit {0})) → now ≡ shut ++ (number, tt) ∷ [] → IsToldShut (told_by back shut failed) (told_by back now failed) number
   told_shut now e = record {
     unread = tt;
+    given = tt;
     written = refl;
     shut = ap (λ (b : Bool). Some b) (ap (λ xs. is_noted xs number) e ∙ noted_now shut number tt);
     failed = refl;
     others = λ other apart. record {
       unread = tt;
+      given = tt;
       written = refl;
       shut = ap (λ (b : Bool). Some b) (ap (λ xs. is_noted xs other) e ∙ noted_else shut number other tt apart);
       failed = refl;
@@ -80,6 +106,7 @@ module _ (back : List (ℕ × Bytes)) (shut failed : List (ℕ × Unit {0})) (nu
     failed = refl;
     others = λ other apart. record {
       unread = tt;
+      given = tt;
       written = ap (λ xs. last_under (λ (b : Bytes). b.items) xs other) e ∙ last_else (λ (b : Bytes). b.items) [] back number other bytes apart;
       shut = refl;
       failed = refl;

@@ -2,12 +2,22 @@
 use Rattle.std.specs.Prelude.{◌≡◌, ◌≢◌, ◌==◌, ◌%◌, ◌+◌, ◌-◌, ◌^◌, ◌++◌, cond, length, min, nat_eq, not, ℕ, Bool, List, [], Option, None, Some, slice_index_or}
 use Rattle.std.specs.Io.KnownBytes.{Appends, Consumes, prepend_known}
 use Rattle.transport.specs.Report.{Report}
+use Rattle.byte_logs.specs.Noted.{all_under}
 use Rattle.stream_transport.specs.declared.connection.BufferedStream.{BufferedStream}
 use Rattle.stream_transport.specs.declared.connection.TheConstants.{PLACES}
+use Rattle.byte_logs.specs.declared.log.Bytes.{Bytes}
 
 -- these bytes were counted too; the count stays at the greatest number once it is there
 abbrev pub counted : ℕ → List ℕ → ℕ
 counted count bytes = min (count + length bytes) (2 ^ 64 - 1)
+
+-- the bytes that reads of a number gave, by what was noted of each read
+abbrev pub given_under : List (ℕ × Bytes) → ℕ → List ℕ
+given_under noted number = all_under (λ bytes. bytes.items) noted number
+
+-- what is told, and that no read gave a byte
+abbrev pub none_given : Report → Report
+none_given told = record told { given = λ number. Some [] }
 
 module _ {S A : Type 0} where
   -- what has a place, where it has the number
@@ -52,11 +62,12 @@ module _ {S A : Type 0} where
   bytes_of bytes told None = told
   bytes_of bytes told (Some connection) = bytes connection
 
-  -- what is reported of each number, by what streams have left and hold, and by what the listener tells
-  abbrev pub reported : (remaining contents : S → Option (List ℕ)) → Report
+  -- what is reported of each number, by what streams have left and hold, what reads gave, and what the listener tells
+  abbrev pub reported : (remaining contents : S → Option (List ℕ)) → (given : ℕ → List ℕ) → Report
       → List (Option (BufferedStream S A)) → Report
-  reported remaining contents told places = record {
+  reported remaining contents given told places = record {
     unread = λ number. bytes_of (unread_of remaining) (told.unread number) (held places number);
+    given = λ number. Some (given number);
     written = λ number. bytes_of (written_of contents) (told.written number) (held places number);
     is_shut = told.is_shut;
     has_failed = told.has_failed;

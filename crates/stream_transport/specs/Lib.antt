@@ -1,5 +1,4 @@
 pub mod ReadBuffer
-pub mod Noted
 pub mod Told
 pub mod Streams
 pub mod Held

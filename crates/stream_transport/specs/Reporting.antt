@@ -7,8 +7,9 @@ use Rattle.transport.specs.declared.wire.WireFault.{WireFault}
 use Rattle.stream_transport.specs.Held.{counted}
 use Rattle.stream_transport.specs.declared.wire.StreamWire.{StreamWire}
 
--- of a number is reported that nothing was written, that it is not shut, and that no call of it has failed
+-- of a number is reported that nothing was given or written, that it is not shut, and that no call of it has failed
 pub record IsBlank (report : Report) (number : ℕ) : Type 0 where
+  pub given : report.given number ≡ Some []
   pub written : report.written number ≡ Some []
   pub shut : report.is_shut number ≡ Some false
   pub failed : report.has_failed number ≡ Some false

@@ -66,6 +66,7 @@ module _ {S : Type 0} (unread written : S → Option (List ℕ)) where
 -- it was told that a call of this number has failed, and of nothing else
 pub record IsToldFailed (old new : Report) (number : ℕ) : Type 0 where
   pub unread : Keeps (old.unread number) (new.unread number)
+  pub given : Keeps (old.given number) (new.given number)
   pub written : Keeps (old.written number) (new.written number)
   pub shut : Stays (old.is_shut number) (new.is_shut number)
   pub failed : IsRaised (old.has_failed number) (new.has_failed number)
@@ -74,6 +75,7 @@ pub record IsToldFailed (old new : Report) (number : ℕ) : Type 0 where
 -- it was told that this number is shut, and of nothing else
 pub record IsToldShut (old new : Report) (number : ℕ) : Type 0 where
   pub unread : Keeps (old.unread number) (new.unread number)
+  pub given : Keeps (old.given number) (new.given number)
   pub written : Keeps (old.written number) (new.written number)
   pub shut : IsRaised (old.is_shut number) (new.is_shut number)
   pub failed : Stays (old.has_failed number) (new.has_failed number)
@@ -83,6 +85,7 @@ pub record IsToldShut (old new : Report) (number : ℕ) : Type 0 where
 pub record Notes {T : Type 0} (old new : Report) (number : ℕ) (result : Result T WireFault)
     : Type 0 where
   pub unread : Keeps (old.unread number) (new.unread number)
+  pub given : Keeps (old.given number) (new.given number)
   pub written : Keeps (old.written number) (new.written number)
   pub shut : Stays (old.is_shut number) (new.is_shut number)
   pub failed : ReportsFailure result (old.has_failed number) (new.has_failed number)

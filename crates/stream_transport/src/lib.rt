@@ -5,12 +5,10 @@ mod connection;
 mod kept;
 mod lingering;
 mod listener;
-mod log;
 mod places;
 mod sockets;
 mod wire;
 
 pub use listener::{ByteStream, Listener, ListenerCall, Ready, StreamCall, StreamFault};
-pub use log::Bytes;
 pub use sockets::{MioListener, MioWire, SocketStream, watch_again};
 pub use wire::StreamWire;

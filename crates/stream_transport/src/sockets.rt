@@ -5,15 +5,15 @@ ghost use Rattle.std.specs.Io.{ReadsAtMost, WritesAtMost};
 ghost use Rattle.std.specs.Io.KnownBytes.{WriteAppends};
 ghost use Rattle.std.specs.IoError.{error_kind};
 ghost use Rattle.stream_transport.specs.Lingering.{Leave};
-ghost use Rattle.stream_transport.specs.Noted.{last_under};
+ghost use Rattle.byte_logs.specs.Noted.{last_under};
 ghost use Rattle.stream_transport.specs.Reporting.{AreBlank};
 ghost use Rattle.stream_transport.specs.Streams.{answer_of, fault_by};
 ghost use Rattle.transport.specs.declared.wire.WireFault.TheVariants.{Device};
 
 use crate::lingering::{LINGERING_MAX, Lingering};
 use crate::listener::{ByteStream, Listener, ListenerCall, Ready, StreamCall, StreamFault};
-use crate::log::Bytes;
 use crate::wire::StreamWire;
+use byte_logs::Bytes;
 use http_server::Log;
 use mio::net::{UnixListener, UnixStream};
 use mio::{Events, Interest, Poll, Registry, Token};

@@ -1,11 +1,11 @@
 //! A wire over a listener.
 
-ghost use Rattle.std.specs.Prelude.{◌≡◌, ◌≢◌, ◌≤◌, ◌-◌, ◌^◌, ◌&&◌, not, true, false, [], length, is_some, IfOk, None, Ok, Some, OnErr, OnOk};
+ghost use Rattle.std.specs.Prelude.{◌≡◌, ◌≢◌, ◌≤◌, ◌-◌, ◌^◌, ◌&&◌, not, true, false, ℕ, [], ◌++◌, length, is_some, IfOk, None, Ok, Some, OnErr, OnOk};
 ghost use Rattle.usi_lines.specs.OneLine.{IsOneLine};
 ghost use Rattle.transport.specs.Report.{GivesNumber, HasCause, HasRisen, IsWithin, KeepsAll, bytes_read, bytes_written};
 ghost use Rattle.transport.specs.declared.wire.WireFault.TheVariants.{Device};
 ghost use Rattle.stream_transport.specs.Asking.{AnswersAs, AreAwake, AreAwakeStill, AsksByAccept, AsksByRead, AsksByWait, AsksNext, AsksToTake, GivesKept, HoldsAccepted, IsNamedAwake, LeavesMore, NotesByRead, NotesByWrite, OfNumber, OpensIfNamed, StaysOpen, WakesByAccept, WakesByWait, found_nothing, is_made, took_nothing};
-ghost use Rattle.stream_transport.specs.Held.{AreAlike, HasPassed, HoldsOthers, held, kept_of};
+ghost use Rattle.stream_transport.specs.Held.{AreAlike, HasPassed, HoldsOthers, given_under, held, kept_of, none_given};
 ghost use Rattle.stream_transport.specs.Reporting.{CountsRead, CountsWrite, KeepsReport, ReportsRead, ReportsShut, ReportsWrite};
 ghost use Rattle.stream_transport.specs.Streams.{Notes};
 ghost use Rattle.stream_transport.specs.declared.listener.Ready.TheVariants as who;
@@ -15,6 +15,8 @@ ghost use Rattle.stream_transport.specs.declared.connection.TheConstants.{PLACES
 use crate::connection::{BufferedStream, PLACES};
 use crate::listener::{Listener, Ready, StreamFault};
 use crate::places::{free_place, insert, is_quiet, mark_ready, number_at, remove};
+use byte_logs::Bytes;
+use http_server::Log;
 use std::alloc::Allocator;
 use std::time::Duration;
 use transport::{Got, Wire, WireFault};
@@ -23,7 +25,8 @@ use transport::{Got, Wire, WireFault};
 /// say when.
 const PATIENCE: u64 = 500;
 
-/// The connections of a listener. It reports what their streams tell of their bytes. Only `wait` waits.
+/// The connections of a listener. It reports what its reads gave, and what the streams tell of their bytes.
+/// Only `wait` waits.
 ///
 /// A read gives one line at most, so that a turn answers one line of each connection. What else came
 /// with it is kept, and given by the next reads before the stream is asked again. Room for it is asked
@@ -51,6 +54,8 @@ pub struct StreamWire<L: Listener, A: Allocator> {
     pub received: u64,
     /// How many bytes writes took. It stays at the greatest number once it is there.
     pub sent: u64,
+    // What each read gave, by its number. It takes no memory.
+    given: Log<u64, Bytes>,
 }
 
 /// How long a wait lasts at most: for a while, where nothing may say when somebody is ready.
@@ -72,6 +77,21 @@ fn given_by(got: &Result<Got, WireFault>, buf: &[u8]) -> u64
     match got {
         Ok(Got::Bytes(n)) => *n as u64,
         _ => 0,
+    }
+}
+
+/// Notes what a read of this number gave, for clauses alone.
+fn note_read(log: &mut Log<u64, Bytes>, number: u64, got: &Result<Got, WireFault>, buf: &[u8])
+    requires { IsWithin got.now (length buf.now) }
+    ensures given { given_under log.new.items number
+        ≡ given_under log.old.items number ++ bytes_read got.now buf.now }
+    ensures others { (other : ℕ) → other ≢ number
+        → given_under log.new.items other ≡ given_under log.old.items other }
+{
+    if let Ok(Got::Bytes(n)) = got {
+        let mut bytes = Bytes::new();
+        bytes.note(buf.split_at(*n).0);
+        *log = log.and(&number, &bytes);
     }
 }
 
@@ -120,7 +140,7 @@ impl<L: Listener, A: Allocator + Copy> StreamWire<L, A> {
         ensures if_none { (result.received ≡ 0) × (result.sent ≡ 0) }
         ensures opens { result.acceptable ≡ true }
         ensures sure { result.needs_timeout ≡ false }
-        ensures report { KeepsAll (L.told listener) (⟦<Self as Wire>⟧.report result) }
+        ensures report { KeepsAll (none_given (L.told listener)) (⟦<Self as Wire>⟧.report result) }
     {
         StreamWire {
             alloc,
@@ -133,6 +153,7 @@ impl<L: Listener, A: Allocator + Copy> StreamWire<L, A> {
             failed: 0,
             received: 0,
             sent: 0,
+            given: Log::new(),
         }
     }
 
@@ -149,6 +170,7 @@ impl<L: Listener, A: Allocator + Copy> StreamWire<L, A> {
         ensures unsure { self.new.needs_timeout ≡ self.old.needs_timeout }
         ensures received { self.new.received ≡ self.old.received }
         ensures sent { self.new.sent ≡ self.old.sent }
+        ensures given { self.new.given ≡ self.old.given }
     {
         self.failed = self.failed.saturating_add(1);
         WireFault::Device
@@ -167,6 +189,7 @@ impl<L: Listener, A: Allocator + Copy> StreamWire<L, A> {
         ensures unsure { self.new.needs_timeout ≡ self.old.needs_timeout }
         ensures received { self.new.received ≡ self.old.received }
         ensures sent { self.new.sent ≡ self.old.sent }
+        ensures given { self.new.given ≡ self.old.given }
     {
         match found {
             Ok(value) => Ok(value),
@@ -194,6 +217,7 @@ impl<L: Listener, A: Allocator + Copy> StreamWire<L, A> {
         ensures unsure { self.new.needs_timeout ≡ self.old.needs_timeout }
         ensures received { self.new.received ≡ self.old.received }
         ensures sent { self.new.sent ≡ self.old.sent }
+        ensures given { self.new.given ≡ self.old.given }
     {
         match found {
             Some(Ready::Listener) => self.acceptable = true,
@@ -218,6 +242,7 @@ impl<L: Listener, A: Allocator + Copy> StreamWire<L, A> {
         ensures unsure { self.new.needs_timeout ≡ self.old.needs_timeout }
         ensures received { self.new.received ≡ self.old.received }
         ensures sent { self.new.sent ≡ self.old.sent }
+        ensures given { self.new.given ≡ self.old.given }
     {
         if looked.is_err() {
             return Err(self.fault());
@@ -313,6 +338,7 @@ impl<L: Listener, A: Allocator + Copy> StreamWire<L, A> {
             return self.answer(number, Err(WireFault::Device));
         };
         let got = connection.read(self.alloc, buf);
+        note_read(&mut self.given, number, &got, buf);
         self.has_buffered = self.has_buffered | !connection.kept.is_empty();
         self.needs_timeout = self.needs_timeout | (connection.readable & gave_nothing(&got));
         insert(&mut self.places, connection);
@@ -347,10 +373,10 @@ impl<L: Listener, A: Allocator + Copy> StreamWire<L, A> {
 }
 
 impl<L: Listener, A: Allocator + Copy> Wire for StreamWire<L, A> {
-    ghost use Rattle.stream_transport.specs.Held.{reported};
+    ghost use Rattle.stream_transport.specs.Held.{given_under, reported};
 
     ghost report = { λ wire. reported L.Stream.unread L.Stream.written
-        (L.told wire.listener) wire.places.items };
+        (given_under wire.given.items) (L.told wire.listener) wire.places.items };
 
     ghost bound = { λ wire. wire.next };
 

@@ -168,12 +168,9 @@ fn a_path_without_a_name(rt: HostRuntime) -> Result<(), Fail> {
 #[test]
 fn streams(rt: HostRuntime) -> Result<(), Fail> {
     let sent: &[u8] = b"isready\nquit\n";
-    let mut ends = Duplex {
-        input: sent,
-        output: Vec::new(rt.alloc()),
-    };
+    let mut ends = Duplex::new(sent, Vec::new(rt.alloc()));
     answer_all(rt.alloc(), &mut ends)?;
-    let Duplex { input: _, output } = ends;
+    let Duplex { output, .. } = ends;
     assert_eq!(rt; output.as_slice(), b"readyok\n".as_slice());
     Ok(())
 }
@@ -181,12 +178,9 @@ fn streams(rt: HostRuntime) -> Result<(), Fail> {
 #[test]
 fn scripts(rt: HostRuntime) -> Result<(), Fail> {
     let sent: &[u8] = b"+A\nA isready\n";
-    let mut ends = Duplex {
-        input: sent,
-        output: Vec::new(rt.alloc()),
-    };
+    let mut ends = Duplex::new(sent, Vec::new(rt.alloc()));
     replay_script(rt.alloc(), &mut ends)?;
-    let Duplex { input: _, output } = ends;
+    let Duplex { output, .. } = ends;
     assert_eq!(rt; output.as_slice(), b"== A\nreadyok\n".as_slice());
     Ok(())
 }

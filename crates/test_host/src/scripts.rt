@@ -15,10 +15,10 @@ use usi_stdio::Duplex;
 fn assert_read(rt: &impl Abort, alloc: Global, reads: usize) -> Result<bool, Fail> {
     let script = two_sessions();
     let output = joined(alloc, script.output)?;
-    let mut ends = Duplex {
-        input: FailingReader::new(script.text.as_bytes(), 5, reads),
-        output: Vec::new(alloc),
-    };
+    let mut ends = Duplex::new(
+        FailingReader::new(script.text.as_bytes(), 5, reads),
+        Vec::new(alloc),
+    );
     let ended = replay(alloc, &mut ends, 2, 1, 1000);
     let written = std::str::from_utf8(ends.output.as_slice())?;
     if ended == Ok(()) {
@@ -44,10 +44,7 @@ fn each_read_of_a_script_fails_in_turn(rt: HostRuntime) -> Result<(), Fail> {
 fn assert_prefix(rt: &impl Abort, alloc: Global, writer: FailingWriter) -> Result<bool, Fail> {
     let script = refused_and_again();
     let output = joined(alloc, script.output)?;
-    let mut ends = Duplex {
-        input: script.text.as_bytes(),
-        output: writer,
-    };
+    let mut ends = Duplex::new(script.text.as_bytes(), writer);
     let ended = replay(alloc, &mut ends, 1, 4096, 1000);
     let written = ends.output.written();
     match ended {

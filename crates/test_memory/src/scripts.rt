@@ -32,10 +32,10 @@ fn is_played<A: Allocator + Copy>(
     run: &Replay,
 ) -> Result<bool, Fail> {
     let output = joined(alloc, run.script.output)?;
-    let mut ends = Duplex {
-        input: FailingReader::new(run.script.text.as_bytes(), run.most, usize::MAX),
-        output: Vec::new(alloc),
-    };
+    let mut ends = Duplex::new(
+        FailingReader::new(run.script.text.as_bytes(), run.most, usize::MAX),
+        Vec::new(alloc),
+    );
     let (slots, entries) = (
         run.script.slots.clamp(1, 1024),
         run.entries.clamp(1, 1_000_000),

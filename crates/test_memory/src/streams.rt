@@ -29,10 +29,10 @@ fn is_written<A: Allocator + Copy>(
     memory: A,
     run: &Run<'_>,
 ) -> bool {
-    let mut ends = Duplex {
-        input: FailingReader::new(run.sent, run.most, usize::MAX),
-        output: Vec::new(alloc),
-    };
+    let mut ends = Duplex::new(
+        FailingReader::new(run.sent, run.most, usize::MAX),
+        Vec::new(alloc),
+    );
     let ended = stdio(memory, &mut ends, run.entries.clamp(1, 1_000_000));
     is_whole(rt, ended, ends.output.as_slice(), run.whole)
 }
@@ -70,10 +70,7 @@ fn assert_refusals(
     entries: usize,
     step: usize,
 ) -> Result<(), Fail> {
-    let mut ends = Duplex {
-        input: sent.as_bytes(),
-        output: Vec::new(alloc),
-    };
+    let mut ends = Duplex::new(sent.as_bytes(), Vec::new(alloc));
     stdio(alloc, &mut ends, entries.clamp(1, 1_000_000))?;
     let run = Run {
         sent: sent.as_bytes(),

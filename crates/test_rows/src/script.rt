@@ -29,13 +29,10 @@ fn played(
     slots: usize,
     (entries, slice): (usize, u64),
 ) -> Option<(Vec<u8>, u64)> {
-    let mut ends = Duplex {
-        input: script.as_bytes(),
-        output: Vec::new(alloc),
-    };
+    let mut ends = Duplex::new(script.as_bytes(), Vec::new(alloc));
     let (slots, entries) = (slots.clamp(1, 1024), entries.clamp(1, 1_000_000));
     let ended = replay_with_setup(alloc, setup, &mut ends, slots, entries, slice.max(1));
-    let Duplex { input: _, output } = ends;
+    let Duplex { output, .. } = ends;
     match ended {
         Ok(()) => Some((output, 0)),
         Err(ReplayFault::BadScript { line }) => Some((output, line)),

@@ -74,12 +74,9 @@ fn new_table(alloc: Global, entries: usize) -> Result<Table, AllocError> {
 
 /// What the program's streams write, and whether they ended well.
 fn written((alloc, setup): Place, row: &Row, entries: usize) -> (Vec<u8>, bool) {
-    let mut ends = Duplex {
-        input: row.sent.as_bytes(),
-        output: Vec::new(alloc),
-    };
+    let mut ends = Duplex::new(row.sent.as_bytes(), Vec::new(alloc));
     let ended = stdio_with_setup(alloc, setup, &mut ends, entries.clamp(1, 1_000_000));
-    let Duplex { input: _, output } = ends;
+    let Duplex { output, .. } = ends;
     (output, ended.is_ok())
 }
 

@@ -13,12 +13,9 @@ fn noted(alloc: Global, sent: &[u8], entries: usize) -> Result<NotingWriter, Fai
     if entries < 1 || entries > 1_000_000 {
         return Err("a table has entries".into());
     }
-    let mut ends = Duplex {
-        input: sent,
-        output: NotingWriter::new(alloc),
-    };
+    let mut ends = Duplex::new(sent, NotingWriter::new(alloc));
     stdio(alloc, &mut ends, entries)?;
-    let Duplex { input: _, output } = ends;
+    let Duplex { output, .. } = ends;
     Ok(output)
 }
 
@@ -70,10 +67,10 @@ fn a_front_end_that_is_gone(rt: HostRuntime) {
         (usize::MAX, 0),
         (usize::MAX, 1),
     ] {
-        let mut ends = Duplex {
-            input: b"go depth 16\n".as_slice(),
-            output: FailingWriter::new(rt.alloc(), 4096, writes, flushes),
-        };
+        let mut ends = Duplex::new(
+            b"go depth 16\n".as_slice(),
+            FailingWriter::new(rt.alloc(), 4096, writes, flushes),
+        );
         same!(rt; stdio(rt.alloc(), &mut ends, 4096), Err(StdioFault::WriteFailed));
     }
 }

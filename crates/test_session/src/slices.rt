@@ -241,10 +241,7 @@ fn a_second_session_finds_what_the_first_one_searched(rt: HostRuntime) -> Result
 fn a_session_finds_what_a_run_searched(rt: HostRuntime) -> Result<(), Fail> {
     let mut table = table_of(rt.alloc(), 4096)?;
     for row in sliced() {
-        let mut ends = Duplex {
-            input: row.sent.as_bytes(),
-            output: Vec::new(rt.alloc()),
-        };
+        let mut ends = Duplex::new(row.sent.as_bytes(), Vec::new(rt.alloc()));
         stdio_on(rt.alloc(), Setup::new(), &mut ends, &mut table)?;
         assert_answer(&rt, rt.alloc(), &row, ends.output.as_slice())?;
         same!(rt; assert_worked(&rt, rt.alloc(), &mut table, &row, 0)?, 0);

@@ -12,10 +12,7 @@ use usi_stdio::{Duplex, StdioFault, stdio};
 
 // What is written answers the bytes.
 fn assert_answers(rt: &impl Abort, alloc: Global, read: &[u8], written: &[u8]) -> Result<(), Fail> {
-    let mut ends = Duplex {
-        input: read,
-        output: Vec::new(alloc),
-    };
+    let mut ends = Duplex::new(read, Vec::new(alloc));
     stdio(alloc, &mut ends, 1)?;
     holds!(*rt; written == ends.output.as_slice());
     Ok(())
@@ -25,10 +22,10 @@ fn assert_answers(rt: &impl Abort, alloc: Global, read: &[u8], written: &[u8]) -
 // alone. Returns whether all was written.
 fn assert_read(rt: &impl Abort, alloc: Global, reads: usize) -> Result<bool, Fail> {
     let row = stored();
-    let mut ends = Duplex {
-        input: FailingReader::new(row.sent.as_bytes(), 5, reads),
-        output: Vec::new(alloc),
-    };
+    let mut ends = Duplex::new(
+        FailingReader::new(row.sent.as_bytes(), 5, reads),
+        Vec::new(alloc),
+    );
     match stdio(alloc, &mut ends, 1) {
         Ok(()) => {
             assert_answer(rt, alloc, &row, ends.output.as_slice())?;
@@ -64,7 +61,7 @@ fn assert_starts(rt: &impl Abort, alloc: Global, row: &Row, written: &[u8]) -> R
 fn assert_prefix(rt: &impl Abort, alloc: Global, output: FailingWriter) -> Result<bool, Fail> {
     let row = stored();
     let input = FailingReader::new(row.sent.as_bytes(), 5, usize::MAX);
-    let mut ends = Duplex { input, output };
+    let mut ends = Duplex::new(input, output);
     match stdio(alloc, &mut ends, 1) {
         Ok(()) => {
             assert_answer(rt, alloc, &row, ends.output.written())?;
@@ -124,10 +121,10 @@ fn each_piece_is_answered_and_flushed_before_the_next_read(rt: HostRuntime) -> R
         ("isready\nisready\n", 16),
     ];
     let watch = Watch::new();
-    let mut ends = Duplex {
-        input: WatchingReader::new(&watch, &chunks),
-        output: WatchedWriter::new(&watch),
-    };
+    let mut ends = Duplex::new(
+        WatchingReader::new(&watch, &chunks),
+        WatchedWriter::new(&watch),
+    );
     stdio(rt.alloc(), &mut ends, 1)?;
     Ok(())
 }

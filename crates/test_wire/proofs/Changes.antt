@@ -95,7 +95,7 @@ all_kept w v e = subst (λ (ps : List PeerState). KeepsAll (report_by w) (report
 others_kept : (peers : List PeerState) (number : ℕ) (q : PeerState) → KeepsOthers (report_of peers) (report_of (set peers number q)) number
 others_kept peers number q other apart =
     let e : slice_get (set peers number q) other ≡ slice_get peers other = get_other peers number other q apart in
-    record { unread = rw e (Keeps-refl _); written = rw e (Keeps-refl _); shut = rw e (stays-refl _); failed = rw e (stays-refl _) }
+    record { unread = rw e (Keeps-refl _); given = tt; written = rw e (Keeps-refl _); shut = rw e (stays-refl _); failed = rw e (stays-refl _) }
 
 -- a read that a peer answers
 pub reads : (old peers : List PeerState) (number room : ℕ) (p q : PeerState) (got : Got) (buf : List ℕ) → peers ≡ old → number < length peers → p ≡ get_or peers number p → q ≡ giving room p
@@ -107,6 +107,7 @@ reads old peers number room p q got buf same known is change within given ended 
     subst (λ (ps : List PeerState). Reads (report_of ps) (report_of (set peers number q)) number (Ok got) buf) same (record {
       within = within;
       consumed = rw (before, after) given;
+      given = tt;
       ended = rw after ended;
       written = rw (before, after) (ap (λ (x : PeerState). x.written) change);
       shut = rw (before, after) (ap (λ (x : PeerState). Some x.is_shut) change);
@@ -125,6 +126,7 @@ writes old peers number p q result buf same known is within written chunks shut 
       within = within;
       appended = rw (before, after) written;
       unread = rw (before, after) (ap bytes_left chunks);
+      given = tt;
       shut = rw (before, after) (ap Some shut);
       failed = rw (before, after) failed;
       others = others_kept peers number q;
@@ -155,6 +157,7 @@ reads_failing w v number buf same =
     subst (λ (x : WireState). Reads (report_by w) (report_by x) number (Err Device) buf) (sym same) (record {
       within = tt;
       consumed = rw e (Consumes-none _ _ (failing_unread _));
+      given = tt;
       ended = tt;
       written = rw e (failing_written _);
       shut = rw e (failing_shut _);
@@ -170,6 +173,7 @@ writes_failing w v number buf same =
       within = tt;
       appended = rw e (Appends-none _ _ (failing_written _));
       unread = rw e (failing_unread _);
+      given = tt;
       shut = rw e (failing_shut _);
       failed = rw e (failing_failed _);
       others = others_kept w.peers number (failing (peer_of w number));

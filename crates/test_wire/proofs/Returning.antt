@@ -7,7 +7,7 @@ use Rattle.std.proofs.lemmas.Bool.{cases_eq}
 use borrow.Author.Tests.{eqb-true, eq-eqb, lt-ltb, ltb-true, ne_eqb, both_ways, not-true}
 use Rattle.transport.specs.Report.{Report}
 use Rattle.stream_transport.specs.Streams.{IsToldFailed, IsToldShut, KeepsElse}
-use Rattle.stream_transport.specs.Noted.{is_noted, last_under}
+use Rattle.byte_logs.specs.Noted.{is_noted, last_under}
 use Rattle.stream_transport.proofs.Telling.{last_else, last_now, noted_else, noted_now, told_failed, told_shut}
 use Rattle.test_wire.specs.Below.{are_below}
 use Rattle.test_wire.specs.Telling.{told_of}
@@ -79,10 +79,11 @@ module _ (back : List (ℕ × Remains)) (shut failed : List (ℕ × Unit {0})) (
       let t = told_failed [] shut failed number now e in
       record {
         unread = Keeps-refl _;
+        given = tt;
         written = Keeps-refl _;
         shut = t.shut;
         failed = t.failed;
-        others = λ other apart. record { unread = Keeps-refl _; written = Keeps-refl _; shut = (t.others other apart).shut; failed = (t.others other apart).failed };
+        others = λ other apart. record { unread = Keeps-refl _; given = tt; written = Keeps-refl _; shut = (t.others other apart).shut; failed = (t.others other apart).failed };
       }
 
   pub of_shut : (now : List (ℕ × Unit {0})) → now ≡ shut ++ (number, tt) ∷ [] → IsToldShut (told_of back shut failed) (told_of back now failed) number
@@ -90,10 +91,11 @@ module _ (back : List (ℕ × Remains)) (shut failed : List (ℕ × Unit {0})) (
       let t = told_shut [] shut failed number now e in
       record {
         unread = Keeps-refl _;
+        given = tt;
         written = Keeps-refl _;
         shut = t.shut;
         failed = t.failed;
-        others = λ other apart. record { unread = Keeps-refl _; written = Keeps-refl _; shut = (t.others other apart).shut; failed = (t.others other apart).failed };
+        others = λ other apart. record { unread = Keeps-refl _; given = tt; written = Keeps-refl _; shut = (t.others other apart).shut; failed = (t.others other apart).failed };
       }
 
   module _ (f : Remains → List ℕ) (now : List (ℕ × Remains)) (remains : Remains) (e : now ≡ back ++ (number, remains) ∷ []) where
@@ -122,6 +124,7 @@ module _ (back : List (ℕ × Remains)) (shut failed : List (ℕ × Unit {0})) (
     failed = refl;
     others = λ other apart. record {
       unread = bytes_else (λ (r : Remains). r.unread.items) now remains e other apart;
+      given = tt;
       written = bytes_else (λ (r : Remains). r.written.items) now remains e other apart;
       shut = refl;
       failed = refl;

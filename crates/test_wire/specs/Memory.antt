@@ -43,10 +43,11 @@ HasGiven old new bytes = unread_of old ≡ bytes ++ unread_of new
 abbrev pub contents_of : {A : Type 0} → List (Vec ℕ A) → List (List ℕ)
 contents_of chunks = map (λ chunk. chunk.items) chunks
 
--- what is reported of each connection, which has its place as its number
+-- what is reported of each connection, which has its place as its number; not what its reads gave
 abbrev pub report_of : List PeerState → Report
 report_of peers = record {
   unread = λ number. option_map unread_of (slice_get peers number);
+  given = λ number. None;
   written = λ number. option_map (λ peer. peer.written) (slice_get peers number);
   is_shut = λ number. option_map (λ peer. peer.is_shut) (slice_get peers number);
   has_failed = λ number. option_map (λ peer. peer.has_failed) (slice_get peers number);

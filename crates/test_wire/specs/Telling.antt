@@ -1,7 +1,7 @@
 -- What a listener in memory tells (own choice).
 use Rattle.std.specs.Prelude.{ℕ, List, [], None, Some, cond}
 use Rattle.transport.specs.Report.{Report}
-use Rattle.stream_transport.specs.Noted.{is_noted, last_under}
+use Rattle.byte_logs.specs.Noted.{is_noted, last_under}
 use Rattle.stream_transport.specs.Told.{told_by}
 use Rattle.test_wire.specs.declared.returns.Remains.{Remains}
 

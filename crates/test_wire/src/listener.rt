@@ -1,15 +1,16 @@
 //! A listener in memory.
 
 ghost use Rattle.std.specs.Prelude.{◌≡◌, ◌++◌, [], false, IfOk, OnErr};
-ghost use Rattle.stream_transport.specs.Noted.{is_noted};
+ghost use Rattle.byte_logs.specs.Noted.{is_noted};
 ghost use Rattle.stream_transport.specs.Streams.{answer_of};
 
 use crate::returns::{Remains, Returns};
 use crate::stream::{MemoryStream, Plan};
+use byte_logs::Bytes;
 use http_server::Log;
 use std::alloc::Allocator;
 use std::time::Duration;
-use stream_transport::{Bytes, Listener, ListenerCall, Ready, StreamFault};
+use stream_transport::{Listener, ListenerCall, Ready, StreamFault};
 
 /// What a listener was told, for clauses alone.
 #[derive(Drop)]

@@ -1,11 +1,11 @@
 //! The streams that came back to a listener.
 
 ghost use Rattle.std.specs.Prelude.{◌≡◌, ◌++◌, ◌∷◌, [], true, false};
-ghost use Rattle.stream_transport.specs.Noted.{is_noted};
+ghost use Rattle.byte_logs.specs.Noted.{is_noted};
 ghost use Rattle.test_wire.specs.Below.{are_below};
 
+use byte_logs::Bytes;
 use http_server::Log;
-use stream_transport::Bytes;
 
 /// What remained of a stream that came back, for clauses alone.
 #[derive(Drop)]

@@ -5,9 +5,10 @@ ghost use Rattle.std.specs.Io.{ReadsAtMost, WritesAtMost};
 ghost use Rattle.std.specs.Io.KnownBytes.{ReadConsumes, WriteAppends};
 
 use crate::peer::take_prefix;
+use byte_logs::Bytes;
 use http_server::Log;
 use std::alloc::Allocator;
-use stream_transport::{ByteStream, Bytes, StreamCall, StreamFault};
+use stream_transport::{ByteStream, StreamCall, StreamFault};
 
 /// Which call fails, and how.
 #[derive(Clone, Copy)]

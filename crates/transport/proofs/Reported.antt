@@ -88,11 +88,12 @@ Keeps-Appends (Some x) (Some y) (Some z) bs p q = q ∙ ap (λ l. l ++ bs) p
 -- ---- all that is reported of a connection
 
 pub kept_same : (a : Report) (n : ℕ) → KeepsConnection a a n
-kept_same a n = record { unread = Keeps-refl _; written = Keeps-refl _; shut = stays-refl _; failed = stays-refl _ }
+kept_same a n = record { unread = Keeps-refl _; given = Keeps-refl _; written = Keeps-refl _; shut = stays-refl _; failed = stays-refl _ }
 
 pub kept_then : (a b c : Report) (n : ℕ) → KeepsConnection a b n → KeepsConnection b c n → KeepsConnection a c n
 kept_then a b c n p q = record {
   unread = Keeps-trans _ _ _ p.unread q.unread;
+  given = Keeps-trans _ _ _ p.given q.given;
   written = Keeps-trans _ _ _ p.written q.written;
   shut = stays_then _ _ _ p.shut q.shut;
   failed = stays_then _ _ _ p.failed q.failed;
@@ -106,10 +107,10 @@ kept_each a b number k o n =
     ]
 
 pub nothing_keeps : (a b : Report) (number : ℕ) (buf : List ℕ) → Reads a b number (Ok Nothing) buf → KeepsAll a b
-nothing_keeps a b number buf r = kept_each a b number (record { unread = Keeps-none _ _ r.consumed; written = r.written; shut = r.shut; failed = r.failed }) r.others
+nothing_keeps a b number buf r = kept_each a b number (record { unread = Keeps-none _ _ r.consumed; given = Keeps-nothing _ _ r.given; written = r.written; shut = r.shut; failed = r.failed }) r.others
 
 pub ended_keeps : (a b : Report) (number : ℕ) (buf : List ℕ) → Reads a b number (Ok Ended) buf → KeepsAll a b
-ended_keeps a b number buf r = kept_each a b number (record { unread = Keeps-none _ _ r.consumed; written = r.written; shut = r.shut; failed = r.failed }) r.others
+ended_keeps a b number buf r = kept_each a b number (record { unread = Keeps-none _ _ r.consumed; given = Keeps-nothing _ _ r.given; written = r.written; shut = r.shut; failed = r.failed }) r.others
 
 -- ---- what moves
 
@@ -117,6 +118,7 @@ pub kept_move : (a b : Report) (n : ℕ) → KeepsConnection a b n → Moves a b
 kept_move a b n k = record {
   gave = [];
   unread = Consumes-none _ _ k.unread;
+  given = Appends-none _ _ k.given;
   took = [];
   written = Appends-none _ _ k.written;
   shut = stays_rise _ _ k.shut;
@@ -130,6 +132,7 @@ pub moves_then : (a b c : Report) → AllMove a b → AllMove b c → AllMove a 
 moves_then a b c p q = λ n. record {
   gave = (p n).gave ++ (q n).gave;
   unread = Consumes-trans _ _ _ (p n).gave (q n).gave (p n).unread (q n).unread;
+  given = Appends-trans _ _ _ (p n).gave (q n).gave (p n).given (q n).given;
   took = (p n).took ++ (q n).took;
   written = Appends-trans _ _ _ (p n).took (q n).took (p n).written (q n).written;
   shut = rises_then _ _ _ (p n).shut (q n).shut;
@@ -151,6 +154,7 @@ pub writes_move : (a b : Report) (number : ℕ) (r : Result ℕ WireFault) (buf 
 writes_move a b number r buf p = moves_each a b number (record {
   gave = [];
   unread = Consumes-none _ _ p.unread;
+  given = Appends-none _ _ p.given;
   took = bytes_written r buf;
   written = p.appended;
   shut = stays_rise _ _ p.shut;
@@ -161,6 +165,7 @@ pub shuts_move : (bound : ℕ) (a b : Report) (number : ℕ) → Shuts bound a b
 shuts_move bound a b number p = moves_each a b number (record {
   gave = [];
   unread = Consumes-none _ _ p.unread;
+  given = Appends-none _ _ p.given;
   took = [];
   written = Appends-none _ _ p.written;
   shut = p.only_rises;
@@ -171,14 +176,15 @@ pub gave_move : (a b : Report) (number : ℕ) (bytes : List ℕ) → GaveBytes a
 gave_move a b number bytes p = moves_each a b number (record {
   gave = bytes;
   unread = p.consumed;
+  given = p.given;
   took = [];
   written = Appends-none _ _ p.written;
   shut = stays_rise _ _ p.shut;
   failed = p.failed;
 }) p.others
 
-pub away_moves : (a b : Report) (number : ℕ) (gave took : List ℕ) → OnlyRises (a.is_shut number) (b.is_shut number) → OnlyRises (a.has_failed number) (b.has_failed number) → Consumes (a.unread number) (b.unread number) gave → Appends (a.written number) (b.written number) took → KeepsOthers a b number → AllMove a b
-away_moves a b number gave took shut failed unread written others = moves_each a b number (record { gave = gave; unread = unread; took = took; written = written; shut = shut; failed = failed }) others
+pub away_moves : (a b : Report) (number : ℕ) (gave took : List ℕ) → OnlyRises (a.is_shut number) (b.is_shut number) → OnlyRises (a.has_failed number) (b.has_failed number) → Consumes (a.unread number) (b.unread number) gave → Appends (a.given number) (b.given number) gave → Appends (a.written number) (b.written number) took → KeepsOthers a b number → AllMove a b
+away_moves a b number gave took shut failed unread given written others = moves_each a b number (record { gave = gave; unread = unread; given = given; took = took; written = written; shut = shut; failed = failed }) others
 
 -- ---- what is left to be read
 

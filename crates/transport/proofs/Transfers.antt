@@ -17,18 +17,28 @@ shorter_kept (Some x) None c p k = absurd p
 shorter_kept (Some x) (Some y) None p k = absurd k
 shorter_kept (Some x) (Some y) (Some z) p k = (let e : length z ≡ length y = ap length k in omega arith)
 
--- a read that gave bytes
-pub read_shorter : (a b c : Report) (number n : ℕ) (buf : List ℕ) → Reads a b number (Ok (Bytes n)) buf → Keeps (b.unread number) (c.unread number) → IsShorter (a.unread number) (c.unread number)
-read_shorter a b c number n buf r k =
-    let least : 1 ≤ n = r.within.0 in
-    let most : n ≤ length buf = r.within.1 in
-    let e : length (take n buf) ≡ n = length-take-le n buf most in
-    shorter_kept _ _ _ (shorter_by (a.unread number) (b.unread number) (take n buf) (omega arith) r.consumed) k
+longer_kept : (a b c : Option (List ℕ)) → IsLonger a b → Keeps b c → IsLonger a c
+longer_kept None b c p k = tt
+longer_kept (Some x) None c p k = absurd p
+longer_kept (Some x) (Some y) None p k = absurd k
+longer_kept (Some x) (Some y) (Some z) p k = (let e : length z ≡ length y = ap length k in omega arith)
 
 longer_by : (a b : Option (List ℕ)) (bytes : List ℕ) → 1 ≤ length bytes → Appends a b bytes → IsLonger a b
 longer_by None b bytes lt c = tt
 longer_by (Some x) None bytes lt c = absurd c
 longer_by (Some x) (Some y) bytes lt c = (let e : length y ≡ length x + length bytes = ap length c ∙ length-append x bytes in omega arith)
+
+-- a read that gave bytes
+pub read_transfers : (a b c : Report) (number n : ℕ) (buf : List ℕ) → Reads a b number (Ok (Bytes n)) buf → Keeps (b.unread number) (c.unread number) → Keeps (b.given number) (c.given number) → Transfers a c number
+read_transfers a b c number n buf r k g =
+    let least : 1 ≤ n = r.within.0 in
+    let most : n ≤ length buf = r.within.1 in
+    let e : length (take n buf) ≡ n = length-take-le n buf most in
+    let some : 1 ≤ length (take n buf) = omega arith in
+    inl (
+      shorter_kept _ _ _ (shorter_by (a.unread number) (b.unread number) (take n buf) some r.consumed) k,
+      longer_kept _ _ _ (longer_by (a.given number) (b.given number) (take n buf) some r.given) g
+    )
 
 -- a write that took bytes
 pub write_longer : (a b : Report) (number n : ℕ) (buf : List ℕ) → 0 < n → Writes a b number (Ok n) buf → IsLonger (a.written number) (b.written number)
@@ -62,9 +72,9 @@ then_longer (Some x) (Some y) None bytes p q = absurd q
 then_longer (Some x) (Some y) (Some z) bytes p q = (let e : length y ≡ length x + length bytes = ap length p ∙ length-append x bytes in omega arith)
 
 pub transfers_then : (a b c : Report) (n : ℕ) → Transfers a b n → AllMove b c → Transfers a c n
-transfers_then a b c n (inl p) m = inl (shorter_then _ _ _ (m n).gave p (m n).unread)
+transfers_then a b c n (inl p) m = inl (shorter_then _ _ _ (m n).gave p.0 (m n).unread, longer_then _ _ _ (m n).gave p.1 (m n).given)
 transfers_then a b c n (inr p) m = inr (longer_then _ _ _ (m n).took p (m n).written)
 
 pub then_transfers : (a b c : Report) (n : ℕ) → AllMove a b → Transfers b c n → Transfers a c n
-then_transfers a b c n m (inl p) = inl (then_shorter _ _ _ (m n).gave (m n).unread p)
+then_transfers a b c n m (inl p) = inl (then_shorter _ _ _ (m n).gave (m n).unread p.0, then_longer _ _ _ (m n).gave (m n).given p.1)
 then_transfers a b c n m (inr p) = inr (then_longer _ _ _ (m n).took (m n).written p)

@@ -3,10 +3,11 @@ use Rattle.std.specs.Prelude.{◌<◌, ◌≡◌, ◌⊎◌, ⊤, ℕ, List, [],
 use Rattle.std.specs.Io.KnownBytes.{Keeps, Appends, Consumes}
 use Rattle.transport.specs.Report.{Report, KeepsOthers, Stays, OnlyRises}
 
--- bytes of any connection leave at the start and are written at the end, and its flags only rise
+-- bytes of any connection leave at the start and are given and written at the end, and its flags only rise
 pub record Moves (old new : Report) (number : ℕ) : Type 0 where
   pub gave : List ℕ
   pub unread : Consumes (old.unread number) (new.unread number) gave
+  pub given : Appends (old.given number) (new.given number) gave
   pub took : List ℕ
   pub written : Appends (old.written number) (new.written number) took
   pub shut : OnlyRises (old.is_shut number) (new.is_shut number)
@@ -18,6 +19,7 @@ AllMove old new = (number : ℕ) → Moves old new number
 -- a connection gave these bytes, and nothing else changed, but that a call of it may have failed
 pub record GaveBytes (old new : Report) (number : ℕ) (bytes : List ℕ) : Type 0 where
   pub consumed : Consumes (old.unread number) (new.unread number) bytes
+  pub given : Appends (old.given number) (new.given number) bytes
   pub written : Keeps (old.written number) (new.written number)
   pub shut : Stays (old.is_shut number) (new.is_shut number)
   pub failed : OnlyRises (old.has_failed number) (new.has_failed number)
@@ -34,7 +36,7 @@ IsShorter None new = ⊤
 IsShorter (Some bytes) None = ⊥
 IsShorter (Some bytes) (Some left) = length left < length bytes
 
--- a connection that is reported took at least one byte
+-- a connection that is reported gave or took at least one byte
 abbrev pub IsLonger : Option (List ℕ) → Option (List ℕ) → Type 0
 IsLonger None new = ⊤
 IsLonger (Some bytes) None = ⊥
@@ -42,7 +44,8 @@ IsLonger (Some bytes) (Some more) = length bytes < length more
 
 abbrev pub Transfers : Report → Report → ℕ → Type 0
 Transfers old new number =
-    IsShorter (old.unread number) (new.unread number)
+    (IsShorter (old.unread number) (new.unread number)
+    × IsLonger (old.given number) (new.given number))
     ⊎ IsLonger (old.written number) (new.written number)
 
 -- the wire still knows each connection that it knew

@@ -6,18 +6,24 @@ use Rattle.transport.specs.declared.wire.Got.TheVariants.{Bytes, Nothing, Ended}
 use Rattle.transport.specs.declared.wire.WireFault.{WireFault}
 use Rattle.transport.specs.declared.wire.WireFault.TheVariants.{Device}
 
--- of each connection, by its number: the bytes that reads will give from here on, the bytes that writes took, whether it
--- was shut, and whether a read or a write of it has failed; `None` where the wire does not report it
+-- of each connection, by its number: the bytes that reads will give from here on, those that reads gave, the bytes that
+-- writes took, whether it was shut, and whether a read or a write of it has failed; `None` where the wire does not report it
 pub record Report : Type 0 where
   pub unread : ℕ → Option (List ℕ)
+  pub given : ℕ → Option (List ℕ)
   pub written : ℕ → Option (List ℕ)
   pub is_shut : ℕ → Option Bool
   pub has_failed : ℕ → Option Bool
 
 -- a wire that reports nothing
 abbrev pub nothing_reported : Report
-nothing_reported =
-    record { unread = λ _. None; written = λ _. None; is_shut = λ _. None; has_failed = λ _. None }
+nothing_reported = record {
+  unread = λ _. None;
+  given = λ _. None;
+  written = λ _. None;
+  is_shut = λ _. None;
+  has_failed = λ _. None;
+}
 
 -- a flag that is reported stays
 abbrev pub Stays : Option Bool → Option Bool → Type 0
@@ -39,6 +45,7 @@ OnlyRises (Some false) (Some now) = ⊤
 -- what is reported of a connection stays
 pub record KeepsConnection (old new : Report) (number : ℕ) : Type 0 where
   pub unread : Keeps (old.unread number) (new.unread number)
+  pub given : Keeps (old.given number) (new.given number)
   pub written : Keeps (old.written number) (new.written number)
   pub shut : Stays (old.is_shut number) (new.is_shut number)
   pub failed : Stays (old.has_failed number) (new.has_failed number)
@@ -81,6 +88,7 @@ pub record Reads (old new : Report) (number : ℕ) (result : Result Got WireFaul
     : Type 0 where
   pub within : IsWithin result (length buf)
   pub consumed : Consumes (old.unread number) (new.unread number) (bytes_read result buf)
+  pub given : Appends (old.given number) (new.given number) (bytes_read result buf)
   pub ended : EndsAt result (new.unread number)
   pub written : Keeps (old.written number) (new.written number)
   pub shut : Stays (old.is_shut number) (new.is_shut number)
@@ -98,6 +106,7 @@ pub record Writes (old new : Report) (number : ℕ) (result : Result ℕ WireFau
   pub within : IfOk result (λ n. n ≤ length buf)
   pub appended : Appends (old.written number) (new.written number) (bytes_written result buf)
   pub unread : Keeps (old.unread number) (new.unread number)
+  pub given : Keeps (old.given number) (new.given number)
   pub shut : Stays (old.is_shut number) (new.is_shut number)
   pub failed : ReportsFailure result (old.has_failed number) (new.has_failed number)
   pub others : KeepsOthers old new number
@@ -108,6 +117,7 @@ pub record Shuts (bound : ℕ) (old new : Report) (number : ℕ) : Type 0 where
   pub only_rises : OnlyRises (old.is_shut number) (new.is_shut number)
   pub written : Keeps (old.written number) (new.written number)
   pub unread : Keeps (old.unread number) (new.unread number)
+  pub given : Keeps (old.given number) (new.given number)
   pub failed : Stays (old.has_failed number) (new.has_failed number)
   pub others : KeepsOthers old new number
 

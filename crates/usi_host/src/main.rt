@@ -149,10 +149,7 @@ fn bytes_of(text: &Option<String>) -> Option<&[u8]>
 /// Does what the arguments of the command line ask for. The status is 0 where it was done, 1 where
 /// it ended early, 2 where the arguments are not accepted, and 3 where a script has a bad line.
 fn main(rt: HostRuntime) -> ExitCode {
-    let mut ends = Duplex {
-        input: rt.reader(),
-        output: io::writer(&rt),
-    };
+    let mut ends = Duplex::new(rt.reader(), io::writer(&rt));
     let status = match asked(&rt) {
         Ok(Job::Stdio { entries, setup }) => run_session(&rt, &mut ends, entries, setup),
         Ok(

@@ -1,4 +1,5 @@
 pub mod Calls
+pub mod Noted
 pub mod Dialogue
 pub mod Saying
 pub mod Stdio

@@ -1,9 +1,12 @@
 //! The front end of a session: what it sends is read, what it takes is written and flushed, and its
 //! calls come in one order.
 
-ghost use Rattle.std.specs.Prelude.{None};
+ghost use Rattle.std.specs.Prelude.{◌≡◌, [], ◌∷◌, ◌++◌};
 ghost use Rattle.usi_stdio.specs.Calls.{Report, nothing_reported, Reads, Writes, Flushes};
+ghost use Rattle.usi_stdio.specs.Noted.{call_by, calls_of};
 
+use byte_logs::Bytes;
+use http_server::Log;
 use std::io::{Read, Result, Write};
 
 /// The front end of a session. A call that fails moves no byte.
@@ -25,29 +28,96 @@ pub trait FrontEnd {
         ensures { Flushes (report self.old) (report self.new) result };
 }
 
-/// A reader and a writer as one front end. It reports their bytes where they do, and no calls.
+/// The kind of a call, and whether it failed.
+#[derive(Clone, Copy, Debug, PartialEq, Eq)]
+pub enum CallKind {
+    Read,
+    Write,
+    Flush,
+    FailedRead,
+    FailedWrite,
+    FailedFlush,
+}
+
+/// A reader and a writer as one front end. It reports their bytes where they do, and its calls with
+/// what each moved, by a log that takes no memory.
 #[derive(Drop)]
 pub struct Duplex<R, W> {
     pub input: R,
     pub output: W,
+    calls: Log<CallKind, Bytes>,
+}
+
+impl<R, W> Duplex<R, W> {
+    /// No call was made of them.
+    pub fn new(input: R, output: W) -> Duplex<R, W>
+        ensures input { result.input ≡ input }
+        ensures output { result.output ≡ output }
+        ensures calls { calls_of result.calls.items ≡ [] }
+    {
+        Duplex {
+            input,
+            output,
+            calls: Log::new(),
+        }
+    }
+}
+
+/// Notes a call of this kind, which moved these bytes.
+fn note(log: &mut Log<CallKind, Bytes>, kind: CallKind, bytes: &[u8])
+    ensures { calls_of log.new.items ≡ calls_of log.old.items ++ call_by kind bytes.now ∷ [] }
+{
+    let mut moved = Bytes::new();
+    moved.note(bytes);
+    *log = log.and(&kind, &moved);
 }
 
 impl<R: Read, W: Write> FrontEnd for Duplex<R, W> {
+    ghost use Rattle.std.specs.Prelude.{Some};
+    ghost use Rattle.usi_stdio.specs.Noted.{calls_of};
+
     ghost report = { λ ends. record {
       unread = R.remaining ends.input;
       written = W.contents ends.output;
-      calls = None;
+      calls = Some (calls_of ends.calls.items);
     } };
 
     fn read(&mut self, buf: &mut [u8]) -> Result<usize> {
-        self.input.read(buf)
+        match self.input.read(buf) {
+            Ok(n) => {
+                note(&mut self.calls, CallKind::Read, buf.split_at(n).0);
+                Ok(n)
+            }
+            Err(error) => {
+                note(&mut self.calls, CallKind::FailedRead, &[]);
+                Err(error)
+            }
+        }
     }
 
     fn write(&mut self, bytes: &[u8]) -> Result<usize> {
-        self.output.write(bytes)
+        match self.output.write(bytes) {
+            Ok(n) => {
+                note(&mut self.calls, CallKind::Write, bytes.split_at(n).0);
+                Ok(n)
+            }
+            Err(error) => {
+                note(&mut self.calls, CallKind::FailedWrite, &[]);
+                Err(error)
+            }
+        }
     }
 
     fn flush(&mut self) -> Result<()> {
-        self.output.flush()
+        match self.output.flush() {
+            Ok(()) => {
+                note(&mut self.calls, CallKind::Flush, &[]);
+                Ok(())
+            }
+            Err(error) => {
+                note(&mut self.calls, CallKind::FailedFlush, &[]);
+                Err(error)
+            }
+        }
     }
 }

@@ -37,6 +37,7 @@ returns-then-is_ok-clause-fed g c =
       carries = λ marks earlier gave none.
           carries_by_fed marks before.bound x.link earlier before.report c.args.host.now c.feed.new.self c.args.chunk.now o (done-is_ok c.feed.result ∙ (sym c.is_ok.ensures.value ∙ c.if-is_ok.true)) gave none step;
       unread = Keeps-refl (before.report.unread x.link.number);
+      given = Keeps-refl (before.report.given x.link.number);
     }
 
 pub returns-clause-fed : goal.returns-clause-fed
@@ -54,4 +55,5 @@ returns-clause-fed g c =
           carries_by_starved marks before.bound x.link earlier before.report after.report c.args.host.now c.feed.new.self c.shut_down.new.host c.args.chunk.now o c.requires.wants c.requires.few c.requires.some (done-is_ok c.feed.result ∙ (sym c.is_ok.ensures.value ∙ c.if-is_ok.false)) gave c.shut_down.ensures.shuts step c.shut_down.ensures.closed
           (c.shut_down.ensures.gone (wanted_below c.args.host.now c.feed.new.self x.link.id (Feed x.link.id c.args.chunk.now) o c.requires.wants c.feed.ensures.below c.feed.ensures.fed));
       unread = c.shut_down.ensures.shuts.unread;
+      given = c.shut_down.ensures.shuts.given;
     }

@@ -3,6 +3,7 @@ use Rattle.std.proofs.Common.{◌≡◌, arith, length, [], ◌∷◌, Ok, Err, 
 use Rattle.transport.specs.declared.wire.WireFault.TheVariants.{OutOfMemory}
 use Rattle.std.specs.Io.KnownBytes.{Keeps}
 use Rattle.transport.proofs.Reported.{kept_same}
+use Rattle.stream_transport.specs.Held.{given_under}
 use Rattle.stream_transport.specs.Streams.{KeepsElse, answer_of}
 use Rattle.stream_transport.specs.declared.listener.ListenerCall.TheVariants.{Accept}
 use Rattle.stream_transport.proofs.Asked.{asked_no_next}
@@ -21,7 +22,7 @@ returns-in-Ok-clause-unchanged g c =
     let new = c.new.result in
     let given : Keeps ((told old.listener).unread new.number) (left new.stream) × Keeps ((told old.listener).written new.number) (taken new.stream) = rw (c.new.ensures.number, c.new.ensures.stream) c.in-Ok.ensures.given in
     let rest : KeepsElse (told old.listener) (told c.accept.new.self) new.number = rw c.new.ensures.number c.in-Ok.ensures.rest in
-    comes left taken (told old.listener) (told c.accept.new.self) old.places.items c.free_place.new.places.items c.insert.new.places.items new.number new (same_alike old.places.items c.free_place.new.places.items c.free_place.ensures.same) c.insert.ensures.if_none c.insert.ensures.held c.insert.ensures.others given rest c.new.ensures.kept
+    comes left taken (given_under old.given.items) (told old.listener) (told c.accept.new.self) old.places.items c.free_place.new.places.items c.insert.new.places.items new.number new (same_alike old.places.items c.free_place.new.places.items c.free_place.ensures.same) c.insert.ensures.if_none c.insert.ensures.held c.insert.ensures.others given rest c.new.ensures.kept
 
 -- there is no place
 pub returns-then-place-clause-cause : goal.returns-then-place-clause-cause
@@ -43,7 +44,7 @@ pub returns-then-place-clause-unchanged : goal.returns-then-place-clause-unchang
 returns-then-place-clause-unchanged g c =
     let told = g.L.Listener.told in
     let old = c.args.self.now in
-    rw (c.fault.ensures.listener, c.fault.ensures.places) (alike_keeps g.L.Stream.ByteStream.unread g.L.Stream.ByteStream.written (told old.listener) (told old.listener) old.places.items c.free_place.new.places.items (same_alike old.places.items c.free_place.new.places.items c.free_place.ensures.same) (kept_same (told old.listener)))
+    rw (c.fault.ensures.listener, c.fault.ensures.places, c.fault.ensures.given) (alike_keeps g.L.Stream.ByteStream.unread g.L.Stream.ByteStream.written (given_under old.given.items) (told old.listener) (told old.listener) old.places.items c.free_place.new.places.items (same_alike old.places.items c.free_place.new.places.items c.free_place.ensures.same) (kept_same (told old.listener)))
 
 -- the listener failed
 pub returns-in-Err-2-clause-cause : goal.returns-in-Err-2-clause-cause
@@ -69,7 +70,7 @@ pub returns-in-Err-2-clause-unchanged : goal.returns-in-Err-2-clause-unchanged
 returns-in-Err-2-clause-unchanged g c =
     let told = g.L.Listener.told in
     let old = c.args.self.now in
-    rw (c.fault-in-Err-2.ensures.listener, c.fault-in-Err-2.ensures.places) (alike_keeps g.L.Stream.ByteStream.unread g.L.Stream.ByteStream.written (told old.listener) (told c.accept.new.self) old.places.items c.free_place.new.places.items (same_alike old.places.items c.free_place.new.places.items c.free_place.ensures.same) c.in-Err-2.ensures.err)
+    rw (c.fault-in-Err-2.ensures.listener, c.fault-in-Err-2.ensures.places, c.fault-in-Err-2.ensures.given) (alike_keeps g.L.Stream.ByteStream.unread g.L.Stream.ByteStream.written (given_under old.given.items) (told old.listener) (told c.accept.new.self) old.places.items c.free_place.new.places.items (same_alike old.places.items c.free_place.new.places.items c.free_place.ensures.same) c.in-Err-2.ensures.err)
 
 -- no memory for a place
 pub returns-in_err-place-clause-awake : goal.returns-in_err-place-clause-awake
@@ -79,7 +80,7 @@ pub returns-in_err-place-clause-unchanged : goal.returns-in_err-place-clause-unc
 returns-in_err-place-clause-unchanged g c =
     let told = g.L.Listener.told in
     let old = c.args.self.now in
-    alike_keeps g.L.Stream.ByteStream.unread g.L.Stream.ByteStream.written (told old.listener) (told old.listener) old.places.items c.free_place.new.places.items (same_alike old.places.items c.free_place.new.places.items c.free_place.ensures.same) (kept_same (told old.listener))
+    alike_keeps g.L.Stream.ByteStream.unread g.L.Stream.ByteStream.written (given_under old.given.items) (told old.listener) (told old.listener) old.places.items c.free_place.new.places.items (same_alike old.places.items c.free_place.new.places.items c.free_place.ensures.same) (kept_same (told old.listener))
 
 -- the stream comes
 pub number_at-number-requires-clause-place : goal.number_at-number-requires-clause-place
@@ -123,7 +124,7 @@ pub returns-in-Err-clause-unchanged : goal.returns-in-Err-clause-unchanged
 returns-in-Err-clause-unchanged g c =
     let told = g.L.Listener.told in
     let old = c.args.self.now in
-    alike_keeps g.L.Stream.ByteStream.unread g.L.Stream.ByteStream.written (told old.listener) (told c.accept.new.self) old.places.items c.free_place.new.places.items (same_alike old.places.items c.free_place.new.places.items c.free_place.ensures.same) c.in-Err.ensures.err
+    alike_keeps g.L.Stream.ByteStream.unread g.L.Stream.ByteStream.written (given_under old.given.items) (told old.listener) (told c.accept.new.self) old.places.items c.free_place.new.places.items (same_alike old.places.items c.free_place.new.places.items c.free_place.ensures.same) c.in-Err.ensures.err
 
 pub returns-in-Ok-clause-holds : goal.returns-in-Ok-clause-holds
 returns-in-Ok-clause-holds g c = accepted_alike (Ok (Some c.number_at-number.result)) c.args.self.now.places.items c.free_place.new.places.items c.insert.new.places.items (same_alike c.args.self.now.places.items c.free_place.new.places.items c.free_place.ensures.same) (accepted_one c.free_place.new.places.items c.insert.new.places.items c.number_at-number.result c.new.result.number c.new.result c.new.ensures.number c.insert.ensures.held c.insert.ensures.others)

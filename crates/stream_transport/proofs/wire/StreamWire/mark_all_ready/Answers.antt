@@ -20,6 +20,7 @@ loop-place-preserved g c =
       unsure = c.mark_one_ready.ensures.unsure ∙ c.loop-place.invariant.unsure;
       received = c.mark_one_ready.ensures.received ∙ c.loop-place.invariant.received;
       sent = c.mark_one_ready.ensures.sent ∙ c.loop-place.invariant.sent;
+      given = c.mark_one_ready.ensures.given ∙ c.loop-place.invariant.given;
     }
 
 -- none so far
@@ -37,6 +38,7 @@ loop-place-init g c = record {
   unsure = refl;
   received = refl;
   sent = refl;
+  given = refl;
 }
 
 -- all of them

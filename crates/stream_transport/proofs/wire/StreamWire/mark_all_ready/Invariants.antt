@@ -19,4 +19,5 @@ invariant-loop-place g l = record {
   unsure : l.self.needs_timeout ≡ l.fn.self.needs_timeout;
   received : l.self.received ≡ l.fn.self.received;
   sent : l.self.sent ≡ l.fn.self.sent;
+  given : l.self.given ≡ l.fn.self.given;
 }

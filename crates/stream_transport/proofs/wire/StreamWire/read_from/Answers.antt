@@ -1,6 +1,6 @@
 use Rattle.std.proofs.Common.{◌≡◌, ◌<◌, ◌%◌, Some, refl, sym, ap, subst, ◌∙◌}
 use Rattle.std.specs.Prelude.{vec_len}
-use Rattle.stream_transport.specs.Held.{IsFree, held}
+use Rattle.stream_transport.specs.Held.{IsFree, given_under, held}
 use Rattle.stream_transport.specs.Asking.{readable}
 use Rattle.stream_transport.specs.declared.connection.TheConstants.{PLACES}
 use Rattle.stream_transport.proofs.Placing.{held_as, kept_held, no_more, none_kept, none_noted, of_held, of_none, others_then}
@@ -11,7 +11,7 @@ use Rattle.stream_transport.proofs.wire.StreamWire.read_from.Goals as goal
 pub returns-in_default-clause-read : goal.returns-in_default-clause-read
 returns-in_default-clause-read g c =
     let told = g.L.Listener.told in
-    rw (c.answer.ensures.unchanged, c.answer.ensures.places) (reads_missing g.L.Stream.ByteStream.unread g.L.Stream.ByteStream.written (told c.args.self.now.listener) (told c.answer.new.self.listener) c.args.self.now.places.items c.remove.new.places.items c.args.number _ c.args.buf.now (sym c.remove.ensures.out ∙ c.in_default.is) c.remove.ensures.if_none c.remove.ensures.others (rw c.answer.ensures.unchanged at c.answer.ensures.noted))
+    rw (c.answer.ensures.unchanged, c.answer.ensures.places, c.answer.ensures.given) (reads_missing g.L.Stream.ByteStream.unread g.L.Stream.ByteStream.written (given_under c.args.self.now.given.items) (told c.args.self.now.listener) (told c.answer.new.self.listener) c.args.self.now.places.items c.remove.new.places.items c.args.number _ c.args.buf.now (sym c.remove.ensures.out ∙ c.in_default.is) c.remove.ensures.if_none c.remove.ensures.others (rw c.answer.ensures.unchanged at c.answer.ensures.noted))
 
 pub returns-in_default-clause-cause : goal.returns-in_default-clause-cause
 returns-in_default-clause-cause g c = c.answer.ensures.cause
@@ -42,7 +42,7 @@ pub returns-clause-read : goal.returns-clause-read
 returns-clause-read g c =
     let told = g.L.Listener.told in
     let same : c.read-got.new.self.number ≡ c.args.number = c.read-got.ensures.number ∙ c.in-Some.ensures.number in
-    rw (c.answer-2.ensures.unchanged, c.answer-2.ensures.places) (reads_held g.L.Stream.ByteStream.unread g.L.Stream.ByteStream.written (told c.args.self.now.listener) (told c.answer-2.new.self.listener) c.args.self.now.places.items c.insert.new.places.items c.args.number c.in-Some.connection c.read-got.new.self c.read-got.result c.read-got.new.buf (sym c.remove.ensures.out ∙ c.in-Some.is) (held_as c.insert.new.places.items c.args.number c.read-got.new.self.number c.read-got.new.self same c.insert.ensures.held) (others_then c.args.self.now.places.items c.remove.new.places.items c.insert.new.places.items c.args.number c.read-got.new.self.number same c.remove.ensures.others c.insert.ensures.others) c.read-got.ensures.within c.read-got.ensures.unread c.read-got.ensures.written c.read-got.ensures.ended (rw c.answer-2.ensures.unchanged at c.answer-2.ensures.noted))
+    rw (c.answer-2.ensures.unchanged, c.answer-2.ensures.places, c.answer-2.ensures.given) (reads_held g.L.Stream.ByteStream.unread g.L.Stream.ByteStream.written (given_under c.args.self.now.given.items) (given_under c.note_read.new.log.items) (told c.args.self.now.listener) (told c.answer-2.new.self.listener) c.args.self.now.places.items c.insert.new.places.items c.args.number c.in-Some.connection c.read-got.new.self c.read-got.result c.read-got.new.buf (sym c.remove.ensures.out ∙ c.in-Some.is) (held_as c.insert.new.places.items c.args.number c.read-got.new.self.number c.read-got.new.self same c.insert.ensures.held) (others_then c.args.self.now.places.items c.remove.new.places.items c.insert.new.places.items c.args.number c.read-got.new.self.number same c.remove.ensures.others c.insert.ensures.others) c.read-got.ensures.within c.read-got.ensures.unread c.read-got.ensures.written c.read-got.ensures.ended (rw c.answer-2.ensures.unchanged at c.answer-2.ensures.noted) c.note_read.ensures.given c.note_read.ensures.others)
 
 pub returns-clause-cause : goal.returns-clause-cause
 returns-clause-cause g c = c.answer-2.ensures.cause

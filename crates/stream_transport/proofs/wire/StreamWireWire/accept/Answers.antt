@@ -1,6 +1,6 @@
 use Rattle.std.proofs.Common.{◌≡◌, Err, refl, ap, ◌∙◌, rules}
 use Rattle.transport.proofs.Reported.{kept_then}
-use Rattle.stream_transport.specs.Held.{reported}
+use Rattle.stream_transport.specs.Held.{given_under, reported}
 use Rattle.stream_transport.proofs.Asked.{asked_look, asked_next, asked_nobody, asked_nothing}
 use Rattle.stream_transport.proofs.Outcomes.{cause_of_ok, cause_then, stays_open}
 use Rattle.stream_transport.proofs.Reports.{alike_keeps, looked, unmoved}
@@ -14,8 +14,9 @@ returns-clause-unchanged g c =
     let t = g.L.Stream.ByteStream.written in
     let told = g.L.Listener.told in
     let old = c.args.self.now in
-    let looked = alike_keeps r t (told old.listener) (told c.look-looked.new.self) old.places.items c.mark_all_ready.new.self.places.items c.mark_all_ready.ensures.alike c.look-looked.ensures.unchanged in
-    λ n. kept_then (reported r t (told old.listener) old.places.items) (reported r t (told c.look-looked.new.self) c.mark_all_ready.new.self.places.items) (reported r t (told c.accept_or_retry.new.self.listener) c.accept_or_retry.new.self.places.items) n (looked n) (rw c.mark_all_ready.ensures.listener at c.accept_or_retry.ensures.unchanged n)
+    let w = given_under old.given.items in
+    let looked = alike_keeps r t w (told old.listener) (told c.look-looked.new.self) old.places.items c.mark_all_ready.new.self.places.items c.mark_all_ready.ensures.alike c.look-looked.ensures.unchanged in
+    λ n. kept_then (reported r t w (told old.listener) old.places.items) (reported r t w (told c.look-looked.new.self) c.mark_all_ready.new.self.places.items) (reported r t (given_under c.accept_or_retry.new.self.given.items) (told c.accept_or_retry.new.self.listener) c.accept_or_retry.new.self.places.items) n (looked n) (rw (c.mark_all_ready.ensures.listener, c.mark_all_ready.ensures.given) at c.accept_or_retry.ensures.unchanged n)
 
 -- a look, and then the next one who waits
 pub returns-clause-asks : goal.returns-clause-asks
@@ -43,7 +44,7 @@ accept_or_retry-requires g c = record { left = rw c.mark_all_ready.ensures.next 
 pub returns-then-not-self-clause-unchanged : goal.returns-then-not-self-clause-unchanged
 returns-then-not-self-clause-unchanged g c =
     let told = g.L.Listener.told in
-    looked g.L.Stream.ByteStream.unread g.L.Stream.ByteStream.written (told c.args.self.now.listener) (told c.look-looked.new.self) (told c.mark_all_ready.new.self.listener) c.args.self.now.places.items c.mark_all_ready.new.self.places.items (ap told c.mark_all_ready.ensures.listener) c.mark_all_ready.ensures.alike c.look-looked.ensures.unchanged
+    rw c.mark_all_ready.ensures.given (looked g.L.Stream.ByteStream.unread g.L.Stream.ByteStream.written (given_under c.args.self.now.given.items) (told c.args.self.now.listener) (told c.look-looked.new.self) (told c.mark_all_ready.new.self.listener) c.args.self.now.places.items c.mark_all_ready.new.self.places.items (ap told c.mark_all_ready.ensures.listener) c.mark_all_ready.ensures.alike c.look-looked.ensures.unchanged)
 
 pub returns-then-not-self-clause-cause : goal.returns-then-not-self-clause-cause
 returns-then-not-self-clause-cause g c = cause_of_ok _ c.args.self.now.failed c.mark_all_ready.new.self.failed c.mark_all_ready.ensures.cause.0
@@ -61,7 +62,7 @@ returns-then-not-self-clause-still g c = c.mark_all_ready.ensures.still
 pub returns-in_err-mark_all_ready-clause-unchanged : goal.returns-in_err-mark_all_ready-clause-unchanged
 returns-in_err-mark_all_ready-clause-unchanged g c =
     let told = g.L.Listener.told in
-    looked g.L.Stream.ByteStream.unread g.L.Stream.ByteStream.written (told c.args.self.now.listener) (told c.look-looked.new.self) (told c.mark_all_ready.new.self.listener) c.args.self.now.places.items c.mark_all_ready.new.self.places.items (ap told c.mark_all_ready.ensures.listener) c.mark_all_ready.ensures.alike c.look-looked.ensures.unchanged
+    rw c.mark_all_ready.ensures.given (looked g.L.Stream.ByteStream.unread g.L.Stream.ByteStream.written (given_under c.args.self.now.given.items) (told c.args.self.now.listener) (told c.look-looked.new.self) (told c.mark_all_ready.new.self.listener) c.args.self.now.places.items c.mark_all_ready.new.self.places.items (ap told c.mark_all_ready.ensures.listener) c.mark_all_ready.ensures.alike c.look-looked.ensures.unchanged)
 
 pub returns-in_err-mark_all_ready-clause-still : goal.returns-in_err-mark_all_ready-clause-still
 returns-in_err-mark_all_ready-clause-still g c = c.mark_all_ready.ensures.still
@@ -70,7 +71,7 @@ returns-in_err-mark_all_ready-clause-still g c = c.mark_all_ready.ensures.still
 pub returns-then-self-clause-unchanged : goal.returns-then-self-clause-unchanged
 returns-then-self-clause-unchanged g c =
     let told = g.L.Listener.told in
-    unmoved g.L.Stream.ByteStream.unread g.L.Stream.ByteStream.written (told c.args.self.now.listener) (told c.fault.new.self.listener) c.args.self.now.places.items c.fault.new.self.places.items (ap told c.fault.ensures.listener) (ap (λ x. x.items) c.fault.ensures.places)
+    rw c.fault.ensures.given (unmoved g.L.Stream.ByteStream.unread g.L.Stream.ByteStream.written (given_under c.args.self.now.given.items) (told c.args.self.now.listener) (told c.fault.new.self.listener) c.args.self.now.places.items c.fault.new.self.places.items (ap told c.fault.ensures.listener) (ap (λ x. x.items) c.fault.ensures.places))
 
 pub returns-then-self-clause-cause : goal.returns-then-self-clause-cause
 returns-then-self-clause-cause g c = (c.fault.ensures.rises, λ e. c.fault.ensures.risen)

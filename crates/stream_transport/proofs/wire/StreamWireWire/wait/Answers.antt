@@ -1,5 +1,6 @@
 use Rattle.std.proofs.Common.{◌≡◌, ◌∙◌, true, false, refl, ap}
 use Rattle.transport.proofs.Reported.{kept_same}
+use Rattle.stream_transport.specs.Held.{given_under}
 use Rattle.stream_transport.proofs.Asked.{made_no_more, made_not, made_once, more_goes, more_stays, unsure_goes, unsure_stays, waits_not, waits_once}
 use Rattle.stream_transport.proofs.Outcomes.{cause_of_ok, not_below}
 use Rattle.stream_transport.proofs.Reports.{looked}
@@ -45,7 +46,7 @@ returns-then-self-clause-more g c = more_goes c.args.self.now.has_buffered c.arg
 pub returns-clause-unchanged : goal.returns-clause-unchanged
 returns-clause-unchanged g c =
     let told = g.L.Listener.told in
-    looked g.L.Stream.ByteStream.unread g.L.Stream.ByteStream.written (told c.args.self.now.listener) (told c.wait-looked.new.self) (told c.mark_all_ready.new.self.listener) c.args.self.now.places.items c.mark_all_ready.new.self.places.items (ap told c.mark_all_ready.ensures.listener) c.mark_all_ready.ensures.alike c.wait-looked.ensures.unchanged
+    rw c.mark_all_ready.ensures.given (looked g.L.Stream.ByteStream.unread g.L.Stream.ByteStream.written (given_under c.args.self.now.given.items) (told c.args.self.now.listener) (told c.wait-looked.new.self) (told c.mark_all_ready.new.self.listener) c.args.self.now.places.items c.mark_all_ready.new.self.places.items (ap told c.mark_all_ready.ensures.listener) c.mark_all_ready.ensures.alike c.wait-looked.ensures.unchanged)
 
 pub returns-clause-cause : goal.returns-clause-cause
 returns-clause-cause g c = c.mark_all_ready.ensures.cause

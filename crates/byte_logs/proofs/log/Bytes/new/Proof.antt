@@ -21,12 +21,12 @@ use denote.Triple.Entry.{on_entry}
 use denote.Triple.Spec.{Meets, triple_of}
 use denote.Triple.Table.{entered}
 use denote.Triple.Walked.{says, ends_at, walked, walk_Meets}
-use Rattle.stream_transport.specs.declared.log.Bytes.{Bytes}
-use Rattle.stream_transport.specs.contracts.log.Bytes as T
-use Rattle.stream_transport.specs.contracts.log.Bytes.new.Key.{name as #it}
-use Rattle.stream_transport.specs.contracts.log.Bytes.new as it
-use Rattle.stream_transport.proofs.log.Bytes.new.Statement as stated
-use Rattle.stream_transport.proofs.log.Bytes.new.Code as code
+use Rattle.byte_logs.specs.declared.log.Bytes.{Bytes}
+use Rattle.byte_logs.specs.contracts.log.Bytes as T
+use Rattle.byte_logs.specs.contracts.log.Bytes.new.Key.{name as #it}
+use Rattle.byte_logs.specs.contracts.log.Bytes.new as it
+use Rattle.byte_logs.proofs.log.Bytes.new.Statement as stated
+use Rattle.byte_logs.proofs.log.Bytes.new.Code as code
 
 abbrev v : Val
 v = vstruct (vcons (vstruct vnil) vnil)

@@ -1,5 +1,5 @@
 -- What was noted under numbers, of which a log keeps the list (own choice).
-use Rattle.std.specs.Prelude.{◌==◌, ◌||◌, ℕ, Bool, false, List, [], ◌∷◌, cond}
+use Rattle.std.specs.Prelude.{◌==◌, ◌||◌, ℕ, Bool, false, List, [], ◌∷◌, ◌++◌, cond}
 
 module _ {X : Type 0} where
   -- something was noted under a number
@@ -16,3 +16,9 @@ module _ {X : Type 0} where
     -- the bytes of what was noted last under a number; none, if nothing was
     abbrev pub last_under : List (ℕ × X) → ℕ → List ℕ
     last_under noted number = last_after [] noted number
+
+    -- the bytes of all that was noted under a number, in this order
+    abbrev pub all_under : List (ℕ × X) → ℕ → List ℕ
+    all_under [] number = []
+    all_under (first ∷ rest) number =
+        cond (first.0 == number) (bytes_of first.1) [] ++ all_under rest number

@@ -26,13 +26,13 @@ use denote.Triple.Spec.{Meets, triple_of}
 use denote.Triple.Table.{entered}
 use denote.Triple.Walked.{says, Stays, stay_dropped, walk_of, ends_at, walk_Meets, Goes-dropped}
 use Rattle.http_server.specs.contracts.log.Log as Log
-use Rattle.stream_transport.specs.Noted.{last_under}
-use Rattle.stream_transport.specs.declared.log.Bytes.{Bytes}
-use Rattle.stream_transport.specs.contracts.log.Bytes as T
-use Rattle.stream_transport.specs.contracts.log.Bytes.last_under.Key.{name as #it}
-use Rattle.stream_transport.specs.contracts.log.Bytes.last_under as it
-use Rattle.stream_transport.proofs.log.Bytes.last_under.Statement as stated
-use Rattle.stream_transport.proofs.log.Bytes.last_under.Code as code
+use Rattle.byte_logs.specs.Noted.{last_under}
+use Rattle.byte_logs.specs.declared.log.Bytes.{Bytes}
+use Rattle.byte_logs.specs.contracts.log.Bytes as T
+use Rattle.byte_logs.specs.contracts.log.Bytes.last_under.Key.{name as #it}
+use Rattle.byte_logs.specs.contracts.log.Bytes.last_under as it
+use Rattle.byte_logs.proofs.log.Bytes.last_under.Statement as stated
+use Rattle.byte_logs.proofs.log.Bytes.last_under.Code as code
 
 abbrev v : Val
 v = vstruct (vcons (vstruct vnil) vnil)

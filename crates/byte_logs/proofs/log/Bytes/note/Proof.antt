@@ -25,12 +25,12 @@ use denote.Triple.Entry.{on_entry}
 use denote.Triple.Spec.{Meets, triple_of}
 use denote.Triple.Table.{entered}
 use denote.Triple.Walked.{says, Stays, stay_ref, walk_of, AllGo, Goes-ref, Walks, ends_at, walked, walk_Meets}
-use Rattle.stream_transport.specs.declared.log.Bytes.{Bytes}
-use Rattle.stream_transport.specs.contracts.log.Bytes as T
-use Rattle.stream_transport.specs.contracts.log.Bytes.note.Key.{name as #it}
-use Rattle.stream_transport.specs.contracts.log.Bytes.note as it
-use Rattle.stream_transport.proofs.log.Bytes.note.Statement as stated
-use Rattle.stream_transport.proofs.log.Bytes.note.Code as code
+use Rattle.byte_logs.specs.declared.log.Bytes.{Bytes}
+use Rattle.byte_logs.specs.contracts.log.Bytes as T
+use Rattle.byte_logs.specs.contracts.log.Bytes.note.Key.{name as #it}
+use Rattle.byte_logs.specs.contracts.log.Bytes.note as it
+use Rattle.byte_logs.proofs.log.Bytes.note.Statement as stated
+use Rattle.byte_logs.proofs.log.Bytes.note.Code as code
 use denote.Ref.{Bor}
 use denote.Builtin.{u8}
 use denote.Exit.{yes}

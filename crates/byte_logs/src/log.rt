@@ -2,7 +2,7 @@
 
 ghost use Rattle.std.specs.Prelude.{◌≡◌, ℕ, List, [], ◌++◌};
 ghost use Rattle.std.specs.Borrow.{ftrue};
-ghost use Rattle.stream_transport.specs.Noted.{last_under};
+ghost use Rattle.byte_logs.specs.Noted.{last_under};
 
 use http_server::Log;
 use std::marker::{Model, PhantomData};

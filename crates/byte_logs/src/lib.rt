@@ -1,0 +1,6 @@
+//! Bytes that passed, for clauses alone.
+#![tactic(auto)]
+
+mod log;
+
+pub use log::Bytes;
