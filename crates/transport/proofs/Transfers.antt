@@ -37,7 +37,7 @@ read_transfers a b c number n buf r k g =
     let some : 1 ≤ length (take n buf) = omega arith in
     inl (
       shorter_kept _ _ _ (shorter_by (a.unread number) (b.unread number) (take n buf) some r.consumed) k,
-      longer_kept _ _ _ (longer_by (a.given number) (b.given number) (take n buf) some r.given) g
+      longer_kept _ _ _ (longer_by (a.given number) (b.given number) (take n buf) some r.given) g,
     )
 
 -- a write that took bytes
