@@ -1,3 +1,4 @@
+pub mod Noting
 pub mod Talking
 pub mod Writing
 pub mod Working
