@@ -63,7 +63,7 @@ fn time_search<M: Memo>(rt: &HostRuntime, p: &Position, depth: u8, memo: &mut M)
 }
 
 /// The lines as a session is sent them.
-fn sent(alloc: Global, lines: &[u8]) -> Result<Vec<u8>> {
+fn sent_lines(alloc: Global, lines: &[u8]) -> Result<Vec<u8>> {
     let mut sent = Vec::new(alloc);
     for byte in lines {
         sent.push(if *byte == b';' { b'\n' } else { *byte })?;
@@ -75,7 +75,8 @@ fn sent(alloc: Global, lines: &[u8]) -> Result<Vec<u8>> {
 /// How many steps a session over the memo has made each time that it wrote something. It makes one at a time.
 fn steps_of<M: Memo>(alloc: Global, lines: &[u8], memo: &mut M) -> Result<Vec<u64>> {
     let mut session = OpaqueSession::new(alloc);
-    let fed = session.feed(sent(alloc, lines)?.as_slice());
+    let sent = sent_lines(alloc, lines)?;
+    let fed = session.feed(sent.as_slice());
     fed.map_err(|_| anyhow!("a session is not heard"))?;
     let mut counts = Vec::new(alloc);
     let mut made = 0u64;
