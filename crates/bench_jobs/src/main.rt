@@ -46,9 +46,12 @@ fn run_on_games(rt: &HostRuntime, name: &str, seed: &str) -> Result<()> {
 fn main(rt: HostRuntime) -> Result<()> {
     let mut words = env::args(&rt)?;
     let _program = words.next();
-    match (words.next(), words.next()) {
-        (Some(name), None) if name.as_str() == "measure" => measure::measure(&rt),
-        (Some(name), Some(seed)) => run_on_games(&rt, name.as_str(), seed.as_str()),
-        _ => bail!("there have to be two words, a job and a seed, or the word measure"),
+    let Some(name) = words.next() else {
+        bail!("a word is missing, the job");
+    };
+    match words.next() {
+        Some(seed) => run_on_games(&rt, name.as_str(), seed.as_str()),
+        None if name.as_str() == "measure" => measure::measure(&rt),
+        None => bail!("a word is missing, the seed"),
     }
 }
