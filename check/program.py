@@ -121,7 +121,7 @@ SLICES = (
     b"[default: 64]",
     b"--slice",
     b"from 1 to 1000000000",
-    b"[default: 500]",
+    b"[default: 300]",
 )
 SETUP = (
     b"--depth",
