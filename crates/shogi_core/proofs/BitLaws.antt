@@ -40,6 +40,10 @@ pub has_bit-none : (n : ℕ) → has_bit 0 n ≡ false
 unfolding has_bit
 has_bit-none n = ap (λ x. x == 1) (bit_at-zero n)
 
+-- no bit is set of a number that is 0
+pub has_none : (squares n : ℕ) → squares ≡ 0 → has_bit squares n ≡ false
+has_none squares n none = ap (λ m. has_bit m n) none ∙ has_bit-none n
+
 pub has_bit-one : (k n : ℕ) → has_bit (2 ^ k) n ≡ (n == k)
 unfolding has_bit
 has_bit-one k n = elim (cases_eq n k) [

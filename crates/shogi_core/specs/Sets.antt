@@ -1,5 +1,5 @@
 -- Sets of squares, gone through one by one by calls that answer for each (own choice).
-use Rattle.std.specs.Prelude.{ℕ, ◌≡◌, ◌<◌, Bool, true, false}
+use Rattle.std.specs.Prelude.{ℕ, ◌≡◌, ◌<◌, ◌≤◌, ◌==◌, ◌&&◌, not, Bool, true, false}
 use Rattle.shogi_core.specs.declared.squares.Squares.{Squares}
 use Rattle.shogi_core.specs.Bits.{has_bit}
 
@@ -19,3 +19,15 @@ pub record IsUnion (post : ℕ → Squares → Type 0) (squares found : ℕ) : T
       → (led : Squares) × post k led × ((n : ℕ) → has_bit led.bits n ≡ true → has_bit found n ≡ true)
   pub only : (n : ℕ) → has_bit found n ≡ true → (k : ℕ) × (k < 81) × (has_bit squares k ≡ true)
       × (led : Squares) × post k led × (has_bit led.bits n ≡ true)
+
+-- no square is in the set
+abbrev pub HasNone : ℕ → Type 0
+HasNone squares = (n : ℕ) → has_bit squares n ≡ false
+
+-- the lowest square of a set is taken out of it
+pub record TakesLowest (n old new : ℕ) : Type 0 where
+  pub range : n < 81
+  pub set : has_bit old n ≡ true
+  pub least : (i : ℕ) → has_bit old i ≡ true → n ≤ i
+  pub rest : (i : ℕ) → has_bit new i ≡ (has_bit old i && not (i == n))
+  pub less : new < old
