@@ -17,6 +17,7 @@ use Rattle.shogi_core.specs.Lines.{back, around, are_lined, is_same_offset}
 use Rattle.shogi_core.specs.Movement.{Cells, slides, for_side, slides_of, has_slide, has_step, cell_reaches, reaches, piece_at}
 use Rattle.shogi_core.specs.Pieces.{is_same_color, opponent_of}
 use Rattle.shogi_core.specs.Rays.{direction_at, ray_of, is_on_ray}
+use Rattle.shogi_core.specs.Sets.{HasNone}
 use Rattle.shogi_core.proofs.Back.{back_twice}
 use Rattle.shogi_core.proofs.Below.{some_below_at, some_below_no}
 use Rattle.shogi_core.proofs.BitLaws.{same_mask, has_bit-and, has_bit-or, has_bit-one, has_bit-none}
@@ -234,8 +235,8 @@ module _ (cells : Cells) (side : Color) (n : ℕ) (inside : n < length cells) (l
         let clash : false ≡ true = no_new_reach k who.0 hk who.1 king foe (piece_at cells who.0) refl (ap (λ cell. cell_reaches (set cells n None) cell who.0 k) (sym same) ∙ hit.1) (not_before k who.0 hk who.1 king foe) in
         cc)))
 
-pub pins_last : (cells : Cells) (side : Color) (found n : ℕ) → Pins cells side 0 found → in_check cells side ≡ false → n < 81 → has_bit found n ≡ false → is_piece_of side (piece_at cells n) ≡ true → in_check (set cells n None) side ≡ false
-pins_last cells side found n p safe low out own = lifted_free cells side n inside low safe found out own (λ k d m a hk king hd hm ha e. p.all k d m a hk king (has_bit-none k) hd hm ha e)
+pub pins_last : (cells : Cells) (side : Color) (left found n : ℕ) → HasNone left → Pins cells side left found → in_check cells side ≡ false → n < 81 → has_bit found n ≡ false → is_piece_of side (piece_at cells n) ≡ true → in_check (set cells n None) side ≡ false
+pins_last cells side left found n none p safe low out own = lifted_free cells side n inside low safe found out own (λ k d m a hk king hd hm ha e. p.all k d m a hk king (none k) hd hm ha e)
   where
     inside : n < length cells
     inside = elim (cases_lt n (length cells)) [

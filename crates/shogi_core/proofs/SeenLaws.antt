@@ -16,6 +16,7 @@ use Rattle.shogi_core.specs.Below.{some_below}
 use Rattle.shogi_core.specs.Bits.{has_bit}
 use Rattle.shogi_core.specs.Cell.{is_piece_of, is_king, is_slider, is_sliding_role}
 use Rattle.shogi_core.specs.Movement.{Cells, leads, offset_by, jump_left, jump_right, slides, slides_across, is_step_empty, for_side, slides_of, steps_of, has_slide, has_step, cell_reaches, reaches, piece_at, straight, diagonal}
+use Rattle.shogi_core.specs.Sets.{HasNone}
 use Rattle.shogi_core.proofs.BitLaws.{has_bit-and, has_bit-or, has_bit-none, has_bit-without}
 use Rattle.shogi_core.proofs.Below.{all_below_none, some_below_at, some_below_no, some_below_found}
 use Rattle.shogi_core.proofs.LineBits.{and_fits, or_fits}
@@ -174,8 +175,8 @@ covers_less left next from test rest fails bits = record {
   all = λ a h e. bits a ∙ and_from _ _ (rest.all a h e) (not_from_false _ (ne_eqb a from (λ same. both_ways (test from) fails (ap test (sym same) ∙ e))));
 }
 
-pub covers_none : (test : ℕ → Bool) → Covers 0 test → false ≡ some_below 81 test
-covers_none test rest = sym (some_below_no 81 test (λ a h. false_from_ne_true _ (λ e. both_ways (has_bit 0 a) (has_bit-none a) (rest.all a h e))))
+pub covers_none : (left : ℕ) (test : ℕ → Bool) → HasNone left → Covers left test → false ≡ some_below 81 test
+covers_none left test none rest = sym (some_below_no 81 test (λ a h. false_from_ne_true _ (λ e. both_ways (has_bit left a) (none a) (rest.all a h e))))
 
 pub sniper_bits : (cells : Cells) (color : Color) (square own sliders line b : ℕ) → has_bit own b ≡ is_piece_of color (piece_at cells b) → has_bit sliders b ≡ is_slider (piece_at cells b) → has_bit line b ≡ are_aligned square b
     → has_bit (bit_and (bit_and own sliders) line) b ≡ is_sniper cells color square b

@@ -14,6 +14,7 @@ use Rattle.shogi_core.specs.Cell.{is_piece_of, is_king, is_slider, is_sliding_ro
 use Rattle.shogi_core.specs.Lines.{back, around, are_aligned, are_lined}
 use Rattle.shogi_core.specs.Movement.{Cells, slides, for_side, slides_of, has_slide, has_step, cell_reaches, reaches, piece_at}
 use Rattle.shogi_core.specs.Pieces.{opponent_of}
+use Rattle.shogi_core.specs.Sets.{HasNone}
 use Rattle.shogi_core.proofs.Back.{back_twice, same_test}
 use Rattle.shogi_core.proofs.Below.{some_below_at, some_below_no}
 use Rattle.shogi_core.proofs.BitLaws.{has_bit-or, has_bit-none}
@@ -49,12 +50,12 @@ snipes_more cells color left next found king more s h crown fits bits shots = re
   ];
 }
 
-pub snipes_last : (cells : Cells) (color : Color) (found n : ℕ) → Snipes cells color 0 found → n < 81 → has_bit found n ≡ is_sniping cells color n
+pub snipes_last : (cells : Cells) (color : Color) (left found n : ℕ) → HasNone left → Snipes cells color left found → n < 81 → has_bit found n ≡ is_sniping cells color n
 unfolding is_sniping
-snipes_last cells color found n s h = same_test (has_bit found n) (some_below 81 (is_sniper_of_king cells color n)) (s.sound n h) (λ e. (
+snipes_last cells color left found n none s h = same_test (has_bit found n) (some_below 81 (is_sniper_of_king cells color n)) (s.sound n h) (λ e. (
     let which = some_below_which 81 (is_sniper_of_king cells color n) e in
     let parts : (is_king color (piece_at cells which.0) ≡ true) × (is_sniper cells (opponent_of color) which.0 n ≡ true) = and_parts _ _ which.2 in
-    s.all which.0 n which.1 h parts.0 (has_bit-none which.0) parts.1))
+    s.all which.0 n which.1 h parts.0 (none which.0) parts.1))
 
 pub ruleset sniping = (snipes_first, snipes_last)
 

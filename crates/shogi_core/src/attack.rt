@@ -10,7 +10,7 @@ ghost use Rattle.shogi_core.specs.Pieces.{opponent_of};
 ghost use Rattle.shogi_core.specs.declared.piece.Color.{Color};
 ghost use Rattle.shogi_core.specs.Rays.{direction_at};
 
-use crate::bits::{has, highest, lowest, with, without_lowest};
+use crate::bits::{has, highest, lowest, with};
 use crate::board::Board;
 use crate::cell::is_king;
 use crate::lines::{DOWN, UP, line_mask, slide_squares};
@@ -75,13 +75,11 @@ fn first_stepper(board: &Board, among: Squares, square: usize) -> Option<usize>
     ensures range { IfSome result (λ a. a < 81) }
     ensures steps { IfSome result (λ a. is_step_among board.now among.bits square a ≡ true) }
 {
-    let mut left = near_squares(square).bits & among.bits;
-    while left != 0 {
-        let from = lowest(left);
-        if steps_to(board.at(Square::of_index(from)), from, square) {
-            return Some(from);
+    let mut left = (near_squares(square) & among).iter();
+    'squares: while let Some(from) = left.next() {
+        if steps_to(board.at(from), from.index(), square) {
+            return Some(from.index());
         }
-        left = without_lowest(left, from);
     }
     None
 }
@@ -137,13 +135,11 @@ fn slider_attacks_on(
     requires snipers { HasBits snipers.bits (is_sniper board.now by square) }
     ensures { result ≡ slider_attacks_along board.now by square direction }
 {
-    let mut left = slide_squares(board, direction, square).bits & snipers.bits;
-    while left != 0 {
-        let from = lowest(left);
-        if slides_back(board.at(Square::of_index(from)), direction) {
+    let mut left = (slide_squares(board, direction, square) & snipers).iter();
+    'squares: while let Some(from) = left.next() {
+        if slides_back(board.at(from), direction) {
             return true;
         }
-        left = without_lowest(left, from);
     }
     false
 }
@@ -474,13 +470,11 @@ impl Board {
     pub fn in_check(&self, side: Color) -> bool
         ensures { result ≡ in_check self.now side }
     {
-        let mut left = self.kings(side).bits;
-        while left != 0 {
-            let square = lowest(left);
-            if is_open_king(self, side, Square::of_index(square)) {
+        let mut left = self.kings(side).iter();
+        'kings: while let Some(king) = left.next() {
+            if is_open_king(self, side, king) {
                 return true;
             }
-            left = without_lowest(left, square);
         }
         false
     }
@@ -491,15 +485,13 @@ impl Board {
     pub fn evasion_squares(&self, side: Color) -> Squares
         ensures stays { in_check self.now side ≡ true → StaysInCheck result.bits self.now side }
     {
-        let mut left = self.kings(side).bits;
-        while left != 0 {
-            let king = lowest(left);
-            if is_open_king(self, side, Square::of_index(king)) {
-                return evasion_squares_on(self, side.opponent(), king);
+        let mut left = self.kings(side).iter();
+        'kings: while let Some(king) = left.next() {
+            if is_open_king(self, side, king) {
+                return evasion_squares_on(self, side.opponent(), king.index());
             }
-            left = without_lowest(left, king);
         }
-        Squares { bits: 0 }
+        Squares::none()
     }
 
     /// The squares of pieces of the other side that slide and are on a line with a king of the
@@ -508,12 +500,10 @@ impl Board {
     pub fn snipers(&self, side: Color) -> Squares
         ensures squares { HasBits result.bits (is_sniping self.now side) }
     {
-        let mut left = self.kings(side).bits;
+        let mut left = self.kings(side).iter();
         let mut found = 0;
-        while left != 0 {
-            let king = lowest(left);
-            found |= sniper_squares(self, side.opponent(), king).bits;
-            left = without_lowest(left, king);
+        'kings: while let Some(king) = left.next() {
+            found |= sniper_squares(self, side.opponent(), king.index()).bits;
         }
         Squares { bits: found }
     }
@@ -526,15 +516,13 @@ impl Board {
         ensures unchecked { IfSome result (λ s. in_check self.now side ≡ false) }
         ensures free { IfSome result (λ s. OthersAreUnpinned s.bits self.now side) }
     {
-        let mut left = self.kings(side).bits;
+        let mut left = self.kings(side).iter();
         let mut found = 0;
-        while left != 0 {
-            let king = lowest(left);
-            match pinned_pieces(self, side, king) {
+        'kings: while let Some(king) = left.next() {
+            match pinned_pieces(self, side, king.index()) {
                 None => return None,
                 Some(more) => found |= more.bits,
             }
-            left = without_lowest(left, king);
         }
         Some(Squares { bits: found })
     }

@@ -6,4 +6,4 @@ use Rattle.shogi_core.proofs.board.Board.in_check.Goals as goal
 pub returns-then-is_open_king : goal.returns-then-is_open_king
 unfolding in_check
 returns-then-is_open_king c =
-    some_below_found 81 (is_open_king c.args.self.now c.args.side) c.lowest-square.result c.lowest-square.ensures.range (search rules)
+    some_below_found 81 (is_open_king c.args.self.now c.args.side) c.in-Some.king c.in-Some.ensures.some.range (search rules)

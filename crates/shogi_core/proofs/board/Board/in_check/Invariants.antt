@@ -1,10 +1,9 @@
-use Rattle.std.proofs.Common.{◌<◌, ◌^◌}
 use Rattle.shogi_core.specs.Attack.{is_open_king}
 use Rattle.shogi_core.proofs.SeenLaws.{Covers}
 use Rattle.shogi_core.proofs.board.Board.in_check.Given as goal
 
-abbrev pub invariant-loop-left : goal.invariant-loop-left
-invariant-loop-left l = record { covers : Covers l.left (is_open_king l.self l.fn.side); fits : l.left < 2 ^ 81 }
+abbrev pub invariant-kings : goal.invariant-kings
+invariant-kings l = Covers l.left (is_open_king l.self l.fn.side)
 
-abbrev pub decreases-loop-left : goal.decreases-loop-left
-decreases-loop-left l = l.left
+abbrev pub decreases-kings : goal.decreases-kings
+decreases-kings l = l.left

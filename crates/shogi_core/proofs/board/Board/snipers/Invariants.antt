@@ -1,16 +1,15 @@
-use Rattle.std.proofs.Common.{◌≡◌, ◌<◌, ◌^◌, ℕ, true}
+use Rattle.std.proofs.Common.{◌≡◌, ◌<◌, ℕ, true}
 use Rattle.shogi_core.specs.Bits.{has_bit}
 use Rattle.shogi_core.specs.Cell.{is_king}
 use Rattle.shogi_core.specs.Movement.{piece_at}
 use Rattle.shogi_core.proofs.Snipers.{Snipes}
 use Rattle.shogi_core.proofs.board.Board.snipers.Given as goal
 
-abbrev pub invariant-loop-left : goal.invariant-loop-left
-invariant-loop-left l = record {
+abbrev pub invariant-kings : goal.invariant-kings
+invariant-kings l = record {
   all : Snipes l.self l.fn.side l.left l.found;
   kings : (n : ℕ) → n < 81 → has_bit l.left n ≡ true → is_king l.fn.side (piece_at l.self n) ≡ true;
-  left : l.left < 2 ^ 81;
 }
 
-abbrev pub decreases-loop-left : goal.decreases-loop-left
-decreases-loop-left l = l.left
+abbrev pub decreases-kings : goal.decreases-kings
+decreases-kings l = l.left
