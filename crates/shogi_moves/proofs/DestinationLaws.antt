@@ -21,6 +21,7 @@ use Rattle.shogi_core.specs.Codes.{move_of, code_of}
 use Rattle.shogi_core.specs.Movement.{Cells, piece_at, reaches}
 use Rattle.shogi_core.specs.Pieces.{opponent_of, is_same_color, promoted}
 use Rattle.shogi_core.specs.Position.{Shogi, count_in_hand}
+use Rattle.shogi_core.specs.Sets.{HasNone}
 use Rattle.shogi_core.proofs.BitLaws.{has_bit-and, has_bit-none, has_bit-or}
 use Rattle.shogi_core.proofs.Discovered.{check_was}
 use Rattle.shogi_core.proofs.CodesBack.{move_of-board, move_of-drop}
@@ -56,8 +57,11 @@ at_end : (a t : Bool) → (a && (t || false)) ≡ (a && t)
 at_end a true = refl
 at_end a false = refl
 
+pub sift_end : (m left kept : ℕ) (test : ℕ → Bool) → HasNone left → Sifts m left kept test → (n : ℕ) → n < 81 → has_bit kept n ≡ (has_bit m n && test n)
+sift_end m left kept test none s n h = s.bits n h ∙ (rw (none n) (at_end (has_bit m n) (test n)))
+
 pub sift_done : (m kept : ℕ) (test : ℕ → Bool) → Sifts m 0 kept test → (n : ℕ) → n < 81 → has_bit kept n ≡ (has_bit m n && test n)
-sift_done m kept test s n h = s.bits n h ∙ (rw (has_bit-none n) (at_end (has_bit m n) (test n)))
+sift_done m kept test s n h = sift_end m 0 kept test has_bit-none s n h
 
 -- the next square is among those kept
 pub sift_there : (m left kept to : ℕ) (test : ℕ → Bool) → Sifts m left kept test → to < 81 → has_bit left to ≡ true → has_bit kept to ≡ true

@@ -182,16 +182,12 @@ found_escapes p steps squares v s found = λ k e hk crown he set.
       safe = sym (in_no_way p.cells (opponent_of p.side) k v.cells_fit hk crown (faultless_from p v.no_fault).shut e he) ∙ (ap (λ (color : Color). is_attacked p.cells color e) (opponent_twice p.side) ∙ here.1);
     }
 
--- one of some squares
-pub one_square : (squares bit square n : ℕ) → ((i : ℕ) → has_bit bit i ≡ (has_bit 0 i || (i == square))) → has_bit (bit_and squares bit) n ≡ true → (has_bit squares n ≡ true) × (n ≡ square)
-one_square squares bit square n bits e =
-    let parts : (has_bit squares n ≡ true) × (has_bit bit n ≡ true) = and_parts _ _ (sym (has_bit-and squares bit n) ∙ e) in (
-      parts.0,
-      elim (or_cases (has_bit 0 n) (n == square) (sym (bits n) ∙ parts.1)) [
-        | inl none ↦ absurd (both_ways (has_bit 0 n) (has_bit-none n) none)
-        | inr same ↦ eqb-true n square same
-      ],
-    )
+-- the only square of a set
+pub one_square : (bit square n : ℕ) → ((i : ℕ) → has_bit bit i ≡ (has_bit 0 i || (i == square))) → has_bit bit n ≡ true → n ≡ square
+one_square bit square n bits e = elim (or_cases (has_bit 0 n) (n == square) (sym (bits n) ∙ e)) [
+  | inl none ↦ absurd (both_ways (has_bit 0 n) (has_bit-none n) none)
+  | inr same ↦ eqb-true n square same
+]
 
 -- a pawn after whose drop such a square is left does not mate
 pub escaped_pawn : (p : Shogi) (to steps : ℕ) → IsValid p → to < 81 → HasOpenEscape p steps to → ((n : ℕ) → n < 81 → has_bit steps n ≡ has_step (record { color = p.side; role = roles.Pawn }) to n) → is_mating_square p to ≡ false

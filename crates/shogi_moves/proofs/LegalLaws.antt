@@ -10,7 +10,7 @@ use Rattle.shogi_core.specs.Cell.{is_piece_of}
 use Rattle.shogi_core.specs.Codes.{move_of, code_of, codes_from, kind_at}
 use Rattle.shogi_core.specs.Movement.{piece_at}
 use Rattle.shogi_core.specs.Position.{Shogi}
-use Rattle.shogi_core.proofs.BitLaws.{has_bit-none}
+use Rattle.shogi_core.specs.Sets.{HasNone}
 use Rattle.shogi_moves.specs.After.{after, after_code, after_some}
 use Rattle.shogi_moves.specs.Legal.{is_safe, is_some_and_safe, is_safe_code, is_legal, is_legal_code, is_some_and_legal}
 use Rattle.shogi_moves.specs.LegalMoves.{legal_from, legal_codes, legal_above}
@@ -134,8 +134,8 @@ pieces_after p left next first square h up range least less = record {
     and_true true = refl
     and_true false = refl
 
-pub no_piece_left : (p : Shogi) (left first : ℕ) → HasPiecesFrom p left first → left ≡ 0 → legal_from p (first * SQUARE_CODES) ≡ legal_from p FIRST_DROP
-no_piece_left p left first h none = run_squares p first 81 h.within (omega arith) (λ n low high. sym (h.above n low high) ∙ (ap (λ (m : ℕ). has_bit m n) none ∙ has_bit-none n))
+pub no_piece_left : (p : Shogi) (left first : ℕ) → HasPiecesFrom p left first → HasNone left → legal_from p (first * SQUARE_CODES) ≡ legal_from p FIRST_DROP
+no_piece_left p left first h none = run_squares p first 81 h.within (omega arith) (λ n low high. sym (h.above n low high) ∙ none n)
 
 -- each code of a legal move is in the list
 pub in_legal : (p : Shogi) (first code : ℕ) → first ≤ code → is_legal_code p code ≡ true → is_in code (legal_from p first) ≡ true

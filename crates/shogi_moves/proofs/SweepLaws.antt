@@ -12,6 +12,7 @@ use Rattle.shogi_core.specs.Codes.{move_of, code_of}
 use Rattle.shogi_core.specs.Movement.{piece_at, reaches}
 use Rattle.shogi_core.specs.Pieces.{kind_number}
 use Rattle.shogi_core.specs.Position.{Shogi}
+use Rattle.shogi_core.specs.Sets.{HasNone}
 use Rattle.shogi_core.proofs.BitLaws.{has_bit-or, has_bit-none}
 use Rattle.shogi_core.proofs.CodesBack.{move_of-board, move_of-drop}
 use Rattle.shogi_core.proofs.Faults.{number_below}
@@ -246,9 +247,9 @@ on_none p capture left next code w h least = record {
   none = λ c low high. false_from_ne_true (is_matching p capture c) (λ matching. (let le : next ≤ c / SQUARE_CODES = least (c / SQUARE_CODES) (w.on c low (omega arith) matching) in omega arith));
 }
 
-pub on_end : (p : Shogi) (capture : Bool) (left code : ℕ) → HasMatchingOn p capture code left → left ≡ 0 → HasNoneMatching p capture code FIRST_DROP
+pub on_end : (p : Shogi) (capture : Bool) (left code : ℕ) → HasMatchingOn p capture code left → HasNone left → HasNoneMatching p capture code FIRST_DROP
 on_end p capture left code w none = record {
-  none = λ c low high. false_from_ne_true (is_matching p capture c) (λ matching. both_ways (has_bit left (c / SQUARE_CODES)) (ap (λ m. has_bit m (c / SQUARE_CODES)) none ∙ has_bit-none (c / SQUARE_CODES)) (w.on c low high matching));
+  none = λ c low high. false_from_ne_true (is_matching p capture c) (λ matching. both_ways (has_bit left (c / SQUARE_CODES)) (none (c / SQUARE_CODES)) (w.on c low high matching));
 }
 
 -- ---- drops

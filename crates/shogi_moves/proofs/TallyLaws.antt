@@ -19,6 +19,7 @@ use Rattle.shogi_core.specs.Cell.{is_piece_of}
 use Rattle.shogi_core.specs.Codes.{code_of}
 use Rattle.shogi_core.specs.Movement.{piece_at}
 use Rattle.shogi_core.specs.Position.{Shogi}
+use Rattle.shogi_core.specs.Sets.{HasNone}
 use Rattle.shogi_moves.specs.Legal.{is_legal_code}
 use Rattle.shogi_moves.specs.LegalMoves.{CountsLegal, legal_from, legal_codes}
 use Rattle.shogi_moves.specs.Places.{first_of_kind}
@@ -261,7 +262,7 @@ high_left p low high total none h = record {
     same n = has_bit-or low high n ∙ rw (none, has_bit-none n) refl
 
 -- all pieces are counted
-pub board_counted : (p : Shogi) (left total : ℕ) → IsCounted p left total → left ≡ 0 → (total + length (legal_from p FIRST_DROP) ≡ length (legal_codes p)) × (total ≤ FIRST_DROP)
+pub board_counted : (p : Shogi) (left total : ℕ) → IsCounted p left total → HasNone left → (total + length (legal_from p FIRST_DROP) ≡ length (legal_codes p)) × (total ≤ FIRST_DROP)
 board_counted p left total h none =
     let end = ap length (no_piece_left p left h.first h.pieces none) in
     (omega (arith, h.whole, end), omega (arith, h.range, h.pieces.within))

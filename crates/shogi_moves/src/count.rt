@@ -24,7 +24,7 @@ fn count_of(found: Destinations) -> u64
 }
 
 /// How many board moves are legal. The lower 64 squares, on which most pieces stand, are gone through
-/// as a number of 64 bits.
+/// by hand as a number of 64 bits, which measures faster.
 fn count_board(known: &KnownPosition<'_>) -> u64
     ensures count { CountsLegal known.now.position.now 0 FIRST_DROP result }
     ensures range { result ≤ FIRST_DROP }
@@ -44,12 +44,9 @@ fn count_board(known: &KnownPosition<'_>) -> u64
         total += count_of(all_by_marks(known, zone, marked, squares, from));
         low = without_lowest(low as u128, square) as u64;
     }
-    let mut left = high;
-    'high: while left != 0 {
-        let square = lowest(left);
-        let from = Square::of_index(square);
+    let mut left = Squares { bits: high }.iter();
+    'high: while let Some(from) = left.next() {
         total += count_of(all_by_marks(known, zone, marked, squares, from));
-        left = without_lowest(left, square);
     }
     total
 }

@@ -12,7 +12,6 @@ use crate::attack::in_check;
 use crate::drops::{is_pawn_kind, safe_drops};
 use crate::pawn_escape::leaves_pawn_escape;
 use crate::safe::has_safe;
-use shogi_core::bits::{cleared, lowest, without_lowest};
 use shogi_core::{Kind, Move, Piece, Position, Role, Square, Squares, step_squares};
 
 /// Whether the side to move is in check and has no safe move.
@@ -80,16 +79,14 @@ fn non_mating_drops(p: &Position, destinations: Squares) -> Squares
     requires { HasBits destinations.bits (λ n. is_safe p.now (moves.Drop kinds.Pawn n)) }
     ensures squares { HasThose result.bits destinations.bits (λ n. not (is_mating_square p.now n)) }
 {
-    let mut left = (destinations & facing_squares(p)).bits;
-    let mut kept = destinations.bits;
-    while left != 0 {
-        let to = lowest(left);
-        if is_mating_drop(p, Square::of_index(to)) {
-            kept = cleared(kept, to);
+    let mut left = (destinations & facing_squares(p)).iter();
+    let mut kept = destinations;
+    'squares: while let Some(to) = left.next() {
+        if is_mating_drop(p, to) {
+            kept = kept.except(to);
         }
-        left = without_lowest(left, to);
     }
-    Squares { bits: kept }
+    kept
 }
 
 /// Where one of the held pieces may legally be dropped.

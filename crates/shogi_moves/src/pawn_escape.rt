@@ -4,7 +4,6 @@ ghost use Rattle.std.specs.Prelude.{◌≡◌, true, false};
 ghost use Rattle.shogi_moves.specs.Destinations.{IsWithin, is_mating_square};
 ghost use Rattle.shogi_moves.specs.Escapes.{AreSafeFrom, AreKingSteps, AreEscapes, HasOpenEscape};
 
-use shogi_core::bits::{lowest, with, without_lowest};
 use shogi_core::{Board, Color, Piece, Position, Role, Square, Squares, step_squares};
 
 /// One of the squares that the side does not attack, if there is one.
@@ -12,17 +11,10 @@ fn first_unattacked(board: &Board, by: Color, squares: Squares) -> Squares
     ensures squares { IsWithin result.bits squares.bits }
     ensures safe { AreSafeFrom board.now by result.bits }
 {
-    let mut left = squares.bits;
-    while left != 0 {
-        let square = lowest(left);
-        if !board.is_attacked(by, Square::of_index(square)) {
-            return Squares {
-                bits: squares.bits & with(0, square),
-            };
-        }
-        left = without_lowest(left, square);
+    match squares.find(|square| !board.is_attacked(by, square)) {
+        None => Squares::none(),
+        Some(square) => Squares::none().with(square),
     }
-    Squares::none()
 }
 
 /// Squares next to the king of the side that is not to move, where it has just one and none of its

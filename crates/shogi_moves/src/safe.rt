@@ -11,7 +11,6 @@ ghost use Rattle.shogi_moves.specs.LegalMoves.{legal_codes, HasNoBoardMove, HasN
 use crate::check_info::{KnownPosition, full_check_info};
 use crate::destinations::{all_destinations, enterable, is_safe_for_king};
 use crate::drops::{drop_squares, safe_drops};
-use shogi_core::bits::{lowest, without_lowest};
 use shogi_core::{Kind, Position, Square, Squares};
 
 /// Whether the king of the side to move may go to one of the squares, which it reaches and where no
@@ -51,15 +50,12 @@ fn has_board_move(known: &KnownPosition<'_>) -> bool
 {
     let p = known.position;
     let squares = enterable(p);
-    let mut left = p.as_board().own(p.side()).bits;
-    'pieces: while left != 0 {
-        let square = lowest(left);
-        let from = Square::of_index(square);
+    let mut left = p.as_board().own(p.side()).iter();
+    'pieces: while let Some(from) = left.next() {
         let destinations = all_destinations(known, from, squares);
         if !(destinations.non_promoting | destinations.promoting).is_empty() {
             return true;
         }
-        left = without_lowest(left, square);
     }
     false
 }

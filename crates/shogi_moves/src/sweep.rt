@@ -133,21 +133,18 @@ impl BoardSweep {
         let pieces = Squares {
             bits: bits_above(board.own(p.side()).bits, self.from.index()),
         };
-        let mut left = matching_movers(p, capture, pieces).bits;
-        'squares: while left != 0 {
-            let square = lowest(left);
-            let from = Square::of_index(square);
+        let mut left = matching_movers(p, capture, pieces).iter();
+        'squares: while let Some(from) = left.next() {
             let among = board.targets(from) & matching;
             if !among.is_empty() {
                 let destinations = legal_destinations(&known, from, among);
                 if !(destinations.non_promoting | destinations.promoting).is_empty() {
                     self.from = from;
                     self.destinations = destinations;
-                    self.code = square as u16 * SQUARE_CODES;
+                    self.code = from.index() as u16 * SQUARE_CODES;
                     return true;
                 }
             }
-            left = without_lowest(left, square);
         }
         false
     }

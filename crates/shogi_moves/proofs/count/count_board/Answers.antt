@@ -1,4 +1,4 @@
-use Rattle.std.proofs.Common.{arith}
+use Rattle.std.proofs.Common.{arith, refl}
 use Rattle.shogi_moves.proofs.TallyLaws.{all_left, board_counted, high_left, low_counted, low_own, piece_counted}
 use Rattle.shogi_moves.proofs.count.count_board.Goals as goal
 
@@ -13,20 +13,16 @@ low-preserved c = rw c.count_of-total.ensures (low_counted c.args.known.now.posi
     c.all_by_marks.result.non_promoting.fits c.all_by_marks.result.promoting.fits (rw c.of_index-from.ensures at c.all_by_marks.ensures.non_promoting) (rw c.of_index-from.ensures at c.all_by_marks.ensures.promoting))
 
 pub high-init : goal.high-init
-high-init c = record {
-  counted = high_left c.args.known.now.position.now c.low.low c.bits_from-high.result c.low.total (omega (arith, c.low-test.false)) c.low.invariant;
-  fits = c.bits_from-high.ensures.fits;
-}
+high-init c = rw c.iter-left.ensures (high_left c.args.known.now.position.now c.low.low c.bits_from-high.result c.low.total (omega (arith, c.low-test.false)) c.low.invariant)
 
 pub high-preserved : goal.high-preserved
-high-preserved c = record {
-  counted = rw c.count_of-total-in-high.ensures (piece_counted c.args.known.now.position.now c.high.left c.without_lowest-left.result c.high.total c.lowest-square-in-high.result c.all_by_marks-in-high.result.non_promoting.bits c.all_by_marks-in-high.result.promoting.bits c.high.invariant.counted c.lowest-square-in-high.ensures.range c.lowest-square-in-high.ensures.set c.lowest-square-in-high.ensures.least c.without_lowest-left.ensures.bits
-      c.all_by_marks-in-high.result.non_promoting.fits c.all_by_marks-in-high.result.promoting.fits (rw c.of_index-from-in-high.ensures at c.all_by_marks-in-high.ensures.non_promoting) (rw c.of_index-from-in-high.ensures at c.all_by_marks-in-high.ensures.promoting));
-  fits = omega (arith, c.without_lowest-left.ensures.less, c.high.invariant.fits);
-}
+high-preserved c =
+    let taken = c.in-Some.ensures.some in
+    rw c.count_of-total-in-Some.ensures (piece_counted c.args.known.now.position.now c.high.left c.next.new.self c.high.total c.in-Some.from c.all_by_marks-in-Some.result.non_promoting.bits c.all_by_marks-in-Some.result.promoting.bits c.high.invariant taken.range taken.set taken.least taken.rest
+    c.all_by_marks-in-Some.result.non_promoting.fits c.all_by_marks-in-Some.result.promoting.fits c.all_by_marks-in-Some.ensures.non_promoting c.all_by_marks-in-Some.ensures.promoting)
 
 pub returns-clause-count : goal.returns-clause-count
-returns-clause-count c = (board_counted c.args.known.now.position.now c.high.left c.high.total c.high.invariant.counted (omega (arith, c.high-test.false))).0
+returns-clause-count c = (board_counted c.args.known.now.position.now c.high.left c.high.total c.high.invariant (c.in_default.ensures.none refl)).0
 
 pub returns-clause-range : goal.returns-clause-range
-returns-clause-range c = (board_counted c.args.known.now.position.now c.high.left c.high.total c.high.invariant.counted (omega (arith, c.high-test.false))).1
+returns-clause-range c = (board_counted c.args.known.now.position.now c.high.left c.high.total c.high.invariant (c.in_default.ensures.none refl)).1

@@ -1,4 +1,4 @@
-use Rattle.std.proofs.Common.{◌<◌, ◌^◌, bit_or}
+use Rattle.std.proofs.Common.{bit_or}
 use Rattle.shogi_moves.proofs.TallyLaws.{IsCounted}
 use Rattle.shogi_moves.proofs.count.count_board.Given as goal
 
@@ -9,10 +9,7 @@ abbrev pub decreases-low : goal.decreases-low
 decreases-low l = l.low
 
 abbrev pub invariant-high : goal.invariant-high
-invariant-high l = record {
-  counted : IsCounted l.known.position.now l.left l.total;
-  fits : l.left < 2 ^ 81;
-}
+invariant-high l = IsCounted l.known.position.now l.left l.total
 
 abbrev pub decreases-high : goal.decreases-high
 decreases-high l = l.left

@@ -1,25 +1,21 @@
-use Rattle.std.proofs.Common.{◌∙◌, ap, sym}
+use Rattle.std.proofs.Common.{rules, ◌≡◌, ◌∙◌, ap, false}
 use Rattle.std.proofs.lemmas.Bool.{both_ways}
 use Rattle.shogi_core.specs.Attack.{is_attacked}
 use Rattle.shogi_core.specs.Bits.{has_bit}
 use Rattle.shogi_core.proofs.BitLaws.{has_bit-none}
-use Rattle.shogi_core.proofs.LineBits.{and_fits}
 use Rattle.shogi_moves.proofs.EscapeLaws.{one_square}
 use Rattle.shogi_moves.proofs.pawn_escape.first_unattacked.Goals as goal
 
-pub invariant_of-result : goal.invariant_of-result
-invariant_of-result c = record { fits = and_fits c.args.squares.bits c.with.result c.args.squares.fits }
+pub returns-in-Some-clause-squares : goal.returns-in-Some-clause-squares
+returns-in-Some-clause-squares c = λ n e. ap (has_bit c.args.squares.bits) (one_square c.with.result.bits c.in-Some.square n (rw c.none-in-Some.ensures at c.with.ensures) e) ∙ c.in-Some.ensures.among
 
-pub returns-then-not-is_attacked-clause-squares : goal.returns-then-not-is_attacked-clause-squares
-returns-then-not-is_attacked-clause-squares c = λ n e. (one_square c.args.squares.bits c.with.result c.lowest-square.result n c.with.ensures e).0
+pub returns-in-Some-clause-safe : goal.returns-in-Some-clause-safe
+returns-in-Some-clause-safe c = λ n h e. (
+    let safe : is_attacked c.args.board.now c.args.by c.in-Some.square ≡ false = search rules in
+    ap (is_attacked c.args.board.now c.args.by) (one_square c.with.result.bits c.in-Some.square n (rw c.none-in-Some.ensures at c.with.ensures) e) ∙ safe)
 
-pub returns-then-not-is_attacked-clause-safe : goal.returns-then-not-is_attacked-clause-safe
-returns-then-not-is_attacked-clause-safe c = λ n h e. (
-    let same = (one_square c.args.squares.bits c.with.result c.lowest-square.result n c.with.ensures e).1 in
-    ap (is_attacked c.args.board.now c.args.by) (same ∙ sym c.of_index.ensures) ∙ (sym c.is_attacked.ensures ∙ c.if-not-is_attacked.true))
+pub returns-in-None-clause-squares : goal.returns-in-None-clause-squares
+returns-in-None-clause-squares c = rw c.none.ensures (λ n e. absurd (both_ways (has_bit 0 n) (has_bit-none n) e))
 
-pub returns-clause-squares : goal.returns-clause-squares
-returns-clause-squares c = rw c.none.ensures (λ n e. absurd (both_ways (has_bit 0 n) (has_bit-none n) e))
-
-pub returns-clause-safe : goal.returns-clause-safe
-returns-clause-safe c = rw c.none.ensures (λ n h e. absurd (both_ways (has_bit 0 n) (has_bit-none n) e))
+pub returns-in-None-clause-safe : goal.returns-in-None-clause-safe
+returns-in-None-clause-safe c = rw c.none.ensures (λ n h e. absurd (both_ways (has_bit 0 n) (has_bit-none n) e))

@@ -1,4 +1,4 @@
-use Rattle.std.proofs.Common.{◌≡◌, ◌<◌, ◌*◌, ◌^◌, ℕ}
+use Rattle.std.proofs.Common.{◌≡◌, ◌*◌, ℕ}
 use Rattle.shogi_core.specs.declared.moves.TheConstants.{SQUARE_CODES}
 use Rattle.shogi_moves.specs.LegalMoves.{legal_from, legal_codes}
 use Rattle.shogi_moves.proofs.LegalLaws.{HasPiecesFrom}
@@ -9,7 +9,6 @@ invariant-pieces l = record {
   first : ℕ;
   pieces : HasPiecesFrom l.known.position.now l.left first;
   same : legal_codes l.known.position.now ≡ legal_from l.known.position.now (first * SQUARE_CODES);
-  fits : l.left < 2 ^ 81;
 }
 
 abbrev pub decreases-pieces : goal.decreases-pieces
