@@ -153,19 +153,16 @@ pub ruleset unpinned = (no_pins)
 
 -- the mask has what is pinned to the kings that are not left
 pub record Pins (cells : Cells) (side : Color) (left found : ℕ) : Type 0 where
-  pub fits : found < 2 ^ 81
   pub all : (k d n a : ℕ) → k < 81 → is_king side (piece_at cells k) ≡ true → has_bit left k ≡ false → d < 8 → n < 81 → a < 81 → is_pinned_by cells side k (direction_at d) n a ≡ true → has_bit found n ≡ true
 
 pub pins_first : (cells : Cells) (side : Color) (m : ℕ) → ((n : ℕ) → n < 81 → has_bit m n ≡ is_king side (piece_at cells n)) → Pins cells side m 0
 pins_first cells side m kings = record {
-  fits = omega arith;
   all = λ k d n a hk king out low l h e. absurd (both_ways (has_bit m k) out (kings k hk ∙ king));
 }
 
-pub pins_more : (cells : Cells) (side : Color) (left next found king more : ℕ) → Pins cells side left found → more < 2 ^ 81 → ((i : ℕ) → has_bit next i ≡ (has_bit left i && not (i == king)))
+pub pins_more : (cells : Cells) (side : Color) (left next found king more : ℕ) → Pins cells side left found → ((i : ℕ) → has_bit next i ≡ (has_bit left i && not (i == king)))
     → ((d n a : ℕ) → d < 8 → n < 81 → a < 81 → is_pinned_by cells side king (direction_at d) n a ≡ true → has_bit more n ≡ true) → Pins cells side next (bit_or found more)
-pins_more cells side left next found king more p fits bits new = record {
-  fits = or_lt 81 found more p.fits fits;
+pins_more cells side left next found king more p bits new = record {
   all = λ k d n a hk mine out low l h e. has_bit-or found more n ∙ elim (cases_eq k king) [
     | inl same ↦ or_right (has_bit found n) (has_bit more n) (new d n a low l h (subst (λ (j : ℕ). is_pinned_by cells side j (direction_at d) n a ≡ true) same e))
     | inr other ↦ or_left _ _ (p.all k d n a hk mine (false_from_ne_true (has_bit left k) (λ set. both_ways (has_bit next k) out (bits k ∙ and_from _ _ set (not_from_false _ (ne_eqb k king other))))) low l h e)

@@ -1,8 +1,7 @@
 -- A piece is pinned only where it stands on an open line with one of the other side that slides.
-use Rattle.std.proofs.Common.{◌≡◌, ◌⊎◌, ℕ, ◌<◌, ◌^◌, true, false, not, sym, ap, subst, ◌∙◌, arith, inl, inr, refl, Option, Some, None, bit_or, List, [], ◌∷◌}
+use Rattle.std.proofs.Common.{◌≡◌, ◌⊎◌, ℕ, ◌<◌, true, false, not, sym, ap, subst, ◌∙◌, inl, inr, refl, Option, Some, None, bit_or, List, [], ◌∷◌}
 use Rattle.std.specs.Prelude.{◌==◌, ◌&&◌, ◌||◌, is_none}
 use Rattle.std.specs.List.{list_any, list_all}
-use Rattle.std.proofs.lemmas.Nat.{or_lt}
 use Rattle.std.proofs.lemmas.Bool.{cases_eq, false_from_ne_true, both_ways, and_parts, and_from, or_cases, or_left, or_right, not_from_false, ne_eqb}
 use Rattle.shogi_core.specs.declared.offset.Offset.{Offset}
 use Rattle.shogi_core.specs.declared.piece.Color.{Color}
@@ -24,22 +23,19 @@ use Rattle.shogi_core.proofs.SeenLaws.{slides_back, slides_back_around, slides_r
 -- ---- those on lines with the kings that are gone through
 
 pub record Snipes (cells : Cells) (color : Color) (left found : ℕ) : Type 0 where
-  pub fits : found < 2 ^ 81
   pub sound : (a : ℕ) → a < 81 → has_bit found a ≡ true → is_sniping cells color a ≡ true
   pub all : (k a : ℕ) → k < 81 → a < 81 → is_king color (piece_at cells k) ≡ true → has_bit left k ≡ false → is_sniper cells (opponent_of color) k a ≡ true → has_bit found a ≡ true
 
 pub snipes_first : (cells : Cells) (color : Color) (m : ℕ) → ((n : ℕ) → n < 81 → has_bit m n ≡ is_king color (piece_at cells n)) → Snipes cells color m 0
 snipes_first cells color m kings = record {
-  fits = omega arith;
   sound = λ a h e. absurd (both_ways (has_bit 0 a) (has_bit-none a) e);
   all = λ k a h l king out e. absurd (both_ways (has_bit m k) out (kings k h ∙ king));
 }
 
-pub snipes_more : (cells : Cells) (color : Color) (left next found king more : ℕ) → Snipes cells color left found → king < 81 → is_king color (piece_at cells king) ≡ true → more < 2 ^ 81
+pub snipes_more : (cells : Cells) (color : Color) (left next found king more : ℕ) → Snipes cells color left found → king < 81 → is_king color (piece_at cells king) ≡ true
     → ((i : ℕ) → has_bit next i ≡ (has_bit left i && not (i == king))) → ((a : ℕ) → a < 81 → has_bit more a ≡ is_sniper cells (opponent_of color) king a) → Snipes cells color next (bit_or found more)
 unfolding is_sniping
-snipes_more cells color left next found king more s h crown fits bits shots = record {
-  fits = or_lt 81 found more s.fits fits;
+snipes_more cells color left next found king more s h crown bits shots = record {
   sound = λ a l e. elim (or_cases (has_bit found a) (has_bit more a) (sym (has_bit-or found more a) ∙ e)) [
     | inl was ↦ s.sound a l was
     | inr new ↦ some_below_at 81 (is_sniper_of_king cells color a) king h (and_from _ _ crown (sym (shots a l) ∙ new))

@@ -501,11 +501,11 @@ impl Board {
         ensures squares { HasBits result.bits (is_sniping self.now side) }
     {
         let mut left = self.kings(side).iter();
-        let mut found = 0;
+        let mut found = Squares::none();
         'kings: while let Some(king) = left.next() {
-            found |= sniper_squares(self, side.opponent(), king.index()).bits;
+            found = found | sniper_squares(self, side.opponent(), king.index());
         }
-        Squares { bits: found }
+        found
     }
 
     /// The squares of pieces of the side that may be pinned: once a piece of the side on any other
@@ -517,13 +517,13 @@ impl Board {
         ensures free { IfSome result (λ s. OthersAreUnpinned s.bits self.now side) }
     {
         let mut left = self.kings(side).iter();
-        let mut found = 0;
+        let mut found = Squares::none();
         'kings: while let Some(king) = left.next() {
             match pinned_pieces(self, side, king.index()) {
                 None => return None,
-                Some(more) => found |= more.bits,
+                Some(more) => found = found | more,
             }
         }
-        Some(Squares { bits: found })
+        Some(found)
     }
 }

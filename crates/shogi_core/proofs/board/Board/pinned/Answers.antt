@@ -18,7 +18,7 @@ kings-preserved c = record {
   covers = covers_less c.kings.left c.next.new.self c.in-Some.king (is_open_king c.args.self.now c.args.side) c.kings.invariant.covers
       (false_from_ne_true (is_open_king c.args.self.now c.args.side c.in-Some.king) (λ e. both_ways (is_attacked c.args.self.now (opponent_of c.args.side) c.in-Some.king) (rw c.index.ensures.index at c.in-Some-pinned_pieces.ensures.safe) ((and_parts _ _ e).1)))
       c.in-Some.ensures.some.rest;
-  all = pins_more c.args.self.now c.args.side c.kings.left c.next.new.self c.kings.found c.in-Some.king c.in-Some-pinned_pieces.more.bits c.kings.invariant.all c.in-Some-pinned_pieces.more.fits c.in-Some.ensures.some.rest (rw c.index.ensures.index at c.in-Some-pinned_pieces.ensures.all);
+  all = rw c.bitor-found.ensures (pins_more c.args.self.now c.args.side c.kings.left c.next.new.self c.kings.found.bits c.in-Some.king c.in-Some-pinned_pieces.more.bits c.kings.invariant.all c.in-Some.ensures.some.rest (rw c.index.ensures.index at c.in-Some-pinned_pieces.ensures.all));
   mine = λ n h e. c.kings.invariant.mine n h ((and_parts (has_bit c.kings.left n) _ (sym (c.in-Some.ensures.some.rest n) ∙ e)).0);
 }
 
@@ -28,5 +28,5 @@ returns-clause-unchecked c = sym (covers_none c.kings.left (is_open_king c.args.
 
 pub returns-clause-free : goal.returns-clause-free
 unfolding in_check
-returns-clause-free c = λ n h out own. pins_last c.args.self.now c.args.side c.kings.left c.kings.found n (c.in_default.ensures.none refl) c.kings.invariant.all
+returns-clause-free c = λ n h out own. pins_last c.args.self.now c.args.side c.kings.left c.kings.found.bits n (c.in_default.ensures.none refl) c.kings.invariant.all
     (sym (covers_none c.kings.left (is_open_king c.args.self.now c.args.side) (c.in_default.ensures.none refl) c.kings.invariant.covers)) h out own

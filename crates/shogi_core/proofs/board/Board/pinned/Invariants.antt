@@ -10,7 +10,7 @@ use Rattle.shogi_core.proofs.board.Board.pinned.Given as goal
 abbrev pub invariant-kings : goal.invariant-kings
 invariant-kings l = record {
   covers : Covers l.left (is_open_king l.self l.fn.side);
-  all : Pins l.self l.fn.side l.left l.found;
+  all : Pins l.self l.fn.side l.left l.found.bits;
   mine : (n : ℕ) → n < 81 → has_bit l.left n ≡ true → is_king l.fn.side (piece_at l.self n) ≡ true;
 }
 

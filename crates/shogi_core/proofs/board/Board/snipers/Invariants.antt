@@ -7,7 +7,7 @@ use Rattle.shogi_core.proofs.board.Board.snipers.Given as goal
 
 abbrev pub invariant-kings : goal.invariant-kings
 invariant-kings l = record {
-  all : Snipes l.self l.fn.side l.left l.found;
+  all : Snipes l.self l.fn.side l.left l.found.bits;
   kings : (n : ℕ) → n < 81 → has_bit l.left n ≡ true → is_king l.fn.side (piece_at l.self n) ≡ true;
 }
 
