@@ -2,7 +2,7 @@
 use Rattle.std.proofs.Common.{◌≡◌, ◌⊎◌, ℕ, pos, negsuc, ◌-◌, ◌*◌, ◌%◌, ◌^◌, ◌<◌, Bool, true, false, not, refl, sym, ap, ◌∙◌, arith, inl, inr, Option, Some, None, bit_and, bit_or, List, [], ◌∷◌, ◌++◌}
 use Rattle.std.specs.Prelude.{◌==◌, ◌&&◌, ◌||◌}
 use Rattle.std.specs.List.{list_any, list_all}
-use Rattle.std.proofs.lemmas.Nat.{and_le_l, or_lt}
+use Rattle.std.proofs.lemmas.Nat.{and_le_l}
 use Rattle.std.proofs.lemmas.List.Folds.{list_any-append}
 use Rattle.std.proofs.lemmas.Bool.{cases_eq, false_from_ne_true, both_ways, and_parts, and_from, or_cases, or_left, or_right, eq-eqb, not_from_false, ne_eqb}
 use Rattle.shogi_core.specs.declared.offset.Offset.{Offset}
@@ -11,7 +11,7 @@ use Rattle.shogi_core.specs.declared.piece.Color.TheVariants.{Black, White}
 use Rattle.shogi_core.specs.declared.piece.Role.{Role}
 use Rattle.shogi_core.specs.declared.piece.Role.TheVariants.{King, Pawn, Lance, Knight, Silver, Gold, Bishop, Rook, PromotedPawn, PromotedLance, PromotedKnight, PromotedSilver, Horse, Dragon}
 use Rattle.shogi_core.specs.declared.piece.Piece.{Piece}
-use Rattle.shogi_core.specs.Attack.{is_attacked_from, is_open_king, is_sniper}
+use Rattle.shogi_core.specs.Attack.{is_open_king, is_sniper}
 use Rattle.shogi_core.specs.Below.{some_below}
 use Rattle.shogi_core.specs.Bits.{has_bit}
 use Rattle.shogi_core.specs.Cell.{is_piece_of, is_king, is_slider, is_sliding_role}
@@ -187,37 +187,7 @@ and_and_fits a b c h = and_fits (bit_and a b) c (and_fits a b h)
 
 pub ruleset snipers = (sniper_bits, and_and_fits)
 
-module _ (cells : Cells) (color : Color) (square own near snipers : ℕ)
-    (owns : (a : ℕ) → a < 81 → has_bit own a ≡ is_piece_of color (piece_at cells a))
-    (nears : (a : ℕ) → a < 81 → has_bit near a ≡ is_near square a)
-    (shots : (a : ℕ) → a < 81 → has_bit snipers a ≡ is_sniper cells color square a) where
-  -- an attacker is near, or a sniper on an open line
-  attacks_by : (a : ℕ) → a < 81 → is_attacked_from cells color square a ≡ true → (has_bit (bit_and own near) a ≡ true) ⊎ ((has_bit snipers a ≡ true) × (are_lined cells square a ≡ true))
-  attacks_by a h e =
-      let parts : (is_piece_of color (piece_at cells a) ≡ true) × (reaches cells a square ≡ true) = and_parts _ _ e in
-      elim (reaches_near cells a square h parts.1) [
-        | inl close ↦ inl (has_bit-and own near a ∙ and_from _ _ (owns a h ∙ parts.0) (nears a h ∙ close))
-        | inr far ↦ inr (shots a h ∙ and_from _ _ (and_from _ _ parts.0 far.0) (lined_aligned cells square a far.1), far.1)
-      ]
-
-  pub attackers_near : snipers ≡ 0 → (a : ℕ) → a < 81 → is_attacked_from cells color square a ≡ true → has_bit (bit_and own near) a ≡ true
-  attackers_near none a h e = elim (attacks_by a h e) [
-    | inl close ↦ close
-    | inr far ↦ absurd (both_ways (has_bit snipers a) (ap (λ (m : ℕ). has_bit m a) none ∙ has_bit-none a) far.0)
-  ]
-
-  pub attackers_all : (line : ℕ) → ((a : ℕ) → a < 81 → has_bit line a ≡ are_lined cells square a) → (a : ℕ) → a < 81 → is_attacked_from cells color square a ≡ true → has_bit (bit_or (bit_and own near) (bit_and snipers line)) a ≡ true
-  attackers_all line lines a h e = has_bit-or (bit_and own near) (bit_and snipers line) a ∙ elim (attacks_by a h e) [
-    | inl close ↦ or_left _ _ close
-    | inr far ↦ or_right (has_bit (bit_and own near) a) _ (has_bit-and snipers line a ∙ and_from _ _ far.0 (lines a h ∙ far.1))
-  ]
-
-pub attackers_fit : (a b c d : ℕ) → a < 2 ^ 81 → c < 2 ^ 81 → bit_or (bit_and a b) (bit_and c d) < 2 ^ 81
-attackers_fit a b c d h l = or_lt 81 (bit_and a b) (bit_and c d) (and_fits a b h) (and_fits c d l)
-
 pub kings_first : (cells : Cells) (color : Color) (m : ℕ) → ((a : ℕ) → a < 81 → has_bit m a ≡ is_king color (piece_at cells a)) → Covers m (is_open_king cells color)
 kings_first cells color m kings = record { all = λ a h e. kings a h ∙ (and_parts _ _ e).0 }
-
-pub ruleset attackers = (attackers_near, attackers_all, attackers_fit, covers_less, covers_none, some_below_found, and_fits)
 
 pub ruleset open_kings = (kings_first, covers_less, covers_none, some_below_found)

@@ -18,7 +18,7 @@ use Rattle.shogi_core.proofs.Back.{back_twice}
 use Rattle.shogi_core.proofs.Below.{some_below_at, some_below_no, some_below_found}
 use Rattle.shogi_core.proofs.BitLaws.{has_bit-and, has_bit-none}
 use Rattle.shogi_core.proofs.Discovered.{same_way, same_way_is, one_of, list_any_kept, some_below_which}
-use Rattle.shogi_core.proofs.LineBits.{and_fits, has_bit-ray}
+use Rattle.shogi_core.proofs.LineBits.{has_bit-ray}
 use Rattle.shogi_core.proofs.Nearest.{one_piece}
 use Rattle.shogi_core.proofs.RayLaws.{slides_bare}
 use Rattle.shogi_core.proofs.SeenLaws.{Covers, covers_less, covers_none, slides_back, slides_back_around, slides_role, step_near, lined_aligned}
@@ -333,8 +333,8 @@ module _ (cells seen : Cells) (color : Color) (among : ℕ) (own : (n : ℕ) →
 pub sniper_own : (cells : Cells) (color : Color) (square n : ℕ) → is_sniper cells color square n ≡ true → is_piece_of color (piece_at cells n) ≡ true
 sniper_own cells color square n e = (and_parts _ _ ((and_parts _ _ e).0)).0
 
-pub ruleset stepping = (covers_less, covers_none, and_fits)
+pub ruleset stepping = (covers_less, covers_none)
 
-pub ruleset shooting = (no_sniper_ahead, covers_less, covers_none, and_fits)
+pub ruleset shooting = (no_sniper_ahead, covers_less, covers_none)
 
 pub ruleset attacking = (attacked_by_step, attacked_by_slide, no_sniper)
