@@ -1,5 +1,5 @@
 -- A move is worth no more than what is left after it and a reply.
-use Rattle.std.proofs.Common.{◌≡◌, ◌≢◌, ℕ, ℤ, pos, ◌-◌, ◌/◌, ◌%◌, ◌<◌, ◌-ℤ◌, ◌+ℤ◌, ◌≤ℤ◌, true, List, [], ◌∷◌, Some, sym, ap, subst, ◌∙◌, inl, inr, arith}
+use Rattle.std.proofs.Common.{◌≡◌, ◌≢◌, ℕ, ℤ, pos, ◌+◌, ◌-◌, ◌/◌, ◌%◌, ◌<◌, ◌-ℤ◌, ◌+ℤ◌, ◌≤ℤ◌, true, false, suc, refl, List, [], ◌∷◌, Some, sym, ap, subst, ◌∙◌, inl, inr, arith}
 use Rattle.std.specs.Prelude.{◌==◌}
 use Rattle.std.proofs.lemmas.Bool.{cases_lt}
 use Rattle.std.proofs.lemmas.Int.{by_lt_z, ints}
@@ -63,7 +63,7 @@ value_at_most q e d t low each = subst (λ (w : ℤ). w ≤ℤ t) (sym (value-su
 -- ---- one ply is worth no more than its moves gain, where none mates
 
 -- a move of a piece that stays as it is is legal
-pub abbrev HasBoardMove : Shogi → Type 0
+abbrev pub HasBoardMove : Shogi → Type 0
 HasBoardMove q = ((from to : ℕ) → from < 81 → to < 81 → is_legal q (Board from to false) ≡ true → ⊥) → ⊥
 
 -- each legal move of the position gains so little, and the other side has a move on the board after it
@@ -108,8 +108,8 @@ board_worth s e from to v raw hf ht l =
 value_least : (s : Shogi) (e : Eval) → IsValid s → resolves_captures e ≡ false → HasBoardMove s → material_of s e ≤ℤ value s e 1
 value_least s e v raw has = by_lt_z (value s e 1) (material_of s e)
     (λ less. absurd (has (λ from to hf ht l. (
-      let enough : material_of s e ≤ℤ value s e 1 = cut s e 1 (code_of (Board from to false)) (material_of s e) (omega arith) (legal_to_listed s (Board from to false) (move_back (Board from to false) (hf, ht)) l) (board_worth s e from to v raw hf ht l) in
-      omega (arith, ints)))))
+    let enough : material_of s e ≤ℤ value s e 1 = cut s e 1 (code_of (Board from to false)) (material_of s e) (omega arith) (legal_to_listed s (Board from to false) (move_back (Board from to false) (hf, ht)) l) (board_worth s e from to v raw hf ht l) in
+    omega (arith, ints)))))
     (λ enough. enough)
 
 two_plies_of_tame : (q : Shogi) (e : Eval) (t : ℤ) → IsValid q → resolves_captures e ≡ false → IsTame q e t → value q e 2 ≤ℤ t
@@ -117,16 +117,16 @@ two_plies_of_tame q e t v raw tame =
     let bound : (pos 0 -ℤ pos POINTS_MAX) ≤ℤ material_of q e = (material_bounds q e v).0 in
     let some : material_of q e ≤ℤ t = tame.least in
     value_at_most q e 1 t (omega (arith, ints)) (λ code c listed there on l. (
-      let least : material_of (after q c) e ≤ℤ value (after q c) e 1 = value_least (after q c) e (move_valid q c v on l) raw (tame.answered c on l) in
-      let same : value (after_code q code) e 1 ≡ value (after q c) e 1 = ap (λ (s : Shogi). value s e 1) there in
-      let made : material_of (after q c) e ≡ pos 0 -ℤ (material_of q e +ℤ gain_of q e c) = material_after q e c v on l in
-      let few : (material_of q e +ℤ gain_of q e c) ≤ℤ t = tame.gains c on l in
-      omega (arith, ints)))
+    let least : material_of (after q c) e ≤ℤ value (after q c) e 1 = value_least (after q c) e (move_valid q c v on l) raw (tame.answered c on l) in
+    let same : value (after_code q code) e 1 ≡ value (after q c) e 1 = ap (λ (s : Shogi). value s e 1) there in
+    let made : material_of (after q c) e ≡ pos 0 -ℤ (material_of q e +ℤ gain_of q e c) = material_after q e c v on l in
+    let few : (material_of q e +ℤ gain_of q e c) ≤ℤ t = tame.gains c on l in
+    omega (arith, ints)))
 
 -- ---- what a move is worth after which a reply leaves so little
 
 -- the position is worth at most so much with a ply left, and with two if captures are not settled
-pub abbrev AreAtMost : Shogi → Eval → ℤ → Type 0
+abbrev pub AreAtMost : Shogi → Eval → ℤ → Type 0
 AreAtMost q e t = (value q e 1 ≤ℤ t) × (resolves_captures e ≡ false → value q e 2 ≤ℤ t)
 
 pub tame_at_most : (q : Shogi) (e : Eval) (t : ℤ) → IsValid q → lost_value 1 ≤ℤ t → IsTame q e t → AreAtMost q e t
