@@ -12,7 +12,6 @@ use Rattle.shogi_core.specs.declared.piece.Piece.{Piece}
 use Rattle.shogi_core.specs.Attack.{in_check}
 use Rattle.shogi_core.specs.Bits.{has_bit}
 use Rattle.shogi_core.specs.Cell.{HasNoOtherKing, is_piece_of}
-use Rattle.shogi_core.specs.Codes.{code_of}
 use Rattle.shogi_core.specs.Lines.{is_lined_with_king}
 use Rattle.shogi_core.specs.Movement.{Cells, cell_reaches, piece_at, reaches}
 use Rattle.shogi_core.specs.Pieces.{kind_number, opponent_of}
@@ -29,9 +28,9 @@ use Rattle.shogi_replies.proofs.ReplyLaws.{other_counts}
 use Rattle.shogi_eval.specs.declared.eval.Eval.{Eval}
 use Rattle.shogi_eval.specs.Material.{material_of}
 use Rattle.shogi_eval.proofs.Gains.{gain_of}
-use Rattle.minimax.specs.Minimax.{lost_value, value, worth}
+use Rattle.minimax.specs.Minimax.{lost_value}
 use Rattle.dull_moves.specs.declared.moves.DullMoves.{DullMoves}
-use Rattle.dull_moves.specs.Dull.{AreDull, AreIdle, AreNonInterfering, DropsAreWorthAtMost, IsOnSquares, IsIdle, IsOff, IsQuietThere, IsUnseen, LetsBe, QuietsAreWorthAtMost, Survives, after_reply, drops_of, lifted, passed, placed}
+use Rattle.dull_moves.specs.Dull.{AreDull, AreIdle, AreNonInterfering, DropsAreWorthAtMost, IsOnSquares, IsIdle, IsOff, IsQuietThere, IsUnseen, IsWorthAtMost, LetsBe, QuietsAreWorthAtMost, Survives, after_reply, drops_of, lifted, passed, placed}
 use Rattle.dull_moves.proofs.BoardMoves.{quiet_dull}
 use Rattle.dull_moves.proofs.Commuting.{commute, stands}
 use Rattle.dull_moves.proofs.Idle.{board_parts, drop_parts, none_is, put_on, tame}
@@ -40,7 +39,7 @@ use Rattle.dull_moves.proofs.Passing.{passed_valid}
 use Rattle.dull_moves.proofs.Sets.{out_parts}
 use Rattle.dull_moves.proofs.StillLegal.{still_legal}
 use Rattle.dull_moves.proofs.Unchecked.{harmless_there, unlined_with_king}
-use Rattle.dull_moves.proofs.Worth.{IsTame, value_of_tame, worth_by_reply}
+use Rattle.dull_moves.proofs.Worth.{AreAtMost, IsTame, reply_at_most, tame_at_most}
 
 -- the position with a piece dropped, and the same side to move
 abbrev pub after_drop : Shogi → Kind → ℕ → Shogi
@@ -86,7 +85,7 @@ spared_among r shut touched both free among set spared join fits meet within n h
 -- ---- a drop
 
 pub dull : (p : Shogi) (e : Eval) (kind : Kind) (b : ℕ) (r : Move) (gains king squares shut : ℕ) (t : ℤ) → IsValid p → in_check p.cells p.side ≡ false → b < 81 → IsOnSquares r → is_legal p (Drop kind b) ≡ true → is_legal (passed p) r ≡ true → is_pawn_drop r ≡ false → Survives r b → has_bit shut b ≡ false
-    → IsQuietThere (after_reply p r) e gains king squares shut → IsIdle (after_reply p r) e gains king squares (dropped (after_reply p r).side kind) b → lost_value 1 ≤ℤ t → (material_of (after_reply p r) e +ℤ pos gains) ≤ℤ t → worth p e 2 (code_of (Drop kind b)) ≤ℤ t
+    → IsQuietThere (after_reply p r) e gains king squares shut → IsIdle (after_reply p r) e gains king squares (dropped (after_reply p r).side kind) b → lost_value 1 ≤ℤ t → (material_of (after_reply p r) e +ℤ pos gains) ≤ℤ t → IsWorthAtMost p e t (Drop kind b)
 dull p e kind b r gains king squares shut t v safe on there lm lr plain spared off quiet idle low room =
     let v0 : IsValid (passed p) = passed_valid p v safe in
     let vq : IsValid (after_reply p r) = move_valid (passed p) r v0 there lr in
@@ -106,7 +105,7 @@ dull p e kind b r gains king squares shut t v safe on there lm lr plain spared o
     let here : material_of (after (after p (Drop kind b)) r) e ≡ material_of (after_drop (after_reply p r) kind b) e = ap (λ (q : Shogi). material_of q e) same in
     let less : (material_of (after_drop (after_reply p r) kind b) e +ℤ pos gains) ≤ℤ t = omega (arith, ints, moved, little, here, room) in
     let calm : IsTame (after_drop (after_reply p r) kind b) e t = tame (after_reply p r) e gains king squares shut (dropped (after_reply p r).side kind) (hands_after (after_reply p r).hands (after_reply p r).cells (after_reply p r).side (Drop kind b)) b vq.cells_fit (dropped_of (after_reply p r).side kind) (held_before (after_reply p r) kind b vq.hands_fit) on bare off quiet idle vw t less in
-    worth_by_reply p e (Drop kind b) r t on there l (subst (λ (q : Shogi). value q e 1 ≤ℤ t) (sym same) (value_of_tame (after_drop (after_reply p r) kind b) e t vw low calm))
+    reply_at_most p e (Drop kind b) r t on there l (subst (λ (q : Shogi). AreAtMost q e t) (sym same) (tame_at_most (after_drop (after_reply p r) kind b) e t vw low calm))
 
 -- so is none of its kind on squares that are spared and idle
 drops_dull : (p : Shogi) (e : Eval) (kind : Kind) (r : Move) (gains king squares shut : ℕ) (t : ℤ) (idle : ℕ) → IsValid p → in_check p.cells p.side ≡ false → IsOnSquares r → is_legal (passed p) r ≡ true → is_pawn_drop r ≡ false → AreSpared r shut idle
@@ -137,7 +136,7 @@ legal_owns p a b l = let parts = board_parts p a b false l in (parts.0, parts.2)
 
 pub quiet_is_dull : (p : Shogi) (e : Eval) (a b : ℕ) (r : Move) (gains king squares shut : ℕ) (t : ℤ) → IsValid p → in_check p.cells p.side ≡ false → a < 81 → b < 81 → IsOnSquares r → is_legal p (Board a b false) ≡ true → piece_at p.cells b ≡ None → is_legal (passed p) r ≡ true → is_pawn_drop r ≡ false → IsOff r a → Survives r b → has_bit shut b ≡ false
     → IsQuietThere (after_reply p r) e gains king squares shut → IsUnseen (after_reply p r) king squares a → IsQuietThere (lifted (after_reply p r) a) e gains king squares shut → IsIdle (lifted (after_reply p r) a) e gains king squares (piece_at (after_reply p r).cells a) b
-    → lost_value 1 ≤ℤ t → (material_of (after_reply p r) e +ℤ pos gains) ≤ℤ t → worth p e 2 (code_of (Board a b false)) ≤ℤ t
+    → lost_value 1 ≤ℤ t → (material_of (after_reply p r) e +ℤ pos gains) ≤ℤ t → IsWorthAtMost p e t (Board a b false)
 quiet_is_dull p e a b r gains king squares shut t v safe ha on there lm bare lr plain apart spared off quiet unseen quiet_lifted idle low room =
     let vq : IsValid (after_reply p r) = move_valid (passed p) r (passed_valid p v safe) there lr in
     let own : is_piece_of p.side (piece_at p.cells a) ≡ true = (legal_owns p a b lm).0 in
@@ -150,7 +149,7 @@ quiet_is_dull p e a b r gains king squares shut t v safe ha on there lm bare lr 
     quiet_dull p e a b r t v safe ha on there lm bare lr plain apart spared
     (ap (λ (color : Color). is_lined_with_king (after_reply p r).cells color a) (sym (ap opponent_of (opponent_twice p.side))) ∙ unlined_with_king (after_reply p r).cells (opponent_of (after_reply p r).side) king a vq.cells_fit quiet.standing.king_fits quiet.standing.lone unseen.off_king)
     (harmless_after p r king (lifted (after_reply p r) a).cells (piece_at p.cells a) b len quiet.standing.king_fits quiet.standing.lone (emptied vq.cells_fit) idle_there.king_far)
-    (λ vw material. value_of_tame (placed (lifted (after_reply p r) a) (piece_at p.cells a) b) e t vw low
+    (λ vw material. tame_at_most (placed (lifted (after_reply p r) a) (piece_at p.cells a) b) e t vw low
     (tame (lifted (after_reply p r) a) e gains king squares shut (piece_at p.cells a) (after_reply p r).hands b len mine (λ other some. some) on empty off quiet_lifted idle_there vw t (omega (arith, ints, material, room))))
   where
     emptied : length (after_reply p r).cells ≡ 81 → (x : ℕ) → is_none (piece_at (after_reply p r).cells x) ≡ true → is_none (piece_at (lifted (after_reply p r) a).cells x) ≡ true
@@ -181,6 +180,6 @@ own_stays p q r a is off own =
 -- so no quiet move that is among these is worth more
 pub all_dull : (p : Shogi) (e : Eval) (d : DullMoves) → ((kind : Kind) → DropsAreWorthAtMost p e d.most kind (drops_of d.drops kind).bits) → QuietsAreWorthAtMost p e d.most d.pieces.bits d.ends.bits → AreDull p e d
 all_dull p e d drops quiets (Board from to promote) on among quiet legal =
-    subst (λ (x : Bool). worth p e 2 (code_of (Board from to x)) ≤ℤ d.most) (sym quiet.0)
+    subst (λ (x : Bool). IsWorthAtMost p e d.most (Board from to x)) (sym quiet.0)
     (quiets from to on.0 on.1 among.0 among.1 quiet.1 (subst (λ (x : Bool). is_legal p (Board from to x) ≡ true) quiet.0 legal))
 all_dull p e d drops quiets (Drop kind to) on among quiet legal = drops kind to on among legal

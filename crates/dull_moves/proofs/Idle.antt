@@ -1,5 +1,5 @@
 -- What changes nothing where it is put leaves its side no more gain, and the other side's king the squares that it had.
-use Rattle.std.proofs.Common.{◌≡◌, ◌≢◌, ◌⊎◌, ℕ, ℤ, pos, ◌+◌, ◌<◌, ◌≤◌, ◌+ℤ◌, ◌≤ℤ◌, Bool, true, false, not, [], Option, Some, None, refl, sym, ap, subst, ◌∙◌, inl, inr, arith, set, length, length-set, get_or-set_same, get_or-set_other}
+use Rattle.std.proofs.Common.{◌≡◌, ◌≢◌, ◌⊎◌, ℕ, ℤ, pos, ◌+◌, ◌<◌, ◌≤◌, ◌+ℤ◌, ◌≤ℤ◌, Bool, true, false, not, Option, Some, None, refl, sym, ap, subst, ◌∙◌, inl, inr, arith, set, length, length-set, get_or-set_same, get_or-set_other}
 use Rattle.std.specs.Prelude.{◌&&◌, ◌||◌, is_none, nat_lt}
 use Rattle.std.proofs.lemmas.Bool.{and_from, and_parts, both_ways, cases_eq, false_from_ne_true, ltb-true, not-true}
 use Rattle.std.proofs.lemmas.Int.{ints}
@@ -24,14 +24,13 @@ use Rattle.shogi_core.proofs.Discovered.{attacked_was_but, reach_was}
 use Rattle.shogi_moves.specs.After.{after, cells_after, dropped, piece_moved}
 use Rattle.shogi_moves.specs.Escapes.{IsEscape}
 use Rattle.shogi_moves.specs.Legal.{is_legal}
-use Rattle.shogi_moves.specs.LegalMoves.{legal_codes}
 use Rattle.shogi_moves.proofs.CheckInfoLaws.{dropped_of, is_piece_of-piece_moved, look, other_side, own_some}
 use Rattle.shogi_moves.proofs.DropChecks as drops
 use Rattle.shogi_moves.proofs.EscapeLaws.{kept, king_reach}
 use Rattle.shogi_moves.proofs.KingLaws.{king_own}
 use Rattle.shogi_moves.proofs.MovedPieces.{opponent_twice}
 use Rattle.shogi_replies.specs.ReplyInfo.{IsHarmless}
-use Rattle.shogi_replies.proofs.ReplyLaws.{LeavesStanding, left_board, left_drop, reply_by, shut_drop}
+use Rattle.shogi_replies.proofs.ReplyLaws.{LeavesStanding, left_board, left_drop, shut_drop}
 use Rattle.shogi_eval.specs.declared.eval.Eval.{Eval}
 use Rattle.shogi_eval.specs.Material.{drop_gain, material_of, promotion_gain, taken_gain}
 use Rattle.shogi_eval.proofs.Gains.{gain_of}
@@ -42,7 +41,7 @@ use Rattle.dull_moves.proofs.Shut.{still_shut}
 use Rattle.dull_moves.proofs.SpareMoves.{replies_by_step, step_same}
 use Rattle.dull_moves.proofs.StillLegal.{legal_parts, length-after}
 use Rattle.dull_moves.proofs.Unchecked.{harmless_there, unchecked_by, unlined_with}
-use Rattle.dull_moves.proofs.Worth.{IsTame}
+use Rattle.dull_moves.proofs.Worth.{HasBoardMove, IsTame}
 
 -- the position with a piece put on a square, and these hands
 abbrev pub put_on : Shogi → Option Piece → HandCounts → ℕ → Shogi
@@ -174,7 +173,7 @@ module _ (q : Shogi) (e : Eval) (gains king squares shut : ℕ) (arrived : Optio
   unchecked_now : in_check (put_on q arrived hands b).cells (opponent_of q.side) ≡ false
   unchecked_now = (faultless_from (put_on q arrived hands b) v.no_fault).shut
 
-  by_spare : (new : Cells) (held : HandCounts) (d : ℕ) → HasSpareMoves q king → LeavesStanding (put_on q arrived hands b).cells new (opponent_of q.side) d → in_check new (opponent_of q.side) ≡ false → legal_codes (record { cells = new; hands = held; side = opponent_of q.side }) ≢ []
+  by_spare : (new : Cells) (held : HandCounts) (d : ℕ) → HasSpareMoves q king → LeavesStanding (put_on q arrived hands b).cells new (opponent_of q.side) d → in_check new (opponent_of q.side) ≡ false → HasBoardMove (record { cells = new; hands = held; side = opponent_of q.side })
   by_spare new held d spares stays safe =
       let one = spares b d in
       let from_off : one.0 ≢ b = λ at. both_ways (is_piece_of (opponent_of q.side) None) refl (ap (is_piece_of (opponent_of q.side)) (sym bare) ∙ subst (λ (x : ℕ). is_piece_of (opponent_of q.side) (piece_at q.cells x) ≡ true) at one.7.own) in
@@ -229,7 +228,7 @@ module _ (q : Shogi) (e : Eval) (gains king squares shut : ℕ) (arrived : Optio
     end_there = get_or-set_same (set (put_on q arrived hands b).cells c None) d (piece_moved promote (piece_at (put_on q arrived hands b).cells c)) None (omega (arith, length-set (put_on q arrived hands b).cells c None, fits, hd))
 
     -- of what was dropped
-    dropped_moves : c ≡ b → (taken_gain e (piece_at (put_on q arrived hands b).cells d) + promotion_gain promote (piece_at (put_on q arrived hands b).cells c) ≤ gains) × (legal_codes (after (put_on q arrived hands b) (Board c d promote)) ≢ [])
+    dropped_moves : c ≡ b → (taken_gain e (piece_at (put_on q arrived hands b).cells d) + promotion_gain promote (piece_at (put_on q arrived hands b).cells c) ≤ gains) × (HasBoardMove (after (put_on q arrived hands b) (Board c d promote)))
     unfolding reaches
     dropped_moves at =
         let there : piece_at (put_on q arrived hands b).cells c ≡ arrived = ap (piece_at (put_on q arrived hands b).cells) at ∙ put in
@@ -240,13 +239,13 @@ module _ (q : Shogi) (e : Eval) (gains king squares shut : ℕ) (arrived : Optio
         let moved : piece_moved promote (piece_at (put_on q arrived hands b).cells c) ≡ piece_moved promote arrived = ap (piece_moved promote) there in (
           gain_here arrived there calm.gain,
           λ none. quiet.standing.replies one.0 one.1 one.2
-              (λ escape. reply_by (after (put_on q arrived hands b) (Board c d promote)) king one.0 quiet.standing.king_fits one.1
+              (λ escape. none king one.0 quiet.standing.king_fits one.1
               (king_goes q.cells (cells_after (put_on q arrived hands b).cells q.side (Board c d promote)) (after (put_on q arrived hands b) (Board c d promote)).hands q.side (λ x. ⊥) d (piece_moved promote (piece_at (put_on q arrived hands b).cells c))
               (length-after (put_on q arrived hands b).cells q.side (Board c d promote) ∙ fits)
               own_moved (seen_after at)
               king one.0 quiet.standing.king_fits one.1 quiet.standing.crown (λ left. left) not_king escape
               (ap (λ (cell : Option Piece). cell_reaches (set q.cells king None) cell d one.0) moved ∙ one.3)
-              (λ x left. absurd left)) none)
+              (λ x left. absurd left)))
               (λ home. by_spare (cells_after (put_on q arrived hands b).cells q.side (Board c d promote)) (after (put_on q arrived hands b) (Board c d promote)).hands d home.1
               (left_board (put_on q arrived hands b) c d promote v hc hd own)
               (unchecked_by q.cells (cells_after (put_on q arrived hands b).cells q.side (Board c d promote)) q.side (λ x. ⊥) d (piece_moved promote (piece_at (put_on q arrived hands b).cells c)) hd own_moved (seen_after at) end_there (λ x left. absurd left)
@@ -273,7 +272,7 @@ module _ (q : Shogi) (e : Eval) (gains king squares shut : ℕ) (arrived : Optio
         ]
 
     -- of one that stood there
-    other_moves : c ≢ b → (taken_gain e (piece_at (put_on q arrived hands b).cells d) + promotion_gain promote (piece_at (put_on q arrived hands b).cells c) ≤ gains) × (legal_codes (after (put_on q arrived hands b) (Board c d promote)) ≢ [])
+    other_moves : c ≢ b → (taken_gain e (piece_at (put_on q arrived hands b).cells d) + promotion_gain promote (piece_at (put_on q arrived hands b).cells c) ≤ gains) × (HasBoardMove (after (put_on q arrived hands b) (Board c d promote)))
     unfolding reaches
     other_moves off =
         let there : piece_at (put_on q arrived hands b).cells c ≡ piece_at q.cells c = same c off in
@@ -288,13 +287,13 @@ module _ (q : Shogi) (e : Eval) (gains king squares shut : ℕ) (arrived : Optio
               (still_shut q arrived shut b c d promote len hb hc hd own_before (λ at. off (sym at)) (λ at. end_off (sym at)) off_shut stopped))
         ]
       where
-        left_one : piece_at (put_on q arrived hands b).cells c ≡ piece_at q.cells c → piece_moved promote (piece_at (put_on q arrived hands b).cells c) ≡ piece_moved promote (piece_at q.cells c) → ((set : ℕ) × AreOffLines c squares set × LeavesOne (without_king q king) (piece_moved promote (piece_at q.cells c)) d set) → legal_codes (after (put_on q arrived hands b) (Board c d promote)) ≢ []
+        left_one : piece_at (put_on q arrived hands b).cells c ≡ piece_at q.cells c → piece_moved promote (piece_at (put_on q arrived hands b).cells c) ≡ piece_moved promote (piece_at q.cells c) → ((set : ℕ) × AreOffLines c squares set × LeavesOne (without_king q king) (piece_moved promote (piece_at q.cells c)) d set) → HasBoardMove (after (put_on q arrived hands b) (Board c d promote))
         left_one there moved calm =
             let one = calm.2 in
             let out = calm.1 one.0 one.1 one.2 in
             let short : cell_reaches (without_king q king) (piece_moved promote (piece_at (put_on q arrived hands b).cells c)) d one.0 ≡ false = ap (λ (cell : Option Piece). cell_reaches (without_king q king) cell d one.0) moved ∙ one.3 in
             λ none. quiet.standing.replies one.0 one.1 out.0
-            (λ escape. reply_by (after (put_on q arrived hands b) (Board c d promote)) king one.0 quiet.standing.king_fits one.1
+            (λ escape. none king one.0 quiet.standing.king_fits one.1
             (king_goes (put_on q arrived hands b).cells (cells_after (put_on q arrived hands b).cells q.side (Board c d promote)) (after (put_on q arrived hands b) (Board c d promote)).hands q.side (λ x. x ≡ c) d (piece_moved promote (piece_at (put_on q arrived hands b).cells c))
             (length-after (put_on q arrived hands b).cells q.side (Board c d promote) ∙ fits)
             own_moved
@@ -303,7 +302,7 @@ module _ (q : Shogi) (e : Eval) (gains king squares shut : ℕ) (arrived : Optio
             (λ at. both_ways (is_piece_of (opponent_of q.side) (piece_at (put_on q arrived hands b).cells c)) (other_side q.side (piece_at (put_on q arrived hands b).cells c) own) (subst (λ (x : ℕ). is_piece_of (opponent_of q.side) (piece_at (put_on q arrived hands b).cells x) ≡ true) at (king_own (opponent_of q.side) (piece_at (put_on q arrived hands b).cells king) crown_now)))
             not_king (escape_now one.0 one.1 out.0 escape)
             (short_lifted (piece_moved promote (piece_at (put_on q arrived hands b).cells c)) d one.0 short)
-            (λ x left. subst (λ (y : ℕ). are_lined (set (put_on q arrived hands b).cells king None) y one.0 ≡ false) (sym left) (false_from_ne_true _ (λ lined. both_ways (are_aligned c one.0) out.1 (lined_aligned (set (put_on q arrived hands b).cells king None) c one.0 lined))))) none)
+            (λ x left. subst (λ (y : ℕ). are_lined (set (put_on q arrived hands b).cells king None) y one.0 ≡ false) (sym left) (false_from_ne_true _ (λ lined. both_ways (are_aligned c one.0) out.1 (lined_aligned (set (put_on q arrived hands b).cells king None) c one.0 lined))))))
             (λ home. by_spare (cells_after (put_on q arrived hands b).cells q.side (Board c d promote)) (after (put_on q arrived hands b) (Board c d promote)).hands d home.1
             (left_board (put_on q arrived hands b) c d promote v hc hd own)
             (unchecked_by (put_on q arrived hands b).cells (cells_after (put_on q arrived hands b).cells q.side (Board c d promote)) q.side (λ x. x ≡ c) d (piece_moved promote (piece_at (put_on q arrived hands b).cells c)) hd own_moved
@@ -313,12 +312,12 @@ module _ (q : Shogi) (e : Eval) (gains king squares shut : ℕ) (arrived : Optio
             (harmless_now (piece_moved promote (piece_at (put_on q arrived hands b).cells c)) d one.0 home.0 short)
             unchecked_now) none)
 
-    board_calm : (taken_gain e (piece_at (put_on q arrived hands b).cells d) + promotion_gain promote (piece_at (put_on q arrived hands b).cells c) ≤ gains) × (legal_codes (after (put_on q arrived hands b) (Board c d promote)) ≢ [])
+    board_calm : (taken_gain e (piece_at (put_on q arrived hands b).cells d) + promotion_gain promote (piece_at (put_on q arrived hands b).cells c) ≤ gains) × (HasBoardMove (after (put_on q arrived hands b) (Board c d promote)))
     board_calm = elim (cases_eq c b) [ inl here ↦ dropped_moves here | inr off ↦ other_moves off ]
 
   -- ---- a drop
 
-  drop_calm : (other : Kind) (d : ℕ) → d < 81 → is_legal (put_on q arrived hands b) (Drop other d) ≡ true → legal_codes (after (put_on q arrived hands b) (Drop other d)) ≢ []
+  drop_calm : (other : Kind) (d : ℕ) → d < 81 → is_legal (put_on q arrived hands b) (Drop other d) ≡ true → HasBoardMove (after (put_on q arrived hands b) (Drop other d))
   drop_calm other d hd l =
       let parts = drop_parts (put_on q arrived hands b) other d l in
       let empty : piece_at (put_on q arrived hands b).cells d ≡ None = none_is (piece_at (put_on q arrived hands b).cells d) parts.1 in
@@ -326,14 +325,14 @@ module _ (q : Shogi) (e : Eval) (gains king squares shut : ℕ) (arrived : Optio
       let one = quiet.kinds other (fewer other (ltb-true 0 (count_in_hand (put_on q arrived hands b).hands q.side other) parts.0)) d hd (sym (same d off) ∙ empty) parts.2 in
       let not_there : king ≢ d = λ at. both_ways (is_king (opponent_of q.side) None) refl (ap (is_king (opponent_of q.side)) (sym empty) ∙ subst (λ (x : ℕ). is_king (opponent_of q.side) (piece_at (put_on q arrived hands b).cells x) ≡ true) at crown_now) in
       λ none. quiet.standing.replies one.0 one.1 one.2
-      (λ escape. reply_by (after (put_on q arrived hands b) (Drop other d)) king one.0 quiet.standing.king_fits one.1
+      (λ escape. none king one.0 quiet.standing.king_fits one.1
       (king_goes (put_on q arrived hands b).cells (cells_after (put_on q arrived hands b).cells q.side (Drop other d)) (after (put_on q arrived hands b) (Drop other d)).hands q.side (λ x. ⊥) d (dropped q.side other)
       (length-after (put_on q arrived hands b).cells q.side (Drop other d) ∙ fits)
       (dropped_of q.side other)
       (λ x. elim (drops.look (put_on q arrived hands b).cells q.side other d fits hd x) [ inl here ↦ inl here | inr stood ↦ inr (inr stood) ])
       king one.0 quiet.standing.king_fits one.1 crown_now (λ left. left) not_there (escape_now one.0 one.1 one.2 escape)
       (short_lifted (dropped q.side other) d one.0 one.3)
-      (λ x left. absurd left)) none)
+      (λ x left. absurd left)))
       (λ home. by_spare (cells_after (put_on q arrived hands b).cells q.side (Drop other d)) (after (put_on q arrived hands b) (Drop other d)).hands d home.1
       (left_drop (put_on q arrived hands b) other d v hd) (shut_drop (put_on q arrived hands b) other d v hd (harmless_now (dropped q.side other) d one.0 home.0 one.3)) none)
 
@@ -341,6 +340,7 @@ module _ (q : Shogi) (e : Eval) (gains king squares shut : ℕ) (arrived : Optio
   pub tame : (t : ℤ) → (material_of (put_on q arrived hands b) e +ℤ pos gains) ≤ℤ t → IsTame (put_on q arrived hands b) e t
   tame t room = record {
     gains = λ c on l. few c on l;
+    least = omega (arith, ints, room);
     answered = λ c on l. some c on l;
   }
     where
@@ -352,6 +352,6 @@ module _ (q : Shogi) (e : Eval) (gains king squares shut : ℕ) (arrived : Optio
           let none : drop_gain e other ≤ℤ pos 0 = drop_little e other in
           omega (arith, ints, none, room)
 
-      some : (c : Move) → IsOnSquares c → is_legal (put_on q arrived hands b) c ≡ true → legal_codes (after (put_on q arrived hands b) c) ≢ []
+      some : (c : Move) → IsOnSquares c → is_legal (put_on q arrived hands b) c ≡ true → HasBoardMove (after (put_on q arrived hands b) c)
       some (Board c d promote) on l = (board_calm c d promote on.0 on.1 l).1
       some (Drop other d) on l = drop_calm other d on l

@@ -1,5 +1,5 @@
 -- A side that is in no check and has spare moves has a legal one.
-use Rattle.std.proofs.Common.{◌≡◌, ◌≢◌, ℕ, ◌<◌, true, false, not, [], Option, Some, None, sym, ap, subst, ◌∙◌, inl, inr, ◌-◌, ◌^◌, bit_and}
+use Rattle.std.proofs.Common.{◌≡◌, ◌≢◌, ℕ, ◌<◌, true, false, not, Option, Some, None, sym, ap, subst, ◌∙◌, inl, inr, ◌-◌, ◌^◌, bit_and}
 use Rattle.std.specs.Prelude.{◌&&◌, ◌||◌, ◌==◌, IfSome, is_none, is_some}
 use Rattle.std.proofs.lemmas.Bool.{and_from, and_parts, both_ways, cases_eq, eq-eqb, false_from_ne_true, not-true, or_left, or_parts}
 use Rattle.shogi_core.specs.declared.piece.Color.{Color}
@@ -12,15 +12,15 @@ use Rattle.shogi_core.specs.Movement.{Cells, cell_reaches, has_slide, has_step, 
 use Rattle.shogi_core.specs.Pieces.{opponent_of}
 use Rattle.shogi_core.specs.Position.{HandCounts, Shogi}
 use Rattle.shogi_core.proofs.Below.{some_below_no}
-use Rattle.shogi_moves.specs.LegalMoves.{legal_codes}
 use Rattle.shogi_moves.proofs.CheckInfoLaws.{own_some, quiet_board}
 use Rattle.shogi_moves.proofs.DestinationLaws.{legal_board}
 use Rattle.shogi_replies.specs.ReplyInfo.{is_aligned_with_king, is_line_of_king, is_quiet_step}
-use Rattle.shogi_replies.proofs.ReplyLaws.{LeavesStanding, reply_by, right_step, stays_unlined, unowned}
+use Rattle.shogi_replies.proofs.ReplyLaws.{LeavesStanding, right_step, stays_unlined, unowned}
 use Rattle.dull_moves.specs.Dull.{HasSpareMoves, IsSpareMove}
 use Rattle.dull_moves.specs.SpareMoves.{IsFreeStep}
 use Rattle.dull_moves.specs.declared.spare_moves.FreeStep.{FreeStep}
 use Rattle.dull_moves.proofs.Sets.{out_parts}
+use Rattle.dull_moves.proofs.Worth.{HasBoardMove}
 
 -- what a quiet step is
 pub step_parts : (cells : Cells) (a t : ℕ) → is_quiet_step cells a t ≡ true → (cell_steps (piece_at cells a) a t ≡ true) × (is_none (piece_at cells t) ≡ true) × (is_immobile t (piece_at cells a) ≡ false)
@@ -50,7 +50,7 @@ unaligned cells color king a lone off = some_below_no 81 (is_line_of_king cells 
 
 -- a move of the other side leaves such a step, if it ends on neither of its squares
 pub replies_by_step : (old new : Cells) (hands : HandCounts) (color : Color) (king d a t : ℕ) → HasNoOtherKing old color king → LeavesStanding old new color d → in_check new color ≡ false → a < 81 → t < 81 → a ≢ d → t ≢ d → is_piece_of color (piece_at old a) ≡ true → a ≢ king → are_aligned king a ≡ false → is_quiet_step old a t ≡ true
-    → legal_codes (record { cells = new; hands = hands; side = color }) ≢ []
+    → HasBoardMove (record { cells = new; hands = hands; side = color })
 unfolding reaches
 replies_by_step old new hands color king d a t lone k shut ha ht stays beside own other off step =
     let q : Shogi = record { cells = new; hands = hands; side = color } in
@@ -62,7 +62,7 @@ replies_by_step old new hands color king d a t lone k shut ha ht stays beside ow
     let alive : is_immobile t (piece_at new a) ≡ false = ap (is_immobile t) same ∙ parts.2 in
     let plain : is_king color (piece_at new a) ≡ false = ap (is_king color) same ∙ lone a ha other in
     let free : is_lined_with_king new color a ≡ false = stays_unlined old new color a ha k.kings (unaligned old color king a lone off) in
-    reply_by q a t ha ht
+    λ none. none a t ha ht
     (legal_board q a t false
     ∙ and_from _ _ (right_step new color a t owned (unowned color (piece_at new t) bare) reach alive) (ap not (quiet_board new color a t false k.len ha ht owned plain free shut)))
 

@@ -1,8 +1,8 @@
 -- A move is worth no more than what is left after it and a reply.
-use Rattle.std.proofs.Common.{◌≡◌, ◌≢◌, ℕ, ℤ, pos, ◌-◌, ◌/◌, ◌%◌, ◌<◌, ◌-ℤ◌, ◌+ℤ◌, ◌≤ℤ◌, true, List, [], ◌∷◌, Some, sym, ap, subst, ◌∙◌, inl, inr, arith}
+use Rattle.std.proofs.Common.{◌≡◌, ◌≢◌, ℕ, ℤ, pos, ◌+◌, ◌-◌, ◌/◌, ◌%◌, ◌<◌, ◌-ℤ◌, ◌+ℤ◌, ◌≤ℤ◌, true, false, suc, refl, List, [], ◌∷◌, Some, sym, ap, subst, ◌∙◌, inl, inr, arith}
 use Rattle.std.specs.Prelude.{◌==◌}
 use Rattle.std.proofs.lemmas.Bool.{cases_lt}
-use Rattle.std.proofs.lemmas.Int.{ints}
+use Rattle.std.proofs.lemmas.Int.{by_lt_z, ints}
 use Rattle.shogi_core.specs.declared.moves.Move.{Move}
 use Rattle.shogi_core.specs.declared.moves.Move.TheVariants.{Board, Drop}
 use Rattle.shogi_core.specs.declared.moves.TheConstants.{FIRST_DROP, MOVE_CODE_COUNT}
@@ -13,56 +13,124 @@ use Rattle.shogi_moves.specs.After.{after, after_code}
 use Rattle.shogi_moves.specs.Legal.{is_legal}
 use Rattle.shogi_moves.specs.LegalMoves.{legal_codes}
 use Rattle.shogi_moves.specs.Rising.{is_in}
+use Rattle.shogi_core.specs.Movement.{piece_at}
 use Rattle.shogi_moves.proofs.LegalLaws.{after_code_at, after_code_of, is_legal_code_of, legal_code_below, legal_in, legal_to_listed}
+use Rattle.shogi_replies.proofs.ReplyLaws.{reply_by}
 use Rattle.shogi_eval.specs.declared.eval.Eval.{Eval}
-use Rattle.shogi_eval.specs.Exchange.{leaf_after}
-use Rattle.shogi_eval.specs.Material.{material_of}
+use Rattle.shogi_eval.specs.declared.points.TheConstants.{POINTS_MAX}
+use Rattle.shogi_eval.specs.declared.eval.Eval.TheVariants.{Plain, Hand, Exchange}
+use Rattle.shogi_eval.specs.Exchange.{leaf_after, resolves_captures}
+use Rattle.shogi_eval.specs.Material.{material_of, promotion_gain, taken_gain}
+use Rattle.shogi_eval.proofs.Bounds.{material_bounds}
 use Rattle.shogi_eval.proofs.Gains.{gain_of}
-use Rattle.minimax.specs.Minimax.{ended, greatest_or, lost_value, value, worth}
+use Rattle.minimax.specs.Minimax.{ended, greatest_or, if_no_move_else, lost_value, value, worth}
 use Rattle.minimax.proofs.Greatest.{greatest_least}
 use Rattle.minimax.proofs.MinimaxLaws.{cut, ended_some, value-suc}
 use Rattle.minimax.proofs.Settling.{left_least}
 use Rattle.minimax.proofs.Valid.{board_of, drop_of}
-use Rattle.dull_moves.specs.Dull.{IsOnSquares}
-use Rattle.dull_moves.proofs.Materials.{material_after}
+use Rattle.dull_moves.specs.Dull.{IsOnSquares, IsWorthAtMost}
+use Rattle.dull_moves.proofs.Materials.{material_after, move_valid}
 use Rattle.dull_moves.proofs.Squares.{move_back}
 
--- two plies after a move are worth no more than one after a reply to it
-pub worth_by_reply : (p : Shogi) (e : Eval) (m r : Move) (t : ℤ) → IsOnSquares m → IsOnSquares r → is_legal (after p m) r ≡ true → value (after (after p m) r) e 1 ≤ℤ t → worth p e 2 (code_of m) ≤ℤ t
-worth_by_reply p e m r t on there l low =
-    let reply : worth (after p m) e 1 (code_of r) ≡ pos 0 -ℤ value (after (after p m) r) e 1 = ap (λ (q : Shogi). pos 0 -ℤ value q e 1) (after_code_of (after p m) r (move_back r there)) in
-    let enough : (pos 0 -ℤ t) ≤ℤ worth (after p m) e 1 (code_of r) = omega (arith, ints) in
-    let high : (pos 0 -ℤ t) ≤ℤ value (after p m) e 2 = cut (after p m) e 2 (code_of r) (pos 0 -ℤ t) (omega arith) (legal_to_listed (after p m) r (move_back r there) l) enough in
-    let here : worth p e 2 (code_of m) ≡ pos 0 -ℤ value (after p m) e 2 = ap (λ (q : Shogi). pos 0 -ℤ value q e 2) (after_code_of p m (move_back m on)) in
+-- the plies after a move are worth no more than those after a reply to it
+worth_by_reply : (p : Shogi) (e : Eval) (d : ℕ) (m r : Move) (t : ℤ) → IsOnSquares m → IsOnSquares r → is_legal (after p m) r ≡ true → value (after (after p m) r) e (suc d) ≤ℤ t → worth p e (suc (suc d)) (code_of m) ≤ℤ t
+worth_by_reply p e d m r t on there l low =
+    let reply : worth (after p m) e (suc d) (code_of r) ≡ pos 0 -ℤ value (after (after p m) r) e (suc d) = ap (λ (q : Shogi). pos 0 -ℤ value q e (suc d)) (after_code_of (after p m) r (move_back r there)) in
+    let enough : (pos 0 -ℤ t) ≤ℤ worth (after p m) e (suc d) (code_of r) = omega (arith, ints) in
+    let one : suc d ≡ suc (suc d) - 1 = omega arith in
+    let high : (pos 0 -ℤ t) ≤ℤ value (after p m) e (suc (suc d)) = cut (after p m) e (suc (suc d)) (code_of r) (pos 0 -ℤ t) (omega arith) (legal_to_listed (after p m) r (move_back r there) l) (subst (λ (n : ℕ). (pos 0 -ℤ t) ≤ℤ worth (after p m) e n (code_of r)) one enough) in
+    let here : worth p e (suc (suc d)) (code_of m) ≡ pos 0 -ℤ value (after p m) e (suc (suc d)) = ap (λ (q : Shogi). pos 0 -ℤ value q e (suc (suc d))) (after_code_of p m (move_back m on)) in
     omega (arith, ints)
 
--- ---- one ply is worth no more than its moves gain, where none mates
+-- ---- what is true of each legal move
 
 at_most : (otherwise : ℤ) (f : ℕ → ℤ) (codes : List ℕ) (t : ℤ) → otherwise ≤ℤ t → ((n : ℕ) → is_in n codes ≡ true → f n ≤ℤ t) → greatest_or otherwise f codes ≤ℤ t
 at_most otherwise f [] t low each = low
 at_most otherwise f (code ∷ codes) t low each = greatest_least f code codes t each
 
--- each legal move of the position gains so little, and the other side has a move after it
-pub record IsTame (q : Shogi) (e : Eval) (t : ℤ) : Type 0 where
-  pub gains : (c : Move) → IsOnSquares c → is_legal q c ≡ true → (material_of q e +ℤ gain_of q e c) ≤ℤ t
-  pub answered : (c : Move) → IsOnSquares c → is_legal q c ≡ true → legal_codes (after q c) ≢ []
+-- the value is no more than what each legal move is worth at most
+value_at_most : (q : Shogi) (e : Eval) (d : ℕ) (t : ℤ) → lost_value (suc d) ≤ℤ t → ((code : ℕ) (c : Move) → is_in code (legal_codes q) ≡ true → after_code q code ≡ after q c → IsOnSquares c → is_legal q c ≡ true → worth q e d code ≤ℤ t) → value q e (suc d) ≤ℤ t
+value_at_most q e d t low each = subst (λ (w : ℤ). w ≤ℤ t) (sym (value-suc q e d)) (at_most (lost_value (suc d)) (worth q e d) (legal_codes q) t low (λ code listed.
+    let below : code < MOVE_CODE_COUNT = legal_code_below q code (legal_in q 0 code listed) in
+    elim (cases_lt code FIRST_DROP) [
+      | inl board ↦ of_move code (Board (code / 2 / 81) (code / 2 % 81) (code % 2 == 1)) listed (board_of code board) (omega arith, omega arith)
+      | inr drop ↦ of_move code (Drop (kind_at ((code - FIRST_DROP) / 81)) ((code - FIRST_DROP) % 81)) listed (drop_of code drop below) (omega arith)
+    ]))
+  where
+    of_move : (code : ℕ) (c : Move) → is_in code (legal_codes q) ≡ true → move_of code ≡ Some c → IsOnSquares c → worth q e d code ≤ℤ t
+    of_move code c listed at on = each code c listed (after_code_at q code c at) on (sym (is_legal_code_of q code c at) ∙ legal_in q 0 code listed)
 
-worth_move : (q : Shogi) (e : Eval) (t : ℤ) (code : ℕ) (c : Move) → IsValid q → IsTame q e t → is_in code (legal_codes q) ≡ true → move_of code ≡ Some c → IsOnSquares c → worth q e 0 code ≤ℤ t
-worth_move q e t code c v tame listed at on =
-    let l : is_legal q c ≡ true = sym (is_legal_code_of q code c at) ∙ legal_in q 0 code listed in
-    let there : after_code q code ≡ after q c = after_code_at q code c at in
-    let some : legal_codes (after_code q code) ≢ [] = λ none. tame.answered c on l (ap legal_codes (sym there) ∙ none) in
+-- ---- one ply is worth no more than its moves gain, where none mates
+
+-- a move of a piece that stays as it is is legal
+abbrev pub HasBoardMove : Shogi → Type 0
+HasBoardMove q = ((from to : ℕ) → from < 81 → to < 81 → is_legal q (Board from to false) ≡ true → ⊥) → ⊥
+
+-- each legal move of the position gains so little, and the other side has a move on the board after it
+pub record IsTame (q : Shogi) (e : Eval) (t : ℤ) : Type 0 where
+  pub least : material_of q e ≤ℤ t
+  pub gains : (c : Move) → IsOnSquares c → is_legal q c ≡ true → (material_of q e +ℤ gain_of q e c) ≤ℤ t
+  pub answered : (c : Move) → IsOnSquares c → is_legal q c ≡ true → HasBoardMove (after q c)
+
+value_of_tame : (q : Shogi) (e : Eval) (t : ℤ) → IsValid q → lost_value 1 ≤ℤ t → IsTame q e t → value q e 1 ≤ℤ t
+value_of_tame q e t v low tame = value_at_most q e 0 t low (λ code c listed there on l.
+    let some : legal_codes (after_code q code) ≢ [] = λ none. tame.answered c on l (λ from to hf ht reply. reply_by (after q c) from to hf ht reply (ap legal_codes (sym there) ∙ none)) in
     let leaf : ended q e code ≡ leaf_after q e code = ended_some q e code some in
     let least : material_of (after_code q code) e ≤ℤ leaf_after q e code = left_least q e code in
     let same : material_of (after_code q code) e ≡ material_of (after q c) e = ap (λ (s : Shogi). material_of s e) there in
     let made : material_of (after q c) e ≡ pos 0 -ℤ (material_of q e +ℤ gain_of q e c) = material_after q e c v on l in
     let few : (material_of q e +ℤ gain_of q e c) ≤ℤ t = tame.gains c on l in
+    omega (arith, ints))
+
+-- ---- nor are two, if captures at the end are not settled: the other side's move on the board loses it nothing
+
+left_raw : (s : Shogi) (e : Eval) (code : ℕ) → resolves_captures e ≡ false → leaf_after s e code ≡ material_of (after_code s code) e
+left_raw s Plain code raw = refl
+left_raw s Hand code raw = refl
+left_raw s Exchange code raw = absurd (cc)
+
+ended_at_most : (s : Shogi) (e : Eval) (code : ℕ) (codes : List ℕ) (t : ℤ) → legal_codes (after_code s code) ≡ codes → lost_value 0 ≤ℤ t → leaf_after s e code ≤ℤ t → ended s e code ≤ℤ t
+ended_at_most s e code [] t at low leaf = subst (λ (w : ℤ). w ≤ℤ t) (sym (ap (if_no_move_else (lost_value 0) (leaf_after s e code)) at)) low
+ended_at_most s e code (next ∷ more) t at low leaf = subst (λ (w : ℤ). w ≤ℤ t) (sym (ap (if_no_move_else (lost_value 0) (leaf_after s e code)) at)) leaf
+
+-- a move on the board is worth no less than what its side has
+board_worth : (s : Shogi) (e : Eval) (from to : ℕ) → IsValid s → resolves_captures e ≡ false → from < 81 → to < 81 → is_legal s (Board from to false) ≡ true → material_of s e ≤ℤ worth s e 0 (code_of (Board from to false))
+board_worth s e from to v raw hf ht l =
+    let there : after_code s (code_of (Board from to false)) ≡ after s (Board from to false) = after_code_of s (Board from to false) (move_back (Board from to false) (hf, ht)) in
+    let same : material_of (after_code s (code_of (Board from to false))) e ≡ material_of (after s (Board from to false)) e = ap (λ (q : Shogi). material_of q e) there in
+    let made : material_of (after s (Board from to false)) e ≡ pos 0 -ℤ (material_of s e +ℤ pos (taken_gain e (piece_at s.cells to) + promotion_gain false (piece_at s.cells from))) = material_after s e (Board from to false) v (hf, ht) l in
+    let leaf : leaf_after s e (code_of (Board from to false)) ≡ material_of (after_code s (code_of (Board from to false))) e = left_raw s e (code_of (Board from to false)) raw in
+    let most : material_of s e ≤ℤ pos POINTS_MAX = (material_bounds s e v).1 in
+    let little : ended s e (code_of (Board from to false)) ≤ℤ (pos 0 -ℤ material_of s e) = ended_at_most s e (code_of (Board from to false)) (legal_codes (after_code s (code_of (Board from to false)))) (pos 0 -ℤ material_of s e) refl (omega (arith, ints)) (omega (arith, ints)) in
     omega (arith, ints)
 
-pub value_of_tame : (q : Shogi) (e : Eval) (t : ℤ) → IsValid q → lost_value 1 ≤ℤ t → IsTame q e t → value q e 1 ≤ℤ t
-value_of_tame q e t v low tame = subst (λ (w : ℤ). w ≤ℤ t) (sym (value-suc q e 0)) (at_most (lost_value 1) (worth q e 0) (legal_codes q) t low (λ code listed.
-    let below : code < MOVE_CODE_COUNT = legal_code_below q code (legal_in q 0 code listed) in
-    elim (cases_lt code FIRST_DROP) [
-      | inl board ↦ worth_move q e t code (Board (code / 2 / 81) (code / 2 % 81) (code % 2 == 1)) v tame listed (board_of code board) (omega arith, omega arith)
-      | inr drop ↦ worth_move q e t code (Drop (kind_at ((code - FIRST_DROP) / 81)) ((code - FIRST_DROP) % 81)) v tame listed (drop_of code drop below) (omega arith)
-    ]))
+-- so a side that has such a move is worth no less
+value_least : (s : Shogi) (e : Eval) → IsValid s → resolves_captures e ≡ false → HasBoardMove s → material_of s e ≤ℤ value s e 1
+value_least s e v raw has = by_lt_z (value s e 1) (material_of s e)
+    (λ less. absurd (has (λ from to hf ht l. (
+    let enough : material_of s e ≤ℤ value s e 1 = cut s e 1 (code_of (Board from to false)) (material_of s e) (omega arith) (legal_to_listed s (Board from to false) (move_back (Board from to false) (hf, ht)) l) (board_worth s e from to v raw hf ht l) in
+    omega (arith, ints)))))
+    (λ enough. enough)
+
+two_plies_of_tame : (q : Shogi) (e : Eval) (t : ℤ) → IsValid q → resolves_captures e ≡ false → IsTame q e t → value q e 2 ≤ℤ t
+two_plies_of_tame q e t v raw tame =
+    let bound : (pos 0 -ℤ pos POINTS_MAX) ≤ℤ material_of q e = (material_bounds q e v).0 in
+    let some : material_of q e ≤ℤ t = tame.least in
+    value_at_most q e 1 t (omega (arith, ints)) (λ code c listed there on l. (
+    let least : material_of (after q c) e ≤ℤ value (after q c) e 1 = value_least (after q c) e (move_valid q c v on l) raw (tame.answered c on l) in
+    let same : value (after_code q code) e 1 ≡ value (after q c) e 1 = ap (λ (s : Shogi). value s e 1) there in
+    let made : material_of (after q c) e ≡ pos 0 -ℤ (material_of q e +ℤ gain_of q e c) = material_after q e c v on l in
+    let few : (material_of q e +ℤ gain_of q e c) ≤ℤ t = tame.gains c on l in
+    omega (arith, ints)))
+
+-- ---- what a move is worth after which a reply leaves so little
+
+-- the position is worth at most so much with a ply left, and with two if captures are not settled
+abbrev pub AreAtMost : Shogi → Eval → ℤ → Type 0
+AreAtMost q e t = (value q e 1 ≤ℤ t) × (resolves_captures e ≡ false → value q e 2 ≤ℤ t)
+
+pub tame_at_most : (q : Shogi) (e : Eval) (t : ℤ) → IsValid q → lost_value 1 ≤ℤ t → IsTame q e t → AreAtMost q e t
+tame_at_most q e t v low tame = (value_of_tame q e t v low tame, λ raw. two_plies_of_tame q e t v raw tame)
+
+pub reply_at_most : (p : Shogi) (e : Eval) (m r : Move) (t : ℤ) → IsOnSquares m → IsOnSquares r → is_legal (after p m) r ≡ true → AreAtMost (after (after p m) r) e t → IsWorthAtMost p e t m
+reply_at_most p e m r t on there l low = (worth_by_reply p e 0 m r t on there l low.0, λ raw. worth_by_reply p e 1 m r t on there l (low.1 raw))

@@ -1,4 +1,4 @@
--- Drops and quiet moves three plies before the end that change nothing of what one reply refutes (own choice).
+-- Drops and quiet moves three or four plies before the end that change nothing of what one reply refutes (own choice).
 use Rattle.std.specs.Prelude.{ℕ, ◌≡◌, ◌≢◌, ◌⊎◌, ◌<◌, ◌≤◌, ◌≤ℤ◌, ◌+◌, ℤ, Bool, true, false, Option, None, Some, length, slice_set}
 use Rattle.shogi_core.specs.declared.moves.Move.{Move}
 use Rattle.shogi_core.specs.declared.moves.Move.TheVariants.{Board, Drop}
@@ -20,6 +20,7 @@ use Rattle.shogi_moves.specs.Escapes.{IsEscape}
 use Rattle.shogi_moves.specs.Legal.{is_legal, is_pawn_drop}
 use Rattle.shogi_replies.specs.ReplyInfo.{IsHarmless, is_quiet_step}
 use Rattle.shogi_eval.specs.declared.eval.Eval.{Eval}
+use Rattle.shogi_eval.specs.Exchange.{resolves_captures}
 use Rattle.shogi_eval.specs.Material.{promotion_gain, taken_gain}
 use Rattle.minimax.specs.Minimax.{worth}
 use Rattle.shogi_core.specs.declared.piece.Kind.TheVariants as kinds
@@ -233,17 +234,21 @@ abbrev pub AreIdle : Shogi → Eval → ℕ → ℕ → ℕ → Option Piece →
 AreIdle q e gains king squares cell set =
     (n : ℕ) → n < 81 → has_bit set n ≡ true → IsIdle q e gains king squares cell n
 
--- no legal drop of the kind on the squares is worth more than so much, with three plies left
+-- the move is worth no more than so much with three plies left, and with four if the evaluation settles no captures
+abbrev pub IsWorthAtMost : Shogi → Eval → ℤ → Move → Type 0
+IsWorthAtMost p e most m = (worth p e 2 (code_of m) ≤ℤ most)
+    × (resolves_captures e ≡ false → worth p e 3 (code_of m) ≤ℤ most)
+
+-- no legal drop of the kind on the squares is worth more than that
 abbrev pub DropsAreWorthAtMost : Shogi → Eval → ℤ → Kind → ℕ → Type 0
 DropsAreWorthAtMost p e most kind squares = (to : ℕ) → to < 81 → has_bit squares to ≡ true
-    → is_legal p (Drop kind to) ≡ true → worth p e 2 (code_of (Drop kind to)) ≤ℤ most
+    → is_legal p (Drop kind to) ≡ true → IsWorthAtMost p e most (Drop kind to)
 
 -- no legal move of the pieces to the ends is that takes nothing and does not promote
 abbrev pub QuietsAreWorthAtMost : Shogi → Eval → ℤ → ℕ → ℕ → Type 0
 QuietsAreWorthAtMost p e most pieces ends = (from to : ℕ) → from < 81 → to < 81
     → has_bit pieces from ≡ true → has_bit ends to ≡ true → piece_at p.cells to ≡ None
-    → is_legal p (Board from to false) ≡ true
-    → worth p e 2 (code_of (Board from to false)) ≤ℤ most
+    → is_legal p (Board from to false) ≡ true → IsWorthAtMost p e most (Board from to false)
 
 -- the move takes nothing and does not promote
 abbrev pub IsQuietMove : Shogi → Move → Type 0
@@ -266,7 +271,7 @@ IsAmong d (Board from to promote) =
     (has_bit d.pieces.bits from ≡ true) × (has_bit d.ends.bits to ≡ true)
 IsAmong d (Drop kind to) = has_bit (drops_of d.drops kind).bits to ≡ true
 
--- no legal quiet move that is one of these is worth more than so much, with three plies left
+-- no legal quiet move that is one of these is worth more than that
 abbrev pub AreDull : Shogi → Eval → DullMoves → Type 0
 AreDull p e d = (m : Move) → IsOnSquares m → IsAmong d m → IsQuietMove p m
-    → is_legal p m ≡ true → worth p e 2 (code_of m) ≤ℤ d.most
+    → is_legal p m ≡ true → IsWorthAtMost p e d.most m

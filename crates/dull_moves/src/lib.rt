@@ -1,4 +1,4 @@
-//! Moves three plies before the end that one reply refutes, found by squares alone.
+//! Moves three or four plies before the end that one reply refutes, found by squares alone.
 //!
 //! Let a reply be legal after a pass, let its other side then gain no more than so much by any move,
 //! and let the king that it defends keep a square to go to after each check. A drop that touches nothing

@@ -44,8 +44,9 @@ impl DropSquares {
     }
 }
 
-/// Moves none of which is worth more than so much, with three plies left: drops on squares for their
-/// kind, and moves of these pieces to these ends that take nothing and do not promote.
+/// Moves none of which is worth more than so much with three plies left, nor with four if the evaluation
+/// settles no captures: drops on squares for their kind, and moves of these pieces to these ends that
+/// take nothing and do not promote.
 #[derive(Clone, Copy, Debug)]
 pub struct DullMoves {
     pub most: i32,
