@@ -46,9 +46,9 @@ snipes_more cells color left next found king more s h crown bits shots = record 
   ];
 }
 
-pub snipes_last : (cells : Cells) (color : Color) (left found n : ℕ) → HasNone left → Snipes cells color left found → n < 81 → has_bit found n ≡ is_sniping cells color n
+pub snipes_last : (cells : Cells) (color : Color) (left found n : ℕ) → Snipes cells color left found → HasNone left → n < 81 → has_bit found n ≡ is_sniping cells color n
 unfolding is_sniping
-snipes_last cells color left found n none s h = same_test (has_bit found n) (some_below 81 (is_sniper_of_king cells color n)) (s.sound n h) (λ e. (
+snipes_last cells color left found n s none h = same_test (has_bit found n) (some_below 81 (is_sniper_of_king cells color n)) (s.sound n h) (λ e. (
     let which = some_below_which 81 (is_sniper_of_king cells color n) e in
     let parts : (is_king color (piece_at cells which.0) ≡ true) × (is_sniper cells (opponent_of color) which.0 n ≡ true) = and_parts _ _ which.2 in
     s.all which.0 n which.1 h parts.0 (none which.0) parts.1))
