@@ -14,7 +14,8 @@ use Rattle.shogi_core.specs.Cell.{is_king}
 use Rattle.shogi_core.specs.Lines.{back}
 use Rattle.shogi_core.specs.Movement.{Cells, piece_at, cell_reaches, has_step, has_slide, leads, slides, for_side, steps_of, slides_of}
 use Rattle.shogi_core.specs.Pieces.{opponent_of}
-use Rattle.shogi_core.proofs.BitLaws.{has_bit-and, has_bit-none, has_bit-or}
+use Rattle.shogi_core.specs.Sets.{HasNone}
+use Rattle.shogi_core.proofs.BitLaws.{has_bit-and, has_bit-or}
 use Rattle.shogi_core.proofs.Discovered.{same_way, same_way_is, list_any_kept}
 use Rattle.shogi_core.proofs.SeenLaws.{leads_back, slides_back}
 use Rattle.shogi_replies.specs.ReplyInfo.{IsHarmless, Sees}
@@ -83,8 +84,8 @@ checks_more cells side piece left next checks king squares c bits s = record {
       ]);
 }
 
-pub checks_done : (cells : Cells) (side : Color) (cell : Option Piece) (checks : ℕ) → ChecksWithin cells side cell 0 checks → (n : ℕ) → n < 81 → has_bit checks n ≡ false → IsHarmless cells side cell n
-checks_done cells side cell checks c n h out = λ k l king. c.harmless k n l h king (has_bit-none k) out
+pub checks_done : (cells : Cells) (side : Color) (cell : Option Piece) (left checks : ℕ) → HasNone left → ChecksWithin cells side cell left checks → (n : ℕ) → n < 81 → has_bit checks n ≡ false → IsHarmless cells side cell n
+checks_done cells side cell left checks none c n h out = λ k l king. c.harmless k n l h king (none k) out
 
 -- ---- squares on which a piece may give check
 

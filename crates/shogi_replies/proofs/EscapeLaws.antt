@@ -1,42 +1,43 @@
 -- A king that is given check may go to a square that stays out of reach.
-use Rattle.std.proofs.Common.{◌≡◌, ◌≢◌, ◌⊎◌, ℕ, ◌+◌, ◌-◌, ◌^◌, ◌<◌, Bool, true, false, not, Option, Some, None, List, [], ◌∷◌, refl, sym, ap, subst, ◌∙◌, arith, inl, inr, set, length, length-set, get_or-set_same, get_or-set_other, bit_and, bit_or}
-use Rattle.std.specs.Prelude.{◌&&◌, ◌==◌, is_none}
+use Rattle.std.proofs.Common.{◌≡◌, ◌≢◌, ◌⊎◌, ℕ, ◌+◌, ◌<◌, Bool, true, false, not, Option, Some, None, List, [], ◌∷◌, refl, sym, ap, subst, ◌∙◌, arith, inl, inr, set, length, length-set, get_or-set_same, get_or-set_other, bit_and, bit_or}
+use Rattle.std.specs.Prelude.{◌==◌, ◌||◌, is_none}
 use Rattle.std.specs.List.{list_any, list_all}
-use Rattle.std.proofs.lemmas.Bool.{cases_eq, false_from_ne_true, true_from_ne_false, both_ways, and_parts, and_from, or_parts, or_cases, or_left, or_right, not-true, ne_eqb}
+use Rattle.std.proofs.lemmas.Bool.{cases_eq, false_from_ne_true, true_from_ne_false, both_ways, and_parts, and_from, or_parts, or_cases, or_left, or_right, eqb-true}
 use Rattle.shogi_core.specs.declared.moves.Move.TheVariants.{Board, Drop}
 use Rattle.shogi_core.specs.declared.offset.Offset.{Offset}
 use Rattle.shogi_core.specs.declared.piece.Color.{Color}
 use Rattle.shogi_core.specs.declared.piece.Kind.{Kind}
 use Rattle.shogi_core.specs.declared.piece.Piece.{Piece}
-use Rattle.shogi_core.specs.Attack.{is_attacked, is_sniper}
+use Rattle.shogi_core.specs.Attack.{is_sniper}
 use Rattle.shogi_core.specs.Bits.{has_bit}
 use Rattle.shogi_core.specs.Cell.{is_piece_of, is_king, is_slider, HasNoOtherKing}
 use Rattle.shogi_core.specs.Lines.{are_aligned, are_lined, around}
-use Rattle.shogi_core.specs.Movement.{Cells, piece_at, reaches, cell_reaches, has_step, has_slide, is_slide, slides, slides_of, for_side}
+use Rattle.shogi_core.specs.Movement.{Cells, piece_at, cell_reaches, has_step, has_slide, is_slide, slides, slides_of, for_side}
 use Rattle.shogi_core.specs.Pieces.{opponent_of}
 use Rattle.shogi_core.specs.Position.{Shogi, HandCounts}
+use Rattle.shogi_core.specs.Sets.{TakesLowest}
 use Rattle.shogi_core.specs.Rays.{direction_at, is_on_ray, ray_of}
 use Rattle.shogi_core.specs.Validity.{IsValid}
 use Rattle.shogi_core.proofs.BitLaws.{has_bit-and, has_bit-none, has_bit-or}
 use Rattle.shogi_core.proofs.CodesBack.{move_of-board}
 use Rattle.shogi_core.proofs.RayLaws.{slides_bare}
 use Rattle.shogi_core.proofs.SliderAttacks.{direction_of}
-use Rattle.shogi_core.proofs.Discovered.{attacked_was_but, reach_was, same_way, same_way_is, slides_around, slides_was}
-use Rattle.shogi_core.proofs.LineBits.{has_bit-not, has_bit-ray}
+use Rattle.shogi_core.proofs.Discovered.{same_way, same_way_is, slides_around, slides_was}
+use Rattle.shogi_core.proofs.LineBits.{has_bit-ray}
 use Rattle.shogi_core.proofs.SeenLaws.{lined_aligned, lined_back, slide_seen}
 use Rattle.shogi_moves.specs.After.{after, cells_after, piece_moved, dropped}
 use Rattle.shogi_moves.specs.Escapes.{IsEscape, HasOpenEscape}
 use Rattle.shogi_replies.specs.Escapes.{HasRaysBehind, ReachesWithin}
 use Rattle.shogi_moves.specs.Legal.{is_legal}
 use Rattle.shogi_moves.specs.LegalMoves.{legal_codes}
-use Rattle.shogi_moves.proofs.CheckInfoLaws.{look, other_side, is_piece_of-piece_moved, dropped_of, king_set}
+use Rattle.shogi_moves.proofs.CheckInfoLaws.{look, other_side, is_piece_of-piece_moved, dropped_of}
 use Rattle.shogi_moves.proofs.KingLaws.{king_own}
 use Rattle.shogi_moves.proofs.MovedPieces.{opponent_twice}
-use Rattle.shogi_moves.proofs.DestinationLaws.{legal_board}
 use Rattle.shogi_moves.proofs.DropChecks as drops
-use Rattle.shogi_moves.proofs.EscapeLaws.{crowned, kept, king_reach, opened, still_out}
+use Rattle.shogi_moves.proofs.EscapeLaws.{kept, opened, still_out}
 use Rattle.shogi_replies.specs.ReplyInfo.{quiet_codes}
-use Rattle.shogi_replies.proofs.ReplyLaws.{king_lives, left_board, left_drop, legal_own, reply_by, right_step, some_quiet}
+use Rattle.shogi_replies.proofs.KingGoes.{king_goes}
+use Rattle.shogi_replies.proofs.ReplyLaws.{left_board, left_drop, legal_own, reply_by, some_quiet}
 use Rattle.shogi_replies.proofs.SlideOrigins.{attacked_from_origin}
 
 -- ---- what was left is on no line with a piece that slides
@@ -72,53 +73,6 @@ module _ (p : Shogi) (new : Cells) (hands : HandCounts) (Left : ℕ → Type 0) 
   pub escaped_covered : legal_codes (record { cells = new; hands = hands; side = opponent_of p.side }) ≢ []
   escaped_covered = still_out p new hands Left to cell old_len len mine see k e hk he crown stays elsewhere escape (attacked_from_origin (set p.cells k None) (set new k None) Left (opened p new hands Left to cell old_len len mine see k e hk he crown stays elsewhere escape) (opponent_of (opponent_of p.side)) no_sniper e (kept p new hands Left to cell old_len len mine see k e hk he crown stays elsewhere escape short) escape.safe)
 
--- ---- what was left is on no open line with the square to which the king goes
-
-module _ (p : Shogi) (new : Cells) (hands : HandCounts) (Left : ℕ → Type 0) (to : ℕ) (cell : Option Piece) (old_len : length p.cells ≡ 81) (len : length new ≡ 81) (mine : is_piece_of p.side cell ≡ true)
-    (see : (x : ℕ) → ((x ≡ to) × (piece_at new x ≡ cell)) ⊎ ((Left x × (piece_at new x ≡ None)) ⊎ (piece_at new x ≡ piece_at p.cells x)))
-    (k e : ℕ) (hk : k < 81) (he : e < 81) (crown : is_king (opponent_of p.side) (piece_at p.cells k) ≡ true) (stays : Left k → ⊥) (elsewhere : (k ≢ to) × (e ≢ to)) (escape : IsEscape p.cells (opponent_of p.side) k e)
-    (short : cell_reaches (set p.cells k None) cell to e ≡ false) (free : (x : ℕ) → Left x → are_lined (set p.cells k None) x e ≡ false) where
-  king_there : piece_at new k ≡ piece_at p.cells k
-  king_there = elim (see k) [
-    | inl at ↦ absurd (elsewhere.0 at.0)
-    | inr rest ↦ elim rest [ inl gone ↦ absurd (stays gone.0) | inr same ↦ same ]
-  ]
-
-  crown_there : is_king (opponent_of p.side) (piece_at new k) ≡ true
-  crown_there = ap (is_king (opponent_of p.side)) king_there ∙ crown
-
-  own_there : is_piece_of (opponent_of p.side) (piece_at new k) ≡ true
-  own_there = king_own (opponent_of p.side) (piece_at new k) crown_there
-
-  lone_there : (x : ℕ) → x < 81 → x ≢ k → is_king (opponent_of p.side) (piece_at new x) ≡ false
-  lone_there x h other = elim (see x) [
-    | inl at ↦ ap (is_king (opponent_of p.side)) at.1 ∙ crowned (opponent_of p.side) cell (other_side p.side cell mine)
-    | inr rest ↦ elim rest [ inl gone ↦ ap (is_king (opponent_of p.side)) gone.1 | inr same ↦ ap (is_king (opponent_of p.side)) same ∙ escape.step.lone x h other ]
-  ]
-
-  open_there : is_piece_of (opponent_of p.side) (piece_at new e) ≡ false
-  open_there = elim (see e) [
-    | inl at ↦ absurd (elsewhere.1 at.0)
-    | inr rest ↦ elim rest [ inl gone ↦ ap (is_piece_of (opponent_of p.side)) gone.1 | inr same ↦ ap (is_piece_of (opponent_of p.side)) same ∙ escape.step.open_end ]
-  ]
-
-  reached_there : reaches new k e ≡ true
-  unfolding reaches
-  reached_there = ap (λ (x : Option Piece). cell_reaches new x k e) king_there ∙ king_reach p.cells new (opponent_of p.side) (piece_at p.cells k) k e crown escape.step.reached
-
-  unattacked_there : is_attacked (set new k None) (opponent_of (opponent_of p.side)) e ≡ false
-  unattacked_there =
-      attacked_was_but (set p.cells k None) (set new k None) Left (opened p new hands Left to cell old_len len mine see k e hk he crown stays elsewhere escape) (opponent_of (opponent_of p.side)) e
-      (kept p new hands Left to cell old_len len mine see k e hk he crown stays elsewhere escape
-      (false_from_ne_true (cell_reaches (set new k None) cell to e) (λ r. both_ways (cell_reaches (set p.cells k None) cell to e) short (reach_was (set p.cells k None) (set new k None) Left (opened p new hands Left to cell old_len len mine see k e hk he crown stays elsewhere escape) cell to e free r))))
-      free escape.safe
-
-  pub king_steps : is_legal (record { cells = new; hands = hands; side = opponent_of p.side }) (Board k e false) ≡ true
-  king_steps =
-      legal_board (record { cells = new; hands = hands; side = opponent_of p.side }) k e false
-      ∙ and_from _ _ (right_step new (opponent_of p.side) k e own_there open_there reached_there (king_lives (opponent_of p.side) (piece_at new k) e crown_there))
-      (ap not (king_set new (opponent_of p.side) k e (piece_moved false (piece_at new k)) len hk he (is_piece_of-piece_moved (opponent_of p.side) false (piece_at new k) ∙ own_there) lone_there unattacked_there))
-
 -- ---- after a move on the board, and after a drop
 
 step_board : (p : Shogi) (from to closed reach lines : ℕ) (promote : Bool) → IsValid p → from < 81 → to < 81 → is_legal p (Board from to promote) ≡ true → (h : HasOpenEscape p closed to) → has_bit reach h.end ≡ false → has_bit lines h.end ≡ false
@@ -126,24 +80,24 @@ step_board : (p : Shogi) (from to closed reach lines : ℕ) (promote : Bool) →
 step_board p from to closed reach lines promote v hf ht legal h short off far bits =
     let own : is_piece_of p.side (piece_at p.cells from) ≡ true = legal_own p from to promote legal in
     let apart : are_aligned from h.end ≡ false = sym (bits h.end h.on_board.1) ∙ off in
-    king_steps p (cells_after p.cells p.side (Board from to promote)) (after p (Board from to promote)).hands (λ x. x ≡ from) to (piece_moved promote (piece_at p.cells from)) v.cells_fit
+    king_goes p.cells (cells_after p.cells p.side (Board from to promote)) (after p (Board from to promote)).hands p.side (λ x. x ≡ from) to (piece_moved promote (piece_at p.cells from))
     (length-set (set p.cells from None) to (piece_moved promote (piece_at p.cells from)) ∙ (length-set p.cells from None ∙ v.cells_fit))
     (is_piece_of-piece_moved p.side promote (piece_at p.cells from) ∙ own)
     (look p.cells p.side from to (piece_moved promote (piece_at p.cells from)) v.cells_fit hf ht)
     h.king_on h.end h.on_board.0 h.on_board.1 h.king
     (λ at. both_ways (is_piece_of (opponent_of p.side) (piece_at p.cells from)) (other_side p.side (piece_at p.cells from) own) (subst (λ (x : ℕ). is_piece_of (opponent_of p.side) (piece_at p.cells x) ≡ true) at (king_own (opponent_of p.side) (piece_at p.cells h.king_on) h.king)))
-    h.elsewhere h.escape (far h.king_on h.end h.on_board.0 h.on_board.1 h.king h.escape.step.lone short)
+    h.elsewhere.0 h.escape (far h.king_on h.end h.on_board.0 h.on_board.1 h.king h.escape.step.lone short)
     (λ x at. subst (λ (y : ℕ). are_lined (set p.cells h.king_on None) y h.end ≡ false) (sym at) (false_from_ne_true (are_lined (set p.cells h.king_on None) from h.end) (λ l. both_ways (are_aligned from h.end) apart (lined_aligned (set p.cells h.king_on None) from h.end l))))
 
 step_drop : (p : Shogi) (kind : Kind) (to closed reach : ℕ) → IsValid p → to < 81 → (h : HasOpenEscape p closed to) → has_bit reach h.end ≡ false
     → ReachesWithin p (dropped p.side kind) to reach → is_legal (after p (Drop kind to)) (Board h.king_on h.end false) ≡ true
 step_drop p kind to closed reach v ht h short far =
-    king_steps p (cells_after p.cells p.side (Drop kind to)) (after p (Drop kind to)).hands (λ x. ⊥) to (dropped p.side kind) v.cells_fit
+    king_goes p.cells (cells_after p.cells p.side (Drop kind to)) (after p (Drop kind to)).hands p.side (λ x. ⊥) to (dropped p.side kind)
     (length-set p.cells to (dropped p.side kind) ∙ v.cells_fit)
     (dropped_of p.side kind)
     (λ x. elim (drops.look p.cells p.side kind to v.cells_fit ht x) [ inl there ↦ inl there | inr same ↦ inr (inr same) ])
     h.king_on h.end h.on_board.0 h.on_board.1 h.king (λ left. absurd left)
-    h.elsewhere h.escape (far h.king_on h.end h.on_board.0 h.on_board.1 h.king h.escape.step.lone short) (λ x left. absurd left)
+    h.elsewhere.0 h.escape (far h.king_on h.end h.on_board.0 h.on_board.1 h.king h.escape.step.lone short) (λ x left. absurd left)
 
 -- a square in neither of two sets
 off_both : (a b both n : ℕ) → both ≡ bit_or a b → has_bit both n ≡ false → (has_bit a n ≡ false) × (has_bit b n ≡ false)
@@ -243,38 +197,41 @@ more_rays from over limit behind before d h n hn one other =
       | inr earlier ↦ or_left _ (has_bit more n) (before d (omega (arith, h, earlier)) n hn one other)
     ]
 
--- ---- squares are tried one by one
+-- ---- squares are gathered one by one
 
--- each of the squares is still to be tried or passes
-pub record PassesTried (squares left : ℕ) (fact : ℕ → Type 0) : Type 0 where
-  pub passed : (n : ℕ) → n < 81 → has_bit squares n ≡ true → (has_bit left n ≡ true) ⊎ fact n
+-- what is left and what was found are some of the squares, and the fact holds of each that was found
+pub record Gathers (squares left found : ℕ) (fact : ℕ → Type 0) : Type 0 where
+  pub within : (n : ℕ) → has_bit left n ≡ true → has_bit squares n ≡ true
+  pub among : (n : ℕ) → has_bit found n ≡ true → has_bit squares n ≡ true
+  pub facts : (n : ℕ) → n < 81 → has_bit found n ≡ true → fact n
 
-pub tried_first : (squares : ℕ) (fact : ℕ → Type 0) → PassesTried squares squares fact
-tried_first squares fact = record { passed = λ n h e. inl e }
+pub gathers_first : (squares : ℕ) (fact : ℕ → Type 0) → Gathers squares squares 0 fact
+gathers_first squares fact = record {
+  within = λ n e. e;
+  among = λ n e. absurd (both_ways (has_bit 0 n) (has_bit-none n) e);
+  facts = λ n h e. absurd (both_ways (has_bit 0 n) (has_bit-none n) e);
+}
 
--- the next one passes
-pub tried_next : (squares left next to : ℕ) (fact : ℕ → Type 0) → PassesTried squares left fact → ((i : ℕ) → has_bit next i ≡ (has_bit left i && not (i == to))) → fact to → PassesTried squares next fact
-tried_next squares left next to fact t bits found = record {
-  passed = λ n h e. elim (t.passed n h e) [
-    | inl still ↦ elim (cases_eq n to) [
-      | inl here ↦ inr (subst fact (sym here) found)
-      | inr other ↦ inl (bits n ∙ and_from _ _ still (ap not (ne_eqb n to other)))
-    ]
-    | inr done ↦ inr done
+-- the next one is passed
+pub gathers_less : (squares left next found to : ℕ) (fact : ℕ → Type 0) → Gathers squares left found fact → TakesLowest to left next → Gathers squares next found fact
+gathers_less squares left next found to fact g took = record {
+  within = λ n e. g.within n (and_parts (has_bit left n) (not (n == to)) (sym (took.rest n) ∙ e)).0;
+  among = g.among;
+  facts = g.facts;
+}
+
+-- or it is found
+pub gathers_more : (squares left next found more to : ℕ) (fact : ℕ → Type 0) → Gathers squares left found fact → TakesLowest to left next → ((n : ℕ) → has_bit more n ≡ (has_bit found n || n == to)) → fact to → Gathers squares next more fact
+gathers_more squares left next found more to fact g took bits holds = record {
+  within = (gathers_less squares left next found to fact g took).within;
+  among = λ n e. elim (or_cases (has_bit found n) (n == to) (sym (bits n) ∙ e)) [
+    | inl before ↦ g.among n before
+    | inr now ↦ subst (λ (x : ℕ). has_bit squares x ≡ true) (sym (eqb-true n to now)) (g.within to took.set)
+  ];
+  facts = λ n h e. elim (or_cases (has_bit found n) (n == to) (sym (bits n) ∙ e)) [
+    | inl before ↦ g.facts n h before
+    | inr now ↦ subst fact (sym (eqb-true n to now)) holds
   ];
 }
 
-pub tried_done : (squares left : ℕ) (fact : ℕ → Type 0) → PassesTried squares left fact → left ≡ 0 → (n : ℕ) → n < 81 → has_bit squares n ≡ true → fact n
-tried_done squares left fact t none n h e = elim (t.passed n h e) [
-  | inl still ↦ absurd (both_ways (has_bit left n) (ap (λ (m : ℕ). has_bit m n) none ∙ has_bit-none n) still)
-  | inr done ↦ done
-]
-
--- up to one that does not
-pub tried_before : (squares left : ℕ) (fact : ℕ → Type 0) → PassesTried squares left fact → left < 2 ^ 81 → (n : ℕ) → n < 81 → has_bit (bit_and squares (2 ^ 128 - 1 - left)) n ≡ true → fact n
-tried_before squares left fact t fits n h e =
-    let both : (has_bit squares n ≡ true) × (has_bit (2 ^ 128 - 1 - left) n ≡ true) = and_parts _ _ (sym (has_bit-and squares (2 ^ 128 - 1 - left) n) ∙ e) in
-    elim (t.passed n h both.0) [
-      | inl still ↦ absurd (both_ways (has_bit left n) (not-true _ (sym (has_bit-not left n (omega (arith, fits)) (omega arith)) ∙ both.1)) still)
-      | inr done ↦ done
-    ]
+pub ruleset gathering = (gathers_first, gathers_less, gathers_more)

@@ -3,6 +3,7 @@ pub mod DiscoverLaws
 pub mod CheckLaws
 pub mod FarLaws
 pub mod SlideOrigins
+pub mod KingGoes
 pub mod EscapeLaws
 pub mod KingReplies
 pub mod PinLaws

@@ -11,6 +11,7 @@ use Rattle.shogi_core.specs.Cell.{is_piece_of, is_king, is_slider, HasNoOtherKin
 use Rattle.shogi_core.specs.Lines.{back, are_aligned}
 use Rattle.shogi_core.specs.Movement.{Cells, slides, for_side, has_slide, has_step, cell_reaches, reaches, piece_at, slides_of}
 use Rattle.shogi_core.specs.Pieces.{opponent_of}
+use Rattle.shogi_core.specs.Sets.{HasNone}
 use Rattle.shogi_core.specs.Rays.{direction_at, is_on_ray, ray_of}
 use Rattle.shogi_core.proofs.Back.{back_twice}
 use Rattle.shogi_core.proofs.Below.{some_below_at, some_below_no}
@@ -71,7 +72,10 @@ off_pins cells side king index squares at lone h = λ a ha out k x d hk hx hd e 
       | inl same ↦ both_ways (has_bit squares a) out (h x hx (subst (λ (j : ℕ). is_sniper cells (opponent_of side) j x ≡ true) same parts.1) (has_bit-none x) d a hd ha (subst (λ (j : ℕ). is_on_ray (direction_at d) j a ≡ true) same on) beyond)
     ]))
 
-pub ruleset before_snipers = (before_first)
+pub before_all : (cells : Cells) (side : Color) (king left squares : ℕ) → HasNone left → HasBeforeSnipers cells side king left squares → HasBeforeSnipers cells side king 0 squares
+before_all cells side king left squares none h = λ x hx is _. h x hx is (none x)
+
+pub ruleset before_snipers = (before_first, before_all)
 
 -- ---- one square is left
 

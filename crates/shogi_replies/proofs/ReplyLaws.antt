@@ -21,13 +21,14 @@ use Rattle.shogi_core.specs.Lines.{are_aligned, are_lined, is_jump, is_line_to_k
 use Rattle.shogi_core.specs.Movement.{Cells, piece_at, reaches, cell_reaches, has_step, has_slide}
 use Rattle.shogi_core.specs.Pieces.{is_same_color, opponent_of, kind_of, kind_number, promoted}
 use Rattle.shogi_core.specs.Position.{Shogi, HandCounts, count_in_hand, place_of}
+use Rattle.shogi_core.specs.Sets.{HasNone, TakesLowest}
 use Rattle.shogi_core.specs.Validity.{IsValid}
 use Rattle.shogi_core.proofs.Below.{some_below_no, some_below_not, some_below_at}
 use Rattle.shogi_core.proofs.BitLaws.{has_bit-and, has_bit-or, has_bit-none}
 use Rattle.shogi_core.proofs.CodesBack.{move_of-board, move_of-drop}
 use Rattle.shogi_core.proofs.Discovered.{some_below_which, reach_was}
 use Rattle.shogi_core.proofs.Faults.{faultless_from, number_below}
-use Rattle.shogi_core.proofs.LineBits.{lowest_set, and_fits, has_bit-not}
+use Rattle.shogi_core.proofs.LineBits.{lowest_set, has_bit-not}
 use Rattle.shogi_core.proofs.Replies.{no_check}
 use Rattle.shogi_core.proofs.SeenLaws.{lined_back, lined_aligned, cell_seen, slide_seen}
 use Rattle.shogi_core.proofs.Snipers.{left_unpinned, stands_still}
@@ -104,7 +105,10 @@ sees_more cells side left next king_view king squares h bits seen = record {
   ];
 }
 
-pub ruleset seeing = (sees_first)
+pub sees_done : (cells : Cells) (side : Color) (left king_view : ℕ) → HasNone left → Sees cells side left king_view → Sees cells side 0 king_view
+sees_done cells side left king_view none s = record { kings = s.kings; squares = λ k n h l e _ on. s.squares k n h l e (none k) on }
+
+pub ruleset seeing = (sees_first, sees_done)
 
 -- ---- the lines of a king
 
@@ -124,7 +128,10 @@ aligns_more cells side left next lines king squares h bits on_line = record {
   ];
 }
 
-pub ruleset aligning = (aligns_first)
+pub aligns_done : (cells : Cells) (side : Color) (left lines : ℕ) → HasNone left → Aligns cells side left lines → Aligns cells side 0 lines
+aligns_done cells side left lines none s = record { kings = s.kings; squares = λ k n h l e _ on. s.squares k n h l e (none k) on }
+
+pub ruleset aligning = (aligns_first, aligns_done)
 
 -- a square on no line with a king
 pub unaligned : (cells : Cells) (side : Color) (lines n : ℕ) → Aligns cells side 0 lines → n < 81 → has_bit lines n ≡ false → is_aligned_with_king cells side n ≡ false
@@ -291,30 +298,42 @@ pub record LeavesStanding (old new : Cells) (color : Color) (to : ℕ) : Type 0 
   pub clear : (t : ℕ) → is_piece_of color (piece_at old t) ≡ false → is_piece_of color (piece_at new t) ≡ false
   pub empty : (x : ℕ) → is_none (piece_at old x) ≡ true → x ≢ to → is_none (piece_at new x) ≡ true
 
+-- what a quiet step is
+pub step_parts : (cells : Cells) (a t : ℕ) → is_quiet_step cells a t ≡ true → (cell_steps (piece_at cells a) a t ≡ true) × (is_none (piece_at cells t) ≡ true) × (is_immobile t (piece_at cells a) ≡ false)
+step_parts cells a t e =
+    let two = and_parts (cell_steps (piece_at cells a) a t && is_none (piece_at cells t)) (not (is_immobile t (piece_at cells a))) e in
+    let one : (cell_steps (piece_at cells a) a t ≡ true) × (is_none (piece_at cells t) ≡ true) = and_parts (cell_steps (piece_at cells a) a t) (is_none (piece_at cells t)) two.0 in
+    (one.0, one.1, not-true _ two.1)
+
 module _ (old new : Cells) (hands : HandCounts) (color : Color) where
+  -- a move that ends elsewhere and gives no check leaves such a step legal
+  pub legal_step : (to a t : ℕ) → LeavesStanding old new color to → in_check new color ≡ false → a < 81 → t < 81 → a ≢ to → t ≢ to → is_unbound old color a ≡ true → is_quiet_step old a t ≡ true → is_legal (record { cells = new; hands = hands; side = color }) (Board a t false) ≡ true
+  unfolding reaches
+  legal_step to a t k shut ha ht stays beside loose step =
+      let three = and_parts (is_piece_of color (piece_at old a) && not (is_king color (piece_at old a))) (not (is_aligned_with_king old color a)) loose in
+      let two : (is_piece_of color (piece_at old a) ≡ true) × (not (is_king color (piece_at old a)) ≡ true) = and_parts (is_piece_of color (piece_at old a)) (not (is_king color (piece_at old a))) three.0 in
+      let parts = step_parts old a t step in
+      let same : piece_at new a ≡ piece_at old a = k.stays a two.0 stays in
+      let own : is_piece_of color (piece_at new a) ≡ true = ap (is_piece_of color) same ∙ two.0 in
+      let bare : is_none (piece_at new t) ≡ true = k.empty t parts.1 beside in
+      let reach : reaches new a t ≡ true = ap (λ cell. cell_reaches new cell a t) same ∙ steps_reach new (piece_at old a) a t parts.0 in
+      let alive : is_immobile t (piece_at new a) ≡ false = ap (is_immobile t) same ∙ parts.2 in
+      let plain : is_king color (piece_at new a) ≡ false = ap (is_king color) same ∙ not-true _ two.1 in
+      let off : is_lined_with_king new color a ≡ false = stays_unlined old new color a ha k.kings (not-true _ three.1) in
+      legal_board (record { cells = new; hands = hands; side = color }) a t false
+      ∙ and_from _ _ (right_step new color a t own (unowned color (piece_at new t) bare) reach alive) (ap not (quiet_board new color a t false k.len ha ht own plain off shut))
+
   replied_step : (to : ℕ) → LeavesStanding old new color to → in_check new color ≡ false → (a : ℕ) → a < 81 → is_spare old color to a ≡ true → quiet_codes (record { cells = new; hands = hands; side = color }) ≢ []
-  unfolding is_spare reaches
+  unfolding is_spare
   replied_step to k shut a ha e =
-      let q : Shogi = record { cells = new; hands = hands; side = color } in
       let four = and_parts (not (a == to) && is_unbound old color a) (some_below 81 (is_step_beside old to a)) e in
       let apart : (not (a == to) ≡ true) × (is_unbound old color a ≡ true) = and_parts (not (a == to)) (is_unbound old color a) four.0 in
-      let three = and_parts (is_piece_of color (piece_at old a) && not (is_king color (piece_at old a))) (not (is_aligned_with_king old color a)) apart.1 in
-      let two : (is_piece_of color (piece_at old a) ≡ true) × (not (is_king color (piece_at old a)) ≡ true) = and_parts (is_piece_of color (piece_at old a)) (not (is_king color (piece_at old a))) three.0 in
       let which = some_below_which 81 (is_step_beside old to a) four.1 in
-      let beside : (is_quiet_step old a which.0 ≡ true) × (not (which.0 == to) ≡ true) = and_parts (is_quiet_step old a which.0) (not (which.0 == to)) which.2 in
-      let step = and_parts (cell_steps (piece_at old a) a which.0 && is_none (piece_at old which.0)) (not (is_immobile which.0 (piece_at old a))) beside.0 in
-      let walk : (cell_steps (piece_at old a) a which.0 ≡ true) × (is_none (piece_at old which.0) ≡ true) = and_parts (cell_steps (piece_at old a) a which.0) (is_none (piece_at old which.0)) step.0 in
-      let same : piece_at new a ≡ piece_at old a = k.stays a two.0 (λ at. both_ways _ (ap not (eq-eqb a to at)) apart.0) in
-      let own : is_piece_of color (piece_at new a) ≡ true = ap (is_piece_of color) same ∙ two.0 in
-      let bare : is_none (piece_at new which.0) ≡ true = k.empty which.0 walk.1 (λ at. both_ways _ (ap not (eq-eqb which.0 to at)) beside.1) in
-      let reach : reaches new a which.0 ≡ true = ap (λ cell. cell_reaches new cell a which.0) same ∙ steps_reach new (piece_at old a) a which.0 walk.0 in
-      let alive : is_immobile which.0 (piece_at new a) ≡ false = ap (is_immobile which.0) same ∙ not-true _ step.1 in
-      let non_promoting : is_king color (piece_at new a) ≡ false = ap (is_king color) same ∙ not-true _ two.1 in
-      let off : is_lined_with_king new color a ≡ false = stays_unlined old new color a ha k.kings (not-true _ three.1) in
-      some_quiet q (Board a which.0 false) (move_of-board a which.0 false ha which.1)
-      (legal_board q a which.0 false
-      ∙ and_from _ _ (right_step new color a which.0 own (unowned color (piece_at new which.0) bare) reach alive) (ap not (quiet_board new color a which.0 false k.len ha which.1 own non_promoting off shut)))
-      bare
+      let both : (is_quiet_step old a which.0 ≡ true) × (not (which.0 == to) ≡ true) = and_parts (is_quiet_step old a which.0) (not (which.0 == to)) which.2 in
+      let beside : which.0 ≢ to = λ at. both_ways _ (ap not (eq-eqb which.0 to at)) both.1 in
+      some_quiet (record { cells = new; hands = hands; side = color }) (Board a which.0 false) (move_of-board a which.0 false ha which.1)
+      (legal_step to a which.0 k shut ha which.1 (λ at. both_ways _ (ap not (eq-eqb a to at)) apart.0) beside apart.1 both.0)
+      (k.empty which.0 (step_parts old a which.0 both.0).1 beside)
 
   replied : (to : ℕ) → LeavesStanding old new color to → in_check new color ≡ false → (a : ℕ) → a < 81 → (is_spare old color to a ≡ true) ⊎ ((a ≢ to) × (is_none (piece_at old a) ≡ true) × (holds_free hands color ≡ true)) → quiet_codes (record { cells = new; hands = hands; side = color }) ≢ []
   replied to k shut a ha way = elim way [
@@ -525,20 +544,18 @@ pub record IsMover (cells : Cells) (side : Color) (a : ℕ) : Type 0 where
   pub unbound : is_unbound cells side a ≡ true
   pub steps : some_below 81 (is_quiet_step cells a) ≡ true
 
--- what is left and what is kept are pieces of the side off the lines of its kings; what is kept and not left has such a step, and each of the ends is one of such a piece
+-- what is left are pieces of the side off the lines of its kings; what is kept has such a step, and each of the ends is one of such a piece
 pub record IsSifted (cells : Cells) (side : Color) (lines left kept ends : ℕ) : Type 0 where
   pub own : (a : ℕ) → a < 81 → has_bit left a ≡ true → (is_piece_of side (piece_at cells a) ≡ true) × (has_bit lines a ≡ false)
-  pub within : (a : ℕ) → has_bit left a ≡ true → has_bit kept a ≡ true
-  pub free_movers : (a : ℕ) → a < 81 → has_bit kept a ≡ true → (has_bit left a ≡ true) ⊎ IsMover cells side a
+  pub free_movers : (a : ℕ) → a < 81 → has_bit kept a ≡ true → IsMover cells side a
   pub end : (t : ℕ) → t < 81 → has_bit ends t ≡ true → (a : ℕ) × (a < 81) × (is_unbound cells side a ≡ true) × (is_quiet_step cells a t ≡ true)
 
-pub sifted_first : (cells : Cells) (side : Color) (lines own : ℕ) → lines < 2 ^ 128 → ((n : ℕ) → n < 81 → has_bit own n ≡ is_piece_of side (piece_at cells n)) → IsSifted cells side lines (bit_and own (2 ^ 128 - 1 - lines)) (bit_and own (2 ^ 128 - 1 - lines)) 0
+pub sifted_first : (cells : Cells) (side : Color) (lines own : ℕ) → lines < 2 ^ 128 → ((n : ℕ) → n < 81 → has_bit own n ≡ is_piece_of side (piece_at cells n)) → IsSifted cells side lines (bit_and own (2 ^ 128 - 1 - lines)) 0 0
 sifted_first cells side lines own fits bits = record {
   own = λ a h e. (
       let parts : (has_bit own a ≡ true) × (has_bit (2 ^ 128 - 1 - lines) a ≡ true) = and_parts _ _ (sym (has_bit-and own (2 ^ 128 - 1 - lines) a) ∙ e) in
       (sym (bits a h) ∙ parts.0, not-true _ (sym (has_bit-not lines a fits (omega arith)) ∙ parts.1)));
-  within = λ a e. e;
-  free_movers = λ a h e. inl e;
+  free_movers = λ a h e. absurd (both_ways (has_bit 0 a) (has_bit-none a) e);
   end = λ t h e. absurd (both_ways (has_bit 0 t) (has_bit-none t) e);
 }
 
@@ -546,45 +563,36 @@ unbound_if : (cells : Cells) (side : Color) (lines a : ℕ) → Aligns cells sid
 unbound_if cells side lines a s h own off =
     rw (own, unaligned cells side lines a s h off, false_from_ne_true (is_king side (piece_at cells a)) (λ king. both_ways (has_bit lines a) off (s.kings a h king))) refl
 
+-- a piece without such a step is passed
+pub sifted_passed : (cells : Cells) (side : Color) (lines left kept ends next from : ℕ) → IsSifted cells side lines left kept ends → TakesLowest from left next → IsSifted cells side lines next kept ends
+sifted_passed cells side lines left kept ends next from f took = record {
+  own = λ a h e. f.own a h ((and_parts (has_bit left a) (not (a == from)) (sym (took.rest a) ∙ e)).0);
+  free_movers = f.free_movers;
+  end = f.end;
+}
+
 -- some step of it is one
 some_step : (cells : Cells) (a steps : ℕ) → steps < 2 ^ 81 → AreQuietSteps cells a steps → steps ≢ 0 → some_below 81 (is_quiet_step cells a) ≡ true
 some_step cells a steps fits are some =
     let low = lowest_set steps some fits in
     some_below_at 81 (is_quiet_step cells a) (trailing_zeros w128 steps) low.0 (are (trailing_zeros w128 steps) low.0 low.1)
 
-pub sifted_found : (cells : Cells) (side : Color) (lines left kept ends next from steps : ℕ) → Aligns cells side 0 lines → IsSifted cells side lines left kept ends → from < 81 → has_bit left from ≡ true → steps < 2 ^ 81 → AreQuietSteps cells from steps → steps ≢ 0
-    → ((i : ℕ) → has_bit next i ≡ (has_bit left i && not (i == from))) → IsSifted cells side lines next kept (bit_or ends steps)
-sifted_found cells side lines left kept ends next from steps s f hf here fits are some bits =
-    let own : _ = f.own from hf here in
-    let unbound : is_unbound cells side from ≡ true = unbound_if cells side lines from s hf own.0 own.1 in
+pub sifted_found : (cells : Cells) (side : Color) (lines left kept ends next more from steps : ℕ) → Aligns cells side 0 lines → IsSifted cells side lines left kept ends → TakesLowest from left next → steps < 2 ^ 81 → AreQuietSteps cells from steps → steps ≢ 0
+    → ((i : ℕ) → has_bit more i ≡ (has_bit kept i || i == from)) → IsSifted cells side lines next more (bit_or ends steps)
+sifted_found cells side lines left kept ends next more from steps s f took fits are some bits =
+    let own : _ = f.own from took.range took.set in
+    let unbound : is_unbound cells side from ≡ true = unbound_if cells side lines from s took.range own.0 own.1 in
     record {
-      own = λ a h e. f.own a h ((and_parts (has_bit left a) (not (a == from)) (sym (bits a) ∙ e)).0);
-      within = λ a e. f.within a ((and_parts (has_bit left a) (not (a == from)) (sym (bits a) ∙ e)).0);
-      free_movers = λ a h e. elim (cases_eq a from) [
-        | inl same ↦ inr (subst (IsMover cells side) (sym same) (record { unbound = unbound; steps = some_step cells from steps fits are some }))
-        | inr other ↦ elim (f.free_movers a h e) [
-          | inl still ↦ inl (bits a ∙ and_from _ _ still (not_from_false _ (ne_eqb a from other)))
-          | inr free_movers ↦ inr free_movers
-        ]
+      own = (sifted_passed cells side lines left kept ends next from f took).own;
+      free_movers = λ a h e. elim (or_cases (has_bit kept a) (a == from) (sym (bits a) ∙ e)) [
+        | inl before ↦ f.free_movers a h before
+        | inr now ↦ subst (IsMover cells side) (sym (eqb-true a from now)) (record { unbound = unbound; steps = some_step cells from steps fits are some })
       ];
       end = λ t h e. elim (or_cases (has_bit ends t) (has_bit steps t) (sym (has_bit-or ends steps t) ∙ e)) [
         | inl before ↦ f.end t h before
-        | inr now ↦ (from, hf, unbound, are t h now)
+        | inr now ↦ (from, took.range, unbound, are t h now)
       ];
     }
-
-pub sifted_dropped : (cells : Cells) (side : Color) (lines left kept ends next less from : ℕ) → IsSifted cells side lines left kept ends → ((i : ℕ) → has_bit next i ≡ (has_bit left i && not (i == from))) → ((i : ℕ) → has_bit less i ≡ (has_bit kept i && not (i == from))) → IsSifted cells side lines next less ends
-sifted_dropped cells side lines left kept ends next less from f bits gone = record {
-  own = λ a h e. f.own a h ((and_parts (has_bit left a) (not (a == from)) (sym (bits a) ∙ e)).0);
-  within = λ a e. (let parts = and_parts (has_bit left a) (not (a == from)) (sym (bits a) ∙ e) in gone a ∙ and_from _ _ (f.within a parts.0) parts.1);
-  free_movers = λ a h e. (
-      let parts = and_parts (has_bit kept a) (not (a == from)) (sym (gone a) ∙ e) in
-      elim (f.free_movers a h parts.0) [
-        | inl still ↦ inl (bits a ∙ and_from _ _ still parts.1)
-        | inr free_movers ↦ inr free_movers
-      ]);
-  end = f.end;
-}
 
 -- a piece with a step to another square than the one where a move ends, if it does not end on the piece
 spare_at : (cells : Cells) (side : Color) (to a t : ℕ) → a < 81 → t < 81 → a ≢ to → t ≢ to → is_unbound cells side a ≡ true → is_quiet_step cells a t ≡ true → some_below 81 (is_spare cells side to) ≡ true
@@ -602,22 +610,17 @@ steps_beside cells side to a t unbound step same =
     both_ways (is_piece_of side (piece_at cells to)) (unowned side (piece_at cells to) (subst (λ (n : ℕ). is_none (piece_at cells n) ≡ true) same bare)) own
 
 -- with two ends, each piece leaves a step: its own or that of another one
-pub sifted_done : (cells : Cells) (side : Color) (lines left kept ends : ℕ) → left < 2 ^ 128 → HasOthers ends → IsSifted cells side lines left kept ends → LeaveFreeMovers cells side (bit_and kept (2 ^ 128 - 1 - left))
-sifted_done cells side lines left kept ends fits two f a to h set stays =
-    let parts : (has_bit kept a ≡ true) × (has_bit (2 ^ 128 - 1 - left) a ≡ true) = and_parts _ _ (sym (has_bit-and kept (2 ^ 128 - 1 - left) a) ∙ set) in
+pub sifted_done : (cells : Cells) (side : Color) (lines left kept ends : ℕ) → HasOthers ends → IsSifted cells side lines left kept ends → LeaveFreeMovers cells side kept
+sifted_done cells side lines left kept ends two f a to h set stays =
     let end = two to in
     let by = f.end end.0 end.1 end.2 in
     elim (cases_eq by.0 to) [
       | inr off ↦ spare_at cells side to by.0 end.0 by.1 end.1 off end.3 by.2 by.3
-      | inl at ↦ elim (f.free_movers a h parts.0) [
-        | inl still ↦ absurd (both_ways (has_bit left a) (not-true _ (sym (has_bit-not left a fits (omega arith)) ∙ parts.1)) still)
-        | inr mover ↦ (
-            let step = some_below_which 81 (is_quiet_step cells a) mover.steps in
-            spare_at cells side to a step.0 h step.1 stays (steps_beside cells side to a step.0 (subst (λ (n : ℕ). is_unbound cells side n ≡ true) at by.2) step.2) mover.unbound step.2)
-      ]
+      | inl at ↦ (
+          let mover = f.free_movers a h set in
+          let step = some_below_which 81 (is_quiet_step cells a) mover.steps in
+          spare_at cells side to a step.0 h step.1 stays (steps_beside cells side to a step.0 (subst (λ (n : ℕ). is_unbound cells side n ≡ true) at by.2) step.2) mover.unbound step.2)
     ]
-
-pub ruleset sifting = (sifted_first, sifted_found, sifted_dropped, sifted_done, and_fits)
 
 -- steps to empty squares, as bits
 pub steps_found : (cells : Cells) (piece : Piece) (a steps free dead : ℕ) → piece_at cells a ≡ Some piece → dead < 2 ^ 81 → ((n : ℕ) → n < 81 → has_bit steps n ≡ has_step piece a n) → ((n : ℕ) → n < 81 → has_bit free n ≡ is_none (piece_at cells n)) → ((n : ℕ) → n < 81 → has_bit dead n ≡ is_immobile n (piece_at cells a))

@@ -9,48 +9,37 @@ ghost use Rattle.shogi_replies.specs.Escapes.{AreAllUnattacked, AreUnattacked, I
 ghost use Rattle.shogi_replies.specs.ReplyInfo.{IsAnswered, IsQuietlyAnswered, AreAnswered, AreDropsAnswered};
 ghost use Rattle.shogi_replies.specs.Threats.{IsTaken};
 
-use shogi_core::bits::{cleared, lowest, without_lowest};
+use shogi_core::bits::lowest;
 use shogi_core::{
     Board, Color, Kind, Move, Piece, Position, Square, Squares, line_mask, ray, step_squares,
 };
 use shogi_moves::{dropped, has_open, king_steps, piece_moved};
 
 /// Those of the squares that the side does not attack.
-#[tactic(auto, using(shogi_moves::proofs::DestinationLaws::sifting))]
 fn unattacked(board: &Board, by: Color, squares: Squares) -> Squares
     ensures squares { AreAllUnattacked board.now by squares.bits result.bits }
 {
-    let mut left = squares.bits;
-    let mut kept = squares.bits;
-    while left != 0 {
-        let square = lowest(left);
-        if board.is_attacked(by, Square::of_index(square)) {
-            kept = cleared(kept, square);
-        }
-        left = without_lowest(left, square);
-    }
-    Squares { bits: kept }
+    squares.sift(|to| !board.is_attacked(by, to))
 }
 
 /// Three of the squares that the side does not attack, or fewer where there are no more.
-#[tactic(auto, using(shogi_moves::proofs::DestinationLaws::sifting))]
+#[tactic(auto, using(crate::proofs::EscapeLaws::gathering))]
 fn some_unattacked(board: &Board, by: Color, squares: Squares) -> Squares
     ensures { AreUnattacked board.now by squares.bits result.bits }
 {
-    let mut left = squares.bits;
-    let mut kept = squares.bits;
+    let mut left = squares.iter();
+    let mut kept = Squares::none();
     let mut found = 0u8;
-    while left != 0 && found < 3 {
-        let square = lowest(left);
-        let to = Square::of_index(square);
-        if board.is_attacked(by, to) {
-            kept = cleared(kept, square);
-        } else {
+    'squares: while let Some(square) = left.next() {
+        if !board.is_attacked(by, square) {
+            kept = kept.with(square);
             found += 1;
+            if found == 3 {
+                return kept;
+            }
         }
-        left = without_lowest(left, square);
     }
-    Squares { bits: kept & !left }
+    kept
 }
 
 /// Squares next to the king of the side that is not to move, where it has just one, to which it may
@@ -245,6 +234,7 @@ pub fn king_takes(p: &Position, m: &Move) -> bool
 
 /// Those of the squares to which what stands on a square may move, promoting or not, so that one of
 /// the escapes is surely left to the king: up to the first after which none is.
+#[tactic(auto, using(crate::proofs::EscapeLaws::gathering))]
 pub fn escaped_destinations(
     p: &Position,
     escapes: Squares,
@@ -256,44 +246,33 @@ pub fn escaped_destinations(
     ensures among { IsWithin result.bits destinations.bits }
     ensures answered { AreAnswered p.now from promote result.bits }
 {
-    let mut left = destinations.bits;
-    while left != 0 {
-        let to = lowest(left);
-        let m = Move::Board {
-            from,
-            to: Square::of_index(to),
-            promote,
-        };
+    let mut left = destinations.iter();
+    let mut answered = Squares::none();
+    'squares: while let Some(to) = left.next() {
+        let m = Move::Board { from, to, promote };
         if !leaves_escape(p, escapes, &m) {
-            return Squares {
-                bits: destinations.bits & !left,
-            };
+            return answered;
         }
-        left = without_lowest(left, to);
+        answered = answered.with(to);
     }
-    destinations
+    answered
 }
 
 /// Those of the squares on which a piece of the kind may be dropped so that one of the escapes is
 /// surely left to the king: up to the first after which none is.
+#[tactic(auto, using(crate::proofs::EscapeLaws::gathering))]
 pub fn escaped_drops(p: &Position, escapes: Squares, kind: Kind, destinations: Squares) -> Squares
     requires { AreEscapes p.now escapes.bits }
     ensures among { IsWithin result.bits destinations.bits }
     ensures answered { AreDropsAnswered p.now kind result.bits }
 {
-    let mut left = destinations.bits;
-    while left != 0 {
-        let to = lowest(left);
-        let m = Move::Drop {
-            kind,
-            to: Square::of_index(to),
-        };
-        if !leaves_escape(p, escapes, &m) {
-            return Squares {
-                bits: destinations.bits & !left,
-            };
+    let mut left = destinations.iter();
+    let mut answered = Squares::none();
+    'squares: while let Some(to) = left.next() {
+        if !leaves_escape(p, escapes, &Move::Drop { kind, to }) {
+            return answered;
         }
-        left = without_lowest(left, to);
+        answered = answered.with(to);
     }
-    destinations
+    answered
 }

@@ -13,7 +13,7 @@ ghost use Rattle.shogi_replies.specs.Threats.{KeepsThreats, MayRetake};
 use crate::escapes::{escaped_destinations, escaped_drops};
 use crate::far::non_checking_pieces;
 use crate::move_filter::{ALL_ROLES, MoveFilter};
-use shogi_core::bits::{cleared, lowest, without_lowest};
+use shogi_core::bits::{lowest, without_lowest};
 use shogi_core::zones::{dead_squares, promoting_squares};
 use shogi_core::{Color, Kind, Move, Piece, Position, Square, Squares, line_mask, step_squares};
 use shogi_moves::{dropped, matching_destinations, piece_moved};
@@ -35,14 +35,13 @@ fn king_view_squares(p: &Position, side: Color) -> Squares
     ensures { Sees p.now.cells side 0 result.bits }
 {
     let board = p.as_board();
-    let mut left = board.kings(side).bits;
-    let mut king_view = left;
-    while left != 0 {
-        let king = lowest(left);
-        king_view |= board.queen_and_knight_view(Square::of_index(king)).bits;
-        left = without_lowest(left, king);
+    let kings = board.kings(side);
+    let mut king_view = kings;
+    let mut left = kings.iter();
+    'kings: while let Some(king) = left.next() {
+        king_view = king_view | board.queen_and_knight_view(king);
     }
-    Squares { bits: king_view }
+    king_view
 }
 
 /// The squares of kings of the side, and of lines with them, whatever stands between.
@@ -50,14 +49,14 @@ fn king_view_squares(p: &Position, side: Color) -> Squares
 pub fn king_line_mask(p: &Position, side: Color) -> Squares
     ensures { Aligns p.now.cells side 0 result.bits }
 {
-    let mut left = p.as_board().kings(side).bits;
-    let mut lines = left;
-    while left != 0 {
-        let king = lowest(left);
-        lines |= line_mask(king).bits;
-        left = without_lowest(left, king);
+    let kings = p.as_board().kings(side);
+    let mut lines = kings;
+    let mut left = kings.iter();
+    'kings: while let Some(king) = left.next() {
+        king.reveal_invariant();
+        lines = lines | line_mask(king.index());
     }
-    Squares { bits: lines }
+    lines
 }
 
 /// Whether what stands on the square may stand in the way of a piece that slides to a king of the
@@ -93,7 +92,7 @@ fn discovers_check(p: &Position, from: Square, to: Square) -> bool
 
 /// The empty squares to which what stands on the square may step, and from where it can move again
 /// without promotion.
-fn quiet_steps(p: &Position, from: Square) -> Squares
+pub fn quiet_steps(p: &Position, from: Square) -> Squares
     ensures { AreQuietSteps p.now.cells from result.bits }
 {
     let cell = p.at(from);
@@ -124,27 +123,20 @@ fn free_moving_pieces(p: &Position, side: Color, lines: Squares) -> Squares
     requires { Aligns p.now.cells side 0 lines.bits }
     ensures { LeaveFreeMovers p.now.cells side result.bits }
 {
-    let mut left = p.as_board().own(side).without(lines).bits;
-    let mut kept = left;
+    let mut left = p.as_board().own(side).without(lines).iter();
+    let mut kept = Squares::none();
     let mut ends = Squares::none();
-    let mut found = 0u8;
-    while left != 0 && (found < 2 || !has_two(ends)) {
-        let from = lowest(left);
-        let steps = quiet_steps(p, Square::of_index(from));
-        if steps.is_empty() {
-            kept = cleared(kept, from);
-        } else {
+    'pieces: while let Some(from) = left.next() {
+        let steps = quiet_steps(p, from);
+        if !steps.is_empty() {
+            kept = kept.with(from);
             ends = ends | steps;
-            if found < 2 {
-                found += 1;
+            if has_two(kept) && has_two(ends) {
+                return kept;
             }
         }
-        left = without_lowest(left, from);
     }
-    if !has_two(ends) {
-        return Squares::none();
-    }
-    Squares { bits: kept & !left }
+    if has_two(ends) { kept } else { Squares::none() }
 }
 
 /// Whether what would stand on the square attacks a king of the side.
@@ -174,14 +166,12 @@ fn check_squares(p: &Position, side: Color, cell: Option<Piece>) -> Squares
         role: piece.role,
     };
     let board = p.as_board();
-    let mut left = board.kings(side).bits;
-    let mut checks = 0;
-    while left != 0 {
-        let king = lowest(left);
-        checks |= board.targets_of(back, Square::of_index(king)).bits;
-        left = without_lowest(left, king);
+    let mut left = board.kings(side).iter();
+    let mut checks = Squares::none();
+    'kings: while let Some(king) = left.next() {
+        checks = checks | board.targets_of(back, king);
     }
-    Squares { bits: checks }
+    checks
 }
 
 /// Whether the side holds a piece that it may drop on each empty square where it is in no check:

@@ -7,8 +7,8 @@ ghost use Rattle.shogi_replies.specs.ReplyInfo.{IsReplyInfo};
 
 use crate::move_filter::MoveFilter;
 use crate::replies::ReplyInfo;
-use shogi_core::bits::{bits_above, lowest, without_lowest};
-use shogi_core::{Position, SQUARE_CODES, Square, Squares};
+use shogi_core::bits::{bits_above, lowest};
+use shogi_core::{Position, SQUARE_CODES, Squares};
 use shogi_moves::{BoardSweep, DropSweep, matching_movers};
 
 impl ReplyInfo {
@@ -78,16 +78,13 @@ impl ReplyInfo {
         let pieces = Squares {
             bits: bits_above(p.as_board().own(p.side()).bits, sweep.from.index()),
         };
-        let moving = matching_movers(p, capture, pieces).bits;
-        let mut left = moving & !far.bits;
-        'squares: while left != 0 {
-            let square = lowest(left);
-            let from = Square::of_index(square);
+        let moving = matching_movers(p, capture, pieces);
+        let mut left = moving.without(far).iter();
+        'squares: while let Some(from) = left.next() {
             if !self.guarantees_replies(p, capture, move_filter, from) {
-                sweep.skip_pieces(p, capture, square);
+                sweep.skip_pieces(p, capture, from.index());
                 return;
             }
-            left = without_lowest(left, square);
         }
         sweep.skip_pieces(p, capture, 81);
     }

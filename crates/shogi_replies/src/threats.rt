@@ -5,7 +5,6 @@ ghost use Rattle.shogi_core.specs.Bits.{has_bit};
 ghost use Rattle.shogi_core.specs.Movement.{reaches};
 ghost use Rattle.shogi_replies.specs.Threats.{AreAttacks, HasBetween, HasBeforeSnipers, IsOffPins, IsUnpinnable, put_by};
 
-use shogi_core::bits::{lowest, without_lowest};
 use shogi_core::zones::{dead_squares, promoting_squares};
 use shogi_core::{Color, Move, Piece, Position, Square, Squares, line_mask, ray};
 use shogi_moves::{Destinations, dropped, piece_moved};
@@ -32,14 +31,13 @@ fn squares_before_king(p: &Position, side: Color, king: usize) -> Squares
 {
     let board = p.as_board();
     let snipers = board.own(side.opponent()) & board.sliders() & line_mask(king);
-    let mut left = snipers.bits;
-    let mut squares = 0;
-    while left != 0 {
-        let sniper = lowest(left);
-        squares |= squares_between(king, sniper).bits;
-        left = without_lowest(left, sniper);
+    let mut left = snipers.iter();
+    let mut squares = Squares::none();
+    'snipers: while let Some(sniper) = left.next() {
+        sniper.reveal_invariant();
+        squares = squares | squares_between(king, sniper.index());
     }
-    Squares { bits: squares }
+    squares
 }
 
 /// The squares on which a piece of the side may be pinned, whatever leaves its square: those between

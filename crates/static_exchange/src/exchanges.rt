@@ -1,6 +1,6 @@
 //! What is won by an exchange on one square, capture by capture, and on the best of the squares.
 
-ghost use Rattle.std.specs.Prelude.{◌≡◌, ◌≢◌, ◌≤◌, ◌<◌, ◌^◌, ℕ, true, false, None};
+ghost use Rattle.std.specs.Prelude.{◌≡◌, ◌≢◌, ◌≤◌, ◌<◌, ℕ, true, false, None};
 ghost use Rattle.shogi_core.specs.Bits.{has_bit};
 ghost use Rattle.shogi_moves.specs.After.{after_code};
 ghost use Rattle.shogi_eval.specs.Exchange.{captures_max, least_valuable_attacker};
@@ -8,9 +8,9 @@ ghost use Rattle.static_exchange.specs.Reprisals.{IsGain, IsWon, IsWonAtLeast, W
 ghost use Rattle.static_exchange.specs.Takers.{TakesFirst, taking_code};
 
 use crate::takers::{first_taker, taking, targets};
-use shogi_core::bits::{cleared, lowest, without_lowest};
+use shogi_core::bits::{cleared, lowest};
 use shogi_core::zones::may_promote;
-use shogi_core::{Position, Square};
+use shogi_core::{Position, Square, Squares};
 use shogi_eval::{Eval, PROMOTION_GAIN_MAX, promotion_gain, taken_gain};
 use shogi_moves::{apply, piece_moved};
 
@@ -121,23 +121,19 @@ fn more_on(p: &Position, square: Square, floor: u32, enough: u32) -> u32
 }
 
 /// One of these squares, that of the piece whose capture gains most.
-fn dearest(p: &Position, squares: u128) -> usize
-    requires some { squares ≢ 0 }
-    requires fits { squares < 2 ^ 81 }
-    ensures range { result < 81 }
-    ensures among { has_bit squares result ≡ true }
+fn dearest(p: &Position, squares: Squares) -> Square
+    requires { squares.bits ≢ 0 }
+    ensures { has_bit squares.bits result ≡ true }
 {
-    let mut best = lowest(squares);
-    let mut most = taken_gain(Eval::Exchange, p.at(Square::of_index(best)));
-    let mut rest = without_lowest(squares, best);
-    'squares: while rest != 0 {
-        let square = lowest(rest);
-        let here = taken_gain(Eval::Exchange, p.at(Square::of_index(square)));
+    let mut best = Square::of_index(lowest(squares.bits));
+    let mut most = taken_gain(Eval::Exchange, p.at(best));
+    let mut left = squares.except(best).iter();
+    'squares: while let Some(square) = left.next() {
+        let here = taken_gain(Eval::Exchange, p.at(square));
         if here > most {
             best = square;
             most = here;
         }
-        rest = without_lowest(rest, square);
     }
     best
 }
@@ -156,12 +152,12 @@ fn won_elsewhere(p: &Position, last: Square, floor: u32, enough: u32) -> u32
     let mut most = floor;
     let mut left = targets(p).except(last).bits;
     'squares: while left != 0 {
-        let square = dearest(p, left);
-        most = more_on(p, Square::of_index(square), most, enough);
+        let square = dearest(p, Squares { bits: left });
+        most = more_on(p, square, most, enough);
         if most >= enough {
             return most;
         }
-        left = cleared(left, square);
+        left = cleared(left, square.index());
     }
     most
 }

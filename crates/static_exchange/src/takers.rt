@@ -1,6 +1,6 @@
 //! What takes on a square: the cheapest piece that legally can.
 
-ghost use Rattle.std.specs.Prelude.{◌≡◌, ◌≢◌, ◌<◌, ◌≤◌, ◌^◌, ◌&&◌, ◌*◌, ◌+◌, ℕ, true, false, Some, None, IfSome, IsNone};
+ghost use Rattle.std.specs.Prelude.{◌≡◌, ◌≢◌, ◌<◌, ◌≤◌, ◌&&◌, ◌*◌, ◌+◌, ℕ, true, false, Some, None, IfSome, IsNone};
 ghost use Rattle.shogi_core.specs.Bits.{HasBits, has_bit};
 ghost use Rattle.shogi_core.specs.Codes.{code_of};
 ghost use Rattle.shogi_core.specs.Movement.{reaches};
@@ -9,7 +9,7 @@ ghost use Rattle.shogi_moves.specs.Legal.{is_legal};
 ghost use Rattle.shogi_eval.specs.Exchange.{exchange_price, price_with, least_valuable_attacker};
 ghost use Rattle.static_exchange.specs.Takers.{code_in, rank_on, taking, IsFirst, IsLegalIn, NoneTakenOff, OthersTakeNot, TakesFirst};
 
-use shogi_core::bits::{cleared, lowest, without_lowest};
+use shogi_core::bits::{cleared, lowest};
 use shogi_core::zones::may_promote;
 use shogi_core::{Board, Move, Piece, Position, Role, Square, Squares, line_mask, near_squares};
 use shogi_moves::{is_legal, takers};
@@ -84,24 +84,20 @@ fn reachers(p: &Position, square: Square) -> Squares
 }
 
 /// Which of these pieces takes first on the square, if each may.
-fn first_of(p: &Position, square: Square, pieces: u128) -> usize
-    requires some { pieces ≢ 0 }
-    requires fits { pieces < 2 ^ 81 }
-    ensures range { result < 81 }
-    ensures among { has_bit pieces result ≡ true }
-    ensures first { IsFirst p.now square pieces result }
+fn first_of(p: &Position, square: Square, pieces: Squares) -> Square
+    requires { pieces.bits ≢ 0 }
+    ensures among { has_bit pieces.bits result ≡ true }
+    ensures first { IsFirst p.now square pieces.bits result }
 {
-    let mut first = lowest(pieces);
-    let mut rank = rank_on(p, square, Square::of_index(first));
-    let mut rest = without_lowest(pieces, first);
-    'pieces: while rest != 0 {
-        let from = lowest(rest);
-        let here = rank_on(p, square, Square::of_index(from));
+    let mut first = Square::of_index(lowest(pieces.bits));
+    let mut rank = rank_on(p, square, first);
+    let mut left = pieces.except(first).iter();
+    'pieces: while let Some(from) = left.next() {
+        let here = rank_on(p, square, from);
         if here < rank {
             first = from;
             rank = here;
         }
-        rest = without_lowest(rest, from);
     }
     first
 }
@@ -118,12 +114,12 @@ pub fn first_taker(p: &Position, square: Square) -> Option<Square>
     }
     let mut left = reachers(p, square).bits;
     'pieces: while left != 0 {
-        let index = first_of(p, square, left);
-        let from = Square::of_index(index);
+        let from = first_of(p, square, Squares { bits: left });
+        from.reveal_invariant();
         if is_legal(p, taking(p, square, from)) {
             return Some(from);
         }
-        left = cleared(left, index);
+        left = cleared(left, from.index());
     }
     None
 }

@@ -1,14 +1,10 @@
-use Rattle.std.proofs.Common.{◌<◌, ◌^◌}
 use Rattle.shogi_core.specs.declared.moves.Move.TheVariants.{Drop}
 use Rattle.shogi_replies.specs.ReplyInfo.{IsQuietlyAnswered}
-use Rattle.shogi_replies.proofs.EscapeLaws.{PassesTried}
+use Rattle.shogi_replies.proofs.EscapeLaws.{Gathers}
 use Rattle.shogi_replies.proofs.escapes.escaped_drops.Given as goal
 
-abbrev pub invariant-loop-left : goal.invariant-loop-left
-invariant-loop-left l = record {
-  tried : PassesTried l.fn.destinations.bits l.left (λ n. IsQuietlyAnswered l.p (Drop l.kind n));
-  left : l.left < 2 ^ 81;
-}
+abbrev pub invariant-squares : goal.invariant-squares
+invariant-squares l = Gathers l.fn.destinations.bits l.left l.answered.bits (λ n. IsQuietlyAnswered l.p (Drop l.kind n))
 
-abbrev pub decreases-loop-left : goal.decreases-loop-left
-decreases-loop-left l = l.left
+abbrev pub decreases-squares : goal.decreases-squares
+decreases-squares l = l.left

@@ -1,39 +1,16 @@
-use Rattle.std.proofs.Common.{sym, subst, arith, bit_or, Option}
+use Rattle.std.proofs.Common.{refl, sym, subst, bit_or, Option}
 use Rattle.shogi_core.specs.declared.piece.Piece.{Piece}
-use Rattle.shogi_core.proofs.LineBits.{or_fits}
 use Rattle.shogi_replies.proofs.CheckLaws.{ChecksWithin, checks_first, checks_more, checks_done}
 use Rattle.shogi_replies.proofs.replies.check_squares.Goals as goal
 
-pub loop-left-init : goal.loop-left-init
-loop-left-init c = record { within = checks_first c.args.p.now.cells c.args.side c.args.cell c.kings-left.result.bits (rw c.as_board-board.ensures at c.kings-left.ensures.squares); left = c.kings-left.result.fits; fits = omega arith }
+pub kings-init : goal.kings-init
+kings-init c = rw (c.iter-left.ensures, c.none-checks.ensures) (checks_first c.args.p.now.cells c.args.side c.args.cell c.kings-2.result.bits (rw c.as_board-board.ensures at c.kings-2.ensures.squares))
 
-pub loop-left-preserved : goal.loop-left-preserved
-loop-left-preserved c = record {
-  within = subst (λ (cell : Option Piece). ChecksWithin c.args.p.now.cells c.args.side cell c.without_lowest-left.result (bit_or c.loop-left.checks c.targets_of-checks.result.bits)) (sym c.in-Some.is)
-      (checks_more c.args.p.now.cells c.args.side c.in-Some.piece c.loop-left.left c.without_lowest-left.result c.loop-left.checks c.lowest-king.result c.targets_of-checks.result.bits
-      (subst (λ (cell : Option Piece). ChecksWithin c.args.p.now.cells c.args.side cell c.loop-left.left c.loop-left.checks) c.in-Some.is c.loop-left.invariant.within) c.without_lowest-left.ensures.bits
-      (rw (c.opponent.ensures, c.of_index.ensures, c.as_board-board.ensures) at c.targets_of-checks.ensures.squares));
-  left = omega (arith, c.without_lowest-left.ensures.less, c.loop-left.invariant.left);
-  fits = or_fits c.loop-left.checks c.targets_of-checks.result.bits c.loop-left.invariant.fits c.targets_of-checks.result.fits;
-}
+pub kings-preserved : goal.kings-preserved
+kings-preserved c = rw c.bitor-checks.ensures (subst (λ (cell : Option Piece). ChecksWithin c.args.p.now.cells c.args.side cell c.next.new.self (bit_or c.kings.checks.bits c.targets_of.result.bits)) (sym c.in-Some.is)
+    (checks_more c.args.p.now.cells c.args.side c.in-Some.piece c.kings.left c.next.new.self c.kings.checks.bits c.in-Some-next.king c.targets_of.result.bits
+    (subst (λ (cell : Option Piece). ChecksWithin c.args.p.now.cells c.args.side cell c.kings.left c.kings.checks.bits) c.in-Some.is c.kings.invariant) c.in-Some-next.ensures.some.rest
+    (rw (c.opponent.ensures, c.as_board-board.ensures) at c.targets_of.ensures.squares)))
 
 pub returns : goal.returns
-returns c = checks_done c.args.p.now.cells c.args.side c.args.cell c.loop-left.checks (rw c.loop-left-test.false at c.loop-left.invariant.within)
-
-pub lowest-king-requires-clause-fits : goal.lowest-king-requires-clause-fits
-lowest-king-requires-clause-fits c = c.loop-left.invariant.left
-
-pub of_index-requires : goal.of_index-requires
-of_index-requires c = c.lowest-king.ensures.range
-
-pub without_lowest-left-requires-clause-fits : goal.without_lowest-left-requires-clause-fits
-without_lowest-left-requires-clause-fits c = c.loop-left.invariant.left
-
-pub without_lowest-left-requires-clause-set : goal.without_lowest-left-requires-clause-set
-without_lowest-left-requires-clause-set c = c.lowest-king.ensures.set
-
-pub without_lowest-left-requires-clause-least : goal.without_lowest-left-requires-clause-least
-without_lowest-left-requires-clause-least c = c.lowest-king.ensures.least
-
-pub loop-left-smaller : goal.loop-left-smaller
-loop-left-smaller c = c.without_lowest-left.ensures.less
+returns c = checks_done c.args.p.now.cells c.args.side c.args.cell c.kings.left c.kings.checks.bits (c.in_default-next.ensures.none refl) c.kings.invariant

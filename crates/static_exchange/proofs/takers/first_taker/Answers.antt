@@ -1,4 +1,4 @@
-use Rattle.std.proofs.Common.{rules, ◌≡◌, ℕ, true, false, Option, Some, None, arith, sym, ap, subst, ◌∙◌}
+use Rattle.std.proofs.Common.{rules, ◌≡◌, ℕ, true, false, Option, Some, None, arith, sym, ap, ◌∙◌}
 use Rattle.std.specs.Prelude.{is_none, is_some}
 use Rattle.std.proofs.lemmas.Bool.{both_ways}
 use Rattle.shogi_core.specs.declared.piece.Piece.{Piece}
@@ -6,7 +6,7 @@ use Rattle.shogi_core.specs.Bits.{has_bit}
 use Rattle.shogi_core.specs.Movement.{piece_at}
 use Rattle.shogi_core.proofs.BitLaws.{has_bit-none}
 use Rattle.shogi_moves.specs.Legal.{is_legal}
-use Rattle.static_exchange.specs.Takers.{is_taker, taking, TakesFirst}
+use Rattle.static_exchange.specs.Takers.{is_taker}
 use Rattle.static_exchange.proofs.Cheapest.{first_of_all, none_out, taker_found, taker_none}
 use Rattle.static_exchange.proofs.takers.first_taker.Goals as goal
 
@@ -32,17 +32,15 @@ pieces-init c = record {
 pub returns-then-is_legal-clause-first : goal.returns-then-is_legal-clause-first
 returns-then-is_legal-clause-first c =
     let none : is_none c.at.result ≡ false = search rules in
-    let legal : is_taker c.args.p.now c.args.square c.first_of-index.result ≡ true =
-    ap (is_legal c.args.p.now) (sym (c.taking.ensures ∙ ap (taking c.args.p.now c.args.square) c.of_index-from.ensures)) ∙ (sym c.is_legal.ensures.value ∙ c.if-is_legal.true) in
-    subst (TakesFirst c.args.p.now c.args.square) (sym c.of_index-from.ensures)
-    (record {
-      here = c.first_of-index.ensures.range;
+    let legal : is_taker c.args.p.now c.args.square c.first_of-from.result ≡ true = ap (is_legal c.args.p.now) (sym c.taking.ensures) ∙ (sym c.is_legal.ensures.value ∙ c.if-is_legal.true) in
+    record {
+      here = omega arith;
       taker_is =
-          taker_found c.args.p.now c.args.square c.first_of-index.result c.reveal_invariant.ensures c.reveal_invariant-2.ensures c.first_of-index.ensures.range
+          taker_found c.args.p.now c.args.square c.first_of-from.result c.reveal_invariant.ensures c.reveal_invariant-2.ensures (omega arith)
           (filled (piece_at c.args.p.now.cells c.args.square) c.at.result c.at.ensures none) legal
-          (first_of_all c.args.p.now c.args.square c.pieces.left c.first_of-index.result c.pieces.invariant.others c.first_of-index.ensures.first);
+          (first_of_all c.args.p.now c.args.square c.pieces.left c.first_of-from.result c.pieces.invariant.others c.first_of-from.ensures.first);
       legal = legal;
-    })
+    }
 
 pub returns-clause-if_none : goal.returns-clause-if_none
 returns-clause-if_none c = λ _. taker_none c.args.p.now c.args.square c.reveal_invariant.ensures c.reveal_invariant-2.ensures (λ n h some. c.pieces.invariant.others n h (ap (λ (m : ℕ). has_bit m n) (omega (arith, c.pieces-test.false)) ∙ has_bit-none n))

@@ -1,4 +1,4 @@
-use Rattle.std.proofs.Common.{◌≡◌, ◌<◌, ◌^◌, ℕ, true, false}
+use Rattle.std.proofs.Common.{◌≡◌, ◌<◌, ℕ, true, false}
 use Rattle.shogi_core.specs.Bits.{has_bit}
 use Rattle.shogi_core.specs.Cell.{is_piece_of}
 use Rattle.shogi_core.specs.Movement.{piece_at}
@@ -8,12 +8,12 @@ use Rattle.shogi_replies.proofs.replies.ReplyInfo.skip_pieces.Given as goal
 
 abbrev pub invariant-squares : goal.invariant-squares
 invariant-squares l = record {
+  moving : ℕ;
   same : l.sweep ≡ l.fn.sweep;
-  matching : HasMatchingOn l.p l.capture l.fn.sweep.code l.moving;
-  mine : (n : ℕ) → n < 81 → has_bit l.moving n ≡ true → (l.fn.sweep.from < n) × (is_piece_of l.p.side (piece_at l.p.cells n) ≡ true);
-  guaranteed : (n : ℕ) → n < 81 → has_bit l.moving n ≡ true → has_bit l.left n ≡ false → GuaranteesReplies l.p l.capture l.move_filter n;
-  within : (n : ℕ) → has_bit l.left n ≡ true → has_bit l.moving n ≡ true;
-  fits : l.left < 2 ^ 81;
+  matching : HasMatchingOn l.p l.capture l.fn.sweep.code moving;
+  mine : (n : ℕ) → n < 81 → has_bit moving n ≡ true → (l.fn.sweep.from < n) × (is_piece_of l.p.side (piece_at l.p.cells n) ≡ true);
+  guaranteed : (n : ℕ) → n < 81 → has_bit moving n ≡ true → has_bit l.left n ≡ false → GuaranteesReplies l.p l.capture l.move_filter n;
+  within : (n : ℕ) → has_bit l.left n ≡ true → has_bit moving n ≡ true;
 }
 
 abbrev pub decreases-squares : goal.decreases-squares
