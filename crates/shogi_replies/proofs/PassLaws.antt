@@ -72,7 +72,7 @@ passed_to p capture fact code next up fits all =
 -- ---- the destinations of a piece
 
 -- a matching move of the piece is one of its destinations, promoting or not
-destination_of : (p : Shogi) (capture : Bool) (from code non_promoting promoting c : ℕ) → KeepsBoard p capture from code non_promoting promoting → code ≤ c → c < from * SQUARE_CODES + SQUARE_CODES → is_matching p capture c ≡ true
+pub destination_of : (p : Shogi) (capture : Bool) (from code non_promoting promoting c : ℕ) → KeepsBoard p capture from code non_promoting promoting → code ≤ c → c < from * SQUARE_CODES + SQUARE_CODES → is_matching p capture c ≡ true
     → ((c ≡ code_of (Board from (c / 2 % 81) false)) × (has_bit non_promoting (c / 2 % 81) ≡ true)) ⊎ ((c ≡ code_of (Board from (c / 2 % 81) true)) × (has_bit promoting (c / 2 % 81) ≡ true))
 destination_of p capture from code non_promoting promoting c k up below matching =
     let low : from * SQUARE_CODES ≤ code = k.low in
@@ -212,7 +212,7 @@ out_before left less from n bits out other = false_from_ne_true (has_bit left n)
 
 -- ---- the drops of a kind
 
-drop_of : (p : Shogi) (kind : Kind) (code destinations c : ℕ) → KeepsDrop p kind code destinations → code ≤ c → c < FIRST_DROP + 81 + kind_number kind * 81 → is_matching p false c ≡ true → (c ≡ code_of (Drop kind (c - FIRST_DROP - kind_number kind * 81))) × (has_bit destinations (c - FIRST_DROP - kind_number kind * 81) ≡ true)
+pub drop_of : (p : Shogi) (kind : Kind) (code destinations c : ℕ) → KeepsDrop p kind code destinations → code ≤ c → c < FIRST_DROP + 81 + kind_number kind * 81 → is_matching p false c ≡ true → (c ≡ code_of (Drop kind (c - FIRST_DROP - kind_number kind * 81))) × (has_bit destinations (c - FIRST_DROP - kind_number kind * 81) ≡ true)
 drop_of p kind code destinations c k up below matching =
     let low : FIRST_DROP + kind_number kind * 81 ≤ code = k.low in
     let at : c ≡ code_of (Drop kind (c - FIRST_DROP - kind_number kind * 81)) = omega arith in
