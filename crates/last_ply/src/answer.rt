@@ -1,6 +1,6 @@
 //! What is known of a node with one ply left, within a window.
 
-ghost use Rattle.std.specs.Prelude.{◌≡◌, ◌<◌, ◌^◌, ◌≤ℤ◌, ◌<ℤ◌, IfSome, IsNone, true, false};
+ghost use Rattle.std.specs.Prelude.{◌≡◌, ◌≤ℤ◌, ◌<ℤ◌, IfSome, IsNone, true, false};
 ghost use Rattle.minimax.specs.Entries.{IsConclusive};
 ghost use Rattle.minimax.specs.Minimax.{negated, IsTrueEntry};
 ghost use Rattle.minimax.specs.declared.bounds.TheConstants.{INFINITY};

@@ -1,6 +1,6 @@
 //! The legal move of least code that meets something.
 
-ghost use Rattle.std.specs.Prelude.{◌≡◌, ◌<◌, ◌^◌, ◌≤ℤ◌, ◌<ℤ◌, ℕ, ℤ, true, false, IfSome, IsNone};
+ghost use Rattle.std.specs.Prelude.{◌≡◌, ◌≤ℤ◌, ◌<ℤ◌, ℕ, ℤ, true, false, IfSome, IsNone};
 ghost use Rattle.shogi_core.specs.Codes.{code_of};
 ghost use Rattle.shogi_core.specs.Movement.{reaches};
 ghost use Rattle.shogi_moves.specs.Destinations.{is_own, AreEnterable, IsWithin};

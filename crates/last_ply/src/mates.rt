@@ -1,6 +1,6 @@
 //! Whether a legal move leaves the other side without one.
 
-ghost use Rattle.std.specs.Prelude.{[], ◌≢◌, ◌≡◌, ◌<◌, ◌^◌, true, false, ℕ, bit_and};
+ghost use Rattle.std.specs.Prelude.{[], ◌≢◌, ◌≡◌, ◌<◌, true, false, ℕ, bit_and};
 ghost use Rattle.std.proofs.Props.{props};
 ghost use Rattle.shogi_core.specs.Bits.{has_bit};
 ghost use Rattle.shogi_moves.specs.Destinations.{is_own, AreDropSquares, IsWithin};

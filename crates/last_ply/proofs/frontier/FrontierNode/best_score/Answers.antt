@@ -25,17 +25,8 @@ pieces-preserved c = record {
   within = λ n h e. c.pieces.invariant.within n h (left_set _ _ _ n c.in-Some.ensures.some.rest e);
 }
 
-pub returns-then-best-beta-clause-least : goal.returns-then-best-beta-clause-least
-returns-then-best-beta-clause-least c = omega (arith, ints, c.pieces.invariant.least, c.best_score_from-best.ensures.least)
-
 pub returns-then-best-beta-clause-some : goal.returns-then-best-beta-clause-some
 returns-then-best-beta-clause-some c = λ above. carried (NodeHasScore c.args.self.now.node.now) _ _ c.best_score_from-best.result _ c.pieces.invariant.some c.best_score_from-best.ensures.some c.best_score_from-best.ensures.least (omega (arith, ints)) (omega (arith, ints, above))
 
-pub returns-clause-least : goal.returns-clause-least
-returns-clause-least c = omega (arith, ints, c.pieces.invariant.least)
-
 pub returns-clause-all : goal.returns-clause-all
 returns-clause-all c = λ _. all_most c.args.self.now.node.now.position c.args.self.now.node.now.eval _ c.args.self.now.valid (omega (arith, ints, c.requires.floor, c.pieces.invariant.least)) (λ from h own. c.pieces.invariant.all from h own (c.in_default.ensures.none refl from))
-
-pub returns-clause-some : goal.returns-clause-some
-returns-clause-some c = λ above. c.pieces.invariant.some (omega (arith, ints, above))
