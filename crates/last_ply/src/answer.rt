@@ -1,6 +1,6 @@
 //! What is known of a node with one ply left, within a window.
 
-ghost use Rattle.std.specs.Prelude.{◌≡◌, ◌<◌, ◌^◌, ◌≤ℤ◌, ◌<ℤ◌, IfSome, IsNone, true, false};
+ghost use Rattle.std.specs.Prelude.{◌≡◌, ◌≤ℤ◌, ◌<ℤ◌, IfSome, IsNone, true, false};
 ghost use Rattle.minimax.specs.Entries.{IsConclusive};
 ghost use Rattle.minimax.specs.Minimax.{negated, IsTrueEntry};
 ghost use Rattle.minimax.specs.declared.bounds.TheConstants.{INFINITY};
@@ -8,7 +8,7 @@ ghost use Rattle.last_ply.specs.LastPly.{AreLegalEnds, base_of, HasNoMate, IsNoL
 
 use crate::frontier::FrontierNode;
 use minimax::{Entry, MATE};
-use shogi_core::bits::{lowest, without_lowest};
+use shogi_core::bits::lowest;
 use shogi_core::{Square, Squares};
 use shogi_eval::Node;
 use shogi_moves::has_legal;
@@ -36,14 +36,11 @@ impl FrontierNode<'_> {
         ensures { result ≡ true → NodeHasScore self.now.node.now
             (base_of self.now.node.now) }
     {
-        let mut left = self.movable().bits;
-        while left != 0 {
-            let square = lowest(left);
-            let from = Square::of_index(square);
+        let mut left = self.movable().iter();
+        'pieces: while let Some(from) = left.next() {
             if self.has_quiet_end(from, self.destinations(from).non_promoting) {
                 return true;
             }
-            left = without_lowest(left, square);
         }
         false
     }

@@ -1,6 +1,6 @@
 //! The legal move of least code that meets something.
 
-ghost use Rattle.std.specs.Prelude.{◌≡◌, ◌<◌, ◌^◌, ◌≤ℤ◌, ◌<ℤ◌, ℕ, ℤ, true, false, IfSome, IsNone};
+ghost use Rattle.std.specs.Prelude.{◌≡◌, ◌≤ℤ◌, ◌<ℤ◌, ℕ, ℤ, true, false, IfSome, IsNone};
 ghost use Rattle.shogi_core.specs.Codes.{code_of};
 ghost use Rattle.shogi_core.specs.Movement.{reaches};
 ghost use Rattle.shogi_moves.specs.Destinations.{is_own, AreEnterable, IsWithin};
@@ -12,7 +12,6 @@ ghost use Rattle.last_ply.specs.FrontierNodes.{OthersScoreElse};
 use crate::frontier::FrontierNode;
 use crate::mates::MateSearch;
 use minimax::{Entry, INFINITY, MATE};
-use shogi_core::bits::{lowest, without_lowest};
 use shogi_core::zones::promoting_squares;
 use shogi_core::{Move, Square, Squares};
 use shogi_moves::Walk;
@@ -78,10 +77,8 @@ impl FrontierNode<'_> {
         ensures some { IfSome result (λ m. IsFirstFrom self.now.node.now score from (code_of m)) }
         ensures if_none { IsNone result → NoneScoresFrom self.now.node.now score from }
     {
-        let mut left = self.ends_scoring(from, score).bits;
-        while left != 0 {
-            let square = lowest(left);
-            let to = Square::of_index(square);
+        let mut left = self.ends_scoring(from, score).iter();
+        'ends: while let Some(to) = left.next() {
             if self.is_gain(from, to, false, score) {
                 return Some(Move::Board {
                     from,
@@ -96,7 +93,6 @@ impl FrontierNode<'_> {
                     promote: true,
                 });
             }
-            left = without_lowest(left, square);
         }
         None
     }
@@ -120,13 +116,11 @@ impl FrontierNode<'_> {
         ensures some { IfSome result (λ m. IsFirstToScore self.now.node.now score (code_of m)) }
         ensures if_none { IsNone result → NoneGains self.now.node.now score }
     {
-        let mut left = self.pieces_scoring(score).bits;
-        while left != 0 {
-            let from = lowest(left);
-            if let Some(m) = self.first_from(Square::of_index(from), score) {
+        let mut left = self.pieces_scoring(score).iter();
+        'pieces: while let Some(from) = left.next() {
+            if let Some(m) = self.first_from(from, score) {
                 return Some(m);
             }
-            left = without_lowest(left, from);
         }
         None
     }

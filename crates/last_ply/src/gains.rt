@@ -1,6 +1,6 @@
 //! What the legal moves of a node score at most.
 
-ghost use Rattle.std.specs.Prelude.{◌≡◌, ◌<◌, ◌≤◌, ◌^◌, ◌+◌, ◌*◌, ◌≤ℤ◌, ◌<ℤ◌, ◌-ℤ◌, ◌+ℤ◌, pos, true, false, ℕ};
+ghost use Rattle.std.specs.Prelude.{◌≡◌, ◌≤◌, ◌+◌, ◌*◌, ◌≤ℤ◌, ◌<ℤ◌, ◌-ℤ◌, ◌+ℤ◌, pos, true, false, ℕ};
 ghost use Rattle.shogi_core.specs.Codes.{code_of};
 ghost use Rattle.shogi_core.specs.Movement.{reaches};
 ghost use Rattle.shogi_moves.specs.Destinations.{is_own, AreEnterable, IsWithin};
@@ -14,7 +14,6 @@ ghost use Rattle.last_ply.specs.LastPly.{base_of, is_legal_board_move, raw_of, s
 ghost use Rattle.last_ply.specs.FrontierNodes.{OthersCannotMove, OthersScoreAtMost, OthersTakeLittle};
 
 use crate::frontier::FrontierNode;
-use shogi_core::bits::{lowest, without_lowest};
 use shogi_core::zones::{promoting_squares, squares_near_zone};
 use shogi_core::{Color, Move, Piece, Role, Square, Squares, line_mask, near_squares};
 use shogi_eval::{Eval, PROMOTION_GAIN_MAX, promotion_gain, taken_gain};
@@ -198,11 +197,9 @@ impl FrontierNode<'_> {
         ensures some { floor <ℤ result → NodeHasScore self.now.node.now result }
     {
         let mut best = floor;
-        let mut left = ends.bits;
-        while left != 0 {
-            let to = lowest(left);
-            best = self.best_score_to(from, Square::of_index(to), promote, best);
-            left = without_lowest(left, to);
+        let mut left = ends.iter();
+        'ends: while let Some(to) = left.next() {
+            best = self.best_score_to(from, to, promote, best);
         }
         best
     }
@@ -229,22 +226,21 @@ impl FrontierNode<'_> {
     }
 
     /// Squares outside which nothing reaches the square.
-    fn squares_reaching(&self, square: usize) -> Squares
-        requires { square < 81 }
+    fn squares_reaching(&self, square: Square) -> Squares
         ensures { HasReachers self.now.node.now.position.cells result.bits square }
     {
         let board = self.node.as_position().as_board();
-        near_squares(square) | board.sliders() & line_mask(square)
+        let index = square.index();
+        near_squares(index) | board.sliders() & line_mask(index)
     }
 
     /// Squares outside which nothing takes on the square; none where that scores no more than the
     /// floor, whatever takes and promotes.
-    fn squares_taking(&self, square: usize, floor: i32) -> Squares
-        requires { square < 81 }
+    fn squares_taking(&self, square: Square, floor: i32) -> Squares
         ensures { Outside result.bits (TakesLittle self.now.node.now floor square) }
     {
         let p = self.node.as_position();
-        let taken = taken_gain(self.node.eval(), p.at(Square::of_index(square)));
+        let taken = taken_gain(self.node.eval(), p.at(square));
         if self.node.score() + (taken + PROMOTION_GAIN_MAX) as i32 <= floor {
             return Squares::none();
         }
@@ -256,30 +252,24 @@ impl FrontierNode<'_> {
         ensures within { IsWithin result.bits self.now.own.bits }
         ensures others { OthersTakeLittle self.now floor victims.bits result.bits }
     {
-        let mut squares = 0;
-        let mut left = victims.bits;
-        while left != 0 {
-            let square = lowest(left);
-            squares |= self.squares_taking(square, floor).bits;
-            left = without_lowest(left, square);
+        let mut squares = Squares::none();
+        let mut left = victims.iter();
+        'victims: while let Some(square) = left.next() {
+            squares = squares | self.squares_taking(square, floor);
         }
-        Squares {
-            bits: self.own.bits & squares,
-        }
+        self.own & squares
     }
 
     /// Squares outside which nothing reaches one of these.
     fn squares_reaching_some(&self, squares: Squares) -> Squares
         ensures { OnEach squares.bits (HasReachers self.now.node.now.position.cells result.bits) }
     {
-        let mut found = 0;
-        let mut left = squares.bits;
-        while left != 0 {
-            let square = lowest(left);
-            found |= self.squares_reaching(square).bits;
-            left = without_lowest(left, square);
+        let mut found = Squares::none();
+        let mut left = squares.iter();
+        'squares: while let Some(square) = left.next() {
+            found = found | self.squares_reaching(square);
         }
-        Squares { bits: found }
+        found
     }
 
     /// In check, the side's kings and those of its pieces that may reach a square where it is answered:
@@ -345,14 +335,12 @@ impl FrontierNode<'_> {
         ensures some { floor <ℤ result → NodeHasScore self.now.node.now result }
     {
         let mut best = floor;
-        let mut left = self.gainers(floor).bits;
-        while left != 0 {
-            let from = lowest(left);
-            best = self.best_score_from(Square::of_index(from), best);
+        let mut left = self.gainers(floor).iter();
+        'pieces: while let Some(from) = left.next() {
+            best = self.best_score_from(from, best);
             if best >= beta {
                 return best;
             }
-            left = without_lowest(left, from);
         }
         best
     }

@@ -1,6 +1,6 @@
 //! Whether a legal move leaves the other side without one.
 
-ghost use Rattle.std.specs.Prelude.{[], ◌≢◌, ◌≡◌, ◌<◌, ◌^◌, true, false, ℕ, bit_and};
+ghost use Rattle.std.specs.Prelude.{[], ◌≢◌, ◌≡◌, ◌<◌, true, false, ℕ, bit_and};
 ghost use Rattle.std.proofs.Props.{props};
 ghost use Rattle.shogi_core.specs.Bits.{has_bit};
 ghost use Rattle.shogi_moves.specs.Destinations.{is_own, AreDropSquares, IsWithin};
@@ -12,7 +12,7 @@ ghost use Rattle.last_ply.specs.LastPly.{AllDropsLeaveSome, AreLegalDropEnds, Bo
 ghost use Rattle.last_ply.specs.FrontierNodes.{FrontierAnsweredOff, FrontierDoubtfulEnds, FrontierDropsAnsweredOff, FrontierDropsLeaveSomeAmong, FrontierLeavesSomeAmong};
 
 use crate::frontier::FrontierNode;
-use shogi_core::bits::{lowest, with, without_lowest};
+use shogi_core::bits::{lowest, without_lowest};
 use shogi_core::zones::promoting_squares;
 use shogi_core::{Kind, Move, Piece, Position, Role, Square, Squares, line_mask, step_squares};
 use shogi_moves::{
@@ -96,29 +96,27 @@ fn retakes(p: &Position, m: &Move) -> bool
 {
     let to = end_of(m);
     to.reveal_invariant();
-    let mut left = pieces_near(p, to.index()).bits;
-    while left != 0 {
-        let square = lowest(left);
-        if takes_legally(p, Square::of_index(square), to) {
+    let mut left = pieces_near(p, to.index()).iter();
+    'pieces: while let Some(from) = left.next() {
+        if takes_legally(p, from, to) {
             return true;
         }
-        left = without_lowest(left, square);
     }
     false
 }
 
 /// The squares from which the piece may reach that one, whatever stands between.
-fn closing_squares(piece: Piece, square: usize) -> Squares
-    requires { square < 81 }
+fn closing_squares(piece: Piece, square: Square) -> Squares
     ensures { Outside result.bits (λ n. IsOutOfReach piece n square) }
 {
     let back = Piece {
         color: piece.color.opponent(),
         role: piece.role,
     };
-    let steps = step_squares(back, square);
+    let index = square.index();
+    let steps = step_squares(back, index);
     if piece.role.is_sliding() {
-        steps | line_mask(square)
+        steps | line_mask(index)
     } else {
         steps
     }
@@ -215,18 +213,12 @@ impl MateSearch<'_> {
             → FrontierLeavesSomeAmong self.now.frontier from promote ends.bits }
     {
         from.reveal_invariant();
-        let mut left = ends.bits;
-        while left != 0 {
-            let to = lowest(left);
-            let m = Move::Board {
-                from,
-                to: Square::of_index(to),
-                promote,
-            };
+        let mut left = ends.iter();
+        'ends: while let Some(to) = left.next() {
+            let m = Move::Board { from, to, promote };
             if self.tries(&m) {
                 return true;
             }
-            left = without_lowest(left, to);
         }
         false
     }
@@ -238,17 +230,12 @@ impl MateSearch<'_> {
         ensures if_none { result ≡ false
             → FrontierDropsLeaveSomeAmong self.now.frontier kind ends.bits }
     {
-        let mut left = ends.bits;
-        while left != 0 {
-            let to = lowest(left);
-            let m = Move::Drop {
-                kind,
-                to: Square::of_index(to),
-            };
+        let mut left = ends.iter();
+        'ends: while let Some(to) = left.next() {
+            let m = Move::Drop { kind, to };
             if self.tries(&m) {
                 return true;
             }
-            left = without_lowest(left, to);
         }
         false
     }
@@ -285,14 +272,15 @@ impl MateSearch<'_> {
         if kings.is_empty() {
             return ends;
         }
-        let mut kept = ends.bits;
-        let mut left = self.escapes.without(line_mask(from.index())).bits;
-        while left != 0 && kept != 0 {
-            let escape = lowest(left);
-            kept &= closing_squares(piece, escape).bits | with(kings.bits, escape);
-            left = without_lowest(left, escape);
+        let mut kept = ends;
+        let mut left = self.escapes.without(line_mask(from.index())).iter();
+        'escapes: while let Some(escape) = left.next() {
+            if kept.is_empty() {
+                break;
+            }
+            kept = kept & (closing_squares(piece, escape) | kings.with(escape));
         }
-        Squares { bits: kept }
+        kept
     }
 
     /// Those of the ends after which, once this piece has moved there from the square, it is not
@@ -388,13 +376,11 @@ impl MateSearch<'_> {
             .frontier
             .movable()
             .without(self.non_mating_pieces())
-            .bits;
-        while left != 0 {
-            let from = lowest(left);
-            if self.mates_from(Square::of_index(from)) {
+            .iter();
+        'pieces: while let Some(from) = left.next() {
+            if self.mates_from(from) {
                 return true;
             }
-            left = without_lowest(left, from);
         }
         false
     }
@@ -415,14 +401,15 @@ impl MateSearch<'_> {
             color: side,
             role: Role::from(kind),
         };
-        let mut kept = squares.without(self.escapes).bits;
-        let mut left = self.escapes.bits;
-        while left != 0 && kept != 0 {
-            let escape = lowest(left);
-            kept &= closing_squares(piece, escape).bits;
-            left = without_lowest(left, escape);
+        let mut kept = squares.without(self.escapes);
+        let mut left = self.escapes.iter();
+        'escapes: while let Some(escape) = left.next() {
+            if kept.is_empty() {
+                break;
+            }
+            kept = kept & closing_squares(piece, escape);
         }
-        Squares { bits: kept }
+        kept
     }
 
     /// Whether a legal drop of the kind, if that is held, leaves the other side without a legal move.

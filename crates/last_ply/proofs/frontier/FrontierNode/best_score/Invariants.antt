@@ -1,17 +1,16 @@
-use Rattle.std.proofs.Common.{◌≡◌, ◌<◌, ◌^◌, ◌≤ℤ◌, ◌<ℤ◌, true, false}
+use Rattle.std.proofs.Common.{◌≡◌, ◌≤ℤ◌, ◌<ℤ◌, true, false}
 use Rattle.shogi_core.specs.Bits.{has_bit}
 use Rattle.shogi_moves.specs.Destinations.{is_own}
 use Rattle.last_ply.specs.LastPly.{NodeHasScore, OnEach, OnOwn, NodeScoresFromAtMost}
 use Rattle.last_ply.proofs.frontier.FrontierNode.best_score.Given as goal
 
-abbrev pub invariant-loop-left : goal.invariant-loop-left
-invariant-loop-left l = record {
+abbrev pub invariant-pieces : goal.invariant-pieces
+invariant-pieces l = record {
   least : l.floor ≤ℤ l.best;
   all : OnOwn l.self.node.now.position (λ n. has_bit l.left n ≡ false → NodeScoresFromAtMost l.self.node.now l.best n);
   some : l.floor <ℤ l.best → NodeHasScore l.self.node.now l.best;
   within : OnEach l.left (λ n. is_own l.self.node.now.position n ≡ true);
-  fits : l.left < 2 ^ 81;
 }
 
-abbrev pub decreases-loop-left : goal.decreases-loop-left
-decreases-loop-left l = l.left
+abbrev pub decreases-pieces : goal.decreases-pieces
+decreases-pieces l = l.left

@@ -1,7 +1,6 @@
-use Rattle.std.proofs.Common.{◌≡◌, ◌<◌, ◌≤◌, ℤ, pos, ◌-ℤ◌, ◌≤ℤ◌, ◌<ℤ◌, arith}
+use Rattle.std.proofs.Common.{◌≡◌, pos, ◌-ℤ◌, ◌≤ℤ◌, arith}
 use Rattle.std.proofs.lemmas.Int.{ints}
 use Rattle.shogi_core.specs.Codes.{code_of}
-use Rattle.static_exchange.specs.Reprisals.{IsReprisal, IsEnough}
 use Rattle.last_ply.specs.LastPly.{score_at, raw_score}
 use Rattle.last_ply.proofs.Settled.{apart_held, score_won, score_enough, within}
 use Rattle.last_ply.proofs.frontier.FrontierNode.settled_above.Goals as goal

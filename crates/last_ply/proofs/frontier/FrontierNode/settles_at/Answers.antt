@@ -1,8 +1,7 @@
-use Rattle.std.proofs.Common.{◌≡◌, ◌<◌, ◌≤◌, ◌+◌, ℤ, pos, ◌-ℤ◌, ◌≤ℤ◌, ◌<ℤ◌, arith, inl, inr, true, false, sym, ◌∙◌}
+use Rattle.std.proofs.Common.{◌≡◌, ◌+◌, pos, ◌-ℤ◌, ◌≤ℤ◌, arith, inl, inr}
 use Rattle.std.proofs.lemmas.Int.{ints}
-use Rattle.std.proofs.lemmas.Bool.{cases_lt, both_ways, eqb-true, ne_eqb, eq-eqb}
+use Rattle.std.proofs.lemmas.Bool.{cases_lt, both_ways, eqb-true, eq-eqb}
 use Rattle.shogi_core.specs.Codes.{code_of}
-use Rattle.static_exchange.specs.Reprisals.{IsReprisal, IsEnough}
 use Rattle.last_ply.specs.LastPly.{score_at, raw_score}
 use Rattle.last_ply.proofs.Settled.{apart_held, score_won, score_enough, within}
 use Rattle.last_ply.proofs.frontier.FrontierNode.settles_at.Goals as goal

@@ -1,5 +1,5 @@
 use Rattle.std.proofs.lemmas.Bool.{both_ways}
-use Rattle.std.proofs.Common.{◌≡◌, ◌+◌, ◌∙◌, ℕ, pos, ◌+ℤ◌, ◌≤ℤ◌, FitsSigned, ap, arith, rules, w32}
+use Rattle.std.proofs.Common.{◌≡◌, ◌+◌, ◌∙◌, pos, ◌+ℤ◌, ◌≤ℤ◌, FitsSigned, ap, arith, rules, w32}
 use Rattle.std.proofs.lemmas.Int.{ints}
 use Rattle.shogi_core.specs.Movement.{piece_at}
 use Rattle.shogi_core.specs.Position.{Shogi}
@@ -23,8 +23,7 @@ returns-then-score-taken c =
     let score : FitsSigned w32 c.score.result = search rules in
     let cell : c.at.result ≡ piece_at c.args.self.now.node.now.position.cells c.args.square =
     c.at.ensures
-    ∙ ap (λ (p : Shogi). piece_at p.cells c.of_index.result) c.as_position-p.ensures
-    ∙ ap (λ (k : ℕ). piece_at c.args.self.now.node.now.position.cells k) c.of_index.ensures in
+    ∙ ap (λ (p : Shogi). piece_at p.cells c.args.square) c.as_position-p.ensures in
     let gain : c.taken_gain-taken.result ≡ taken_gain c.args.self.now.node.now.eval (piece_at c.args.self.now.node.now.position.cells c.args.square) =
     c.taken_gain-taken.ensures.value
     ∙ ap (λ (e : Eval). taken_gain e c.at.result) c.eval.ensures
