@@ -30,12 +30,12 @@ use Rattle.shogi_moves.proofs.EscapeLaws.{kept, king_reach}
 use Rattle.shogi_moves.proofs.KingLaws.{king_own}
 use Rattle.shogi_moves.proofs.MovedPieces.{opponent_twice}
 use Rattle.shogi_replies.specs.ReplyInfo.{IsHarmless}
+use Rattle.shogi_replies.proofs.KingGoes.{king_goes}
 use Rattle.shogi_replies.proofs.ReplyLaws.{LeavesStanding, left_board, left_drop, shut_drop}
 use Rattle.shogi_eval.specs.declared.eval.Eval.{Eval}
 use Rattle.shogi_eval.specs.Material.{drop_gain, material_of, promotion_gain, taken_gain}
 use Rattle.shogi_eval.proofs.Gains.{gain_of}
 use Rattle.dull_moves.specs.Dull.{AreOffLines, HasSpareMoves, IsOnSquares, IsCalm, IsIdle, IsQuietThere, LeavesOne, without_king}
-use Rattle.dull_moves.proofs.KingGoes.{king_goes}
 use Rattle.dull_moves.proofs.Materials.{drop_little}
 use Rattle.dull_moves.proofs.Shut.{still_shut}
 use Rattle.dull_moves.proofs.SpareMoves.{replies_by_step, step_same}

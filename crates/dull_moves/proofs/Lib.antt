@@ -13,4 +13,3 @@ pub mod SceneLaws
 pub mod Unchecked
 pub mod SpareMoves
 pub mod Shut
-pub mod KingGoes

@@ -29,9 +29,10 @@ use Rattle.shogi_replies.proofs.CheckLaws.{reach_both_ways}
 use Rattle.shogi_eval.specs.declared.eval.Eval.{Eval}
 use Rattle.shogi_eval.specs.Material.{promotion_gain, taken_gain}
 use Rattle.dull_moves.specs.Dull.{AreOffLines, HasSpareMoves, IsCalmOffLines, IsQuietThere, IsShut, IsUnseen, KindLetsLeave, LeavesOne, PieceIsCalm, PieceLetsLeave, lifted, without_king}
-use Rattle.dull_moves.proofs.Sets.{cleared_none}
+use Rattle.shogi_replies.proofs.KingGoes.{cleared_none}
+use Rattle.shogi_replies.proofs.ReplyLaws.{step_parts}
 use Rattle.dull_moves.proofs.Shut.{shut_lifted}
-use Rattle.dull_moves.proofs.SpareMoves.{step_parts, step_same}
+use Rattle.dull_moves.proofs.SpareMoves.{step_same}
 use Rattle.dull_moves.proofs.Unchecked.{unlined_with_king}
 
 -- ---- a slide that a square was in the way of

@@ -22,7 +22,8 @@ use Rattle.shogi_core.proofs.SeenLaws.{lined_back}
 use Rattle.shogi_moves.specs.After.{dropped, piece_moved}
 use Rattle.shogi_eval.specs.declared.eval.Eval.{Eval}
 use Rattle.shogi_eval.specs.Material.{promotion_gain, taken_gain}
-use Rattle.dull_moves.proofs.Sets.{another, cleared_none, less, out_parts, stays}
+use Rattle.shogi_replies.proofs.KingGoes.{cleared_none}
+use Rattle.dull_moves.proofs.Sets.{another, less, out_parts, stays}
 use Rattle.dull_moves.proofs.Shut.{shut_more}
 use Rattle.shogi_eval.specs.Evaluated.{Evaluated}
 use Rattle.dull_moves.specs.declared.scene.ForbiddenSquares.{ForbiddenSquares}

@@ -22,12 +22,6 @@ out_parts a b n fits h on =
     let both : (has_bit a n ≡ true) × (has_bit (2 ^ 128 - 1 - b) n ≡ true) = and_parts _ _ (sym (has_bit-and a (2 ^ 128 - 1 - b) n) ∙ on) in
     (both.0, not-true _ (sym (has_bit-not b n (omega (arith, fits)) (omega (arith, h))) ∙ both.1))
 
--- nothing stands on a square that is cleared
-pub cleared_none : (cells : Cells) (a : ℕ) → piece_at (set cells a None) a ≡ None
-cleared_none [] a = refl
-cleared_none (cell ∷ cells) zero = refl
-cleared_none (cell ∷ cells) (suc a) = cleared_none cells a
-
 -- ---- those from which a piece covers some squares
 
 -- those that are left are of the squares, and from a square that is not covered one of these is out of reach

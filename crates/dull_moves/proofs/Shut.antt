@@ -17,7 +17,7 @@ use Rattle.shogi_moves.proofs.CheckInfoLaws.{other_side, own_some}
 use Rattle.shogi_moves.proofs.MovedPieces.{is_king-piece_moved}
 use Rattle.shogi_replies.proofs.ThreatLaws.{reach_kept}
 use Rattle.dull_moves.specs.Dull.{AreNonInterfering, IsShut, lifted, moved}
-use Rattle.dull_moves.proofs.Sets.{cleared_none}
+use Rattle.shogi_replies.proofs.KingGoes.{cleared_none}
 
 -- a larger set shuts as well
 pub shut_more : (q : Shogi) (shut more from n : ℕ) → ((x : ℕ) → has_bit more x ≡ false → has_bit shut x ≡ false) → IsShut q shut from n → IsShut q more from n

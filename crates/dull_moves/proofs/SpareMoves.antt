@@ -15,29 +15,18 @@ use Rattle.shogi_core.proofs.Below.{some_below_no}
 use Rattle.shogi_moves.proofs.CheckInfoLaws.{own_some, quiet_board}
 use Rattle.shogi_moves.proofs.DestinationLaws.{legal_board}
 use Rattle.shogi_replies.specs.ReplyInfo.{is_aligned_with_king, is_line_of_king, is_quiet_step}
-use Rattle.shogi_replies.proofs.ReplyLaws.{LeavesStanding, right_step, stays_unlined, unowned}
+use Rattle.shogi_replies.proofs.ReplyLaws.{LeavesStanding, legal_step, step_parts}
 use Rattle.dull_moves.specs.Dull.{HasSpareMoves, IsSpareMove}
 use Rattle.dull_moves.specs.SpareMoves.{IsFreeStep}
 use Rattle.dull_moves.specs.declared.spare_moves.FreeStep.{FreeStep}
 use Rattle.dull_moves.proofs.Sets.{out_parts}
 use Rattle.dull_moves.proofs.Worth.{HasBoardMove}
 
--- what a quiet step is
-pub step_parts : (cells : Cells) (a t : ℕ) → is_quiet_step cells a t ≡ true → (cell_steps (piece_at cells a) a t ≡ true) × (is_none (piece_at cells t) ≡ true) × (is_immobile t (piece_at cells a) ≡ false)
-step_parts cells a t e =
-    let two = and_parts (cell_steps (piece_at cells a) a t && is_none (piece_at cells t)) (not (is_immobile t (piece_at cells a))) e in
-    let one : (cell_steps (piece_at cells a) a t ≡ true) × (is_none (piece_at cells t) ≡ true) = and_parts (cell_steps (piece_at cells a) a t) (is_none (piece_at cells t)) two.0 in
-    (one.0, one.1, not-true _ two.1)
-
 -- it is one where both squares are as before
 pub step_same : (old new : Cells) (a t : ℕ) → piece_at new a ≡ piece_at old a → piece_at new t ≡ piece_at old t → is_quiet_step old a t ≡ true → is_quiet_step new a t ≡ true
 step_same old new a t one two e =
     ap (λ (cell : Option Piece). cell_steps cell a t && is_none (piece_at new t) && not (is_immobile t cell)) one
     ∙ (ap (λ (cell : Option Piece). cell_steps (piece_at old a) a t && is_none cell && not (is_immobile t (piece_at old a))) two ∙ e)
-
-steps_reach : (cells : Cells) (cell : Option Piece) (a t : ℕ) → cell_steps cell a t ≡ true → cell_reaches cells cell a t ≡ true
-steps_reach cells None a t e = absurd (cc)
-steps_reach cells (Some piece) a t e = or_left (has_step piece a t) (has_slide cells piece a t) e
 
 unaligned : (cells : Cells) (color : Color) (king a : ℕ) → HasNoOtherKing cells color king → are_aligned king a ≡ false → is_aligned_with_king cells color a ≡ false
 unfolding is_aligned_with_king
@@ -51,20 +40,8 @@ unaligned cells color king a lone off = some_below_no 81 (is_line_of_king cells 
 -- a move of the other side leaves such a step, if it ends on neither of its squares
 pub replies_by_step : (old new : Cells) (hands : HandCounts) (color : Color) (king d a t : ℕ) → HasNoOtherKing old color king → LeavesStanding old new color d → in_check new color ≡ false → a < 81 → t < 81 → a ≢ d → t ≢ d → is_piece_of color (piece_at old a) ≡ true → a ≢ king → are_aligned king a ≡ false → is_quiet_step old a t ≡ true
     → HasBoardMove (record { cells = new; hands = hands; side = color })
-unfolding reaches
 replies_by_step old new hands color king d a t lone k shut ha ht stays beside own other off step =
-    let q : Shogi = record { cells = new; hands = hands; side = color } in
-    let parts = step_parts old a t step in
-    let same : piece_at new a ≡ piece_at old a = k.stays a own stays in
-    let owned : is_piece_of color (piece_at new a) ≡ true = ap (is_piece_of color) same ∙ own in
-    let bare : is_none (piece_at new t) ≡ true = k.empty t parts.1 beside in
-    let reach : reaches new a t ≡ true = ap (λ (cell : Option Piece). cell_reaches new cell a t) same ∙ steps_reach new (piece_at old a) a t parts.0 in
-    let alive : is_immobile t (piece_at new a) ≡ false = ap (is_immobile t) same ∙ parts.2 in
-    let plain : is_king color (piece_at new a) ≡ false = ap (is_king color) same ∙ lone a ha other in
-    let free : is_lined_with_king new color a ≡ false = stays_unlined old new color a ha k.kings (unaligned old color king a lone off) in
-    λ none. none a t ha ht
-    (legal_board q a t false
-    ∙ and_from _ _ (right_step new color a t owned (unowned color (piece_at new t) bare) reach alive) (ap not (quiet_board new color a t false k.len ha ht owned plain free shut)))
+    λ none. none a t ha ht (legal_step old new hands color d a t k shut ha ht stays beside (and_from _ _ (and_from _ _ own (ap not (lone a ha other))) (ap not (unaligned old color king a lone off))) step)
 
 -- ---- one of three is left
 

@@ -4,14 +4,12 @@ ghost use Rattle.std.specs.Prelude.{◌≡◌, true, IfSome};
 ghost use Rattle.shogi_core.specs.Cell.{HasNoOtherKing, is_king};
 ghost use Rattle.shogi_core.specs.Movement.{piece_at};
 ghost use Rattle.shogi_core.specs.Pieces.{opponent_of};
-ghost use Rattle.shogi_replies.specs.ReplyInfo.{AreQuietSteps};
 ghost use Rattle.dull_moves.specs.Dull.{AreReplySquares, HasSpareMoves};
 ghost use Rattle.dull_moves.specs.SpareMoves.{IsFreeStep};
 
-use shogi_core::bits::{lowest, without_lowest};
-use shogi_core::zones::dead_squares;
-use shogi_core::{Position, Square, Squares, line_mask, step_squares};
-use shogi_replies::escape_squares;
+use shogi_core::bits::lowest;
+use shogi_core::{Position, Square, Squares, line_mask};
+use shogi_replies::{escape_squares, quiet_steps};
 
 /// A step of a piece to an empty square.
 #[derive(Clone, Copy)]
@@ -20,34 +18,17 @@ pub struct FreeStep {
     pub to: Square,
 }
 
-/// The empty squares to which what stands on the square may step, and from where it can move again
-/// without promotion.
-fn quiet_steps(p: &Position, from: Square) -> Squares
-    ensures { AreQuietSteps p.now.cells from result.bits }
-{
-    let cell = p.at(from);
-    let Some(piece) = cell else {
-        return Squares::none()
-    };
-    from.reveal_invariant();
-    let steps = step_squares(piece, from.index()) & p.as_board().free();
-    steps.without(dead_squares(cell))
-}
-
 /// A step of one of the pieces to an empty square that is not among those taken.
 fn free_step(p: &Position, pieces: Squares, taken: Squares) -> Option<FreeStep>
     ensures { IfSome result (IsFreeStep p.now.cells pieces.bits taken.bits) }
 {
-    let mut left = pieces.bits;
-    while left != 0 {
-        let square = lowest(left);
-        let from = Square::of_index(square);
+    let mut left = pieces.iter();
+    'pieces: while let Some(from) = left.next() {
         let steps = quiet_steps(p, from).without(taken);
         if !steps.is_empty() {
             let to = Square::of_index(lowest(steps.bits));
             return Some(FreeStep { from, to });
         }
-        left = without_lowest(left, square);
     }
     None
 }

@@ -1,23 +1,18 @@
-use Rattle.std.proofs.Common.{arith}
-use Rattle.dull_moves.proofs.Sets.{less, out_parts}
+use Rattle.std.proofs.Common.{sym, ◌∙◌}
+use Rattle.std.proofs.lemmas.Bool.{and_parts}
+use Rattle.dull_moves.proofs.Sets.{out_parts}
 use Rattle.dull_moves.proofs.spare_moves.free_step.Goals as goal
 
-pub loop-left-init : goal.loop-left-init
-loop-left-init c = record { within = λ n on. on; left = c.args.pieces.fits }
+pub pieces-preserved : goal.pieces-preserved
+pieces-preserved c = λ n on. c.pieces.invariant n (and_parts _ _ (sym (c.in-Some.ensures.some.rest n) ∙ on)).0
 
-pub loop-left-preserved : goal.loop-left-preserved
-loop-left-preserved c = record {
-  within = λ n on. c.loop-left.invariant.within n (less c.without_lowest-left.result c.loop-left.left c.lowest-square.result c.without_lowest-left.ensures.bits n on);
-  left = omega (arith, c.without_lowest-left.ensures.less, c.loop-left.invariant.left);
-}
-
-pub returns-then-not-is_empty : goal.returns-then-not-is_empty
-returns-then-not-is_empty c =
+pub returns-in-Some-then-not-is_empty : goal.returns-in-Some-then-not-is_empty
+returns-in-Some-then-not-is_empty c =
     let out = out_parts c.quiet_steps.result.bits c.args.taken.bits c.lowest.result c.args.taken.fits c.lowest.ensures.range (rw c.without-steps.ensures at c.lowest.ensures.set) in
-    rw (c.of_index-from.ensures, c.of_index-to.ensures)
+    rw c.of_index-to.ensures
     (record {
-      on_board = (c.lowest-square.ensures.range, c.lowest.ensures.range);
-      among = c.loop-left.invariant.within c.lowest-square.result c.lowest-square.ensures.set;
+      on_board = (c.in-Some.ensures.some.range, c.lowest.ensures.range);
+      among = c.pieces.invariant c.in-Some.from c.in-Some.ensures.some.set;
       other = out.1;
-      step = (rw c.of_index-from.ensures at c.quiet_steps.ensures) c.lowest.result c.lowest.ensures.range out.0;
+      step = c.quiet_steps.ensures c.lowest.result c.lowest.ensures.range out.0;
     })
