@@ -19,35 +19,20 @@ use shogi_replies::{
     ALL_ROLES, MoveFilter, ReplyInfo, escape_squares, king_takes, leaves_escape, put_by,
 };
 
-// Some roles, as masks of their places in the order in which they are declared.
-const ALL_BUT_PAWN: u32 = 16381;
-
-const SILVER_AND_KNIGHT: u32 = 24;
-
-const SILVER: u32 = 16;
-
 // How many replies to moves of a node are tried for refuting others.
 const DULL_TRIES_MAX: u8 = 4;
 
-/// Roles whose promotion gains no more than this, as such a mask; all roles where none gains more.
+/// All roles where no promotion gains more than this, as the bits of their places, and else none.
 #[inline(always)]
 #[tactic(auto, using(crate::proofs::Passed::promoting))]
 fn roles_within(most: u32) -> u32
     ensures { PromotesWithin most result }
 {
     if most >= PROMOTION_GAIN_MAX {
-        return ALL_ROLES;
+        ALL_ROLES
+    } else {
+        0
     }
-    if most >= 300 {
-        return ALL_BUT_PAWN;
-    }
-    if most >= 200 {
-        return SILVER_AND_KNIGHT;
-    }
-    if most >= 100 {
-        return SILVER;
-    }
-    0
 }
 
 impl Frame {
@@ -160,7 +145,6 @@ impl Frame {
             None => Threats {
                 takes: Squares::none(),
                 greatest: None,
-                second: None,
             },
         }
     }
