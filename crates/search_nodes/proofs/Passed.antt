@@ -42,7 +42,6 @@ use Rattle.search_nodes.specs.Changes.{left_of_frame}
 use Rattle.minimax.specs.declared.bounds.TheConstants.{SEARCH_DEPTH_MAX, INFINITY}
 use Rattle.shogi_eval.specs.declared.gain.TheConstants.{PROMOTION_GAIN_MAX}
 use Rattle.search_nodes.specs.declared.frame.Frame.{Frame}
-use Rattle.search_nodes.specs.declared.pruning.TheConstants.{ALL_BUT_PAWN, SILVER, SILVER_AND_KNIGHT}
 use Rattle.search_nodes.specs.declared.move_picker.MovePicker.{MovePicker}
 use Rattle.search_nodes.specs.declared.frame.NodeState.{NodeState}
 use Rattle.search_nodes.specs.declared.frame.NodeState.TheVariants.{Expanding}
@@ -127,23 +126,6 @@ most_of_role PromotedSilver = omega arith
 most_of_role Horse = omega arith
 most_of_role Dragon = omega arith
 
--- nor one of these more than this
-but_pawn : (role : Role) → has_bit ALL_BUT_PAWN (role_number role) ≡ true → value_of (promoted role) - value_of role ≤ 300
-unfolding has_bit
-but_pawn Pawn e = absurd (cc)
-but_pawn _ e = omega arith
-
-silver_and_knight : (role : Role) → has_bit SILVER_AND_KNIGHT (role_number role) ≡ true → value_of (promoted role) - value_of role ≤ 200
-unfolding has_bit
-silver_and_knight Silver e = omega arith
-silver_and_knight Knight e = omega arith
-silver_and_knight _ e = absurd (cc)
-
-silver : (role : Role) → has_bit SILVER (role_number role) ≡ true → value_of (promoted role) - value_of role ≤ 100
-unfolding has_bit
-silver Silver e = omega arith
-silver _ e = absurd (cc)
-
 -- so with each piece of such a role
 promotes : (roles gain most : ℕ) → gain ≤ most → ((role : Role) → has_bit roles (role_number role) ≡ true → value_of (promoted role) - value_of role ≤ gain) → PromotesWithin most roles
 promotes roles gain most least each None e = absurd (cc)
@@ -152,19 +134,10 @@ promotes roles gain most least each (Some piece) e = omega (arith, least, each p
 pub all_within : (most : ℕ) → PROMOTION_GAIN_MAX ≤ most → PromotesWithin most ALL_ROLES
 all_within most least = promotes ALL_ROLES PROMOTION_GAIN_MAX most least (λ role e. most_of_role role)
 
-pub but_pawn_within : (most : ℕ) → 300 ≤ most → PromotesWithin most ALL_BUT_PAWN
-but_pawn_within most least = promotes ALL_BUT_PAWN 300 most least but_pawn
-
-pub silver_and_knight_within : (most : ℕ) → 200 ≤ most → PromotesWithin most SILVER_AND_KNIGHT
-silver_and_knight_within most least = promotes SILVER_AND_KNIGHT 200 most least silver_and_knight
-
-pub silver_within : (most : ℕ) → 100 ≤ most → PromotesWithin most SILVER
-silver_within most least = promotes SILVER 100 most least silver
-
 pub none_within : (most : ℕ) → PromotesWithin most 0
 none_within most = promotes 0 0 most (omega arith) (λ role e. absurd (both_ways _ (has_bit-none (role_number role)) e))
 
-pub ruleset promoting = (all_within, but_pawn_within, silver_and_knight_within, silver_within, none_within)
+pub ruleset promoting = (all_within, none_within)
 
 no_promotion : (cell : Option Piece) → promotion_gain false cell ≡ 0
 no_promotion None = refl

@@ -1,5 +1,5 @@
 -- What clauses say of a node on the stack and of a move of it (own choice).
-use Rattle.std.specs.Prelude.{◌≡◌, ◌≢◌, ◌≤◌, ◌<◌, ℕ, ◌-◌, ℤ, ◌-ℤ◌, ◌≤ℤ◌, List, [], Bool, true, Option, cond, nat_lt}
+use Rattle.std.specs.Prelude.{◌≡◌, ◌≢◌, ◌≤◌, ◌<◌, ◌⊎◌, ℕ, ◌-◌, ℤ, ◌-ℤ◌, ◌≤ℤ◌, List, [], Bool, true, false, Option, cond, nat_lt}
 use Rattle.shogi_core.specs.declared.moves.Move.{Move}
 use Rattle.shogi_core.specs.declared.moves.Move.TheVariants.{Board, Drop}
 use Rattle.shogi_core.specs.declared.piece.Kind.{Kind}
@@ -129,3 +129,7 @@ priority_moves_at given hash_move f depth =
 abbrev pub PromotesWithin : ℕ → ℕ → Type 0
 PromotesWithin most roles = (cell : Option Piece) → lets_promote roles cell ≡ true
     → promotion_gain true cell ≤ most
+
+-- a dull move is worth no more than its bound at the node: with two plies after it, or with three where captures at the end are not settled
+abbrev pub PrunesDull : Frame → Type 0
+PrunesDull f = (f.depth ≡ 3) ⊎ ((f.depth ≡ 4) × (resolves_captures f.node.eval ≡ false))

@@ -1,5 +1,5 @@
 -- Moves of the side that is not to move, as they are kept to show that a move cannot be worth enough (own choice).
-use Rattle.std.specs.Prelude.{◌≡◌, ◌≢◌, ◌<◌, ◌≤◌, ◌+◌, ◌+ℤ◌, ◌≤ℤ◌, ℕ, pos, ◌⊎◌, Bool, true, false, Option, Some, None}
+use Rattle.std.specs.Prelude.{◌≡◌, ◌≢◌, ◌<◌, ◌≤◌, ◌+◌, ◌+ℤ◌, ◌≤ℤ◌, ℕ, pos, Bool, true, false, Option, Some, None}
 use Rattle.std.specs.Option.{ForSome}
 use Rattle.shogi_core.specs.Bits.{has_bit}
 use Rattle.shogi_core.specs.Cell.{is_slider}
@@ -18,7 +18,6 @@ use Rattle.shogi_eval.specs.Material.{material_of, promotion_gain, taken_gain}
 use Rattle.shogi_eval.specs.Exchange.{resolves_captures}
 use Rattle.minimax.specs.Minimax.{value}
 use Rattle.search_nodes.specs.declared.threat.ThreatCandidate.{ThreatCandidate}
-use Rattle.search_nodes.specs.declared.threat.TopTwo.{TopTwo}
 use Rattle.search_nodes.specs.declared.threat.Threat.{Threat}
 use Rattle.search_nodes.specs.declared.threat.Threats.{Threats}
 
@@ -58,16 +57,6 @@ pub record IsThreatIn (p : Shogi) (e : Eval) (threat : Threat) : Type 0 where
 abbrev pub IsCandidateIn : Shogi → Eval → ThreatCandidate → Type 0
 IsCandidateIn p e candidate = 0 < candidate.gain → Gains p e candidate.from candidate.target candidate.promote candidate.gain
 
--- both moves are
-pub record AreTopTwoIn (p : Shogi) (e : Eval) (top_two : TopTwo) : Type 0 where
-  pub greatest : IsCandidateIn p e top_two.greatest
-  pub second : IsCandidateIn p e top_two.second
-
--- each is this one or of those before
-pub record AddsCandidate (old : TopTwo) (candidate : ThreatCandidate) (new : TopTwo) : Type 0 where
-  pub greatest : (new.greatest ≡ old.greatest) ⊎ (new.greatest ≡ candidate)
-  pub second : (new.second ≡ old.second) ⊎ ((new.second ≡ old.greatest) ⊎ (new.second ≡ candidate))
-
 -- some unpinnable piece attacks the square and may go there without promotion
 abbrev pub IsAttacked : Shogi → ℕ → Type 0
 IsAttacked p n = (a : ℕ) × IsAttack p a n false
@@ -76,11 +65,10 @@ IsAttacked p n = (a : ℕ) × IsAttack p a n false
 abbrev pub AreAttacked : Shogi → ℕ → Type 0
 AreAttacked p mask = (n : ℕ) → n < 81 → has_bit mask n ≡ true → ∥ IsAttacked p n ∥₁
 
--- each square of the mask is attacked, and the threats are some
+-- each square of the mask is attacked, and the threat is one
 pub record AreThreatsIn (p : Shogi) (e : Eval) (threats : Threats) : Type 0 where
   pub takes : AreAttacked p threats.takes.bits
   pub greatest : ForSome threats.greatest (IsThreatIn p e)
-  pub second : ForSome threats.second (IsThreatIn p e)
 
 -- threats are in the position, once they were looked for
 abbrev pub AreSomeThreats : Shogi → Eval → Option Threats → Type 0

@@ -1,4 +1,4 @@
-//! What is pruned at a node of depth 2 or 3: moves that surely are not worth enough.
+//! What is pruned at a node of depth 2, 3 or 4: moves that surely are not worth enough.
 
 ghost use Rattle.std.specs.Prelude.{◌≡◌, ◌≤ℤ◌, ◌<ℤ◌, ◌-ℤ◌, pos, true, false};
 ghost use Rattle.shogi_moves.specs.Escapes.{AreEscapes};
@@ -19,39 +19,24 @@ use shogi_replies::{
     ALL_ROLES, MoveFilter, ReplyInfo, escape_squares, king_takes, leaves_escape, put_by,
 };
 
-// Some roles, as masks of their places in the order in which they are declared.
-const ALL_BUT_PAWN: u32 = 16381;
-
-const SILVER_AND_KNIGHT: u32 = 24;
-
-const SILVER: u32 = 16;
-
 // How many replies to moves of a node are tried for refuting others.
 const DULL_TRIES_MAX: u8 = 4;
 
-/// Roles whose promotion gains no more than this, as such a mask; all roles where none gains more.
+/// All roles where no promotion gains more than this, as the bits of their places, and else none.
 #[inline(always)]
 #[tactic(auto, using(crate::proofs::Passed::promoting))]
 fn roles_within(most: u32) -> u32
     ensures { PromotesWithin most result }
 {
     if most >= PROMOTION_GAIN_MAX {
-        return ALL_ROLES;
+        ALL_ROLES
+    } else {
+        0
     }
-    if most >= 300 {
-        return ALL_BUT_PAWN;
-    }
-    if most >= 200 {
-        return SILVER_AND_KNIGHT;
-    }
-    if most >= 100 {
-        return SILVER;
-    }
-    0
 }
 
 impl Frame {
-    ghost use Rattle.search_nodes.specs.Frames.{DropsFailLow, DropFailsLow, HasReply, IsLost, FailsLowIfTaken, IsLostWhere, IsWorthAtMost, MovesLeave, RepliesLoseAtMost};
+    ghost use Rattle.search_nodes.specs.Frames.{DropsFailLow, DropFailsLow, HasReply, IsLost, FailsLowIfTaken, IsLostWhere, IsWorthAtMost, MovesLeave, PrunesDull, RepliesLoseAtMost};
     ghost use Rattle.search_nodes.specs.Order.{IsAtDrops, IsAtQuiets};
     ghost use Rattle.search_nodes.specs.Changes.{IsSame, KeepsMoves, AsksFor, PrunesFiltered};
     ghost use Rattle.shogi_replies.specs.Threats.{IsTaken};
@@ -160,7 +145,6 @@ impl Frame {
             None => Threats {
                 takes: Squares::none(),
                 greatest: None,
-                second: None,
             },
         }
     }
@@ -586,15 +570,26 @@ impl Frame {
         }
     }
 
-    /// Whether the current move of a node of depth 3 is a quiet one that the reply to a move before it
-    /// refutes as well, since it changes nothing of what that leaves.
+    /// Whether a dull move is surely not worth more than its bound there: at depth 3, and at depth 4
+    /// where captures at the end are not settled.
+    #[inline(always)]
+    fn prunes_dull(&self) -> bool
+        ensures { result ≡ true → PrunesDull self.now }
+    {
+        self.depth == 3 || self.depth == 4 && !self.node.eval().resolves_captures()
+    }
+
+    /// Whether the current move is a quiet one that the reply to a move before it refutes as well,
+    /// since it changes nothing of what that leaves.
     fn is_dull(&mut self, current: &Move, reply: &Option<Move>) -> bool
         requires current { IsCurrent self.old.state current.now }
-        requires last { self.old.depth ≡ 3 }
         ensures lost { result ≡ true → IsLost self.new current.now }
         ensures unchanged { KeepsMoves self.old self.new }
     {
-        if !self.is_quiet(current) || !self.has_move && self.best_move.is_none() {
+        if !self.prunes_dull() || !self.is_quiet(current) {
+            return false;
+        }
+        if !self.has_move && self.best_move.is_none() {
             return false;
         }
         let move_alpha = self.move_alpha(current);
@@ -606,10 +601,9 @@ impl Frame {
         }
     }
 
-    /// Prunes the current move of a node of depth 3, where it is dull, and returns whether it did.
+    /// Prunes the current move where it is dull, and returns whether it did.
     fn prune_dull(&mut self, current: &Move, reply: &Option<Move>) -> bool
         requires asked { self.old.state ≡ NodeState.AwaitingChild current.now }
-        requires last { self.old.depth ≡ 3 }
         ensures next { result ≡ true → self.new.state ≡ NodeState.Expanding }
         ensures asked { result ≡ false → self.new.state ≡ self.old.state }
         ensures picker { self.new.picker ≡ self.old.picker }
@@ -622,10 +616,9 @@ impl Frame {
         true
     }
 
-    /// Asks for the answer of the next move at depth 3, where dull moves are pruned.
+    /// Asks for the answer of the next move from depth 3 on, where dull moves are pruned.
     fn next_unrefuted(&mut self, reply: &Option<Move>) -> Option<Move>
         requires next { self.old.state ≡ NodeState.Expanding }
-        requires last { self.old.depth ≡ 3 }
         ensures { AsksFor result self.old self.new }
     {
         'moves: while let Some(current) = self.pick_move() {
@@ -637,8 +630,8 @@ impl Frame {
     }
 
     /// Asks for the answer of the next move, where there is one. At depth 2 the moves that surely are
-    /// not worth enough are pruned, and at depth 3 quiet moves that change nothing of what the reply
-    /// refutes: the best move of the child before, or the one that cut it off.
+    /// not worth enough are pruned, and at depths 3 and 4 quiet moves that change nothing of what the
+    /// reply refutes: the best move of the child before, or the one that cut it off.
     #[inline(always)]
     pub fn next_move(&mut self, reply: Option<Move>) -> Option<Move>
         requires next { self.old.state ≡ NodeState.Expanding }
@@ -647,9 +640,6 @@ impl Frame {
         if self.depth == 2 {
             return self.next_unpruned();
         }
-        if self.depth == 3 {
-            return self.next_unrefuted(&reply);
-        }
-        self.pick_move()
+        self.next_unrefuted(&reply)
     }
 }

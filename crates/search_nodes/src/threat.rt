@@ -10,9 +10,8 @@ ghost use Rattle.shogi_eval.specs.declared.eval.Eval.{Eval};
 ghost use Rattle.shogi_replies.specs.ReplyInfo.{Aligns, IsReplyInfo};
 ghost use Rattle.shogi_replies.specs.Threats.{IsTaken, IsUnpinnable, end_of};
 ghost use Rattle.shogi_core.specs.Validity.{IsValid};
-ghost use Rattle.search_nodes.specs.Threats.{AddsCandidate, AreAttacked, AreTopTwoIn, AreNonInterfering, AreThreatEnds, AreThreatsIn, GainsAfter, HoldsPinning, IsCandidateIn, IsThreatIn, SurvivesAt, SurvivesMove, TakesAfter};
+ghost use Rattle.search_nodes.specs.Threats.{AreAttacked, AreNonInterfering, AreThreatEnds, AreThreatsIn, GainsAfter, HoldsPinning, IsCandidateIn, IsThreatIn, SurvivesAt, SurvivesMove, TakesAfter};
 
-use shogi_core::bits::{lowest, without_lowest};
 use shogi_core::{Move, Piece, Position, Square, Squares, line_mask};
 use shogi_eval::{Eval, promotion_gain, taken_gain};
 use shogi_replies::{
@@ -20,12 +19,12 @@ use shogi_replies::{
 };
 
 /// A move by a piece of the side that is not to move that nothing pins, promoting or not, to a square
-/// without a piece of its side, and what it gains; none where that is 0. Squares are indexes.
+/// without a piece of its side, and what it gains; none where that is 0.
 #[derive(Clone, Copy)]
 pub struct ThreatCandidate {
     pub gain: u32,
-    pub from: u8,
-    pub target: u8,
+    pub from: Square,
+    pub target: Square,
     pub promote: bool,
 }
 
@@ -41,87 +40,61 @@ pub struct Threat {
     pub promote: bool,
 }
 
-/// Such a move that gains most, and one that gains most of those to other squares.
-#[derive(Clone, Copy)]
-pub struct TopTwo {
-    pub greatest: ThreatCandidate,
-    pub second: ThreatCandidate,
-}
-
-/// Squares on which some such piece takes what comes there, and those two moves, where they gain
-/// something.
+/// Squares on which some such piece takes what comes there, and such a move that gains most, where
+/// one gains something.
 #[derive(Clone, Copy)]
 pub struct Threats {
     pub takes: Squares,
     pub greatest: Option<Threat>,
-    pub second: Option<Threat>,
 }
 
-impl TopTwo {
+impl ThreatCandidate {
     /// None.
     #[inline(always)]
-    fn none() -> TopTwo
-        ensures { (p : Shogi) (e : Eval) → AreTopTwoIn p e result }
+    fn none() -> ThreatCandidate
+        ensures { result.gain ≡ 0 }
     {
-        let none = ThreatCandidate {
+        let square = Square::of_index(0);
+        ThreatCandidate {
             gain: 0,
-            from: 0,
-            target: 0,
+            from: square,
+            target: square,
             promote: false,
-        };
-        TopTwo {
-            greatest: none,
-            second: none,
         }
     }
 
-    /// These and one more.
+    /// This one, or of the piece's moves to these squares, promoting or not, one that gains more.
     #[inline(always)]
-    fn with_candidate(self, candidate: ThreatCandidate) -> TopTwo
-        ensures { AddsCandidate self candidate result }
-    {
-        let same = candidate.target == self.greatest.target;
-        if candidate.gain > self.greatest.gain {
-            return TopTwo {
-                greatest: candidate,
-                second: if same { self.second } else { self.greatest },
-            };
-        }
-        if same || candidate.gain <= self.second.gain {
-            return self;
-        }
-        TopTwo {
-            greatest: self.greatest,
-            second: candidate,
-        }
-    }
-
-    /// These and those of the piece's moves, promoting or not, to these squares.
-    #[inline(always)]
-    fn with_ends(self, p: &Position, e: Eval, from: usize, promote: bool, ends: Squares) -> TopTwo
-        requires from { from < 81 }
-        requires top_two { AreTopTwoIn p.now e self }
+    fn with_ends(
+        self,
+        p: &Position,
+        e: Eval,
+        from: Square,
+        promote: bool,
+        ends: Squares,
+    ) -> ThreatCandidate
+        requires candidate { IsCandidateIn p.now e self }
         requires ends { AreThreatEnds p.now from promote ends.bits }
-        ensures { AreTopTwoIn p.now e result }
+        ensures { IsCandidateIn p.now e result }
     {
         if ends.is_empty() {
             return self;
         }
-        let more = promotion_gain(p.at(Square::of_index(from)), promote);
-        let mut left = ends.bits;
-        let mut top_two = self;
-        'targets: while left != 0 {
-            let target = lowest(left);
-            let candidate = ThreatCandidate {
-                gain: taken_gain(e, p.at(Square::of_index(target))) + more,
-                from: from as u8,
-                target: target as u8,
-                promote,
-            };
-            top_two = top_two.with_candidate(candidate);
-            left = without_lowest(left, target);
+        let more = promotion_gain(p.at(from), promote);
+        let mut greatest = self;
+        let mut left = ends.iter();
+        'targets: while let Some(target) = left.next() {
+            let gain = taken_gain(e, p.at(target)) + more;
+            if gain > greatest.gain {
+                greatest = ThreatCandidate {
+                    gain,
+                    from,
+                    target,
+                    promote,
+                };
+            }
         }
-        top_two
+        greatest
     }
 }
 
@@ -152,9 +125,8 @@ fn threat_by(p: &Position, e: Eval, candidate: ThreatCandidate, lines: Squares) 
     if candidate.gain == 0 {
         return None;
     }
-    let from = Square::of_index(candidate.from as usize);
-    let target = Square::of_index(candidate.target as usize);
-    let between = squares_between(candidate.from as usize, candidate.target as usize);
+    let (from, target) = (candidate.from, candidate.target);
+    let between = squares_between(from.index(), target.index());
     Some(Threat {
         way: between.with(from).with(target),
         line: pinning_squares(p, lines, from),
@@ -173,22 +145,18 @@ pub(crate) fn threats_of(p: &Position, e: Eval) -> Threats
     let board = p.as_board();
     let own = board.own(p.side());
     let theirs = board.own(p.side().opponent());
-    let mut left = unpinnable_pieces(p).bits;
-    let mut takes = 0;
-    let mut top_two = TopTwo::none();
-    'attackers: while left != 0 {
-        let from = lowest(left);
-        let square = Square::of_index(from);
-        let attacks = attacks_of(p, square, board.targets(square));
-        takes |= attacks.non_promoting.bits;
-        top_two = top_two.with_ends(p, e, from, false, own & attacks.non_promoting);
-        top_two = top_two.with_ends(p, e, from, true, attacks.promoting.without(theirs));
-        left = without_lowest(left, from);
+    let mut takes = Squares::none();
+    let mut greatest = ThreatCandidate::none();
+    let mut left = unpinnable_pieces(p).iter();
+    'attackers: while let Some(from) = left.next() {
+        let attacks = attacks_of(p, from, board.targets(from));
+        takes = takes | attacks.non_promoting;
+        greatest = greatest.with_ends(p, e, from, false, own & attacks.non_promoting);
+        greatest = greatest.with_ends(p, e, from, true, attacks.promoting.without(theirs));
     }
     Threats {
-        takes: Squares { bits: takes },
-        greatest: threat_by(p, e, top_two.greatest, lines),
-        second: threat_by(p, e, top_two.second, lines),
+        takes,
+        greatest: threat_by(p, e, greatest, lines),
     }
 }
 
@@ -293,10 +261,6 @@ impl Threats {
         } else {
             0
         };
-        let greatest = gain_if_left(&self.greatest, m, put, retake);
-        if greatest > retake {
-            return greatest;
-        }
-        gain_if_left(&self.second, m, put, retake)
+        gain_if_left(&self.greatest, m, put, retake)
     }
 }

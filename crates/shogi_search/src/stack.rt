@@ -389,14 +389,13 @@ impl Stack {
         None
     }
 
-    /// The best move of the last child of a node of depth 3 on top that was entered, or the one that cut
-    /// it off.
+    /// The best move of the last child of the node on top that was entered, or the one that cut it off.
     #[inline(always)]
     fn last_reply(&self) -> Option<Move>
         requires { self.now.height < SEARCH_DEPTH_MAX }
     {
         let above = self.height + 1;
-        if self.frames[self.height].depth == 3 && above < self.frames.len() {
+        if above < self.frames.len() {
             return self.frames[above].best_move;
         }
         None

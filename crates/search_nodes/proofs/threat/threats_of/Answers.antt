@@ -1,4 +1,4 @@
-use Rattle.std.proofs.Common.{◌≡◌, ◌<◌, ◌-◌, ◌^◌, ℕ, true, false, ◌∙◌, sym, subst, ap, arith, inl, inr, bit_and, bit_or, rules}
+use Rattle.std.proofs.Common.{◌≡◌, ◌<◌, ◌-◌, ◌^◌, ℕ, true, false, ◌∙◌, sym, subst, ap, arith, inl, inr, bit_and, bit_or}
 use Rattle.std.proofs.lemmas.Bool.{and_parts, both_ways, not-true, or_cases}
 use Rattle.std.proofs.lemmas.Grind.{merely}
 use Rattle.shogi_core.specs.declared.piece.Color.{Color}
@@ -8,20 +8,11 @@ use Rattle.shogi_core.specs.Movement.{piece_at}
 use Rattle.shogi_core.specs.Pieces.{opponent_of}
 use Rattle.shogi_core.specs.Position.{Shogi}
 use Rattle.shogi_core.proofs.BitLaws.{has_bit-and, has_bit-none, has_bit-or}
-use Rattle.shogi_core.proofs.LineBits.{has_bit-not, or_fits}
+use Rattle.shogi_core.proofs.LineBits.{has_bit-not}
 use Rattle.shogi_moves.proofs.CheckInfoLaws.{other_side}
 use Rattle.shogi_replies.specs.Threats.{IsAttack, IsThreat}
 use Rattle.search_nodes.specs.Threats.{AreAttacked}
 use Rattle.search_nodes.proofs.threat.threats_of.Goals as goal
-
-pub attackers-init : goal.attackers-init
-attackers-init c = record {
-  unpinnable = c.unpinnable_pieces-left.ensures.unpinnable;
-  takes = λ n h e. absurd (both_ways (has_bit 0 n) (has_bit-none n) e);
-  top_two = c.none-top_two.ensures c.args.p.now c.args.e;
-  left = c.unpinnable_pieces-left.result.fits;
-  fits = omega arith;
-}
 
 -- an attack on one of the squares of the mover is a threat
 capture_at : (p : Shogi) (a t own attacks : ℕ) → ((n : ℕ) → n < 81 → has_bit own n ≡ is_piece_of p.side (piece_at p.cells n)) → ((n : ℕ) → n < 81 → has_bit attacks n ≡ true → IsAttack p a n false) → t < 81 → has_bit (bit_and own attacks) t ≡ true → IsThreat p a t false
@@ -41,58 +32,27 @@ attacked_more p a takes plain before more = λ n h e. elim (or_cases (has_bit ta
   | inr here ↦ merely (a, more n h here)
 ]
 
-pub with_ends-top_two-requires-clause-ends : goal.with_ends-top_two-requires-clause-ends
-with_ends-top_two-requires-clause-ends c = λ t h e. capture_at c.args.p.now c.lowest-from.result t c.own-own.result.bits c.attacks_of-attacks.result.non_promoting.bits
-    (subst (λ (s : Color). (n : ℕ) → n < 81 → has_bit c.own-own.result.bits n ≡ is_piece_of s (piece_at c.args.p.now.cells n)) c.side-2.ensures (rw c.as_board-board.ensures at c.own-own.ensures.squares))
-    (rw c.of_index-square.ensures at c.attacks_of-attacks.ensures.non_promoting) h (rw c.bitand.ensures at e)
+pub attackers-init : goal.attackers-init
+attackers-init c = record {
+  unpinnable = rw c.iter-left.ensures c.unpinnable_pieces.ensures.unpinnable;
+  takes = λ n h e. absurd (both_ways (has_bit 0 n) (has_bit-none n) (rw c.none-takes.ensures at e));
+  greatest = λ some. absurd (omega (arith, some, c.none-greatest.ensures));
+}
 
-pub with_ends-top_two-requires-in-attackers-clause-ends :
-    goal.with_ends-top_two-requires-in-attackers-clause-ends
-with_ends-top_two-requires-in-attackers-clause-ends c = λ t h e. promotion_at c.args.p.now c.lowest-from.result t c.own-theirs.result.bits c.attacks_of-attacks.result.promoting.bits (omega arith)
+pub with_ends-greatest-requires-clause-ends : goal.with_ends-greatest-requires-clause-ends
+with_ends-greatest-requires-clause-ends c = λ t h e. capture_at c.args.p.now c.in-Some.from t c.own-own.result.bits c.attacks_of-attacks.result.non_promoting.bits
+    (subst (λ (s : Color). (n : ℕ) → n < 81 → has_bit c.own-own.result.bits n ≡ is_piece_of s (piece_at c.args.p.now.cells n)) c.side-2.ensures (rw c.as_board-board.ensures at c.own-own.ensures.squares))
+    c.attacks_of-attacks.ensures.non_promoting h (rw c.bitand.ensures at e)
+
+pub with_ends-greatest-requires-in-Some-clause-ends :
+    goal.with_ends-greatest-requires-in-Some-clause-ends
+with_ends-greatest-requires-in-Some-clause-ends c = λ t h e. promotion_at c.args.p.now c.in-Some.from t c.own-theirs.result.bits c.attacks_of-attacks.result.promoting.bits (omega arith)
     (subst (λ (s : Color). (n : ℕ) → n < 81 → has_bit c.own-theirs.result.bits n ≡ is_piece_of s (piece_at c.args.p.now.cells n)) (c.opponent-2.ensures ∙ ap opponent_of c.side-3.ensures) (rw c.as_board-board.ensures at c.own-theirs.ensures.squares))
-    (rw c.of_index-square.ensures at c.attacks_of-attacks.ensures.promoting) h (rw c.without.ensures at e)
+    c.attacks_of-attacks.ensures.promoting h (rw c.without.ensures at e)
 
 pub attackers-preserved : goal.attackers-preserved
 attackers-preserved c = record {
-  unpinnable = search rules;
-  takes = attacked_more c.args.p.now c.lowest-from.result c.attackers.takes c.attacks_of-attacks.result.non_promoting.bits c.attackers.invariant.takes (rw c.of_index-square.ensures at c.attacks_of-attacks.ensures.non_promoting);
-  top_two = c.with_ends-top_two-in-attackers.ensures;
-  left = search rules;
-  fits = or_fits c.attackers.takes c.attacks_of-attacks.result.non_promoting.bits c.attackers.invariant.fits c.attacks_of-attacks.result.non_promoting.fits;
+  unpinnable = λ a h e. c.attackers.invariant.unpinnable a h (and_parts _ _ (sym (c.in-Some.ensures.some.rest a) ∙ e)).0;
+  takes = λ n h e. attacked_more c.args.p.now c.in-Some.from c.attackers.takes.bits c.attacks_of-attacks.result.non_promoting.bits c.attackers.invariant.takes c.attacks_of-attacks.ensures.non_promoting n h (rw c.bitor-takes.ensures at e);
+  greatest = c.with_ends-greatest-in-Some.ensures;
 }
-
-pub lowest-from-requires-clause-fits : goal.lowest-from-requires-clause-fits
-lowest-from-requires-clause-fits c = c.attackers.invariant.left
-
-pub without_lowest-left-requires-clause-fits : goal.without_lowest-left-requires-clause-fits
-without_lowest-left-requires-clause-fits c = c.attackers.invariant.left
-
-pub without_lowest-left-requires-clause-set : goal.without_lowest-left-requires-clause-set
-without_lowest-left-requires-clause-set c = c.lowest-from.ensures.set
-
-pub without_lowest-left-requires-clause-least : goal.without_lowest-left-requires-clause-least
-without_lowest-left-requires-clause-least c = c.lowest-from.ensures.least
-
-pub attackers-smaller : goal.attackers-smaller
-attackers-smaller c = c.without_lowest-left.ensures.less
-
-pub of_index-square-requires : goal.of_index-square-requires
-of_index-square-requires c = c.lowest-from.ensures.range
-
-pub with_ends-top_two-requires-clause-from : goal.with_ends-top_two-requires-clause-from
-with_ends-top_two-requires-clause-from c = c.lowest-from.ensures.range
-
-pub with_ends-top_two-requires-clause-top_two : goal.with_ends-top_two-requires-clause-top_two
-with_ends-top_two-requires-clause-top_two c = c.attackers.invariant.top_two
-
-pub with_ends-top_two-requires-in-attackers-clause-from : goal.with_ends-top_two-requires-in-attackers-clause-from
-with_ends-top_two-requires-in-attackers-clause-from c = c.lowest-from.ensures.range
-
-pub with_ends-top_two-requires-in-attackers-clause-top_two : goal.with_ends-top_two-requires-in-attackers-clause-top_two
-with_ends-top_two-requires-in-attackers-clause-top_two c = c.with_ends-top_two.ensures
-
-pub threat_by-requires-clause-candidate : goal.threat_by-requires-clause-candidate
-threat_by-requires-clause-candidate c = c.attackers.invariant.top_two.greatest
-
-pub threat_by-requires-2-clause-candidate : goal.threat_by-requires-2-clause-candidate
-threat_by-requires-2-clause-candidate c = c.attackers.invariant.top_two.second

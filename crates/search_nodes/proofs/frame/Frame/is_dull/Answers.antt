@@ -1,4 +1,4 @@
-use Rattle.std.proofs.Common.{rules, ◌≡◌, ◌≤ℤ◌, ◌-◌, true, ℕ, ap, subst, arith, FitsSigned, w32}
+use Rattle.std.proofs.Common.{rules, ◌≡◌, ◌≤ℤ◌, ◌-◌, true, ℕ, ℤ, sym, subst, arith, inl, inr, FitsSigned, w32}
 use Rattle.std.proofs.lemmas.Int.{ints, to_z-of_z}
 use Rattle.shogi_core.specs.declared.moves.Move.{Move}
 use Rattle.shogi_core.specs.Codes.{code_of}
@@ -6,12 +6,17 @@ use Rattle.shogi_moves.specs.Legal.{is_legal}
 use Rattle.shogi_moves.proofs.LegalLaws.{listed_to_legal}
 use Rattle.shogi_eval.specs.Evaluated.{Evaluated}
 use Rattle.minimax.specs.Minimax.{worth}
-use Rattle.dull_moves.specs.Dull.{AreDull}
+use Rattle.dull_moves.specs.Dull.{AreDull, IsWorthAtMost}
 use Rattle.search_nodes.specs.declared.frame.Frame.{Frame}
-use Rattle.search_nodes.specs.Frames.{move_alpha_of, worth_of}
+use Rattle.search_nodes.specs.Frames.{PrunesDull, move_alpha_of, worth_of}
 use Rattle.search_nodes.proofs.Nodes.{waits}
 use Rattle.search_nodes.proofs.Rows.{lost_kept}
 use Rattle.search_nodes.proofs.frame.Frame.is_dull.Goals as goal
+
+-- the bound holds with as many plies as the node leaves after a move
+worth_there : (f : Frame) (m : Move) (most : ℤ) → PrunesDull f → IsWorthAtMost f.node.position f.node.eval most m → worth_of f m ≤ℤ most
+worth_there f m most (inl three) few = subst (λ (d : ℕ). worth f.node.position f.node.eval (d - 1) (code_of m) ≤ℤ most) (sym three) few.0
+worth_there f m most (inr four) few = subst (λ (d : ℕ). worth f.node.position f.node.eval (d - 1) (code_of m) ≤ℤ most) (sym four.0) (few.1 four.1)
 
 pub returns-then-dull-move_alpha-clause-lost : goal.returns-then-dull-move_alpha-clause-lost
 returns-then-dull-move_alpha-clause-lost c = λ yes.
@@ -21,10 +26,8 @@ returns-then-dull-move_alpha-clause-lost c = λ yes.
     let w : _ = waits _ _ _ _ _ _ _ _ _ _ c.requires.current c.args.self.now.known in
     let legal : is_legal f.node.position m ≡ true = listed_to_legal _ _ c.reveal_invariant.ensures.back w.is_listed in
     let dull : AreDull f.node.position f.node.eval c.in-Some.dull = subst (λ (n : Evaluated). AreDull n.position n.eval c.in-Some.dull) c.look_for_dull.ensures.0.0 (g.refuted c.in-Some.dull c.in-Some.is) in
-    let few : worth f.node.position f.node.eval 2 (code_of m) ≤ℤ c.in-Some.dull.most = dull m c.has.ensures.on_board (c.has.ensures.among yes) (c.is_quiet.ensures c.if-not-is_quiet.false) legal in
-    let two : f.depth - 1 ≡ 2 = ap (λ (d : ℕ). d - 1) c.requires.last in
-    let here : worth_of f m ≡ worth f.node.position f.node.eval 2 (code_of m) = ap (λ (d : ℕ). worth f.node.position f.node.eval d (code_of m)) two in
+    let few : worth_of f m ≤ℤ c.in-Some.dull.most = worth_there f m c.in-Some.dull.most (c.prunes_dull.ensures c.if-not-prunes_dull.false) (dull m c.has.ensures.on_board (c.has.ensures.among yes) (c.is_quiet.ensures c.if-not-is_quiet.false) legal) in
     let fits : FitsSigned w32 c.in-Some.dull.most = search rules in
     let same = to_z-of_z w32 c.in-Some.dull.most fits in
-    let lost : worth_of f m ≤ℤ move_alpha_of f m = omega (arith, ints, few, here, same, c.move_alpha-move_alpha.ensures.move_alpha, c.if-dull-move_alpha.true) in
+    let lost : worth_of f m ≤ℤ move_alpha_of f m = omega (arith, ints, few, same, c.move_alpha-move_alpha.ensures.move_alpha, c.if-dull-move_alpha.true) in
     lost_kept f g m c.look_for_dull.ensures lost

@@ -23,7 +23,6 @@ pub returns-in-None-clause-threats : goal.returns-in-None-clause-threats
 returns-in-None-clause-threats c = record {
   takes = λ n h e. absurd (both_ways (has_bit 0 n) (has_bit-none n) (rw c.none.ensures at e));
   greatest = no_threat (IsThreatIn c.args.self.now.node.position c.args.self.now.node.eval);
-  second = no_threat (IsThreatIn c.args.self.now.node.position c.args.self.now.node.eval);
 }
 
 pub returns-in-None-clause-unchanged : goal.returns-in-None-clause-unchanged

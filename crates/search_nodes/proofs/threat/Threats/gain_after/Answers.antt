@@ -32,18 +32,6 @@ left (Some threat) p e m put gain are v back legal puts after =
       subst (λ (n : ℕ). n ≤ 4000) after.0 is.gains.gain_fits,
     )
 
-pub returns-then-greatest-retake-clause-gain : goal.returns-then-greatest-retake-clause-gain
-returns-then-greatest-retake-clause-gain c = λ some. elim c.gain_if_left-greatest.ensures [
-  | inl least ↦ absurd (omega (arith, least, c.if-greatest-retake.true))
-  | inr after ↦ (left c.args.self.now.greatest c.args.p.now c.args.e c.args.m.now c.put_by-put.result c.gain_if_left-greatest.result c.requires.threats.greatest c.requires.valid c.reveal_invariant.ensures.back c.requires.legal (sym c.put_by-put.ensures) after).0
-]
-
-pub returns-then-greatest-retake-clause-fits : goal.returns-then-greatest-retake-clause-fits
-returns-then-greatest-retake-clause-fits c = elim c.gain_if_left-greatest.ensures [
-  | inl least ↦ absurd (omega (arith, least, c.if-greatest-retake.true))
-  | inr after ↦ (left c.args.self.now.greatest c.args.p.now c.args.e c.args.m.now c.put_by-put.result c.gain_if_left-greatest.result c.requires.threats.greatest c.requires.valid c.reveal_invariant.ensures.back c.requires.legal (sym c.put_by-put.ensures) after).1
-]
-
 pub returns-clause-gain : goal.returns-clause-gain
 returns-clause-gain c = λ some. elim c.gain_if_left.ensures [
   | inl least ↦ retaken _ _ _ _ _ c.requires.threats c.requires.valid c.reveal_invariant.ensures.back c.requires.legal (sym c.end_of.ensures) (omega arith)
@@ -51,7 +39,7 @@ returns-clause-gain c = λ some. elim c.gain_if_left.ensures [
         | then-has w ↦ (sym c.has.ensures ∙ w.if-has.true, least ∙ (w.retake-is ∙ (w.taken_gain-retake.ensures.value ∙ ap (taken_gain c.args.e) c.put_by-put.ensures)))
         | else-has w ↦ absurd (omega (arith, more, least, w.retake-is))
       ]) some
-  | inr after ↦ (left c.args.self.now.second c.args.p.now c.args.e c.args.m.now c.put_by-put.result c.gain_if_left.result c.requires.threats.second c.requires.valid c.reveal_invariant.ensures.back c.requires.legal (sym c.put_by-put.ensures) after).0
+  | inr after ↦ (left c.args.self.now.greatest c.args.p.now c.args.e c.args.m.now c.put_by-put.result c.gain_if_left.result c.requires.threats.greatest c.requires.valid c.reveal_invariant.ensures.back c.requires.legal (sym c.put_by-put.ensures) after).0
 ]
 
 pub returns-clause-fits : goal.returns-clause-fits
@@ -60,5 +48,5 @@ returns-clause-fits c = elim c.gain_if_left.ensures [
     | then-has w ↦ omega (arith, least, w.retake-is, w.taken_gain-retake.ensures.range)
     | else-has w ↦ omega (arith, least, w.retake-is)
   ]
-  | inr after ↦ (left c.args.self.now.second c.args.p.now c.args.e c.args.m.now c.put_by-put.result c.gain_if_left.result c.requires.threats.second c.requires.valid c.reveal_invariant.ensures.back c.requires.legal (sym c.put_by-put.ensures) after).1
+  | inr after ↦ (left c.args.self.now.greatest c.args.p.now c.args.e c.args.m.now c.put_by-put.result c.gain_if_left.result c.requires.threats.greatest c.requires.valid c.reveal_invariant.ensures.back c.requires.legal (sym c.put_by-put.ensures) after).1
 ]
