@@ -7,3 +7,4 @@ pub mod Ahead
 pub mod Passed
 pub mod Passing
 pub mod Rows
+pub mod DullRows

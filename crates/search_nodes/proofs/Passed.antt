@@ -51,7 +51,7 @@ use Rattle.search_nodes.proofs.Ahead.{worth_leaving}
 use Rattle.minimax.proofs.MinimaxLaws.{sum_of_tree_sizes-next}
 
 -- moves that are all worth no more than their threshold
-covered_passed : (f : ℕ → ℤ) (fact : ℕ → Type 0) (all codes left : List ℕ) (alpha best_value : ℤ) (b : Option ℕ) → IsSkipped fact codes left → ((c : ℕ) → fact c → f c ≤ℤ move_alpha best_value b c) → IsCovered f all codes alpha best_value b → IsCovered f all left alpha best_value b
+pub covered_passed : (f : ℕ → ℤ) (fact : ℕ → Type 0) (all codes left : List ℕ) (alpha best_value : ℤ) (b : Option ℕ) → IsSkipped fact codes left → ((c : ℕ) → fact c → f c ≤ℤ move_alpha best_value b c) → IsCovered f all codes alpha best_value b → IsCovered f all left alpha best_value b
 covered_passed f fact all [] left alpha best_value b p low h = subst (λ (xs : List ℕ). IsCovered f all xs alpha best_value b) p h
 covered_passed f fact all (c ∷ codes) left alpha best_value b p low h = elim p [
   | inl same ↦ subst (λ (xs : List ℕ). IsCovered f all xs alpha best_value b) same h

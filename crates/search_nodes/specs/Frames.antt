@@ -1,5 +1,5 @@
 -- What clauses say of a node on the stack and of a move of it (own choice).
-use Rattle.std.specs.Prelude.{◌≡◌, ◌≢◌, ◌≤◌, ◌<◌, ◌⊎◌, ℕ, ◌-◌, ℤ, ◌-ℤ◌, ◌≤ℤ◌, List, [], Bool, true, false, Option, cond, nat_lt}
+use Rattle.std.specs.Prelude.{◌≡◌, ◌≢◌, ◌≤◌, ◌<◌, ◌⊎◌, ℕ, ◌-◌, ℤ, ◌-ℤ◌, ◌≤ℤ◌, List, [], Bool, true, false, Option, Some, cond, nat_lt}
 use Rattle.shogi_core.specs.declared.moves.Move.{Move}
 use Rattle.shogi_core.specs.declared.moves.Move.TheVariants.{Board, Drop}
 use Rattle.shogi_core.specs.declared.piece.Kind.{Kind}
@@ -14,6 +14,7 @@ use Rattle.shogi_moves.specs.LegalMoves.{legal_codes}
 use Rattle.shogi_replies.specs.Passes.{IsGuaranteedDrop}
 use Rattle.shogi_replies.specs.ReplyInfo.{GuaranteesReply, lets_promote, quiet_codes}
 use Rattle.shogi_replies.specs.Threats.{IsTaken, KeepsThreats, MayRetake}
+use Rattle.dull_moves.specs.declared.moves.DullMoves.{DullMoves}
 use Rattle.search_nodes.specs.declared.frame.Frame.{Frame}
 use Rattle.minimax.specs.declared.entry.Entry.{Entry}
 use Rattle.minimax.specs.Entries.{IsConclusive}
@@ -133,3 +134,8 @@ PromotesWithin most roles = (cell : Option Piece) → lets_promote roles cell �
 -- a dull move is worth no more than its bound at the node: with two plies after it, or with three where captures at the end are not settled
 abbrev pub PrunesDull : Frame → Type 0
 PrunesDull f = (f.depth ≡ 3) ⊎ ((f.depth ≡ 4) × (resolves_captures f.node.eval ≡ false))
+
+-- dull moves were found that are not worth enough from a code on
+abbrev pub AreDullFrom : Frame → ℕ → Type 0
+AreDullFrom f code = PrunesDull f × ((d : DullMoves) × (f.dull ≡ Some d)
+    × (d.most ≤ℤ move_alpha f.best_value (code_at f.best_move) code))

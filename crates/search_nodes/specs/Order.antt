@@ -1,11 +1,13 @@
 -- The order in which a node's moves are visited: some moves first, where they are legal, then captures, then the rest, each by rising code (own choice).
-use Rattle.std.specs.Prelude.{ℕ, ◌+◌, ◌-◌, ◌*◌, ◌<◌, ◌≡◌, Bool, true, false, ◌&&◌, not, Option, List, [], ◌++◌, filter, take}
+use Rattle.std.specs.Prelude.{ℕ, ◌+◌, ◌-◌, ◌*◌, ◌<◌, ◌≤◌, ◌≡◌, Bool, true, false, ◌&&◌, not, Option, List, [], ◌++◌, filter, take}
 use denote.Struct.Props as logic
 use Rattle.shogi_core.specs.declared.moves.TheConstants.{FIRST_DROP}
 use Rattle.shogi_core.specs.declared.moves.Move.{Move}
 use Rattle.shogi_core.specs.declared.piece.Kind.{Kind}
+use Rattle.shogi_core.specs.Codes.{code_of}
 use Rattle.shogi_core.specs.Position.{Shogi}
 use Rattle.shogi_moves.specs.Captures.{matches_kind}
+use Rattle.shogi_moves.specs.Legal.{is_legal}
 use Rattle.shogi_moves.specs.LegalMoves.{legal_from}
 use Rattle.shogi_moves.specs.Rising.{is_in}
 use Rattle.shogi_moves.specs.Sweeps.{IsBoardSweep, IsDropSweep}
@@ -14,6 +16,8 @@ use Rattle.shogi_replies.specs.Passes.{IsSkipped, IsGuaranteedMove, IsGuaranteed
 use Rattle.shogi_moves.specs.Walks.{IsNextOf, TakesNext}
 use Rattle.shogi_moves.specs.declared.sweep.BoardSweep.{BoardSweep}
 use Rattle.shogi_moves.specs.declared.sweep.DropSweep.{DropSweep}
+use Rattle.dull_moves.specs.declared.moves.DullMoves.{DullMoves}
+use Rattle.dull_moves.specs.Dull.{IsAmong, IsOnSquares, IsQuietMove}
 use Rattle.minimax.specs.Minimax.{sum_of_tree_sizes, tree_size}
 use Rattle.search_nodes.specs.PriorityMoves.{legal_priority_moves}
 use Rattle.search_nodes.specs.declared.priority_moves.PriorityMoves.{PriorityMoves}
@@ -125,6 +129,29 @@ abbrev pub SkipsDrops : Shogi → ℕ → ℕ → MovePicker → MovePicker → 
 SkipsDrops p squares escapes old new =
     (kind : Kind) (code : ℕ) → IsAtDrops old kind code
     → IsSkipped (IsGuaranteedDrop p kind squares escapes code) (todo p old) (todo p new)
+
+-- quiet moves on the board or drops are under way, from a code on
+abbrev pub IsAtCode : MovePicker → ℕ → Type 0
+IsAtCode (First priority_moves from) code = ⊥
+IsAtCode (Captures priority_moves s) code = ⊥
+IsAtCode (Quiets priority_moves s) code = s.code ≡ code
+IsAtCode (Drops priority_moves s) code = s.code ≡ code
+IsAtCode Done code = ⊥
+
+-- the code is that of a legal dull move, from a code on
+pub record IsDullFrom (p : Shogi) (d : DullMoves) (first code : ℕ) : Type 0 where
+  pub above : first ≤ code
+  pub move : Move
+  pub is : code ≡ code_of move
+  pub on_board : IsOnSquares move
+  pub among : IsAmong d move
+  pub quiet : IsQuietMove p move
+  pub legal : is_legal p move ≡ true
+
+-- where such moves are under way, some are skipped that are dull
+abbrev pub SkipsDull : Shogi → DullMoves → MovePicker → MovePicker → Type 0
+SkipsDull p d old new = (code : ℕ) → IsAtCode old code
+    → IsSkipped (IsDullFrom p d code) (todo p old) (todo p new)
 
 -- what the picker holds beside the codes is true of the position
 abbrev pub IsKept : Shogi → MovePicker → Type 0

@@ -1,15 +1,20 @@
 //! The move picker: in which order a node's moves are visited.
 
+ghost use Rattle.std.specs.Option.{ForSome};
 ghost use Rattle.std.specs.Prelude.{◌≡◌, ◌<◌, Some, None, IfSome, true, false};
 ghost use Rattle.shogi_core.specs.Attack.{in_check};
 ghost use Rattle.shogi_core.specs.Codes.{code_of};
 ghost use Rattle.shogi_moves.specs.Escapes.{AreEscapes};
 ghost use Rattle.shogi_replies.specs.ReplyInfo.{IsReplyInfo};
 ghost use Rattle.shogi_moves.specs.Sweeps.{IsBoardSweep, IsDropSweep};
-ghost use Rattle.search_nodes.specs.Order.{codes_of, others_to_come, todo, todo_after, todo_from, IsAtDrops, IsAtQuiets, IsKept, SkipsDrops, SkipsQuiets, TakesBoardPick, TakesDropPick, TakesPriorityMove, TakesFirstDrop, TakesFirstQuiet, TakesFromSweep};
+ghost use Rattle.shogi_moves.specs.Sweeps.{board_left, drops_left};
+ghost use Rattle.shogi_replies.specs.Passes.{IsSkipped};
+ghost use Rattle.search_nodes.specs.Order.{codes_of, others_to_come, todo, todo_after, todo_from, IsAtCode, IsAtDrops, IsAtQuiets, IsDullFrom, IsKept, SkipsDull, SkipsDrops, SkipsQuiets, TakesBoardPick, TakesDropPick, TakesPriorityMove, TakesFirstDrop, TakesFirstQuiet, TakesFromSweep};
 
 use crate::priority_moves::PriorityMoves;
-use shogi_core::{Kind, Move, Position, Squares};
+use dull_moves::DullMoves;
+use shogi_core::bits::lowest;
+use shogi_core::{Kind, Move, Position, SQUARE_CODES, Squares};
 use shogi_moves::{BoardSweep, DropSweep, KnownPosition, check_info_of};
 use shogi_replies::{MoveFilter, ReplyInfo};
 
@@ -60,6 +65,43 @@ fn next_drop(p: &Position, priority_moves: &PriorityMoves, sweep: &mut DropSweep
         }
     }
     None
+}
+
+/// Skips the destinations of the present piece, up to the first that is not dull.
+fn skip_dull_destinations(p: &Position, dull: &DullMoves, sweep: &mut BoardSweep)
+    requires consistent { IsBoardSweep p.now false sweep.old }
+    ensures consistent { IsBoardSweep p.now false sweep.new }
+    ensures passed { IsSkipped (IsDullFrom p.now dull.now sweep.old.code)
+        (board_left p.now false sweep.old) (board_left p.now false sweep.new) }
+{
+    sweep.from.reveal_invariant();
+    if !dull.pieces.has(sweep.from) {
+        return;
+    }
+    let others = sweep.destinations.non_promoting.without(dull.ends) | sweep.destinations.promoting;
+    if others.is_empty() {
+        sweep.skip_destinations(p, false, 81);
+        return;
+    }
+    let to = lowest(others.bits);
+    if sweep.from.index() as u16 * SQUARE_CODES + 2 * to as u16 > sweep.code {
+        sweep.skip_destinations(p, false, to);
+    }
+}
+
+/// Skips the drops of the present kind, up to the first that is not dull.
+fn skip_dull_drops(p: &Position, dull: &DullMoves, sweep: &mut DropSweep)
+    requires consistent { IsDropSweep p.now sweep.old }
+    ensures consistent { IsDropSweep p.now sweep.new }
+    ensures passed { IsSkipped (IsDullFrom p.now dull.now sweep.old.code)
+        (drops_left p.now sweep.old) (drops_left p.now sweep.new) }
+{
+    let others = sweep.destinations.without(dull.drops.of(sweep.kind));
+    if others.is_empty() {
+        sweep.skip_destinations(p, 81);
+        return;
+    }
+    sweep.skip_destinations(p, lowest(others.bits));
 }
 
 impl MovePicker {
@@ -300,6 +342,37 @@ impl MovePicker {
     {
         if let MovePicker::Drops(_, sweep) = self {
             replies.skip_drops(p, squares, escapes, sweep);
+        }
+    }
+
+    /// The code to continue from where quiet moves on the board or drops are under way.
+    pub(crate) fn quiet_code(&self) -> Option<u16>
+        ensures { IfSome result (IsAtCode self.now) }
+    {
+        match self {
+            MovePicker::Quiets(_, sweep) => Some(sweep.code),
+            MovePicker::Drops(_, sweep) => Some(sweep.code),
+            _ => None,
+        }
+    }
+
+    /// Skips the next moves to visit, as long as they are quiet moves of the present piece, or drops of
+    /// the present kind, that are dull.
+    #[tactic(auto, using(crate::proofs::MatchingOthers::passing_others))]
+    pub(crate) fn skip_dull(&mut self, p: &Position, dull: &Option<DullMoves>)
+        requires consistent { IsKept p.now self.old }
+        ensures consistent { IsKept p.now self.new }
+        ensures passed { ForSome dull.now (λ moves. SkipsDull p.now moves self.old self.new) }
+    {
+        let Some(dull) = dull else {
+            return;
+        };
+        if let MovePicker::Quiets(_, sweep) = self {
+            skip_dull_destinations(p, dull, sweep);
+            return;
+        }
+        if let MovePicker::Drops(_, sweep) = self {
+            skip_dull_drops(p, dull, sweep);
         }
     }
 

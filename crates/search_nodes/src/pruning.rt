@@ -20,7 +20,7 @@ use shogi_replies::{
 };
 
 // How many replies to moves of a node are tried for refuting others.
-const DULL_TRIES_MAX: u8 = 4;
+const DULL_TRIES_MAX: u8 = 8;
 
 /// All roles where no promotion gains more than this, as the bits of their places, and else none.
 #[inline(always)]
@@ -36,7 +36,7 @@ fn roles_within(most: u32) -> u32
 }
 
 impl Frame {
-    ghost use Rattle.search_nodes.specs.Frames.{DropsFailLow, DropFailsLow, HasReply, IsLost, FailsLowIfTaken, IsLostWhere, IsWorthAtMost, MovesLeave, PrunesDull, RepliesLoseAtMost};
+    ghost use Rattle.search_nodes.specs.Frames.{AreDullFrom, DropsFailLow, DropFailsLow, HasReply, IsLost, FailsLowIfTaken, IsLostWhere, IsWorthAtMost, MovesLeave, PrunesDull, RepliesLoseAtMost};
     ghost use Rattle.search_nodes.specs.Order.{IsAtDrops, IsAtQuiets};
     ghost use Rattle.search_nodes.specs.Changes.{IsSame, KeepsMoves, AsksFor, PrunesFiltered};
     ghost use Rattle.shogi_replies.specs.Threats.{IsTaken};
@@ -616,6 +616,36 @@ impl Frame {
         true
     }
 
+    /// Whether the dull moves that were found, if any were, are not worth enough from a code on.
+    fn are_dull_from(&self, code: u16) -> bool
+        requires next { self.now.state ≡ NodeState.Expanding }
+        ensures { result ≡ true → AreDullFrom self.now code }
+    {
+        if !self.prunes_dull() {
+            return false;
+        }
+        let move_alpha = move_alpha_at(self.best_value, &self.best_move, code);
+        match &self.dull {
+            Some(dull) => dull.most <= move_alpha,
+            None => false,
+        }
+    }
+
+    /// Prunes the next moves that are dull: those of the piece, or the drops of the kind, that is under
+    /// way, up to the first that is not.
+    fn prune_dull_row(&mut self)
+        requires next { self.old.state ≡ NodeState.Expanding }
+        ensures { PrunesFiltered self.old self.new }
+    {
+        let Some(code) = self.picker.quiet_code() else {
+            return;
+        };
+        if self.are_dull_from(code) {
+            self.picker
+                .skip_dull(self.node.as_position(), &self.dull);
+        }
+    }
+
     /// Asks for the answer of the next move from depth 3 on, where dull moves are pruned.
     fn next_unrefuted(&mut self, reply: &Option<Move>) -> Option<Move>
         requires next { self.old.state ≡ NodeState.Expanding }
@@ -625,6 +655,7 @@ impl Frame {
             if !self.prune_dull(&current, reply) {
                 return Some(current);
             }
+            self.prune_dull_row();
         }
         None
     }

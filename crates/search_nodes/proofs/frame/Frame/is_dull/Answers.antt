@@ -10,13 +10,9 @@ use Rattle.dull_moves.specs.Dull.{AreDull, IsWorthAtMost}
 use Rattle.search_nodes.specs.declared.frame.Frame.{Frame}
 use Rattle.search_nodes.specs.Frames.{PrunesDull, move_alpha_of, worth_of}
 use Rattle.search_nodes.proofs.Nodes.{waits}
+use Rattle.search_nodes.proofs.DullRows.{worth_there}
 use Rattle.search_nodes.proofs.Rows.{lost_kept}
 use Rattle.search_nodes.proofs.frame.Frame.is_dull.Goals as goal
-
--- the bound holds with as many plies as the node leaves after a move
-worth_there : (f : Frame) (m : Move) (most : ℤ) → PrunesDull f → IsWorthAtMost f.node.position f.node.eval most m → worth_of f m ≤ℤ most
-worth_there f m most (inl three) few = subst (λ (d : ℕ). worth f.node.position f.node.eval (d - 1) (code_of m) ≤ℤ most) (sym three) few.0
-worth_there f m most (inr four) few = subst (λ (d : ℕ). worth f.node.position f.node.eval (d - 1) (code_of m) ≤ℤ most) (sym four.0) (few.1 four.1)
 
 pub returns-then-dull-move_alpha-clause-lost : goal.returns-then-dull-move_alpha-clause-lost
 returns-then-dull-move_alpha-clause-lost c = λ yes.
