@@ -1,7 +1,7 @@
 -- A run over a front end, between two reads and at its ends.
-use Rattle.std.proofs.Common.{◌≡◌, ◌<◌, ◌+◌, ◌-◌, ◌^◌, ℕ, List, [], ◌∷◌, ◌++◌, Bool, Option, None, Some, Result, IsErrAnd, Ok, Err, refl, sym, ap, ◌∙◌, append_assoc, append-nil, true, false, inl, inr, length, take, ◌≤◌, arith}
+use Rattle.std.proofs.Common.{◌≡◌, ◌<◌, ◌+◌, ◌-◌, ◌^◌, ℕ, List, [], ◌∷◌, ◌++◌, Bool, Option, None, Some, Result, IsErrAnd, Ok, Err, refl, sym, subst, ap, ◌∙◌, append_assoc, append-nil, true, false, inl, inr, length, take, ◌≤◌, arith}
 use Rattle.std.specs.Io.KnownBytes.{Appends, Consumes, IsAtEnd, Keeps}
-use Rattle.std.proofs.KnownBytes.{Appends-nil, Appends-trans, Appends-kept, Consumes-nil, Consumes-trans, Consumes-kept}
+use Rattle.std.proofs.KnownBytes.{Appends-nil, Appends-trans, Appends-kept, Consumes-nil, Consumes-trans, Consumes-kept, Keeps-refl}
 use Rattle.usi_texts.specs.declared.setup.Setup.{Setup}
 use Rattle.usi_lines.specs.Lines.{lines}
 use Rattle.usi_session.specs.declared.state.State.{State}
@@ -10,13 +10,13 @@ use Rattle.usi_session.specs.Due.{SessionView, due, state_due, wants_input, new_
 use Rattle.usi_session.specs.WholeStream.{replies_under, state_from, is_over_after_under}
 use Rattle.usi_session.proofs.Settled.{due-over, due-wanting, state_due-over, state_due-wanting, wants_after, new_wants_under, initial_state_alive_under}
 use Rattle.usi_session.specs.declared.limits.TheConstants.{CHUNK_MAX}
-use Rattle.usi_stdio.specs.Calls.{Call, Read, FailedRead, Report, Reads, Makes}
+use Rattle.usi_stdio.specs.Calls.{Call, Read, FailedRead, Report, Reads, Makes, Takes, given_by, of_calls, taken_by}
 use Rattle.usi_stdio.specs.Dialogue.{Talk, Talks, IsDialogue, IsFront, EndsAs, MayFollow, after_call, after_calls, asked_by_read, no_call}
 use Rattle.usi_stdio.specs.Saying.{quiet, SaysTo, SaysPrefix, Answers, asked_by}
 use Rattle.usi_stdio.specs.Stdio.{StopsInTime, IsServed, IsLeft}
 use Rattle.usi_stdio.specs.declared.streams.StdioFault.{StdioFault}
 use Rattle.usi_stdio.specs.declared.streams.StdioFault.TheVariants.{OutOfMemory, ReadFailed, WriteFailed}
-use Rattle.usi_stdio.proofs.Talking.{called_none, called_then, after_both, after_one, dialogue_both, dialogue_call, read_goes_on}
+use Rattle.usi_stdio.proofs.Talking.{called_none, called_then, after_both, after_one, dialogue_both, dialogue_call, gives_at, read_goes_on, takes_at}
 
 -- between two reads: what was written and what is owed are the replies, and the session may be fed
 pub record IsBetween (setup : Setup) (before now : Report) (s : SessionView) (reads : ℕ) : Type 0 where
@@ -88,10 +88,14 @@ ends_by setup t WriteFailed e = e
 -- nothing was read or written
 pub left_start : (setup : Setup) (r : Report) → IsLeft setup r r
 left_start setup r = record {
-  read = [];
-  consumed = Consumes-nil r.unread;
-  written = (replies_under setup [], record { done = []; appended = Appends-nil r.written; split = refl });
-  stops = record { prefix = []; chunk = []; split = refl; most = omega arith; alive = initial_state_alive_under setup };
+  cut_short = record {
+    read = [];
+    consumed = Consumes-nil r.unread;
+    written = (replies_under setup [], record { done = []; appended = Appends-nil r.written; split = refl });
+    stops = record { prefix = []; chunk = []; split = refl; most = omega arith; alive = initial_state_alive_under setup };
+  };
+  given = Appends-nil (of_calls given_by r.calls);
+  taken = Appends-nil (of_calls taken_by r.calls);
 }
 
 -- before the first read
@@ -128,20 +132,25 @@ read_more {setup} before mid now s reads n buf chunk b r same = rw same (record 
   stands = after_one no_call b.calls (Read (take n buf)) ∙ ap (λ t. after_call t (Read (take n buf))) b.stands;
 })
 
--- what was written while a session wants input, and nothing further was read
-left_between : {setup : Setup} (before mid now : Report) (s : SessionView) (reads : ℕ) → IsBetween setup before mid s reads → Keeps mid.unread now.unread → Keeps mid.written now.written → IsLeft setup before now
-left_between {setup} before mid now s reads b unread written = record {
-  read = b.read;
-  consumed = Consumes-kept before.unread mid.unread now.unread b.read b.consumed unread;
-  written = (
-    [],
-    record {
-      done = b.made;
-      appended = Appends-kept before.written mid.written now.written b.made b.written written;
-      split = sym (all_written before mid s reads b) ∙ sym (append-nil b.made);
-    },
-  );
-  stops = stops_between before mid s reads b;
+-- nothing further was read or written by these calls
+left_between : {setup : Setup} (before mid now : Report) (s : SessionView) (reads : ℕ) (calls : List Call) (o : Option (Result (Unit {0}) StdioFault)) (b : IsBetween setup before mid s reads) → Keeps mid.unread now.unread → Keeps mid.written now.written
+    → Makes before.calls now.calls calls → after_calls no_call calls ≡ record (quiet b.read reads b.made) { outcome = o } → IsLeft setup before now
+left_between {setup} before mid now s reads calls o b unread written called stands = record {
+  cut_short = record {
+    read = b.read;
+    consumed = Consumes-kept before.unread mid.unread now.unread b.read b.consumed unread;
+    written = (
+      [],
+      record {
+        done = b.made;
+        appended = Appends-kept before.written mid.written now.written b.made b.written written;
+        split = sym (all_written before mid s reads b) ∙ sym (append-nil b.made);
+      },
+    );
+    stops = stops_between before mid s reads b;
+  };
+  given = gives_at before.calls now.calls calls _ called stands;
+  taken = takes_at before.calls now.calls calls _ called stands;
 }
 
 front_between : {setup : Setup} (before now : Report) (s : SessionView) (reads : ℕ) (b : IsBetween setup before now s reads) (o : Option (Result (Unit {0}) StdioFault)) → IsFront setup (record (quiet b.read reads b.made) { outcome = o })
@@ -149,7 +158,8 @@ front_between {setup} before now s reads b o = ([], sym (all_written before now 
 
 -- a read failed
 pub left_failed : {setup : Setup} {E : Type 0} (before mid now : Report) (s : SessionView) (reads : ℕ) (buf : List ℕ) (error : E) → IsBetween setup before mid s reads → Reads mid now (Err error) buf → IsLeft setup before now
-left_failed {setup} before mid now s reads buf error b r = left_between before mid now s reads b r.consumed r.written
+left_failed {setup} before mid now s reads buf error b r =
+    left_between before mid now s reads (b.calls ++ (FailedRead ∷ [])) (Some (Err ReadFailed)) b r.consumed r.written (called_then before.calls mid.calls now.calls b.calls (FailedRead ∷ []) b.called r.called) (after_one no_call b.calls FailedRead ∙ ap (λ t. after_call t FailedRead) b.stands)
 
 pub talks_failed : {setup : Setup} {E : Type 0} (before mid now : Report) (s : SessionView) (reads : ℕ) (buf : List ℕ) (error : E) → IsBetween setup before mid s reads → Reads mid now (Err error) buf → Talks setup before.calls now.calls (Err ReadFailed)
 talks_failed {setup} before mid now s reads buf error b r =
@@ -157,33 +167,35 @@ talks_failed {setup} before mid now s reads buf error b r =
 
 -- no further read is tried
 pub left_many : {setup : Setup} (before mid : Report) (s : SessionView) (reads : ℕ) → IsBetween setup before mid s reads → IsLeft setup before mid
-left_many {setup} before mid s reads b = record {
-  read = b.read;
-  consumed = b.consumed;
-  written = ([], record { done = b.made; appended = b.written; split = sym (all_written before mid s reads b) ∙ sym (append-nil b.made) });
-  stops = stops_between before mid s reads b;
-}
+left_many {setup} before mid s reads b = left_between before mid mid s reads b.calls None b (Keeps-refl mid.unread) (Keeps-refl mid.written) b.called b.stands
 
 pub talks_many : {setup : Setup} (before mid : Report) (s : SessionView) (reads : ℕ) → IsBetween setup before mid s reads → reads ≡ 2 ^ 64 - 1 → Talks setup before.calls mid.calls (Err ReadFailed)
 talks_many {setup} before mid s reads b all =
     talks_at setup before.calls mid.calls b.calls (quiet b.read reads b.made) (Err ReadFailed) b.called b.dialogue b.stands (front_between before mid s reads b None) (inr (refl, all))
 
 -- the input ended
+all_at_end : {setup : Setup} (before now : Report) (s : SessionView) (reads : ℕ) (none : List ℕ) (r : IsRead setup before now s reads none) → none ≡ [] → r.b.made ≡ replies_under setup (r.b.read ++ none)
+all_at_end {setup} before now s reads none r e =
+    all_written before r.old s reads r.b ∙ ap (replies_under setup) (sym (ap (λ xs. r.b.read ++ xs) e ∙ append-nil r.b.read))
+
 pub served_at_end : {setup : Setup} (before now : Report) (s : SessionView) (reads : ℕ) (none : List ℕ) → IsRead setup before now s reads none → none ≡ [] → IsAtEnd now.unread → IsServed setup before now
 served_at_end {setup} before now s reads none r e ended =
-    let same : r.b.read ++ none ≡ r.b.read = ap (λ xs. r.b.read ++ xs) e ∙ append-nil r.b.read in
+    let written : r.b.made ≡ replies_under setup (r.b.read ++ none) = all_at_end before now s reads none r e in
     record {
-      read = r.b.read;
-      consumed = rw same at r.consumed;
-      written = rw (← all_written before r.old s reads r.b) r.written;
-      ended = inl ended;
-      stops = stops_between before r.old s reads r.b;
+      answered = record {
+        read = r.b.read ++ none;
+        consumed = r.consumed;
+        written = subst (λ bytes. Appends before.written now.written bytes) written r.written;
+        ended = inl ended;
+        stops = stops_at before r.old s reads none r.b (rw e (omega arith));
+      };
+      given = gives_at before.calls now.calls r.calls _ r.called r.stands;
+      taken = subst (λ bytes. Takes before.calls now.calls bytes) written (takes_at before.calls now.calls r.calls _ r.called r.stands);
     }
 
 pub talks_at_end : {setup : Setup} (before now : Report) (s : SessionView) (reads : ℕ) (none : List ℕ) (done : Unit {0}) → IsRead setup before now s reads none → none ≡ [] → Talks setup before.calls now.calls (Ok done)
 talks_at_end {setup} before now s reads none done r e =
-    let same : r.b.read ++ none ≡ r.b.read = ap (λ xs. r.b.read ++ xs) e ∙ append-nil r.b.read in
-    let written : r.b.made ≡ replies_under setup (r.b.read ++ none) = all_written before r.old s reads r.b ∙ ap (replies_under setup) (sym same) in
+    let written : r.b.made ≡ replies_under setup (r.b.read ++ none) = all_at_end before now s reads none r e in
     talks_at setup before.calls now.calls r.calls _ (Ok done) r.called r.dialogue r.stands ([], sym written ∙ sym (append-nil r.b.made)) ((written, refl), inl (ap asked_by_read e))
 
 -- what is owed and left once a chunk was answered
@@ -234,15 +246,22 @@ is_over : {setup : Setup} (before now new : Report) (s t : SessionView) (reads :
 is_over {setup} before now new s t reads chunk r w over =
     ap (λ xs. is_over_after_under setup xs) (sym (append-nil (r.b.read ++ chunk))) ∙ (ap (λ (q : State). q.is_over) (sym (left_more before now new s t reads chunk r w [])) ∙ state_due-over t [] over)
 
-pub served_over : {setup : Setup} (before now new : Report) (s t : SessionView) (reads : ℕ) (chunk : List ℕ) → IsRead setup before now s reads chunk → Answers s t chunk now new → t.state.is_over ≡ true → length chunk ≤ CHUNK_MAX → IsServed setup before new
-served_over {setup} before now new s t reads chunk r w over most =
+pub served_over : {setup : Setup} (before now new : Report) (s t : SessionView) (reads : ℕ) (chunk : List ℕ) → IsRead setup before now s reads chunk → 0 < length chunk → Answers s t chunk now new → t.state.is_over ≡ true → length chunk ≤ CHUNK_MAX → IsServed setup before new
+served_over {setup} before now new s t reads chunk r some w over most =
+    let all : r.b.made ++ w.made ≡ replies_under setup (r.b.read ++ chunk) = all_said before now new s t reads chunk r w over in
+    let called : Makes before.calls new.calls (r.calls ++ w.written.calls) = called_then before.calls now.calls new.calls r.calls w.written.calls r.called w.written.called in
+    let taken : Takes before.calls new.calls (r.b.made ++ w.made) = takes_at before.calls new.calls (r.calls ++ w.written.calls) _ called (said_stands before now new s reads chunk w.made _ _ r some w.written) in
     let appended : Appends before.written new.written (r.b.made ++ w.made) = Appends-trans before.written now.written new.written r.b.made w.made r.written w.written.written in
     record {
-      read = r.b.read ++ chunk;
-      consumed = rw w.written.unread r.consumed;
-      written = rw (all_said before now new s t reads chunk r w over) at appended;
-      ended = inr (is_over before now new s t reads chunk r w over);
-      stops = stops_at before r.old s reads chunk r.b most;
+      answered = record {
+        read = r.b.read ++ chunk;
+        consumed = rw w.written.unread r.consumed;
+        written = rw all at appended;
+        ended = inr (is_over before now new s t reads chunk r w over);
+        stops = stops_at before r.old s reads chunk r.b most;
+      };
+      given = gives_at before.calls new.calls (r.calls ++ w.written.calls) _ called (said_stands before now new s reads chunk w.made _ _ r some w.written);
+      taken = rw all at taken;
     }
 
 pub talks_over : {setup : Setup} (before now new : Report) (s t : SessionView) (reads : ℕ) (chunk : List ℕ) (done : Unit {0}) → IsRead setup before now s reads chunk → 0 < length chunk → Answers s t chunk now new → t.state.is_over ≡ true → Talks setup before.calls new.calls (Ok done)
@@ -255,20 +274,26 @@ split_left : {setup : Setup} (before now : Report) (s : SessionView) (reads : �
 split_left {setup} before now s reads chunk done left r e =
     sym (r.b.owed chunk) ∙ (ap (λ xs. r.b.made ++ xs) e ∙ sym (append_assoc r.b.made done left))
 
-pub left_chunk : {setup : Setup} (before now new : Report) (s : SessionView) (reads : ℕ) (chunk : List ℕ) (fault : StdioFault) → IsRead setup before now s reads chunk → SaysPrefix now new (due s chunk) fault → length chunk ≤ CHUNK_MAX → IsLeft setup before new
-left_chunk {setup} before now new s reads chunk fault r (left, w) most = record {
-  read = r.b.read ++ chunk;
-  consumed = rw w.said.unread r.consumed;
-  written = (
-    left,
+pub left_chunk : {setup : Setup} (before now new : Report) (s : SessionView) (reads : ℕ) (chunk : List ℕ) (fault : StdioFault) → IsRead setup before now s reads chunk → 0 < length chunk → SaysPrefix now new (due s chunk) fault → length chunk ≤ CHUNK_MAX → IsLeft setup before new
+left_chunk {setup} before now new s reads chunk fault r some (left, w) most =
+    let called : Makes before.calls new.calls (r.calls ++ w.said.calls) = called_then before.calls now.calls new.calls r.calls w.said.calls r.called w.said.called in
     record {
-      done = r.b.made ++ w.done;
-      appended = Appends-trans before.written now.written new.written r.b.made w.done r.written w.said.written;
-      split = split_left before now s reads chunk w.done left r w.split;
-    },
-  );
-  stops = stops_at before r.old s reads chunk r.b most;
-}
+      cut_short = record {
+        read = r.b.read ++ chunk;
+        consumed = rw w.said.unread r.consumed;
+        written = (
+          left,
+          record {
+            done = r.b.made ++ w.done;
+            appended = Appends-trans before.written now.written new.written r.b.made w.done r.written w.said.written;
+            split = split_left before now s reads chunk w.done left r w.split;
+          },
+        );
+        stops = stops_at before r.old s reads chunk r.b most;
+      };
+      given = gives_at before.calls new.calls (r.calls ++ w.said.calls) _ called (said_stands before now new s reads chunk w.done _ _ r some w.said);
+      taken = takes_at before.calls new.calls (r.calls ++ w.said.calls) _ called (said_stands before now new s reads chunk w.done _ _ r some w.said);
+    }
 
 pub talks_chunk : {setup : Setup} (before now new : Report) (s : SessionView) (reads : ℕ) (chunk : List ℕ) (fault : StdioFault) → IsRead setup before now s reads chunk → 0 < length chunk → SaysPrefix now new (due s chunk) fault → Talks setup before.calls new.calls (Err fault)
 talks_chunk {setup} before now new s reads chunk fault r some (left, w) =

@@ -1,8 +1,8 @@
 -- What a memory was told, slice by slice, line by line and chunk by chunk.
-use Rattle.std.proofs.Common.{◌≡◌, ◌∙◌, ℕ, List, [], ◌++◌, Bool, true, false, cond, Option, Result, Ok, Err, refl, sym, ap, subst, take, append_assoc, append-nil}
-use Rattle.std.specs.Prelude.{OnOk}
-use Rattle.std.specs.Io.KnownBytes.{Consumes, Keeps}
-use Rattle.std.proofs.KnownBytes.{Consumes-nil, Consumes-trans, Consumes-kept}
+use Rattle.std.proofs.Common.{◌≡◌, ◌∙◌, ℕ, List, [], ◌∷◌, ◌++◌, Bool, true, false, cond, Option, Result, Ok, Err, refl, sym, ap, subst, take, append_assoc, append-nil}
+use Rattle.std.specs.Prelude.{OnOk, flat_map}
+use Rattle.std.specs.Io.KnownBytes.{Consumes}
+use Rattle.std.proofs.KnownBytes.{Appends-nil, Appends-trans, Consumes-nil, Consumes-trans}
 use Rattle.shared_table.specs.Recent.{Table, new_table}
 use Rattle.shared_table.specs.Uses.{IsUsed}
 use Rattle.shogi_search.specs.Calls.{Call}
@@ -13,9 +13,10 @@ use Rattle.usi_session.specs.Roots.{Root}
 use Rattle.usi_session.specs.Told.{AreTold, TellsEndedFor}
 use Rattle.usi_session.proofs.Steps.{no_roots}
 use Rattle.usi_session.proofs.TellsLaws.{none_called, told_and_told}
-use Rattle.usi_stdio.specs.Calls.{Report, Reads}
-use Rattle.usi_stdio.specs.Remembered.{IsTold, TellsFed, TellsMemory, TellsTable, roots_under}
-use Rattle.usi_stdio.specs.Saying.{IsWritten}
+use Rattle.usi_stdio.specs.Calls.{Gives, Makes, Read, Reads, Report, given_by, of_calls}
+use Rattle.usi_stdio.specs.Remembered.{TellsFed, TellsMemory, TellsTable, roots_under}
+use Rattle.usi_stdio.specs.Saying.{IsWritten, Says}
+use Rattle.usi_stdio.proofs.Talking.{called_then, gives_nothing, moves_more, says_nothing}
 
 -- what follows from what holds after a success
 pub on_ok : {T E : Type 0} {P Q : Type 0} (r : Result T E) → (P → Q) → OnOk r P → OnOk r Q
@@ -83,6 +84,7 @@ told_over called a b before now chunk rest h over = record {
 pub record IsToldOf {M : Type 0} (called : M → Call → M → Type 0) (setup : Setup) (before now : Report) (old new : M) (s : SessionView) : Type 0 where
   pub read : List ℕ
   pub consumed : Consumes before.unread now.unread read
+  pub given : Gives before.calls now.calls read
   pub ended : List Root
   pub left : (x : List ℕ) → roots_under setup (read ++ x) ≡ ended ++ roots_due s x
   pub told : AreTold called old ended new
@@ -94,18 +96,27 @@ unfolding AreTold
 told_start called setup r a s new = record {
   read = [];
   consumed = Consumes-nil r.unread;
+  given = Appends-nil (of_calls given_by r.calls);
   ended = [];
   left = λ x. ap (λ (t : SessionView). roots_due t x) (sym new);
   told = none_called called a;
 }
 
+-- a chunk was read, and bytes were written
+gives_chunk : (before mid now new : Report) (read bytes chunk : List ℕ) → Gives before.calls mid.calls read → Makes mid.calls now.calls (Read chunk ∷ []) → (w : Says now new bytes) → Gives before.calls new.calls (read ++ chunk)
+gives_chunk before mid now new read bytes chunk h r w =
+    let more : Gives mid.calls new.calls (chunk ++ flat_map given_by w.calls) = moves_more given_by mid.calls new.calls (Read chunk ∷ w.calls) (called_then mid.calls now.calls new.calls (Read chunk ∷ []) w.calls r w.called) in
+    let none : chunk ++ flat_map given_by w.calls ≡ chunk = ap (λ xs. chunk ++ xs) (gives_nothing w.calls bytes _ _ w.spoken) ∙ append-nil chunk in
+    Appends-trans (of_calls given_by before.calls) (of_calls given_by mid.calls) (of_calls given_by new.calls) read chunk h (rw none at more)
+
 -- a chunk was read and answered
-pub told_chunk : {M : Type 0} {E : Type 0} (called : M → Call → M → Type 0) (setup : Setup) (before mid now new : Report) (a b c : M) (s t : SessionView) (n : ℕ) (buf chunk : List ℕ)
-    → IsToldOf called setup before mid a b s → Reads {E = E} mid now (Ok n) buf → chunk ≡ take n buf → new.unread ≡ now.unread
+pub told_chunk : {M : Type 0} {E : Type 0} (called : M → Call → M → Type 0) (setup : Setup) (before mid now new : Report) (a b c : M) (s t : SessionView) (n : ℕ) (buf chunk bytes : List ℕ)
+    → IsToldOf called setup before mid a b s → Reads {E = E} mid now (Ok n) buf → chunk ≡ take n buf → Says now new bytes
     → TellsFed called b c s chunk t → IsToldOf called setup before new a c t
-told_chunk called setup before mid now new a b c s t n buf chunk h r same kept w = record {
+told_chunk called setup before mid now new a b c s t n buf chunk bytes h r same said w = record {
   read = h.read ++ chunk;
-  consumed = rw (kept, same) (Consumes-trans before.unread mid.unread now.unread h.read (take n buf) h.consumed r.consumed.0);
+  consumed = rw (said.unread, same) (Consumes-trans before.unread mid.unread now.unread h.read (take n buf) h.consumed r.consumed.0);
+  given = rw same (gives_chunk before mid now new h.read bytes (take n buf) h.given r.called said);
   ended = h.ended ++ w.ended;
   left = λ x. ap (roots_under setup) (append_assoc h.read chunk x)
       ∙ (h.left (chunk ++ x)
@@ -124,6 +135,7 @@ pub told_all : {M : Type 0} (called : M → Call → M → Type 0) (setup : Setu
 told_all called setup before now a b s h settled = record {
   read = h.read;
   consumed = h.consumed;
+  given = h.given;
   told = subst (λ (roots : List Root). AreTold called a roots b) (all_told called setup before now a b s h settled) h.told;
 }
 
@@ -132,8 +144,9 @@ pub told_at_end : {M : Type 0} {E : Type 0} (called : M → Call → M → Type 
     → IsToldOf called setup before mid a b s → Reads {E = E} mid now (Ok n) buf → n ≡ 0 → is_pending s ≡ false → TellsMemory called setup before now a b
 told_at_end called setup before mid now a b s n buf h r none settled =
     let read : Consumes before.unread now.unread (h.read ++ take n buf) = Consumes-trans before.unread mid.unread now.unread h.read (take n buf) h.consumed r.consumed.0 in
+    let given : Gives before.calls now.calls (h.read ++ take n buf) = gives_chunk before mid now now h.read [] (take n buf) h.given r.called (says_nothing now) in
     let nothing : h.read ++ take n buf ≡ h.read = ap (λ (k : ℕ). h.read ++ take k buf) none ∙ append-nil h.read in
-    told_all called setup before now a b s (record { read = h.read; consumed = rw nothing at read; ended = h.ended; left = h.left; told = h.told }) settled
+    told_all called setup before now a b s (record { read = h.read; consumed = rw nothing at read; given = rw nothing at given; ended = h.ended; left = h.left; told = h.told }) settled
 
 -- a new table was told
 pub told_table : {T E : Type 0} (r : Result T E) (setup : Setup) (entries : ℕ) (before after : Report) (old new : Table)

@@ -1,9 +1,12 @@
 -- Calls after calls.
-use Rattle.std.proofs.Common.{◌≡◌, ◌<◌, ℕ, List, [], ◌∷◌, ◌++◌, Bool, true, false, Option, None, Some, Result, Err, refl, sym, ap, ◌∙◌, append_assoc, append-nil, length, arith}
+use Rattle.std.proofs.Common.{◌≡◌, ◌<◌, ℕ, List, [], ◌∷◌, ◌++◌, Bool, true, false, Option, None, Some, Result, Err, refl, sym, subst, ap, ◌∙◌, append_assoc, append-nil, length, arith}
 use Rattle.std.proofs.KnownBytes.{Appends-nil, Appends-trans}
+use Rattle.std.proofs.lemmas.Grind.{flat_map-append}
+use Rattle.std.specs.Io.KnownBytes.{Appends}
+use Rattle.std.specs.Prelude.{flat_map}
 use Rattle.usi_texts.specs.declared.setup.Setup.{Setup}
-use Rattle.usi_stdio.specs.Calls.{Call, Write, Flush, FailedWrite, FailedFlush, Makes, Report}
-use Rattle.usi_stdio.specs.Dialogue.{Talk, after_call, after_calls, asked_by_read, asked_by_write, MayFollow, IsDialogue}
+use Rattle.usi_stdio.specs.Calls.{Call, Read, Write, Flush, FailedRead, FailedWrite, FailedFlush, Gives, Makes, Report, Takes, given_by, of_calls, taken_by}
+use Rattle.usi_stdio.specs.Dialogue.{Talk, no_call, after_call, after_calls, asked_by_read, asked_by_write, MayFollow, IsDialogue}
 use Rattle.usi_stdio.specs.Saying.{quiet, Speaks, SaysTo, Says}
 use Rattle.usi_stdio.specs.declared.streams.StdioFault.{StdioFault}
 use Rattle.usi_stdio.specs.declared.streams.StdioFault.TheVariants.{WriteFailed}
@@ -33,6 +36,39 @@ dialogue_call setup t x c p none may = dialogue_both setup t x (c ∷ []) p (non
 
 pub after_one : (t : Talk) (x : List Call) (c : Call) → after_calls t (x ++ (c ∷ [])) ≡ after_call (after_calls t x) c
 after_one t x c = after_both t x (c ∷ [])
+
+-- ---- the bytes of calls
+
+-- the bytes of further calls come behind those of the calls before
+pub moves_more : (bytes_of : Call → List ℕ) (a b : Option (List Call)) (calls : List Call) → Makes a b calls → Appends (of_calls bytes_of a) (of_calls bytes_of b) (flat_map bytes_of calls)
+moves_more bytes_of None b calls m = tt
+moves_more bytes_of (Some before) b calls m = rw m (flat_map-append bytes_of before calls)
+
+-- what was read and written after some calls
+moves_after : (t : Talk) (calls : List Call) → ((after_calls t calls).read ≡ t.read ++ flat_map given_by calls) × ((after_calls t calls).written ≡ t.written ++ flat_map taken_by calls)
+moves_after t [] = (sym (append-nil t.read), sym (append-nil t.written))
+moves_after t (Read bytes ∷ rest) =
+    let more = moves_after (after_call t (Read bytes)) rest in
+    (more.0 ∙ append_assoc t.read bytes (flat_map given_by rest), more.1)
+moves_after t (Write bytes ∷ rest) =
+    let more = moves_after (after_call t (Write bytes)) rest in
+    (more.0, more.1 ∙ append_assoc t.written bytes (flat_map taken_by rest))
+moves_after t (Flush ∷ rest) = moves_after (after_call t Flush) rest
+moves_after t (FailedRead ∷ rest) = moves_after (after_call t FailedRead) rest
+moves_after t (FailedWrite ∷ rest) = moves_after (after_call t FailedWrite) rest
+moves_after t (FailedFlush ∷ rest) = moves_after (after_call t FailedFlush) rest
+
+pub gives_at : (old new : Option (List Call)) (calls : List Call) (t : Talk) → Makes old new calls → after_calls no_call calls ≡ t → Gives old new t.read
+gives_at old new calls t called stands =
+    subst (λ bytes. Appends (of_calls given_by old) (of_calls given_by new) bytes) (sym (moves_after no_call calls).0 ∙ ap (λ (u : Talk). u.read) stands) (moves_more given_by old new calls called)
+
+pub takes_at : (old new : Option (List Call)) (calls : List Call) (t : Talk) → Makes old new calls → after_calls no_call calls ≡ t → Takes old new t.written
+takes_at old new calls t called stands =
+    subst (λ bytes. Appends (of_calls taken_by old) (of_calls taken_by new) bytes) (sym (moves_after no_call calls).1 ∙ ap (λ (u : Talk). u.written) stands) (moves_more taken_by old new calls called)
+
+-- what is written between two reads gives nothing
+pub gives_nothing : (calls : List Call) (bytes : List ℕ) (f : Bool) (o : Option (Result (Unit {0}) StdioFault)) → Speaks calls bytes f o → flat_map given_by calls ≡ []
+gives_nothing calls bytes f o p = sym (moves_after (quiet [] 0 []) calls).0 ∙ ap (λ (t : Talk). t.read) (p.after [] 0 [])
 
 -- a read or a write of at least one byte asks for no result
 pub read_goes_on : (bytes : List ℕ) → 0 < length bytes → asked_by_read bytes ≡ None

@@ -1,6 +1,6 @@
 -- What a front end reports of its bytes and its calls, and what each call does to that (own choice).
-use Rattle.std.specs.Prelude.{◌≡◌, ◌≤◌, ℕ, List, [], ◌∷◌, ◌++◌, length, take, ⊤, Option, None, Some, Result, Ok, Err, IfOk}
-use Rattle.std.specs.Io.KnownBytes.{Keeps, ReadConsumes, WriteAppends}
+use Rattle.std.specs.Prelude.{◌≡◌, ◌≤◌, ℕ, List, [], ◌∷◌, ◌++◌, flat_map, length, take, ⊤, Option, None, Some, Result, Ok, Err, IfOk}
+use Rattle.std.specs.Io.KnownBytes.{Appends, Keeps, ReadConsumes, WriteAppends}
 
 -- a call with what came of it: a read that gave these bytes, none of them where the input ended, a write of which these bytes were taken, a flush, and each of them where it failed
 pub data Call : Type 0 where
@@ -25,6 +25,28 @@ nothing_reported = record { unread = None; written = None; calls = None }
 abbrev pub Makes : Option (List Call) → Option (List Call) → List Call → Type 0
 Makes None new calls = ⊤
 Makes (Some before) new calls = new ≡ Some (before ++ calls)
+
+-- the bytes that a call gave, and those that it took
+abbrev pub given_by : Call → List ℕ
+given_by (Read bytes) = bytes
+given_by _ = []
+
+abbrev pub taken_by : Call → List ℕ
+taken_by (Write bytes) = bytes
+taken_by _ = []
+
+-- those of all calls so far, where calls are reported
+abbrev pub of_calls : (Call → List ℕ) → Option (List Call) → Option (List ℕ)
+of_calls bytes_of None = None
+of_calls bytes_of (Some calls) = Some (flat_map bytes_of calls)
+
+-- where calls are reported, those made since gave these bytes
+abbrev pub Gives : Option (List Call) → Option (List Call) → List ℕ → Type 0
+Gives old new bytes = Appends (of_calls given_by old) (of_calls given_by new) bytes
+
+-- the same of those that they took
+abbrev pub Takes : Option (List Call) → Option (List Call) → List ℕ → Type 0
+Takes old new bytes = Appends (of_calls taken_by old) (of_calls taken_by new) bytes
 
 abbrev pub read_call : {E : Type 0} → Result ℕ E → List ℕ → Call
 read_call (Ok n) buf = Read (take n buf)

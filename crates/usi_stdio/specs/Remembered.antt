@@ -1,5 +1,5 @@
 -- What the memory of a run was told: each search along a pv of the lines that were read (own choice).
-use Rattle.std.specs.Prelude.{◌≡◌, ℕ, List, ◌++◌, Option}
+use Rattle.std.specs.Prelude.{◌≡◌, ℕ, List, ◌++◌}
 use Rattle.std.specs.Io.KnownBytes.{Consumes}
 use Rattle.shared_table.specs.Recent.{Table, new_table}
 use Rattle.shared_table.specs.Uses.{IsUsed}
@@ -8,7 +8,7 @@ use Rattle.usi_texts.specs.declared.setup.Setup.{Setup}
 use Rattle.usi_session.specs.Due.{SessionView, new_session_under, roots_due}
 use Rattle.usi_session.specs.Roots.{Root}
 use Rattle.usi_session.specs.Told.{AreTold, TellsEndedFor}
-use Rattle.usi_stdio.specs.Calls.{Report}
+use Rattle.usi_stdio.specs.Calls.{Report, Gives}
 
 -- the searches of a new session under a setup that is fed these bytes
 abbrev pub roots_under : Setup → List ℕ → List Root
@@ -20,18 +20,13 @@ abbrev pub TellsFed : {M : Type 0} → (M → Call → M → Type 0) → M → M
 TellsFed called old new before bytes after =
     TellsEndedFor called old new (λ further. roots_due before (bytes ++ further)) (roots_due after)
 
--- a memory was told, one after another, each search of the bytes that were read
-pub record IsTold {M : Type 0} (called : M → Call → M → Type 0) (setup : Setup)
-    (before after : Option (List ℕ)) (old new : M) : Type 0 where
+-- a front end was served over a memory: that was told, one after another, each search of the bytes that were read
+pub record TellsMemory {M : Type 0} (called : M → Call → M → Type 0) (setup : Setup)
+    (before after : Report) (old new : M) : Type 0 where
   pub read : List ℕ
-  pub consumed : Consumes before after read
+  pub consumed : Consumes before.unread after.unread read
+  pub given : Gives before.calls after.calls read
   pub told : AreTold called old (roots_under setup read) new
-
--- the same of a front end that was served over a memory
-abbrev pub TellsMemory : {M : Type 0} → (M → Call → M → Type 0) → Setup → Report → Report → M → M
-    → Type 0
-TellsMemory called setup before after old new =
-    IsTold called setup before.unread after.unread old new
 
 -- a new table with room for so many entries was told so
 pub record TellsTable (setup : Setup) (entries : ℕ) (before after : Report) : Type 0 where

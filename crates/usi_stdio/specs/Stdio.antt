@@ -4,7 +4,7 @@ use Rattle.std.specs.Io.KnownBytes.{Appends, Consumes, IsAtEnd}
 use Rattle.usi_texts.specs.declared.setup.Setup.{Setup}
 use Rattle.usi_session.specs.WholeStream.{replies_under, is_over_after_under}
 use Rattle.usi_session.specs.declared.limits.TheConstants.{CHUNK_MAX}
-use Rattle.usi_stdio.specs.Calls.{Report}
+use Rattle.usi_stdio.specs.Calls.{Report, Gives, Takes}
 
 -- the writer took the bytes but for those that are left
 pub record WritesBut (old new : Option (List ℕ)) (bytes left : List ℕ) : Type 0 where
@@ -39,9 +39,13 @@ pub record IsCutShort (setup : Setup) (before after old new : Option (List ℕ))
   pub written : TakesPrefix old new (replies_under setup read)
   pub stops : StopsInTime setup read
 
--- the same two of what a front end reports
-abbrev pub IsServed : Setup → Report → Report → Type 0
-IsServed setup old new = IsAnswered setup old.unread new.unread old.written new.written
+-- the same two of what a front end reports, of its bytes and of what its calls gave and took
+pub record IsServed (setup : Setup) (old new : Report) : Type 0 where
+  pub answered : IsAnswered setup old.unread new.unread old.written new.written
+  pub given : Gives old.calls new.calls answered.read
+  pub taken : Takes old.calls new.calls (replies_under setup answered.read)
 
-abbrev pub IsLeft : Setup → Report → Report → Type 0
-IsLeft setup old new = IsCutShort setup old.unread new.unread old.written new.written
+pub record IsLeft (setup : Setup) (old new : Report) : Type 0 where
+  pub cut_short : IsCutShort setup old.unread new.unread old.written new.written
+  pub given : Gives old.calls new.calls cut_short.read
+  pub taken : Takes old.calls new.calls cut_short.written.1.done

@@ -33,7 +33,7 @@ returns-then-n-eq0-clause-calls g c =
 -- a prefix of the chunk's answers was written
 pub returns-in_err-answer_chunk-clause-err : goal.returns-in_err-answer_chunk-clause-err
 returns-in_err-answer_chunk-clause-err g c =
-    on_err _ (left_chunk (g.T.FrontEnd.report c.args.front_end.now) (g.T.FrontEnd.report c.read.new.self) (g.T.FrontEnd.report c.answer_chunk.new.front_end) c.chunks.session c.chunks._reads c.split_at.result.0.now _ (read_more (g.T.FrontEnd.report c.args.front_end.now) (g.T.FrontEnd.report c.chunks.front_end) (g.T.FrontEnd.report c.read.new.self) c.chunks.session c.chunks._reads c.in-Ok.n c.read.new.buf c.split_at.result.0.now c.chunks.invariant.between c.in-Ok.ensures c.split_at.ensures.front) c.in_err-answer_chunk.ensures.err (first_of (search rules, omega arith, grind (arith, common_steps))))
+    on_err _ (left_chunk (g.T.FrontEnd.report c.args.front_end.now) (g.T.FrontEnd.report c.read.new.self) (g.T.FrontEnd.report c.answer_chunk.new.front_end) c.chunks.session c.chunks._reads c.split_at.result.0.now _ (read_more (g.T.FrontEnd.report c.args.front_end.now) (g.T.FrontEnd.report c.chunks.front_end) (g.T.FrontEnd.report c.read.new.self) c.chunks.session c.chunks._reads c.in-Ok.n c.read.new.buf c.split_at.result.0.now c.chunks.invariant.between c.in-Ok.ensures c.split_at.ensures.front) (first_of (search rules, omega arith, grind (arith, common_steps))) c.in_err-answer_chunk.ensures.err (first_of (search rules, omega arith, grind (arith, common_steps))))
 
 pub returns-in_err-answer_chunk-clause-calls : goal.returns-in_err-answer_chunk-clause-calls
 returns-in_err-answer_chunk-clause-calls g c =
@@ -42,7 +42,7 @@ returns-in_err-answer_chunk-clause-calls g c =
 -- the session is over
 pub returns-then-is_over-clause-ok : goal.returns-then-is_over-clause-ok
 returns-then-is_over-clause-ok g c =
-    served_over (g.T.FrontEnd.report c.args.front_end.now) (g.T.FrontEnd.report c.read.new.self) (g.T.FrontEnd.report c.answer_chunk.new.front_end) c.chunks.session c.answer_chunk.new.session c.chunks._reads c.split_at.result.0.now (read_more (g.T.FrontEnd.report c.args.front_end.now) (g.T.FrontEnd.report c.chunks.front_end) (g.T.FrontEnd.report c.read.new.self) c.chunks.session c.chunks._reads c.in-Ok.n c.read.new.buf c.split_at.result.0.now c.chunks.invariant.between c.in-Ok.ensures c.split_at.ensures.front) (both_answers _ _ _ _ _ c.in_ok-answer_chunk.ensures.ok c.in_ok-answer_chunk.ensures.answered) (sym c.is_over.ensures ∙ c.if-is_over.true) (first_of (search rules, omega arith, grind (arith, common_steps)))
+    served_over (g.T.FrontEnd.report c.args.front_end.now) (g.T.FrontEnd.report c.read.new.self) (g.T.FrontEnd.report c.answer_chunk.new.front_end) c.chunks.session c.answer_chunk.new.session c.chunks._reads c.split_at.result.0.now (read_more (g.T.FrontEnd.report c.args.front_end.now) (g.T.FrontEnd.report c.chunks.front_end) (g.T.FrontEnd.report c.read.new.self) c.chunks.session c.chunks._reads c.in-Ok.n c.read.new.buf c.split_at.result.0.now c.chunks.invariant.between c.in-Ok.ensures c.split_at.ensures.front) (first_of (search rules, omega arith, grind (arith, common_steps))) (both_answers _ _ _ _ _ c.in_ok-answer_chunk.ensures.ok c.in_ok-answer_chunk.ensures.answered) (sym c.is_over.ensures ∙ c.if-is_over.true) (first_of (search rules, omega arith, grind (arith, common_steps)))
 
 pub returns-then-is_over-clause-calls : goal.returns-then-is_over-clause-calls
 returns-then-is_over-clause-calls g c =
@@ -52,7 +52,7 @@ returns-then-is_over-clause-calls g c =
 pub chunks-preserved : goal.chunks-preserved
 chunks-preserved g c = record {
   between = between_more (g.T.FrontEnd.report c.args.front_end.now) (g.T.FrontEnd.report c.read.new.self) (g.T.FrontEnd.report c.answer_chunk.new.front_end) c.chunks.session c.answer_chunk.new.session c.chunks._reads c.split_at.result.0.now (read_more (g.T.FrontEnd.report c.args.front_end.now) (g.T.FrontEnd.report c.chunks.front_end) (g.T.FrontEnd.report c.read.new.self) c.chunks.session c.chunks._reads c.in-Ok.n c.read.new.buf c.split_at.result.0.now c.chunks.invariant.between c.in-Ok.ensures c.split_at.ensures.front) (first_of (search rules, omega arith, grind (arith, common_steps))) (both_answers _ _ _ _ _ c.in_ok-answer_chunk.ensures.ok c.in_ok-answer_chunk.ensures.answered) (sym c.is_over.ensures ∙ c.if-is_over.false);
-  told = told_chunk g.M.Memo.called c.args.session.now.state.setup (g.T.FrontEnd.report c.args.front_end.now) (g.T.FrontEnd.report c.chunks.front_end) (g.T.FrontEnd.report c.read.new.self) (g.T.FrontEnd.report c.answer_chunk.new.front_end) _ _ _ c.chunks.session c.answer_chunk.new.session c.in-Ok.n c.read.new.buf c.split_at.result.0.now c.chunks.invariant.told c.in-Ok.ensures c.split_at.ensures.front c.in_ok-answer_chunk.ensures.ok.unread c.in_ok-answer_chunk.ensures.told;
+  told = told_chunk g.M.Memo.called c.args.session.now.state.setup (g.T.FrontEnd.report c.args.front_end.now) (g.T.FrontEnd.report c.chunks.front_end) (g.T.FrontEnd.report c.read.new.self) (g.T.FrontEnd.report c.answer_chunk.new.front_end) _ _ _ c.chunks.session c.answer_chunk.new.session c.in-Ok.n c.read.new.buf c.split_at.result.0.now _ c.chunks.invariant.told c.in-Ok.ensures c.split_at.ensures.front c.in_ok-answer_chunk.ensures.ok c.in_ok-answer_chunk.ensures.told;
   capacity = c.answer_chunk.ensures.capacity ∙ c.chunks.invariant.capacity;
 }
 
@@ -71,5 +71,5 @@ returns-then-n-eq0-clause-told g c =
 pub returns-then-is_over-clause-told : goal.returns-then-is_over-clause-told
 returns-then-is_over-clause-told g c =
     told_all g.M.Memo.called c.args.session.now.state.setup (g.T.FrontEnd.report c.args.front_end.now) (g.T.FrontEnd.report c.answer_chunk.new.front_end) _ _ c.answer_chunk.new.session
-    (told_chunk g.M.Memo.called c.args.session.now.state.setup (g.T.FrontEnd.report c.args.front_end.now) (g.T.FrontEnd.report c.chunks.front_end) (g.T.FrontEnd.report c.read.new.self) (g.T.FrontEnd.report c.answer_chunk.new.front_end) _ _ _ c.chunks.session c.answer_chunk.new.session c.in-Ok.n c.read.new.buf c.split_at.result.0.now c.chunks.invariant.told c.in-Ok.ensures c.split_at.ensures.front c.in_ok-answer_chunk.ensures.ok.unread c.in_ok-answer_chunk.ensures.told)
+    (told_chunk g.M.Memo.called c.args.session.now.state.setup (g.T.FrontEnd.report c.args.front_end.now) (g.T.FrontEnd.report c.chunks.front_end) (g.T.FrontEnd.report c.read.new.self) (g.T.FrontEnd.report c.answer_chunk.new.front_end) _ _ _ c.chunks.session c.answer_chunk.new.session c.in-Ok.n c.read.new.buf c.split_at.result.0.now _ c.chunks.invariant.told c.in-Ok.ensures c.split_at.ensures.front c.in_ok-answer_chunk.ensures.ok c.in_ok-answer_chunk.ensures.told)
     c.in_ok-answer_chunk.ensures.answered.settled
