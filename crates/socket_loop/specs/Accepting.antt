@@ -1,5 +1,5 @@
 -- The accepts of a turn, as its private functions promise them (own choice).
-use Rattle.std.specs.Prelude.{ℕ, ◌≡◌, List, [], ◌∷◌, length, cond, ◌<◌, ◌≤◌, ◌⊎◌, ⊤, map, true, Option, false, suc, nat_lt}
+use Rattle.std.specs.Prelude.{ℕ, ◌≡◌, List, [], ◌∷◌, length, cond, ◌<◌, ◌≤◌, ◌⊎◌, map, true, Option, false, suc, nat_lt}
 use Rattle.host_core.specs.Events.{Outcome, Opened}
 use Rattle.host_core.specs.Headline.{IsPrefixOf}
 use Rattle.host_core.specs.Made.{Step, own, taken, is_opened}
