@@ -18,20 +18,22 @@ use Rattle.host_core.proofs.Ids.{is_same_id-refl}
 use Rattle.socket_loop.specs.declared.connection.Link.{Link}
 use Rattle.socket_loop.specs.declared.tally.Arrivals.{Arrivals}
 use Rattle.socket_loop.specs.declared.tally.Admission.{Admission}
-use Rattle.socket_loop.specs.Tallies.{AreArrivals, full_of, fulls, unopened_of, unopeneds, with_one}
+use Rattle.socket_loop.specs.Tallies.{full_of, unopened_of, count_of}
 use Rattle.socket_loop.specs.declared.connection.Connection.{Connection}
 use Rattle.transport.specs.declared.wire.WireFault.{WireFault}
 use Rattle.transport.specs.Report.{Report, KeepsConnection, KeepsAll, Writes, Shuts, bytes_written, GivesNumber}
-use Rattle.socket_loop.specs.Links.{Ties, IsOneToOne, IsAmong, IsNotAmong, links_of}
+use Rattle.socket_loop.specs.Links.{Ties, IsAmong, IsNotAmong, links_of, Each}
 use Rattle.socket_loop.specs.Parts.{IsAdmission}
 use Rattle.transport.specs.Moves.{AllMove}
-use Rattle.socket_loop.specs.Turns.{Fits, Accepted, AreNumbered, HasSession, HaveSessions, IsOneOf, IsRejected, IsShutAfterPrefix, IsNew, Accepts, Admits, openings, rejection_text}
+use Rattle.socket_loop.specs.Turns.{Fits, AreNumbered, HasSession, HaveSessions, IsRejected, rejection_text}
 use Rattle.transport.proofs.Reported.{kept_same, kept_then, all_kept, moves_then, away_moves, stays_raised, rises_then, stays_rise, reported_failure, raised_rises, Consumes-none, Appends-none, Keeps-Appends}
 use Rattle.transport.specs.Asked.{Call, Accept, Asks}
-use Rattle.socket_loop.specs.Calls.{AllAccepted, AsksAdmission, AsksAll, GivesNobody}
-use Rattle.socket_loop.proofs.Calls.{AsksAccepts, asks_accept, asks_full, asks_no_accept, asks_on, asks_stop}
+use Rattle.socket_loop.specs.Calls.{AsksAll}
+use Rattle.socket_loop.proofs.Calls.{AsksAccepts, asks_accept, asks_full, asks_no_accept, asks_on, asks_stop, GivesNobody}
 use Rattle.socket_loop.proofs.Left.{once_insert}
-use Rattle.socket_loop.proofs.Runs.{run-one, run-append, own-append, taken-append, openings-append, all_append, next_rises, step_rises, opened_left, opened_right}
+use Rattle.socket_loop.proofs.Runs.{run-one, run-append, own-append, taken-append, all_append, next_rises, step_rises, opened_left, opened_right}
+use Rattle.socket_loop.specs.Past.{Accepted}
+use Rattle.socket_loop.specs.Accepting.{Accepts, Admits, AllAccepted, AreArrivals, AsksAdmission, IsNew, IsShutAfterPrefix}
 
 -- ---- rejected
 
@@ -80,15 +82,17 @@ fits_more ls from to h i r n f = λ l m.
 
 pub accepts_none : (ls : List Link) (from to : ℕ) (a b : Report) (h : HostState) → from ≤ to → KeepsAll a b → Accepts ls from a h ls to b h
 accepts_none ls from to a b h rises k = record {
-  steps = [];
-  kinds = tt;
-  chain = run-start h;
-  no_own = λ id. refl;
-  no_taken = λ id. refl;
-  rises = rises;
   accepted = [];
+  host = record {
+    steps = [];
+    kinds = tt;
+    chain = run-start h;
+    no_own = λ id. refl;
+    no_taken = λ id. refl;
+    answers = refl;
+  };
+  rises = rises;
   numbered = rises;
-  answers = refl;
   kept = λ n l. k n;
   each = λ n. inl (k n);
   all = all_kept a b k;
@@ -140,15 +144,17 @@ admits_away ls a b h i number to o w s = λ from old kept least most.
     record {
       items_are = refl;
       accepts = record {
-        steps = record { event = Open; outcome = Refused o } ∷ [];
-        kinds = (tt, tt);
-        chain = run-one h i _ s;
-        no_own = λ x. refl;
-        no_taken = λ x. refl;
-        rises = omega arith;
         accepted = record { number = number; outcome = Refused o } ∷ [];
+        host = record {
+          steps = record { event = Open; outcome = Refused o } ∷ [];
+          kinds = (tt, tt);
+          chain = run-one h i _ s;
+          no_own = λ x. refl;
+          no_taken = λ x. refl;
+          answers = refl;
+        };
+        rises = omega arith;
         numbered = (least, omega arith);
-        answers = refl;
         kept = λ n l. kept_then old a b n (kept n) (w.others n (λ e. (let f : n ≡ number = e in absurd (omega arith))));
         each = λ n. away_each old a b from number to n o kept least most w;
         all = moves_then old a b (all_kept old a kept) (away_move a b to number (rejection_text o) w);
@@ -184,19 +190,19 @@ insert_in [] (suc i) c = inl refl
 insert_in (x ∷ xs) zero c = inl refl
 insert_in (x ∷ xs) (suc i) c = inr (insert_in xs i c)
 
-tied_insert : (held : List Connection) (place : ℕ) (c : Connection) (l : Link) → Ties c.link l → IsOneToOne (links_of held) l → IsOneToOne (links_of (insert held place c)) l
+tied_insert : (held : List Connection) (place : ℕ) (c : Connection) (l : Link) → Ties c.link l → Each (λ other. Ties other l) (links_of held) → Each (λ other. Ties other l) (links_of (insert held place c))
 tied_insert [] zero c l t u = (t, tt)
 tied_insert [] (suc i) c l t u = (t, tt)
 tied_insert (x ∷ xs) zero c l t u = (t, u)
 tied_insert (x ∷ xs) (suc i) c l t u = (u.0, tied_insert xs i c l t u.1)
 
 -- a link that none of these has
-pub fresh_tied : (ls : List Link) (k : Link) → ((l : Link) → IsAmong ls l → Ties l k) → IsOneToOne ls k
+pub fresh_tied : (ls : List Link) (k : Link) → ((l : Link) → IsAmong ls l → Ties l k) → Each (λ other. Ties other k) ls
 fresh_tied [] k f = tt
 fresh_tied (x ∷ xs) k f = (f x (inl refl), fresh_tied xs k (λ l m. f l (inr m)))
 
 -- what the link is tied to
-pub tied_of : (ls : List Link) (k l : Link) → IsOneToOne ls k → IsAmong ls l → Ties l k
+pub tied_of : (ls : List Link) (k l : Link) → Each (λ other. Ties other k) ls → IsAmong ls l → Ties l k
 tied_of [] k l t m = absurd m
 tied_of (x ∷ xs) k l t (inl e) = rw e t.0
 tied_of (x ∷ xs) k l t (inr m) = tied_of xs k l t.1 m
@@ -246,15 +252,17 @@ admits_new held place c a h i to s = λ from old kept least most.
     record {
       items_are = refl;
       accepts = record {
-        steps = record { event = Open; outcome = Opened c.link.id } ∷ [];
-        kinds = (tt, tt);
-        chain = run-one h i _ s;
-        no_own = λ id. refl;
-        no_taken = λ id. refl;
-        rises = omega arith;
         accepted = record { number = c.link.number; outcome = Opened c.link.id } ∷ [];
+        host = record {
+          steps = record { event = Open; outcome = Opened c.link.id } ∷ [];
+          kinds = (tt, tt);
+          chain = run-one h i _ s;
+          no_own = λ id. refl;
+          no_taken = λ id. refl;
+          answers = refl;
+        };
+        rises = omega arith;
         numbered = (least, omega arith);
-        answers = refl;
         kept = λ n l. kept n;
         each = λ n. inl (kept n);
         all = all_kept old a kept;
@@ -275,16 +283,16 @@ admits_new held place c a h i to s = λ from old kept least most.
 
 -- ---- one after the other
 
-one_left : (x y : List Accepted) (e : Accepted) → IsOneOf x e → IsOneOf (x ++ y) e
+one_left : (x y : List Accepted) (e : Accepted) → IsAmong x e → IsAmong (x ++ y) e
 one_left [] y e p = absurd p
 one_left (f ∷ x) y e (inl p) = inl p
 one_left (f ∷ x) y e (inr p) = inr (one_left x y e p)
 
-one_right : (x y : List Accepted) (e : Accepted) → IsOneOf y e → IsOneOf (x ++ y) e
+one_right : (x y : List Accepted) (e : Accepted) → IsAmong y e → IsAmong (x ++ y) e
 one_right [] y e p = p
 one_right (f ∷ x) y e p = inr (one_right x y e p)
 
-one_either : (x y : List Accepted) (e : Accepted) → IsOneOf (x ++ y) e → IsOneOf x e ⊎ IsOneOf y e
+one_either : (x y : List Accepted) (e : Accepted) → IsAmong (x ++ y) e → IsAmong x e ⊎ IsAmong y e
 one_either [] y e p = inr p
 one_either (f ∷ x) y e (inl p) = inl (inl p)
 one_either (f ∷ x) y e (inr p) = elim (one_either x y e p) [ inl first ↦ inl (inr first) | inr second ↦ inr second ]
@@ -365,18 +373,20 @@ pub accepts_then : (ls ms ns : List Link) (f m t : ℕ) (a b c : Report) (h i j 
 accepts_then ls ms ns f m t a b c h i j p q =
     let u : f ≤ m = p.rises in
     let v : m ≤ t = q.rises in
-    let w : h.slots.next ≤ i.slots.next = next_rises h i p.steps p.chain in
-    let z : i.slots.next ≤ j.slots.next = next_rises i j q.steps q.chain in
+    let w : h.slots.next ≤ i.slots.next = next_rises h i p.host.steps p.host.chain in
+    let z : i.slots.next ≤ j.slots.next = next_rises i j q.host.steps q.host.chain in
     record {
-      steps = p.steps ++ q.steps;
-      kinds = all_append IsAdmission p.steps q.steps p.kinds q.kinds;
-      chain = run-append h i j p.steps q.steps p.chain q.chain;
-      no_own = λ id. own-append id p.steps q.steps ∙ rw (p.no_own id, q.no_own id) refl;
-      no_taken = λ id. taken-append id p.steps q.steps ∙ rw (p.no_taken id, q.no_taken id) refl;
-      rises = omega arith;
       accepted = p.accepted ++ q.accepted;
+      host = record {
+        steps = p.host.steps ++ q.host.steps;
+        kinds = all_append IsAdmission p.host.steps q.host.steps p.host.kinds q.host.kinds;
+        chain = run-append h i j p.host.steps q.host.steps p.host.chain q.host.chain;
+        no_own = λ id. own-append id p.host.steps q.host.steps ∙ rw (p.host.no_own id, q.host.no_own id) refl;
+        no_taken = λ id. taken-append id p.host.steps q.host.steps ∙ rw (p.host.no_taken id, q.host.no_taken id) refl;
+        answers = map-append (λ (x : Step). x.outcome) p.host.steps q.host.steps ∙ (ap (λ xs. xs ++ map (λ (x : Step). x.outcome) q.host.steps) p.host.answers ∙ (ap (λ xs. map (λ (x : Accepted). x.outcome) p.accepted ++ xs) q.host.answers ∙ sym (map-append (λ (x : Accepted). x.outcome) p.accepted q.accepted)));
+      };
+      rises = omega arith;
       numbered = numbered_then f m t p.accepted q.accepted p.numbered q.numbered;
-      answers = openings-append p.steps q.steps ∙ (ap (λ xs. xs ++ openings q.steps) p.answers ∙ (ap (λ xs. map (λ (x : Accepted). x.outcome) p.accepted ++ xs) q.answers ∙ sym (map-append (λ (x : Accepted). x.outcome) p.accepted q.accepted)));
       kept = λ n lt. kept_then a b c n (p.kept n lt) (q.kept n (omega arith));
       each = λ n. each_then f m t p.accepted q.accepted a b c n u v (p.each n) (q.each n) (q.kept n);
       all = moves_then a b c p.all q.all;
@@ -386,14 +396,14 @@ accepts_then ls ms ns f m t a b c h i j p q =
       ];
       stay = λ l among. q.stay l (p.stay l among);
       are = λ l among. elim (q.are l among) [
-        | inl mid ↦ are_then ls h.slots.next f m t p.accepted q.accepted a b c p.steps q.steps l v (p.are l mid) (q.kept l.number)
-        | inr new ↦ inr (then_new h.slots.next i.slots.next f m t p.accepted q.accepted a b c p.steps q.steps l w u (p.each l.number) new)
+        | inl mid ↦ are_then ls h.slots.next f m t p.accepted q.accepted a b c p.host.steps q.host.steps l v (p.are l mid) (q.kept l.number)
+        | inr new ↦ inr (then_new h.slots.next i.slots.next f m t p.accepted q.accepted a b c p.host.steps q.host.steps l w u (p.each l.number) new)
       ];
       fits = λ fit. q.fits (p.fits fit);
       once = λ fit o. q.once (p.fits fit) (p.once fit o);
     }
   where
-    still_apart : (p_ : Accepts ls f a h ms m b i) (q_ : Accepts ms m b i ns t c j) (n : ℕ) (l : Link) → n < m → IsNotAmong ms n → IsAmong ms l ⊎ IsNew m t q_.accepted i.slots.next b c q_.steps l → l.number ≢ n
+    still_apart : (p_ : Accepts ls f a h ms m b i) (q_ : Accepts ms m b i ns t c j) (n : ℕ) (l : Link) → n < m → IsNotAmong ms n → IsAmong ms l ⊎ IsNew m t q_.accepted i.slots.next b c q_.host.steps l → l.number ≢ n
     still_apart p_ q_ n l lt apart (inl mid) = each_apart ms n l apart mid
     still_apart p_ q_ n l lt apart (inr new) = λ e. (let y : m ≤ l.number = new.least in let z : l.number ≡ n = e in absurd (omega arith))
 
@@ -420,22 +430,27 @@ accepts_more ls ms ns f m number t o a b c d h i j p u v k q = accepts_then ls m
 length_one : (xs : List Accepted) (x : Accepted) → length (xs ++ (x ∷ [])) ≡ length xs + 1
 length_one xs x = length-append xs (x ∷ [])
 
-fulls-append : (xs ys : List Accepted) → fulls (xs ++ ys) ≡ fulls xs + fulls ys
-fulls-append [] ys = omega arith
-fulls-append (x ∷ xs) ys = let more : fulls (xs ++ ys) ≡ fulls xs + fulls ys = fulls-append xs ys in omega arith
+count_of-append : (f : Outcome → ℕ) (xs ys : List Accepted) → count_of f (xs ++ ys) ≡ count_of f xs + count_of f ys
+count_of-append f [] ys = omega arith
+count_of-append f (x ∷ xs) ys = let more : count_of f (xs ++ ys) ≡ count_of f xs + count_of f ys = count_of-append f xs ys in omega arith
 
-unopeneds-append : (xs ys : List Accepted) → unopeneds (xs ++ ys) ≡ unopeneds xs + unopeneds ys
-unopeneds-append [] ys = omega arith
-unopeneds-append (x ∷ xs) ys = let more : unopeneds (xs ++ ys) ≡ unopeneds xs + unopeneds ys = unopeneds-append xs ys in omega arith
+-- one more, of whom this became
+abbrev with_one : Arrivals → Admission → Arrivals
+with_one arrivals admission = record {
+  moved = true;
+  accepted = arrivals.accepted + 1;
+  full = arrivals.full + admission.full;
+  unopened = arrivals.unopened + admission.unopened;
+}
 
 one_more : (xs : List Accepted) (x : Accepted) (arrivals : Arrivals) (one : Admission) → AreArrivals xs arrivals → one.full ≡ full_of x.outcome → one.unopened ≡ unopened_of x.outcome → AreArrivals (xs ++ (x ∷ [])) (with_one arrivals one)
 one_more xs x arrivals one are full unopened =
-    let all : fulls (xs ++ (x ∷ [])) ≡ fulls xs + (full_of x.outcome + 0) = fulls-append xs (x ∷ []) in
-    let none : unopeneds (xs ++ (x ∷ [])) ≡ unopeneds xs + (unopened_of x.outcome + 0) = unopeneds-append xs (x ∷ []) in
+    let all : count_of full_of (xs ++ (x ∷ [])) ≡ count_of full_of xs + (full_of x.outcome + 0) = count_of-append full_of xs (x ∷ []) in
+    let none : count_of unopened_of (xs ++ (x ∷ [])) ≡ count_of unopened_of xs + (unopened_of x.outcome + 0) = count_of-append unopened_of xs (x ∷ []) in
     let len : length (xs ++ (x ∷ [])) ≡ length xs + 1 = length_one xs x in
     let a : arrivals.accepted ≡ length xs = are.accepted in
-    let b : arrivals.full ≡ fulls xs = are.full in
-    let c : arrivals.unopened ≡ unopeneds xs = are.unopened in
+    let b : arrivals.full ≡ count_of full_of xs = are.full in
+    let c : arrivals.unopened ≡ count_of unopened_of xs = are.unopened in
     record { accepted = omega arith; full = omega arith; unopened = omega arith }
 
 -- so many connections were accepted, with their calls

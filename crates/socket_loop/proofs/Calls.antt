@@ -1,5 +1,5 @@
 -- The calls of a turn, one after the other.
-use Rattle.std.proofs.Common.{◌≡◌, ◌⊎◌, ℕ, zero, suc, ◌+◌, ◌<◌, Bool, true, false, cond, List, [], ◌∷◌, ◌++◌, length, take, get_or, set, Option, Some, None, Result, Ok, refl, sym, ap, ◌∙◌, arith, append_assoc, append-nil, inl, inr}
+use Rattle.std.proofs.Common.{◌≡◌, ◌⊎◌, ℕ, zero, suc, ◌+◌, ◌<◌, Bool, true, false, cond, List, [], ◌∷◌, ◌++◌, length, take, get_or, set, Option, Some, None, Result, Ok, refl, sym, ap, ◌∙◌, arith, append_assoc, append-nil, inl, inr, Err}
 use Rattle.std.proofs.lemmas.List.{length-map}
 use Rattle.std.proofs.Math.Seq.{take-append_seam}
 use Rattle.session_slots.specs.declared.id.SessionId.{SessionId}
@@ -13,15 +13,17 @@ use Rattle.socket_loop.specs.declared.connection.Connection.{Connection}
 use Rattle.transport.specs.Asked.{Call, Accept, Read, Write, Shut, Asks, IsCalled}
 use Rattle.socket_loop.specs.declared.connection.Link.{Link}
 use Rattle.socket_loop.specs.Links.{links_of, IsAmong}
-use Rattle.socket_loop.specs.Parts.{IsClosing}
-use Rattle.socket_loop.specs.Calls.{IsOf, IsVisit, Visits, is_to_read, is_to_write, is_to_shut, reads_of, writes_of, ends_of, AreVisitedTo, AsksTo, AsksEach, IsAdmittedAs, IsAdmitted, AreAccepted, AsksAdmission, AsksAll, EndsAccepting, GivesNobody, shuts_of}
+use Rattle.socket_loop.specs.Calls.{IsOf, IsVisit, Visits, is_to_read, is_to_write, is_to_shut, reads_of, writes_of, ends_of, AreVisitedTo, AsksTo, IsAdmittedAs, AreAccepted, AsksAll, EndsAccepting, shuts_of}
 use Rattle.host_core.specs.declared.event.HostFault.{HostFault}
 use Rattle.host_core.specs.declared.event.HostFault.TheVariants.{Full, OutOfMemory, UnknownSession, NotReady}
-use Rattle.socket_loop.specs.Turns.{Accepted, HaveSessions, KeepsMade}
+use Rattle.socket_loop.specs.Turns.{HaveSessions, KeepsMade}
 use Rattle.session_slots.specs.Slots.{find}
 use Rattle.host_core.specs.ById.{queued_of}
 use Rattle.socket_loop.proofs.Stirs.{made_same}
 use Rattle.socket_loop.proofs.Runs.{run-one, run-two}
+use Rattle.socket_loop.specs.Past.{Accepted}
+use Rattle.socket_loop.specs.Accepting.{AsksAdmission}
+use Rattle.socket_loop.specs.Visits.{IsClosing}
 
 -- ---- what was asked
 
@@ -145,7 +147,7 @@ pub all_taken : (m : ℕ) (ys rest : List Connection) → m ≡ length ys → ta
 all_taken m ys rest e = rw e (take-append_seam ys rest)
 
 -- each was visited, and they are as many as before
-pub asks_end : (n m : ℕ) (due : HostState → Connection → Connection → List Call) (kind : Event → Type 0) (h i : HostState) (xs ys rest : List Connection) (a b : Option (List Call)) → n ≡ length ys → m ≡ length ys → links_of ys ≡ links_of xs → AsksTo n due kind h xs ys a b i → AsksEach due kind h xs (take m (ys ++ rest)) a b i
+pub asks_end : (n m : ℕ) (due : HostState → Connection → Connection → List Call) (kind : Event → Type 0) (h i : HostState) (xs ys rest : List Connection) (a b : Option (List Call)) → n ≡ length ys → m ≡ length ys → links_of ys ≡ links_of xs → AsksTo n due kind h xs ys a b i → AsksTo (length xs) due kind h xs (take m (ys ++ rest)) a b i
 asks_end n m due kind h i xs ys rest a b e f same p =
     let as_many : length ys ≡ length xs = sym (length-map ys (λ (c : Connection). c.link)) ∙ (ap length same ∙ length-map xs (λ (c : Connection). c.link)) in
     rw (f, take-append_seam ys rest, sym (e ∙ as_many)) p
@@ -159,7 +161,7 @@ pub record AsksAccepts (met : List Link) (items : List Accepted) (old new : Opti
   pub accepted : AreAccepted met items calls
   pub asked : Asks old new calls
 
-accepted_next : (met : List Link) (items : List Accepted) (calls : List Call) (item : Accepted) (more : List Call) → AreAccepted met items calls → IsAdmitted met item more → AreAccepted met (items ++ (item ∷ [])) (calls ++ (Accept (Ok (Some item.number)) ∷ more))
+accepted_next : (met : List Link) (items : List Accepted) (calls : List Call) (item : Accepted) (more : List Call) → AreAccepted met items calls → IsAdmittedAs met item item.outcome more → AreAccepted met (items ++ (item ∷ [])) (calls ++ (Accept (Ok (Some item.number)) ∷ more))
 accepted_next met [] calls item more p m = rw p (more, ([], (ap (λ (l : List Call). Accept (Ok (Some item.number)) ∷ l) (sym (append-nil more)), (m, refl))))
 accepted_next met (x ∷ items) calls item more p m =
     let first = p.0 in
@@ -197,12 +199,23 @@ asks_accept met items item a b c d p q r = record {
 }
 
 -- an accept gave nobody
+-- an accept gave nobody
+abbrev pub GivesNobody : Result (Option ℕ) WireFault → Type 0
+GivesNobody (Ok (Some number)) = ⊥
+GivesNobody (Ok None) = Unit {0}
+GivesNobody (Err fault) = Unit {0}
+
+nobody : (answer : Result (Option ℕ) WireFault) → GivesNobody answer → (Accept answer ∷ [] ≡ Accept (Ok None) ∷ []) ⊎ ((fault : WireFault) × (Accept answer ∷ [] ≡ Accept (Err fault) ∷ []))
+nobody (Ok (Some number)) g = absurd g
+nobody (Ok None) g = inl refl
+nobody (Err fault) g = inr (fault, refl)
+
 pub asks_stop : (host : HostState) (ls met : List Link) (items : List Accepted) (a b c : Option (List Call)) (answer : Result (Option ℕ) WireFault) → length items < 16 → AsksAccepts met items a b → Asks b c (Accept answer ∷ []) → GivesNobody answer → AsksAll host ls met items a c
 asks_stop host ls met items a b c answer lt p q g = record {
   first = p.calls;
   last = Accept answer ∷ [];
   accepted = p.accepted;
-  ends = inl (inr (lt, (answer, (g, refl))));
+  ends = inl (inr (lt, nobody answer g));
   asked = asks_then a b c p.calls (Accept answer ∷ []) p.asked q;
 }
 
@@ -212,7 +225,7 @@ asks_full host ls met items a b e p =
     record { first = p.calls; last = []; accepted = p.accepted; ends = ends_; asked = rw (append-nil p.calls) p.asked }
 
 -- an allocation failed for a session
-pub refused_admitted : (met : List Link) (number : ℕ) (fault : HostFault) → (fault ≡ Full → ⊥) → IsAdmitted met (record { number = number; outcome = Refused fault }) (Shut number ∷ [])
+pub refused_admitted : (met : List Link) (number : ℕ) (fault : HostFault) → (fault ≡ Full → ⊥) → IsAdmittedAs met (record { number = number; outcome = Refused fault }) (Refused fault) (Shut number ∷ [])
 refused_admitted met number Full f = absurd (f refl)
 refused_admitted met number OutOfMemory f = refl
 refused_admitted met number UnknownSession f = refl

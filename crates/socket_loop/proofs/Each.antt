@@ -10,7 +10,7 @@ use Rattle.transport.proofs.Reported.{kept_same}
 use Rattle.socket_loop.specs.declared.connection.Connection.{Connection}
 use Rattle.socket_loop.specs.Scenes.{Scene}
 use Rattle.socket_loop.specs.Calls.{IsVisit}
-use Rattle.socket_loop.specs.Visits.{VisitsOne, VisitsTo, VisitsEach}
+use Rattle.socket_loop.specs.Visits.{VisitsOne, VisitsTo}
 use Rattle.socket_loop.proofs.Parts.{links_set}
 use Rattle.socket_loop.proofs.Marks.{marks_same, marks_then, marks_visit}
 use Rattle.socket_loop.proofs.Stirs.{made_same, all_made_same, all_made_then, all_made_set, stirs_next}
@@ -64,7 +64,7 @@ visits_next n due kind moved has start mid after y d lt p first second v ended v
 }
 
 -- each was visited
-pub visits_end : (n m : ℕ) (due : HostState → Connection → Connection → List Call) (kind : Event → Type 0) (moved : Bool) (start last : Scene) (rest : List Connection) → n ≡ length last.held → m ≡ length last.held → VisitsTo n due kind moved start last → VisitsEach due kind moved start (record last { held = take m (last.held ++ rest) })
+pub visits_end : (n m : ℕ) (due : HostState → Connection → Connection → List Call) (kind : Event → Type 0) (moved : Bool) (start last : Scene) (rest : List Connection) → n ≡ length last.held → m ≡ length last.held → VisitsTo n due kind moved start last → VisitsTo (length start.held) due kind moved start (record last { held = take m (last.held ++ rest) })
 visits_end n m due kind moved start last rest e f p =
     let taken : take m (last.held ++ rest) ≡ last.held = all_taken m last.held rest f in
     record {

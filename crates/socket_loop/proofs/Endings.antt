@@ -18,7 +18,7 @@ use Rattle.host_core.proofs.Ids.{same_id, other_id}
 use Rattle.host_core.proofs.OneSession.{IsGone as IsOut}
 use Rattle.socket_loop.specs.declared.connection.Link.{Link}
 use Rattle.socket_loop.specs.declared.connection.Connection.{Connection}
-use Rattle.socket_loop.specs.Parts.{Finished, IsGone, closes, closes_by, is_finished_with}
+use Rattle.socket_loop.specs.Parts.{Finished, IsGone, closes, is_finished_with, some_step}
 use Rattle.socket_loop.proofs.Runs.{own-append, taken-append, closed}
 use Rattle.socket_loop.proofs.Parts.{out_gone}
 use Rattle.socket_loop.proofs.Quiet.{Neither, either_false}
@@ -70,18 +70,18 @@ close_open : (old new : HostState) (at id : SessionId) (o : Outcome) (found_ : O
 close_open old new at id o None e u s = same_some _ _ (ap (λ (h : HostState). find h.slots id) u.same) s
 close_open old new at id o (Some t) e c s = same_some _ _ (c.others id (other_id at id e)) s
 
-step_open : (old new : HostState) (id : SessionId) (event : Event) (o : Outcome) → Stepped old event o new → closes_by id event ≡ false → IsSome (find old.slots id) → IsSome (find new.slots id)
+step_open : (old new : HostState) (id : SessionId) (event : Event) (o : Outcome) → Stepped old event o new → closes id event o ≡ false → IsSome (find old.slots id) → IsSome (find new.slots id)
 step_open old new id Open o p e s = open_open old new id o p s
 step_open old new id (Feed at chunk) o p e s = on_open (Feeds chunk) old new at id o (find old.slots at) (is_same_id at id) refl refl p.0 s
 step_open old new id (Work at budget) o p e s = on_open (Works budget) old new at id o (find old.slots at) (is_same_id at id) refl refl p.0 s
 step_open old new id (Take at n) o p e s = on_open (Takes n) old new at id o (find old.slots at) (is_same_id at id) refl refl p.0 s
 step_open old new id (Close at) o p e s = close_open old new at id o (find old.slots at) e p s
 
-pub stays_open : (h i : HostState) (id : SessionId) (steps : List Step) → IsRun h steps i → closes id steps ≡ false → IsSome (find h.slots id) → IsSome (find i.slots id)
+pub stays_open : (h i : HostState) (id : SessionId) (steps : List Step) → IsRun h steps i → some_step (closes id) steps ≡ false → IsSome (find h.slots id) → IsSome (find i.slots id)
 unfolding IsRun
 stays_open h i id [] r e s = same_some _ _ (ap (λ (x : HostState). find x.slots id) r) s
 stays_open h i id (step ∷ rest) r e s =
-    let n : Neither (closes_by id step.event) (closes id rest) = either_false (closes_by id step.event) (closes id rest) e in
+    let n : Neither (closes id step.event step.outcome) (some_step (closes id) rest) = either_false (closes id step.event step.outcome) (some_step (closes id) rest) e in
     stays_open r.0 i id rest r.2 n.second (step_open h r.0 id step.event step.outcome r.1.stepped n.first s)
 
 opens_now : (old new : HostState) (id : SessionId) (event : Event) (o : Outcome) → Stepped old event o new → opens id event o ≡ true → IsSome (find new.slots id)
@@ -96,27 +96,27 @@ opens_now old new id (Take at n) o p e = absurd (cc)
 opens_now old new id (Close at) o p e = absurd (cc)
 
 -- it was opened, and not closed
-pub opened_stays : (h i : HostState) (id : SessionId) (steps : List Step) → IsRun h steps i → closes id steps ≡ false → is_opened id steps ≡ true → IsSome (find i.slots id)
+pub opened_stays : (h i : HostState) (id : SessionId) (steps : List Step) → IsRun h steps i → some_step (closes id) steps ≡ false → is_opened id steps ≡ true → IsSome (find i.slots id)
 unfolding IsRun
 opened_stays h i id [] r e o = absurd (cc)
 opened_stays h i id (step ∷ rest) r e o =
-    let n : Neither (closes_by id step.event) (closes id rest) = either_false (closes_by id step.event) (closes id rest) e in
+    let n : Neither (closes id step.event step.outcome) (some_step (closes id) rest) = either_false (closes id step.event step.outcome) (some_step (closes id) rest) e in
     elim (or_cases (opens id step.event step.outcome) (is_opened id rest) o) [
       | inl now ↦ stays_open r.0 i id rest r.2 n.second (opens_now h r.0 id step.event step.outcome r.1.stepped now)
       | inr later ↦ opened_stays r.0 i id rest r.2 n.second later
     ]
 
 -- what was opened in a first part, in which it was not closed, was opened before it was closed
-pub opened_before : (id : SessionId) (p q x y : List Step) (c : Step) → p ++ q ≡ x ++ (c ∷ y) → closes id p ≡ false → closes_by id c.event ≡ true → is_opened id p ≡ true → is_opened id x ≡ true
+pub opened_before : (id : SessionId) (p q x y : List Step) (c : Step) → p ++ q ≡ x ++ (c ∷ y) → some_step (closes id) p ≡ false → closes id c.event c.outcome ≡ true → is_opened id p ≡ true → is_opened id x ≡ true
 opened_before id [] q x y c e f g o = absurd (cc)
 opened_before id (s ∷ p) q [] y c e f g o =
     let same : s ≡ c = cc in
-    let n : Neither (closes_by id s.event) (closes id p) = either_false (closes_by id s.event) (closes id p) f in
-    absurd (both_ways (closes_by id s.event) n.first (rw same g))
+    let n : Neither (closes id s.event s.outcome) (some_step (closes id) p) = either_false (closes id s.event s.outcome) (some_step (closes id) p) f in
+    absurd (both_ways (closes id s.event s.outcome) n.first (rw same g))
 opened_before id (s ∷ p) q (t ∷ x) y c e f g o =
     let same : s ≡ t = cc in
     let more : p ++ q ≡ x ++ (c ∷ y) = cc in
-    let n : Neither (closes_by id s.event) (closes id p) = either_false (closes_by id s.event) (closes id p) f in
+    let n : Neither (closes id s.event s.outcome) (some_step (closes id) p) = either_false (closes id s.event s.outcome) (some_step (closes id) p) f in
     elim (or_cases (opens id s.event s.outcome) (is_opened id p) o) [
       | inl now ↦ or_left (opens id t.event t.outcome) (is_opened id x) (rw same at now)
       | inr later ↦ or_right (opens id t.event t.outcome) (is_opened id x) (opened_before id p q x y c more n.second g later)

@@ -12,10 +12,10 @@ use Rattle.socket_loop.specs.declared.connection.Link.{Link}
 use Rattle.socket_loop.specs.declared.connection.Connection.{Connection}
 use Rattle.socket_loop.specs.Links.{IsAmong, AreOnce, links_of}
 use Rattle.socket_loop.specs.Parts.{is_finished_with}
-use Rattle.socket_loop.specs.Turns.{NoneFinished}
 use Rattle.socket_loop.specs.Scenes.{Scene}
 use Rattle.socket_loop.specs.Serving.{AreTurns, IsTurnTo, IsWait}
 use Rattle.socket_loop.specs.Life.{EndsByBytes}
+use Rattle.socket_loop.proofs.Left.{NoneFinished}
 
 once_turns : (slice n : ℕ) (a b : Scene) → AreTurns slice n a b → AreOnce (links_of a.held) → AreOnce (links_of b.held)
 once_turns slice zero a b e o = rw e o

@@ -9,11 +9,12 @@ use Rattle.usi_session.specs.Due.{SessionView}
 use Rattle.session_slots.proofs.Finds.{IsAt, found_at}
 use Rattle.host_core.specs.Steps.{HostState}
 use Rattle.socket_loop.specs.declared.connection.Link.{Link}
-use Rattle.socket_loop.specs.Links.{AreOnce, IsAmong, IsUnknownId}
+use Rattle.socket_loop.specs.Links.{AreOnce, IsAmong, Each}
 use Rattle.transport.specs.Report.{Report}
-use Rattle.socket_loop.specs.Turns.{Accepts, Fits, HaveSessions, IsNew}
+use Rattle.socket_loop.specs.Turns.{Fits, HaveSessions}
 use Rattle.socket_loop.proofs.Endings.{Found, found, opened_stays, stays_open}
 use Rattle.socket_loop.proofs.Runs.{closes-admissions}
+use Rattle.socket_loop.specs.Accepting.{Accepts, IsNew}
 
 abbrev open_in : Option (OpenSession SessionView) → ℕ
 open_in slot = cond (is_some slot) 1 0
@@ -39,7 +40,7 @@ one_slot s a b some_a some_b same =
     let generation : a.generation ≡ b.generation = sym x.generation_is ∙ (ap (λ (o : OpenSession SessionView). o.generation) opened ∙ y.generation_is) in
     λ k. record { slot = same k; generation = generation k }
 
-strange_of : (ls : List Link) (id : SessionId) (l : Link) → IsUnknownId ls id → IsAmong ls l → l.id ≢ id
+strange_of : (ls : List Link) (id : SessionId) (l : Link) → Each (λ other. other.id ≢ id) ls → IsAmong ls l → l.id ≢ id
 strange_of [] id l p m = absurd m
 strange_of (x ∷ xs) id l p (inl e) = λ same. p.0 (ap (λ (k : Link). k.id) (sym e) ∙ same)
 strange_of (x ∷ xs) id l p (inr m) = strange_of xs id l p.1 m
@@ -58,9 +59,9 @@ few (x ∷ ls) s once open_all =
     omega arith
 
 -- accepting keeps open what was open
-open_then : (ls ms : List Link) (f t : ℕ) (a b : Report) (h i : HostState) (p : Accepts ls f a h ms t b i) → HaveSessions h ls → (l : Link) → IsAmong ls l ⊎ IsNew f t p.accepted h.slots.next a b p.steps l → IsSome (find i.slots l.id)
-open_then ls ms f t a b h i p have l (inl old) = stays_open h i l.id p.steps p.chain (closes-admissions l.id p.steps p.kinds) (have.open_all l old)
-open_then ls ms f t a b h i p have l (inr new) = opened_stays h i l.id p.steps p.chain (closes-admissions l.id p.steps p.kinds) new.opened
+open_then : (ls ms : List Link) (f t : ℕ) (a b : Report) (h i : HostState) (p : Accepts ls f a h ms t b i) → HaveSessions h ls → (l : Link) → IsAmong ls l ⊎ IsNew f t p.accepted h.slots.next a b p.host.steps l → IsSome (find i.slots l.id)
+open_then ls ms f t a b h i p have l (inl old) = stays_open h i l.id p.host.steps p.host.chain (closes-admissions l.id p.host.steps p.host.kinds) (have.open_all l old)
+open_then ls ms f t a b h i p have l (inr new) = opened_stays h i l.id p.host.steps p.host.chain (closes-admissions l.id p.host.steps p.host.kinds) new.opened
 
 -- no more are met than there are sessions
 pub few_met : (ls ms : List Link) (f t most : ℕ) (a b : Report) (h i : HostState) → Fits ls f h → Accepts ls f a h ms t b i → count i.slots ≤ most → most < length ms → ¬ HaveSessions h ls

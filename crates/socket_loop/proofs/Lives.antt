@@ -1,5 +1,5 @@
 -- What was read from one connection and written to it, part after part.
-use Rattle.std.proofs.Common.{◌≡◌, ◌⊎◌, ℕ, ◌<◌, Bool, List, [], ◌∷◌, ◌++◌, Option, Some, None, refl, sym, ap, ◌∙◌, subst, append-nil, inl, inr}
+use Rattle.std.proofs.Common.{◌≡◌, ◌⊎◌, ℕ, ◌<◌, Bool, List, [], ◌∷◌, ◌++◌, Option, Some, None, refl, sym, ap, ◌∙◌, subst, append-nil, inl, inr, ◌≢◌}
 use Rattle.std.specs.Prelude.{IsSome}
 use Rattle.std.specs.Io.KnownBytes.{Keeps, Appends, Consumes}
 use Rattle.std.proofs.KnownBytes.{Appends-trans, Consumes-trans}
@@ -17,7 +17,7 @@ use Rattle.host_core.proofs.Overs.{kept_over, over_more, over_none}
 use Rattle.socket_loop.specs.declared.connection.Link.{Link}
 use Rattle.socket_loop.specs.declared.connection.Connection.{Connection}
 use Rattle.transport.specs.Report.{Report, KeepsConnection}
-use Rattle.socket_loop.specs.Links.{IsAmong, IsUnknownId}
+use Rattle.socket_loop.specs.Links.{IsAmong, Each}
 use Rattle.socket_loop.specs.Parts.{Transferred, LeavesUntouched}
 use Rattle.socket_loop.specs.Turns.{Served}
 use Rattle.transport.proofs.Reported.{Consumes-none, Appends-none}
@@ -88,6 +88,6 @@ all_written owes read written (Some t) h settled none =
 
 -- ---- links
 
-pub strange_each : (ls : List Link) (id : SessionId) → ((l : Link) → IsAmong ls l → l.id ≡ id → ⊥) → IsUnknownId ls id
+pub strange_each : (ls : List Link) (id : SessionId) → ((l : Link) → IsAmong ls l → l.id ≡ id → ⊥) → Each (λ other. other.id ≢ id) ls
 strange_each [] id f = tt
 strange_each (x ∷ xs) id f = (f x (inl refl), strange_each xs id (λ l m. f l (inr m)))

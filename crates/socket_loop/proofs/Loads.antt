@@ -1,7 +1,7 @@
 -- What a turn does to a session that is pending.
 use Rattle.std.proofs.Common.{◌≡◌, ◌⊎◌, ℕ, ◌+◌, ◌<◌, ◌≤◌, Bool, true, false, List, [], ◌∷◌, ◌++◌, length, Option, Some, None, refl, sym, ap, ◌∙◌, arith, inl, inr}
 use Rattle.std.specs.Prelude.{is_some, nat_lt, ◌||◌, ◌&&◌, not}
-use Rattle.std.proofs.lemmas.Bool.{or_cases, or_left, or_right, both_ways}
+use Rattle.std.proofs.lemmas.Bool.{or_left, or_right, both_ways}
 use Rattle.session_slots.specs.declared.id.SessionId.{SessionId}
 use Rattle.session_slots.specs.Slots.{find}
 use Rattle.session_slots.proofs.Finds.{find-with_session, find-with_session-other}
@@ -19,10 +19,11 @@ use Rattle.host_core.specs.ById.{pending_of}
 use Rattle.host_core.proofs.Ids.{same_id, other_id, is_same_id-refl}
 use Rattle.host_core.proofs.OneSession.{gone}
 use Rattle.host_core.proofs.Rounds.{is_in, pending_in}
-use Rattle.socket_loop.specs.Parts.{AreAll, IsAdmission, IsInput, IsOutput, IsEnd, work_failed, work_failed_by}
+use Rattle.socket_loop.specs.Parts.{IsAdmission, IsInput, IsOutput, IsEnd, work_failed, some_step}
 use Rattle.socket_loop.specs.Scenes.{Scene}
 use Rattle.socket_loop.specs.Turns.{IsTurn}
-use Rattle.socket_loop.proofs.Runs.{step_rises, next_rises, all_append}
+use Rattle.socket_loop.proofs.Runs.{step_rises, next_rises, all_append, some_left, some_right}
+use Rattle.socket_loop.specs.Links.{Each}
 
 -- ---- steps that are no work
 
@@ -127,7 +128,7 @@ mutual_load : (kind : Event → Type 0) (mid i : HostState) (id : SessionId) (re
 mutual_load kind mid i id rest s None e lt r p more = keeps_none s (find i.slots id) (gone mid i id rest e lt r).none
 mutual_load kind mid i id rest s (Some t) e lt r p more = keeps_then s t (find i.slots id) p (more t e p.0)
 
-load_run : (kind : Event → Type 0) (h i : HostState) (id : SessionId) (steps : List Step) (s : SessionView) → ((e : Event) → kind e → is_work e ≡ false) → ((e : Event) → kind e → is_feed e ≡ true → is_pending s ≡ true) → AreAll kind steps → id.generation < h.slots.next → find h.slots id ≡ Some s → IsRun h steps i → KeepsLoad s (find i.slots id)
+load_run : (kind : Event → Type 0) (h i : HostState) (id : SessionId) (steps : List Step) (s : SessionView) → ((e : Event) → kind e → is_work e ≡ false) → ((e : Event) → kind e → is_feed e ≡ true → is_pending s ≡ true) → Each (λ step. kind step.event) steps → id.generation < h.slots.next → find h.slots id ≡ Some s → IsRun h steps i → KeepsLoad s (find i.slots id)
 unfolding IsRun
 load_run kind h i id [] s w g all lt f r = keeps_same s (find i.slots id) (ap (λ (x : HostState). find x.slots id) r ∙ f)
 load_run kind h i id (step ∷ rest) s w g all lt f r =
@@ -162,7 +163,7 @@ record WorksOnce (budget : ℕ) (s : SessionView) (new : HostState) (id : Sessio
   pub worked : WorkedOn s budget steps after
   pub finds : find new.slots id ≡ Some after
 
-once_worked : (budget : ℕ) (old new : HostState) (at id : SessionId) (o : Outcome) (s : SessionView) (found_ : Option SessionView) → at ≡ id → find old.slots id ≡ Some s → find old.slots at ≡ found_ → OnSession (Works budget) old at found_ o new → (work_failed_by id (Work at budget) o ≡ true) ⊎ WorksOnce budget s new id
+once_worked : (budget : ℕ) (old new : HostState) (at id : SessionId) (o : Outcome) (s : SessionView) (found_ : Option SessionView) → at ≡ id → find old.slots id ≡ Some s → find old.slots at ≡ found_ → OnSession (Works budget) old at found_ o new → (work_failed id (Work at budget) o ≡ true) ⊎ WorksOnce budget s new id
 once_worked budget old new at id o s None is f h u = (let n : Some s ≡ None = sym f ∙ (ap (find old.slots) (sym is) ∙ h) in absurd (cc))
 once_worked budget old new at id (Worked n) s (Some t) is f h c =
     let both : Some t ≡ Some s = sym h ∙ (ap (find old.slots) is ∙ f) in
@@ -181,20 +182,20 @@ worked_no_more : (budget n : ℕ) (s t : SessionView) → WorkedOn s budget n t 
 worked_no_more budget n s t w = (let m : n + load t ≤ load s = w.made in omega arith, λ e. rw ((w.idle e).1) e)
 
 later_by : (budget : ℕ) (at : SessionId) (ids : List SessionId) (o : Outcome) (os : List Outcome) (h mid i : HostState) (id : SessionId) (s : SessionView) (same : Bool) → is_same_id at id ≡ same → find h.slots id ≡ Some s → Stepped h (Work at budget) o mid
-    → ((t : SessionView) → find mid.slots id ≡ Some t → (work_failed id (works budget ids os) ≡ true) ⊎ NoMore t (find i.slots id)) → (work_failed id (works budget (at ∷ ids) (o ∷ os)) ≡ true) ⊎ NoMore s (find i.slots id)
+    → ((t : SessionView) → find mid.slots id ≡ Some t → (some_step (work_failed id) (works budget ids os) ≡ true) ⊎ NoMore t (find i.slots id)) → (some_step (work_failed id) (works budget (at ∷ ids) (o ∷ os)) ≡ true) ⊎ NoMore s (find i.slots id)
 later_by budget at ids o os h mid i id s true e f p more = elim (once_worked budget h mid at id o s (find h.slots at) (same_id at id e) f refl p.0) [
-  | inl refused ↦ inl (or_left (work_failed_by id (Work at budget) o) (work_failed id (works budget ids os)) refused)
+  | inl refused ↦ inl (or_left (work_failed id (Work at budget) o) (some_step (work_failed id) (works budget ids os)) refused)
   | inr w ↦ elim (more w.after w.finds) [
-    | inl refused ↦ inl (or_right (work_failed_by id (Work at budget) o) (work_failed id (works budget ids os)) refused)
+    | inl refused ↦ inl (or_right (work_failed id (Work at budget) o) (some_step (work_failed id) (works budget ids os)) refused)
     | inr q ↦ inr (no_more_then s w.after (find i.slots id) (worked_no_more budget w.steps s w.after w.worked) q)
   ]
 ]
 later_by budget at ids o os h mid i id s false e f p more = elim (more s (other_worked budget h mid at id o (find h.slots at) e refl p.0 ∙ f)) [
-  | inl refused ↦ inl (or_right (work_failed_by id (Work at budget) o) (work_failed id (works budget ids os)) refused)
+  | inl refused ↦ inl (or_right (work_failed id (Work at budget) o) (some_step (work_failed id) (works budget ids os)) refused)
   | inr q ↦ inr q
 ]
 
-later_works : (budget : ℕ) (ids : List SessionId) (os : List Outcome) (h i : HostState) (id : SessionId) (s : SessionView) → find h.slots id ≡ Some s → IsRun h (works budget ids os) i → (work_failed id (works budget ids os) ≡ true) ⊎ NoMore s (find i.slots id)
+later_works : (budget : ℕ) (ids : List SessionId) (os : List Outcome) (h i : HostState) (id : SessionId) (s : SessionView) → find h.slots id ≡ Some s → IsRun h (works budget ids os) i → (some_step (work_failed id) (works budget ids os) ≡ true) ⊎ NoMore s (find i.slots id)
 unfolding IsRun
 later_works budget [] os h i id s f r = inr (no_more_some s s (find i.slots id) (ap (λ (x : HostState). find x.slots id) r ∙ f) (omega arith, λ e. e))
 later_works budget (at ∷ ids) [] h i id s f r = inr (no_more_some s s (find i.slots id) (ap (λ (x : HostState). find x.slots id) r ∙ f) (omega arith, λ e. e))
@@ -211,22 +212,22 @@ nearer_by budget n s t true (Some u) e w q =
 nearer_by budget n s t false (Some u) e w q = inl (q.1 e)
 
 works_near_by : (budget : ℕ) (at : SessionId) (ids : List SessionId) (o : Outcome) (os : List Outcome) (h mid i : HostState) (id : SessionId) (s : SessionView) (same : Bool) → is_same_id at id ≡ same → (is_same_id at id || is_in id ids) ≡ true → find h.slots id ≡ Some s → Stepped h (Work at budget) o mid → IsRun mid (works budget ids os) i
-    → (is_in id ids ≡ true → find mid.slots id ≡ Some s → (work_failed id (works budget ids os) ≡ true) ⊎ Nearer budget s (find i.slots id)) → (work_failed id (works budget (at ∷ ids) (o ∷ os)) ≡ true) ⊎ Nearer budget s (find i.slots id)
+    → (is_in id ids ≡ true → find mid.slots id ≡ Some s → (some_step (work_failed id) (works budget ids os) ≡ true) ⊎ Nearer budget s (find i.slots id)) → (some_step (work_failed id) (works budget (at ∷ ids) (o ∷ os)) ≡ true) ⊎ Nearer budget s (find i.slots id)
 works_near_by budget at ids o os h mid i id s true e there f p r more = elim (once_worked budget h mid at id o s (find h.slots at) (same_id at id e) f refl p.0) [
-  | inl refused ↦ inl (or_left (work_failed_by id (Work at budget) o) (work_failed id (works budget ids os)) refused)
+  | inl refused ↦ inl (or_left (work_failed id (Work at budget) o) (some_step (work_failed id) (works budget ids os)) refused)
   | inr w ↦ elim (later_works budget ids os mid i id w.after w.finds r) [
-    | inl refused ↦ inl (or_right (work_failed_by id (Work at budget) o) (work_failed id (works budget ids os)) refused)
+    | inl refused ↦ inl (or_right (work_failed id (Work at budget) o) (some_step (work_failed id) (works budget ids os)) refused)
     | inr q ↦ inr (nearer_by budget w.steps s w.after (is_pending w.after) (find i.slots id) refl w.worked q)
   ]
 ]
 works_near_by budget at ids o os h mid i id s false e there f p r more =
     let rest : is_in id ids ≡ true = ap (λ (b : Bool). b || is_in id ids) (sym e) ∙ there in
     elim (more rest (other_worked budget h mid at id o (find h.slots at) e refl p.0 ∙ f)) [
-      | inl refused ↦ inl (or_right (work_failed_by id (Work at budget) o) (work_failed id (works budget ids os)) refused)
+      | inl refused ↦ inl (or_right (work_failed id (Work at budget) o) (some_step (work_failed id) (works budget ids os)) refused)
       | inr q ↦ inr q
     ]
 
-works_near : (budget : ℕ) (ids : List SessionId) (os : List Outcome) (h i : HostState) (id : SessionId) (s : SessionView) → length ids ≡ length os → is_in id ids ≡ true → find h.slots id ≡ Some s → IsRun h (works budget ids os) i → (work_failed id (works budget ids os) ≡ true) ⊎ Nearer budget s (find i.slots id)
+works_near : (budget : ℕ) (ids : List SessionId) (os : List Outcome) (h i : HostState) (id : SessionId) (s : SessionView) → length ids ≡ length os → is_in id ids ≡ true → find h.slots id ≡ Some s → IsRun h (works budget ids os) i → (some_step (work_failed id) (works budget ids os) ≡ true) ⊎ Nearer budget s (find i.slots id)
 unfolding IsRun
 works_near budget [] os h i id s len there f r = absurd (cc)
 works_near budget (at ∷ ids) [] h i id s len there f r = absurd (omega arith)
@@ -241,7 +242,7 @@ IsNoWork e = is_work e ≡ false
 abbrev IsQuietEvent : Event → Type 0
 IsQuietEvent e = (is_work e ≡ false) × (is_feed e ≡ false)
 
-all_are : (kind other : Event → Type 0) (steps : List Step) → ((e : Event) → kind e → other e) → AreAll kind steps → AreAll other steps
+all_are : (kind other : Event → Type 0) (steps : List Step) → ((e : Event) → kind e → other e) → Each (λ step. kind step.event) steps → Each (λ step. other step.event) steps
 all_are kind other [] f k = tt
 all_are kind other (s ∷ rest) f k = (f s.event k.0, all_are kind other rest f k.1)
 
@@ -273,17 +274,6 @@ end_quiet (Work id n) k = absurd k
 end_quiet (Take id n) k = absurd k
 end_quiet (Close id) k = (refl, refl)
 
-refuses_left : (id : SessionId) (a b : List Step) → work_failed id a ≡ true → work_failed id (a ++ b) ≡ true
-refuses_left id [] b e = absurd (cc)
-refuses_left id (s ∷ rest) b e = elim (or_cases (work_failed_by id s.event s.outcome) (work_failed id rest) e) [
-  | inl now ↦ or_left (work_failed_by id s.event s.outcome) (work_failed id (rest ++ b)) now
-  | inr later ↦ or_right (work_failed_by id s.event s.outcome) (work_failed id (rest ++ b)) (refuses_left id rest b later)
-]
-
-refuses_right : (id : SessionId) (a b : List Step) → work_failed id b ≡ true → work_failed id (a ++ b) ≡ true
-refuses_right id [] b e = e
-refuses_right id (s ∷ rest) b e = or_right (work_failed_by id s.event s.outcome) (work_failed id (rest ++ b)) (refuses_right id rest b e)
-
 nearer_kept : (budget : ℕ) (s t u : SessionView) (found_ : Option SessionView) → load t ≡ load s → (is_pending u ≡ false) ⊎ (budget + load u ≤ load t) → KeepsLoad u found_ → Nearer budget s found_
 nearer_kept budget s t u None e p k = tt
 nearer_kept budget s t u (Some v) e (inl none) k = inl (k.0 ∙ none)
@@ -293,13 +283,13 @@ nearer_none : (budget : ℕ) (s : SessionView) (found_ : Option SessionView) →
 nearer_none budget s found_ e = rw e tt
 
 -- after the round
-near_late : (budget : ℕ) (end after : HostState) (id : SessionId) (late : List Step) (s t : SessionView) (found_ : Option SessionView) → load t ≡ load s → id.generation < end.slots.next → AreAll IsQuietEvent late → IsRun end late after → find end.slots id ≡ found_ → Nearer budget t found_ → Nearer budget s (find after.slots id)
+near_late : (budget : ℕ) (end after : HostState) (id : SessionId) (late : List Step) (s t : SessionView) (found_ : Option SessionView) → load t ≡ load s → id.generation < end.slots.next → Each (λ step. IsQuietEvent step.event) late → IsRun end late after → find end.slots id ≡ found_ → Nearer budget t found_ → Nearer budget s (find after.slots id)
 near_late budget end after id late s t None e lt all r f n = nearer_none budget s (find after.slots id) (gone end after id late f lt r).none
 near_late budget end after id late s t (Some u) e lt all r f n =
     nearer_kept budget s t u (find after.slots id) e n (load_run IsQuietEvent end after id late u (λ e_ k. k.0) (λ e_ k feed. absurd (both_ways (is_feed e_) k.1 feed)) all lt f r)
 
-near_round : (slice : ℕ) (start end after : HostState) (id : SessionId) (late : List Step) (s : SessionView) (worked refused : ℕ) (r : IsRound start slice (pending_ids start) worked refused end) (found_ : Option SessionView) → is_pending s ≡ true → id.generation < start.slots.next → AreAll IsQuietEvent late → IsRun end late after → find start.slots id ≡ found_ → KeepsLoad s found_
-    → (work_failed id (works slice (pending_ids start) r.outcomes) ≡ true) ⊎ Nearer slice s (find after.slots id)
+near_round : (slice : ℕ) (start end after : HostState) (id : SessionId) (late : List Step) (s : SessionView) (worked refused : ℕ) (r : IsRound start slice (pending_ids start) worked refused end) (found_ : Option SessionView) → is_pending s ≡ true → id.generation < start.slots.next → Each (λ step. IsQuietEvent step.event) late → IsRun end late after → find start.slots id ≡ found_ → KeepsLoad s found_
+    → (some_step (work_failed id) (works slice (pending_ids start) r.outcomes) ≡ true) ⊎ Nearer slice s (find after.slots id)
 near_round slice start end after id late s worked refused r None p lt all q f k =
     let u : start.slots.next ≤ end.slots.next = next_rises start end (works slice (pending_ids start) r.outcomes) r.run in
     inr (nearer_none slice s (find after.slots id) (gone end after id late (gone start end id (works slice (pending_ids start) r.outcomes) f lt r.run).none (omega arith) q).none)
@@ -312,16 +302,16 @@ near_round slice start end after id late s worked refused r (Some t) p lt all q 
     ]
 
 -- a session that is pending before a turn: a work of it is refused; or after the turn it is closed, has nothing pending, or a whole slice less to do
-pub near_turn : (slice : ℕ) (moved : Bool) (x y : Scene) (turn : IsTurn slice moved x y) (id : SessionId) (s : SessionView) → id.generation < x.host.slots.next → find x.host.slots id ≡ Some s → is_pending s ≡ true → (work_failed id turn.steps ≡ true) ⊎ Nearer slice s (find y.host.slots id)
+pub near_turn : (slice : ℕ) (moved : Bool) (x y : Scene) (turn : IsTurn slice moved x y) (id : SessionId) (s : SessionView) → id.generation < x.host.slots.next → find x.host.slots id ≡ Some s → is_pending s ≡ true → (some_step (work_failed id) turn.host.steps ≡ true) ⊎ Nearer slice s (find y.host.slots id)
 near_turn slice moved x y turn id s lt e p =
-    let early : List Step = turn.admissions ++ turn.inputs in
-    let late : List Step = turn.outputs ++ turn.ends in
-    let middle : List Step = works slice (pending_ids turn.start) turn.round.outcomes in
-    let u : x.host.slots.next ≤ turn.start.slots.next = next_rises x.host turn.start early turn.to_round in
-    let before : AreAll IsNoWork early = all_append IsNoWork turn.admissions turn.inputs (all_are IsAdmission IsNoWork turn.admissions admission_quiet turn.admissions_are) (all_are IsInput IsNoWork turn.inputs input_quiet turn.inputs_are) in
-    let after : AreAll IsQuietEvent late = all_append IsQuietEvent turn.outputs turn.ends (all_are IsOutput IsQuietEvent turn.outputs output_quiet turn.outputs_are) (all_are IsEnd IsQuietEvent turn.ends end_quiet turn.ends_are) in
-    let k : KeepsLoad s (find turn.start.slots id) = load_run IsNoWork x.host turn.start id early s (λ e_ q. q) (λ e_ q feed. p) before lt e turn.to_round in
-    elim (near_round slice turn.start turn.end y.host id late s turn.worked turn.refused turn.round (find turn.start.slots id) p (omega arith) after turn.from_round refl k) [
-      | inl refused ↦ inl (rw turn.steps_are (refuses_right id early (middle ++ late) (refuses_left id middle late refused)))
+    let early : List Step = turn.host.parts.admissions ++ turn.host.parts.inputs in
+    let late : List Step = turn.host.parts.outputs ++ turn.host.parts.ends in
+    let middle : List Step = works slice (pending_ids turn.host.start) turn.host.round.outcomes in
+    let u : x.host.slots.next ≤ turn.host.start.slots.next = next_rises x.host turn.host.start early turn.host.to_round in
+    let before : Each (λ step. IsNoWork step.event) early = all_append IsNoWork turn.host.parts.admissions turn.host.parts.inputs (all_are IsAdmission IsNoWork turn.host.parts.admissions admission_quiet turn.host.parts.admissions_are) (all_are IsInput IsNoWork turn.host.parts.inputs input_quiet turn.host.parts.inputs_are) in
+    let after : Each (λ step. IsQuietEvent step.event) late = all_append IsQuietEvent turn.host.parts.outputs turn.host.parts.ends (all_are IsOutput IsQuietEvent turn.host.parts.outputs output_quiet turn.host.parts.outputs_are) (all_are IsEnd IsQuietEvent turn.host.parts.ends end_quiet turn.host.parts.ends_are) in
+    let k : KeepsLoad s (find turn.host.start.slots id) = load_run IsNoWork x.host turn.host.start id early s (λ e_ q. q) (λ e_ q feed. p) before lt e turn.host.to_round in
+    elim (near_round slice turn.host.start turn.host.end y.host id late s turn.host.worked turn.host.refused turn.host.round (find turn.host.start.slots id) p (omega arith) after turn.host.from_round refl k) [
+      | inl refused ↦ inl (rw turn.host.steps_are (some_right (work_failed id) early (middle ++ late) (some_left (work_failed id) middle late refused)))
       | inr near ↦ inr near
     ]

@@ -5,10 +5,16 @@ use Rattle.std.proofs.lemmas.Bool.{both_ways, cond_both}
 use Rattle.socket_loop.specs.declared.connection.Link.{Link}
 use Rattle.socket_loop.specs.declared.connection.Connection.{Connection}
 use Rattle.transport.specs.Report.{Report, IsRaised}
-use Rattle.socket_loop.specs.Links.{IsAmong, IsHeld, IsMarked, links_of, reads_ended, was_shut}
-use Rattle.socket_loop.specs.Parts.{KeepsAllMarks, AddsNoMark, Grows, HoldsMore}
+use Rattle.socket_loop.specs.Links.{IsAmong, IsMarked, links_of, reads_ended, was_shut}
+use Rattle.socket_loop.specs.Parts.{Grows}
 use Rattle.transport.specs.Moves.{AllMove, IsEmptied}
 use Rattle.transport.proofs.Reported.{emptied_move, move_emptied, raised_rises, rises_raised}
+use Rattle.socket_loop.specs.Accepting.{AddsNoMark, HoldsMore}
+use Rattle.socket_loop.specs.Visits.{KeepsMarks}
+
+-- the same of each number
+abbrev pub KeepsAllMarks : ℕ → Report → List Connection → Report → List Connection → Type 0
+KeepsAllMarks bound old held new now = (number : ℕ) → KeepsMarks bound old held new now number
 
 marked_set : (mark : Connection → Bool) (items : List Connection) (i : ℕ) (y : Connection) (n : ℕ) → IsMarked mark (set items i y) n → ((y.link.number ≡ n) × (mark y ≡ true)) ⊎ IsMarked mark items n
 marked_set mark [] i y n m = inr m
@@ -108,14 +114,14 @@ marked_filter mark p (x ∷ xs) n m =
 
 -- ---- what is held
 
-held_insert : (held : List Connection) (place : ℕ) (c x : Connection) → IsHeld (insert held place c) x → (x ≡ c) ⊎ IsHeld held x
+held_insert : (held : List Connection) (place : ℕ) (c x : Connection) → IsAmong (insert held place c) x → (x ≡ c) ⊎ IsAmong held x
 held_insert [] zero c x m = m
 held_insert [] (suc i) c x m = m
 held_insert (y ∷ ys) zero c x m = m
 held_insert (y ∷ ys) (suc i) c x (inl e) = inr (inl e)
 held_insert (y ∷ ys) (suc i) c x (inr m) = elim (held_insert ys i c x m) [ inl e ↦ inl e | inr n ↦ inr (inr n) ]
 
-insert_held : (held : List Connection) (place : ℕ) (c x : Connection) → IsHeld held x → IsHeld (insert held place c) x
+insert_held : (held : List Connection) (place : ℕ) (c x : Connection) → IsAmong held x → IsAmong (insert held place c) x
 insert_held [] i c x m = absurd m
 insert_held (y ∷ ys) zero c x m = inr m
 insert_held (y ∷ ys) (suc i) c x (inl e) = inl e

@@ -16,11 +16,12 @@ use Rattle.host_core.proofs.OneSession.{gone, IsGone as IsOut}
 use Rattle.socket_loop.specs.declared.connection.Link.{Link}
 use Rattle.socket_loop.specs.declared.connection.Connection.{Connection}
 use Rattle.transport.specs.Report.{Report, KeepsConnection, KeepsAll}
-use Rattle.socket_loop.specs.Links.{IsOneToOne, IsNotAmong, IsUnknownId, links_of}
-use Rattle.socket_loop.specs.Parts.{IsGone, closes, feed_out_of_memory, Finished, Cause, Survives, IsShutDown, Transferred, Carries, CarriesBy}
+use Rattle.socket_loop.specs.Links.{IsNotAmong, links_of, Each, Ties}
+use Rattle.socket_loop.specs.Parts.{IsGone, closes, feed_out_of_memory, Finished, Cause, Survives, IsShutDown, Transferred, some_step}
 use Rattle.transport.specs.Moves.{AllMove}
 use Rattle.transport.proofs.Reported.{stays_then, stays_raised, raised_rises, rises_raised, kept_same, kept_then, all_kept, moves_then, Consumes-none, Appends-none}
-use Rattle.socket_loop.proofs.Runs.{run-append, own-append, taken-append, own-works, taken-works, closes-works, closes_left, closes_right, closes_neither, starves_left, starves_right, starves_either, starves_neither, feed_out_of_memory-works, alone_then, all_append, next_rises}
+use Rattle.socket_loop.proofs.Runs.{run-append, own-append, taken-append, own-works, taken-works, closes-works, some_left, some_right, some_either, some_neither, feed_out_of_memory-works, alone_then, all_append, next_rises}
+use Rattle.socket_loop.specs.Visits.{Carries, CarriesBy}
 
 -- ---- why a connection is shut
 
@@ -39,7 +40,7 @@ finished_left m h i j s t l q f = record {
   finished = f.finished;
 }
 
-finished_right : (m : List Connection) (h i j : HostState) (s t : List Step) (l : Link) → closes l.id s ≡ false → IsRun h s i → Finished m i t j l → Finished m h (s ++ t) j l
+finished_right : (m : List Connection) (h i j : HostState) (s t : List Step) (l : Link) → some_step (closes l.id) s ≡ false → IsRun h s i → Finished m i t j l → Finished m h (s ++ t) j l
 finished_right m h i j s t l c r f = record {
   earlier = s ++ f.earlier;
   outcome = f.outcome;
@@ -48,7 +49,7 @@ finished_right m h i j s t l c r f = record {
   moment = f.moment;
   run = run-append h i f.moment s f.earlier r f.run;
   onward = f.onward;
-  first = closes_neither l.id s f.earlier c f.first;
+  first = some_neither (closes l.id) s f.earlier c f.first;
   has_ended = f.has_ended;
   marked = f.marked;
   finished = f.finished;
@@ -56,50 +57,50 @@ finished_right m h i j s t l c r f = record {
 
 cause_left : (m : List Connection) (a b c : Report) (h i j : HostState) (s t : List Step) (l : Link) → AllMove b c → IsRun i t j → Cause m a h s b i l → Cause m a h (s ++ t) c j l
 cause_left m a b c h i j s t l k q (inl failed) = inl (raised_rises _ _ _ failed (k l.number).failed)
-cause_left m a b c h i j s t l k q (inr (inl starved)) = inr (inl (starves_left l.id s t starved))
+cause_left m a b c h i j s t l k q (inr (inl starved)) = inr (inl (some_left (feed_out_of_memory l.id) s t starved))
 cause_left m a b c h i j s t l k q (inr (inr f)) = inr (inr (finished_left m h i j s t l q f))
 
-cause_right : (m : List Connection) (a b c : Report) (h i j : HostState) (s t : List Step) (l : Link) → closes l.id s ≡ false → AllMove a b → IsRun h s i → Cause m b i t c j l → Cause m a h (s ++ t) c j l
+cause_right : (m : List Connection) (a b c : Report) (h i j : HostState) (s t : List Step) (l : Link) → some_step (closes l.id) s ≡ false → AllMove a b → IsRun h s i → Cause m b i t c j l → Cause m a h (s ++ t) c j l
 cause_right m a b c h i j s t l u k r (inl failed) = inl (rises_raised _ _ _ (k l.number).failed failed)
-cause_right m a b c h i j s t l u k r (inr (inl starved)) = inr (inl (starves_right l.id s t starved))
+cause_right m a b c h i j s t l u k r (inr (inl starved)) = inr (inl (some_right (feed_out_of_memory l.id) s t starved))
 cause_right m a b c h i j s t l u k r (inr (inr f)) = inr (inr (finished_right m h i j s t l u r f))
 
 ends_then : (m : List Connection) (n : ℕ) (a b c : Report) (h i j : HostState) (s t : List Step) (l : Link) → AllMove a b → AllMove b c → IsRun h s i → IsRun i t j → Survives a s b l ⊎ IsShutDown m n a h s b i l → Survives b t c l ⊎ IsShutDown m n b i t c j l
     → Survives a (s ++ t) c l ⊎ IsShutDown m n a h (s ++ t) c j l
 ends_then m n a b c h i j s t l x y r w (inl p) (inl q) =
-    inl (record { shut = stays_then _ _ _ p.shut q.shut; closed = closes_neither l.id s t p.closed q.closed; failed = stays_then _ _ _ p.failed q.failed; fed = starves_neither l.id s t p.fed q.fed })
+    inl (record { shut = stays_then _ _ _ p.shut q.shut; closed = some_neither (closes l.id) s t p.closed q.closed; failed = stays_then _ _ _ p.failed q.failed; fed = some_neither (feed_out_of_memory l.id) s t p.fed q.fed })
 ends_then m n a b c h i j s t l x y r w (inl p) (inr q) =
-    inr (record { shut = λ lt. stays_raised _ _ _ p.shut (q.shut lt); closed = closes_right l.id s t q.closed; cause = cause_right m a b c h i j s t l p.closed x r q.cause })
+    inr (record { shut = λ lt. stays_raised _ _ _ p.shut (q.shut lt); closed = some_right (closes l.id) s t q.closed; cause = cause_right m a b c h i j s t l p.closed x r q.cause })
 ends_then m n a b c h i j s t l x y r w (inr p) q =
-    inr (record { shut = λ lt. raised_rises _ _ _ (p.shut lt) (y l.number).shut; closed = closes_left l.id s t p.closed; cause = cause_left m a b c h i j s t l y w p.cause })
+    inr (record { shut = λ lt. raised_rises _ _ _ (p.shut lt) (y l.number).shut; closed = some_left (closes l.id) s t p.closed; cause = cause_left m a b c h i j s t l y w p.cause })
 
 -- ---- one connection
 
 -- nothing of it happened
-pub carried_nothing : (m : List Connection) (n : ℕ) (a b : Report) (h i : HostState) (s : List Step) (l : Link) → own l.id s ≡ [] → taken l.id s ≡ [] → closes l.id s ≡ false → feed_out_of_memory l.id s ≡ false → KeepsConnection a b l.number → Transferred m n a h s b i l
+pub carried_nothing : (m : List Connection) (n : ℕ) (a b : Report) (h i : HostState) (s : List Step) (l : Link) → own l.id s ≡ [] → taken l.id s ≡ [] → some_step (closes l.id) s ≡ false → some_step (feed_out_of_memory l.id) s ≡ false → KeepsConnection a b l.number → Transferred m n a h s b i l
 carried_nothing m n a b h i s l o g e f k = record {
   lost = [];
   consumed = rw o (Consumes-none _ _ k.unread);
   given = rw o (Appends-none _ _ k.given);
   appended = rw g (Appends-none _ _ k.written);
   whole = inl refl;
-  fed = λ e. absurd (both_ways (feed_out_of_memory l.id s) f e);
+  fed = λ e. absurd (both_ways (some_step (feed_out_of_memory l.id) s) f e);
   ends = inl (record { shut = k.shut; closed = e; failed = k.failed; fed = f });
 }
 
-lost_whole : (h i j : HostState) (id : SessionId) (s t : List Step) (lost more : List ℕ) → (lost ≡ []) ⊎ (IsGone i id × (feed_out_of_memory id s ≡ true)) → (more ≡ []) ⊎ (IsGone j id × (feed_out_of_memory id t ≡ true)) → (IsGone i id → IsGone j id) → (lost ++ more ≡ []) ⊎ (IsGone j id × (feed_out_of_memory id (s ++ t) ≡ true))
+lost_whole : (h i j : HostState) (id : SessionId) (s t : List Step) (lost more : List ℕ) → (lost ≡ []) ⊎ (IsGone i id × (some_step (feed_out_of_memory id) s ≡ true)) → (more ≡ []) ⊎ (IsGone j id × (some_step (feed_out_of_memory id) t ≡ true)) → (IsGone i id → IsGone j id) → (lost ++ more ≡ []) ⊎ (IsGone j id × (some_step (feed_out_of_memory id) (s ++ t) ≡ true))
 lost_whole h i j id s t lost more (inl e) (inl f) k = inl (rw (e, f) refl)
-lost_whole h i j id s t lost more (inl e) (inr g) k = inr (g.0, starves_right id s t g.1)
-lost_whole h i j id s t lost more (inr g) w k = inr (k g.0, starves_left id s t g.1)
+lost_whole h i j id s t lost more (inl e) (inr g) k = inr (g.0, some_right (feed_out_of_memory id) s t g.1)
+lost_whole h i j id s t lost more (inr g) w k = inr (k g.0, some_left (feed_out_of_memory id) s t g.1)
 
 pub some_lost : (lost more : List ℕ) → lost ++ more ≡ [] → lost ≡ []
 some_lost [] more e = refl
 some_lost (x ∷ lost) more e = absurd (cc)
 
-lost_fed : (id : SessionId) (s t : List Step) (lost more : List ℕ) → (feed_out_of_memory id s ≡ true → lost ≢ []) → (feed_out_of_memory id t ≡ true → more ≢ []) → feed_out_of_memory id (s ++ t) ≡ true → lost ++ more ≢ []
+lost_fed : (id : SessionId) (s t : List Step) (lost more : List ℕ) → (some_step (feed_out_of_memory id) s ≡ true → lost ≢ []) → (some_step (feed_out_of_memory id) t ≡ true → more ≢ []) → some_step (feed_out_of_memory id) (s ++ t) ≡ true → lost ++ more ≢ []
 lost_fed id s t lost more p q e none =
     let first : lost ≡ [] = some_lost lost more none in
-    elim (starves_either id s t e) [ inl now ↦ p now first | inr later ↦ q later (rw first at none) ]
+    elim (some_either (feed_out_of_memory id) s t e) [ inl now ↦ p now first | inr later ↦ q later (rw first at none) ]
 
 pub out_gone : (h i : HostState) (id : SessionId) (steps : List Step) → IsRun h steps i → IsGone h id → IsOut id steps i
 out_gone h i id steps r g = gone h i id steps g.none g.below r
@@ -146,7 +147,7 @@ carries_then m n ls s t a b c h i j p q = record {
 }
 
 -- no session gets or gives bytes, or is closed
-pub carries_quiet : (m : List Connection) (n : ℕ) (ls : List Link) (steps : List Step) (a b : Report) (h i : HostState) → IsRun h steps i → KeepsAll a b → ((id : SessionId) → own id steps ≡ []) → ((id : SessionId) → taken id steps ≡ []) → ((id : SessionId) → closes id steps ≡ false) → ((id : SessionId) → feed_out_of_memory id steps ≡ false) → Carries m n ls a h steps b i
+pub carries_quiet : (m : List Connection) (n : ℕ) (ls : List Link) (steps : List Step) (a b : Report) (h i : HostState) → IsRun h steps i → KeepsAll a b → ((id : SessionId) → own id steps ≡ []) → ((id : SessionId) → taken id steps ≡ []) → ((id : SessionId) → some_step (closes id) steps ≡ false) → ((id : SessionId) → some_step (feed_out_of_memory id) steps ≡ false) → Carries m n ls a h steps b i
 carries_quiet m n ls steps a b h i r k o g e f = record {
   chain = r;
   carried = λ l tied. carried_nothing m n a b h i steps l (o l.id) (g l.id) (e l.id) (f l.id) (k l.number);
@@ -159,7 +160,7 @@ pub carries_round : (m : List Connection) (n : ℕ) (ls : List Link) (a : Report
 carries_round m n ls a h i budget ids worked refused r =
     carries_quiet m n ls (works budget ids r.outcomes) a a h i r.run (kept_same a) (λ id. own-works id budget ids r.outcomes) (λ id. taken-works id budget ids r.outcomes) (λ id. closes-works id budget ids r.outcomes) (λ id. feed_out_of_memory-works id budget ids r.outcomes)
 
-tied_at : (ls : List Link) (i : ℕ) (d : Link) (l : Link) → i < length ls → IsOneToOne ls l → IsOneToOne (get_or ls i d ∷ []) l
+tied_at : (ls : List Link) (i : ℕ) (d : Link) (l : Link) → i < length ls → Each (λ other. Ties other l) ls → Each (λ other. Ties other l) (get_or ls i d ∷ [])
 tied_at [] i d l h t = absurd (omega arith)
 tied_at (k ∷ ks) zero d l h t = (t.0, tt)
 tied_at (k ∷ ks) (suc i) d l h t = tied_at ks i d l (omega arith) t.1
@@ -169,7 +170,7 @@ apart_at [] i d n h t = absurd (omega arith)
 apart_at (k ∷ ks) zero d n h t = (t.0, tt)
 apart_at (k ∷ ks) (suc i) d n h t = apart_at ks i d n (omega arith) t.1
 
-strange_at : (ls : List Link) (i : ℕ) (d : Link) (id : SessionId) → i < length ls → IsUnknownId ls id → IsUnknownId (get_or ls i d ∷ []) id
+strange_at : (ls : List Link) (i : ℕ) (d : Link) (id : SessionId) → i < length ls → Each (λ other. other.id ≢ id) ls → Each (λ other. other.id ≢ id) (get_or ls i d ∷ [])
 strange_at [] i d id h t = absurd (omega arith)
 strange_at (k ∷ ks) zero d id h t = (t.0, tt)
 strange_at (k ∷ ks) (suc i) d id h t = strange_at ks i d id (omega arith) t.1

@@ -4,8 +4,8 @@ use Rattle.std.specs.Prelude.{◌||◌, filter}
 use Rattle.std.proofs.lemmas.List.{set-get_or}
 use Rattle.socket_loop.specs.declared.connection.Connection.{Connection}
 use Rattle.transport.specs.Report.{Report, KeepsAll}
-use Rattle.socket_loop.specs.Turns.{IsQuiet}
 use Rattle.transport.proofs.Reported.{kept_then}
+use Rattle.socket_loop.specs.Visits.{IsQuiet}
 
 -- neither of the two
 pub record Neither (x y : Bool) : Type 0 where

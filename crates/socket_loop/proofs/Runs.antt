@@ -11,8 +11,8 @@ use Rattle.host_core.specs.Made.{Step, own, taken, own_by, taken_by, opens, is_o
 use Rattle.host_core.specs.Runs.{IsStep, IsRun}
 use Rattle.host_core.specs.Rounds.{works}
 use Rattle.host_core.proofs.Sees.{rises}
-use Rattle.socket_loop.specs.Parts.{IsGone, AreAll, IsAdmission, LeavesUntouched, closes, closes_by, feed_out_of_memory, feed_out_of_memory_by}
-use Rattle.socket_loop.specs.Turns.{openings, openings_by}
+use Rattle.socket_loop.specs.Parts.{IsGone, IsAdmission, LeavesUntouched, closes, feed_out_of_memory, some_step}
+use Rattle.socket_loop.specs.Links.{Each}
 
 pub run-one : (old new : HostState) (step : Step) → IsStep old step new → IsRun old (step ∷ []) new
 unfolding IsRun
@@ -35,10 +35,6 @@ pub taken-append : (id : SessionId) (a b : List Step) → taken id (a ++ b) ≡ 
 taken-append id [] b = refl
 taken-append id (step ∷ rest) b = ap (λ xs. taken_by id step.event step.outcome ++ xs) (taken-append id rest b) ∙ sym (append_assoc (taken_by id step.event step.outcome) (taken id rest) (taken id b))
 
-pub openings-append : (a b : List Step) → openings (a ++ b) ≡ openings a ++ openings b
-openings-append [] b = refl
-openings-append (step ∷ rest) b = ap (λ xs. openings_by step.event step.outcome ++ xs) (openings-append rest b) ∙ sym (append_assoc (openings_by step.event step.outcome) (openings rest) (openings b))
-
 pub own-works : (id : SessionId) (budget : ℕ) (ids : List SessionId) (os : List Outcome) → own id (works budget ids os) ≡ []
 own-works id budget [] os = refl
 own-works id budget (i ∷ ids) [] = refl
@@ -49,7 +45,7 @@ taken-works id budget [] os = refl
 taken-works id budget (i ∷ ids) [] = refl
 taken-works id budget (i ∷ ids) (o ∷ os) = taken-works id budget ids os
 
-pub closes-works : (id : SessionId) (budget : ℕ) (ids : List SessionId) (os : List Outcome) → closes id (works budget ids os) ≡ false
+pub closes-works : (id : SessionId) (budget : ℕ) (ids : List SessionId) (os : List Outcome) → some_step (closes id) (works budget ids os) ≡ false
 closes-works id budget [] os = refl
 closes-works id budget (i ∷ ids) [] = refl
 closes-works id budget (i ∷ ids) (o ∷ os) = closes-works id budget ids os
@@ -59,54 +55,35 @@ either_left : (x y z : Bool) → (y ≡ true → z ≡ true) → (x || y) ≡ tr
 either_left true y z f e = refl
 either_left false y z f e = f e
 
-pub closes_left : (id : SessionId) (a b : List Step) → closes id a ≡ true → closes id (a ++ b) ≡ true
-closes_left id [] b e = absurd (cc)
-closes_left id (s ∷ rest) b e = either_left (closes_by id s.event) (closes id rest) (closes id (rest ++ b)) (closes_left id rest b) e
+pub some_left : (is_so : Event → Outcome → Bool) (a b : List Step) → some_step is_so a ≡ true → some_step is_so (a ++ b) ≡ true
+some_left is_so [] b e = absurd (cc)
+some_left is_so (s ∷ rest) b e = either_left (is_so s.event s.outcome) (some_step is_so rest) (some_step is_so (rest ++ b)) (some_left is_so rest b) e
 
-pub closes_right : (id : SessionId) (a b : List Step) → closes id b ≡ true → closes id (a ++ b) ≡ true
-closes_right id [] b e = e
-closes_right id (s ∷ rest) b e = or_right (closes_by id s.event) (closes id (rest ++ b)) (closes_right id rest b e)
+pub some_right : (is_so : Event → Outcome → Bool) (a b : List Step) → some_step is_so b ≡ true → some_step is_so (a ++ b) ≡ true
+some_right is_so [] b e = e
+some_right is_so (s ∷ rest) b e = or_right (is_so s.event s.outcome) (some_step is_so (rest ++ b)) (some_right is_so rest b e)
 
-closes_more : (x y : Bool) (z : Bool) → (y ≡ false → z ≡ false) → (x || y) ≡ false → (x || z) ≡ false
-closes_more true y z f e = absurd (cc)
-closes_more false y z f e = f e
+neither_more : (x y : Bool) (z : Bool) → (y ≡ false → z ≡ false) → (x || y) ≡ false → (x || z) ≡ false
+neither_more true y z f e = absurd (cc)
+neither_more false y z f e = f e
 
-pub closes_neither : (id : SessionId) (a b : List Step) → closes id a ≡ false → closes id b ≡ false → closes id (a ++ b) ≡ false
-closes_neither id [] b e f = f
-closes_neither id (s ∷ rest) b e f = closes_more (closes_by id s.event) (closes id rest) (closes id (rest ++ b)) (λ g. closes_neither id rest b g f) e
+pub some_neither : (is_so : Event → Outcome → Bool) (a b : List Step) → some_step is_so a ≡ false → some_step is_so b ≡ false → some_step is_so (a ++ b) ≡ false
+some_neither is_so [] b e f = f
+some_neither is_so (s ∷ rest) b e f = neither_more (is_so s.event s.outcome) (some_step is_so rest) (some_step is_so (rest ++ b)) (λ g. some_neither is_so rest b g f) e
 
-pub closes_either : (id : SessionId) (a b : List Step) → closes id (a ++ b) ≡ true → (closes id a ≡ true) ⊎ (closes id b ≡ true)
-closes_either id [] b e = inr e
-closes_either id (s ∷ rest) b e = elim (or_cases (closes_by id s.event) (closes id (rest ++ b)) e) [
-  | inl now ↦ inl (or_left (closes_by id s.event) (closes id rest) now)
-  | inr later ↦ elim (closes_either id rest b later) [ inl first ↦ inl (or_right (closes_by id s.event) (closes id rest) first) | inr second ↦ inr second ]
+pub some_either : (is_so : Event → Outcome → Bool) (a b : List Step) → some_step is_so (a ++ b) ≡ true → (some_step is_so a ≡ true) ⊎ (some_step is_so b ≡ true)
+some_either is_so [] b e = inr e
+some_either is_so (s ∷ rest) b e = elim (or_cases (is_so s.event s.outcome) (some_step is_so (rest ++ b)) e) [
+  | inl now ↦ inl (or_left (is_so s.event s.outcome) (some_step is_so rest) now)
+  | inr later ↦ elim (some_either is_so rest b later) [ inl first ↦ inl (or_right (is_so s.event s.outcome) (some_step is_so rest) first) | inr second ↦ inr second ]
 ]
 
-pub starves_left : (id : SessionId) (a b : List Step) → feed_out_of_memory id a ≡ true → feed_out_of_memory id (a ++ b) ≡ true
-starves_left id [] b e = absurd (cc)
-starves_left id (s ∷ rest) b e = either_left (feed_out_of_memory_by id s.event s.outcome) (feed_out_of_memory id rest) (feed_out_of_memory id (rest ++ b)) (starves_left id rest b) e
-
-pub starves_right : (id : SessionId) (a b : List Step) → feed_out_of_memory id b ≡ true → feed_out_of_memory id (a ++ b) ≡ true
-starves_right id [] b e = e
-starves_right id (s ∷ rest) b e = or_right (feed_out_of_memory_by id s.event s.outcome) (feed_out_of_memory id (rest ++ b)) (starves_right id rest b e)
-
-pub starves_either : (id : SessionId) (a b : List Step) → feed_out_of_memory id (a ++ b) ≡ true → (feed_out_of_memory id a ≡ true) ⊎ (feed_out_of_memory id b ≡ true)
-starves_either id [] b e = inr e
-starves_either id (s ∷ rest) b e = elim (or_cases (feed_out_of_memory_by id s.event s.outcome) (feed_out_of_memory id (rest ++ b)) e) [
-  | inl now ↦ inl (or_left (feed_out_of_memory_by id s.event s.outcome) (feed_out_of_memory id rest) now)
-  | inr later ↦ elim (starves_either id rest b later) [ inl first ↦ inl (or_right (feed_out_of_memory_by id s.event s.outcome) (feed_out_of_memory id rest) first) | inr second ↦ inr second ]
-]
-
-pub starves_neither : (id : SessionId) (a b : List Step) → feed_out_of_memory id a ≡ false → feed_out_of_memory id b ≡ false → feed_out_of_memory id (a ++ b) ≡ false
-starves_neither id [] b e f = f
-starves_neither id (s ∷ rest) b e f = closes_more (feed_out_of_memory_by id s.event s.outcome) (feed_out_of_memory id rest) (feed_out_of_memory id (rest ++ b)) (λ g. starves_neither id rest b g f) e
-
-pub feed_out_of_memory-works : (id : SessionId) (budget : ℕ) (ids : List SessionId) (os : List Outcome) → feed_out_of_memory id (works budget ids os) ≡ false
+pub feed_out_of_memory-works : (id : SessionId) (budget : ℕ) (ids : List SessionId) (os : List Outcome) → some_step (feed_out_of_memory id) (works budget ids os) ≡ false
 feed_out_of_memory-works id budget [] os = refl
 feed_out_of_memory-works id budget (i ∷ ids) [] = refl
 feed_out_of_memory-works id budget (i ∷ ids) (o ∷ os) = feed_out_of_memory-works id budget ids os
 
-starves_admission : (id : SessionId) (event : Event) (o : Outcome) → IsAdmission event → feed_out_of_memory_by id event o ≡ false
+starves_admission : (id : SessionId) (event : Event) (o : Outcome) → IsAdmission event → feed_out_of_memory id event o ≡ false
 starves_admission id Open o k = refl
 starves_admission id (Feed other chunk) o k = absurd k
 starves_admission id (Work other n) o k = absurd k
@@ -114,27 +91,27 @@ starves_admission id (Take other n) o k = absurd k
 starves_admission id (Close other) o k = absurd k
 
 -- no opening starves
-pub feed_out_of_memory-admissions : (id : SessionId) (steps : List Step) → AreAll IsAdmission steps → feed_out_of_memory id steps ≡ false
+pub feed_out_of_memory-admissions : (id : SessionId) (steps : List Step) → Each (λ step. IsAdmission step.event) steps → some_step (feed_out_of_memory id) steps ≡ false
 feed_out_of_memory-admissions id [] k = refl
-feed_out_of_memory-admissions id (s ∷ rest) k = or_from (feed_out_of_memory_by id s.event s.outcome) (feed_out_of_memory id rest) (starves_admission id s.event s.outcome k.0) (feed_out_of_memory-admissions id rest k.1)
+feed_out_of_memory-admissions id (s ∷ rest) k = or_from (feed_out_of_memory id s.event s.outcome) (some_step (feed_out_of_memory id) rest) (starves_admission id s.event s.outcome k.0) (feed_out_of_memory-admissions id rest k.1)
 
-closes_admission : (id : SessionId) (event : Event) → IsAdmission event → closes_by id event ≡ false
-closes_admission id Open k = refl
-closes_admission id (Feed other chunk) k = absurd k
-closes_admission id (Work other n) k = absurd k
-closes_admission id (Take other n) k = absurd k
-closes_admission id (Close other) k = absurd k
+closes_admission : (id : SessionId) (event : Event) (o : Outcome) → IsAdmission event → closes id event o ≡ false
+closes_admission id Open o k = refl
+closes_admission id (Feed other chunk) o k = absurd k
+closes_admission id (Work other n) o k = absurd k
+closes_admission id (Take other n) o k = absurd k
+closes_admission id (Close other) o k = absurd k
 
 -- nor does any close
-pub closes-admissions : (id : SessionId) (steps : List Step) → AreAll IsAdmission steps → closes id steps ≡ false
+pub closes-admissions : (id : SessionId) (steps : List Step) → Each (λ step. IsAdmission step.event) steps → some_step (closes id) steps ≡ false
 closes-admissions id [] k = refl
-closes-admissions id (s ∷ rest) k = or_from (closes_by id s.event) (closes id rest) (closes_admission id s.event k.0) (closes-admissions id rest k.1)
+closes-admissions id (s ∷ rest) k = or_from (closes id s.event s.outcome) (some_step (closes id) rest) (closes_admission id s.event s.outcome k.0) (closes-admissions id rest k.1)
 
 pub alone_then : (id : SessionId) (a b : List Step) → LeavesUntouched id a → LeavesUntouched id b → LeavesUntouched id (a ++ b)
 alone_then id a b p q = record {
   stored = own-append id a b ∙ rw (p.stored, q.stored) refl;
   passed = taken-append id a b ∙ rw (p.passed, q.passed) refl;
-  kept = closes_neither id a b p.kept q.kept;
+  kept = some_neither (closes id) a b p.kept q.kept;
 }
 
 pub opened_left : (id : SessionId) (a b : List Step) → is_opened id a ≡ true → is_opened id (a ++ b) ≡ true
@@ -145,7 +122,7 @@ pub opened_right : (id : SessionId) (a b : List Step) → is_opened id b ≡ tru
 opened_right id [] b e = e
 opened_right id (s ∷ rest) b e = or_right (opens id s.event s.outcome) (is_opened id (rest ++ b)) (opened_right id rest b e)
 
-pub all_append : (kind : Event → Type 0) (a b : List Step) → AreAll kind a → AreAll kind b → AreAll kind (a ++ b)
+pub all_append : (kind : Event → Type 0) (a b : List Step) → Each (λ step. kind step.event) a → Each (λ step. kind step.event) b → Each (λ step. kind step.event) (a ++ b)
 all_append kind [] b i j = j
 all_append kind (step ∷ rest) b i j = (i.0, all_append kind rest b i.1 j)
 

@@ -11,11 +11,12 @@ use Rattle.socket_loop.specs.declared.connection.Link.{Link}
 use Rattle.socket_loop.specs.declared.connection.Connection.{Connection}
 use Rattle.transport.specs.Asked.{Call}
 use Rattle.socket_loop.specs.Links.{Ties, IsAmong, IsMarked, links_of, was_shut}
-use Rattle.socket_loop.specs.Parts.{IsGone, AddsNoMark, IsInput, IsOutput, IsEnd}
-use Rattle.socket_loop.specs.Calls.{IsVisit, Visits, AreVisitedTo, AsksEach, reads_of, writes_of, ends_of}
+use Rattle.socket_loop.specs.Parts.{IsGone, IsInput, IsOutput, IsEnd}
+use Rattle.socket_loop.specs.Calls.{IsVisit, Visits, AreVisitedTo, reads_of, writes_of, ends_of, AsksTo}
 use Rattle.socket_loop.specs.Turns.{FitsOne}
 use Rattle.socket_loop.proofs.Runs.{run-append, next_rises}
 use Rattle.socket_loop.proofs.Accepting.{tied_of}
+use Rattle.socket_loop.specs.Accepting.{AddsNoMark}
 
 -- some steps lead from here to there
 record Onward (h i : HostState) : Type 0 where
@@ -83,7 +84,7 @@ closed_tied bound i m ls x fit c =
     rw (sym (t.by_number c.same)) c.gone
 
 pub shuts_all : (held met read written last : List Connection) (bound : ℕ) (i j k l m : HostState) (round : List Step) (a b c d : Option (List Call)) → ((n : ℕ) → AddsNoMark held met n) → ((x : Link) → IsAmong (links_of met) x → FitsOne (links_of met) bound i x) → links_of read ≡ links_of met → links_of written ≡ links_of met
-    → AsksEach reads_of IsInput i met read a b j → IsRun j round k → AsksEach writes_of IsOutput k read written b c l → AsksEach ends_of IsEnd l written last c d m → ShutsAll held met last m
+    → AsksTo (length met) reads_of IsInput i met read a b j → IsRun j round k → AsksTo (length read) writes_of IsOutput k read written b c l → AsksTo (length written) ends_of IsEnd l written last c d m → ShutsAll held met last m
 shuts_all held met read written last bound i j k l m round a b c d adds fits read_links written_links reads run writes ends = λ x among mark.
     let r : Onward i j = onward (length met) reads_of IsInput i j met read reads.calls reads.visited in
     let w : Onward k l = onward (length read) writes_of IsOutput k l read written writes.calls writes.visited in

@@ -8,8 +8,9 @@ use Rattle.transport.specs.Report.{Report, KeepsAll}
 use Rattle.socket_loop.specs.Links.{links_of, IsAmong}
 use Rattle.transport.specs.Moves.{AllMove, Transfers}
 use Rattle.transport.proofs.Reported.{all_kept}
-use Rattle.socket_loop.specs.Turns.{KeepsMade, EndsOrShuts, AllKeepMade, OneEndsOrShuts, Stirs, StirsHeld, IsQuiet, any_pending}
+use Rattle.socket_loop.specs.Turns.{KeepsMade, EndsOrShuts, OneEndsOrShuts, StirsHeld, any_pending}
 use Rattle.transport.proofs.Transfers.{transfers_then, then_transfers}
+use Rattle.socket_loop.specs.Visits.{AllKeepMade, IsQuiet, Stirs}
 
 -- ---- marks
 

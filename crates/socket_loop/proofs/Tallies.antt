@@ -1,12 +1,17 @@
 -- How many connections are marked as shut, one visit after the other.
 use Rattle.std.proofs.Common.{◌≡◌, ◌∙◌, ◌+◌, ◌<◌, ℕ, zero, suc, Bool, true, false, List, [], ◌∷◌, ◌++◌, length, cond, get_or, set, take, refl, sym, ap, arith}
+use Rattle.std.specs.Prelude.{◌&&◌, not}
 use Rattle.std.proofs.lemmas.List.{take_more}
 use Rattle.session_slots.specs.Slots.{find}
 use Rattle.host_core.specs.Steps.{HostState}
 use Rattle.host_core.specs.ById.{pending_of}
 use Rattle.socket_loop.specs.Links.{links_of}
 use Rattle.socket_loop.specs.declared.connection.Connection.{Connection}
-use Rattle.socket_loop.specs.Tallies.{newly, pending_count, shut_count}
+use Rattle.socket_loop.specs.Tallies.{pending_count, shut_count}
+
+-- one for a mark that was made
+abbrev newly : Bool → Bool → ℕ
+newly old new = cond (new && not old) 1 0
 
 one_more : (old new : Bool) → (old ≡ true → new ≡ true) → newly old new + cond old 1 0 ≡ cond new 1 0
 one_more true true stays = refl

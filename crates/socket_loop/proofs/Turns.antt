@@ -3,7 +3,18 @@ use Rattle.std.proofs.Common.{◌≡◌, ◌<◌, ◌+◌, ℕ, suc, Result, Ok,
 use Rattle.transport.specs.declared.wire.WireFault.{WireFault}
 use Rattle.transport.specs.Report.{HasCause}
 use Rattle.socket_loop.specs.Scenes.{Scene}
-use Rattle.socket_loop.specs.Serving.{AreTurns, IsTurnTo, IsTurnAndWait, IsWait, Stops}
+use Rattle.socket_loop.specs.Serving.{AreTurns, IsTurnTo, IsTurnAndWait, IsWait}
+
+-- fewer turns than so many, each with a wait after it, and then one more, with a wait that fails with this fault
+pub record Stops (slice most : ℕ) (before after : Scene) (fault : WireFault) : Type 0 where
+  pub count : ℕ
+  pub few : count < most
+  pub between : Scene
+  pub turns : AreTurns slice count before between
+  pub last : Scene
+  pub turn : IsTurnTo slice between last
+  pub wait : IsWait turn.moved (Err fault) last after
+  pub cause : HasCause {T = Unit {0}} last.failed after.failed (Err fault)
 
 pub turns_none : (slice : ℕ) (scene : Scene) → AreTurns slice 0 scene scene
 turns_none slice scene = refl

@@ -25,12 +25,13 @@ use Rattle.socket_loop.specs.declared.connection.Connection.{Connection}
 use Rattle.transport.specs.declared.wire.Got.TheVariants.{Bytes}
 use Rattle.transport.specs.declared.wire.WireFault.{WireFault}
 use Rattle.transport.specs.Report.{Report, KeepsConnection, Stays, IsRaised, Reads, Writes, Shuts}
-use Rattle.socket_loop.specs.Links.{Ties, IsMarked, reads_ended}
-use Rattle.socket_loop.specs.Parts.{IsGone, IsClosing, AreAll, IsInput, IsOutput, IsEnd, closes, feed_out_of_memory, Cause, Transferred, CarriesBy, is_finished_with}
+use Rattle.socket_loop.specs.Links.{Ties, IsMarked, reads_ended, Each}
+use Rattle.socket_loop.specs.Parts.{IsGone, IsInput, IsOutput, IsEnd, closes, feed_out_of_memory, Cause, Transferred, is_finished_with, some_step}
 use Rattle.transport.specs.Moves.{GaveBytes}
 use Rattle.transport.proofs.Reported.{kept_same, kept_then, moves_then, writes_move, shuts_move, gave_move, stays_rise, raised_rise, stays_raised, raised_rises, stays-refl, rises-refl, Consumes-none, Keeps-nothing, Appends-none}
 use Rattle.socket_loop.proofs.Runs.{run-one, run-two, step_rises}
 use Rattle.socket_loop.proofs.Parts.{carried_nothing}
+use Rattle.socket_loop.specs.Visits.{CarriesBy, IsClosing}
 
 -- the event was done
 abbrev pub is_done : Outcome → Bool
@@ -125,11 +126,11 @@ same_link h l e f = λ i. record { number = e i; id = f i }
 record Closing (id : SessionId) (steps : List Step) : Type 0 where
   pub no_own : (other : SessionId) → own other steps ≡ []
   pub no_taken : (other : SessionId) → taken other steps ≡ []
-  pub this : (other : SessionId) → id ≡ other → closes other steps ≡ true
-  pub no_other : (other : SessionId) → (id ≡ other → ⊥) → closes other steps ≡ false
-  pub no_hunger : (other : SessionId) → (id ≡ other → ⊥) → feed_out_of_memory other steps ≡ false
+  pub this : (other : SessionId) → id ≡ other → some_step (closes other) steps ≡ true
+  pub no_other : (other : SessionId) → (id ≡ other → ⊥) → some_step (closes other) steps ≡ false
+  pub no_hunger : (other : SessionId) → (id ≡ other → ⊥) → some_step (feed_out_of_memory other) steps ≡ false
 
-shut_ends : (m : List Connection) (bound : ℕ) (h : Link) (a b c : Report) (before after : HostState) (steps : List Step) (chunk : List ℕ) (l : Link) → Ties h l → GaveBytes a b h.number chunk → Shuts bound b c h.number → Closing h.id steps → (chunk ≡ []) ⊎ (IsGone after h.id × (feed_out_of_memory h.id steps ≡ true)) → (feed_out_of_memory h.id steps ≡ true → chunk ≢ []) → Cause m a before steps c after h → Transferred m bound a before steps c after l
+shut_ends : (m : List Connection) (bound : ℕ) (h : Link) (a b c : Report) (before after : HostState) (steps : List Step) (chunk : List ℕ) (l : Link) → Ties h l → GaveBytes a b h.number chunk → Shuts bound b c h.number → Closing h.id steps → (chunk ≡ []) ⊎ (IsGone after h.id × (some_step (feed_out_of_memory h.id) steps ≡ true)) → (some_step (feed_out_of_memory h.id) steps ≡ true → chunk ≢ []) → Cause m a before steps c after h → Transferred m bound a before steps c after l
 shut_ends m bound h a b c before after steps chunk l t g s closing whole fed why =
     elim (cases_eq h.number l.number) [
       | inl same ↦
@@ -154,7 +155,7 @@ shut_ends m bound h a b c before after steps chunk l t g s closing whole fed why
           carried_nothing m bound a c before after steps l (closing.no_own l.id) (closing.no_taken l.id) (closing.no_other l.id (λ e. apart (t.by_id e))) (closing.no_hunger l.id (λ e. apart (t.by_id e))) kept
     ]
 
-carries_by_closing : (kind : Event → Type 0) (m : List Connection) (bound : ℕ) (h : Link) (a b c : Report) (before after : HostState) (steps : List Step) (chunk : List ℕ) → AreAll kind steps → IsRun before steps after → GaveBytes a b h.number chunk → Shuts bound b c h.number → Closing h.id steps → (chunk ≡ []) ⊎ (IsGone after h.id × (feed_out_of_memory h.id steps ≡ true)) → (feed_out_of_memory h.id steps ≡ true → chunk ≢ []) → Cause m a before steps c after h → CarriesBy kind m bound (h ∷ []) a before c after
+carries_by_closing : (kind : Event → Type 0) (m : List Connection) (bound : ℕ) (h : Link) (a b c : Report) (before after : HostState) (steps : List Step) (chunk : List ℕ) → Each (λ step. kind step.event) steps → IsRun before steps after → GaveBytes a b h.number chunk → Shuts bound b c h.number → Closing h.id steps → (chunk ≡ []) ⊎ (IsGone after h.id × (some_step (feed_out_of_memory h.id) steps ≡ true)) → (some_step (feed_out_of_memory h.id) steps ≡ true → chunk ≢ []) → Cause m a before steps c after h → CarriesBy kind m bound (h ∷ []) a before c after
 carries_by_closing kind m bound h a b c before after steps chunk kinds chain g s closing whole fed why = record {
   steps = steps;
   kinds = kinds;

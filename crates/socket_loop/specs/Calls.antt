@@ -1,5 +1,5 @@
 -- The calls of a turn, in order (own choice).
-use Rattle.std.specs.Prelude.{◌≡◌, ◌⊎◌, ◌↔◌, true, false, ℕ, suc, zero, ◌<◌, List, [], ◌∷◌, ◌++◌, length, nat_lt, Bool, not, cond, ◌&&◌, Option, None, Some, Result, Ok, Err}
+use Rattle.std.specs.Prelude.{◌≡◌, ◌⊎◌, ◌↔◌, true, ℕ, suc, zero, ◌<◌, List, [], ◌∷◌, ◌++◌, length, nat_lt, Bool, not, cond, ◌&&◌, Option, None, Some, Ok, Err, false}
 use Rattle.session_slots.specs.declared.id.SessionId.{SessionId}
 use Rattle.session_slots.specs.Slots.{find}
 use Rattle.host_core.specs.declared.event.HostFault.TheVariants.{Full}
@@ -7,25 +7,23 @@ use Rattle.host_core.specs.Steps.{HostState}
 use Rattle.host_core.specs.ById.{wants_input_of, queued_of}
 use Rattle.host_core.specs.Events.{Event, Outcome, Opened, Refused, Open, Feed, Work, Take, Close}
 use Rattle.host_core.specs.Made.{Step}
-use Rattle.transport.specs.Report.{Report}
 use Rattle.host_core.specs.Rounds.{CountsRound}
 use Rattle.host_core.specs.Runs.{IsRun}
-use Rattle.transport.specs.declared.wire.Wire.{Ghosts}
 use Rattle.transport.specs.declared.wire.WireFault.{WireFault}
 use Rattle.socket_loop.specs.declared.connection.Link.{Link}
 use Rattle.socket_loop.specs.declared.connection.Connection.{Connection}
-use Rattle.socket_loop.specs.declared.turn.Turn.{Turn}
 use Rattle.socket_loop.specs.declared.turn.TheConstants.{ACCEPTS}
 use Rattle.usi_session.specs.declared.limits.TheConstants.{CHUNK_MAX}
 use Rattle.transport.specs.Asked.{Call, Accept, Read, Write, Shut, Asks, IsCalled}
-use Rattle.socket_loop.specs.Links.{links_of, unshut_of, IsRising}
+use Rattle.socket_loop.specs.Links.{links_of, unshut_of, IsRising, Each, IsAmong}
 use Rattle.socket_loop.specs.Scenes.{Scene}
 use Rattle.socket_loop.specs.declared.tally.Tally.{Tally}
-use Rattle.socket_loop.specs.declared.tally.Arrivals.{Arrivals}
-use Rattle.socket_loop.specs.declared.tally.Admission.{Admission}
-use Rattle.socket_loop.specs.Tallies.{AreArrivals, IsTally, full_of, unopened_of}
-use Rattle.socket_loop.specs.Parts.{AreAll, Grows, HoldsMore, IsInput, IsOutput, IsEnd, is_finished}
-use Rattle.socket_loop.specs.Turns.{host_full, Accepted, Accepts, Admits, ContinuesServing, HasMoved, HasSession, HaveSessions, IsQuiet, IsTurn, KeepsMade, LoopState, Over, ServesNew}
+use Rattle.socket_loop.specs.Tallies.{IsTally}
+use Rattle.socket_loop.specs.Parts.{Grows, IsInput, IsOutput, IsEnd, is_finished}
+use Rattle.socket_loop.specs.Turns.{host_full, HasSession, HaveSessions, IsTurn, KeepsMade, ServesNew, Served, StirsHeld, any_pending}
+use Rattle.socket_loop.specs.Past.{Accepted}
+use Rattle.usi_session.specs.Due.{SessionView, due}
+use Rattle.transport.specs.Report.{KeepsAll}
 
 -- ---- one connection
 
@@ -74,8 +72,8 @@ IsOf id (Close other) = other ≡ id
 -- the host made steps of this kind, of one session alone
 pub record Visits (kind : Event → Type 0) (id : SessionId) (old new : HostState) : Type 0 where
   pub steps : List Step
-  pub kinds : AreAll kind steps
-  pub of_it : AreAll (IsOf id) steps
+  pub kinds : Each (λ step. kind step.event) steps
+  pub of_it : Each (λ step. IsOf id step.event) steps
   pub run : IsRun old steps new
 
 -- a connection was visited with these calls: it is shut exactly where it was before or its shut was asked for, and with it its session was closed; its reads have ended only where they had before or a read was asked for
@@ -110,13 +108,6 @@ pub record AsksTo (n : ℕ) (due : HostState → Connection → Connection → L
   pub visited : AreVisitedTo n due kind before xs ys calls after
   pub asked : Asks old new calls
 
--- each connection was visited
-abbrev pub AsksEach : (HostState → Connection → Connection → List Call) → (Event → Type 0)
-    → HostState → List Connection → List Connection → Option (List Call) → Option (List Call)
-    → HostState → Type 0
-AsksEach due kind before xs ys old new after =
-    AsksTo (length xs) due kind before xs ys old new after
-
 -- ---- new connections
 
 -- the calls after a connection was accepted, by how the host answered its `Open`, where these are met then: none where a session was opened, with which it is met; and else a shut, or, where the host is full, one write that says so, and a shut
@@ -126,9 +117,6 @@ IsAdmittedAs met item (Refused Full) calls =
     calls ≡ Write item.number host_full ∷ Shut item.number ∷ []
 IsAdmittedAs met item _ calls = calls ≡ Shut item.number ∷ []
 
-abbrev pub IsAdmitted : List Link → Accepted → List Call → Type 0
-IsAdmitted met item calls = IsAdmittedAs met item item.outcome calls
-
 -- these connections were accepted, one after the other
 abbrev pub AreAccepted : List Link → List Accepted → List Call → Type 0
 AreAccepted met [] calls = calls ≡ []
@@ -136,39 +124,15 @@ AreAccepted met (first ∷ items) calls =
     (more : List Call)
     × ((rest : List Call)
     × ((calls ≡ Accept (Ok (Some first.number)) ∷ (more ++ rest))
-    × (IsAdmitted met first more × AreAccepted met items rest)))
-
--- an accept gave nobody
-abbrev pub GivesNobody : Result (Option ℕ) WireFault → Type 0
-GivesNobody (Ok (Some number)) = ⊥
-GivesNobody (Ok None) = Unit {0}
-GivesNobody (Err fault) = Unit {0}
-
--- one connection was admitted
-pub record AsksAdmission (met : List Link) (number : ℕ) (outcome : Outcome)
-    (old new : Option (List Call)) : Type 0 where
-  pub calls : List Call
-  pub admitted : IsAdmitted met (record { number = number; outcome = outcome }) calls
-  pub asked : Asks old new calls
-
--- a new connection of this number was admitted, with its calls
-pub record AdmitsOne (number : ℕ) (admission : Admission) (before after : Scene) : Type 0 where
-  pub outcome : Outcome
-  pub admits : Admits (links_of before.held) before.report before.host number outcome before.bound
-      (links_of after.held) after.report after.host
-  pub asked : AsksAdmission (links_of after.held) number outcome before.asked after.asked
-  pub full : admission.full ≡ full_of outcome
-  pub unopened : admission.unopened ≡ unopened_of outcome
-  pub more : HoldsMore before.held before.failed after.held after.failed
-  pub bound : after.bound ≡ before.bound
+    × (IsAdmittedAs met first first.outcome more × AreAccepted met items rest)))
 
 -- so many were accepted as are accepted in a turn, or fewer, and one accept gave nobody
 abbrev pub EndsAccepting : List Accepted → List Call → Type 0
 EndsAccepting items last =
     ((length items ≡ ACCEPTS) × (last ≡ []))
     ⊎ ((length items < ACCEPTS)
-    × ((answer : Result (Option ℕ) WireFault)
-    × (GivesNobody answer × (last ≡ Accept answer ∷ []))))
+    × ((last ≡ Accept (Ok None) ∷ [])
+    ⊎ ((fault : WireFault) × (last ≡ Accept (Err fault) ∷ []))))
 
 -- connections were accepted until one accept gave nobody, or ACCEPTS of them were; it may end before that only where not each connection that was held had an open session of its own, as another closed it
 pub record AsksAll (host : HostState) (links met : List Link) (items : List Accepted)
@@ -179,67 +143,59 @@ pub record AsksAll (host : HostState) (links met : List Link) (items : List Acce
   pub ends : EndsAccepting items last ⊎ ((last ≡ []) × ¬ HaveSessions host links)
   pub asked : Asks old new (first ++ last)
 
--- connections were accepted, with all calls and with their numbers
-pub record AllAccepted (arrivals : Arrivals) (links : List Link) (from : ℕ) (old : Report)
-    (before : HostState) (met : List Link) (to : ℕ) (new : Report) (after : HostState)
-    (old_calls new_calls : Option (List Call)) : Type 0 where
-  pub accepts : Accepts links from old before met to new after
-  pub none : arrivals.moved ≡ false → accepts.accepted ≡ []
-  pub numbers : AreArrivals accepts.accepted arrivals
-  pub asked : AsksAll before links met accepts.accepted old_calls new_calls
-
--- connections were accepted, if any; where none was, all that is reported stays
-pub record AcceptsAll (arrivals : Arrivals) (before after : Scene) : Type 0 where
-  pub accepts : AllAccepted arrivals (links_of before.held) before.bound before.report before.host
-      (links_of after.held) after.bound after.report after.host before.asked after.asked
-  pub quiet : IsQuiet arrivals.moved before.report before.held after.report after.held
-  pub accepted : arrivals.moved ≡ true → before.bound < after.bound
-  pub more : HoldsMore before.held before.failed after.held after.failed
-
 -- ---- a turn
 
--- a turn, and its calls: accepts, then a read for each connection that is to be read, a round, a write for each that is to be written, and a shut for each that is finished with
-pub record AsksTurn (slice : ℕ) (moved : Bool) (tally : Tally) (before after : Scene) : Type 0 where
-  pub turn : IsTurn slice moved before after
+-- the accepts of a turn, and the connections that it met
+pub record AsksArrivals (slice : ℕ) (moved : Bool) (before after : Scene)
+    (turn : IsTurn slice moved before after) : Type 0 where
   pub accepted : Option (List Call)
-  pub accepts : AsksAll before.host (links_of before.held) turn.met turn.accepted
+  pub accepts : AsksAll before.host (links_of before.held) turn.meets.met turn.meets.accepted
       before.asked accepted
   pub middle : HostState
-  pub to_middle : IsRun before.host turn.admissions middle
+  pub to_middle : IsRun before.host turn.host.parts.admissions middle
   pub met : List Connection
-  pub met_are : links_of met ≡ turn.met
+  pub met_are : links_of met ≡ turn.meets.met
   pub grows : Grows before.held met
   pub rising : IsRising (links_of before.held) → IsRising (links_of met)
+
+-- a read for each connection that is to be read, and after the round a write for each that is to be written, and a shut for each that is finished with
+pub record AsksVisits (start end middle : HostState) (met marks : List Connection)
+    (accepted : Option (List Call)) (after : Scene) : Type 0 where
   pub read : List Connection
   pub asked_reads : Option (List Call)
-  pub reads : AsksEach reads_of IsInput middle met read accepted asked_reads turn.start
+  pub reads : AsksTo (length met) reads_of IsInput middle met read accepted asked_reads start
   pub asked_writes : Option (List Call)
   pub passed : HostState
-  pub writes : AsksEach writes_of IsOutput turn.end read turn.marks asked_reads asked_writes passed
+  pub writes : AsksTo (length read) writes_of IsOutput end read marks asked_reads asked_writes
+      passed
   pub last : List Connection
-  pub ends : AsksEach ends_of IsEnd passed turn.marks last asked_writes after.asked after.host
+  pub ends : AsksTo (length marks) ends_of IsEnd passed marks last asked_writes after.asked
+      after.host
   pub left : after.held ≡ unshut_of last
-  pub tallied : IsTally turn.accepted met read turn.marks last turn.refused tally
-  pub counted : CountsRound turn.start slice tally.steps tally.bestmoves turn.end
 
--- a turn, its calls, its numbers, and what it did: where it moved and where it did not, and which bytes it served
+-- a turn, its calls and its numbers
+pub record AsksTurn (slice : ℕ) (moved : Bool) (tally : Tally) (before after : Scene)
+    : Type 0 where
+  pub turn : IsTurn slice moved before after
+  pub accepts : AsksArrivals slice moved before after turn
+  pub visits : AsksVisits turn.host.start turn.host.end accepts.middle accepts.met
+      turn.treats.marks accepts.accepted after
+  pub tallied : IsTally turn.meets.accepted accepts.met visits.read turn.treats.marks visits.last
+      turn.host.refused tally
+  pub counted : CountsRound turn.host.start slice tally.steps tally.bestmoves turn.host.end
+
+-- a turn, and what it did: it moved where a connection was accepted, gave or took at least one byte, ended or was shut, or a session is pending; it served those whose session was open, and those that are new
 pub record Turns (slice : ℕ) (moved : Bool) (tally : Tally) (before after : Scene) : Type 0 where
   pub asked : AsksTurn slice moved tally before after
-  pub moves : moved ≡ true → HasMoved before after
-  pub quiet : IsQuiet moved before.report (unshut_of before.held) after.report after.held
-  pub continues : ContinuesServing before after
+  pub moves : moved ≡ true
+      → (before.bound < after.bound)
+      ⊎ (StirsHeld before.report before.held after.report after.held
+      ⊎ (any_pending after.host (links_of after.held) ≡ true))
+  pub quiet : moved ≡ false
+      → KeepsAll before.report after.report × (after.held ≡ unshut_of before.held)
+  pub continues : (link : Link) (session : SessionView)
+      → IsAmong (links_of before.held) link
+      → find before.host.slots link.id ≡ Some session
+      → Served (due session) before.report after.report link.number
+      (find after.host.slots link.id)
   pub starts : ServesNew before (links_of after.held) after
-
--- ---- the same of a loop, a host and a wire of the code
-
--- new connections were accepted, if any
-abbrev pub AcceptedAll : {W : Type 0} → Ghosts W → Arrivals → LoopState → HostState → W
-    → LoopState → HostState → W → Type 0
-AcceptedAll wires arrivals old before from new after to =
-    Over wires (AcceptsAll arrivals) old before from new after to
-
--- a loop took a turn, with its own budget, over a wire and with a host
-abbrev pub Turned : {W : Type 0} → Ghosts W → Turn → LoopState → HostState → W
-    → LoopState → HostState → W → Type 0
-Turned wires turn old before from new after to =
-    Over wires (Turns old.slice turn.moved turn.tally) old before from new after to

@@ -1,9 +1,11 @@
 pub mod Links
 pub mod Scenes
+pub mod Past
 pub mod Parts
 pub mod Turns
 pub mod Tallies
 pub mod Calls
+pub mod Accepting
 pub mod Visits
 pub mod Serving
 pub mod Life

@@ -109,11 +109,7 @@ IsAccountedFor before after number =
     WasRejected before after number
     ⊎ ((id : SessionId) × IsServed before after (record { number = number; id = id }))
 
--- what became of the connection of a number from one scene to a later one: nothing, or it is accounted for
-abbrev pub Life : Scene → Scene → ℕ → Type 0
-Life before after number = IsUntouched before after number ⊎ IsAccountedFor before after number
-
--- what became of each connection; those that are held now were served, and the host has the setup that it had
+-- what became of each connection: nothing, or it is accounted for; those that are held now were served, and the host has the setup that it had
 pub record Lives (before after : Scene) : Type 0 where
   pub setup : after.host.setup ≡ before.host.setup
   pub rises : before.bound ≤ after.bound
@@ -122,7 +118,8 @@ pub record Lives (before after : Scene) : Type 0 where
       → ReadsEnded before after number
   pub unmarked : (number : ℕ) → IsMarked was_shut after.held number
       → IsMarked was_shut before.held number
-  pub each : (number : ℕ) → Life before after number
+  pub each : (number : ℕ)
+      → IsUntouched before after number ⊎ IsAccountedFor before after number
   pub held : (link : Link) → IsAmong (links_of after.held) link → IsServed before after link
 
 -- once what was read from a connection ends its session, and nothing of it is pending or queued, it is shut and its session is closed

@@ -1,43 +1,31 @@
 -- Connections and their sessions (own choice).
-use Rattle.std.specs.Prelude.{◌≡◌, ◌≢◌, ◌≤◌, ◌⊎◌, ⊤, ℕ, suc, List, [], ◌∷◌, Bool, true, false, cond, insert, nat_lt, not, map, filter}
-use Rattle.session_slots.specs.declared.id.SessionId.{SessionId}
+use Rattle.std.specs.Prelude.{◌≡◌, ◌≢◌, ◌≤◌, ◌⊎◌, ⊤, ℕ, List, [], ◌∷◌, Bool, true, not, map, filter}
 use Rattle.socket_loop.specs.declared.connection.Link.{Link}
 use Rattle.socket_loop.specs.declared.connection.Connection.{Connection}
+
+-- it is so of each of these
+abbrev pub Each : {X : Type 0} → (X → Type 0) → List X → Type 0
+Each holds [] = ⊤
+Each holds (first ∷ rest) = holds first × Each holds rest
 
 -- the number and the id go together
 pub record Ties (a b : Link) : Type 0 where
   pub by_number : a.number ≡ b.number → a.id ≡ b.id
   pub by_id : a.id ≡ b.id → a.number ≡ b.number
 
--- none of these has the number with another id, or the id with another number
-abbrev pub IsOneToOne : List Link → Link → Type 0
-IsOneToOne [] link = ⊤
-IsOneToOne (first ∷ rest) link = Ties first link × IsOneToOne rest link
-
 -- none of these has the number
 abbrev pub IsNotAmong : List Link → ℕ → Type 0
-IsNotAmong [] number = ⊤
-IsNotAmong (first ∷ rest) number = (first.number ≢ number) × IsNotAmong rest number
-
--- none of these has the id
-abbrev pub IsUnknownId : List Link → SessionId → Type 0
-IsUnknownId [] id = ⊤
-IsUnknownId (first ∷ rest) id = (first.id ≢ id) × IsUnknownId rest id
+IsNotAmong links number = Each (λ link. link.number ≢ number) links
 
 -- each of these has an id of its own
 abbrev pub AreOnce : List Link → Type 0
 AreOnce [] = ⊤
-AreOnce (first ∷ rest) = IsUnknownId rest first.id × AreOnce rest
+AreOnce (first ∷ rest) = Each (λ other. other.id ≢ first.id) rest × AreOnce rest
 
--- the link is one of these
-abbrev pub IsAmong : List Link → Link → Type 0
-IsAmong [] link = ⊥
-IsAmong (first ∷ rest) link = (link ≡ first) ⊎ IsAmong rest link
-
--- the connection is one of these
-abbrev pub IsHeld : List Connection → Connection → Type 0
-IsHeld [] connection = ⊥
-IsHeld (first ∷ rest) connection = (connection ≡ first) ⊎ IsHeld rest connection
+-- it is one of these
+abbrev pub IsAmong : {X : Type 0} → List X → X → Type 0
+IsAmong [] item = ⊥
+IsAmong (first ∷ rest) item = (item ≡ first) ⊎ IsAmong rest item
 
 abbrev pub links_of : List Connection → List Link
 links_of held = map (λ connection. connection.link) held
@@ -62,25 +50,7 @@ unshut_of held = filter (λ connection. not connection.is_shut) held
 
 -- ---- by rising slot
 
--- each of these has this slot, or a greater one
-abbrev pub AreFrom : ℕ → List Link → Type 0
-AreFrom slot [] = ⊤
-AreFrom slot (first ∷ rest) = (slot ≤ first.id.slot) × AreFrom slot rest
-
 -- the slots never fall from one to the next
 abbrev pub IsRising : List Link → Type 0
 IsRising [] = ⊤
-IsRising (first ∷ rest) = AreFrom first.id.slot rest × IsRising rest
-
--- the place before the first connection with a greater slot
-abbrev pub place_for : ℕ → List Connection → ℕ
-place_for slot [] = 0
-place_for slot (first ∷ rest) = cond (nat_lt slot first.link.id.slot) 0 (suc (place_for slot rest))
-
--- a connection that was just accepted
-abbrev pub new_connection : Link → Connection
-new_connection link = record { link = link; has_ended = false; is_shut = false }
-
--- these connections with one more, by rising slot
-abbrev pub with_connection : List Connection → Connection → List Connection
-with_connection held new = insert held (place_for new.link.id.slot held) new
+IsRising (first ∷ rest) = Each (λ link. first.id.slot ≤ link.id.slot) rest × IsRising rest

@@ -1,27 +1,28 @@
 -- A turn of a loop (own choice).
-use Rattle.std.specs.Prelude.{◌≡◌, ◌+◌, ◌<◌, ◌≤◌, ◌⊎◌, ⊤, ℕ, List, [], ◌∷◌, ◌++◌, codes, map, true, IsSome, Option, Some, Bool, false, ◌||◌}
+use Rattle.std.specs.Prelude.{◌≡◌, ◌+◌, ◌<◌, ◌≤◌, ◌⊎◌, ℕ, List, [], ◌∷◌, ◌++◌, codes, map, true, IsSome, Option, Bool, false, ◌||◌, ◌≢◌}
 use Rattle.std.specs.Io.KnownBytes.{Keeps, Appends, Consumes}
 use Rattle.session_slots.specs.declared.id.SessionId.{SessionId}
 use Rattle.session_slots.specs.Slots.{find}
-use Rattle.usi_session.specs.Due.{SessionView, due}
+use Rattle.usi_session.specs.Due.{SessionView}
 use Rattle.usi_session.specs.WholeStream.{replies_under}
 use Rattle.host_core.specs.declared.event.HostFault.{HostFault}
 use Rattle.host_core.specs.declared.event.HostFault.TheVariants.{Full}
 use Rattle.host_core.specs.Steps.{HostState}
 use Rattle.host_core.specs.ById.{pending_of}
-use Rattle.host_core.specs.Events.{Event, Outcome, Opened, Refused, Open, Feed, Work, Take, Close}
-use Rattle.host_core.specs.Made.{Step, own, taken, is_opened}
+use Rattle.host_core.specs.Events.{Opened, Refused}
+use Rattle.host_core.specs.Made.{Step, is_opened}
 use Rattle.host_core.specs.Runs.{IsRun}
 use Rattle.host_core.specs.Rounds.{IsRound, works, pending_ids}
 use Rattle.host_core.specs.Headline.{EndsFrom, IsPrefixOf}
 use Rattle.socket_loop.specs.declared.connection.Link.{Link}
 use Rattle.socket_loop.specs.declared.connection.Connection.{Connection}
-use Rattle.transport.specs.Report.{Report, KeepsConnection, KeepsOthers, KeepsAll, IsRaised, OnlyRises}
-use Rattle.socket_loop.specs.Links.{AreOnce, IsOneToOne, IsAmong, IsNotAmong, IsUnknownId, IsMarked, links_of, reads_ended, unshut_of, was_shut}
-use Rattle.socket_loop.specs.Parts.{AreAll, IsAdmission, IsInput, IsOutput, IsEnd, Transferred, IsGone, LeavesUntouched, closes, is_finished}
+use Rattle.transport.specs.Report.{Report, KeepsConnection, IsRaised, OnlyRises}
+use Rattle.socket_loop.specs.Links.{AreOnce, IsAmong, IsNotAmong, IsMarked, links_of, reads_ended, unshut_of, was_shut, Each, Ties}
+use Rattle.socket_loop.specs.Parts.{IsAdmission, IsInput, IsOutput, IsEnd, Transferred, IsGone, LeavesUntouched, closes, some_step}
 use Rattle.transport.specs.Moves.{AllMove, IsEmptied, Transfers}
 use Rattle.socket_loop.specs.Scenes.{Scene, scene}
 use Rattle.transport.specs.declared.wire.Wire.{Ghosts}
+use Rattle.socket_loop.specs.Past.{Accepted}
 
 -- the budget of each round, and the connections
 pub record LoopState : Type 0 where
@@ -39,7 +40,7 @@ pub record Over {W : Type 0} (wires : Ghosts W) (Relates : Scene → Scene → T
 
 -- a number that was given by the wire, and an id that was opened by the host; each number has one id
 pub record FitsOne (links : List Link) (bound : ℕ) (host : HostState) (link : Link) : Type 0 where
-  pub tied : IsOneToOne links link
+  pub tied : Each (λ other. Ties other link) links
   pub number : link.number < bound
   pub opened : link.id.generation < host.slots.next
 
@@ -53,31 +54,10 @@ pub record HaveSessions (host : HostState) (links : List Link) : Type 0 where
 
 -- ---- new connections
 
--- a connection that was accepted, and how the host answered its `Open`
-pub record Accepted : Type 0 where
-  pub number : ℕ
-  pub outcome : Outcome
-
-abbrev pub IsOneOf : List Accepted → Accepted → Type 0
-IsOneOf [] new = ⊥
-IsOneOf (first ∷ rest) new = (new ≡ first) ⊎ IsOneOf rest new
-
 -- the numbers of these rise, each from this one on and below that one
 abbrev pub AreNumbered : ℕ → List Accepted → ℕ → Type 0
 AreNumbered from [] to = from ≤ to
 AreNumbered from (first ∷ rest) to = (from ≤ first.number) × AreNumbered (first.number + 1) rest to
-
-abbrev pub openings_by : Event → Outcome → List Outcome
-openings_by Open outcome = outcome ∷ []
-openings_by (Feed id chunk) outcome = []
-openings_by (Work id budget) outcome = []
-openings_by (Take id n) outcome = []
-openings_by (Close id) outcome = []
-
--- how each `Open` of the steps was answered
-abbrev pub openings : List Step → List Outcome
-openings [] = []
-openings (step ∷ rest) = openings_by step.event step.outcome ++ openings rest
 
 -- `info string host full` and LF
 abbrev pub host_full : List ℕ
@@ -88,30 +68,13 @@ abbrev pub rejection_text : HostFault → List ℕ
 rejection_text Full = host_full
 rejection_text _ = []
 
--- a connection was written a prefix of a text, and shut
-pub record IsShutAfterPrefix (bound : ℕ) (text : List ℕ) (old new : Report) (number : ℕ) : Type 0 where
-  pub unread : Keeps (old.unread number) (new.unread number)
-  pub given : Keeps (old.given number) (new.given number)
-  pub bytes : List ℕ
-  pub prefix : IsPrefixOf bytes text
-  pub appended : Appends (old.written number) (new.written number) bytes
-  pub shut : number < bound → IsRaised (old.is_shut number) (new.is_shut number)
-  pub only_rises : OnlyRises (old.is_shut number) (new.is_shut number)
-  pub failed : OnlyRises (old.has_failed number) (new.has_failed number)
-  pub others : KeepsOthers old new number
-
--- a connection of a wire of the code was written a prefix of `info string host full`, and shut
-abbrev pub FindsHostFull : {W : Type 0} → Ghosts W → (old new : W) → ℕ → Type 0
-FindsHostFull wires old new number =
-    IsShutAfterPrefix (wires.bound old) host_full (wires.report old) (wires.report new) number
-
 -- a new connection was rejected, since its `Open` was refused: it was written a prefix of what it is due, and shut
 pub record IsRejected (from to : ℕ) (accepted : List Accepted) (old new : Report) (number : ℕ)
     : Type 0 where
   pub least : from ≤ number
   pub most : number < to
   pub fault : HostFault
-  pub answered : IsOneOf accepted (record { number = number; outcome = Refused fault })
+  pub answered : IsAmong accepted (record { number = number; outcome = Refused fault })
   pub unread : Keeps (old.unread number) (new.unread number)
   pub given : Keeps (old.given number) (new.given number)
   pub bytes : List ℕ
@@ -120,60 +83,11 @@ pub record IsRejected (from to : ℕ) (accepted : List Accepted) (old new : Repo
   pub shut : IsRaised (old.is_shut number) (new.is_shut number)
   pub failed : OnlyRises (old.has_failed number) (new.has_failed number)
 
--- a new connection has a session, of this generation or a later one
-pub record IsNew (from to : ℕ) (accepted : List Accepted) (next : ℕ) (old new : Report)
-    (steps : List Step) (link : Link) : Type 0 where
-  pub least : from ≤ link.number
-  pub most : link.number < to
-  pub answered : IsOneOf accepted (record { number = link.number; outcome = Opened link.id })
-  pub opened : is_opened link.id steps ≡ true
-  pub fresh : next ≤ link.id.generation
-  pub kept : KeepsConnection old new link.number
-
 -- a connection that was accepted has a session, which was opened for it
 abbrev pub HasSession : List Link → Accepted → Type 0
 HasSession met new =
     (link : Link)
     × (IsAmong met link × ((link.number ≡ new.number) × (new.outcome ≡ Opened link.id)))
-
--- new connections were accepted: each number keeps what is reported of it, or was rejected
-pub record Accepts (links : List Link) (from : ℕ) (old : Report) (before : HostState)
-    (met : List Link) (to : ℕ) (new : Report) (after : HostState) : Type 0 where
-  pub steps : List Step
-  pub kinds : AreAll IsAdmission steps
-  pub chain : IsRun before steps after
-  pub no_own : (id : SessionId) → own id steps ≡ []
-  pub no_taken : (id : SessionId) → taken id steps ≡ []
-  pub rises : from ≤ to
-  pub accepted : List Accepted
-  pub numbered : AreNumbered from accepted to
-  pub answers : openings steps ≡ map (λ new. new.outcome) accepted
-  pub kept : (number : ℕ) → number < from → KeepsConnection old new number
-  pub each : (number : ℕ) → KeepsConnection old new number ⊎ IsRejected from to accepted old new number
-  pub all : AllMove old new
-  pub accounted : Fits links from before → (new_one : Accepted) → IsOneOf accepted new_one
-      → HasSession met new_one
-      ⊎ (IsRejected from to accepted old new new_one.number × IsNotAmong met new_one.number)
-  pub stay : (link : Link) → IsAmong links link → IsAmong met link
-  pub are : (link : Link) → IsAmong met link
-      → IsAmong links link ⊎ IsNew from to accepted before.slots.next old new steps link
-  pub fits : Fits links from before → Fits met to after
-  pub once : Fits links from before → AreOnce links → AreOnce met
-
--- these connections were accepted
-pub record AcceptsThese (items : List Accepted) (links : List Link) (from : ℕ) (old : Report)
-    (before : HostState) (met : List Link) (to : ℕ) (new : Report) (after : HostState)
-    : Type 0 where
-  pub accepts : Accepts links from old before met to new after
-  pub items_are : accepts.accepted ≡ items
-
--- of a new connection, from any state of the wire that reported the same
-abbrev pub Admits : List Link → Report → HostState → ℕ → Outcome → ℕ → List Link → Report
-    → HostState → Type 0
-Admits links report before number outcome to met new after =
-    (from : ℕ) (old : Report) → KeepsAll old report → from ≤ number → number < to
-    → AcceptsThese (record { number = number; outcome = outcome } ∷ []) links from old before met to
-    new after
 
 -- ---- a turn
 
@@ -189,14 +103,6 @@ pub record Served (owes : List ℕ → List ℕ) (old new : Report) (number : �
   pub ends : EndsFrom owes read written now
   pub whole : IsSome now → lost ≡ []
 
--- each connection that was held before, with its session open
-abbrev pub ContinuesServing : Scene → Scene → Type 0
-ContinuesServing before after =
-    (link : Link) (s : SessionView)
-    → IsAmong (links_of before.held) link
-    → find before.host.slots link.id ≡ Some s
-    → Served (due s) before.report after.report link.number (find after.host.slots link.id)
-
 -- each of these connections that is not one of those before: its session began under the setup of the host
 abbrev pub ServesNew : Scene → List Link → Scene → Type 0
 ServesNew before met after =
@@ -211,44 +117,61 @@ pub record Joins (from to : ℕ) (accepted : List Accepted) (next last : ℕ) (a
     (link : Link) : Type 0 where
   pub least : from ≤ link.number
   pub most : link.number < to
-  pub answered : IsOneOf accepted (record { number = link.number; outcome = Opened link.id })
+  pub answered : IsAmong accepted (record { number = link.number; outcome = Opened link.id })
   pub opened : is_opened link.id admissions ≡ true
-  pub unclosed : closes link.id admissions ≡ false
+  pub unclosed : some_step (closes link.id) admissions ≡ false
   pub fresh : next ≤ link.id.generation
   pub below : link.id.generation < last
 
--- a connection is shut, and its session is open no more
-pub record IsRemoved (bound : ℕ) (old new : Report) (after : HostState) (link : Link) : Type 0 where
-  pub shut : link.number < bound → IsRaised (old.is_shut link.number) (new.is_shut link.number)
-  pub closed : IsGone after link.id
-
--- accept, read, work, write and shut, in this order, and with one round; where nothing moved nobody was accepted
-pub record IsTurn (slice : ℕ) (moved : Bool) (before after : Scene) : Type 0 where
-  pub met : List Link
+-- the steps of a host in a turn, by kind
+pub record TurnSteps : Type 0 where
   pub admissions : List Step
   pub inputs : List Step
   pub outputs : List Step
   pub ends : List Step
-  pub admissions_are : AreAll IsAdmission admissions
-  pub inputs_are : AreAll IsInput inputs
-  pub outputs_are : AreAll IsOutput outputs
-  pub ends_are : AreAll IsEnd ends
+  pub admissions_are : Each (λ step. IsAdmission step.event) admissions
+  pub inputs_are : Each (λ step. IsInput step.event) inputs
+  pub outputs_are : Each (λ step. IsOutput step.event) outputs
+  pub ends_are : Each (λ step. IsEnd step.event) ends
+
+-- what the host did: sessions were opened, then fed or closed; one round; then bytes were taken or sessions closed, and at last sessions closed
+pub record RunsHost (slice : ℕ) (before after : HostState) : Type 0 where
+  pub parts : TurnSteps
   pub start : HostState
   pub end : HostState
   pub worked : ℕ
   pub refused : ℕ
-  pub to_round : IsRun before.host (admissions ++ inputs) start
+  pub to_round : IsRun before (parts.admissions ++ parts.inputs) start
   pub round : IsRound start slice (pending_ids start) worked refused end
-  pub from_round : IsRun end (outputs ++ ends) after.host
+  pub from_round : IsRun end (parts.outputs ++ parts.ends) after
   pub steps : List Step
   pub steps_are : steps
-      ≡ (admissions ++ inputs)
-      ++ (works slice (pending_ids start) round.outcomes ++ (outputs ++ ends))
-  pub chain : IsRun before.host steps after.host
+      ≡ (parts.admissions ++ parts.inputs)
+      ++ (works slice (pending_ids start) round.outcomes ++ (parts.outputs ++ parts.ends))
+  pub chain : IsRun before steps after
+
+-- whom the turn met: those who were held, and those who were accepted with a session; where nothing moved nobody was accepted
+pub record Meets (moved : Bool) (before after : Scene) (admissions : List Step) : Type 0 where
+  pub met : List Link
   pub accepted : List Accepted
   pub numbered : AreNumbered before.bound accepted after.bound
-  pub answers : openings admissions ≡ map (λ item. item.outcome) accepted
+  pub answers : map (λ step. step.outcome) admissions ≡ map (λ item. item.outcome) accepted
   pub still : moved ≡ false → accepted ≡ []
+  pub rises : before.bound ≤ after.bound
+  pub tied : (link : Link) → IsAmong met link → Each (λ other. Ties other link) met
+  pub stay : (link : Link) → IsAmong (links_of before.held) link → IsAmong met link
+  pub are : (link : Link) → IsAmong met link
+      → IsAmong (links_of before.held) link
+      ⊎ Joins before.bound after.bound accepted before.host.slots.next after.host.slots.next
+      admissions link
+  pub starts : ServesNew before met after
+  pub accounted : (new_one : Accepted) → IsAmong accepted new_one
+      → HasSession met new_one
+      ⊎ IsRejected before.bound after.bound accepted before.report after.report new_one.number
+
+-- what became of each connection: the bytes of those that were met were carried by the steps, and those that were shut are held no more; the reads of those that are marked so have ended
+pub record Treats (before after : Scene) (met : List Link) (accepted : List Accepted)
+    (steps : List Step) : Type 0 where
   pub marks : List Connection
   pub marked : (number : ℕ) → IsMarked reads_ended marks number
       → IsMarked reads_ended before.held number
@@ -256,47 +179,27 @@ pub record IsTurn (slice : ℕ) (moved : Bool) (before after : Scene) : Type 0 w
   pub ended : (number : ℕ) → IsMarked reads_ended after.held number
       → IsMarked reads_ended marks number
   pub unshut : (number : ℕ) → IsMarked was_shut after.held number → ⊥
-  pub rises : before.bound ≤ after.bound
-  pub tied : (link : Link) → IsAmong met link → IsOneToOne met link
-  pub stay : (link : Link) → IsAmong (links_of before.held) link → IsAmong met link
-  pub are : (link : Link) → IsAmong met link
-      → IsAmong (links_of before.held) link
-      ⊎ Joins before.bound after.bound accepted before.host.slots.next after.host.slots.next
-      admissions link
-  pub starts : ServesNew before met after
-  pub accounted : (new_one : Accepted) → IsOneOf accepted new_one
-      → HasSession met new_one
-      ⊎ IsRejected before.bound after.bound accepted before.report after.report new_one.number
   pub left : (link : Link) → IsAmong (links_of after.held) link → IsAmong met link
   pub gone : (link : Link) → IsAmong met link
       → IsAmong (links_of after.held) link
       ⊎ (IsMarked was_shut before.held link.number
-      ⊎ IsRemoved after.bound before.report after.report after.host link)
+      ⊎ ((link.number < after.bound
+      → IsRaised (before.report.is_shut link.number) (after.report.is_shut link.number))
+      × IsGone after.host link.id))
   pub carried : (link : Link) → IsAmong met link
       → Transferred marks after.bound before.report before.host steps after.report after.host link
   pub others : (number : ℕ) → IsNotAmong met number
       → KeepsConnection before.report after.report number
       ⊎ IsRejected before.bound after.bound accepted before.report after.report number
-  pub foreign : (id : SessionId) → id.generation < before.host.slots.next → IsUnknownId met id
-      → LeavesUntouched id steps
+  pub foreign : (id : SessionId) → id.generation < before.host.slots.next
+      → Each (λ other. other.id ≢ id) met → LeavesUntouched id steps
   pub all : AllMove before.report after.report
 
--- the connection was shut, or is not finished with
-abbrev pub IsLeft : HostState → Connection → Type 0
-IsLeft host connection = (connection.is_shut ≡ true) ⊎ (is_finished host connection ≡ false)
-
-abbrev pub AreLeft : HostState → List Connection → Type 0
-AreLeft host [] = ⊤
-AreLeft host (first ∷ rest) = IsLeft host first × AreLeft host rest
-
--- none of these connections is finished with: each session is open, and something of it is pending or queued, or it is not over and the reads have not ended
-abbrev pub NoneFinished : HostState → List Connection → Type 0
-NoneFinished host [] = ⊤
-NoneFinished host (first ∷ rest) = (is_finished host first ≡ false) × NoneFinished host rest
-
--- where nothing moved, all that is reported stays, and the connections are as they were
-abbrev pub IsQuiet : {X : Type 0} → Bool → Report → X → Report → X → Type 0
-IsQuiet moved old held new now = moved ≡ false → KeepsAll old new × (now ≡ held)
+-- accept, read, work, write and shut, in this order, and with one round
+pub record IsTurn (slice : ℕ) (moved : Bool) (before after : Scene) : Type 0 where
+  pub host : RunsHost slice before.host after.host
+  pub meets : Meets moved before after host.parts.admissions
+  pub treats : Treats before after meets.met meets.accepted host.steps
 
 -- ---- what moves
 
@@ -311,23 +214,11 @@ EndsOrShuts old new =
     ((old.has_ended ≡ false) × (new.has_ended ≡ true))
     ⊎ ((old.is_shut ≡ false) × (new.is_shut ≡ true))
 
-abbrev pub AllKeepMade : List Connection → List Connection → Type 0
-AllKeepMade [] [] = ⊤
-AllKeepMade [] (y ∷ ys) = ⊥
-AllKeepMade (x ∷ xs) [] = ⊥
-AllKeepMade (x ∷ xs) (y ∷ ys) = KeepsMade x y × AllKeepMade xs ys
-
 -- place by place, the reads of one of them ended, or it was shut
 abbrev pub OneEndsOrShuts : List Connection → List Connection → Type 0
 OneEndsOrShuts [] ys = ⊥
 OneEndsOrShuts (x ∷ xs) [] = ⊥
 OneEndsOrShuts (x ∷ xs) (y ∷ ys) = EndsOrShuts x y ⊎ OneEndsOrShuts xs ys
-
--- one of these connections gave or took at least one byte, or ended, or was shut
-abbrev pub Stirs : Report → List Connection → Report → List Connection → Type 0
-Stirs old held new now =
-    ((link : Link) × (IsAmong (links_of held) link × Transfers old new link.number))
-    ⊎ OneEndsOrShuts held now
 
 -- one of these connections gave or took at least one byte, or ended, or was shut, where those that were shut are held no more
 pub record StirsHeld (old : Report) (held : List Connection) (new : Report) (now : List Connection)
@@ -335,20 +226,10 @@ pub record StirsHeld (old : Report) (held : List Connection) (new : Report) (now
   pub last : List Connection
   pub links : links_of last ≡ links_of held
   pub left : now ≡ unshut_of last
-  pub stirs : Stirs old held new last
+  pub stirs : ((link : Link) × (IsAmong (links_of held) link × Transfers old new link.number))
+      ⊎ OneEndsOrShuts held last
 
 -- a session of one of these is pending
 abbrev pub any_pending : HostState → List Link → Bool
 any_pending host [] = false
 any_pending host (link ∷ rest) = pending_of (find host.slots link.id) || any_pending host rest
-
--- no session of these connections is pending
-abbrev pub NonePending : HostState → List Connection → Type 0
-NonePending host held = any_pending host (links_of held) ≡ false
-
--- a connection was accepted, gave or took at least one byte, ended or was shut, or the session of one that is held is pending
-abbrev pub HasMoved : Scene → Scene → Type 0
-HasMoved before after =
-    (before.bound < after.bound)
-    ⊎ (StirsHeld before.report before.held after.report after.held
-    ⊎ (any_pending after.host (links_of after.held) ≡ true))

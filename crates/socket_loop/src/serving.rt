@@ -1,8 +1,8 @@
 //! Turn after turn.
 
 ghost use Rattle.socket_loop.specs.Links.{links_of};
-ghost use Rattle.socket_loop.specs.Turns.{Fits};
-ghost use Rattle.socket_loop.specs.Promises.{Ran};
+ghost use Rattle.socket_loop.specs.Turns.{Fits, Over};
+ghost use Rattle.socket_loop.specs.Promises.{ServesTurns};
 
 use crate::monitor::Monitor;
 use crate::turn::Loop;
@@ -23,7 +23,8 @@ pub fn serve<W: Wire, S: BuildHasher, A: Allocator + Copy, M: Monitor<W, S, A>>(
     turns: u64,
 ) -> Result<(), WireFault>
     requires fits { Fits (links_of links.old.held) (W.bound wire.old) host.old }
-    ensures all { Ran W.Wire turns result links.old host.old wire.old links.new host.new wire.new }
+    ensures all { Over W.Wire (ServesTurns links.old.slice turns result)
+        links.old host.old wire.old links.new host.new wire.new }
     ensures fits { Fits (links_of links.new.held) (W.bound wire.new) host.new }
 {
     for _ in 0..turns {

@@ -1,7 +1,6 @@
 //! What a turn counts.
 
-ghost use Rattle.std.specs.Prelude.{◌≡◌, ◌≤◌, cond};
-ghost use Rattle.socket_loop.specs.Tallies.{newly};
+ghost use Rattle.std.specs.Prelude.{◌≡◌, ◌≤◌, ◌&&◌, cond, not};
 
 /// The numbers of a turn.
 #[derive(Clone, Copy, Debug, PartialEq, Eq)]
@@ -55,7 +54,7 @@ pub struct Visited {
 
 /// One where a connection was shut that was not before, and else none.
 pub fn newly_shut(was_shut: bool, is_shut: bool) -> usize
-    ensures count { result ≡ newly was_shut is_shut }
+    ensures count { result ≡ cond (is_shut && not was_shut) 1 0 }
     ensures most { result ≤ 1 }
 {
     if is_shut && !was_shut { 1 } else { 0 }

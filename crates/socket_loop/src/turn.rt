@@ -1,14 +1,16 @@
 //! A loop that serves the sessions of a host to the connections of a wire.
 
-ghost use Rattle.std.specs.Prelude.{false, ◌≡◌, ◌≤◌, ◌<◌, [], ◌∷◌, ◌+◌, length, IfOk, vec_capacity};
-ghost use Rattle.socket_loop.specs.Links.{links_of, new_connection, place_for, unshut_of, with_connection, AreOnce, IsRising};
-ghost use Rattle.socket_loop.specs.Turns.{any_pending, host_full, FindsHostFull, NoneFinished, NonePending, Fits, Over};
+ghost use Rattle.std.specs.Prelude.{false, insert, ◌≡◌, ◌≤◌, ◌<◌, [], ◌∷◌, ◌+◌, length, IfOk, vec_capacity};
+ghost use Rattle.socket_loop.specs.Accepting.{new_connection, place_for, AcceptsAll, AdmitsOne, IsShutAfterPrefix};
+ghost use Rattle.socket_loop.specs.Links.{links_of, unshut_of, AreOnce, Each, IsRising};
+ghost use Rattle.socket_loop.specs.Parts.{is_finished, IsInput, IsOutput};
+ghost use Rattle.socket_loop.specs.Turns.{any_pending, host_full, Fits, Over};
 ghost use Rattle.socket_loop.specs.Tallies.{pending_count, shut_count};
-ghost use Rattle.socket_loop.specs.Visits.{EndedAll, ReadAll, WroteAll};
+ghost use Rattle.socket_loop.specs.Visits.{CarriesEach, EndsEach};
 ghost use Rattle.transport.specs.Moves.{StaysKnown};
 ghost use Rattle.transport.specs.Asked.{Write, Shut};
 ghost use Rattle.transport.specs.Wires.{IsAsked};
-ghost use Rattle.socket_loop.specs.Calls.{AcceptedAll, AdmitsOne, Turned};
+ghost use Rattle.socket_loop.specs.Calls.{reads_of, writes_of, Turns};
 ghost use Rattle.socket_loop.specs.declared.turn.TheConstants.{ACCEPTS};
 ghost use Rattle.session_slots.specs.declared.limits.TheConstants.{SESSIONS_MAX};
 
@@ -79,7 +81,8 @@ fn retain_open<A: Allocator>(held: &mut Vec<Connection, A>)
 /// Writes to a connection, in one write, that the host is full, and shuts it.
 fn reject<W: Wire>(wire: &mut W, number: u64)
     ensures asked { IsAsked W.Wire wire.old wire.new (Write number host_full ∷ Shut number ∷ []) }
-    ensures away { FindsHostFull W.Wire wire.old wire.new number }
+    ensures away { IsShutAfterPrefix (W.bound wire.old) host_full (W.report wire.old)
+        (W.report wire.new) number }
     ensures bound { W.bound wire.new ≡ W.bound wire.old }
     ensures faults { W.failed wire.old ≤ W.failed wire.new }
 {
@@ -102,7 +105,8 @@ impl<A: Allocator + Copy> Loop<A> {
     /// Holds a new connection with its session, where there is a place.
     fn add_connection(&mut self, link: Link)
         requires room { length self.old.held ≤ SESSIONS_MAX }
-        ensures held { self.new.held ≡ with_connection self.old.held (new_connection link) }
+        ensures held { self.new.held
+            ≡ insert self.old.held (place_for link.id.slot self.old.held) (new_connection link) }
         ensures slice { self.new.slice ≡ self.old.slice }
     {
         let connection = Connection {
@@ -162,7 +166,8 @@ impl<A: Allocator + Copy> Loop<A> {
         wire: &mut W,
     ) -> Arrivals
         requires fits { Fits (links_of self.old.held) (W.bound wire.old) host.old }
-        ensures { AcceptedAll W.Wire result self.old host.old wire.old self.new host.new wire.new }
+        ensures { Over W.Wire (AcceptsAll result)
+            self.old host.old wire.old self.new host.new wire.new }
     {
         let mut arrivals = Arrivals {
             moved: false,
@@ -191,7 +196,8 @@ impl<A: Allocator + Copy> Loop<A> {
 
     /// One read for each connection whose session wants input.
     fn read_all<W: Wire, S: BuildHasher>(&mut self, host: &mut Host<S, A>, wire: &mut W) -> Visited
-        ensures all { ReadAll W.Wire result self.old host.old wire.old self.new host.new wire.new }
+        ensures all { Over W.Wire (CarriesEach reads_of IsInput result.moved)
+            self.old host.old wire.old self.new host.new wire.new }
         ensures shut { result.shut + shut_count self.old.held ≡ shut_count self.new.held }
     {
         let mut moved = false;
@@ -208,7 +214,8 @@ impl<A: Allocator + Copy> Loop<A> {
 
     /// One write for each connection with queued bytes.
     fn write_all<W: Wire, S: BuildHasher>(&mut self, host: &mut Host<S, A>, wire: &mut W) -> Visited
-        ensures all { WroteAll W.Wire result self.old host.old wire.old self.new host.new wire.new }
+        ensures all { Over W.Wire (CarriesEach writes_of IsOutput result.moved)
+            self.old host.old wire.old self.new host.new wire.new }
         ensures shut { result.shut + shut_count self.old.held ≡ shut_count self.new.held }
     {
         let mut moved = false;
@@ -224,7 +231,8 @@ impl<A: Allocator + Copy> Loop<A> {
 
     /// Shuts each connection that is finished with.
     fn close_all<W: Wire, S: BuildHasher>(&mut self, host: &mut Host<S, A>, wire: &mut W) -> Visited
-        ensures all { EndedAll W.Wire result self.old host.old wire.old self.new host.new wire.new }
+        ensures all { Over W.Wire (EndsEach result.moved)
+            self.old host.old wire.old self.new host.new wire.new }
         ensures shut { result.shut + shut_count self.old.held ≡ shut_count self.new.held }
     {
         let mut moved = false;
@@ -286,13 +294,16 @@ impl<A: Allocator + Copy> Loop<A> {
     /// it failed, a feed of its session was refused for memory, or it was finished with.
     pub fn turn<W: Wire, S: BuildHasher>(&mut self, host: &mut Host<S, A>, wire: &mut W) -> Turn
         requires fits { Fits (links_of self.old.held) (W.bound wire.old) host.old }
-        ensures turn { Turned W.Wire result self.old host.old wire.old self.new host.new wire.new }
-        ensures pending { result.moved ≡ false → NonePending host.new self.new.held }
+        ensures turn { Over W.Wire (Turns self.old.slice result.moved result.tally)
+            self.old host.old wire.old self.new host.new wire.new }
+        ensures pending { result.moved ≡ false
+            → any_pending host.new (links_of self.new.held) ≡ false }
         ensures known { StaysKnown (W.report wire.old) (W.report wire.new) }
         ensures fits { Fits (links_of self.new.held) (W.bound wire.new) host.new }
         ensures faults { W.failed wire.old ≤ W.failed wire.new }
         ensures once { AreOnce (links_of self.old.held) → AreOnce (links_of self.new.held) }
-        ensures finished { AreOnce (links_of self.old.held) → NoneFinished host.new self.new.held }
+        ensures finished { AreOnce (links_of self.old.held)
+            → Each (λ connection. is_finished host.new connection ≡ false) self.new.held }
         ensures rising { IsRising (links_of self.old.held) → IsRising (links_of self.new.held) }
     {
         let arrivals = self.accept_all(host, wire);

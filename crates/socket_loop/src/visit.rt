@@ -3,12 +3,12 @@
 ghost use Rattle.std.specs.Prelude.{◌≡◌, ◌<◌, ◌≤◌, [], ◌∷◌, None, length, true, false};
 ghost use Rattle.session_slots.specs.Slots.{find};
 ghost use Rattle.usi_session.specs.declared.limits.TheConstants.{CHUNK_MAX};
-ghost use Rattle.socket_loop.specs.Parts.{IsClosing, IsGone, WantsInput, is_finished};
+ghost use Rattle.host_core.specs.ById.{wants_input_of};
+ghost use Rattle.socket_loop.specs.Parts.{IsGone, IsInput, IsOutput, is_finished};
 ghost use Rattle.transport.specs.Report.{Shuts};
 ghost use Rattle.transport.specs.Asked.{Shut, Asks};
-ghost use Rattle.socket_loop.specs.Calls.{is_to_read, is_to_write, is_to_shut};
-ghost use Rattle.socket_loop.specs.Turns.{IsLeft};
-ghost use Rattle.socket_loop.specs.Visits.{Ends, EndsEmptiedOver, Feeds, Reads, Writes};
+ghost use Rattle.socket_loop.specs.Calls.{is_to_read, is_to_write, is_to_shut, reads_of, writes_of};
+ghost use Rattle.socket_loop.specs.Visits.{CarriesOne, EndsEmptied, EndsOne, FeedsOne, IsClosing, IsLeft, OverOne};
 
 use crate::connection::{Connection, Link};
 use host_core::Host;
@@ -43,10 +43,11 @@ fn feed_from<W: Wire, S: BuildHasher, A: Allocator + Copy>(
     wire: &mut W,
     chunk: &[u8],
 )
-    requires wants { WantsInput host.old held.old.link.id }
+    requires wants { wants_input_of (find host.old.slots held.old.link.id) ≡ true }
     requires few { length chunk.now ≤ CHUNK_MAX }
     requires some { 1 ≤ length chunk.now }
-    ensures fed { Feeds W.Wire chunk.now held.old host.old wire.old held.new host.new wire.new }
+    ensures fed { OverOne W.Wire (FeedsOne chunk.now)
+        held.old host.old wire.old held.new host.new wire.new }
     ensures ended { held.new.has_ended ≡ held.old.has_ended }
 {
     if host.feed(held.link.id, chunk).is_ok() {
@@ -59,7 +60,7 @@ fn feed_from<W: Wire, S: BuildHasher, A: Allocator + Copy>(
 /// Whether a connection is to be read.
 fn is_to_read<S: BuildHasher, A: Allocator + Copy>(held: &Connection, host: &Host<S, A>) -> bool
     ensures test { result ≡ is_to_read host.now held.now }
-    ensures wants { result ≡ true → WantsInput host.now held.now.link.id }
+    ensures wants { result ≡ true → wants_input_of (find host.now.slots held.now.link.id) ≡ true }
     ensures open { result ≡ true → held.now.is_shut ≡ false }
 {
     !held.has_ended && !held.is_shut && host.wants_input(held.link.id)
@@ -75,9 +76,10 @@ pub fn read_from<W: Wire, S: BuildHasher, A: Allocator + Copy>(
     wire: &mut W,
     chunk: &mut [u8; CHUNK_MAX],
 ) -> bool
-    ensures reads { Reads W.Wire result held.old host.old wire.old held.new host.new wire.new }
+    ensures reads { OverOne W.Wire (CarriesOne reads_of IsInput result)
+        held.old host.old wire.old held.new host.new wire.new }
     ensures still { is_to_read host.old held.old ≡ false → result ≡ false }
-    ensures ended { EndsEmptiedOver W.Wire held.old wire.old held.new wire.new }
+    ensures ended { EndsEmptied held.old held.new (W.report wire.old) (W.report wire.new) }
 {
     let link = held.link;
     if !is_to_read(held, host) {
@@ -110,7 +112,8 @@ pub fn write_to<W: Wire, S: BuildHasher, A: Allocator + Copy>(
     host: &mut Host<S, A>,
     wire: &mut W,
 ) -> bool
-    ensures writes { Writes W.Wire result held.old host.old wire.old held.new host.new wire.new }
+    ensures writes { OverOne W.Wire (CarriesOne writes_of IsOutput result)
+        held.old host.old wire.old held.new host.new wire.new }
     ensures still { is_to_write host.old held.old ≡ false → result ≡ false }
     ensures ended { held.new.has_ended ≡ held.old.has_ended }
 {
@@ -159,7 +162,8 @@ pub fn close_if_finished<W: Wire, S: BuildHasher, A: Allocator + Copy>(
     host: &mut Host<S, A>,
     wire: &mut W,
 ) -> bool
-    ensures ends { Ends W.Wire result held.old host.old wire.old held.new host.new wire.new }
+    ensures ends { OverOne W.Wire (EndsOne result)
+        held.old host.old wire.old held.new host.new wire.new }
     ensures finished { result ≡ is_to_shut host.old held.old }
     ensures shuts { result ≡ true → held.new.is_shut ≡ true }
     ensures unchanged { result ≡ false → host.new ≡ host.old }

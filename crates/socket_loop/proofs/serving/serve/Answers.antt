@@ -4,7 +4,7 @@ use Rattle.socket_loop.specs.Serving.{IsTurnTo, IsWait}
 use Rattle.socket_loop.proofs.WholeLives.{done_by, lives_turn, lives_turns, lives_wait, stopped_by}
 use Rattle.socket_loop.proofs.Ends.{ends_stopped, ends_turns}
 use Rattle.socket_loop.proofs.Turns.{stops, turns_more, turns_none}
-use Rattle.socket_loop.proofs.Waits.{answers_in_last, in_time}
+use Rattle.socket_loop.proofs.Waits.{answers_in_time}
 use Rattle.socket_loop.proofs.serving.serve.Goals as goal
 
 pub loop-init : goal.loop-init
@@ -66,7 +66,7 @@ returns-in_err-wait-clause-all g c =
       slice = c.turn-turn.ensures.turn.slice ∙ c.loop.invariant.slice;
       scenes = record {
         done = search rules;
-        stopped = stopped_by c.args.links.now.slice c.args.turns first after c.from_residual.result c.requires.fits (λ n b turns more le. answers_in_last c.args.links.now.slice n more first b turns c.requires.fits le) (stops c.wait.result c.from_residual.result c.args.links.now.slice c.loop.counter c.args.turns first between middle after (search rules) (search rules) c.loop.invariant.so_far turn wait c.wait.ensures.cause);
+        stopped = stopped_by c.args.links.now.slice c.args.turns first after c.from_residual.result c.requires.fits (λ n b turns. answers_in_time c.args.links.now.slice n first b turns c.requires.fits) (stops c.wait.result c.from_residual.result c.args.links.now.slice c.loop.counter c.args.turns first between middle after (search rules) (search rules) c.loop.invariant.so_far turn wait c.wait.ensures.cause);
         whole = lives_wait first middle after (lives_turn c.args.links.now.slice c.turn-turn.result.moved first between middle (lives_turns c.args.links.now.slice c.loop.counter first between c.requires.fits c.loop.invariant.so_far).lives turn.turned.asked.turn) wait;
         ends = λ one o. ends_stopped c.args.links.now.slice c.loop.counter first between middle after o c.loop.invariant.so_far turn wait;
       };
@@ -81,7 +81,7 @@ returns-clause-all g c =
     record {
       slice = c.loop.invariant.slice;
       scenes = record {
-        done = done_by c.args.links.now.slice c.args.turns first last c.requires.fits (in_time c.args.links.now.slice c.args.turns first last c.requires.fits turns);
+        done = done_by c.args.links.now.slice c.args.turns first last c.requires.fits turns (answers_in_time c.args.links.now.slice c.args.turns first last turns c.requires.fits);
         stopped = tt;
         whole = (lives_turns c.args.links.now.slice c.loop.counter first last c.requires.fits c.loop.invariant.so_far).lives;
         ends = λ one o. ends_turns c.args.links.now.slice c.args.turns first last one o turns;

@@ -1,6 +1,6 @@
 use Rattle.std.proofs.Common.{◌≡◌, ◌+◌, drop}
-use Rattle.socket_loop.specs.Links.{place_for}
 use Rattle.socket_loop.proofs.turn.place_of.Given as goal
+use Rattle.socket_loop.specs.Accepting.{place_for}
 
 -- the place is not among those so far
 abbrev pub invariant-loop-place : goal.invariant-loop-place

@@ -1,9 +1,9 @@
 use Rattle.std.proofs.Common.{◌≡◌, ◌<◌, ◌≤◌, ◌+◌, true}
 use Rattle.socket_loop.specs.Links.{links_of}
-use Rattle.socket_loop.specs.Parts.{HoldsMore}
 use Rattle.socket_loop.proofs.Accepting.{AcceptsSome}
-use Rattle.socket_loop.specs.Turns.{IsQuiet}
 use Rattle.socket_loop.proofs.turn.Loop.accept_all.Given as goal
+use Rattle.socket_loop.specs.Accepting.{HoldsMore}
+use Rattle.socket_loop.specs.Visits.{IsQuiet}
 
 -- the connections so far were accepted
 abbrev pub invariant-loop : goal.invariant-loop

@@ -5,7 +5,7 @@ use Rattle.socket_loop.specs.Tallies.{full_of, unopened_of}
 use Rattle.host_core.specs.Events.{Opened, Refused}
 use Rattle.socket_loop.specs.declared.connection.Connection.{Connection}
 use Rattle.socket_loop.specs.declared.connection.Link.{Link}
-use Rattle.socket_loop.specs.Links.{links_of, new_connection, place_for}
+use Rattle.socket_loop.specs.Links.{links_of}
 use Rattle.socket_loop.proofs.Accepting.{admits_away, admits_new, away_mute, insert_in}
 use Rattle.socket_loop.proofs.Marks.{adds_insert, grows_insert, more_same, more_then}
 use Rattle.socket_loop.proofs.Rising.{rising_insert}
@@ -13,6 +13,7 @@ use Rattle.transport.specs.Asked.{Write, Shut}
 use Rattle.socket_loop.specs.Turns.{host_full}
 use Rattle.socket_loop.proofs.Calls.{asks_held, refused_admitted}
 use Rattle.socket_loop.proofs.turn.Loop.admit.Goals as goal
+use Rattle.socket_loop.specs.Accepting.{new_connection, place_for}
 
 -- refused for another cause than that the host was full
 other_full : (fault : HostFault) → (fault ≡ Full → ⊥) → 0 ≡ full_of (Refused fault)

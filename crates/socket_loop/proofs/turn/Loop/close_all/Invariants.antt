@@ -1,10 +1,9 @@
 use Rattle.std.proofs.Common.{◌≡◌, ◌≤◌, ◌+◌, take, ℕ}
-use Rattle.socket_loop.specs.Links.{links_of, AreOnce, IsMarked, reads_ended}
-use Rattle.socket_loop.specs.Turns.{AreLeft}
-use Rattle.socket_loop.specs.Parts.{TransfersHeld, IsEnd}
+use Rattle.socket_loop.specs.Links.{links_of, AreOnce, IsMarked, reads_ended, Each}
+use Rattle.socket_loop.specs.Parts.{IsEnd}
 use Rattle.socket_loop.specs.Scenes.{scene}
 use Rattle.socket_loop.specs.Calls.{ends_of}
-use Rattle.socket_loop.specs.Visits.{VisitsTo}
+use Rattle.socket_loop.specs.Visits.{VisitsTo, IsLeft, TransfersHeld}
 use Rattle.socket_loop.specs.Tallies.{shut_count}
 use Rattle.socket_loop.proofs.turn.Loop.close_all.Given as goal
 
@@ -14,7 +13,7 @@ invariant-loop-connection g l = record {
   visits : VisitsTo l.connection-index ends_of IsEnd l.moved (scene g.W.Wire l.fn.self.held l.fn.wire l.fn.host) (scene g.W.Wire l.connection-items l.wire l.host);
   carries : TransfersHeld IsEnd l.fn.self.held (scene g.W.Wire l.fn.self.held l.fn.wire l.fn.host) (scene g.W.Wire l.connection-items l.wire l.host);
   ended : (number : ℕ) → IsMarked reads_ended l.connection-items number → IsMarked reads_ended l.fn.self.held number;
-  left : AreOnce (links_of l.fn.self.held) → AreLeft l.host (take l.connection-index l.connection-items);
+  left : AreOnce (links_of l.fn.self.held) → Each (IsLeft l.host) (take l.connection-index l.connection-items);
   count : l.shut + shut_count l.fn.self.held ≡ shut_count l.connection-items;
   few : l.shut ≤ l.connection-index;
 }

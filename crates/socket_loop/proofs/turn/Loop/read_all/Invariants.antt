@@ -1,9 +1,9 @@
 use Rattle.std.proofs.Common.{◌≡◌, ◌≤◌, ◌+◌, List}
 use Rattle.socket_loop.specs.declared.connection.Connection.{Connection}
-use Rattle.socket_loop.specs.Parts.{TransfersHeld, IsInput}
+use Rattle.socket_loop.specs.Parts.{IsInput}
 use Rattle.socket_loop.specs.Scenes.{scene}
 use Rattle.socket_loop.specs.Calls.{reads_of}
-use Rattle.socket_loop.specs.Visits.{VisitsTo}
+use Rattle.socket_loop.specs.Visits.{VisitsTo, TransfersHeld}
 use Rattle.socket_loop.specs.Tallies.{shut_count}
 use Rattle.socket_loop.proofs.turn.Loop.read_all.Given as goal
 

@@ -38,7 +38,7 @@ returns-clause-turn g c = record {
       same
       (shuts_all c.args.self.now.held c.accept_all-arrivals.new.self.held c.read_all-read.new.self.held c.write_all-written.new.self.held c.close_all-closed.new.self.held _ c.accept_all-arrivals.new.host c.read_all-read.new.host c.round-round.new.self c.write_all-written.new.host c.close_all-closed.new.host _ _ _ _ _ c.accept_all-arrivals.ensures.scenes.more.marks (c.accept_all-arrivals.ensures.scenes.accepts.accepts.fits c.requires.fits) c.read_all-read.ensures.all.scenes.visited.links (c.write_all-written.ensures.all.scenes.visited.links ∙ c.read_all-read.ensures.all.scenes.visited.links) c.read_all-read.ensures.all.scenes.visited.asked c.round-round.ensures.round.run c.write_all-written.ensures.all.scenes.visited.asked c.close_all-closed.ensures.all.scenes.visited.asked)))
       c.accept_all-arrivals.ensures.scenes.accepts.asked
-      c.accept_all-arrivals.ensures.scenes.accepts.accepts.chain
+      c.accept_all-arrivals.ensures.scenes.accepts.accepts.host.chain
       c.accept_all-arrivals.ensures.scenes.more.grows
       c.accept_all-arrivals.ensures.scenes.more.rising
       c.read_all-read.ensures.all.scenes.visited.asked
