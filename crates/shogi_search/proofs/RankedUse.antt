@@ -16,7 +16,6 @@ use Rattle.shogi_eval.specs.declared.eval.Eval.{Eval}
 use Rattle.minimax.proofs.MinimaxLaws.{worth_bounds, WorthWithin}
 use Rattle.search_nodes.proofs.MatchingOthers.{is_in-append_left, is_in-append_right}
 use Rattle.shogi_search.proofs.RankedLaws.{in_ranked, first_in, at_place_in, rank_past, not_before, ranked_last, ranked_list, AreDistinct}
-use Rattle.minimax.proofs.Valid.{after_valid}
 use Rattle.shogi_search.specs.declared.found.Found.{Found}
 use Rattle.shogi_search.specs.Progress.{IsFoundBelow}
 use Rattle.minimax.specs.Minimax.{value, worth, negated}
