@@ -36,9 +36,6 @@ use Rattle.dull_moves.specs.Dull.{Allows, AllowsPromotions, AreDear, AreOffLines
 pub none_in : (a b n : ℕ) → bit_and a b ≡ 0 → has_bit a n ≡ true → has_bit b n ≡ false
 none_in a b n none set = false_from_ne_true (has_bit b n) (λ on. both_ways (has_bit (bit_and a b) n) (ap (λ (m : ℕ). has_bit m n) none ∙ has_bit-none n) (has_bit-and a b n ∙ and_from _ _ set on))
 
-none_of_two : (a b c n : ℕ) → bit_and a (bit_or b c) ≡ 0 → has_bit a n ≡ true → (has_bit b n ≡ false) × (has_bit c n ≡ false)
-none_of_two a b c n none set = or_parts (has_bit b n) (has_bit c n) (sym (has_bit-or b c n) ∙ none_in a (bit_or b c) n none set)
-
 -- one of the first set and not of the second
 kept_out : (a b n : ℕ) → b < 2 ^ 81 → n < 81 → has_bit a n ≡ true → has_bit b n ≡ false → has_bit (bit_and a (2 ^ 128 - 1 - b)) n ≡ true
 kept_out a b n fits h on off = has_bit-and a (2 ^ 128 - 1 - b) n ∙ and_from _ _ on (has_bit-not b n (omega (arith, fits)) (omega (arith, h)) ∙ not_from_false _ off)

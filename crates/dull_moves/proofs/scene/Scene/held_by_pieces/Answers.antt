@@ -1,17 +1,8 @@
-use Rattle.std.proofs.Common.{bit_or, ◌∙◌}
-use Rattle.std.proofs.lemmas.Bool.{both_ways}
+use Rattle.std.proofs.Common.{bit_or}
 use Rattle.dull_moves.specs.Scenes.{IsOwnIn, PieceIsCalmIn, PieceLetsLeaveIn, place_in}
 use Rattle.dull_moves.proofs.SceneLaws.{calm_next, off_left, off_right}
 use Rattle.dull_moves.proofs.Sets.{one_more}
 use Rattle.dull_moves.proofs.scene.Scene.held_by_pieces.Goals as goal
-
-pub pieces-init : goal.pieces-init
-pieces-init c = rw c.iter-left.ensures (
-    let owned = rw c.side.ensures at c.own.ensures.squares in
-    record {
-      calm = λ n h own out. absurd (both_ways _ out (owned n h ∙ own));
-      held = λ n h own out. absurd (both_ways _ out (owned n h ∙ own));
-    })
 
 pub pieces-preserved : goal.pieces-preserved
 pieces-preserved c =

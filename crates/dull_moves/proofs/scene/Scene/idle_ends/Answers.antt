@@ -1,4 +1,4 @@
-use Rattle.std.proofs.Common.{◌≡◌, refl, true, ◌∙◌}
+use Rattle.std.proofs.Common.{◌≡◌, true, ◌∙◌}
 use Rattle.shogi_core.specs.Bits.{has_bit}
 use Rattle.dull_moves.proofs.SceneLaws.{AreIdleEndsFrom}
 use Rattle.shogi_core.proofs.Sifting.{still_left}
@@ -16,6 +16,3 @@ pieces-preserved c = record {
   among = λ n on. c.pieces.invariant.among n (c.idle_ends_of-kept.ensures.among n on);
   within = λ n on. c.pieces.invariant.within n (still_left c.pieces.left c.next.new.self c.in-Some.from n c.in-Some.ensures.some.rest on);
 }
-
-pub returns-clause-idle : goal.returns-clause-idle
-returns-clause-idle c = λ from to hf ht mine on led. c.pieces.invariant.fine from hf mine (c.in_default.ensures.none refl from) to ht on led
