@@ -1,10 +1,5 @@
-use Rattle.std.proofs.Common.{sym, ◌∙◌}
-use Rattle.std.proofs.lemmas.Bool.{and_parts}
 use Rattle.dull_moves.proofs.Sets.{out_parts}
 use Rattle.dull_moves.proofs.spare_moves.free_step.Goals as goal
-
-pub pieces-preserved : goal.pieces-preserved
-pieces-preserved c = λ n on. c.pieces.invariant n (and_parts _ _ (sym (c.in-Some.ensures.some.rest n) ∙ on)).0
 
 pub returns-then-not-is_empty : goal.returns-then-not-is_empty
 returns-then-not-is_empty c =

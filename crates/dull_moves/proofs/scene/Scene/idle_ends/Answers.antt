@@ -5,9 +5,6 @@ use Rattle.shogi_core.proofs.Sifting.{still_left}
 use Rattle.dull_moves.proofs.Sets.{one_more}
 use Rattle.dull_moves.proofs.scene.Scene.idle_ends.Goals as goal
 
-pub idle_ends_of-kept-requires : goal.idle_ends_of-kept-requires
-idle_ends_of-kept-requires c = record { standing = c.requires.standing c.in-Some.from c.in-Some.ensures.some.range (c.pieces.invariant.within c.in-Some.from c.in-Some.ensures.some.set) }
-
 pub pieces-preserved : goal.pieces-preserved
 pieces-preserved c = record {
   fine = one_more (λ n. has_bit c.args.pieces.bits n ≡ true) c.pieces.left c.next.new.self c.in-Some.from (AreIdleEndsFrom c.args.self.now c.args.before.now.cells c.pieces.kept.bits) (AreIdleEndsFrom c.args.self.now c.args.before.now.cells c.idle_ends_of-kept.result.bits)
