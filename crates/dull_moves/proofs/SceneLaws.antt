@@ -52,6 +52,7 @@ no_piece color (Some piece) mine theirs = absurd (both_ways (is_same_color (oppo
     either White Black e = refl
     either White White e = absurd (cc)
 
+-- the pieces are dear whose capture gains more than so much
 pub dear_sifted : (cells : Cells) (side : Color) (e : Eval) (most foes kept : ℕ) (post : ℕ → Bool → Type 0) → ((n : ℕ) → n < 81 → has_bit foes n ≡ is_piece_of (opponent_of side) (piece_at cells n)) → ((n : ℕ) (passes : Bool) → n < 81 → post n passes → passes ≡ nat_lt most (taken_gain e (piece_at cells n))) → IsSifted post foes kept
     → AreDear cells side e most kept
 dear_sifted cells side e most foes kept post bits says s n h free out = elim (cases_Bool (has_bit foes n)) [
@@ -262,7 +263,7 @@ calm_next q e gains king squares shut more = (λ n. calm_more q e gains king squ
 unlined : (cells : Cells) (lines n a : ℕ) → ((m : ℕ) → m < 81 → has_bit lines m ≡ are_lined cells n m) → a < 81 → has_bit lines a ≡ false → are_lined cells a n ≡ false
 unlined cells lines n a bits ha out = false_from_ne_true _ (λ seen. both_ways (has_bit lines a) out (bits a ha ∙ lined_back cells a n ha seen))
 
--- of all squares that are seen from the king or one of its squares
+-- what is off all lines from the king and its squares is seen by none of them
 pub all_seen : (q : Shogi) (board : Cells) (king squares found lines : ℕ) (post : ℕ → Squares → Type 0) → board ≡ without_king q king → ((k : ℕ) (led : Squares) → k < 81 → post k led → (m : ℕ) → m < 81 → has_bit led.bits m ≡ are_lined board k m) → IsUnion post squares found → ((m : ℕ) → m < 81 → has_bit lines m ≡ are_lined board king m)
     → (a : ℕ) → a < 81 → has_bit (bit_or found lines) a ≡ false → IsUnseen q king squares a
 all_seen q board king squares found lines post lifted says union lined a ha out = record {

@@ -1,7 +1,7 @@
 use Rattle.std.proofs.Common.{◌≡◌, true, ◌∙◌}
 use Rattle.shogi_core.specs.Bits.{has_bit}
-use Rattle.dull_moves.proofs.SceneLaws.{AreIdleEndsFrom}
 use Rattle.shogi_core.proofs.Sifting.{still_left}
+use Rattle.dull_moves.proofs.SceneLaws.{AreIdleEndsFrom}
 use Rattle.dull_moves.proofs.Sets.{one_more}
 use Rattle.dull_moves.proofs.scene.Scene.idle_ends.Goals as goal
 
