@@ -1,18 +1,19 @@
 -- What sets of squares say of the moves of a side.
-use Rattle.std.proofs.Common.{◌≡◌, ◌≢◌, ◌⊎◌, ℕ, ◌+◌, ◌-◌, ◌^◌, ◌<◌, ◌≤◌, Bool, true, false, not, Option, Some, None, refl, sym, ap, subst, ◌∙◌, inl, inr, arith, bit_and, bit_or, set, get_or-set_other}
+use Rattle.std.proofs.Common.{◌≡◌, ◌≢◌, ℕ, ◌+◌, ◌-◌, ◌^◌, ◌<◌, ◌≤◌, Bool, true, false, Option, Some, None, refl, sym, ap, subst, ◌∙◌, inl, inr, arith, bit_and, bit_or, set, get_or-set_other}
 use Rattle.std.proofs.lemmas.List.{set_comm}
-use Rattle.std.specs.Prelude.{◌&&◌, ◌||◌, ◌==◌, is_none}
-use Rattle.std.proofs.lemmas.Bool.{and_from, and_parts, both_ways, cases_Bool, cases_eq, eq-eqb, false_from_ne_true, not_from_false, or_cases, or_left, or_parts, or_right}
+use Rattle.std.specs.Prelude.{◌||◌, ◌==◌, is_none, nat_lt}
+use Rattle.std.proofs.lemmas.Bool.{and_from, and_parts, both_ways, cases_Bool, cases_eq, eq-eqb, false_from_ne_true, ltb-false, not_from_false, or_cases, or_left, or_parts, or_right}
 use Rattle.shogi_core.specs.declared.piece.Color.{Color}
 use Rattle.shogi_core.specs.declared.piece.Color.TheVariants.{Black, White}
 use Rattle.shogi_core.specs.declared.piece.Kind.{Kind}
 use Rattle.shogi_core.specs.declared.piece.Kind.TheVariants as kinds
 use Rattle.shogi_core.specs.declared.piece.Piece.{Piece}
 use Rattle.shogi_core.specs.Bits.{has_bit}
+use Rattle.shogi_core.specs.Sets.{IsSifted, IsUnion}
 use Rattle.shogi_core.specs.declared.squares.Squares.{Squares}
 use Rattle.shogi_core.specs.Cell.{is_immobile, is_king, is_piece_of, is_slider, is_sliding_role}
 use Rattle.shogi_core.specs.Lines.{are_aligned, are_lined}
-use Rattle.shogi_core.specs.Movement.{Cells, cell_reaches, piece_at}
+use Rattle.shogi_core.specs.Movement.{Cells, cell_reaches, piece_at, reaches}
 use Rattle.shogi_core.specs.Pieces.{is_same_color, opponent_of}
 use Rattle.shogi_core.specs.Position.{Shogi}
 use Rattle.shogi_core.specs.Zones.{may_promote}
@@ -23,7 +24,7 @@ use Rattle.shogi_moves.specs.After.{dropped, piece_moved}
 use Rattle.shogi_eval.specs.declared.eval.Eval.{Eval}
 use Rattle.shogi_eval.specs.Material.{promotion_gain, taken_gain}
 use Rattle.shogi_replies.proofs.KingGoes.{cleared_none}
-use Rattle.dull_moves.proofs.Sets.{another, less, out_parts, stays}
+use Rattle.dull_moves.proofs.Sets.{out_parts}
 use Rattle.dull_moves.proofs.Shut.{shut_more}
 use Rattle.shogi_eval.specs.Evaluated.{Evaluated}
 use Rattle.dull_moves.specs.declared.scene.ForbiddenSquares.{ForbiddenSquares}
@@ -34,9 +35,6 @@ use Rattle.dull_moves.specs.Dull.{Allows, AllowsPromotions, AreDear, AreOffLines
 -- a square of a set that shares none with another one
 pub none_in : (a b n : ℕ) → bit_and a b ≡ 0 → has_bit a n ≡ true → has_bit b n ≡ false
 none_in a b n none set = false_from_ne_true (has_bit b n) (λ on. both_ways (has_bit (bit_and a b) n) (ap (λ (m : ℕ). has_bit m n) none ∙ has_bit-none n) (has_bit-and a b n ∙ and_from _ _ set on))
-
-none_of_two : (a b c n : ℕ) → bit_and a (bit_or b c) ≡ 0 → has_bit a n ≡ true → (has_bit b n ≡ false) × (has_bit c n ≡ false)
-none_of_two a b c n none set = or_parts (has_bit b n) (has_bit c n) (sym (has_bit-or b c n) ∙ none_in a (bit_or b c) n none set)
 
 -- one of the first set and not of the second
 kept_out : (a b n : ℕ) → b < 2 ^ 81 → n < 81 → has_bit a n ≡ true → has_bit b n ≡ false → has_bit (bit_and a (2 ^ 128 - 1 - b)) n ≡ true
@@ -54,31 +52,16 @@ no_piece color (Some piece) mine theirs = absurd (both_ways (is_same_color (oppo
     either White Black e = refl
     either White White e = absurd (cc)
 
--- some squares are still to be looked at, and are kept so far
-pub record DearSoFar (cells : Cells) (side : Color) (e : Eval) (most left kept : ℕ) : Type 0 where
-  pub within : (n : ℕ) → has_bit left n ≡ true → has_bit kept n ≡ true
-  pub rest : AreDear cells side e most kept
-
-pub dear_first : (cells : Cells) (side : Color) (e : Eval) (most foes : ℕ) → ((n : ℕ) → n < 81 → has_bit foes n ≡ is_piece_of (opponent_of side) (piece_at cells n)) → DearSoFar cells side e most foes foes
-dear_first cells side e most foes bits = record {
-  within = λ n set. set;
-  rest = λ n h free out. (
-      let none : piece_at cells n ≡ None = no_piece side (piece_at cells n) free (sym (bits n h) ∙ out) in
+-- the pieces are dear whose capture gains more than so much
+pub dear_sifted : (cells : Cells) (side : Color) (e : Eval) (most foes kept : ℕ) (post : ℕ → Bool → Type 0) → ((n : ℕ) → n < 81 → has_bit foes n ≡ is_piece_of (opponent_of side) (piece_at cells n)) → ((n : ℕ) (passes : Bool) → n < 81 → post n passes → passes ≡ nat_lt most (taken_gain e (piece_at cells n))) → IsSifted post foes kept
+    → AreDear cells side e most kept
+dear_sifted cells side e most foes kept post bits says s n h free out = elim (cases_Bool (has_bit foes n)) [
+  | inl on ↦ (let tried = s.tried n h on in ltb-false most (taken_gain e (piece_at cells n)) (sym (says n tried.0 h tried.1) ∙ (sym tried.2 ∙ out)))
+  | inr off ↦ (
+      let none : piece_at cells n ≡ None = no_piece side (piece_at cells n) free (sym (bits n h) ∙ off) in
       let nothing : taken_gain e (piece_at cells n) ≡ 0 = ap (taken_gain e) none in
-      omega (arith, nothing));
-}
-
-pub dear_fewer : (cells : Cells) (side : Color) (e : Eval) (most left next kept fewer square : ℕ) → DearSoFar cells side e most left kept → ((i : ℕ) → has_bit next i ≡ (has_bit left i && not (i == square))) → ((i : ℕ) → has_bit fewer i ≡ (has_bit kept i && not (i == square))) → taken_gain e (piece_at cells square) ≤ most → DearSoFar cells side e most next fewer
-dear_fewer cells side e most left next kept fewer square d bits drops little = record {
-  within = λ n set. stays kept fewer square n drops (d.within n (less next left square bits n set)) (another left next square n bits set);
-  rest = λ n h free out. elim (cases_eq n square) [
-    | inl same ↦ subst (λ (x : ℕ). taken_gain e (piece_at cells x) ≤ most) (sym same) little
-    | inr other ↦ d.rest n h free (false_from_ne_true _ (λ on. both_ways (has_bit fewer n) out (stays kept fewer square n drops on other)))
-  ];
-}
-
-pub dear_same : (cells : Cells) (side : Color) (e : Eval) (most left next kept square : ℕ) → DearSoFar cells side e most left kept → ((i : ℕ) → has_bit next i ≡ (has_bit left i && not (i == square))) → DearSoFar cells side e most next kept
-dear_same cells side e most left next kept square d bits = record { within = λ n set. d.within n (less next left square bits n set); rest = d.rest }
+      omega (arith, nothing))
+]
 
 -- what is lifted is not dear
 pub dear_lifted : (cells : Cells) (side : Color) (e : Eval) (most dear a : ℕ) → AreDear cells side e most dear → AreDear (set cells a None) side e most dear
@@ -116,6 +99,13 @@ off_promoting targets non forbidden may both n is on out set = false_from_ne_tru
 
 off_two : (a b n : ℕ) → has_bit (bit_or a b) n ≡ false → (has_bit a n ≡ false) × (has_bit b n ≡ false)
 off_two a b n out = or_parts (has_bit a n) (has_bit b n) (sym (has_bit-or a b n) ∙ out)
+
+-- what holds off a set holds off a greater one
+pub off_left : (a b n : ℕ) → has_bit (bit_or a b) n ≡ false → has_bit a n ≡ false
+off_left a b n out = (off_two a b n out).0
+
+pub off_right : (a b n : ℕ) → has_bit (bit_or a b) n ≡ false → has_bit b n ≡ false
+off_right a b n out = (off_two a b n out).1
 
 pub promotes_nowhere : (q : Shogi) (e : Eval) (gains king : ℕ) (piece : Piece) (squares all : ℕ) → ((n : ℕ) → n < 81 → has_bit all n ≡ true) → AllowsPromotions q e gains king piece squares all
 promotes_nowhere q e gains king piece squares all every = record {
@@ -256,131 +246,39 @@ idle_there q e gains king board piece to reach squares closed own rest found for
     far : (n : ℕ) → n < 81 → has_bit closed n ≡ true → cell_reaches (without_king q king) (Some piece) to n ≡ false
     far n h set = false_from_ne_true _ (λ r. both_ways (has_bit reach n) (false_from_ne_true (has_bit reach n) (λ on. both_ways (has_bit closed n) (none_in reach closed n none on) set)) (led n h ∙ back n r))
 
--- ---- the pieces one by one
+-- ---- what is calm or shut where more is shut
 
 -- what is calm is so where more is shut
 calm_more : (q : Shogi) (e : Eval) (gains king squares shut more from : ℕ) → ((x : ℕ) → has_bit more x ≡ false → has_bit shut x ≡ false) → PieceIsCalm q e gains king squares shut from → PieceIsCalm q e gains king squares more from
 calm_more q e gains king squares shut more from within calm n promote h free reached lets = elim (calm n promote h free reached lets) [ inl little ↦ inl little | inr stopped ↦ inr (shut_more q shut more from n within stopped) ]
 
--- each piece is still to be looked at, or its moves are calm, and it lets those leave that are not held
-pub record PiecesSoFar (q : Shogi) (e : Eval) (gains king squares left held shut : ℕ) : Type 0 where
-  pub calm : (n : ℕ) → n < 81 → is_piece_of q.side (piece_at q.cells n) ≡ true → (has_bit left n ≡ true) ⊎ (PieceIsCalm q e gains king squares shut n
-      × ((a : ℕ) → a < 81 → has_bit held a ≡ false → is_piece_of q.side (piece_at q.cells a) ≡ true → PieceLetsLeave q e gains king squares n a))
+pub shut_next : (q : Shogi) (from shut more : ℕ) → ((n : ℕ) → IsShut q shut from n → IsShut q (bit_or shut more) from n) × ((n : ℕ) → IsShut q more from n → IsShut q (bit_or shut more) from n)
+shut_next q from shut more = (λ n. shut_more q shut (bit_or shut more) from n (off_left shut more), λ n. shut_more q more (bit_or shut more) from n (off_right shut more))
 
-pub pieces_first : (q : Shogi) (e : Eval) (gains king squares own held shut : ℕ) → ((n : ℕ) → n < 81 → has_bit own n ≡ is_piece_of q.side (piece_at q.cells n)) → PiecesSoFar q e gains king squares own held shut
-pieces_first q e gains king squares own held shut bits = record { calm = λ n h mine. inl (bits n h ∙ mine) }
-
-pub pieces_next : (q : Shogi) (e : Eval) (gains king squares left next held shut more stop square : ℕ) → PiecesSoFar q e gains king squares left held shut → ((i : ℕ) → has_bit next i ≡ (has_bit left i && not (i == square))) → PieceIsCalm q e gains king squares stop square
-    → ((a : ℕ) → a < 81 → has_bit more a ≡ false → is_piece_of q.side (piece_at q.cells a) ≡ true → PieceLetsLeave q e gains king squares square a) → PiecesSoFar q e gains king squares next (bit_or held more) (bit_or shut stop)
-pieces_next q e gains king squares left next held shut more stop square s bits one lets = record {
-  calm = λ n h mine. elim (cases_eq n square) [
-    | inl same ↦ inr (subst (PieceIsCalm q e gains king squares (bit_or shut stop)) (sym same) (calm_more q e gains king squares stop (bit_or shut stop) square (λ x out. (off_two shut stop x out).1) one), λ a ha out own. subst (λ (x : ℕ). PieceLetsLeave q e gains king squares x a) (sym same) (lets a ha (off_two held more a out).1 own))
-    | inr other ↦ elim (s.calm n h mine) [
-      | inl still ↦ inl (stays left next square n bits still other)
-      | inr found ↦ inr (calm_more q e gains king squares shut (bit_or shut stop) n (λ x out. (off_two shut stop x out).0) found.0, λ a ha out own. found.1 a ha (off_two held more a out).0 own)
-    ]
-  ];
-}
-
-pub pieces_done : (q : Shogi) (e : Eval) (gains king squares left held shut : ℕ) → PiecesSoFar q e gains king squares left held shut → left ≡ 0 → (n : ℕ) → n < 81 → is_piece_of q.side (piece_at q.cells n) ≡ true → PieceIsCalm q e gains king squares shut n
-    × ((a : ℕ) → a < 81 → has_bit held a ≡ false → is_piece_of q.side (piece_at q.cells a) ≡ true → PieceLetsLeave q e gains king squares n a)
-pieces_done q e gains king squares left held shut s none n h mine = elim (s.calm n h mine) [
-  | inl still ↦ absurd (both_ways (has_bit left n) (ap (λ (m : ℕ). has_bit m n) none ∙ has_bit-none n) still)
-  | inr found ↦ found
-]
-
--- ---- the moves that leave their own king attacked
-
--- the moves to these ends are still to be looked at, or are shut
-pub record ShutSoFar (q : Shogi) (from ends left shut : ℕ) : Type 0 where
-  pub each : (n : ℕ) → n < 81 → has_bit ends n ≡ true → (has_bit left n ≡ true) ⊎ IsShut q shut from n
-
-pub shut_first : (q : Shogi) (from ends shut : ℕ) → ShutSoFar q from ends ends shut
-shut_first q from ends shut = record { each = λ n h on. inl on }
-
-pub shut_next : (q : Shogi) (from ends left next shut more square : ℕ) → ShutSoFar q from ends left shut → ((i : ℕ) → has_bit next i ≡ (has_bit left i && not (i == square))) → IsShut q more from square → ShutSoFar q from ends next (bit_or shut more)
-shut_next q from ends left next shut more square s bits one = record {
-  each = λ n h on. elim (cases_eq n square) [
-    | inl same ↦ inr (subst (IsShut q (bit_or shut more) from) (sym same) (shut_more q more (bit_or shut more) from square (λ x out. (off_two shut more x out).1) one))
-    | inr other ↦ elim (s.each n h on) [
-      | inl still ↦ inl (stays left next square n bits still other)
-      | inr found ↦ inr (shut_more q shut (bit_or shut more) from n (λ x out. (off_two shut more x out).0) found)
-    ]
-  ];
-}
-
-pub shut_done : (q : Shogi) (from ends left shut : ℕ) → ShutSoFar q from ends left shut → left ≡ 0 → (n : ℕ) → n < 81 → has_bit ends n ≡ true → IsShut q shut from n
-shut_done q from ends left shut s none n h on = elim (s.each n h on) [
-  | inl still ↦ absurd (both_ways (has_bit left n) (ap (λ (m : ℕ). has_bit m n) none ∙ has_bit-none n) still)
-  | inr found ↦ found
-]
+pub calm_next : (q : Shogi) (e : Eval) (gains king squares shut more : ℕ) → ((n : ℕ) → PieceIsCalm q e gains king squares shut n → PieceIsCalm q e gains king squares (bit_or shut more) n) × ((n : ℕ) → PieceIsCalm q e gains king squares more n → PieceIsCalm q e gains king squares (bit_or shut more) n)
+calm_next q e gains king squares shut more = (λ n. calm_more q e gains king squares shut (bit_or shut more) n (off_left shut more), λ n. calm_more q e gains king squares more (bit_or shut more) n (off_right shut more))
 
 -- ---- what is seen
-
--- squares of the set that are still to be looked at, or out of whose sight is what is not in the view
-pub record ViewSoFar (cells : Cells) (king squares left view : ℕ) : Type 0 where
-  pub off_king : (a : ℕ) → a < 81 → has_bit view a ≡ false → are_lined cells a king ≡ false
-  pub off_squares : (n : ℕ) → n < 81 → has_bit squares n ≡ true → (has_bit left n ≡ true) ⊎ ((a : ℕ) → a < 81 → has_bit view a ≡ false → are_lined cells a n ≡ false)
 
 unlined : (cells : Cells) (lines n a : ℕ) → ((m : ℕ) → m < 81 → has_bit lines m ≡ are_lined cells n m) → a < 81 → has_bit lines a ≡ false → are_lined cells a n ≡ false
 unlined cells lines n a bits ha out = false_from_ne_true _ (λ seen. both_ways (has_bit lines a) out (bits a ha ∙ lined_back cells a n ha seen))
 
-pub view_first : (cells : Cells) (king squares lines : ℕ) → ((m : ℕ) → m < 81 → has_bit lines m ≡ are_lined cells king m) → ViewSoFar cells king squares squares lines
-view_first cells king squares lines bits = record { off_king = λ a ha out. unlined cells lines king a bits ha out; off_squares = λ n h set. inl set }
-
-pub view_next : (cells : Cells) (king squares left next view lines square : ℕ) → ViewSoFar cells king squares left view → ((i : ℕ) → has_bit next i ≡ (has_bit left i && not (i == square))) → ((m : ℕ) → m < 81 → has_bit lines m ≡ are_lined cells square m) → ViewSoFar cells king squares next (bit_or view lines)
-view_next cells king squares left next view lines square s bits lined = record {
-  off_king = λ a ha out. s.off_king a ha (off_two view lines a out).0;
-  off_squares = λ n h set. elim (cases_eq n square) [
-    | inl same ↦ inr (λ a ha out. subst (λ (x : ℕ). are_lined cells a x ≡ false) (sym same) (unlined cells lines square a lined ha (off_two view lines a out).1))
-    | inr other ↦ elim (s.off_squares n h set) [
-      | inl still ↦ inl (stays left next square n bits still other)
-      | inr seen ↦ inr (λ a ha out. seen a ha (off_two view lines a out).0)
-    ]
-  ];
-}
-
-pub view_done : (q : Shogi) (board : Cells) (king squares left view : ℕ) → board ≡ without_king q king → ViewSoFar board king squares left view → left ≡ 0 → (a : ℕ) → a < 81 → has_bit view a ≡ false → IsUnseen q king squares a
-view_done q board king squares left view lifted s none a ha out = record {
-  off_king = ap (λ (cells : Cells). are_lined cells a king) (sym lifted) ∙ s.off_king a ha out;
-  off_squares = λ n h set. ap (λ (cells : Cells). are_lined cells a n) (sym lifted) ∙ elim (s.off_squares n h set) [
-    | inl still ↦ absurd (both_ways (has_bit left n) (ap (λ (m : ℕ). has_bit m n) none ∙ has_bit-none n) still)
-    | inr seen ↦ seen a ha out
-  ];
+-- what is off all lines from the king and its squares is seen by none of them
+pub all_seen : (q : Shogi) (board : Cells) (king squares found lines : ℕ) (post : ℕ → Squares → Type 0) → board ≡ without_king q king → ((k : ℕ) (led : Squares) → k < 81 → post k led → (m : ℕ) → m < 81 → has_bit led.bits m ≡ are_lined board k m) → IsUnion post squares found → ((m : ℕ) → m < 81 → has_bit lines m ≡ are_lined board king m)
+    → (a : ℕ) → a < 81 → has_bit (bit_or found lines) a ≡ false → IsUnseen q king squares a
+all_seen q board king squares found lines post lifted says union lined a ha out = record {
+  off_king = ap (λ (cells : Cells). are_lined cells a king) (sym lifted) ∙ unlined board lines king a lined ha (off_right found lines a out);
+  off_squares = λ n h set. (
+      let led = union.all n h set in
+      ap (λ (cells : Cells). are_lined cells a n) (sym lifted) ∙ unlined board led.0.bits n a (says n led.0 h led.1) ha (false_from_ne_true _ (λ on. both_ways (has_bit found a) (off_left found lines a out) (led.2 a on))));
 }
 
 -- ---- where pieces may go
 
--- the pieces are still to be looked at, or what each reaches of the ends is fine
-pub record EndsSoFar (fact : ℕ → ℕ → Type 0) (reached : ℕ → ℕ → Type 0) (pieces first left kept : ℕ) : Type 0 where
-  pub among : (n : ℕ) → has_bit kept n ≡ true → has_bit first n ≡ true
-  pub fine : (from to : ℕ) → from < 81 → to < 81 → has_bit pieces from ≡ true → has_bit kept to ≡ true → reached from to → (has_bit left from ≡ true) ⊎ fact from to
-
-pub ends_first : (fact : ℕ → ℕ → Type 0) (reached : ℕ → ℕ → Type 0) (pieces first : ℕ) → EndsSoFar fact reached pieces first pieces first
-ends_first fact reached pieces first = record { among = λ n set. set; fine = λ from to hf ht mine on led. inl mine }
-
-pub ends_next : (fact : ℕ → ℕ → Type 0) (reached : ℕ → ℕ → Type 0) (pieces first left next kept fewer square : ℕ) → EndsSoFar fact reached pieces first left kept → ((i : ℕ) → has_bit next i ≡ (has_bit left i && not (i == square))) → ((n : ℕ) → has_bit fewer n ≡ true → has_bit kept n ≡ true)
-    → ((to : ℕ) → to < 81 → has_bit fewer to ≡ true → reached square to → fact square to) → EndsSoFar fact reached pieces first next fewer
-ends_next fact reached pieces first left next kept fewer square s bits within here = record {
-  among = λ n set. s.among n (within n set);
-  fine = λ from to hf ht mine on led. elim (cases_eq from square) [
-    | inl same ↦ inr (subst (λ (x : ℕ). fact x to) (sym same) (here to ht on (subst (λ (x : ℕ). reached x to) same led)))
-    | inr other ↦ elim (s.fine from to hf ht mine (within to on) led) [ inl still ↦ inl (stays left next square from bits still other) | inr found ↦ inr found ]
-  ];
-}
-
-pub ends_done : (fact : ℕ → ℕ → Type 0) (reached : ℕ → ℕ → Type 0) (pieces first left kept : ℕ) → EndsSoFar fact reached pieces first left kept → left ≡ 0 → (from to : ℕ) → from < 81 → to < 81 → has_bit pieces from ≡ true → has_bit kept to ≡ true → reached from to → fact from to
-ends_done fact reached pieces first left kept s none from to hf ht mine on led = elim (s.fine from to hf ht mine on led) [
-  | inl still ↦ absurd (both_ways (has_bit left from) (ap (λ (m : ℕ). has_bit m from) none ∙ has_bit-none from) still)
-  | inr found ↦ found
-]
-
--- what holds off a set holds off a greater one
-pub off_left : (a b n : ℕ) → has_bit (bit_or a b) n ≡ false → has_bit a n ≡ false
-off_left a b n out = (off_two a b n out).0
-
-pub off_right : (a b n : ℕ) → has_bit (bit_or a b) n ≡ false → has_bit b n ≡ false
-off_right a b n out = (off_two a b n out).1
+-- what stands on the square is idle on those of the ends that it reaches on another board
+abbrev pub AreIdleEndsFrom : Scene → Cells → ℕ → ℕ → Type 0
+AreIdleEndsFrom s before set from = (to : ℕ) → to < 81 → has_bit set to ≡ true → reaches before from to ≡ true
+    → IsIdle (lifted (place_in s) from) s.node.eval s.gains s.king s.squares.bits (piece_at s.standing from) to
 
 -- ends without those of the targets that are not idle
 pub merged_among : (ends targets idle n : ℕ) → ((m : ℕ) → has_bit idle m ≡ true → has_bit (bit_and targets ends) m ≡ true) → has_bit (bit_or (bit_and ends (2 ^ 128 - 1 - targets)) idle) n ≡ true → has_bit ends n ≡ true

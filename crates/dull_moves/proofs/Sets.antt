@@ -1,14 +1,15 @@
--- Sets of squares that are sifted one by one.
-use Rattle.std.proofs.Common.{◌≡◌, ◌≢◌, ◌⊎◌, ℕ, zero, suc, ◌-◌, ◌^◌, ◌<◌, true, false, not, [], ◌∷◌, Some, None, refl, sym, ap, subst, ◌∙◌, inl, inr, arith, bit_and, set}
-use Rattle.std.specs.Prelude.{◌&&◌, ◌==◌}
-use Rattle.std.proofs.lemmas.Bool.{and_from, and_parts, both_ways, cases_Bool, cases_eq, eq-eqb, false_from_ne_true, ne_eqb, not-true, not_from_false}
+-- Sets of squares that are gone through one by one.
+use Rattle.std.proofs.Common.{◌≡◌, ℕ, ◌-◌, ◌^◌, ◌<◌, true, false, not, Some, sym, subst, ◌∙◌, inl, inr, arith, bit_and, set}
+use Rattle.std.specs.Prelude.{Bool, ◌&&◌, ◌==◌}
+use Rattle.std.proofs.lemmas.Bool.{and_from, and_parts, both_ways, cases_Bool, cases_eq, cases_lt, eq-eqb, false_from_ne_true, true_from_ne_false, ne_eqb, not-true, not_from_false}
 use Rattle.shogi_core.proofs.LineBits.{has_bit-not}
 use Rattle.std.proofs.lemmas.Nat.Bits.{bit_at_ones}
 use Rattle.shogi_core.specs.declared.piece.Piece.{Piece}
 use Rattle.shogi_core.specs.Bits.{has_bit}
-use Rattle.shogi_core.specs.Movement.{Cells, cell_reaches, piece_at}
+use Rattle.shogi_core.specs.Sets.{IsSifted}
+use Rattle.shogi_core.specs.Movement.{Cells, cell_reaches}
 use Rattle.shogi_core.specs.Pieces.{opponent_of}
-use Rattle.shogi_core.proofs.BitLaws.{has_bit-and, has_bit-none}
+use Rattle.shogi_core.proofs.BitLaws.{has_bit-above, has_bit-and}
 use Rattle.dull_moves.specs.Dull.{LeavesOne}
 use Rattle.shogi_replies.proofs.CheckLaws.{reach_both_ways}
 
@@ -24,71 +25,36 @@ out_parts a b n fits h on =
 
 -- ---- those from which a piece covers some squares
 
--- those that are left are of the squares, and from a square that is not covered one of these is out of reach
-pub record Covers (cells : Cells) (piece : Piece) (squares left covered : ℕ) : Type 0 where
-  pub among : (n : ℕ) → has_bit left n ≡ true → has_bit squares n ≡ true
-  pub leaves : (n : ℕ) → n < 81 → has_bit covered n ≡ false → LeavesOne cells (Some piece) n squares
-
-pub covers_first : (cells : Cells) (piece : Piece) (squares covered : ℕ) → ((n : ℕ) → n < 81 → has_bit covered n ≡ true) → Covers cells piece squares squares covered
-covers_first cells piece squares covered all = record { among = λ n set. set; leaves = λ n h out. absurd (both_ways (has_bit covered n) out (all n h)) }
-
-pub less : (next left square : ℕ) → ((i : ℕ) → has_bit next i ≡ (has_bit left i && not (i == square))) → (n : ℕ) → has_bit next n ≡ true → has_bit left n ≡ true
-less next left square bits n set = (and_parts (has_bit left n) (not (n == square)) (sym (bits n) ∙ set)).0
-
-pub covers_next : (cells : Cells) (piece : Piece) (squares left next covered targets square : ℕ) → Covers cells piece squares left covered → ((i : ℕ) → has_bit next i ≡ (has_bit left i && not (i == square))) → square < 81 → has_bit left square ≡ true
-    → ((n : ℕ) → n < 81 → has_bit targets n ≡ cell_reaches cells (Some (record { color = opponent_of piece.color; role = piece.role })) square n) → Covers cells piece squares next (bit_and covered targets)
-covers_next cells piece squares left next covered targets square c bits low set reach = record {
-  among = λ n stays. c.among n (less next left square bits n stays);
-  leaves = λ n h out. elim (cases_Bool (has_bit covered n)) [
-    | inr before ↦ c.leaves n h before
-    | inl was ↦ (
-        let off : has_bit targets n ≡ false = false_from_ne_true _ (λ on. both_ways (has_bit (bit_and covered targets) n) out (has_bit-and covered targets n ∙ and_from _ _ was on)) in
-        (square, low, c.among square set, false_from_ne_true _ (λ r. both_ways (has_bit targets n) off (reach n h ∙ reach_both_ways cells piece n square h r))))
-  ];
-}
-
--- ---- a set without a square
-
--- what is kept of some squares without one
-pub stays : (set fewer square n : ℕ) → ((i : ℕ) → has_bit fewer i ≡ (has_bit set i && not (i == square))) → has_bit set n ≡ true → n ≢ square → has_bit fewer n ≡ true
-stays set fewer square n bits on other = bits n ∙ and_from _ _ on (not_from_false _ (ne_eqb n square other))
-
--- and it is another one
-pub another : (set fewer square n : ℕ) → ((i : ℕ) → has_bit fewer i ≡ (has_bit set i && not (i == square))) → has_bit fewer n ≡ true → n ≢ square
-another set fewer square n bits on same = both_ways (not (n == square)) (ap not (eq-eqb n square same)) (and_parts (has_bit set n) (not (n == square)) (sym (bits n) ∙ on)).1
-
--- ---- those are kept of which something holds
-
-pub record Kept (fact : ℕ → Type 0) (first left kept : ℕ) : Type 0 where
-  pub within : (n : ℕ) → has_bit left n ≡ true → has_bit kept n ≡ true
-  pub among : (n : ℕ) → has_bit kept n ≡ true → has_bit first n ≡ true
-  pub held : (n : ℕ) → n < 81 → has_bit kept n ≡ true → (has_bit left n ≡ true) ⊎ fact n
-
-pub kept_first : (fact : ℕ → Type 0) (first : ℕ) → Kept fact first first first
-kept_first fact first = record { within = λ n set. set; among = λ n set. set; held = λ n h set. inl set }
-
-pub kept_fewer : (fact : ℕ → Type 0) (first left next kept fewer square : ℕ) → Kept fact first left kept → ((i : ℕ) → has_bit next i ≡ (has_bit left i && not (i == square))) → ((i : ℕ) → has_bit fewer i ≡ (has_bit kept i && not (i == square))) → Kept fact first next fewer
-kept_fewer fact first left next kept fewer square k bits drops = record {
-  within = λ n set. stays kept fewer square n drops (k.within n (less next left square bits n set)) (another left next square n bits set);
-  among = λ n set. k.among n (less fewer kept square drops n set);
-  held = λ n h set. elim (k.held n h (less fewer kept square drops n set)) [
-    | inl still ↦ inl (stays left next square n bits still (another kept fewer square n drops set))
-    | inr found ↦ inr found
-  ];
-}
-
-pub kept_one : (fact : ℕ → Type 0) (first left next kept square : ℕ) → Kept fact first left kept → ((i : ℕ) → has_bit next i ≡ (has_bit left i && not (i == square))) → fact square → Kept fact first next kept
-kept_one fact first left next kept square k bits holds = record {
-  within = λ n set. k.within n (less next left square bits n set);
-  among = k.among;
-  held = λ n h set. elim (cases_eq n square) [
-    | inl same ↦ inr (subst fact (sym same) holds)
-    | inr other ↦ elim (k.held n h set) [ inl still ↦ inl (stays left next square n bits still other) | inr found ↦ inr found ]
-  ];
-}
-
-pub kept_done : (fact : ℕ → Type 0) (first left kept : ℕ) → Kept fact first left kept → left ≡ 0 → (n : ℕ) → n < 81 → has_bit kept n ≡ true → fact n
-kept_done fact first left kept k none n h set = elim (k.held n h set) [
-  | inl still ↦ absurd (both_ways (has_bit left n) (ap (λ (m : ℕ). has_bit m n) none ∙ has_bit-none n) still)
-  | inr found ↦ found
+-- from a square that is not covered one of the squares is out of reach
+pub covers_next : (cells : Cells) (piece : Piece) (squares covered targets square : ℕ) → ((n : ℕ) → n < 81 → has_bit covered n ≡ false → LeavesOne cells (Some piece) n squares) → square < 81 → has_bit squares square ≡ true
+    → ((n : ℕ) → n < 81 → has_bit targets n ≡ cell_reaches cells (Some (record { color = opponent_of piece.color; role = piece.role })) square n) → (n : ℕ) → n < 81 → has_bit (bit_and covered targets) n ≡ false → LeavesOne cells (Some piece) n squares
+covers_next cells piece squares covered targets square leaves low set reach n h out = elim (cases_Bool (has_bit covered n)) [
+  | inr before ↦ leaves n h before
+  | inl was ↦ (
+      let off : has_bit targets n ≡ false = false_from_ne_true _ (λ on. both_ways (has_bit (bit_and covered targets) n) out (has_bit-and covered targets n ∙ and_from _ _ was on)) in
+      (square, low, set, false_from_ne_true _ (λ r. both_ways (has_bit targets n) off (reach n h ∙ reach_both_ways cells piece n square h r))))
 ]
+
+-- ---- squares that are gone through one by one
+
+-- it holds of those that are no longer left
+abbrev pub OnRest : (ℕ → Type 0) → ℕ → (ℕ → Type 0) → Type 0
+OnRest among left fact = (n : ℕ) → n < 81 → among n → has_bit left n ≡ false → fact n
+
+-- with one more, where what held before leads to it
+pub one_more : (among : ℕ → Type 0) (left next square : ℕ) (old new : ℕ → Type 0) → OnRest among left old → ((i : ℕ) → has_bit next i ≡ (has_bit left i && not (i == square))) → ((n : ℕ) → old n → new n) → new square → OnRest among next new
+one_more among left next square old new all bits up here n h e out = elim (cases_eq n square) [
+  | inl same ↦ subst new (sym same) here
+  | inr other ↦ up n (all n h e (false_from_ne_true (has_bit left n) (λ still. both_ways (has_bit next n) out (bits n ∙ and_from _ _ still (not_from_false _ (ne_eqb n square other))))))
+]
+
+-- what a call says of those that it passes holds of all that are kept
+pub sifted_fact : (post : ℕ → Bool → Type 0) (squares kept : ℕ) (fact : ℕ → Type 0) → IsSifted post squares kept → ((n : ℕ) → post n true → fact n) → (n : ℕ) → n < 81 → has_bit kept n ≡ true → fact n
+sifted_fact post squares kept fact s says n h set = elim (cases_Bool (has_bit squares n)) [
+  | inl on ↦ (let tried = s.tried n h on in says n (subst (post n) (sym tried.2 ∙ set) tried.1))
+  | inr off ↦ absurd (both_ways (has_bit kept n) (s.out n h off) set)
+]
+
+-- and they are among the squares
+pub sifted_among : (post : ℕ → Bool → Type 0) (squares kept : ℕ) → kept < 2 ^ 81 → IsSifted post squares kept → (n : ℕ) → has_bit kept n ≡ true → has_bit squares n ≡ true
+sifted_among post squares kept fits s n set = true_from_ne_false (has_bit squares n) (λ off. both_ways (has_bit kept n) (elim (cases_lt n 81) [ inl h ↦ s.out n h off | inr above ↦ has_bit-above kept 81 n fits above ]) set)

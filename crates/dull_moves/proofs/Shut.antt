@@ -1,5 +1,5 @@
 -- A move that leaves the king of its side attacked does so once a piece is lifted, and another is put off the way.
-use Rattle.std.proofs.Common.{◌≡◌, ◌≢◌, ◌⊎◌, ℕ, ◌<◌, Bool, true, false, Option, Some, None, sym, ap, subst, ◌∙◌, inl, inr, arith, set, length, length-set, get_or-set_same, get_or-set_other}
+use Rattle.std.proofs.Common.{◌≡◌, ◌≢◌, ◌⊎◌, ℕ, ◌<◌, Bool, true, false, Option, None, sym, ap, subst, ◌∙◌, inl, inr, arith, set, length, length-set, get_or-set_same, get_or-set_other}
 use Rattle.std.specs.Prelude.{is_none}
 use Rattle.std.proofs.lemmas.Bool.{and_from, both_ways, cases_eq}
 use Rattle.shogi_core.specs.declared.moves.Move.TheVariants.{Board}
@@ -16,7 +16,7 @@ use Rattle.shogi_moves.specs.After.{cells_after, piece_moved}
 use Rattle.shogi_moves.proofs.CheckInfoLaws.{other_side, own_some}
 use Rattle.shogi_moves.proofs.MovedPieces.{is_king-piece_moved}
 use Rattle.shogi_replies.proofs.ThreatLaws.{reach_kept}
-use Rattle.dull_moves.specs.Dull.{AreNonInterfering, IsShut, lifted, moved}
+use Rattle.dull_moves.specs.Dull.{IsShut, lifted, moved}
 use Rattle.shogi_replies.proofs.KingGoes.{cleared_none}
 
 -- a larger set shuts as well
@@ -30,21 +30,6 @@ shut_more q shut more from n within s = record {
   attacks = s.attacks;
   way = λ x h out. s.way x h (within x out);
 }
-
--- where a piece of the other side reaches the king, the squares of that and those between shut the move
-pub shut_here : (q : Shogi) (now : Cells) (piece : Piece) (from n foe home shut : ℕ) → piece_at q.cells from ≡ Some piece → now ≡ set (set q.cells from None) n (Some piece) → foe < 81 → home < 81 → is_piece_of (opponent_of q.side) (piece_at now foe) ≡ true → is_king q.side (piece_at now home) ≡ true → reaches now foe home ≡ true
-    → AreNonInterfering (Board foe home false) shut → IsShut q shut from n
-shut_here q now piece from n foe home shut there is hf hh stands crown attacks way =
-    let same : now ≡ moved q.cells from n = is ∙ ap (λ (cell : Option Piece). set (set q.cells from None) n cell) (sym there) in
-    record {
-      foe = foe;
-      home = home;
-      on_board = (hf, hh);
-      stands = subst (λ (cells : Cells). is_piece_of (opponent_of q.side) (piece_at cells foe) ≡ true) same stands;
-      crown = subst (λ (cells : Cells). is_king q.side (piece_at cells home) ≡ true) same crown;
-      attacks = subst (λ (cells : Cells). reaches cells foe home ≡ true) same attacks;
-      way = way;
-    }
 
 -- ---- a piece is lifted
 

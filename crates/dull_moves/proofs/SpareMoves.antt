@@ -1,19 +1,18 @@
 -- A side that is in no check and has spare moves has a legal one.
 use Rattle.std.proofs.Common.{◌≡◌, ◌≢◌, ℕ, ◌<◌, true, false, not, Option, Some, None, sym, ap, subst, ◌∙◌, inl, inr, ◌-◌, ◌^◌, bit_and}
 use Rattle.std.specs.Prelude.{◌&&◌, ◌||◌, ◌==◌, IfSome, is_none, is_some}
-use Rattle.std.proofs.lemmas.Bool.{and_from, and_parts, both_ways, cases_eq, eq-eqb, false_from_ne_true, not-true, or_left, or_parts}
+use Rattle.std.proofs.lemmas.Bool.{and_from, and_parts, both_ways, cases_eq, eq-eqb, false_from_ne_true, not-true, or_parts}
 use Rattle.shogi_core.specs.declared.piece.Color.{Color}
 use Rattle.shogi_core.specs.declared.piece.Piece.{Piece}
 use Rattle.shogi_core.specs.Attack.{cell_steps, in_check}
 use Rattle.shogi_core.specs.Bits.{has_bit}
 use Rattle.shogi_core.specs.Cell.{HasNoOtherKing, is_immobile, is_king, is_piece_of}
-use Rattle.shogi_core.specs.Lines.{are_aligned, is_lined_with_king}
-use Rattle.shogi_core.specs.Movement.{Cells, cell_reaches, has_slide, has_step, piece_at, reaches}
+use Rattle.shogi_core.specs.Lines.{are_aligned}
+use Rattle.shogi_core.specs.Movement.{Cells, piece_at}
 use Rattle.shogi_core.specs.Pieces.{opponent_of}
 use Rattle.shogi_core.specs.Position.{HandCounts, Shogi}
 use Rattle.shogi_core.proofs.Below.{some_below_no}
-use Rattle.shogi_moves.proofs.CheckInfoLaws.{own_some, quiet_board}
-use Rattle.shogi_moves.proofs.DestinationLaws.{legal_board}
+use Rattle.shogi_moves.proofs.CheckInfoLaws.{own_some}
 use Rattle.shogi_replies.specs.ReplyInfo.{is_aligned_with_king, is_line_of_king, is_quiet_step}
 use Rattle.shogi_replies.proofs.ReplyLaws.{LeavesStanding, legal_step, step_parts}
 use Rattle.dull_moves.specs.Dull.{HasSpareMoves, IsSpareMove}

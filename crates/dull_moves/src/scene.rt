@@ -7,7 +7,7 @@ ghost use Rattle.shogi_core.specs.Movement.{piece_at};
 ghost use Rattle.shogi_core.specs.Zones.{may_promote};
 ghost use Rattle.dull_moves.specs.Dull.{AreDear, AreNonInterfering, IsOnSquares, IsShut, IsStanding, LeavesOne, lifted};
 
-use shogi_core::bits::{cleared, lowest, without_lowest};
+use shogi_core::bits::lowest;
 use shogi_core::zones::{dead_squares, is_promotable, promoting_squares, squares_near_zone};
 use shogi_core::{Board, Color, Kind, Move, Piece, Position, Square, Squares, line_mask};
 use shogi_eval::{Eval, Node, promotion_gain, taken_gain};
@@ -43,13 +43,13 @@ pub fn covering_squares(board: &Board, piece: Piece, squares: Squares) -> Square
         color: piece.color.opponent(),
         role: piece.role,
     };
-    let mut left = squares.bits;
     let mut covered = Squares::all();
-    while left != 0 && !covered.is_empty() {
-        let square = lowest(left);
-        let to = Square::of_index(square);
+    let mut left = squares.iter();
+    'squares: while let Some(to) = left.next() {
+        if covered.is_empty() {
+            return covered;
+        }
         covered = covered & board.targets_of(back, to);
-        left = without_lowest(left, square);
     }
     covered
 }
@@ -59,16 +59,7 @@ pub fn dear_squares(board: &Board, side: Color, eval: Eval, most: u32) -> Square
     ensures { AreDear board.now side eval most result.bits }
 {
     let foes = board.own(side.opponent());
-    let mut left = foes.bits;
-    let mut kept = foes.bits;
-    while left != 0 {
-        let square = lowest(left);
-        if taken_gain(eval, board.at(Square::of_index(square))) <= most {
-            kept = cleared(kept, square);
-        }
-        left = without_lowest(left, square);
-    }
-    Squares { bits: kept }
+    foes.sift(|square| taken_gain(eval, board.at(square)) > most)
 }
 
 /// Squares to which moves of a piece gain too much or leave none of some squares, without promotion
@@ -180,20 +171,13 @@ impl Scene {
             return None;
         }
         let home = Square::of_index(lowest(kings.bits));
-        let mut left = moved.own(side.opponent()).bits;
-        while left != 0 {
-            let square = lowest(left);
-            let foe = Square::of_index(square);
-            if moved.targets(foe).has(home) {
-                return Some(squares_touched(&Move::Board {
-                    from: foe,
-                    to: home,
-                    promote: false,
-                }));
-            }
-            left = without_lowest(left, square);
-        }
-        None
+        let foes = moved.own(side.opponent());
+        let foe = foes.find(|foe| moved.targets(foe).has(home))?;
+        Some(squares_touched(&Move::Board {
+            from: foe,
+            to: home,
+            promote: false,
+        }))
     }
 
     /// The same for moves to each of some squares.
@@ -201,12 +185,10 @@ impl Scene {
         requires stands { piece_at self.now.standing from ≡ Some piece }
         ensures { IfSome result (λ shut. AreShutIn self.now from ends.bits shut.bits) }
     {
-        let mut left = ends.bits;
         let mut shut = Squares::none();
-        while left != 0 {
-            let square = lowest(left);
-            shut = shut | self.shut_by(piece, from, Square::of_index(square))?;
-            left = without_lowest(left, square);
+        let mut left = ends.iter();
+        'ends: while let Some(to) = left.next() {
+            shut = shut | self.shut_by(piece, from, to)?;
         }
         Some(shut)
     }
@@ -244,15 +226,13 @@ impl Scene {
         ensures calm { IfSome result (λ held. PiecesAreCalmIn self.now held.shut.bits) }
         ensures held { IfSome result (λ held. PiecesLetLeaveIn self.now held.pieces.bits) }
     {
-        let mut left = self.standing.own(self.side()).bits;
         let mut pieces = Squares::none();
         let mut shut = Squares::none();
-        while left != 0 {
-            let square = lowest(left);
-            let held = self.held_by_piece(Square::of_index(square))?;
+        let mut left = self.standing.own(self.side()).iter();
+        'pieces: while let Some(from) = left.next() {
+            let held = self.held_by_piece(from)?;
             pieces = pieces | held.pieces;
             shut = shut | held.shut;
-            left = without_lowest(left, square);
         }
         Some(HeldSquares { pieces, shut })
     }
@@ -297,14 +277,8 @@ impl Scene {
     fn view(&self) -> Squares
         ensures { IsViewIn self.now result.bits }
     {
-        let mut left = self.squares.bits;
-        let mut seen = self.board.open_lines(self.king);
-        while left != 0 {
-            let square = lowest(left);
-            seen = seen | self.board.open_lines(Square::of_index(square));
-            left = without_lowest(left, square);
-        }
-        seen
+        let seen = self.squares.union(|square| self.board.open_lines(square));
+        seen | self.board.open_lines(self.king)
     }
 
     /// Where the side to move gains little and leaves one of the squares, whatever it does: squares such
@@ -346,16 +320,7 @@ impl Scene {
         let promotes = is_promotable(piece.role)
             && (piece.role.is_sliding() || !near_zone.is_empty());
         let forbidden = self.forbidden_squares(piece, self.squares, promotes);
-        let mut left = squares.bits;
-        let mut kept = squares.bits;
-        while left != 0 {
-            let square = lowest(left);
-            if !self.is_idle(piece, &forbidden, Square::of_index(square)) {
-                kept = cleared(kept, square);
-            }
-            left = without_lowest(left, square);
-        }
-        Squares { bits: kept }
+        squares.sift(|to| self.is_idle(piece, &forbidden, to))
     }
 
     /// Those on which a piece of the kind is so, if one is in hand, and else all of them.
@@ -416,13 +381,10 @@ impl Scene {
         ensures among { (n : ℕ) → has_bit result.bits n ≡ true → has_bit ends.bits n ≡ true }
         ensures idle { AreIdleEnds self.now before.now.cells pieces.bits result.bits }
     {
-        let mut left = pieces.bits;
         let mut kept = ends;
-        while left != 0 {
-            let square = lowest(left);
-            let from = Square::of_index(square);
+        let mut left = pieces.iter();
+        'pieces: while let Some(from) = left.next() {
             kept = self.idle_ends_of(from, before.as_board().targets(from), kept);
-            left = without_lowest(left, square);
         }
         kept
     }

@@ -1,12 +1,13 @@
-use Rattle.std.proofs.Common.{◌<◌, ◌^◌}
-use Rattle.dull_moves.proofs.Sets.{Covers}
+use Rattle.std.proofs.Common.{◌≡◌, ◌<◌, ℕ, Some, true, false}
+use Rattle.shogi_core.specs.Bits.{has_bit}
+use Rattle.dull_moves.specs.Dull.{LeavesOne}
 use Rattle.dull_moves.proofs.scene.covering_squares.Given as goal
 
-abbrev pub invariant-loop-left : goal.invariant-loop-left
-invariant-loop-left l = record {
-  covers : Covers l.board l.fn.piece l.fn.squares.bits l.left l.covered.bits;
-  left : l.left < 2 ^ 81;
+abbrev pub invariant-squares : goal.invariant-squares
+invariant-squares l = record {
+  among : (n : ℕ) → has_bit l.left n ≡ true → has_bit l.fn.squares.bits n ≡ true;
+  leaves : (n : ℕ) → n < 81 → has_bit l.covered.bits n ≡ false → LeavesOne l.board (Some l.fn.piece) n l.fn.squares.bits;
 }
 
-abbrev pub decreases-loop-left : goal.decreases-loop-left
-decreases-loop-left l = l.left
+abbrev pub decreases-squares : goal.decreases-squares
+decreases-squares l = l.left

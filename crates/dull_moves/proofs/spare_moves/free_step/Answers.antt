@@ -1,13 +1,8 @@
-use Rattle.std.proofs.Common.{sym, ◌∙◌}
-use Rattle.std.proofs.lemmas.Bool.{and_parts}
 use Rattle.dull_moves.proofs.Sets.{out_parts}
 use Rattle.dull_moves.proofs.spare_moves.free_step.Goals as goal
 
-pub pieces-preserved : goal.pieces-preserved
-pieces-preserved c = λ n on. c.pieces.invariant n (and_parts _ _ (sym (c.in-Some.ensures.some.rest n) ∙ on)).0
-
-pub returns-in-Some-then-not-is_empty : goal.returns-in-Some-then-not-is_empty
-returns-in-Some-then-not-is_empty c =
+pub returns-then-not-is_empty : goal.returns-then-not-is_empty
+returns-then-not-is_empty c =
     let out = out_parts c.quiet_steps.result.bits c.args.taken.bits c.lowest.result c.args.taken.fits c.lowest.ensures.range (rw c.without-steps.ensures at c.lowest.ensures.set) in
     rw c.of_index-to.ensures
     (record {

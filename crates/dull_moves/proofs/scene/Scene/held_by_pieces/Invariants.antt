@@ -1,13 +1,12 @@
-use Rattle.std.proofs.Common.{◌<◌, ◌^◌}
-use Rattle.dull_moves.specs.Scenes.{place_in}
-use Rattle.dull_moves.proofs.SceneLaws.{PiecesSoFar}
+use Rattle.dull_moves.specs.Scenes.{IsOwnIn, PieceIsCalmIn, PieceLetsLeaveIn}
+use Rattle.dull_moves.proofs.Sets.{OnRest}
 use Rattle.dull_moves.proofs.scene.Scene.held_by_pieces.Given as goal
 
-abbrev pub invariant-loop-left : goal.invariant-loop-left
-invariant-loop-left l = record {
-  pieces : PiecesSoFar (place_in l.self) l.self.node.eval l.self.gains l.self.king l.self.squares.bits l.left l.pieces.bits l.shut.bits;
-  left : l.left < 2 ^ 81;
+abbrev pub invariant-pieces : goal.invariant-pieces
+invariant-pieces l = record {
+  calm : OnRest (IsOwnIn l.self) l.left (PieceIsCalmIn l.self l.shut.bits);
+  held : OnRest (IsOwnIn l.self) l.left (λ n. PieceLetsLeaveIn l.self n l.pieces.bits);
 }
 
-abbrev pub decreases-loop-left : goal.decreases-loop-left
-decreases-loop-left l = l.left
+abbrev pub decreases-pieces : goal.decreases-pieces
+decreases-pieces l = l.left

@@ -1,19 +1,14 @@
-use Rattle.std.proofs.Common.{arith}
+use Rattle.std.proofs.Common.{◌≡◌, true, bit_or}
+use Rattle.shogi_core.specs.Bits.{has_bit}
+use Rattle.dull_moves.specs.Dull.{IsShut}
 use Rattle.dull_moves.specs.Scenes.{place_in}
-use Rattle.dull_moves.proofs.SceneLaws.{shut_done, shut_first, shut_next}
+use Rattle.dull_moves.proofs.SceneLaws.{shut_next}
+use Rattle.dull_moves.proofs.Sets.{one_more}
 use Rattle.dull_moves.proofs.scene.Scene.shut_squares.Goals as goal
 
-pub loop-left-init : goal.loop-left-init
-loop-left-init c = record {
-  shut = shut_first (place_in c.args.self.now) c.args.from c.args.ends.bits c.none-shut.result.bits;
-  left = c.args.ends.fits;
-}
-
-pub loop-left-preserved : goal.loop-left-preserved
-loop-left-preserved c = record {
-  shut = rw c.bitor-shut.ensures (shut_next (place_in c.args.self.now) c.args.from c.args.ends.bits c.loop-left.left c.without_lowest-left.result c.loop-left.shut.bits c.in_ok-shut_by.field-0.bits c.lowest-square.result c.loop-left.invariant.shut c.without_lowest-left.ensures.bits (rw c.of_index.ensures at c.in_ok-shut_by.ensures));
-  left = omega (arith, c.without_lowest-left.ensures.less, c.loop-left.invariant.left);
-}
-
-pub returns : goal.returns
-returns c = shut_done (place_in c.args.self.now) c.args.from c.args.ends.bits c.loop-left.left c.loop-left.shut.bits c.loop-left.invariant.shut c.loop-left-test.false
+pub ends-preserved : goal.ends-preserved
+ends-preserved c =
+    let more = shut_next (place_in c.args.self.now) c.args.from c.ends.shut.bits c.in_ok-shut_by.field-0.bits in
+    rw c.bitor-shut.ensures (one_more (λ n. has_bit c.args.ends.bits n ≡ true) c.ends.left c.next.new.self c.in-Some.to
+    (IsShut (place_in c.args.self.now) c.ends.shut.bits c.args.from) (IsShut (place_in c.args.self.now) (bit_or c.ends.shut.bits c.in_ok-shut_by.field-0.bits) c.args.from)
+    c.ends.invariant c.in-Some.ensures.some.rest more.0 (more.1 c.in-Some.to c.in_ok-shut_by.ensures))

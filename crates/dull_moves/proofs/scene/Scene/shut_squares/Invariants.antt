@@ -1,13 +1,12 @@
-use Rattle.std.proofs.Common.{◌<◌, ◌^◌}
+use Rattle.std.proofs.Common.{◌≡◌, true}
+use Rattle.shogi_core.specs.Bits.{has_bit}
+use Rattle.dull_moves.specs.Dull.{IsShut}
 use Rattle.dull_moves.specs.Scenes.{place_in}
-use Rattle.dull_moves.proofs.SceneLaws.{ShutSoFar}
+use Rattle.dull_moves.proofs.Sets.{OnRest}
 use Rattle.dull_moves.proofs.scene.Scene.shut_squares.Given as goal
 
-abbrev pub invariant-loop-left : goal.invariant-loop-left
-invariant-loop-left l = record {
-  shut : ShutSoFar (place_in l.self) l.from l.fn.ends.bits l.left l.shut.bits;
-  left : l.left < 2 ^ 81;
-}
+abbrev pub invariant-ends : goal.invariant-ends
+invariant-ends l = OnRest (λ n. has_bit l.fn.ends.bits n ≡ true) l.left (IsShut (place_in l.self) l.shut.bits l.from)
 
-abbrev pub decreases-loop-left : goal.decreases-loop-left
-decreases-loop-left l = l.left
+abbrev pub decreases-ends : goal.decreases-ends
+decreases-ends l = l.left

@@ -1,19 +1,7 @@
-use Rattle.std.proofs.Common.{arith}
+use Rattle.std.proofs.Common.{rules}
 use Rattle.dull_moves.specs.Scenes.{place_in}
-use Rattle.dull_moves.proofs.SceneLaws.{view_done, view_first, view_next}
+use Rattle.dull_moves.proofs.SceneLaws.{all_seen}
 use Rattle.dull_moves.proofs.scene.Scene.view.Goals as goal
 
-pub loop-left-init : goal.loop-left-init
-loop-left-init c = record {
-  view = view_first c.args.self.now.board c.args.self.now.king c.args.self.now.squares.bits c.open_lines-seen.result.bits c.open_lines-seen.ensures.squares;
-  left = c.args.self.now.squares.fits;
-}
-
-pub loop-left-preserved : goal.loop-left-preserved
-loop-left-preserved c = record {
-  view = rw c.bitor-seen.ensures (view_next c.args.self.now.board c.args.self.now.king c.args.self.now.squares.bits c.loop-left.left c.without_lowest-left.result c.loop-left.seen.bits c.open_lines.result.bits c.lowest-square.result c.loop-left.invariant.view c.without_lowest-left.ensures.bits (rw c.of_index.ensures at c.open_lines.ensures.squares));
-  left = omega (arith, c.without_lowest-left.ensures.less, c.loop-left.invariant.left);
-}
-
 pub returns : goal.returns
-returns c = view_done (place_in c.args.self.now) c.args.self.now.board c.args.self.now.king c.args.self.now.squares.bits c.loop-left.left c.loop-left.seen.bits c.args.self.now.kingless c.loop-left.invariant.view c.loop-left-test.false
+returns c = rw c.bitor.ensures (all_seen (place_in c.args.self.now) c.args.self.now.board c.args.self.now.king c.args.self.now.squares.bits c.union-seen.result.bits c.open_lines.result.bits _ c.args.self.now.kingless (λ k led low p. search rules) c.union-seen.ensures.union c.open_lines.ensures.squares)
