@@ -641,8 +641,7 @@ impl Frame {
             return;
         };
         if self.are_dull_from(code) {
-            self.picker
-                .skip_dull(self.node.as_position(), &self.dull);
+            self.picker.skip_dull(self.node.as_position(), &self.dull);
         }
     }
 
