@@ -22,6 +22,8 @@ COUNTED = re.compile(r"^(?:test result: .*?)?(\d+) passed[,;] (\d+) failed", re.
 FAILED = re.compile(r"^.*(?:FAILED|panicked|fault|^error).*$", re.M)
 # How long the tests of a crate may take, in seconds.
 PATIENCE = "900"
+# What takes longest is begun first.
+LONGEST = ("tests of test_search", "tests of test_memory", "output of test_rows")
 
 
 def crates_with_tests():
@@ -77,7 +79,7 @@ def script(name, program):
 
 
 def parts():
-    """What is to be tried, with what it is called; the longest first."""
+    """What is to be tried, with what it is called."""
     program = unproved.program()
     for crate in crates_with_tests():
         yield f"tests of {crate}", tests_of, (crate,)
@@ -96,7 +98,8 @@ def timed(function, arguments):
 
 def main():
     began = time.monotonic()
-    whole, passed, failed, shown = list(parts()), 0, 0, []
+    whole = sorted(parts(), key=lambda part: part[0] not in LONGEST)
+    passed, failed, shown = 0, 0, []
     print(f"{len(whole)} parts; the last take some minutes.", flush=True)
     with concurrent.futures.ThreadPoolExecutor(len(os.sched_getaffinity(0))) as pool:
         under_way = {pool.submit(timed, function, words): name for name, function, words in whole}
