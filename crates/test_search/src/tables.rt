@@ -102,18 +102,19 @@ fn assert_exactly_left(rt: &impl Abort, alloc: Global, root: &Position) -> Resul
     Ok(())
 }
 
-// Of the nodes of depth 1 only a root is noted, and of depth 2 those that are known exactly.
+// Of the nodes of depth 1 only a root is noted, and of depth 2 those that are known exactly. At depths 3 and
+// 4 a root may prune moves.
 #[test]
 fn children_left_in_the_table(rt: HostRuntime) -> Result<(), Fail> {
     let (start, pawns) = (Position::start(), position(TWO_PAWNS)?);
     for (root, deepest, count) in [
-        (start, 3u8, 30usize),
+        (start, 4u8, 30usize),
         (pawns, 7, 5),
         (position(HEMMED_IN)?, 4, 5),
     ] {
         same!(rt; left_of(rt.alloc(), &root, 1)?, 0);
         assert_exactly_left(&rt, rt.alloc(), &root)?;
-        for depth in 3..=deepest {
+        for depth in 4..=deepest {
             same!(rt; left_of(rt.alloc(), &root, depth)?, count, depth);
         }
     }
