@@ -2,6 +2,7 @@
 use Rattle.std.specs.Prelude.{◌≡◌, ◌≤◌, ◌<◌, ◌⊎◌, ℕ, List, [], ◌∷◌, length, Bool, true, false, None, ⊤, ◌≢◌}
 use Rattle.std.specs.Io.KnownBytes.{Keeps}
 use Rattle.session_slots.specs.Slots.{find}
+use Rattle.host_core.specs.ById.{wants_input_of}
 use Rattle.host_core.specs.Events.{Event, Outcome, Close}
 use Rattle.host_core.specs.Steps.{HostState}
 use Rattle.socket_loop.specs.declared.connection.Connection.{Connection}
@@ -18,6 +19,10 @@ use Rattle.host_core.specs.Made.{Step}
 use Rattle.host_core.specs.Runs.{IsRun, IsStep}
 use Rattle.session_slots.specs.declared.id.SessionId.{SessionId}
 use Rattle.socket_loop.specs.declared.connection.Link.{Link}
+
+-- the session of the id wants input
+abbrev pub WantsInput : HostState → SessionId → Type 0
+WantsInput host id = wants_input_of (find host.slots id) ≡ true
 
 -- where nothing moved, all that is reported stays, and the connections are as they were
 abbrev pub IsQuiet : {X : Type 0} → Bool → Report → X → Report → X → Type 0

@@ -3,12 +3,11 @@
 ghost use Rattle.std.specs.Prelude.{◌≡◌, ◌<◌, ◌≤◌, [], ◌∷◌, None, length, true, false};
 ghost use Rattle.session_slots.specs.Slots.{find};
 ghost use Rattle.usi_session.specs.declared.limits.TheConstants.{CHUNK_MAX};
-ghost use Rattle.host_core.specs.ById.{wants_input_of};
 ghost use Rattle.socket_loop.specs.Parts.{IsGone, IsInput, IsOutput, is_finished};
 ghost use Rattle.transport.specs.Report.{Shuts};
 ghost use Rattle.transport.specs.Asked.{Shut, Asks};
 ghost use Rattle.socket_loop.specs.Calls.{is_to_read, is_to_write, is_to_shut, reads_of, writes_of};
-ghost use Rattle.socket_loop.specs.Visits.{CarriesOne, EndsEmptied, EndsOne, FeedsOne, IsClosing, IsLeft, OverOne};
+ghost use Rattle.socket_loop.specs.Visits.{CarriesOne, EndsEmptied, EndsOne, FeedsOne, IsClosing, IsLeft, OverOne, WantsInput};
 
 use crate::connection::{Connection, Link};
 use host_core::Host;
@@ -43,7 +42,7 @@ fn feed_from<W: Wire, S: BuildHasher, A: Allocator + Copy>(
     wire: &mut W,
     chunk: &[u8],
 )
-    requires wants { wants_input_of (find host.old.slots held.old.link.id) ≡ true }
+    requires wants { WantsInput host.old held.old.link.id }
     requires few { length chunk.now ≤ CHUNK_MAX }
     requires some { 1 ≤ length chunk.now }
     ensures fed { OverOne W.Wire (FeedsOne chunk.now)
@@ -60,7 +59,7 @@ fn feed_from<W: Wire, S: BuildHasher, A: Allocator + Copy>(
 /// Whether a connection is to be read.
 fn is_to_read<S: BuildHasher, A: Allocator + Copy>(held: &Connection, host: &Host<S, A>) -> bool
     ensures test { result ≡ is_to_read host.now held.now }
-    ensures wants { result ≡ true → wants_input_of (find host.now.slots held.now.link.id) ≡ true }
+    ensures wants { result ≡ true → WantsInput host.now held.now.link.id }
     ensures open { result ≡ true → held.now.is_shut ≡ false }
 {
     !held.has_ended && !held.is_shut && host.wants_input(held.link.id)
