@@ -23,6 +23,22 @@ fn squares_by_file_and_rank(rt: HostRuntime) -> Result<(), Fail> {
     Ok(())
 }
 
+/// Each square of a set comes once, by rising index. Behind the last there is none, however often one asks.
+#[test]
+fn squares_one_by_one(rt: HostRuntime) -> Result<(), Fail> {
+    let squares = squares_of("5e 1a 9i 2b")?;
+    let mut left = squares.iter();
+    for index in [0, 10, 40, 80] {
+        let next = left.next().ok_or("a square")?;
+        same!(rt; next.index(), index);
+    }
+    holds!(rt; left.next().is_none());
+    holds!(rt; left.next().is_none());
+    let mut none = Squares::none().iter();
+    holds!(rt; none.next().is_none());
+    Ok(())
+}
+
 /// Squares on one file, on one rank, or as many files as ranks apart.
 #[test]
 fn squares_on_lines(rt: HostRuntime) {

@@ -5,7 +5,7 @@ use shogi_core::Color::{Black, White};
 use shogi_core::{Piece, Position, Role, Square};
 use shogi_moves::Destinations;
 use shogi_replies::{
-    ReplyInfo, attacks_of, king_line_mask, put_by, some_escapes, unpinnable_pieces,
+    ReplyInfo, attacks_of, king_line_mask, put_by, quiet_steps, some_escapes, unpinnable_pieces,
 };
 use std::test::Fail;
 use test_support::{holds, same};
@@ -36,6 +36,19 @@ fn three_escapes_of_more(rt: HostRuntime) -> Result<(), Fail> {
     holds!(rt; found == 3 && escapes & next == escapes);
     let p = position("3gkg3/4p4/9/9/9/9/9/9/4K4 b -")?;
     same!(rt; some_escapes(&p), squares_of("6b 4b")?);
+    Ok(())
+}
+
+/// A gold of the opening steps to three empty squares, and a pawn to one. A pawn that would come to stand on
+/// the last rank has no such step, nor has an empty square.
+#[test]
+fn quiet_steps_of_pieces(rt: HostRuntime) -> Result<(), Fail> {
+    let p = Position::start();
+    same!(rt; quiet_steps(&p, square("4i")?), squares_of("3h 4h 5h")?);
+    same!(rt; quiet_steps(&p, square("7g")?), squares_of("7f")?);
+    holds!(rt; quiet_steps(&p, square("5e")?).is_empty());
+    let p = position("k8/4P4/9/9/9/9/9/9/4K4 b -")?;
+    holds!(rt; quiet_steps(&p, square("5b")?).is_empty());
     Ok(())
 }
 
