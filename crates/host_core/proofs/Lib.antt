@@ -6,6 +6,6 @@ pub mod OneSession
 pub mod Overs
 pub mod Kept
 pub mod Rounds
-pub mod Still
+pub mod Noted
 pub mod Shares
 pub mod Found

@@ -14,7 +14,7 @@ use Rattle.host_core.specs.ById.{pending_of}
 use Rattle.host_core.specs.Made.{is_same_id}
 use Rattle.host_core.specs.Steps.{HostState, Stepped, OnSession}
 use Rattle.host_core.specs.Sessions.{Works}
-use Rattle.host_core.specs.Still.{AreSettled, IsNext}
+use Rattle.host_core.specs.Notes.{AreSettled, IsNext}
 use Rattle.host_core.specs.Rounds.{bestmoves_since, pending_from, pending_ids, with_steps, works, has_worked, was_refused, CountsRound, CountsWorks, IsRound, MakesRound, RoundTo}
 use Rattle.host_core.specs.declared.round.Round.{Round}
 use Rattle.shared_table.specs.Recent.{plus}
@@ -31,6 +31,14 @@ pending_opened slot [] (suc i) o e = absurd (cc)
 pending_opened slot (None ∷ rest) zero o e = absurd (cc)
 pending_opened slot (Some p ∷ rest) zero o e = (let same : p ≡ o = cc in rw same refl)
 pending_opened slot (x ∷ rest) (suc i) o e = rw (suc_plus i) (pending_opened slot rest i o e)
+
+-- a vacant slot
+pub vacant_settled : (slot : ℕ) (slots_ : List (Option (OpenSession SessionView))) (i : ℕ) → slice_index_or slots_ i None ≡ None → pending_from slot (drop i slots_) ≡ pending_from (slot + 1) (drop (i + 1) slots_)
+vacant_settled slot [] zero e = refl
+vacant_settled slot [] (suc i) e = rw (suc_plus i) refl
+vacant_settled slot (None ∷ rest) zero e = refl
+vacant_settled slot (Some o ∷ rest) zero e = absurd (cc)
+vacant_settled slot (x ∷ rest) (suc i) e = rw (suc_plus i) (vacant_settled slot rest i e)
 
 -- from a slot on, the next open session stands here, and the slots before it add nothing
 record Skips (slot : ℕ) (slots : List (Option (OpenSession SessionView))) (id : SessionId) : Type 0 where

@@ -1,7 +1,8 @@
 -- What a host returns of a session by its id: nothing of one that is not open (own choice).
-use Rattle.std.specs.Prelude.{◌≡◌, ℕ, List, [], length, Bool, false, ◌&&◌, nat_eq, Option, Some, None}
+use Rattle.std.specs.Prelude.{◌≡◌, ℕ, List, [], length, Bool, false, nat_lt, Option, Some, None, is_some}
 use Rattle.std.specs.Borrow.{Bor}
 use Rattle.usi_session.specs.Due.{SessionView, is_pending, wants_input}
+use Rattle.host_core.specs.declared.notes.Activity.{Activity}
 
 -- the bytes that are queued
 abbrev pub queued_of : Option SessionView → List ℕ
@@ -25,7 +26,12 @@ abbrev pub is_over_of : Option SessionView → Bool
 is_over_of None = false
 is_over_of (Some t) = t.state.is_over
 
--- it may be fed, and nothing is queued
-abbrev pub is_still_of : Option SessionView → Bool
-is_still_of None = false
-is_still_of (Some t) = wants_input t && nat_eq (length t.queued) 0
+-- all of this at once
+abbrev pub activity_of : Option SessionView → Activity
+activity_of found = record {
+  is_open = is_some found;
+  wants_input = wants_input_of found;
+  is_pending = pending_of found;
+  has_output = nat_lt 0 (length (queued_of found));
+  is_over = is_over_of found;
+}

@@ -9,5 +9,5 @@ pub mod Kept
 pub mod Runs
 pub mod Headline
 pub mod Rounds
-pub mod Still
+pub mod Notes
 pub mod Shared

@@ -1,9 +1,9 @@
 //! A host of sessions.
 
-ghost use Rattle.std.specs.Prelude.{◌≡◌, ◌≤◌, IfNone, IfOk, IsErrOf, IsSome, None, OnErr, OnSome, Err, true, length};
+ghost use Rattle.std.specs.Prelude.{◌≡◌, ◌≤◌, IfNone, IfOk, IsErrOf, IsSome, None, OnErr, OnSome, Err, length};
 ghost use Rattle.session_slots.specs.Slots.{count, find, IsBelow, OthersKept};
 ghost use Rattle.shared_table.specs.Recent.{AreTrue};
-ghost use Rattle.host_core.specs.ById.{IsQueue, pending_of, wants_input_of, is_over_of, is_still_of};
+ghost use Rattle.host_core.specs.ById.{IsQueue, activity_of, pending_of, wants_input_of, is_over_of};
 ghost use Rattle.host_core.specs.Events.{Open, Feed, Work, Take, Close, Opened, Worked, Gave};
 ghost use Rattle.host_core.specs.Kept.{PassKeepsOthers};
 ghost use Rattle.host_core.specs.Seen.{as_outcome, done_of, passed_from};
@@ -14,7 +14,8 @@ ghost use Rattle.shared_table.specs.declared.table.TheConstants.{CAPACITY_MAX};
 
 use crate::bytes::Bytes;
 use crate::event::HostFault;
-use crate::{idle_cache, on_session};
+use crate::notes::{Activity, Note};
+use crate::{notes, on_session};
 use session_slots::{SessionId, SlotFault, Slots};
 use shared_table::SharedTable;
 use std::alloc::Allocator;
@@ -43,19 +44,19 @@ pub struct Host<S: BuildHasher, A: Allocator + Copy> {
     setup: Setup,
     table: SharedTable<S, A>,
     pub(crate) slots: Slots<Session<A>, A>,
-    // By slot: the generation of its session, where that is still.
-    pub(crate) idle: Vec<Option<u64>, A>,
+    // By slot.
+    pub(crate) notes: Vec<Note, A>,
 }
 
 impl<S: BuildHasher, A: Allocator + Copy> Model for Host<S, A> {
     ghost use Rattle.host_core.specs.Steps.{HostState};
-    ghost use Rattle.host_core.specs.Still.{AreStill};
+    ghost use Rattle.host_core.specs.Notes.{AreNoted};
 
     ghost Value = { HostState };
 
     ghost view = { λ h. record { setup = h.setup; table = h.table; slots = h.slots } };
 
-    ghost invariant = { λ h. AreStill h.idle.items h.slots };
+    ghost invariant = { λ h. AreNoted h.notes.items h.slots };
 }
 
 impl<S: BuildHasher, A: Allocator + Copy> Host<S, A> {
@@ -95,13 +96,13 @@ impl<S: BuildHasher, A: Allocator + Copy> Host<S, A> {
         let Ok(table) = SharedTable::new(alloc, entries, hasher) else {
             return Err(HostFault::OutOfMemory);
         };
-        let idle = vec![in alloc; None; slots]?;
+        let notes = vec![in alloc; Note::NONE; slots]?;
         Ok(Host {
             alloc,
             setup,
             table,
             slots: Slots::new(alloc, slots),
-            idle,
+            notes,
         })
     }
 
@@ -162,9 +163,11 @@ impl<S: BuildHasher, A: Allocator + Copy> Host<S, A> {
         ensures below { IsBelow self.old.slots }
     {
         self.slots.reveal_invariant();
-        match self.slots.open(Session::with_setup(self.alloc, self.setup)) {
+        let session = Session::with_setup(self.alloc, self.setup);
+        let activity = Activity::of(&session);
+        match self.slots.open(session) {
             Ok(id) => {
-                idle_cache::set(&mut self.idle, id.slot, Some(id.generation));
+                notes::set(&mut self.notes, id, activity);
                 Ok(id)
             }
             Err(SlotFault::Full) => Err(HostFault::Full),
@@ -185,7 +188,7 @@ impl<S: BuildHasher, A: Allocator + Copy> Host<S, A> {
             return Err(HostFault::UnknownSession);
         };
         let fed = on_session::feed(session, chunk);
-        idle_cache::set(&mut self.idle, id.slot, idle_cache::of(id, session));
+        notes::set(&mut self.notes, id, Activity::of(session));
         fed
     }
 
@@ -205,7 +208,7 @@ impl<S: BuildHasher, A: Allocator + Copy> Host<S, A> {
             return Err(HostFault::UnknownSession);
         };
         let worked = on_session::work(session, &mut self.table, budget);
-        idle_cache::set(&mut self.idle, id.slot, idle_cache::of(id, session));
+        notes::set(&mut self.notes, id, Activity::of(session));
         self.table.reveal_invariant();
         worked
     }
@@ -222,7 +225,7 @@ impl<S: BuildHasher, A: Allocator + Copy> Host<S, A> {
             return Err(HostFault::UnknownSession);
         };
         let taken = on_session::take(self.alloc, session, n);
-        idle_cache::set(&mut self.idle, id.slot, idle_cache::of(id, session));
+        notes::set(&mut self.notes, id, Activity::of(session));
         taken
     }
 
@@ -240,7 +243,7 @@ impl<S: BuildHasher, A: Allocator + Copy> Host<S, A> {
             return Err(HostFault::UnknownSession);
         };
         let passed = on_session::pass(session, n);
-        idle_cache::set(&mut self.idle, id.slot, idle_cache::of(id, session));
+        notes::set(&mut self.notes, id, Activity::of(session));
         passed
     }
 
@@ -254,7 +257,7 @@ impl<S: BuildHasher, A: Allocator + Copy> Host<S, A> {
         self.slots.reveal_invariant();
         match dropped(self.slots.close(id)) {
             Some(()) => {
-                idle_cache::set(&mut self.idle, id.slot, None);
+                notes::set(&mut self.notes, id, Activity::NONE);
                 Ok(())
             }
             None => Err(HostFault::UnknownSession),
@@ -265,12 +268,22 @@ impl<S: BuildHasher, A: Allocator + Copy> Host<S, A> {
     pub fn output(&self, id: SessionId) -> Option<&[u8]>
         ensures { IsQueue (find self.now.slots id) result }
     {
-        if self.is_still(id) {
-            return Some(&[]);
-        }
         match self.slots.get(id) {
             Some(session) => Some(session.output()),
             None => None,
+        }
+    }
+
+    /// What the session wants and has, by its note. Nothing where none is open under the id.
+    pub fn activity(&self, id: SessionId) -> Activity
+        ensures { result ≡ activity_of (find self.now.slots id) }
+    {
+        if let Some(note) = self.notes.get(id.slot) {
+            return note.of(id.generation);
+        }
+        match self.slots.get(id) {
+            Some(session) => Activity::of(session),
+            None => Activity::NONE,
         }
     }
 
@@ -279,13 +292,7 @@ impl<S: BuildHasher, A: Allocator + Copy> Host<S, A> {
     pub fn pending(&self, id: SessionId) -> bool
         ensures { result ≡ pending_of (find self.now.slots id) }
     {
-        if self.is_still(id) {
-            return false;
-        }
-        match self.slots.get(id) {
-            Some(session) => session.pending(),
-            None => false,
-        }
+        self.activity(id).is_pending
     }
 
     /// Whether the session may be fed: it has not ended, nothing is pending, and fewer than 65,536
@@ -293,13 +300,7 @@ impl<S: BuildHasher, A: Allocator + Copy> Host<S, A> {
     pub fn wants_input(&self, id: SessionId) -> bool
         ensures { result ≡ wants_input_of (find self.now.slots id) }
     {
-        if self.is_still(id) {
-            return true;
-        }
-        match self.slots.get(id) {
-            Some(session) => session.wants_input(),
-            None => false,
-        }
+        self.activity(id).wants_input
     }
 
     /// Whether the session has ended, by `quit` or a line that was too long. No where none is open
@@ -307,23 +308,6 @@ impl<S: BuildHasher, A: Allocator + Copy> Host<S, A> {
     pub fn is_over(&self, id: SessionId) -> bool
         ensures { result ≡ is_over_of (find self.now.slots id) }
     {
-        if self.is_still(id) {
-            return false;
-        }
-        match self.slots.get(id) {
-            Some(session) => session.is_over(),
-            None => false,
-        }
-    }
-
-    /// Whether the session is noted as still: it may be fed, and nothing is queued, pending or over. It
-    /// looks at the note alone.
-    fn is_still(&self, id: SessionId) -> bool
-        ensures still { result ≡ true → is_still_of (find self.now.slots id) ≡ true }
-    {
-        match self.idle.get(id.slot) {
-            Some(Some(generation)) => *generation == id.generation,
-            _ => false,
-        }
+        self.activity(id).is_over
     }
 }

@@ -1,11 +1,11 @@
 //! A round of works.
 
-ghost use Rattle.std.specs.Prelude.{◌≡◌, ◌≤◌, ◌<◌, ◌+◌, ◌-◌, ◌^◌, IfSome, IfNone, IsSome, [], drop, length};
+ghost use Rattle.std.specs.Prelude.{◌≡◌, ◌≤◌, ◌<◌, ◌+◌, ◌-◌, ◌^◌, IfSome, IfNone, IsSome, [], drop};
 ghost use Rattle.session_slots.specs.Slots.{find};
 ghost use Rattle.host_core.specs.Bestmoves.{bestmove_count};
 ghost use Rattle.host_core.specs.ById.{queued_of};
 ghost use Rattle.host_core.specs.Rounds.{pending_from, CountsRound, MakesRound, PassesSlot};
-ghost use Rattle.host_core.specs.Still.{AreSettled, IsNext};
+ghost use Rattle.host_core.specs.Notes.{AreSettled, IsNext};
 
 use crate::bestmoves::bestmove_count;
 use crate::host::Host;
@@ -110,17 +110,17 @@ impl<S: BuildHasher, A: Allocator + Copy> Host<S, A> {
         ensures not_last { IfSome result (λ id. id.slot < 2 ^ 64 - 1) }
         ensures if_none { IfNone result (pending_from from (drop from self.now.slots.slots) ≡ []) }
     {
-        let first = self.past_still(from);
+        let first = self.past_settled(from);
         self.slots.next_open(first.checked_sub(1))
     }
 
-    /// The first slot from this one on whose session is not noted as still.
-    fn past_still(&self, from: usize) -> usize
+    /// The first slot from this one on whose session is noted as pending, or that has no note.
+    fn past_settled(&self, from: usize) -> usize
         ensures on { from ≤ result }
         ensures passed { AreSettled from result self.now.slots.slots }
     {
         let mut slot = from;
-        while slot < self.idle.len() && self.idle[slot].is_some() {
+        while slot < self.notes.len() && !self.notes[slot].activity.is_pending {
             slot += 1;
         }
         slot

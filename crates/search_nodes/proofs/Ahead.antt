@@ -36,7 +36,6 @@ use Rattle.shogi_eval.specs.Losses.{LosesAtMost}
 use Rattle.search_nodes.specs.Frames.{standing_codes}
 use Rattle.search_nodes.specs.Threats.{IsAttacked, TakesAfter}
 use Rattle.minimax.specs.Minimax.{value, worth, ended, negated, if_no_move_else, lost_value, greatest_or}
-use Rattle.minimax.specs.Window.{move_alpha}
 use Rattle.minimax.proofs.Greatest.{greatest_or-above}
 use Rattle.minimax.proofs.MinimaxLaws.{value-leaf, value-suc, worth_plain}
 use Rattle.minimax.proofs.Valid.{after_valid, board_of, drop_of}
@@ -235,12 +234,3 @@ pub worth_under_threat : (p : Shogi) (e : Eval) (d gain : ℕ) (m : Move) → mo
 worth_under_threat p e d gain m back last least =
     let one : d - 1 ≡ 1 = omega arith in
     subst (λ (n : ℕ). worth p e n (code_of m) ≤ℤ negated (material_of (after p m) e +ℤ pos gain)) (sym one) (worth_below p e m (material_of (after p m) e +ℤ pos gain) back least)
-
--- what is below in a frame is below in another that differs in nothing that it speaks of
-pub still_below : (p p' : Shogi) (e e' : Eval) (d d' : ℕ) (v v' : ℤ) (b b' : Option ℕ) (m : ℕ) → p' ≡ p → e' ≡ e → d' ≡ d → v' ≡ v → b' ≡ b → worth p e (d - 1) m ≤ℤ move_alpha v b m → worth p' e' (d' - 1) m ≤ℤ move_alpha v' b' m
-still_below p p' e e' d d' v v' b b' m ps es ds vs bs h =
-    subst (λ (x : Shogi). worth x e' (d' - 1) m ≤ℤ move_alpha v' b' m) (sym ps)
-    (subst (λ (x : Eval). worth p x (d' - 1) m ≤ℤ move_alpha v' b' m) (sym es)
-    (subst (λ (x : ℕ). worth p e (x - 1) m ≤ℤ move_alpha v' b' m) (sym ds)
-    (subst (λ (x : ℤ). worth p e (d - 1) m ≤ℤ move_alpha x b' m) (sym vs)
-    (subst (λ (x : Option ℕ). worth p e (d - 1) m ≤ℤ move_alpha v x m) (sym bs) h))))

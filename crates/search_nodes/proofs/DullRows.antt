@@ -1,7 +1,7 @@
 -- Dull moves that are passed in a row.
-use Rattle.std.proofs.Common.{◌≡◌, ◌≤◌, ◌<◌, ◌+◌, ◌-◌, ◌*◌, ◌/◌, ◌%◌, ◌⊎◌, ◌≤ℤ◌, ℕ, ℤ, true, false, bit_and, bit_or, ◌^◌, None, Some, Option, refl, sym, ap, subst, ◌∙◌, arith, inl, inr}
+use Rattle.std.proofs.Common.{◌≡◌, ◌≤◌, ◌<◌, ◌+◌, ◌-◌, ◌*◌, ◌/◌, ◌%◌, ◌≤ℤ◌, ℕ, ℤ, true, false, bit_and, bit_or, ◌^◌, None, Some, Option, refl, sym, ap, subst, ◌∙◌, arith, inl, inr}
 use Rattle.std.specs.Prelude.{is_some, not}
-use Rattle.std.proofs.lemmas.Bool.{and_parts, both_ways, or_parts, true_from_ne_false}
+use Rattle.std.proofs.lemmas.Bool.{and_parts, both_ways, or_parts}
 use Rattle.std.proofs.lemmas.Int.{ints}
 use Rattle.shogi_core.specs.declared.moves.Move.{Move}
 use Rattle.shogi_core.specs.declared.moves.Move.TheVariants.{Board, Drop}
@@ -31,8 +31,8 @@ use Rattle.search_nodes.specs.declared.frame.NodeState.TheVariants.{Expanding}
 use Rattle.search_nodes.specs.declared.move_picker.MovePicker.{MovePicker}
 use Rattle.search_nodes.specs.Frames.{PrunesDull, worth_of}
 use Rattle.search_nodes.specs.Order.{IsDullFrom, todo}
-use Rattle.search_nodes.specs.Visits.{IsKnownWhile, moves_at}
-use Rattle.search_nodes.proofs.Passed.{covered_passed, known_next, next_known, threshold_rises}
+use Rattle.search_nodes.specs.Visits.{IsKnownWhile}
+use Rattle.search_nodes.proofs.Passed.{skipped_known, threshold_rises}
 
 bare : (cell : Option Piece) → not (is_some cell) ≡ true → cell ≡ None
 bare None e = refl
@@ -106,11 +106,10 @@ deep f (inr four) = omega (arith, four.0)
 -- dull moves that are passed leave what is known
 pub dull_known : (f : Frame) (d : DullMoves) (first : ℕ) (picker : MovePicker) → f.state ≡ Expanding → PrunesDull f → AreDull f.node.position f.node.eval d → d.most ≤ℤ move_alpha f.best_value (code_at f.best_move) first
     → IsSkipped (IsDullFrom f.node.position d first) (todo f.node.position f.picker) (todo f.node.position picker) → IsKnownWhile f.node.position f.node.eval f.depth f.alpha f.beta f.best_value (code_at f.best_move) (todo f.node.position picker) f.state
-dull_known f d first picker next there dull low passed = next_known _ _ _ _ _ _ _ _ _ next
-    (covered_passed (worth f.node.position f.node.eval (f.depth - 1)) (IsDullFrom f.node.position d first) (moves_at f.node.position f.depth) _ _ f.alpha f.best_value (code_at f.best_move) passed
+dull_known f d first picker next there dull low passed = skipped_known f (IsDullFrom f.node.position d first) picker next
     (λ c is. (
     let most : worth_of f is.move ≤ℤ d.most = worth_there f is.move d.most there (dull is.move is.on_board is.among is.quiet is.legal) in
     let same : worth f.node.position f.node.eval (f.depth - 1) c ≡ worth_of f is.move = ap (worth f.node.position f.node.eval (f.depth - 1)) is.is in
     let up : move_alpha f.best_value (code_at f.best_move) first ≤ℤ move_alpha f.best_value (code_at f.best_move) c = threshold_rises f.best_value (code_at f.best_move) first c is.above in
     omega (arith, ints, most, same, up, low)))
-    (known_next _ _ _ _ _ _ _ _ _ next f.known))
+    passed

@@ -7,4 +7,5 @@ pub mod Ahead
 pub mod Passed
 pub mod Passing
 pub mod Rows
+pub mod AskedMoves
 pub mod DullRows

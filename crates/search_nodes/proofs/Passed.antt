@@ -1,7 +1,7 @@
 -- Moves that are passed in a row.
 use Rattle.std.proofs.Common.{◌≡◌, ◌≢◌, ◌<◌, ◌≤◌, ◌+◌, ◌-◌, ◌*◌, ℕ, ℤ, ◌≤ℤ◌, ◌<ℤ◌, List, [], ◌∷◌, true, inl, inr, Bool, Option, Some, None, refl, sym, ap, ◌∙◌, arith, subst, ◌/◌, ◌%◌, ◌+ℤ◌, false, pos, ◌-ℤ◌}
 use Rattle.std.specs.Prelude.{not, is_some}
-use Rattle.std.proofs.lemmas.Bool.{and_parts, both_ways, cases_eq}
+use Rattle.std.proofs.lemmas.Bool.{and_parts, cases_eq}
 use Rattle.std.proofs.lemmas.Int.{ints}
 use Rattle.std.proofs.lemmas.Bool.Decides.{nat_tests}
 use Rattle.shogi_core.specs.declared.moves.TheConstants.{FIRST_DROP, SQUARE_CODES}
@@ -17,15 +17,12 @@ use Rattle.shogi_core.specs.declared.piece.Role.TheVariants.{King, Pawn, Lance, 
 use Rattle.shogi_core.specs.Codes.{move_of, code_of}
 use Rattle.shogi_core.specs.Pieces.{kind_number, opponent_of, promoted}
 use Rattle.shogi_core.specs.Position.{Shogi}
-use Rattle.shogi_core.specs.Same.{role_number}
 use Rattle.shogi_core.specs.Validity.{IsValid}
-use Rattle.shogi_core.proofs.BitLaws.{has_bit-none}
 use Rattle.shogi_core.proofs.CodesBack.{move_of-board, move_of-drop}
 use Rattle.shogi_moves.specs.After.{after, after_code}
 use Rattle.shogi_moves.specs.Legal.{is_legal}
 use Rattle.shogi_moves.specs.Captures.{is_matching}
 use Rattle.shogi_replies.specs.declared.move_filter.MoveFilter.{MoveFilter}
-use Rattle.shogi_replies.specs.declared.move_filter.TheConstants.{ALL_ROLES}
 use Rattle.shogi_replies.specs.Passes.{IsGuaranteedMove, IsGuaranteedDrop, IsSkipped, LeavesReply}
 use Rattle.shogi_replies.specs.ReplyInfo.{GuaranteesReply, quiet_codes}
 use Rattle.shogi_moves.proofs.DestinationLaws.{matching_move}
@@ -33,7 +30,7 @@ use Rattle.shogi_moves.proofs.LegalLaws.{is_legal_code_of, after_code_of}
 use Rattle.shogi_eval.specs.declared.eval.Eval.{Eval}
 use Rattle.shogi_eval.specs.Material.{material_of, taken_gain, promotion_gain, value_of}
 use Rattle.shogi_eval.proofs.Gains.{material_at_board}
-use Rattle.search_nodes.specs.Frames.{DropsFailLow, DropFailsLow, LeavesAtLeast, MovesLeave, PromotesWithin}
+use Rattle.search_nodes.specs.Frames.{DropFailsLow, LeavesAtLeast, MovesLeave}
 use Rattle.minimax.specs.Minimax.{value, worth, negated, sum_of_tree_sizes}
 use Rattle.minimax.specs.Window.{move_alpha, code_at, IsCovered}
 use Rattle.search_nodes.specs.Order.{todo}
@@ -126,18 +123,9 @@ most_of_role PromotedSilver = omega arith
 most_of_role Horse = omega arith
 most_of_role Dragon = omega arith
 
--- so with each piece of such a role
-promotes : (roles gain most : ℕ) → gain ≤ most → ((role : Role) → has_bit roles (role_number role) ≡ true → value_of (promoted role) - value_of role ≤ gain) → PromotesWithin most roles
-promotes roles gain most least each None e = absurd (cc)
-promotes roles gain most least each (Some piece) e = omega (arith, least, each piece.role e)
-
-pub all_within : (most : ℕ) → PROMOTION_GAIN_MAX ≤ most → PromotesWithin most ALL_ROLES
-all_within most least = promotes ALL_ROLES PROMOTION_GAIN_MAX most least (λ role e. most_of_role role)
-
-pub none_within : (most : ℕ) → PromotesWithin most 0
-none_within most = promotes 0 0 most (omega arith) (λ role e. absurd (both_ways _ (has_bit-none (role_number role)) e))
-
-pub ruleset promoting = (all_within, none_within)
+promotion_within : (cell : Option Piece) → promotion_gain true cell ≤ PROMOTION_GAIN_MAX
+promotion_within None = omega arith
+promotion_within (Some piece) = omega (arith, most_of_role piece.role)
 
 no_promotion : (cell : Option Piece) → promotion_gain false cell ≡ 0
 no_promotion None = refl
@@ -166,7 +154,7 @@ quiet_at f move_filter first c most from to promote loss last leave k from_fits 
     let worth_most : _ = gain_worth f.node.position f.node.eval f.depth c from to promote loss f.valid last from_fits to_fits is parts.0 (leave from to promote from_fits to_fits piece set parts.0 guaranteed) in
     omega (arith, ints, worth_most, nothing_taken f.node.eval (piece_at f.node.position.cells to) parts.1, more)
 
-quiet_worth : (f : Frame) (move_filter : MoveFilter) (first c most : ℕ) (loss : ℤ) → f.depth ≡ 2 → MovesLeave f loss move_filter.pieces.bits move_filter.squares.bits move_filter.escapes.bits → PromotesWithin most move_filter.promoting → IsGuaranteedMove f.node.position false move_filter first c
+quiet_worth : (f : Frame) (move_filter : MoveFilter) (first c most : ℕ) (loss : ℤ) → f.depth ≡ 2 → MovesLeave f loss move_filter.pieces.bits move_filter.squares.bits move_filter.escapes.bits → (move_filter.promotes ≡ true → PROMOTION_GAIN_MAX ≤ most) → IsGuaranteedMove f.node.position false move_filter first c
     → worth f.node.position f.node.eval (f.depth - 1) c ≤ℤ (material_of f.node.position f.node.eval +ℤ pos most +ℤ loss)
 quiet_worth f move_filter first c most loss last leave within k =
     let from : ℕ = c / SQUARE_CODES in
@@ -177,7 +165,7 @@ quiet_worth f move_filter first c most loss last leave within k =
       | inl even ↦ (
           let none : promotion_gain false (piece_at f.node.position.cells from) ≡ 0 = no_promotion (piece_at f.node.position.cells from) in
           quiet_at f move_filter first c most from to false loss last leave k from_fits to_fits (omega (arith, even)) k.piece k.end (omega (arith, none)))
-      | inr odd ↦ quiet_at f move_filter first c most from to true loss last leave k from_fits to_fits (omega (arith, odd)) k.piece k.end (within (piece_at f.node.position.cells from) (k.promoting (omega (arith, odd))))
+      | inr odd ↦ quiet_at f move_filter first c most from to true loss last leave k from_fits to_fits (omega (arith, odd)) k.piece k.end (omega (arith, within (k.promotes (omega (arith, odd))), promotion_within (piece_at f.node.position.cells from)))
     ]
 
 -- what is known of a node that waits for nothing
@@ -187,21 +175,18 @@ known_next p e d alpha beta best_value b codes w next k = subst (λ (x : NodeSta
 pub next_known : (p : Shogi) (e : Eval) (d : ℕ) (alpha beta best_value : ℤ) (b : Option ℕ) (codes : List ℕ) (w : NodeState) → w ≡ Expanding → IsCovered (worth p e (d - 1)) (moves_at p d) codes alpha best_value b → IsKnownWhile p e d alpha beta best_value b codes w
 next_known p e d alpha beta best_value b codes w next k = subst (λ (x : NodeState). IsKnownWhile p e d alpha beta best_value b codes x) (sym next) k
 
--- drops of one kind, each of which is lost
-pub drops_covered : (f : Frame) (kind : Kind) (squares escapes first : ℕ) (codes left : List ℕ) → DropsFailLow f kind squares escapes first → IsSkipped (IsGuaranteedDrop f.node.position kind squares escapes first) codes left
-    → IsCovered (worth f.node.position f.node.eval (f.depth - 1)) (moves_at f.node.position f.depth) codes f.alpha f.best_value (code_at f.best_move) → IsCovered (worth f.node.position f.node.eval (f.depth - 1)) (moves_at f.node.position f.depth) left f.alpha f.best_value (code_at f.best_move)
-drops_covered f kind squares escapes first codes left lost passed k = covered_passed (worth f.node.position f.node.eval (f.depth - 1)) (IsGuaranteedDrop f.node.position kind squares escapes first) (moves_at f.node.position f.depth) codes left f.alpha f.best_value (code_at f.best_move) passed lost k
-
--- and moves on the board that take nothing
-pub quiets_covered : (f : Frame) (move_filter : MoveFilter) (first most : ℕ) (loss : ℤ) (codes left : List ℕ) → f.depth ≡ 2 → MovesLeave f loss move_filter.pieces.bits move_filter.squares.bits move_filter.escapes.bits → PromotesWithin most move_filter.promoting → (material_of f.node.position f.node.eval +ℤ pos most +ℤ loss) ≤ℤ move_alpha f.best_value (code_at f.best_move) first → IsSkipped (IsGuaranteedMove f.node.position false move_filter first) codes left
-    → IsCovered (worth f.node.position f.node.eval (f.depth - 1)) (moves_at f.node.position f.depth) codes f.alpha f.best_value (code_at f.best_move) → IsCovered (worth f.node.position f.node.eval (f.depth - 1)) (moves_at f.node.position f.depth) left f.alpha f.best_value (code_at f.best_move)
-quiets_covered f move_filter first most loss codes left last leave within low passed k =
-    covered_passed (worth f.node.position f.node.eval (f.depth - 1)) (IsGuaranteedMove f.node.position false move_filter first) (moves_at f.node.position f.depth) codes left f.alpha f.best_value (code_at f.best_move) passed
-    (λ c is.
+-- moves on the board that take nothing are lost by what they leave
+pub quiets_lost : (f : Frame) (move_filter : MoveFilter) (first most : ℕ) (loss : ℤ) → f.depth ≡ 2 → MovesLeave f loss move_filter.pieces.bits move_filter.squares.bits move_filter.escapes.bits → (move_filter.promotes ≡ true → PROMOTION_GAIN_MAX ≤ most) → (material_of f.node.position f.node.eval +ℤ pos most +ℤ loss) ≤ℤ move_alpha f.best_value (code_at f.best_move) first
+    → (c : ℕ) → IsGuaranteedMove f.node.position false move_filter first c → worth f.node.position f.node.eval (f.depth - 1) c ≤ℤ move_alpha f.best_value (code_at f.best_move) c
+quiets_lost f move_filter first most loss last leave within low = λ c is.
     let worth_most : worth f.node.position f.node.eval (f.depth - 1) c ≤ℤ (material_of f.node.position f.node.eval +ℤ pos most +ℤ loss) = quiet_worth f move_filter first c most loss last leave within is in
     let up : move_alpha f.best_value (code_at f.best_move) first ≤ℤ move_alpha f.best_value (code_at f.best_move) c = threshold_rises f.best_value (code_at f.best_move) first c is.above in
-    omega (arith, ints, worth_most, up, low))
-    k
+    omega (arith, ints, worth_most, up, low)
+
+-- where moves are skipped that are lost, what is known stays
+pub skipped_known : (f : Frame) (fact : ℕ → Type 0) (picker : MovePicker) → f.state ≡ Expanding → ((c : ℕ) → fact c → worth f.node.position f.node.eval (f.depth - 1) c ≤ℤ move_alpha f.best_value (code_at f.best_move) c) → IsSkipped fact (todo f.node.position f.picker) (todo f.node.position picker)
+    → IsKnownWhile f.node.position f.node.eval f.depth f.alpha f.beta f.best_value (code_at f.best_move) (todo f.node.position picker) f.state
+skipped_known f fact picker next lost passed = next_known _ _ _ _ _ _ _ _ _ next (covered_passed (worth f.node.position f.node.eval (f.depth - 1)) fact (moves_at f.node.position f.depth) _ _ f.alpha f.best_value (code_at f.best_move) passed lost (known_next _ _ _ _ _ _ _ _ _ next f.known))
 
 -- so what is left does not grow
 pub left_passed : (f : Frame) (picker : MovePicker) (fact : ℕ → Type 0) → IsSkipped fact (todo f.node.position f.picker) (todo f.node.position picker)

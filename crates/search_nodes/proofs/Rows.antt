@@ -1,5 +1,5 @@
 -- Moves that are passed in a row since a threat stands after them.
-use Rattle.std.proofs.Common.{◌≡◌, ◌≢◌, ◌≤◌, ◌+◌, ◌-◌, ◌*◌, ℕ, ℤ, pos, ◌-ℤ◌, ◌+ℤ◌, ◌≤ℤ◌, List, ◌∷◌, Option, Bool, true, false, refl, sym, ap, ◌∙◌, arith, subst, inl, inr, bit_or}
+use Rattle.std.proofs.Common.{◌≡◌, ◌≢◌, ◌≤◌, ◌+◌, ◌-◌, ◌*◌, ℕ, ℤ, pos, ◌-ℤ◌, ◌≤ℤ◌, List, ◌∷◌, Option, Bool, true, false, refl, sym, ap, ◌∙◌, arith, subst, inl, inr, bit_or}
 use Rattle.std.proofs.lemmas.Bool.{both_ways, or_cases}
 use Rattle.std.proofs.Props.{props}
 use Rattle.std.proofs.Math.Logic.{∥∥₁_elim}
@@ -17,19 +17,19 @@ use Rattle.shogi_core.proofs.BitLaws.{has_bit-none, has_bit-or}
 use Rattle.shogi_core.proofs.CodesBack.{move_of-board, move_of-drop}
 use Rattle.shogi_moves.specs.After.{after, after_code, dropped}
 use Rattle.shogi_moves.specs.Escapes.{AreEscapes}
-use Rattle.shogi_replies.specs.declared.move_filter.MoveFilter.{MoveFilter}
-use Rattle.shogi_replies.specs.Passes.{IsGuaranteedDrop, IsGuaranteedMove, IsSkipped}
 use Rattle.shogi_replies.proofs.ThreatLaws.{retake_drop, retake_unchecked, threat_board, threat_drop}
 use Rattle.shogi_eval.specs.Evaluated.{Evaluated}
-use Rattle.shogi_eval.specs.Material.{material_of, taken_gain}
+use Rattle.shogi_eval.specs.Material.{taken_gain}
 use Rattle.minimax.specs.Minimax.{sum_of_tree_sizes, worth}
 use Rattle.minimax.specs.Window.{IsCovered, code_at, move_alpha}
 use Rattle.search_nodes.specs.declared.frame.Frame.{Frame}
 use Rattle.search_nodes.specs.declared.frame.NodeState.TheVariants.{AwaitingChild, Expanding}
 use Rattle.search_nodes.specs.declared.move_picker.MovePicker.{MovePicker}
+use Rattle.search_nodes.specs.declared.reply_cache.ReplyCache.{ReplyCache}
+use Rattle.search_nodes.specs.ReplyCache.{IsPreFrontier, IsReplyCacheOf}
 use Rattle.search_nodes.specs.declared.threat.Threat.{Threat}
 use Rattle.search_nodes.specs.declared.threat.Threats.{Threats}
-use Rattle.search_nodes.specs.Frames.{DropsFailLow, DropFailsLow, IsLost, LeavesAtLeast, MovesLeave, PromotesWithin, RepliesLoseAtMost, move_alpha_of, worth_of}
+use Rattle.search_nodes.specs.Frames.{DropsFailLow, DropFailsLow, IsLost, LeavesAtLeast, MovesLeave, RepliesLoseAtMost, move_alpha_of, worth_of}
 use Rattle.search_nodes.specs.Order.{todo}
 use Rattle.search_nodes.specs.Changes.{IsSame, KeepsMoves, PrunesFiltered, left_of_frame, steps_after}
 use Rattle.search_nodes.specs.Threats.{AreNonInterfering, AreThreatsIn, IsAttacked, IsThreatIn, TakesAfter}
@@ -37,22 +37,11 @@ use Rattle.search_nodes.specs.Visits.{IsKnownWhile, moves_at}
 use Rattle.minimax.proofs.MinimaxLaws.{sum_of_tree_sizes-next}
 use Rattle.shogi_eval.specs.Exchange.{resolves_captures}
 use Rattle.search_nodes.proofs.Ahead.{material_left, retake_gain, standing_quiet, threat_gain, threat_left}
-use Rattle.search_nodes.proofs.Passing.{left_kept}
-use Rattle.search_nodes.proofs.Passed.{IsDropAt, IsWithin, drop_at, drop_worth, drops_covered, known_next, next_known, quiets_covered, threshold_within}
+use Rattle.search_nodes.proofs.Passed.{IsDropAt, IsWithin, drop_at, drop_worth, known_next, threshold_within}
 
 -- what is known of the threshold of a node of depth 2 that waits for nothing
 pub within_of : (f : Frame) (first : ℕ) → f.state ≡ Expanding → f.depth ≡ 2 → IsWithin f.best_value × IsWithin (move_alpha f.best_value (code_at f.best_move) first)
 within_of f first next last = threshold_within _ _ _ _ _ _ _ _ first f.valid f.shallow (omega (arith, last)) f.least f.open f.most (known_next _ _ _ _ _ _ _ _ _ next f.known)
-
--- a row of moves that take nothing leaves what is known
-pub row_known : (f : Frame) (move_filter : MoveFilter) (first most : ℕ) (loss : ℤ) (picker : MovePicker) → f.state ≡ Expanding → f.depth ≡ 2 → MovesLeave f loss move_filter.pieces.bits move_filter.squares.bits move_filter.escapes.bits → PromotesWithin most move_filter.promoting → (material_of f.node.position f.node.eval +ℤ pos most +ℤ loss) ≤ℤ move_alpha f.best_value (code_at f.best_move) first
-    → IsSkipped (IsGuaranteedMove f.node.position false move_filter first) (todo f.node.position f.picker) (todo f.node.position picker) → IsKnownWhile f.node.position f.node.eval f.depth f.alpha f.beta f.best_value (code_at f.best_move) (todo f.node.position picker) f.state
-row_known f move_filter first most loss picker next last leave within low passed = next_known _ _ _ _ _ _ _ _ _ next (quiets_covered f move_filter first most loss _ _ last leave within low passed (known_next _ _ _ _ _ _ _ _ _ next f.known))
-
--- and so does one of drops
-pub drops_known : (f : Frame) (kind : Kind) (squares escapes first : ℕ) (picker : MovePicker) → f.state ≡ Expanding → DropsFailLow f kind squares escapes first
-    → IsSkipped (IsGuaranteedDrop f.node.position kind squares escapes first) (todo f.node.position f.picker) (todo f.node.position picker) → IsKnownWhile f.node.position f.node.eval f.depth f.alpha f.beta f.best_value (code_at f.best_move) (todo f.node.position picker) f.state
-drops_known f kind squares escapes first picker next lost passed = next_known _ _ _ _ _ _ _ _ _ next (drops_covered f kind squares escapes first _ _ lost passed (known_next _ _ _ _ _ _ _ _ _ next f.known))
 
 -- moves that leave a reply leave the other side its material, less what a reply may lose
 pub material_leaves : (f : Frame) (loss : ℤ) (pieces squares escapes : ℕ) → pos 0 ≤ℤ loss → RepliesLoseAtMost f loss → MovesLeave f loss pieces squares escapes
@@ -103,8 +92,8 @@ taken_drops f plain threats loss kind gain first last are value gains short = λ
     let at : _ = drop_at f.node.position kind threats.takes.bits 0 first code guaranteed in
     drop_worth f kind threats.takes.bits 0 first code _ loss last short guaranteed.above at (drop_retaken f plain loss kind gain threats.takes.bits code _ value gains (are.takes _ at.fits at.set) at)
 
-pub no_drops : (f : Frame) (kind : Kind) (escapes first : ℕ) → DropsFailLow f kind 0 escapes first
-no_drops f kind escapes first = λ code guaranteed. absurd (both_ways (has_bit 0 (code - FIRST_DROP - kind_number kind * 81)) (has_bit-none (code - FIRST_DROP - kind_number kind * 81)) guaranteed.among)
+pub no_drops : (f : Frame) (kind : Kind) (squares escapes first : ℕ) → squares ≡ 0 → DropsFailLow f kind squares escapes first
+no_drops f kind squares escapes first none = λ code guaranteed. absurd (both_ways (has_bit 0 (code - FIRST_DROP - kind_number kind * 81)) (has_bit-none (code - FIRST_DROP - kind_number kind * 81)) (subst (λ (mask : ℕ). has_bit mask (code - FIRST_DROP - kind_number kind * 81) ≡ true) none guaranteed.among))
 
 -- on squares of two masks
 pub drops_of_either : (f : Frame) (kind : Kind) (a b escapes first : ℕ) → DropsFailLow f kind a escapes first → DropsFailLow f kind b escapes first → DropsFailLow f kind (bit_or a b) escapes first
@@ -121,8 +110,9 @@ no_escapes p = λ k e hk king he among. absurd (both_ways (has_bit 0 e) (has_bit
 pub same_again : (f g h : Frame) → IsSame f g → IsSame g h → IsSame f h
 same_again f g h s t = (t.0 ∙ s.0, (t.1.0 ∙ s.1.0, (t.1.1.0 ∙ s.1.1.0, t.1.1.1 ∙ s.1.1.1)))
 
-pub kept_again : (f g h : Frame) → KeepsMoves f g → KeepsMoves g h → KeepsMoves f h
-kept_again f g h s t = (same_again f g h s.0 t.0, (t.1.0 ∙ s.1.0, (t.1.1.0 ∙ s.1.1.0, (t.1.1.1.0 ∙ s.1.1.1.0, t.1.1.1.1 ∙ s.1.1.1.1))))
+-- what was found of a node is true of a frame in the same place
+pub same_at : (f g : Frame) (cache : ReplyCache) → IsSame f g → IsPreFrontier f cache → IsPreFrontier g cache
+same_at f g cache s at = (s.1.0 ∙ at.0, subst (λ (n : Evaluated). IsReplyCacheOf n cache) (sym s.0) at.1)
 
 -- a move that is lost is lost in a frame that keeps the moves
 pub lost_kept : (f g : Frame) (m : Move) → KeepsMoves f g → IsLost f m → IsLost g m
@@ -145,13 +135,10 @@ asked_known f m picker next codes =
     codes (known_next _ _ _ _ _ _ _ _ _ next f.known)
 
 -- the same moves are still to be visited
-pub turned_known : (f : Frame) (picker : MovePicker) → f.state ≡ Expanding
-    → todo f.node.position picker ≡ todo f.node.position f.picker
+pub turned_known : (f : Frame) (picker : MovePicker) → todo f.node.position picker ≡ todo f.node.position f.picker
     → IsKnownWhile f.node.position f.node.eval f.depth f.alpha f.beta f.best_value (code_at f.best_move) (todo f.node.position picker) f.state
-turned_known f picker next codes =
-    next_known _ _ _ _ _ _ _ _ _ next
-    (subst (λ (xs : List ℕ). IsCovered (worth f.node.position f.node.eval (f.depth - 1)) (moves_at f.node.position f.depth) xs f.alpha f.best_value (code_at f.best_move))
-    (sym codes) (known_next _ _ _ _ _ _ _ _ _ next f.known))
+turned_known f picker codes =
+    subst (λ (xs : List ℕ). IsKnownWhile f.node.position f.node.eval f.depth f.alpha f.beta f.best_value (code_at f.best_move) xs f.state) (sym codes) f.known
 
 -- and as much is left
 pub turned_left : (f : Frame) (picker : MovePicker) → todo f.node.position picker ≡ todo f.node.position f.picker
@@ -164,15 +151,5 @@ pub asked_left : (f : Frame) (m : Move) (picker : MovePicker)
     → steps_after f m + (1 + 2 * sum_of_tree_sizes f.node.position (f.depth - 1) (todo f.node.position picker)) ≤ left_of_frame f
 asked_left f m picker codes = omega (arith, sum_of_tree_sizes-next f.node.position (f.depth - 1) (code_of m) (after_code f.node.position (code_of m)) (todo f.node.position f.picker) (todo f.node.position picker) refl codes)
 
--- where nothing changes, nothing is passed
-pub nothing_pruned : (f : Frame) → f.state ≡ Expanding → PrunesFiltered f f
-nothing_pruned f next = ((refl, (refl, (refl, refl))), (next, omega arith))
-
-pub kept_prunes : (f g : Frame) → f.state ≡ Expanding → KeepsMoves f g → PrunesFiltered f g
-kept_prunes f g next k = (k.0, (k.1.1.0 ∙ next, omega (arith, left_kept f g k.0 k.1.0)))
-
-pub prunes_after : (f g h : Frame) → KeepsMoves f g → PrunesFiltered g h → PrunesFiltered f h
-prunes_after f g h k r = (same_again f g h k.0 r.0, (r.1.0, omega (arith, r.1.1, left_kept f g k.0 k.1.0)))
-
 pub prunes_again : (f g h : Frame) → PrunesFiltered f g → PrunesFiltered g h → PrunesFiltered f h
-prunes_again f g h r s = (same_again f g h r.0 s.0, (s.1.0, omega (arith, r.1.1, s.1.1)))
+prunes_again f g h r s = (same_again f g h r.0 s.0, (s.1.0 ∙ r.1.0, omega (arith, r.1.1, s.1.1)))

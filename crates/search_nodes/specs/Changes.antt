@@ -78,4 +78,4 @@ EndsVisit old new =
 abbrev pub PrunesFiltered : Frame → Frame → Type 0
 PrunesFiltered old new =
     IsSame old new
-    × ((new.state ≡ Expanding) × (left_of_frame new ≤ left_of_frame old))
+    × ((new.state ≡ old.state) × (left_of_frame new ≤ left_of_frame old))

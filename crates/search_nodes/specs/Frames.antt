@@ -1,9 +1,8 @@
 -- What clauses say of a node on the stack and of a move of it (own choice).
-use Rattle.std.specs.Prelude.{◌≡◌, ◌≢◌, ◌≤◌, ◌<◌, ◌⊎◌, ℕ, ◌-◌, ℤ, ◌-ℤ◌, ◌≤ℤ◌, List, [], Bool, true, false, Option, Some, cond, nat_lt}
+use Rattle.std.specs.Prelude.{◌≡◌, ◌≢◌, ◌<◌, ◌⊎◌, ℕ, ◌-◌, ℤ, ◌-ℤ◌, ◌≤ℤ◌, pos, List, [], Bool, true, false, Option, Some, cond, nat_lt}
 use Rattle.shogi_core.specs.declared.moves.Move.{Move}
 use Rattle.shogi_core.specs.declared.moves.Move.TheVariants.{Board, Drop}
 use Rattle.shogi_core.specs.declared.piece.Kind.{Kind}
-use Rattle.shogi_core.specs.declared.piece.Piece.{Piece}
 use Rattle.shogi_core.specs.Bits.{has_bit}
 use Rattle.shogi_core.specs.Codes.{code_of}
 use Rattle.shogi_core.specs.Pieces.{opponent_of}
@@ -11,8 +10,10 @@ use Rattle.shogi_core.specs.Position.{Shogi}
 use Rattle.shogi_moves.specs.After.{after, after_code}
 use Rattle.shogi_moves.specs.Legal.{is_legal}
 use Rattle.shogi_moves.specs.LegalMoves.{legal_codes}
-use Rattle.shogi_replies.specs.Passes.{IsGuaranteedDrop}
-use Rattle.shogi_replies.specs.ReplyInfo.{GuaranteesReply, lets_promote, quiet_codes}
+use Rattle.shogi_moves.specs.Escapes.{AreEscapes}
+use Rattle.shogi_replies.specs.declared.move_filter.MoveFilter.{MoveFilter}
+use Rattle.shogi_replies.specs.Passes.{IsGuaranteedDrop, IsGuaranteedMove}
+use Rattle.shogi_replies.specs.ReplyInfo.{GuaranteesReply, quiet_codes}
 use Rattle.shogi_replies.specs.Threats.{IsTaken, KeepsThreats, MayRetake}
 use Rattle.dull_moves.specs.declared.moves.DullMoves.{DullMoves}
 use Rattle.search_nodes.specs.declared.frame.Frame.{Frame}
@@ -21,7 +22,7 @@ use Rattle.minimax.specs.Entries.{IsConclusive}
 use Rattle.shogi_eval.specs.declared.eval.Eval.{Eval}
 use Rattle.shogi_eval.specs.Exchange.{resolves_captures}
 use Rattle.shogi_eval.specs.Losses.{LosesAtMost}
-use Rattle.shogi_eval.specs.Material.{material_of, promotion_gain}
+use Rattle.shogi_eval.specs.Material.{material_of}
 use Rattle.minimax.specs.Minimax.{value, worth, IsTrueEntry, negated}
 use Rattle.search_nodes.specs.PriorityMoves.{with_each, with_some}
 use Rattle.search_nodes.specs.Order.{todo}
@@ -80,9 +81,10 @@ HasReply f m = standing_codes (after f.node.position m) f.node.eval ≢ []
 abbrev pub IsLostWhere : Frame → Move → Type 0
 IsLostWhere f m = KeepsThreats f.node.position m → MayRetake f.node.position m → IsLost f m
 
--- if the other side may take what the move puts on its square, that is not worth more than it has to be
+-- if the other side may take what the move puts on its square, and no captures are settled at the end, that is not worth more than it has to be
 abbrev pub FailsLowIfTaken : Frame → Move → Type 0
-FailsLowIfTaken f m = ∥ IsTaken f.node.position m ∥₁ → IsLost f m
+FailsLowIfTaken f m =
+    resolves_captures f.node.eval ≡ false → ∥ IsTaken f.node.position m ∥₁ → IsLost f m
 
 -- no drop of the other side takes more than this from its material
 abbrev pub RepliesLoseAtMost : Frame → ℤ → Type 0
@@ -117,6 +119,16 @@ DropsFailLow f kind squares escapes first = (code : ℕ)
     → IsGuaranteedDrop f.node.position kind squares escapes first code
     → worth f.node.position f.node.eval (f.depth - 1) code ≤ℤ move_alpha_at f code
 
+-- none of the quiet moves that the filter has and that guarantee a reply, from a code on, is worth more than it has to be, and the filter's escapes are some
+pub record AreFutileQuiets (f : Frame) (move_filter : MoveFilter) (first : ℕ) : Type 0 where
+  pub lost : (code : ℕ) → IsGuaranteedMove f.node.position false move_filter first code
+      → worth f.node.position f.node.eval (f.depth - 1) code ≤ℤ move_alpha_at f code
+  pub escapes : AreEscapes f.node.position move_filter.escapes.bits
+
+-- what a reply may take from the material of its side, or may add to it where that is negative
+abbrev pub IsLoss : ℤ → Type 0
+IsLoss loss = ((pos 0 -ℤ pos 4000) ≤ℤ loss) × (loss ≤ℤ pos 100)
+
 -- the killers that serve at a depth
 abbrev pub killers_at : Frame → ℕ → List ℕ
 killers_at f depth = cond (nat_lt 2 depth) f.killers []
@@ -125,11 +137,6 @@ killers_at f depth = cond (nat_lt 2 depth) f.killers []
 abbrev pub priority_moves_at : List ℕ → Option Move → Frame → ℕ → List ℕ
 priority_moves_at given hash_move f depth =
     with_each (with_some (with_some given hash_move) f.best_move) (killers_at f depth)
-
--- no promotion of a piece whose role is one of the mask gains more than this
-abbrev pub PromotesWithin : ℕ → ℕ → Type 0
-PromotesWithin most roles = (cell : Option Piece) → lets_promote roles cell ≡ true
-    → promotion_gain true cell ≤ most
 
 -- a dull move is worth no more than its bound at the node: with two plies after it, or with three where captures at the end are not settled
 abbrev pub PrunesDull : Frame → Type 0

@@ -4,4 +4,6 @@ pub mod Visits
 pub mod Frames
 pub mod Changes
 pub mod Threats
+pub mod ReplyCache
+pub mod PreFrontier
 pub mod CounterMoves

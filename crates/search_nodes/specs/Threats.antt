@@ -65,8 +65,9 @@ IsAttacked p n = (a : ℕ) × IsAttack p a n false
 abbrev pub AreAttacked : Shogi → ℕ → Type 0
 AreAttacked p mask = (n : ℕ) → n < 81 → has_bit mask n ≡ true → ∥ IsAttacked p n ∥₁
 
--- each square of the mask is attacked, and the threat is one
+-- each square of the mask is attacked, the threat is one, and no captures are settled at the end
 pub record AreThreatsIn (p : Shogi) (e : Eval) (threats : Threats) : Type 0 where
+  pub plain : resolves_captures e ≡ false
   pub takes : AreAttacked p threats.takes.bits
   pub greatest : ForSome threats.greatest (IsThreatIn p e)
 

@@ -4,28 +4,23 @@ ghost use Rattle.std.specs.Prelude.{◌≡◌, ◌≤◌, ◌<◌, ◌≤ℤ◌,
 ghost use Rattle.std.specs.Option.{ForSome};
 ghost use Rattle.std.proofs.Props.{props};
 ghost use Rattle.shogi_core.specs.Validity.{IsValid};
-ghost use Rattle.shogi_moves.specs.Escapes.{AreEscapes};
 ghost use Rattle.shogi_moves.specs.LegalMoves.{legal_codes};
-ghost use Rattle.shogi_replies.specs.ReplyInfo.{IsReplyInfo};
 ghost use Rattle.shogi_eval.specs.declared.points.TheConstants.{POINTS_MAX};
 ghost use Rattle.minimax.specs.Minimax.{value, negated};
 ghost use Rattle.minimax.specs.Entries.{IsConclusive};
 ghost use Rattle.dull_moves.specs.Dull.{AreDull};
-ghost use Rattle.search_nodes.specs.Threats.{AreSomeThreats};
 ghost use Rattle.search_nodes.specs.Order.{codes_of, IsWithinTree, IsKept, IsKept-prop};
 ghost use Rattle.search_nodes.specs.Visits.{IsKnownSoFar, known_props, IsCurrent};
 ghost use Rattle.minimax.specs.declared.bounds.TheConstants.{SEARCH_DEPTH_MAX, INFINITY, MATE};
 
 use crate::move_picker::MovePicker;
 use crate::priority_moves::{KILLERS, PriorityMoves, with_killer};
-use crate::threat::Threats;
 use crate::window::move_alpha;
 use dull_moves::DullMoves;
 use minimax::{Entry, MATE};
-use shogi_core::{Move, Squares};
+use shogi_core::Move;
 use shogi_eval::{Eval, Node};
 use shogi_moves::has_legal;
-use shogi_replies::ReplyInfo;
 
 /// What a node waits for.
 #[derive(Clone, Copy)]
@@ -44,11 +39,6 @@ pub enum NodeState {
 pub struct Frame {
     pub node: Node,
     pub picker: MovePicker,
-    pub replies: ReplyInfo,
-    /// Squares to which the other side's king may go, once they were looked for.
-    pub escapes: Option<Squares>,
-    /// Captures that the other side may make after most moves, once they were looked for.
-    pub threats: Option<Threats>,
     /// Quiet moves that one reply refutes, once a reply was found that does.
     pub dull: Option<DullMoves>,
     pub alpha: i32,
@@ -59,8 +49,6 @@ pub struct Frame {
     pub depth: u8,
     /// Set once a move was gone through and not good enough, so that some move is legal.
     pub has_move: bool,
-    /// Set once the replies are those of the position.
-    pub has_replies: bool,
     /// How many replies were tried for that.
     pub dull_tries: u8,
     /// The last of them.
@@ -75,9 +63,6 @@ pub struct Frame {
     ghost known: { IsKnownSoFar node depth alpha beta best_value best_move picker state } by { Prim.hlevel known_props },
     ghost moves: { has_move ≡ true → legal_codes node.position ≢ [] } by { Prim.hlevel props },
     ghost kept: { IsKept node.position picker } by { IsKept-prop node.position picker },
-    ghost replied: { IsReplyInfo node.position replies.king_view.bits replies.free_movers.bits } by { Prim.hlevel props },
-    ghost escaping: { ForSome escapes (λ squares. AreEscapes node.position squares.bits) } by { Prim.hlevel props },
-    ghost threatened: { AreSomeThreats node.position node.eval threats } by { Prim.hlevel props },
     ghost refuted: { ForSome dull (AreDull node.position node.eval) } by { Prim.hlevel props },
 }
 
@@ -154,10 +139,6 @@ impl Frame {
         self.has_move = false;
         self.picker = MovePicker::new(depth, priority_moves);
         self.state = NodeState::Expanding;
-        self.replies = ReplyInfo::unknown(node.as_position());
-        self.has_replies = false;
-        self.escapes = None;
-        self.threats = None;
         self.dull = None;
         self.dull_tries = 0;
         self.dull_reply = None;
@@ -344,10 +325,6 @@ impl Default for Frame {
             has_move: false,
             picker: MovePicker::Done,
             state: NodeState::Expanding,
-            replies: ReplyInfo::unknown(node.as_position()),
-            has_replies: false,
-            escapes: None,
-            threats: None,
             dull: None,
             dull_tries: 0,
             dull_reply: None,

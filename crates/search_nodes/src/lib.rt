@@ -3,15 +3,19 @@
 //! A `Frame` is a node under a window, while a search goes through its moves (`frame`). Their
 //! order is `MovePicker`: some moves first (`priority_moves`, the last of them from `counter_moves`), then
 //! captures, then the other moves, each by rising code. Moves that cannot matter are pruned in
-//! `pruning`, by the window of `window` and a `threat`. What a node is worth is `value` of
-//! `minimax`.
+//! `pruning`, by the window of `window`; two plies before the end one by one in `asked_move` and in
+//! bulk in `pre_frontier`, by a `threat` and the rest of `reply_cache`. What a node is worth is
+//! `value` of `minimax`.
 #![tactic(auto)]
 
+mod asked_move;
 mod counter_moves;
 mod frame;
 mod move_picker;
+mod pre_frontier;
 mod priority_moves;
 mod pruning;
+mod reply_cache;
 mod threat;
 mod window;
 
@@ -19,4 +23,5 @@ pub use counter_moves::CounterMoves;
 pub use frame::{Frame, NodeState, leaf};
 pub use move_picker::MovePicker;
 pub use priority_moves::PriorityMoves;
+pub use reply_cache::ReplyCache;
 pub use threat::{Threat, Threats};

@@ -10,7 +10,7 @@ ghost use Rattle.shogi_eval.specs.declared.eval.Eval.{Eval};
 ghost use Rattle.shogi_replies.specs.ReplyInfo.{Aligns, IsReplyInfo};
 ghost use Rattle.shogi_replies.specs.Threats.{IsTaken, IsUnpinnable, end_of};
 ghost use Rattle.shogi_core.specs.Validity.{IsValid};
-ghost use Rattle.search_nodes.specs.Threats.{AreAttacked, AreNonInterfering, AreThreatEnds, AreThreatsIn, GainsAfter, HoldsPinning, IsCandidateIn, IsThreatIn, SurvivesAt, SurvivesMove, TakesAfter};
+ghost use Rattle.search_nodes.specs.Threats.{AreAttacked, AreNonInterfering, AreSomeThreats, AreThreatEnds, AreThreatsIn, GainsAfter, HoldsPinning, IsCandidateIn, IsThreatIn, SurvivesAt, SurvivesMove, TakesAfter};
 
 use shogi_core::{Move, Piece, Position, Square, Squares, line_mask};
 use shogi_eval::{Eval, promotion_gain, taken_gain};
@@ -137,10 +137,13 @@ fn threat_by(p: &Position, e: Eval, candidate: ThreatCandidate, lines: Squares) 
     })
 }
 
-/// The threats of the side that is not to move.
-pub(crate) fn threats_of(p: &Position, e: Eval) -> Threats
-    ensures { AreThreatsIn p.now e result }
+/// The threats of the side that is not to move; none where captures at the end are settled.
+pub(crate) fn threats_of(p: &Position, e: Eval) -> Option<Threats>
+    ensures { AreSomeThreats p.now e result }
 {
+    if e.resolves_captures() {
+        return None;
+    }
     let lines = king_line_mask(p, p.side().opponent());
     let board = p.as_board();
     let own = board.own(p.side());
@@ -154,10 +157,10 @@ pub(crate) fn threats_of(p: &Position, e: Eval) -> Threats
         greatest = greatest.with_ends(p, e, from, false, own & attacks.non_promoting);
         greatest = greatest.with_ends(p, e, from, true, attacks.promoting.without(theirs));
     }
-    Threats {
+    Some(Threats {
         takes,
         greatest: threat_by(p, e, greatest, lines),
-    }
+    })
 }
 
 /// Whether it slides.

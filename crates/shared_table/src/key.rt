@@ -59,13 +59,6 @@ impl TableKey {
         }
     }
 
-    /// The depth.
-    pub fn depth(&self) -> u8
-        ensures { result ≡ self.now.depth }
-    {
-        (self.words[9] / 6) as u8
-    }
-
     /// The position.
     pub fn position(&self) -> Position
         ensures { result ≡ self.now.position }

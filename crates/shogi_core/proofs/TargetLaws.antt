@@ -1,5 +1,5 @@
 -- Masks of what a piece reaches.
-use Rattle.std.proofs.Common.{◌≡◌, ◌+◌, ℕ, Bool, true, false, refl, sym, ap, ◌∙◌, bit_or}
+use Rattle.std.proofs.Common.{◌≡◌, ◌+◌, ◌%◌, ℕ, Bool, true, false, refl, sym, ap, ◌∙◌, bit_or}
 use Rattle.std.specs.Prelude.{◌||◌}
 use Rattle.std.specs.List.{list_any}
 use Rattle.shogi_core.specs.declared.offset.Offset.{Offset}
@@ -78,11 +78,11 @@ mixed false false false true = refl
 mixed false false false false = refl
 
 -- the same in every second direction
-pub straight_second : (cells : Cells) (color : Color) (first from n a b c d : ℕ) → first ≡ 0 → has_bit a n ≡ slides cells (direction_at (first + 4)) from n → has_bit b n ≡ slides cells (direction_at first) from n → has_bit c n ≡ slides cells (direction_at (first + 2)) from n → has_bit d n ≡ slides cells (direction_at (first + 6)) from n
+pub straight_second : (cells : Cells) (color : Color) (first from n a b c d : ℕ) → first ≡ 0 → has_bit a n ≡ slides cells (direction_at ((first + 4) % 8)) from n → has_bit b n ≡ slides cells (direction_at first) from n → has_bit c n ≡ slides cells (direction_at ((first + 2) % 8)) from n → has_bit d n ≡ slides cells (direction_at (((first + 2) % 8 + 4) % 8)) from n
     → has_bit (bit_or (bit_or (bit_or a b) c) d) n ≡ list_any (λ o. slides cells (for_side color o) from n) straight
 straight_second cells color first from n a b c d zero e f g h = straight_bits cells color from n a b c d (rw zero at e) (rw zero at f) (rw zero at g) (rw zero at h)
 
-pub diagonal_second : (cells : Cells) (color : Color) (first from n a b c d : ℕ) → first ≡ 1 → has_bit a n ≡ slides cells (direction_at (first + 4)) from n → has_bit b n ≡ slides cells (direction_at first) from n → has_bit c n ≡ slides cells (direction_at (first + 2)) from n → has_bit d n ≡ slides cells (direction_at (first + 6)) from n
+pub diagonal_second : (cells : Cells) (color : Color) (first from n a b c d : ℕ) → first ≡ 1 → has_bit a n ≡ slides cells (direction_at ((first + 4) % 8)) from n → has_bit b n ≡ slides cells (direction_at first) from n → has_bit c n ≡ slides cells (direction_at ((first + 2) % 8)) from n → has_bit d n ≡ slides cells (direction_at (((first + 2) % 8 + 4) % 8)) from n
     → has_bit (bit_or (bit_or (bit_or a b) c) d) n ≡ list_any (λ o. slides cells (for_side color o) from n) diagonal
 diagonal_second cells color first from n a b c d one e f g h =
     bits_four a b c d n (slides cells down_right from n) (slides cells up_left from n) (slides cells down_left from n) (slides cells up_right from n) (rw one at e) (rw one at f) (rw one at g) (rw one at h)

@@ -13,7 +13,8 @@ ghost use Rattle.shogi_core.specs.Rays.{direction_at};
 use crate::bits::{has, highest, lowest, with};
 use crate::board::Board;
 use crate::cell::is_king;
-use crate::lines::{DOWN, UP, line_mask, slide_squares};
+use crate::direction::{DOWN, Direction, UP};
+use crate::lines::{line_mask, slide_squares};
 use crate::piece::{Color, Piece, Role};
 use crate::rays::ray;
 use crate::square::Square;
@@ -105,18 +106,18 @@ fn is_stepped_on(board: &Board, by: Color, square: usize) -> bool
 
 /// Whether what stands there slides against the direction.
 #[tactic(auto, using(crate::proofs::SliderAttacks::backing))]
-fn slides_back(cell: Option<Piece>, direction: usize) -> bool
-    requires { direction < 8 }
+fn slides_back(cell: Option<Piece>, direction: Direction) -> bool
     ensures { result ≡ cell_slides_back (direction_at direction) cell }
 {
     let Some(piece) = cell else { return false };
+    let number = direction.number();
     match piece.role {
         Role::Lance => match piece.color {
-            Color::Black => direction == DOWN,
-            Color::White => direction == UP,
+            Color::Black => number == DOWN,
+            Color::White => number == UP,
         },
-        Role::Bishop | Role::Horse => direction % 2 == 1,
-        Role::Rook | Role::Dragon => direction % 2 == 0,
+        Role::Bishop | Role::Horse => number % 2 == 1,
+        Role::Rook | Role::Dragon => number % 2 == 0,
         _ => false,
     }
 }
@@ -127,14 +128,14 @@ fn slider_attacks_on(
     board: &Board,
     by: Color,
     square: usize,
-    direction: usize,
+    direction: Direction,
     snipers: Squares,
 ) -> bool
-    requires direction { direction < 8 }
     requires square { square < 81 }
     requires snipers { HasBits snipers.bits (is_sniper board.now by square) }
     ensures { result ≡ slider_attacks_along board.now by square direction }
 {
+    direction.reveal_invariant();
     let mut left = (slide_squares(board, direction, square) & snipers).iter();
     'squares: while let Some(from) = left.next() {
         if slides_back(board.at(from), direction) {
@@ -150,10 +151,9 @@ fn slider_attacks_apart(
     board: &Board,
     by: Color,
     square: usize,
-    direction: usize,
+    direction: Direction,
     snipers: Squares,
 ) -> bool
-    requires direction { direction < 8 }
     requires square { square < 81 }
     requires snipers { HasBits snipers.bits (is_sniper board.now by square) }
     ensures { result ≡ slider_attacks_along board.now by square direction }
@@ -167,10 +167,9 @@ fn slider_attacks_along(
     board: &Board,
     by: Color,
     square: usize,
-    direction: usize,
+    direction: Direction,
     snipers: Squares,
 ) -> bool
-    requires direction { direction < 8 }
     requires square { square < 81 }
     requires snipers { HasBits snipers.bits (is_sniper board.now by square) }
     ensures { result ≡ slider_attacks_along board.now by square direction }
@@ -187,7 +186,8 @@ fn slider_attacks(board: &Board, by: Color, square: usize, snipers: Squares) -> 
     requires snipers { HasBits snipers.bits (is_sniper board.now by square) }
     ensures { result ≡ slider_attacks board.now by square }
 {
-    for direction in 0..8 {
+    let mut left = Direction::all();
+    'directions: while let Some(direction) = left.next() {
         if slider_attacks_along(board, by, square, direction, snipers) {
             return true;
         }
@@ -196,7 +196,7 @@ fn slider_attacks(board: &Board, by: Color, square: usize, snipers: Squares) -> 
 }
 
 /// The nearest of some squares of a line in the direction, as seen from where it begins.
-fn nearest(places: u128, direction: usize) -> usize
+fn nearest(places: u128, direction: Direction) -> usize
     requires some { places ≢ 0 }
     requires fits { places < 2 ^ 81 }
     ensures range { result < 81 }
@@ -204,7 +204,7 @@ fn nearest(places: u128, direction: usize) -> usize
     ensures rising { direction < 4 → (n : ℕ) → has_bit places n ≡ true → result ≤ n }
     ensures falling { 4 ≤ direction → (n : ℕ) → has_bit places n ≡ true → n ≤ result }
 {
-    if direction < 4 {
+    if direction.number() < 4 {
         lowest(places)
     } else {
         highest(places)
@@ -214,12 +214,12 @@ fn nearest(places: u128, direction: usize) -> usize
 /// The first of the squares in the direction, if there is one: the first piece on each board whose
 /// pieces stand on these squares.
 #[tactic(auto, using(crate::proofs::Nearest::first_pieces))]
-fn first_occupied(occupied: Squares, direction: usize, from: usize) -> Option<usize>
-    requires direction { direction < 8 }
+fn first_occupied(occupied: Squares, direction: Direction, from: usize) -> Option<usize>
     requires from { from < 81 }
     ensures range { IfSome result (λ n. n < 81) }
     ensures first { FindsOccupied occupied.bits direction from result }
 {
+    direction.reveal_invariant();
     let pieces = ray(direction, from).bits & occupied.bits;
     if pieces == 0 {
         return None;
@@ -228,8 +228,7 @@ fn first_occupied(occupied: Squares, direction: usize, from: usize) -> Option<us
 }
 
 /// The square of the first piece in the direction, if there is one.
-fn first_piece(board: &Board, direction: usize, from: usize) -> Option<usize>
-    requires direction { direction < 8 }
+fn first_piece(board: &Board, direction: Direction, from: usize) -> Option<usize>
     requires from { from < 81 }
     ensures range { IfSome result (λ n. n < 81) }
     ensures first { FindsPiece board.now direction from result }
@@ -243,14 +242,14 @@ fn first_piece(board: &Board, direction: usize, from: usize) -> Option<usize>
 fn slider_attacks_past(
     board: &Board,
     square: usize,
-    direction: usize,
+    direction: Direction,
     snipers: Squares,
     occupied: Squares,
 ) -> bool
     requires square { square < 81 }
-    requires direction { direction < 8 }
     ensures { TellsSliderAttackAlong board.now square direction snipers.bits occupied.bits result }
 {
+    direction.reveal_invariant();
     let Some(first) = first_occupied(occupied, direction, square) else {
         return false
     };
@@ -264,14 +263,14 @@ fn slider_attacks_past(
 fn slider_attacks_past_along(
     board: &Board,
     square: usize,
-    direction: usize,
+    direction: Direction,
     snipers: Squares,
     occupied: Squares,
 ) -> bool
     requires square { square < 81 }
-    requires direction { direction < 8 }
     ensures { TellsSliderAttackAlong board.now square direction snipers.bits occupied.bits result }
 {
+    direction.reveal_invariant();
     if ray(direction, square).bits & snipers.bits == 0 {
         return false;
     }
@@ -284,7 +283,8 @@ fn slider_attacks_among(board: &Board, square: usize, snipers: Squares, occupied
     requires { square < 81 }
     ensures { TellsSliderAttack board.now square snipers.bits occupied.bits result }
 {
-    for direction in 0..8 {
+    let mut left = Direction::all();
+    'directions: while let Some(direction) = left.next() {
         if slider_attacks_past_along(board, square, direction, snipers, occupied) {
             return true;
         }
@@ -299,11 +299,10 @@ fn slider_check_or_pin(
     board: &Board,
     side: Color,
     square: usize,
-    direction: usize,
+    direction: Direction,
     snipers: Squares,
     pinned: &mut u128,
 ) -> bool
-    requires direction { direction < 8 }
     requires square { square < 81 }
     requires snipers { HasBits snipers.bits (is_sniper board.now (opponent_of side) square) }
     requires fits { pinned.old < 2 ^ 81 }
@@ -312,6 +311,7 @@ fn slider_check_or_pin(
     ensures kept { (n : ℕ) → has_bit pinned.old n ≡ true → has_bit pinned.new n ≡ true }
     ensures all { result ≡ false → HasPinnedAlong pinned.new board.now side square direction }
 {
+    direction.reveal_invariant();
     let Some(first) = first_piece(board, direction, square) else {
         return false
     };
@@ -336,11 +336,10 @@ fn slider_check_or_pin_along(
     board: &Board,
     side: Color,
     square: usize,
-    direction: usize,
+    direction: Direction,
     snipers: Squares,
     pinned: &mut u128,
 ) -> bool
-    requires direction { direction < 8 }
     requires square { square < 81 }
     requires snipers { HasBits snipers.bits (is_sniper board.now (opponent_of side) square) }
     requires fits { pinned.old < 2 ^ 81 }
@@ -365,7 +364,8 @@ fn pinned_to(board: &Board, side: Color, square: usize, snipers: Squares) -> Opt
     ensures all { IfSome result (λ s. HasPinned s.bits board.now side square) }
 {
     let mut pinned = 0;
-    for direction in 0..8 {
+    let mut left = Direction::all();
+    'directions: while let Some(direction) = left.next() {
         if slider_check_or_pin_along(board, side, square, direction, snipers, &mut pinned) {
             return None;
         }
@@ -404,7 +404,8 @@ fn evasion_squares_on(board: &Board, by: Color, square: usize) -> Squares
         };
     }
     let snipers = sniper_squares(board, by, square);
-    for direction in 0..8 {
+    let mut left = Direction::all();
+    'directions: while let Some(direction) = left.next() {
         if slider_attacks_along(board, by, square, direction, snipers) {
             return slide_squares(board, direction, square);
         }

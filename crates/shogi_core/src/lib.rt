@@ -12,6 +12,7 @@ mod attack;
 pub mod bits;
 mod board;
 mod cell;
+mod direction;
 mod hands;
 mod line_table;
 mod lines;
@@ -35,6 +36,7 @@ pub mod zones;
 
 pub use board::Board;
 pub use cell::{is_immobile, is_pawn, is_piece_of};
+pub use direction::{Direction, DirectionIter};
 pub use hands::Hands;
 pub use lines::line_mask;
 pub use moves::{FIRST_DROP, MOVE_CODE_COUNT, Move, SQUARE_CODES};

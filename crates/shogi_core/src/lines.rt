@@ -8,26 +8,10 @@ ghost use Rattle.shogi_core.specs.Rays.{direction_at};
 
 use crate::bits::{highest, up_to_lowest};
 use crate::board::Board;
+use crate::direction::Direction;
 use crate::line_table::ALIGNED;
 use crate::rays::ray;
 use crate::squares::Squares;
-
-// The directions of lines by number, as Black sees them: indexes rise in the first four.
-pub const DOWN: usize = 0;
-
-pub const UP_LEFT: usize = 1;
-
-pub const LEFT: usize = 2;
-
-pub const DOWN_LEFT: usize = 3;
-
-pub const UP: usize = 4;
-
-pub const DOWN_RIGHT: usize = 5;
-
-pub const RIGHT: usize = 6;
-
-pub const UP_RIGHT: usize = 7;
 
 /// The squares on lines with the square, whatever stands between.
 pub fn line_mask(from: usize) -> Squares
@@ -41,7 +25,7 @@ pub fn line_mask(from: usize) -> Squares
 
 /// The squares that a slide reaches in a direction in which indexes rise.
 #[tactic(auto, using(crate::proofs::LineBits::king_line_mask))]
-pub fn rising_squares(board: &Board, direction: usize, from: usize) -> Squares
+pub fn rising_squares(board: &Board, direction: Direction, from: usize) -> Squares
     requires direction { direction < 4 }
     requires from { from < 81 }
     ensures squares { HasBits result.bits (slides board.now (direction_at direction) from) }
@@ -54,11 +38,12 @@ pub fn rising_squares(board: &Board, direction: usize, from: usize) -> Squares
 
 /// The squares that a slide reaches in a direction in which indexes fall.
 #[tactic(auto, using(crate::proofs::LineBits::king_line_mask))]
-pub fn falling_squares(board: &Board, direction: usize, from: usize) -> Squares
-    requires direction { (4 ≤ direction) × (direction < 8) }
+pub fn falling_squares(board: &Board, direction: Direction, from: usize) -> Squares
+    requires direction { 4 ≤ direction }
     requires from { from < 81 }
     ensures squares { HasBits result.bits (slides board.now (direction_at direction) from) }
 {
+    direction.reveal_invariant();
     let line = ray(direction, from).bits;
     // No such line leads on from the square of index 0.
     let first = highest(line & board.occupied().bits | 1);
@@ -68,12 +53,11 @@ pub fn falling_squares(board: &Board, direction: usize, from: usize) -> Squares
 }
 
 /// The squares that a slide in the direction reaches.
-pub fn slide_squares(board: &Board, direction: usize, from: usize) -> Squares
-    requires direction { direction < 8 }
+pub fn slide_squares(board: &Board, direction: Direction, from: usize) -> Squares
     requires from { from < 81 }
     ensures squares { HasBits result.bits (slides board.now (direction_at direction) from) }
 {
-    if direction < 4 {
+    if direction.number() < 4 {
         rising_squares(board, direction, from)
     } else {
         falling_squares(board, direction, from)

@@ -5,6 +5,7 @@ ghost use Rattle.shogi_core.specs.Cell.{is_king, HasNoKing, HasNoOtherKing};
 ghost use Rattle.shogi_core.specs.Movement.{reaches, piece_at};
 ghost use Rattle.shogi_core.specs.Position.{count_in_hand, with_piece_moved, with_piece_dropped};
 ghost use Rattle.shogi_core.specs.Same.{is_same_position};
+ghost use Rattle.shogi_core.specs.Start.{start};
 ghost use Rattle.shogi_core.specs.Validity.{IsPositionOf, IsValid, fault_of};
 
 use crate::bits::lowest;
@@ -54,6 +55,14 @@ impl Position {
                 side,
             }),
         }
+    }
+
+    /// The opening position.
+    #[tactic(auto, using(crate::proofs::Opening::start_fine))]
+    pub fn start() -> Position
+        ensures { result ≡ start }
+    {
+        Position::of_valid(Board::start(), Hands::none(), Color::Black)
     }
 
     /// The position of parts that have none of the faults.

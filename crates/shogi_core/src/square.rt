@@ -45,13 +45,6 @@ impl Square {
         self.index as usize
     }
 
-    /// The file, from 1 at Black's right to 9.
-    pub fn file(self) -> u8
-        ensures { result ≡ self / 9 + 1 }
-    {
-        self.index / 9 + 1
-    }
-
     /// The rank, from 1 at White's side to 9; USI writes it as a letter from `a` to `i`.
     pub fn rank(self) -> u8
         ensures { result ≡ self % 9 + 1 }

@@ -40,6 +40,7 @@ impl SquareIter {
     #[tactic(auto, using(crate::proofs::BitLaws::has_none))]
     pub fn next(&mut self) -> Option<Square>
         ensures none { IsNone result → HasNone self.old }
+        ensures ended { IsNone result → self.new ≡ self.old }
         ensures some { IfSome result (λ n. TakesLowest n self.old self.new) }
     {
         if self.left == 0 {

@@ -1,12 +1,9 @@
 //! The opening position.
 
 ghost use Rattle.std.specs.Prelude.{◌≡◌};
-ghost use Rattle.shogi_core.specs.Start.{cell_with, start, start_cells};
+ghost use Rattle.shogi_core.specs.Start.{cell_with, start_cells};
 
-use crate::board::Board;
-use crate::hands::Hands;
 use crate::piece::{Color, Piece, Role};
-use crate::position::Position;
 
 // The squares of the sides, of the kings and of the pieces that slide in the opening position, and
 // the words of its board.
@@ -65,14 +62,4 @@ pub fn start_cells() -> [Option<Piece>; 81]
     cells[64] = cell_with(Color::White, Role::Rook);
     cells[70] = cell_with(Color::Black, Role::Bishop);
     cells
-}
-
-impl Position {
-    /// The opening position.
-    #[tactic(auto, using(crate::proofs::Opening::start_fine))]
-    pub fn start() -> Position
-        ensures { result ≡ start }
-    {
-        Position::of_valid(Board::start(), Hands::none(), Color::Black)
-    }
 }

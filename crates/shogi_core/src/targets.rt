@@ -7,26 +7,28 @@ ghost use Rattle.shogi_core.specs.Cell.{is_sliding_role};
 ghost use Rattle.shogi_core.specs.Movement.{reaches, cell_reaches, has_slide, slides_of, straight, diagonal, forward, is_slide, HasSlides};
 
 use crate::board::Board;
-use crate::lines::{DOWN, UP, falling_squares, rising_squares, slide_squares};
+use crate::direction::Direction;
+use crate::lines::{falling_squares, rising_squares, slide_squares};
 use crate::piece::{Color, Piece, Role};
 use crate::square::Square;
 use crate::squares::Squares;
 use crate::steps::step_squares;
 
-/// The squares that slides reach along ranks and files, where `first` is 0, or along diagonals, where
-/// it is 1: in every second direction from that one on.
+/// The squares that slides reach along ranks and files, where `first` is down, or along diagonals,
+/// where it is up-left: in every second direction from that one on.
 #[inline(always)]
-fn four_slides(board: &Board, first: usize, from: usize) -> Squares
+fn four_slides(board: &Board, first: Direction, from: usize) -> Squares
     requires first { first < 2 }
     requires from { from < 81 }
     ensures straight { first ≡ 0 → HasSlides result.bits board.now straight from }
     ensures diagonal { first ≡ 1 → HasSlides result.bits board.now diagonal from }
 {
+    let second = first.quarter_turn();
     Squares {
-        bits: falling_squares(board, first + 4, from).bits
+        bits: falling_squares(board, first.opposite(), from).bits
             | rising_squares(board, first, from).bits
-            | rising_squares(board, first + 2, from).bits
-            | falling_squares(board, first + 6, from).bits,
+            | rising_squares(board, second, from).bits
+            | falling_squares(board, second.opposite(), from).bits,
     }
 }
 
@@ -36,7 +38,7 @@ pub fn straight_squares(board: &Board, color: Color, from: usize) -> Squares
     ensures squares { HasBits result.bits (is_slide board.now color straight from) }
 {
     let _ = color;
-    four_slides(board, 0, from)
+    four_slides(board, Direction::down(), from)
 }
 
 /// The squares that slides along diagonals reach.
@@ -45,7 +47,7 @@ pub fn diagonal_squares(board: &Board, color: Color, from: usize) -> Squares
     ensures squares { HasBits result.bits (is_slide board.now color diagonal from) }
 {
     let _ = color;
-    four_slides(board, 1, from)
+    four_slides(board, Direction::up_left(), from)
 }
 
 /// The squares that a slide forward reaches.
@@ -55,15 +57,15 @@ fn forward_squares(board: &Board, color: Color, from: usize) -> Squares
     ensures squares { HasBits result.bits (is_slide board.now color forward from) }
 {
     match color {
-        Color::Black => slide_squares(board, UP, from),
-        Color::White => slide_squares(board, DOWN, from),
+        Color::Black => slide_squares(board, Direction::up(), from),
+        Color::White => slide_squares(board, Direction::down(), from),
     }
 }
 
 /// Where the directions begin in which a piece of the role slides, which is no lance (see
 /// `four_slides`).
 #[inline(always)]
-fn first_direction(role: Role) -> usize
+fn first_direction(role: Role) -> Direction
     requires sliding { is_sliding_role role ≡ true }
     requires four_ways { role ≢ Role.Lance }
     ensures range { result < 2 }
@@ -71,8 +73,8 @@ fn first_direction(role: Role) -> usize
     ensures diagonal { result ≡ 1 → slides_of role ≡ diagonal }
 {
     match role {
-        Role::Rook | Role::Dragon => 0,
-        _ => 1,
+        Role::Rook | Role::Dragon => Direction::down(),
+        _ => Direction::up_left(),
     }
 }
 

@@ -1,5 +1,5 @@
 -- Moves that are passed in a row.
-use Rattle.std.proofs.Common.{◌≡◌, ◌≢◌, ℕ, zero, suc, ◌+◌, ◌-◌, ◌*◌, ◌/◌, ◌%◌, ◌^◌, ◌<◌, ◌≤◌, List, [], ◌∷◌, ◌⊎◌, Bool, true, false, bit_and, bit_or, length, inl, inr, sym, ap, ◌∙◌, arith, subst, not, Option, Some, None, refl}
+use Rattle.std.proofs.Common.{◌≡◌, ◌≢◌, ℕ, zero, suc, ◌+◌, ◌-◌, ◌*◌, ◌/◌, ◌%◌, ◌^◌, ◌<◌, ◌≤◌, List, [], ◌∷◌, ◌⊎◌, Bool, true, false, bit_and, bit_or, length, inl, inr, sym, ap, ◌∙◌, arith, subst, not, Some}
 use Rattle.std.specs.Prelude.{◌&&◌, ◌==◌}
 use Rattle.std.proofs.lemmas.Nat.{and_le_l}
 use Rattle.std.proofs.lemmas.Bool.{cases_Bool, both_ways, and_parts, and_from, ne_eqb, or_parts, true_from_ne_false, false_from_ne_true}
@@ -7,16 +7,12 @@ use Rattle.shogi_core.specs.declared.moves.TheConstants.{MOVE_CODE_COUNT, FIRST_
 use Rattle.shogi_core.specs.declared.moves.Move.{Move}
 use Rattle.shogi_core.specs.declared.moves.Move.TheVariants.{Board, Drop}
 use Rattle.shogi_core.specs.declared.piece.Kind.{Kind}
-use Rattle.shogi_core.specs.declared.piece.Piece.{Piece}
-use Rattle.shogi_core.specs.declared.piece.Role.{Role}
-use Rattle.shogi_core.specs.declared.piece.Role.TheVariants.{King, Pawn, Lance, Knight, Silver, Gold, Bishop, Rook, PromotedPawn, PromotedLance, PromotedKnight, PromotedSilver, Horse, Dragon}
 use Rattle.shogi_core.specs.Bits.{has_bit}
 use Rattle.shogi_core.specs.Cell.{is_piece_of}
 use Rattle.shogi_core.specs.Codes.{move_of, code_of}
 use Rattle.shogi_core.specs.Movement.{piece_at}
 use Rattle.shogi_core.specs.Pieces.{kind_number, opponent_of}
 use Rattle.shogi_core.specs.Position.{Shogi}
-use Rattle.shogi_core.specs.Same.{role_number}
 use Rattle.shogi_core.proofs.BitLaws.{has_bit-and, has_bit-or, has_bit-none}
 use Rattle.shogi_core.proofs.LineBits.{has_bit-not}
 use Rattle.shogi_core.proofs.CodesBack.{move_of-board, move_of-drop}
@@ -26,9 +22,8 @@ use Rattle.shogi_moves.specs.After.{after, after_code}
 use Rattle.shogi_moves.specs.Legal.{is_legal, is_legal_code}
 use Rattle.shogi_core.specs.Zones.{may_promote}
 use Rattle.shogi_replies.specs.declared.move_filter.MoveFilter.{MoveFilter}
-use Rattle.shogi_replies.specs.declared.move_filter.TheConstants.{ALL_ROLES}
 use Rattle.shogi_moves.specs.Captures.{is_matching}
-use Rattle.shogi_replies.specs.ReplyInfo.{GuaranteesReplies, GuaranteesReply, is_reached, lets_promote, quiet_codes}
+use Rattle.shogi_replies.specs.ReplyInfo.{GuaranteesReplies, GuaranteesReply, is_reached, quiet_codes}
 use Rattle.shogi_moves.specs.Sweeps.{matching_from, KeepsBoard, KeepsDrop}
 use Rattle.shogi_replies.specs.Passes.{IsGuaranteedMove, IsGuaranteedDrop, IsSkipped, IsPassedTo, LeavesReply}
 use Rattle.shogi_moves.proofs.CaptureLaws.{HasMatchingOn, skip_one, matching_found}
@@ -98,18 +93,18 @@ guaranteed_move p capture move_filter first c from n hf hn above at matching pie
   on_board = omega (arith, at);
   piece = subst (λ (k : ℕ). has_bit move_filter.pieces.bits k ≡ true) (omega (arith, at)) piece;
   end = subst (λ (k : ℕ). has_bit move_filter.squares.bits k ≡ true) (omega (arith, at)) set;
-  promoting = λ odd. absurd (omega (arith, at, odd));
+  promotes = λ odd. absurd (omega (arith, at, odd));
   matching = matching;
   leaves = leaves_reply p move_filter.escapes.bits c (Board from n false) at (move_of-board from n false hf hn) (and_parts _ _ matching).0 guaranteed;
 }
 
-guaranteed_promotion : (p : Shogi) (capture : Bool) (move_filter : MoveFilter) (first c from n : ℕ) → from < 81 → n < 81 → first ≤ c → c ≡ code_of (Board from n true) → is_matching p capture c ≡ true → has_bit move_filter.pieces.bits from ≡ true → has_bit move_filter.squares.bits n ≡ true → lets_promote move_filter.promoting (piece_at p.cells from) ≡ true → GuaranteesReply p move_filter.escapes.bits (Board from n true) → IsGuaranteedMove p capture move_filter first c
+guaranteed_promotion : (p : Shogi) (capture : Bool) (move_filter : MoveFilter) (first c from n : ℕ) → from < 81 → n < 81 → first ≤ c → c ≡ code_of (Board from n true) → is_matching p capture c ≡ true → has_bit move_filter.pieces.bits from ≡ true → has_bit move_filter.squares.bits n ≡ true → move_filter.promotes ≡ true → GuaranteesReply p move_filter.escapes.bits (Board from n true) → IsGuaranteedMove p capture move_filter first c
 guaranteed_promotion p capture move_filter first c from n hf hn above at matching piece set lets guaranteed = record {
   above = above;
   on_board = omega (arith, at);
   piece = subst (λ (k : ℕ). has_bit move_filter.pieces.bits k ≡ true) (omega (arith, at)) piece;
   end = subst (λ (k : ℕ). has_bit move_filter.squares.bits k ≡ true) (omega (arith, at)) set;
-  promoting = λ odd. subst (λ (k : ℕ). lets_promote move_filter.promoting (piece_at p.cells k) ≡ true) (omega (arith, at)) lets;
+  promotes = λ odd. lets;
   matching = matching;
   leaves = leaves_reply p move_filter.escapes.bits c (Board from n true) at (move_of-board from n true hf hn) (and_parts _ _ matching).0 guaranteed;
 }
@@ -117,7 +112,7 @@ guaranteed_promotion p capture move_filter first c from n hf hn above at matchin
 -- those below another code are passed, where each of them is certain
 pub destinations_passed : (p : Shogi) (capture : Bool) (move_filter : MoveFilter) (from code next non_promoting promoting first : ℕ) → from < 81 → has_bit move_filter.pieces.bits from ≡ true → KeepsBoard p capture from code non_promoting promoting → first ≤ code → code ≤ next → next ≤ from * SQUARE_CODES + SQUARE_CODES
     → ((n : ℕ) → n < 81 → has_bit non_promoting n ≡ true → code_of (Board from n false) < next → (has_bit move_filter.squares.bits n ≡ true) × GuaranteesReply p move_filter.escapes.bits (Board from n false))
-    → ((n : ℕ) → n < 81 → has_bit promoting n ≡ true → code_of (Board from n true) < next → (has_bit move_filter.squares.bits n ≡ true) × (lets_promote move_filter.promoting (piece_at p.cells from) ≡ true) × GuaranteesReply p move_filter.escapes.bits (Board from n true))
+    → ((n : ℕ) → n < 81 → has_bit promoting n ≡ true → code_of (Board from n true) < next → (has_bit move_filter.squares.bits n ≡ true) × (move_filter.promotes ≡ true) × GuaranteesReply p move_filter.escapes.bits (Board from n true))
     → IsSkipped (IsGuaranteedMove p capture move_filter first) (matching_from p capture code) (matching_from p capture next)
 destinations_passed p capture move_filter from code next non_promoting promoting first hf piece k low up high plainly by_promotion =
     passed_to p capture (IsGuaranteedMove p capture move_filter first) code next up (omega arith) (λ c above below matching.
@@ -167,7 +162,7 @@ promoting_among p capture from n len hf hn own matching =
 
 -- no move of a piece but certain ones
 pub guaranteed_moves : (p : Shogi) (capture : Bool) (move_filter : MoveFilter) (from ends zone guaranteed promotions promoted : ℕ) → ((n : ℕ) → n < 81 → has_bit ends n ≡ is_reached p capture from n) → ((n : ℕ) → n < 81 → has_bit zone n ≡ may_promote (piece_at p.cells from) from n)
-    → has_bit move_filter.pieces.bits from ≡ true → move_filter.squares.bits < 2 ^ 128 → promotions < 2 ^ 128 → ((n : ℕ) → has_bit promotions n ≡ true → lets_promote move_filter.promoting (piece_at p.cells from) ≡ true) → ((n : ℕ) → n < 81 → has_bit guaranteed n ≡ true → GuaranteesReply p move_filter.escapes.bits (Board from n false)) → ((n : ℕ) → n < 81 → has_bit promoted n ≡ true → GuaranteesReply p move_filter.escapes.bits (Board from n true))
+    → has_bit move_filter.pieces.bits from ≡ true → move_filter.squares.bits < 2 ^ 128 → promotions < 2 ^ 128 → ((n : ℕ) → has_bit promotions n ≡ true → move_filter.promotes ≡ true) → ((n : ℕ) → n < 81 → has_bit guaranteed n ≡ true → GuaranteesReply p move_filter.escapes.bits (Board from n false)) → ((n : ℕ) → n < 81 → has_bit promoted n ≡ true → GuaranteesReply p move_filter.escapes.bits (Board from n true))
     → bit_or (bit_and ends (2 ^ 128 - 1 - bit_and move_filter.squares.bits guaranteed)) (bit_and (bit_and ends zone) (2 ^ 128 - 1 - bit_and promotions promoted)) ≡ 0 → GuaranteesReplies p capture move_filter from
 guaranteed_moves p capture move_filter from ends zone guaranteed promotions promoted ends_bits zone_bits piece f g lets answered by_promotion none =
     let at : (n : ℕ) → n < 81 → _ = λ n h. of_both ends move_filter.squares.bits guaranteed (bit_and ends zone) promotions promoted n f g h (ap (λ m. has_bit m n) none ∙ has_bit-none n) in
@@ -236,27 +231,3 @@ drops_passed p kind squares escapes code next destinations k up high guaranteed 
       legal = legal;
       leaves = leaves_reply p escapes c (Drop kind (c - FIRST_DROP - kind_number kind * 81)) at.0 (move_of-drop kind (c - FIRST_DROP - kind_number kind * 81) ht) legal it.1;
     })
-
--- ---- roles that promote
-
-all_roles : (role : Role) → has_bit ALL_ROLES (role_number role) ≡ true
-unfolding has_bit
-all_roles King = refl
-all_roles Pawn = refl
-all_roles Lance = refl
-all_roles Knight = refl
-all_roles Silver = refl
-all_roles Gold = refl
-all_roles Bishop = refl
-all_roles Rook = refl
-all_roles PromotedPawn = refl
-all_roles PromotedLance = refl
-all_roles PromotedKnight = refl
-all_roles PromotedSilver = refl
-all_roles Horse = refl
-all_roles Dragon = refl
-
--- where all are let, each piece is that may promote
-pub all_promote : (roles : ℕ) (cell : Option Piece) (from to : ℕ) → roles ≡ ALL_ROLES → may_promote cell from to ≡ true → lets_promote roles cell ≡ true
-all_promote roles None from to all may = absurd (cc)
-all_promote roles (Some piece) from to all may = ap (λ (m : ℕ). has_bit m (role_number piece.role)) all ∙ all_roles piece.role

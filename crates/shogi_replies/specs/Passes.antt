@@ -4,7 +4,6 @@ use Rattle.shogi_core.specs.declared.moves.TheConstants.{FIRST_DROP, SQUARE_CODE
 use Rattle.shogi_core.specs.declared.piece.Kind.{Kind}
 use Rattle.shogi_core.specs.Attack.{in_check}
 use Rattle.shogi_core.specs.Bits.{has_bit}
-use Rattle.shogi_core.specs.Movement.{piece_at}
 use Rattle.shogi_core.specs.Pieces.{kind_number, opponent_of}
 use Rattle.shogi_core.specs.Position.{Shogi}
 use Rattle.shogi_moves.specs.declared.sweep.BoardSweep.{BoardSweep}
@@ -14,7 +13,7 @@ use Rattle.shogi_moves.specs.Captures.{is_matching}
 use Rattle.shogi_moves.specs.Legal.{is_legal_code}
 use Rattle.shogi_moves.specs.Sweeps.{matching_from, board_left, drops_left}
 use Rattle.shogi_replies.specs.declared.move_filter.MoveFilter.{MoveFilter}
-use Rattle.shogi_replies.specs.ReplyInfo.{lets_promote, quiet_codes}
+use Rattle.shogi_replies.specs.ReplyInfo.{quiet_codes}
 
 -- after the move of the code the other side has a legal move that takes nothing and does not promote and, where no escapes are given, is in no check
 pub record LeavesReply (p : Shogi) (escapes code : ℕ) : Type 0 where
@@ -27,8 +26,7 @@ pub record IsGuaranteedMove (p : Shogi) (capture : Bool) (move_filter : MoveFilt
   pub on_board : code < FIRST_DROP
   pub piece : has_bit move_filter.pieces.bits (code / SQUARE_CODES) ≡ true
   pub end : has_bit move_filter.squares.bits (code / 2 % 81) ≡ true
-  pub promoting : code % 2 ≡ 1
-      → lets_promote move_filter.promoting (piece_at p.cells (code / SQUARE_CODES)) ≡ true
+  pub promotes : code % 2 ≡ 1 → move_filter.promotes ≡ true
   pub matching : is_matching p capture code ≡ true
   pub leaves : LeavesReply p move_filter.escapes.bits code
 

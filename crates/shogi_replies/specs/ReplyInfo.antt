@@ -15,7 +15,6 @@ use Rattle.shogi_core.specs.Lines.{are_aligned, are_lined, is_seen}
 use Rattle.shogi_core.specs.Movement.{Cells, piece_at, reaches, cell_reaches}
 use Rattle.shogi_core.specs.Pieces.{opponent_of}
 use Rattle.shogi_core.specs.Position.{Shogi, HandCounts, count_in_hand}
-use Rattle.shogi_core.specs.Same.{role_number}
 use Rattle.shogi_moves.specs.After.{after, piece_moved}
 use Rattle.shogi_moves.specs.Destinations.{is_destination}
 use Rattle.shogi_moves.specs.Legal.{is_legal}
@@ -232,14 +231,9 @@ abbrev pub is_reached : Shogi → Bool → ℕ → ℕ → Bool
 is_reached p capture from n =
     reaches p.cells from n && is_destination capture p.side (piece_at p.cells n)
 
--- the role of what stands there is one of the roles, in which each has the bit of its number
-abbrev pub lets_promote : ℕ → Option Piece → Bool
-lets_promote roles None = false
-lets_promote roles (Some piece) = has_bit roles (role_number piece.role)
-
--- the role of what stands there is one of the roles, unless the set has no square
-abbrev pub LetPromote : ℕ → Option Piece → ℕ → Type 0
-LetPromote roles cell set = (n : ℕ) → has_bit set n ≡ true → lets_promote roles cell ≡ true
+-- promotions are had, unless the set has no square
+abbrev pub LetPromote : Bool → ℕ → Type 0
+LetPromote promotes set = (n : ℕ) → has_bit set n ≡ true → promotes ≡ true
 
 -- the filter has each move of the kind of what stands on the square, and each guarantees a reply
 pub record GuaranteesReplies (p : Shogi) (capture : Bool) (move_filter : MoveFilter) (from : ℕ) : Type 0 where
@@ -248,7 +242,7 @@ pub record GuaranteesReplies (p : Shogi) (capture : Bool) (move_filter : MoveFil
       → (has_bit move_filter.squares.bits n ≡ true) × GuaranteesReply p move_filter.escapes.bits (Board from n false)
   pub promoting : (n : ℕ) → n < 81 → is_reached p capture from n ≡ true
       → may_promote (piece_at p.cells from) from n ≡ true
-      → (lets_promote move_filter.promoting (piece_at p.cells from) ≡ true)
+      → (move_filter.promotes ≡ true)
       × GuaranteesReply p move_filter.escapes.bits (Board from n true)
 
 -- the same of what stands on each of the squares

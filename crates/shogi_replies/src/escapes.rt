@@ -11,7 +11,8 @@ ghost use Rattle.shogi_replies.specs.Threats.{IsTaken};
 
 use shogi_core::bits::lowest;
 use shogi_core::{
-    Board, Color, Kind, Move, Piece, Position, Square, Squares, line_mask, ray, step_squares,
+    Board, Color, Direction, Kind, Move, Piece, Position, Square, Squares, line_mask, ray,
+    step_squares,
 };
 use shogi_moves::{dropped, has_open, king_steps, piece_moved};
 
@@ -66,11 +67,12 @@ fn squares_behind(over: usize, from: usize) -> Squares
     requires from { from < 81 }
     ensures { (d : ℕ) → d < 8 → HasRaysBehind d from over result.bits }
 {
-    let mut behind = 0;
-    for direction in 0..8 {
-        behind |= (ray(direction, from) & ray(direction, over)).bits;
+    let mut behind = Squares::none();
+    let mut left = Direction::all();
+    'directions: while let Some(direction) = left.next() {
+        behind = behind | ray(direction, from) & ray(direction, over);
     }
-    Squares { bits: behind }
+    behind
 }
 
 /// The squares behind the king of the side that is not to move, where it has just one, as seen from

@@ -15,6 +15,6 @@ mod skips;
 mod threats;
 
 pub use escapes::{escape_squares, king_takes, leaves_escape, leaves_king_move, some_escapes};
-pub use move_filter::{ALL_ROLES, MoveFilter};
+pub use move_filter::MoveFilter;
 pub use replies::{ReplyInfo, king_line_mask, quiet_steps};
 pub use threats::{attacks_of, put_by, squares_between, unpinnable_pieces};

@@ -1,46 +1,29 @@
 //! Which moves on the board may be skipped together.
 
-ghost use Rattle.std.specs.Prelude.{◌≡◌, ◌<◌};
-ghost use Rattle.shogi_core.specs.Same.{role_number};
 ghost use Rattle.shogi_moves.specs.Destinations.{IsWithin};
 ghost use Rattle.shogi_replies.specs.ReplyInfo.{LetPromote};
 
-use shogi_core::{Piece, Role, Squares};
+use shogi_core::Squares;
 
-/// All roles, as the bits of their places in the order in which they are declared.
-pub const ALL_ROLES: u32 = 16383;
-
-/// Moves of the pieces on some squares to some squares, with promotion those of some roles alone; and
-/// squares to which the other side's king may go, should a move give it check. Where there are none of
-/// these, a move that gives check is not skipped.
+/// Moves of the pieces on some squares to some squares, with promotion or without it alone; and squares
+/// to which the other side's king may go, should a move give it check. Where there are none of these, a
+/// move that gives check is not skipped.
 #[derive(Clone, Copy, Debug)]
 pub struct MoveFilter {
     pub pieces: Squares,
     pub squares: Squares,
-    pub promoting: u32,
+    pub promotes: bool,
     pub escapes: Squares,
 }
 
-/// The place of the role in the order in which roles are declared.
-fn number_of(role: Role) -> usize
-    ensures number { result ≡ role_number role }
-    ensures range { result < 14 }
-{
-    role as usize
-}
-
 impl MoveFilter {
-    /// The squares for moves with promotion of what stands there: none where its role is none of
-    /// those.
+    /// The squares for moves with promotion.
     #[inline(always)]
-    pub fn promotions(&self, cell: Option<Piece>) -> Squares
+    pub fn promotions(&self) -> Squares
         ensures squares { IsWithin result.bits self.now.squares.bits }
-        ensures promoting { LetPromote self.now.promoting cell result.bits }
+        ensures promotes { LetPromote self.now.promotes result.bits }
     {
-        let Some(piece) = cell else {
-            return Squares::none()
-        };
-        if (self.promoting >> number_of(piece.role)) & 1 == 1 {
+        if self.promotes {
             self.squares
         } else {
             Squares::none()

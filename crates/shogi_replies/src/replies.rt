@@ -12,7 +12,7 @@ ghost use Rattle.shogi_replies.specs.Threats.{KeepsThreats, MayRetake};
 
 use crate::escapes::{escaped_destinations, escaped_drops};
 use crate::far::non_checking_pieces;
-use crate::move_filter::{ALL_ROLES, MoveFilter};
+use crate::move_filter::MoveFilter;
 use shogi_core::bits::{lowest, without_lowest};
 use shogi_core::zones::{dead_squares, promoting_squares};
 use shogi_core::{Color, Kind, Move, Piece, Position, Square, Squares, line_mask, step_squares};
@@ -390,8 +390,7 @@ impl ReplyInfo {
         if !ends.without(move_filter.squares).is_empty() {
             return Squares::none();
         }
-        let promotes = move_filter.promoting == ALL_ROLES;
-        non_checking_pieces(p, self.king_view, promotes) & move_filter.pieces
+        non_checking_pieces(p, self.king_view, move_filter.promotes) & move_filter.pieces
     }
 
     /// Pieces of the side to move of which each move, promoting or not, leaves the other side a legal
@@ -428,7 +427,7 @@ impl ReplyInfo {
         if !move_filter.pieces.has(from) {
             return false;
         }
-        let promotions = move_filter.promotions(p.at(from));
+        let promotions = move_filter.promotions();
         let ends = p.as_board().targets(from) & matching_destinations(p, capture);
         if (ends & self.king_view).is_empty() && !self.king_view.has(from) {
             let guaranteed = self.unseen_destinations(p, from, ends);

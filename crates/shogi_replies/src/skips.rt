@@ -44,7 +44,7 @@ impl ReplyInfo {
             non_promoting,
         );
         let promoted = self.guaranteed_destinations(p, move_filter.escapes, from, true, promoting);
-        let promotions = move_filter.promotions(p.at(from));
+        let promotions = move_filter.promotions();
         let uncertain = non_promoting.without(move_filter.squares & guaranteed)
             | promoting.without(promotions & promoted);
         if uncertain.is_empty() {

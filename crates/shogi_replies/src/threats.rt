@@ -6,7 +6,7 @@ ghost use Rattle.shogi_core.specs.Movement.{reaches};
 ghost use Rattle.shogi_replies.specs.Threats.{AreAttacks, HasBetween, HasBeforeSnipers, IsOffPins, IsUnpinnable, put_by};
 
 use shogi_core::zones::{dead_squares, promoting_squares};
-use shogi_core::{Color, Move, Piece, Position, Square, Squares, line_mask, ray};
+use shogi_core::{Color, Direction, Move, Piece, Position, Square, Squares, line_mask, ray};
 use shogi_moves::{Destinations, dropped, piece_moved};
 
 /// The squares between the two on a line, whatever stands there.
@@ -15,11 +15,12 @@ pub fn squares_between(from: usize, to: usize) -> Squares
     requires to { to < 81 }
     ensures { HasBetween from to result.bits }
 {
-    let mut between = 0;
-    for direction in 0..8 {
-        between |= (ray(direction, from) & ray((direction + 4) % 8, to)).bits;
+    let mut between = Squares::none();
+    let mut left = Direction::all();
+    'directions: while let Some(direction) = left.next() {
+        between = between | ray(direction, from) & ray(direction.opposite(), to);
     }
-    Squares { bits: between }
+    between
 }
 
 /// The squares between the king of the side and the pieces of the other one that slide and are on a

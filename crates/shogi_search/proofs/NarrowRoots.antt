@@ -16,16 +16,17 @@ use Rattle.search_nodes.specs.declared.frame.NodeState.TheVariants.{AwaitingChil
 use Rattle.search_nodes.specs.declared.move_picker.MovePicker.{MovePicker}
 use Rattle.shogi_search.specs.declared.stack.Stack.{Stack}
 use Rattle.search_nodes.specs.Frames.{position_after}
+use Rattle.search_nodes.specs.ReplyCache.{IsFoundAt}
 use Rattle.search_nodes.specs.Order.{todo}
 use Rattle.search_nodes.specs.Changes.{IsAt, KeepsAsked, left_of_frame, steps_after}
 use Rattle.shogi_search.specs.Stack.{IsChain, IsParentOf, IsNarrow, IsStack, OnTop, UsesSteps, parents_of, steps_for, steps_left}
 use Rattle.shogi_search.proofs.Again.{left_narrow, left_root}
 use Rattle.shogi_search.proofs.Chains.{IsChild, left_above, same_asked}
-use Rattle.shogi_search.proofs.Places.{HasTop, IsBelow, IsTop, below, has_top, left_in, left_read, of_top, on_top, on_with, stack_with, top_with, with_frame}
+use Rattle.shogi_search.proofs.Places.{HasTop, IsBelow, IsTop, below, found_same, has_top, left_in, left_read, of_top, on_top, on_with, stack_with, top_with, with_frame}
 
 -- with another end of the window for now
 abbrev pub with_bound : Stack → ℤ → Stack
-with_bound s bound = record { root = s.root; eval = s.eval; depth = s.depth; beta = s.beta; bound = bound; frames = s.frames; height = s.height }
+with_bound s bound = record { root = s.root; eval = s.eval; depth = s.depth; beta = s.beta; bound = bound; frames = s.frames; height = s.height; reply_cache = s.reply_cache }
 
 none_before : (s : Stack) (i : ℕ) → i ≡ 0 → take i s.frames ≡ []
 none_before s i e = ap (λ (n : ℕ). take n s.frames) e
@@ -45,10 +46,10 @@ ends_at p e d alpha beta bound f g at same ends = record {
   deep = subst (λ (x : ℕ). 1 < x) (sym same.1.0) at.deep;
 }
 
-stack_ending : (s : Stack) (i : ℕ) (f g : Frame) (bound : ℤ) → i ≡ 0 → i < length s.frames → IsStack s → IsAt s.root s.eval s.depth (negated INFINITY) s.bound f → KeepsAsked f g → g.beta ≡ bound → bound ≤ℤ s.beta → IsStack (with_frame (with_bound s bound) i g)
-stack_ending s i f g bound e fits k at same ends within =
+stack_ending : (s : Stack) (i : ℕ) (f g : Frame) (bound : ℤ) → i ≡ 0 → i < length s.frames → IsStack s → IsAt s.root s.eval s.depth (negated INFINITY) s.bound f → KeepsAsked f g → g.beta ≡ bound → bound ≤ℤ s.beta → IsFoundAt g s.reply_cache → IsStack (with_frame (with_bound s bound) i g)
+stack_ending s i f g bound e fits k at same ends within found =
     stack_with (with_bound s bound) i g fits (omega (arith, e)) k.shallow within k.most
-    (subst (λ (fs : List Frame). IsChain s.root s.eval s.depth (negated INFINITY) bound fs g) (sym (none_before s i e)) (ends_at _ _ _ _ _ bound f g at same ends))
+    (subst (λ (fs : List Frame). IsChain s.root s.eval s.depth (negated INFINITY) bound fs g) (sym (none_before s i e)) (ends_at _ _ _ _ _ bound f g at same ends)) found
 
 -- as much is left of it
 asked_kept : (f g : Frame) → KeepsAsked f g → left_of_frame g ≡ left_of_frame f
@@ -68,6 +69,7 @@ left_alone s f is e d =
 pub narrowed : (s : Stack) (f g : Frame) (bound : ℤ) → IsTop s f → IsStack s → s.height ≡ 0 → KeepsAsked f g → g.beta ≡ bound → bound ≤ℤ s.beta → IsStack (with_frame (with_bound s bound) s.height g)
 narrowed s f g bound is k e same ends within =
     stack_ending s s.height f g bound e (slice_get_within s.frames s.height f is) k (first_at s s.height f e (on_top s f _ is k.chain)) same ends within
+    (found_same f g s.reply_cache same.0 same.1.0 (on_top s f (λ (top : Frame). IsFoundAt top s.reply_cache) is k.found))
 
 pub left_narrowed : (s : Stack) (f g : Frame) (bound : ℤ) → IsTop s f → IsStack s → s.height ≡ 0 → KeepsAsked f g → steps_left (with_frame (with_bound s bound) s.height g) ≡ steps_left s
 left_narrowed s f g bound is k e same =
@@ -124,6 +126,7 @@ root_below s d m k narrow fits asks =
 pub widened : (s : Stack) (m : Move) (f g : Frame) (bound : ℤ) → IsRootBelow s m f → IsStack s → KeepsAsked f g → g.beta ≡ bound → bound ≡ s.beta → IsStack (with_frame (with_bound s bound) (s.height - 1) g)
 widened s m f g bound r k same ends whole =
     stack_ending s (s.height - 1) f g bound r.first (omega (arith, slice_get_within s.frames s.height r.top r.is)) k r.at same ends (omega (arith, ints, whole))
+    (λ two. absurd (let low : 1 < r.top.depth = r.child.at_child.deep in let next : r.top.depth ≡ f.depth - 1 = r.child.at_child.depth in let stays : g.depth ≡ f.depth = same.1.0 in omega (arith, low, next, stays, two)))
 
 pub left_widened : (s : Stack) (m : Move) (f g : Frame) (bound : ℤ) → IsRootBelow s m f → IsNarrow s → KeepsAsked f g → OnTop (with_frame (with_bound s bound) (s.height - 1) g) (λ root. steps_left (with_frame (with_bound s bound) (s.height - 1) g) + 1 + steps_after root m ≤ steps_left s)
 left_widened s m f g bound r narrow same =

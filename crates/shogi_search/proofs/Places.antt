@@ -9,6 +9,9 @@ use Rattle.shogi_core.specs.Codes.{code_of}
 use Rattle.shogi_moves.specs.After.{after_code}
 use Rattle.search_nodes.specs.declared.frame.Frame.{Frame}
 use Rattle.search_nodes.specs.declared.frame.NodeState.{NodeState}
+use Rattle.search_nodes.specs.declared.reply_cache.ReplyCache.{ReplyCache}
+use Rattle.search_nodes.specs.ReplyCache.{IsFoundAt, IsReplyCacheOf}
+use Rattle.shogi_eval.specs.Evaluated.{Evaluated}
 use Rattle.search_nodes.specs.declared.frame.NodeState.TheVariants.{AwaitingChild, Expanding, CutOff}
 use Rattle.minimax.specs.declared.entry.Entry.{Entry}
 use Rattle.shogi_search.specs.declared.stack.Stack.{Stack}
@@ -85,7 +88,21 @@ set_there (x ∷ xs) (suc i) f h = set_there xs i f (omega arith)
 
 -- a stack whose top is this frame, at this place among its frames
 abbrev pub with_frame : Stack → ℕ → Frame → Stack
-with_frame s i f = record { root = s.root; eval = s.eval; depth = s.depth; beta = s.beta; bound = s.bound; frames = set s.frames i f; height = i }
+with_frame s i f = record { root = s.root; eval = s.eval; depth = s.depth; beta = s.beta; bound = s.bound; frames = set s.frames i f; height = i; reply_cache = s.reply_cache }
+
+-- a stack with what was found of replies
+abbrev pub with_cache : Stack → ReplyCache → Stack
+with_cache s cache = record { root = s.root; eval = s.eval; depth = s.depth; beta = s.beta; bound = s.bound; frames = s.frames; height = s.height; reply_cache = cache }
+
+-- what was found of a position is true of a frame that stands for it
+pub found_at : (f : Frame) (p : Shogi) (e : Eval) (cache : ReplyCache) → f.node.position ≡ p → f.node.eval ≡ e → IsReplyCacheOf (record { position = p; eval = e }) cache → IsFoundAt f cache
+found_at f p e cache here under of = λ two.
+    subst (λ (q : Shogi). IsReplyCacheOf (record { position = q; eval = f.node.eval }) cache) (sym here)
+    (subst (λ (x : Eval). IsReplyCacheOf (record { position = p; eval = x }) cache) (sym under) of)
+
+-- and of one in the same place
+pub found_same : (f g : Frame) (cache : ReplyCache) → g.node ≡ f.node → g.depth ≡ f.depth → IsFoundAt f cache → IsFoundAt g cache
+found_same f g cache node depth found = λ two. subst (λ (n : Evaluated). IsReplyCacheOf n cache) (sym node) (found (sym depth ∙ two))
 
 pub top_with : (s : Stack) (i : ℕ) (f : Frame) → i < length s.frames → IsTop (with_frame s i f) f
 top_with s i f h = set_there s.frames i f h
@@ -100,14 +117,15 @@ left_in s f = left_at s.depth s.bound s.beta f
 pub left_with : (s : Stack) (i : ℕ) (f : Frame) → i < length s.frames → steps_left (with_frame s i f) ≡ sum_by (left_in s) (take i s.frames) + left_in s f
 left_with s i f h = left_above (left_in s) (frames_of (with_frame s i f)) (take i s.frames) f (frames_are (with_frame s i f) f (top_with s i f h) ∙ ap (λ (fs : List Frame). fs ++ f ∷ []) (take-set s.frames i f))
 
-pub stack_with : (s : Stack) (i : ℕ) (f : Frame) → i < length s.frames → i < SEARCH_DEPTH_MAX → s.depth ≤ SEARCH_DEPTH_MAX → s.bound ≤ℤ s.beta → s.beta ≤ℤ INFINITY → IsChain s.root s.eval s.depth (negated INFINITY) s.bound (take i s.frames) f → IsStack (with_frame s i f)
-stack_with s i f h fits shallow within most c = record {
+pub stack_with : (s : Stack) (i : ℕ) (f : Frame) → i < length s.frames → i < SEARCH_DEPTH_MAX → s.depth ≤ SEARCH_DEPTH_MAX → s.bound ≤ℤ s.beta → s.beta ≤ℤ INFINITY → IsChain s.root s.eval s.depth (negated INFINITY) s.bound (take i s.frames) f → IsFoundAt f s.reply_cache → IsStack (with_frame s i f)
+stack_with s i f h fits shallow within most c found = record {
   shallow = shallow;
   height_fits = fits;
   within = within;
   most = most;
   chain = on_with s i f (IsChain s.root s.eval s.depth (negated INFINITY) s.bound (parents_of (with_frame s i f))) h
       (subst (λ (fs : List Frame). IsChain s.root s.eval s.depth (negated INFINITY) s.bound fs f) (sym (take-set s.frames i f)) c);
+  found = on_with s i f (λ (top : Frame). IsFoundAt top s.reply_cache) h found;
 }
 
 -- the node on top, as it is read at the height
@@ -119,7 +137,11 @@ left_read s f e = left_above (left_in s) (frames_of s) (parents_of s) f (frames_
 
 -- the node on top is changed in its place
 pub changed : (s : Stack) (f g : Frame) → IsTop s f → IsStack s → IsSame f g → IsStack (with_frame s s.height g)
-changed s f g e k same = stack_with s s.height g (slice_get_within s.frames s.height f e) k.height_fits k.shallow k.within k.most (chain_same _ _ _ _ _ _ f g (on_top s f _ e k.chain) same)
+changed s f g e k same = stack_with s s.height g (slice_get_within s.frames s.height f e) k.height_fits k.shallow k.within k.most (chain_same _ _ _ _ _ _ f g (on_top s f _ e k.chain) same) (found_same f g s.reply_cache same.0 same.1.0 (on_top s f (λ (top : Frame). IsFoundAt top s.reply_cache) e k.found))
+
+-- and so is what was found of replies
+pub looked : (s : Stack) (f g : Frame) (cache : ReplyCache) → IsTop s f → IsStack s → IsSame f g → IsFoundAt g cache → IsStack (with_frame (with_cache s cache) s.height g)
+looked s f g cache e k same found = stack_with (with_cache s cache) s.height g (slice_get_within s.frames s.height f e) k.height_fits k.shallow k.within k.most (chain_same _ _ _ _ _ _ f g (on_top s f _ e k.chain) same) found
 
 pub left_changed : (s : Stack) (f g : Frame) → IsTop s f → steps_left (with_frame s s.height g) + left_in s f ≡ steps_left s + left_in s g
 left_changed s f g e = omega (arith, left_with s s.height g (slice_get_within s.frames s.height f e), left_read s f e)
@@ -181,6 +203,7 @@ stack_popped s d g k h fits same =
     let r : IsBelow s (get_or s.frames (s.height - 1) d) = below s d k h fits in
     let low : s.height < SEARCH_DEPTH_MAX = k.height_fits in
     stack_with s (s.height - 1) g (omega arith) (omega arith) k.shallow k.within k.most (chain_same _ _ _ _ _ _ (get_or s.frames (s.height - 1) d) g r.popped.chain same)
+    (λ two. absurd (let low : 1 < r.top.depth = top_deep s r.top r.is k in let above : r.top.depth ≡ (get_or s.frames (s.height - 1) d).depth - 1 = r.popped.child.at_child.depth in let stays : g.depth ≡ (get_or s.frames (s.height - 1) d).depth = same.1.0 in omega (arith, low, above, stays, two)))
 
 pub left_popped : (s : Stack) (d g : Frame) → IsStack s → 0 < s.height → s.height < length s.frames → IsSame (get_or s.frames (s.height - 1) d) g → g.picker ≡ (get_or s.frames (s.height - 1) d).picker → steps_left (with_frame s (s.height - 1) g) < steps_left s
 left_popped s d g k h fits same picker =
@@ -196,10 +219,10 @@ left_positive s k =
     omega (arith, left_read s t.top t.is)
 
 -- the child after the move that the node on top has asked for is entered above it
-pub stack_entered : (s : Stack) (f g : Frame) (m : Move) → IsTop s f → IsStack s → f.state ≡ AwaitingChild m → 0 < f.depth → s.height + 1 < SEARCH_DEPTH_MAX → s.height + 1 < length s.frames → IsAt (position_after f m) f.node.eval (f.depth - 1) (negated f.beta) (negated (move_alpha_of f m)) g → IsStack (with_frame s (s.height + 1) g)
-stack_entered s f g m is k asks more low fits place =
-    stack_with s (s.height + 1) g fits low k.shallow k.within k.most
-    (pushed _ _ _ _ _ (frames_of s) (parents_of s) f g m (frames_are s f is) (on_top s f _ is k.chain) (record { deep = omega (arith, more); asks = asks; at_child = place }))
+pub stack_entered : (s : Stack) (f g : Frame) (m : Move) (cache : ReplyCache) → IsTop s f → IsStack s → f.state ≡ AwaitingChild m → 0 < f.depth → s.height + 1 < SEARCH_DEPTH_MAX → s.height + 1 < length s.frames → IsAt (position_after f m) f.node.eval (f.depth - 1) (negated f.beta) (negated (move_alpha_of f m)) g → IsFoundAt g cache → IsStack (with_frame (with_cache s cache) (s.height + 1) g)
+stack_entered s f g m cache is k asks more low fits place found =
+    stack_with (with_cache s cache) (s.height + 1) g fits low k.shallow k.within k.most
+    (pushed _ _ _ _ _ (frames_of s) (parents_of s) f g m (frames_are s f is) (on_top s f _ is k.chain) (record { deep = omega (arith, more); asks = asks; at_child = place })) found
 
 -- a node is entered, and none of its moves is gone through
 pub frame_entered : (f : Frame) (p : Shogi) (e : Eval) (d : ℕ) (alpha beta : ℤ) → IsAt p e d alpha beta f → IsWithinTree p d f.picker → left_of_frame f < 2 * tree_size p d

@@ -3,13 +3,14 @@ use Rattle.std.proofs.Common.{◌≡◌, ◌<◌, ◌≤◌, ◌+◌, ◌-◌, �
 use Rattle.std.specs.Prelude.{IfNone, IfSome, min}
 use Rattle.minimax.specs.declared.entry.Entry.{Entry}
 use Rattle.search_nodes.specs.declared.frame.Frame.{Frame}
+use Rattle.search_nodes.specs.declared.reply_cache.ReplyCache.{ReplyCache}
 use Rattle.shogi_search.specs.Calls.{Call, CallsInSteps, EndsWith}
 use Rattle.shogi_search.specs.Stack.{EndsWithRoot, IsReady, IsRootEntry, IsRunOf, IsStep, KeepsGoal, steps_left}
 use Rattle.shogi_search.specs.declared.memo.Memo.{Ghosts}
 use Rattle.shogi_search.specs.declared.stack.Stack.{Stack}
 use Rattle.shogi_search.proofs.CallLaws.{ends_after, none_yet, step_more}
 use Rattle.shogi_search.proofs.Entries.{same_truth, same_window}
-use Rattle.shogi_search.proofs.Places.{with_frame}
+use Rattle.shogi_search.proofs.Places.{with_cache, with_frame}
 use Rattle.shogi_search.proofs.SearchCallLaws.{same_note}
 
 -- the goal is still the same
@@ -83,11 +84,11 @@ less_still : (left : Option Entry) (new mid old : ℕ) → IfNone left (new + 1 
 less_still None new mid old less most = (let k : new + 1 ≤ mid = less in omega arith)
 less_still (Some entry) new mid old less most = tt
 
--- a step of the stack with another node on top, of which no more is left
-pub step_from : {M : Type 0} (memory : Ghosts M) (a b : M) (s : Stack) (g : Frame) (left : Option Entry) (u : Stack)
-    → steps_left (with_frame s s.height g) ≤ steps_left s → IsStep memory a b (with_frame s s.height g) left u
+-- a step of the stack with another node on top, of which no more is left, and with what was found of replies
+pub step_from : {M : Type 0} (memory : Ghosts M) (a b : M) (s : Stack) (g : Frame) (cache : ReplyCache) (left : Option Entry) (u : Stack)
+    → steps_left (with_frame s s.height g) ≤ steps_left s → IsStep memory a b (with_frame (with_cache s cache) s.height g) left u
     → IsStep memory a b s left u
-step_from memory a b s g left u most k = record {
+step_from memory a b s g cache left u most k = record {
   ready = k.ready;
   fewer = less_still left (steps_left u) _ _ k.fewer most;
   known = k.known;

@@ -16,6 +16,7 @@ use Rattle.shogi_search.specs.declared.memo.Memo.{Ghosts}
 use Rattle.shogi_search.specs.declared.stack.Stack.{Stack}
 use Rattle.search_nodes.specs.Frames.{position_after, move_alpha_of}
 use Rattle.search_nodes.specs.Visits.{IsFree}
+use Rattle.search_nodes.specs.ReplyCache.{IsFoundAt}
 use Rattle.minimax.specs.Entries.{IsConclusive}
 use Rattle.minimax.specs.Minimax.{negated, tree_size, IsTrueEntry}
 use Rattle.shogi_search.specs.Calls.{Asks, Call, CallsInSteps, EndsWith, Note}
@@ -82,13 +83,14 @@ IsRootEntry s entry = IsConclusiveEntry s.root s.eval s.depth (negated INFINITY)
 abbrev pub IsTrueAnywhere : ℕ → Entry → Type 0
 IsTrueAnywhere d entry = (p : Shogi) (e : Eval) → IsValid p → IsTrueEntry p e d entry
 
--- a chain from the root, under the window that ends at its bound for now, which is no more than that of the search
+-- a chain from the root, under the window that ends at its bound for now, which is no more than that of the search; what was found of replies is true of the node on top, if that has two plies left
 pub record IsStack (s : Stack) : Type 0 where
   pub shallow : s.depth ≤ SEARCH_DEPTH_MAX
   pub height_fits : s.height < SEARCH_DEPTH_MAX
   pub within : s.bound ≤ℤ s.beta
   pub most : s.beta ≤ℤ INFINITY
   pub chain : OnTop s (IsChain s.root s.eval s.depth (negated INFINITY) s.bound (parents_of s))
+  pub found : OnTop s (λ top. IsFoundAt top s.reply_cache)
 
 -- the root on top has its whole window
 abbrev pub IsWhole : Stack → Type 0

@@ -12,38 +12,8 @@ ghost use Rattle.shogi_search.specs.SearchCalls.{CallsOfWhole, TellsRoot};
 use crate::found::Found;
 use crate::memo::Memo;
 use crate::sliced_search::Search;
-use minimax::INFINITY;
 use shogi_core::Position;
 use shogi_eval::Eval;
-
-/// The value of a position under an evaluation at a depth from 0 to 16, and its best move, where
-/// the value is less than `beta`, from -30,999 to 31,000. Otherwise a number from `beta` on that is
-/// no more than the value. A root of which the memo knows enough takes no step.
-pub fn search_below<M: Memo>(p: &Position, e: Eval, d: u8, beta: i32, memo: &mut M) -> Found
-    requires shallow { d ≤ SEARCH_DEPTH_MAX }
-    requires open { negated INFINITY <ℤ beta }
-    requires most { beta ≤ℤ INFINITY }
-    ensures below { IsFoundBelow p.now e d beta result }
-    // Below the end of the whole window lies every value.
-    ensures value { beta ≡ INFINITY → result.value ≡ value p.now e d }
-    ensures best { beta ≡ INFINITY → result.best ≡ best p.now e d }
-    ensures steps { result.steps ≤ 4 * tree_size p.now d }
-    ensures enough { IsEnoughBelow beta (M.answers memo.old p.now e d) → result.steps ≡ 0 }
-    ensures known { IsExactly (M.answers memo.old p.now e d) → result.steps ≡ 0 }
-    ensures calls { CallsOfWhole M.called memo.old memo.new result }
-    ensures told { TellsRoot M.called memo.old memo.new (untouched_below p.now e d beta) result }
-    ensures capacity { M.capacity memo.new ≡ M.capacity memo.old }
-{
-    let mut search = Search::start_below(p, e, d, beta);
-    if let Some(found) = search.advance(memo, u64::MAX) {
-        return found;
-    }
-    'slices: loop {
-        if let Some(found) = search.advance(memo, u64::MAX) {
-            return found;
-        }
-    }
-}
 
 /// The value of a position under an evaluation at a depth from 0 to 16, and its best move, by
 /// alpha-beta over any memo. A root that the memo answers exactly takes no step.
@@ -62,5 +32,13 @@ pub fn search<M: Memo>(p: &Position, e: Eval, d: u8, memo: &mut M) -> Found
     ensures capacity { M.capacity memo.new ≡ M.capacity memo.old }
 {
     p.reveal_invariant();
-    search_below(p, e, d, INFINITY, memo)
+    let mut search = Search::start(p, e, d);
+    if let Some(found) = search.advance(memo, u64::MAX) {
+        return found;
+    }
+    'slices: loop {
+        if let Some(found) = search.advance(memo, u64::MAX) {
+            return found;
+        }
+    }
 }

@@ -16,7 +16,7 @@ mod sliced_search;
 mod stack;
 
 pub use found::Found;
-pub use full_search::{search, search_below};
+pub use full_search::search;
 pub use memo::{Memo, NoMemo};
 pub use minimax::{Entry, INFINITY, MATE, SEARCH_DEPTH_MAX};
 pub use ranks::{MULTI_PV_MAX, Ranks};

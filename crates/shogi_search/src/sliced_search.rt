@@ -16,7 +16,7 @@ use crate::found::Found;
 use crate::memo::Memo;
 use crate::stack::{Stack, answer_at_once, hash_move_of, probe};
 use minimax::{Entry, INFINITY};
-use search_nodes::{CounterMoves, Frame, PriorityMoves};
+use search_nodes::{CounterMoves, Frame, PriorityMoves, ReplyCache};
 use shogi_core::{Move, Position};
 use shogi_eval::{Eval, Node};
 use std::marker::Model;
@@ -108,6 +108,7 @@ impl Search {
                 bound: beta,
                 frames: [Frame::default(); 16],
                 height: 0,
+                reply_cache: ReplyCache::unknown(p),
             },
             started: false,
             steps: 0,
@@ -192,6 +193,7 @@ impl Search {
         self.stack.bound = beta;
         let priority_moves = self.stack.frames[0].priority_moves(self.advised, hash_move, depth);
         self.stack.frames[0].enter(&node, depth, -INFINITY, beta, priority_moves);
+        self.stack.reply_cache = ReplyCache::unknown(node.as_position());
         self.started = true;
         self.steps = self.steps.saturating_add(1);
     }

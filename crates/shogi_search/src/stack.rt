@@ -12,7 +12,7 @@ ghost use Rattle.minimax.specs.declared.bounds.TheConstants.{SEARCH_DEPTH_MAX};
 use crate::memo::Memo;
 use last_ply::last_ply;
 use minimax::{Entry, MATE};
-use search_nodes::{CounterMoves, Frame, NodeState, PriorityMoves, leaf};
+use search_nodes::{CounterMoves, Frame, NodeState, PriorityMoves, ReplyCache, leaf};
 use shogi_core::{Move, Position};
 use shogi_eval::{Eval, Node};
 use shogi_moves::is_legal;
@@ -24,7 +24,8 @@ const DEEP_ROOT_MIN: u8 = 5;
 /// The root of a search, its evaluation, its depth and the end of its window, and the nodes that
 /// are entered and not yet left, from the root on: the one on top stands at the height, and those
 /// below it wait for a child. No node with one ply left or none is entered. While a child of the
-/// root is entered, the root's window may end earlier, at the bound.
+/// root is entered, the root's window may end earlier, at the bound. What was found of replies is
+/// that of the node on top, if this has two plies left: no other one that is entered has.
 #[derive(Clone, Copy)]
 pub struct Stack {
     pub root: Position,
@@ -34,6 +35,7 @@ pub struct Stack {
     pub bound: i32,
     pub frames: [Frame; 16],
     pub height: usize,
+    pub reply_cache: ReplyCache,
 }
 
 /// Whether an entry says enough for a window.
@@ -228,6 +230,7 @@ impl Stack {
         );
         priority_moves.add(counter_moves.reply_to(node.as_position(), current));
         self.frames[self.height].enter(node, depth, alpha, beta, priority_moves);
+        self.reply_cache = ReplyCache::unknown(node.as_position());
     }
 
     /// The root takes in what is known of the child on top, where that is enough for its whole
@@ -409,7 +412,7 @@ impl Stack {
         let reply = self.last_reply();
         let top = &mut self.frames[self.height];
         if top.is_next() {
-            let Some(current) = top.next_move(reply) else {
+            let Some(current) = top.next_move(&mut self.reply_cache, reply) else {
                 return self.leave(counter_moves, memo);
             };
             self.enter_child(&current, counter_moves, memo);

@@ -1,6 +1,6 @@
 -- What a visit of one connection does to it, and what it asks for.
-use Rattle.std.proofs.Common.{◌≡◌, ◌==◌, ◌≤◌, ℕ, ltb, Bool, true, false, not, cond, ◌&&◌, List, [], ◌∷◌, length, Option, None, Some, Ok, refl, sym, ap, ◌∙◌, subst, arith, inl, inr}
-use Rattle.std.proofs.lemmas.Bool.{and_from, and_parts, cases_eq, lt-ltb, ltb-false, ltb-true, not-true}
+use Rattle.std.proofs.Common.{◌≡◌, ◌≤◌, ℕ, ltb, Bool, true, false, not, cond, ◌&&◌, List, [], ◌∷◌, length, Option, None, Some, Ok, refl, sym, ap, ◌∙◌, subst, arith, inl, inr}
+use Rattle.std.proofs.lemmas.Bool.{and_from, and_parts, cases_eq, ltb-false, ltb-true, not-true}
 use Rattle.std.specs.Borrow.{Bor}
 use Rattle.std.specs.Io.KnownBytes.{Consumes, IsAtEnd}
 use Rattle.session_slots.specs.Slots.{find}
@@ -89,15 +89,8 @@ asks_once a b due first x e p = rw (e, none_anew x.is_shut (Shut x.link.number �
 
 -- ---- a write
 
-some_bytes : (bytes : List ℕ) → (length bytes == 0) ≡ false → ltb 0 (length bytes) ≡ true
-some_bytes [] e = absurd (cc)
-some_bytes (x ∷ bytes) e = lt-ltb 0 (length (x ∷ bytes)) (omega arith)
-
-to_write : (host : HostState) (x : Connection) (bytes : Bor (List ℕ)) → x.is_shut ≡ false → IsQueue (find host.slots x.link.id) (Some bytes)
-    → (length bytes.now == 0) ≡ false → is_to_write host x ≡ true
-to_write host x bytes «open» queue some =
-    and_from (not x.is_shut) (ltb 0 (length (queued_of (find host.slots x.link.id)))) (ap not «open»)
-    (ap (λ (q : List ℕ). ltb 0 (length q)) (has_queue host x.link.id bytes queue) ∙ some_bytes bytes.now some)
+to_write : (host : HostState) (x : Connection) → x.is_shut ≡ false → ltb 0 (length (queued_of (find host.slots x.link.id))) ≡ true → is_to_write host x ≡ true
+to_write host x «open» some = and_from (not x.is_shut) (ltb 0 (length (queued_of (find host.slots x.link.id)))) (ap not «open») some
 
 asked_queue : (host : HostState) (x : Connection) (bytes : Bor (List ℕ)) (a b : Option (List Call)) → IsQueue (find host.slots x.link.id) (Some bytes)
     → Asks a b (Write x.link.number bytes.now ∷ []) → Asks a b (Write x.link.number (queued_of (find host.slots x.link.id)) ∷ [])
@@ -117,22 +110,22 @@ at_zero n h = omega arith
 
 -- what was queued was written, in one write
 pub wrote : (x : Connection) (before after : Scene) (n : ℕ) (bytes : Bor (List ℕ)) → x.is_shut ≡ false → IsQueue (find before.host.slots x.link.id) (Some bytes)
-    → (length bytes.now == 0) ≡ false → Writes before.report after.report x.link.number (Ok n) bytes.now → Asks before.asked after.asked (Write x.link.number bytes.now ∷ [])
+    → ltb 0 (length (queued_of (find before.host.slots x.link.id))) ≡ true → Writes before.report after.report x.link.number (Ok n) bytes.now → Asks before.asked after.asked (Write x.link.number bytes.now ∷ [])
     → IsVisited IsOutput x x before after → VisitsOne writes_of IsOutput (ltb 0 n) x x before after
 wrote x before after n bytes «open» queue some w asked visit = record {
   visit = visit;
-  asked = asks_once before.asked after.asked (is_to_write before.host x) (Write x.link.number (queued_of (find before.host.slots x.link.id))) x (to_write before.host x bytes «open» queue some) (asked_queue before.host x bytes before.asked after.asked queue asked);
+  asked = asks_once before.asked after.asked (is_to_write before.host x) (Write x.link.number (queued_of (find before.host.slots x.link.id))) x (to_write before.host x «open» some) (asked_queue before.host x bytes before.asked after.asked queue asked);
   quiet = λ q. (none_taken before.report after.report x.link.number n bytes.now (at_zero n (ltb-false 0 n q)) w, refl);
   stirs = λ e. inl (inr (write_longer before.report after.report x.link.number n bytes.now (ltb-true 0 n e) w));
 }
 
 -- the write failed, and it was shut
 pub wrote_none : (x : Connection) (before after : Scene) (mid : Option (List Call)) (bytes : Bor (List ℕ)) → x.is_shut ≡ false → IsQueue (find before.host.slots x.link.id) (Some bytes)
-    → (length bytes.now == 0) ≡ false → Asks before.asked mid (Write x.link.number bytes.now ∷ []) → Asks mid after.asked (Shut x.link.number ∷ [])
+    → ltb 0 (length (queued_of (find before.host.slots x.link.id))) ≡ true → Asks before.asked mid (Write x.link.number bytes.now ∷ []) → Asks mid after.asked (Shut x.link.number ∷ [])
     → IsVisited IsOutput x (record x { is_shut = true }) before after → VisitsOne writes_of IsOutput true x (record x { is_shut = true }) before after
 wrote_none x before after mid bytes «open» queue some asked shut visit = record {
   visit = visit;
-  asked = asks_due before.asked mid after.asked (is_to_write before.host x) (Write x.link.number (queued_of (find before.host.slots x.link.id))) (shuts_of x (record x { is_shut = true })) (to_write before.host x bytes «open» queue some) (asked_queue before.host x bytes before.asked mid queue asked) (asks_shut mid after.asked x (record x { is_shut = true }) «open» refl shut);
+  asked = asks_due before.asked mid after.asked (is_to_write before.host x) (Write x.link.number (queued_of (find before.host.slots x.link.id))) (shuts_of x (record x { is_shut = true })) (to_write before.host x «open» some) (asked_queue before.host x bytes before.asked mid queue asked) (asks_shut mid after.asked x (record x { is_shut = true }) «open» refl shut);
   quiet = λ q. absurd (cc);
   stirs = λ e. inr (inr («open», refl));
 }

@@ -1,11 +1,12 @@
--- Pending sessions, one after another, and those that want input.
+-- Pending sessions, one after another, and what is finished with.
 use Rattle.std.proofs.Common.{◌≡◌, ℕ, zero, suc, ◌+◌, ◌<◌, Bool, true, false, List, [], ◌∷◌, ◌++◌, get_or, take, length, Option, None, Some, not, ◌&&◌, ◌==◌, refl, sym, ap, ◌∙◌, arith}
-use Rattle.std.specs.Prelude.{◌||◌}
+use Rattle.std.specs.Prelude.{◌||◌, is_some, nat_lt}
+use Rattle.std.proofs.lemmas.Bool.{lt-ltb, ne_eqb}
 use Rattle.std.proofs.lemmas.List.{take_more}
 use Rattle.session_slots.specs.Slots.{find}
 use Rattle.host_core.specs.Steps.{HostState}
 use Rattle.usi_session.specs.Due.{SessionView, is_pending}
-use Rattle.host_core.specs.ById.{pending_of, wants_input_of}
+use Rattle.host_core.specs.ById.{is_over_of, pending_of, queued_of}
 use Rattle.socket_loop.specs.declared.connection.Connection.{Connection}
 use Rattle.socket_loop.specs.Links.{links_of}
 use Rattle.socket_loop.specs.Parts.{is_finished_with}
@@ -39,14 +40,11 @@ any_one h [] i d lt e = absurd (omega arith)
 any_one h (x ∷ xs) zero d lt e = ap (λ (b : Bool). b || any_pending h (links_of xs)) e
 any_one h (x ∷ xs) (suc i) d lt e = ap (λ (b : Bool). pending_of (find h.slots x.link.id) || b) (any_one h xs i d (omega arith) e) ∙ or_true (pending_of (find h.slots x.link.id))
 
-not_over : (over busy few : Bool) → (not over && not busy) && few ≡ true → over ≡ false
-not_over true busy few e = absurd (cc)
-not_over false busy few e = refl
+none_queued : (bytes : List ℕ) → not (nat_lt 0 (length bytes)) ≡ (length bytes == 0)
+none_queued [] = refl
+none_queued (x ∷ bytes) = ap not (lt-ltb 0 (length (x ∷ bytes)) (omega arith)) ∙ sym (ne_eqb (length (x ∷ bytes)) 0 (λ e. absurd (omega arith)))
 
-wanting : (found : Option SessionView) → wants_input_of found ≡ true → is_finished_with false found ≡ false
-wanting None e = absurd (cc)
-wanting (Some t) e = ap (λ (b : Bool). ((false || b) && (length t.queued == 0)) && not (is_pending t)) (not_over t.state.is_over _ _ e)
-
--- a connection whose reads have not ended is not finished with where its session wants input
-pub unfinished : (has_ended : Bool) (found : Option SessionView) → has_ended ≡ false → wants_input_of found ≡ true → false ≡ is_finished_with has_ended found
-unfinished has_ended found unended wants = sym (ap (λ (b : Bool). is_finished_with b found) unended ∙ wanting found wants)
+-- what a session wants and has tells whether its connection is finished with
+pub finished_by : (has_ended : Bool) (found : Option SessionView) → (not (is_some found) || (((has_ended || is_over_of found) && not (nat_lt 0 (length (queued_of found)))) && not (pending_of found))) ≡ is_finished_with has_ended found
+finished_by has_ended None = refl
+finished_by has_ended (Some t) = ap (λ (b : Bool). ((has_ended || t.state.is_over) && b) && not (is_pending t)) (none_queued t.queued)

@@ -117,15 +117,12 @@ pub fn write_to<W: Wire, S: BuildHasher, A: Allocator + Copy>(
     ensures ended { held.new.has_ended ≡ held.old.has_ended }
 {
     let link = held.link;
-    if held.is_shut {
+    if held.is_shut || !host.activity(link.id).has_output {
         return false;
     }
     let Some(bytes) = host.output(link.id) else {
         return false;
     };
-    if bytes.is_empty() {
-        return false;
-    }
     match wire.write(link.number, bytes) {
         Ok(n) => {
             let _passed = host.pass(link.id, n);
@@ -144,15 +141,9 @@ pub fn write_to<W: Wire, S: BuildHasher, A: Allocator + Copy>(
 fn is_finished<S: BuildHasher, A: Allocator + Copy>(held: &Connection, host: &Host<S, A>) -> bool
     ensures { result ≡ is_finished host.now held.now }
 {
-    let id = held.link.id;
-    if !held.has_ended && host.wants_input(id) {
-        return false;
-    }
-    let Some(bytes) = host.output(id) else {
-        return true;
-    };
-    let has_ended = held.has_ended || host.is_over(id);
-    has_ended && bytes.is_empty() && !host.pending(id)
+    let now = host.activity(held.link.id);
+    let has_ended = held.has_ended | now.is_over;
+    !now.is_open | (has_ended & !now.has_output & !now.is_pending)
 }
 
 /// Shuts a connection that is finished with, and closes its session. True where it was shut.

@@ -1,6 +1,6 @@
 //! A wire over a listener.
 
-ghost use Rattle.std.specs.Prelude.{◌≡◌, ◌≢◌, ◌≤◌, ◌-◌, ◌^◌, ◌&&◌, not, true, false, ℕ, [], ◌++◌, length, is_some, IfOk, None, Ok, Some, OnErr, OnOk};
+ghost use Rattle.std.specs.Prelude.{◌≡◌, ◌≢◌, ◌≤◌, ◌-◌, ◌^◌, ◌&&◌, not, true, false, ℕ, [], ◌++◌, length, is_some, IfOk, Err, None, Ok, Some, OnErr, OnOk};
 ghost use Rattle.usi_lines.specs.OneLine.{IsOneLine};
 ghost use Rattle.transport.specs.Report.{GivesNumber, HasCause, HasRisen, IsWithin, KeepsAll, bytes_read, bytes_written};
 ghost use Rattle.transport.specs.declared.wire.WireFault.TheVariants.{Device};
@@ -322,6 +322,7 @@ impl<L: Listener, A: Allocator + Copy> StreamWire<L, A> {
         ensures read { ReportsRead ⟦<Self as Wire>⟧ self.old self.new number result buf.new }
         ensures line { IsOneLine (bytes_read result buf.new) }
         ensures cause { HasCause self.old.failed self.new.failed result }
+        ensures absent { held self.old.places.items number ≡ None → result ≡ Err Device }
         ensures first { GivesKept (kept_of self.old.places.items number) result buf.new }
         ensures asks { L.asked self.new.listener ≡ L.asked self.old.listener }
         ensures gives { AsksByRead L.Stream.calls number buf.old result self.old self.new }
@@ -350,6 +351,7 @@ impl<L: Listener, A: Allocator + Copy> StreamWire<L, A> {
         ensures bound { self.new.next ≡ self.old.next }
         ensures written { ReportsWrite ⟦<Self as Wire>⟧ self.old self.new number result buf.now }
         ensures cause { HasCause self.old.failed self.new.failed result }
+        ensures absent { held self.old.places.items number ≡ None → result ≡ Err Device }
         ensures asks { L.asked self.new.listener ≡ L.asked self.old.listener }
         ensures takes { OfNumber number
             (AsksToTake L.Stream.calls (length buf.now) result) self.old self.new }
@@ -412,6 +414,7 @@ impl<L: Listener, A: Allocator + Copy> Wire for StreamWire<L, A> {
         ensures read { ReportsRead ⟦<Self as Wire>⟧ self.old self.new number result buf.new }
         ensures line { IsOneLine (bytes_read result buf.new) }
         ensures cause { HasCause self.old.failed self.new.failed result }
+        ensures absent { held self.old.places.items number ≡ None → result ≡ Err Device }
         ensures first { GivesKept (kept_of self.old.places.items number) result buf.new }
         ensures asks { L.asked self.new.listener ≡ L.asked self.old.listener }
         ensures gives { AsksByRead L.Stream.calls number buf.old result self.old self.new }
@@ -437,6 +440,7 @@ impl<L: Listener, A: Allocator + Copy> Wire for StreamWire<L, A> {
         ensures bound { self.new.next ≡ self.old.next }
         ensures written { ReportsWrite ⟦<Self as Wire>⟧ self.old self.new number result buf.now }
         ensures cause { HasCause self.old.failed self.new.failed result }
+        ensures absent { held self.old.places.items number ≡ None → result ≡ Err Device }
         ensures asks { L.asked self.new.listener ≡ L.asked self.old.listener }
         ensures takes { OfNumber number
             (AsksToTake L.Stream.calls (length buf.now) result) self.old self.new }

@@ -13,6 +13,11 @@ pub fn square(name: &str) -> Result<Square, Fail> {
     Ok(square.ok_or("a square")?)
 }
 
+/// The file of a square, from 1 to 9.
+pub fn file_of(square: Square) -> u8 {
+    (square.index() / 9) as u8 + 1
+}
+
 /// The squares of these names.
 pub fn squares_of(names: &str) -> Result<Squares, Fail> {
     let mut squares = Squares::none();

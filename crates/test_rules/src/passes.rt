@@ -3,24 +3,24 @@
 use crate::boards::{position, read, square, squares_of};
 use shogi_core::{Move, Position, Squares};
 use shogi_moves::{BoardSweep, DropSweep, check_info_of};
-use shogi_replies::{ALL_ROLES, MoveFilter, ReplyInfo, escape_squares};
+use shogi_replies::{MoveFilter, ReplyInfo, escape_squares};
 use std::test::Fail;
 use test_support::holds;
 
 /// The first move on the board of the kind that is not passed, of some pieces, where it may end on
-/// some squares, and some roles may promote.
+/// some squares, with promotion or without it alone.
 fn first_of(
     p: &Position,
     capture: bool,
     pieces: Squares,
     squares: Squares,
-    promoting: u32,
+    promotes: bool,
 ) -> Option<Move> {
     let mut sweep = BoardSweep::new(&check_info_of(p).at(p), capture);
     let row = MoveFilter {
         pieces,
         squares,
-        promoting,
+        promotes,
         escapes: escape_squares(p),
     };
     ReplyInfo::of(p).skip_moves(p, capture, &row, &mut sweep);
@@ -28,26 +28,24 @@ fn first_of(
 }
 
 /// The same of all pieces.
-fn first_left(p: &Position, capture: bool, squares: Squares, promoting: u32) -> Option<Move> {
-    first_of(p, capture, Squares::all(), squares, promoting)
+fn first_left(p: &Position, capture: bool, squares: Squares, promotes: bool) -> Option<Move> {
+    first_of(p, capture, Squares::all(), squares, promotes)
 }
 
 /// Each of the 30 moves of the opening position takes nothing, promotes nothing and is answered.
 #[test]
 fn quiet_moves_of_the_opening_position(rt: HostRuntime) {
-    holds!(rt; first_left(&Position::start(), false, Squares::all(), 0).is_none());
+    holds!(rt; first_left(&Position::start(), false, Squares::all(), false).is_none());
 }
 
 /// The pawn on 6e has one move, and no line of the king goes there. The next to move is the pawn on
-/// 7d, which may promote; no move of it, or of the king, gives check. Pawns are the second role.
+/// 7d, which may promote; no move of it, or of the king, gives check.
 #[test]
 fn quiet_moves_and_a_promotion(rt: HostRuntime) -> Result<(), Fail> {
     let p = position("8k/9/9/2P6/3P2pp1/9/9/K8/9 b -")?;
-    holds!(rt; first_left(&p, false, Squares::all(), 0) == Some(read("7d7c")?));
-    holds!(rt; first_left(&p, false, Squares::all(), ALL_ROLES).is_none());
-    holds!(rt; first_left(&p, false, Squares::all(), 2).is_none());
-    holds!(rt; first_left(&p, false, Squares::all(), ALL_ROLES - 2) == Some(read("7d7c")?));
-    holds!(rt; first_left(&p, false, Squares::none(), ALL_ROLES) == Some(read("6e6d")?));
+    holds!(rt; first_left(&p, false, Squares::all(), false) == Some(read("7d7c")?));
+    holds!(rt; first_left(&p, false, Squares::all(), true).is_none());
+    holds!(rt; first_left(&p, false, Squares::none(), true) == Some(read("6e6d")?));
     Ok(())
 }
 
@@ -56,9 +54,9 @@ fn quiet_moves_and_a_promotion(rt: HostRuntime) -> Result<(), Fail> {
 fn a_capture(rt: HostRuntime) -> Result<(), Fail> {
     let p = position("2k6/9/9/4p4/4P4/6p1p/9/9/K8 b -")?;
     let taken = squares_of("5d")?;
-    holds!(rt; first_left(&p, true, Squares::all(), 0).is_none());
-    holds!(rt; first_left(&p, true, taken, 0).is_none());
-    holds!(rt; first_left(&p, true, Squares::all().without(taken), 0) == Some(read("5e5d")?));
+    holds!(rt; first_left(&p, true, Squares::all(), false).is_none());
+    holds!(rt; first_left(&p, true, taken, false).is_none());
+    holds!(rt; first_left(&p, true, Squares::all().without(taken), false) == Some(read("5e5d")?));
     Ok(())
 }
 
@@ -66,14 +64,14 @@ fn a_capture(rt: HostRuntime) -> Result<(), Fail> {
 #[test]
 fn a_capture_with_promotion(rt: HostRuntime) -> Result<(), Fail> {
     let p = position("2k6/9/4p4/4P4/9/6p1p/9/9/K8 b -")?;
-    holds!(rt; first_left(&p, true, Squares::all(), 0) == Some(read("5d5c")?));
-    holds!(rt; first_left(&p, true, Squares::all(), ALL_ROLES).is_none());
+    holds!(rt; first_left(&p, true, Squares::all(), false) == Some(read("5d5c")?));
+    holds!(rt; first_left(&p, true, Squares::all(), true).is_none());
     Ok(())
 }
 
 /// The first move that takes nothing, does not promote and is not passed.
 fn first_quiet(sfen: &str) -> Result<Option<Move>, Fail> {
-    Ok(first_left(&position(sfen)?, false, Squares::all(), 0))
+    Ok(first_left(&position(sfen)?, false, Squares::all(), false))
 }
 
 /// The horse goes to 1a first, on a rank with the king. Where the king is hemmed in by its own
@@ -95,8 +93,8 @@ fn quiet_moves_of_a_slider(rt: HostRuntime) -> Result<(), Fail> {
 fn quiet_moves_of_some_pieces(rt: HostRuntime) -> Result<(), Fail> {
     let p = position("4k4/9/6G2/9/6pp1/9/9/9/K8 b -")?;
     let others = Squares::all().except(square("3c")?);
-    holds!(rt; first_left(&p, false, Squares::all(), 0).is_none());
-    holds!(rt; first_of(&p, false, others, Squares::all(), 0) == Some(read("3c2b")?));
+    holds!(rt; first_left(&p, false, Squares::all(), false).is_none());
+    holds!(rt; first_of(&p, false, others, Squares::all(), false) == Some(read("3c2b")?));
     Ok(())
 }
 

@@ -1,7 +1,7 @@
 //! Outside values: codes and indices by hand, the opening position, faults and moves of pieces of
 //! the rule book.
 
-use crate::boards::{Placed, board, square, squares_of};
+use crate::boards::{Placed, board, file_of, square, squares_of};
 use shogi_core::Color::{Black, White};
 use shogi_core::{
     Board, Color, Hands, Kind, Move, Piece, Position, PositionFault, Role, Square, Squares,
@@ -15,7 +15,7 @@ fn squares_by_file_and_rank(rt: HostRuntime) -> Result<(), Fail> {
     for (file, rank, index) in [(1, 1, 0), (1, 9, 8), (5, 1, 36), (9, 9, 80)] {
         let found = Square::new(file, rank).ok_or("a square")?;
         same!(rt; found.index(), index, (file, rank));
-        same!(rt; (found.file(), found.rank()), (file, rank));
+        same!(rt; (file_of(found), found.rank()), (file, rank));
     }
     for (file, rank) in [(0, 1), (1, 0), (10, 1), (1, 10)] {
         holds!(rt; Square::new(file, rank).is_none(), (file, rank));
@@ -46,7 +46,7 @@ fn squares_on_lines(rt: HostRuntime) {
         let lines = line_mask(from);
         for to in 0..81 {
             let (a, b) = (Square::of_index(from), Square::of_index(to));
-            let files = a.file().abs_diff(b.file());
+            let files = file_of(a).abs_diff(file_of(b));
             let ranks = a.rank().abs_diff(b.rank());
             let aligned = from != to && (files == 0 || ranks == 0 || files == ranks);
             same!(rt; lines.has(b), aligned, (from, to));
@@ -191,7 +191,7 @@ fn reached(color: Color, role: Role) -> Result<Squares, Fail> {
                 Black => to.rank(),
                 White => 10 - to.rank(),
             };
-            found = found.with(Square::new(to.file(), rank).ok_or("a square")?);
+            found = found.with(Square::new(file_of(to), rank).ok_or("a square")?);
         }
     }
     Ok(found)

@@ -1,6 +1,7 @@
 //! The rules by plain bodies, to compare with: lines are walked square by square, the board is
 //! scanned for attacks, and each move is made to see what it leaves.
 
+use crate::boards::file_of;
 use shogi_core::{
     Board, Color, Kind, MOVE_CODE_COUNT, Move, Piece, Position, Role, Square, is_immobile,
     is_piece_of,
@@ -60,7 +61,7 @@ fn slide_changes(role: Role) -> &'static [Change] {
 
 // Where n steps lead, if they stay on the board.
 fn away(from: Square, n: u8, change: Change, color: Color) -> Option<Square> {
-    let file = from.file() as i32 + n as i32 * change.0 as i32;
+    let file = file_of(from) as i32 + n as i32 * change.0 as i32;
     let step = n as i32 * change.1 as i32;
     let rank = match color {
         Color::Black => from.rank() as i32 + step,
@@ -185,7 +186,7 @@ fn is_pseudo_legal_drop(p: &Position, kind: Kind, to: Square) -> bool {
     }
     for index in 0..81 {
         let square = Square::of_index(index);
-        if square.file() == to.file() && p.at(square) == Some(Piece { color: side, role }) {
+        if file_of(square) == file_of(to) && p.at(square) == Some(Piece { color: side, role }) {
             return false;
         }
     }

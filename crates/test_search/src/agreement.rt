@@ -37,21 +37,17 @@ fn assert_agrees(
     again.steps == 0
 }
 
-// Walks through a game up to its mate, and searches each position under each evaluation at depths 0
-// to 2, and at 3 where two plies have few paths. The memo is the same all along; it keeps some roots
-// and forgets others.
+// Walks through a game up to its mate, and searches each third position under each evaluation at depths
+// 0 and 1, each 24th at depth 2, and each at depth 3 where two plies have few paths. The memo is the same
+// all along; it keeps some roots and forgets others.
 fn walk(rt: &impl Abort, moves: &[&str]) {
     let mut memo = Forgetful::new();
     let mut p = Position::start();
     let (mut known, mut forgotten) = (false, false);
     for (at, text) in moves.iter().enumerate() {
-        for depth in 0..4u8 {
-            for (e, most) in [
-                (Eval::Plain, 1500),
-                (Eval::Hand, 1500),
-                (Eval::Exchange, 200),
-            ] {
-                if has_few(&p, depth.saturating_sub(1), most) {
+        for (depth, stride) in [(0u8, 3), (1, 3), (2, 24), (3, 1)] {
+            for e in [Eval::Plain, Eval::Hand, Eval::Exchange] {
+                if at % stride == 0 && has_few(&p, depth.saturating_sub(1), 100) {
                     if assert_agrees(rt, &p, e, at, depth, &mut memo) {
                         known = true;
                     } else {
@@ -81,14 +77,12 @@ fn third_game(rt: HostRuntime) {
     walk(&rt, games::third());
 }
 
-// A position with so many legal moves, at depths 1 and 2.
+// A position with so many legal moves, at depth 1.
 fn assert_wide(rt: &impl Abort, sfen: &str, moves: u64) -> Result<(), Fail> {
     let p = position(sfen)?;
     same!(*rt; perft(&p, 1), Some(moves));
-    for depth in 1..3u8 {
-        for e in [Eval::Plain, Eval::Hand, Eval::Exchange] {
-            assert_agrees(rt, &p, e, 0, depth, &mut Forgetful::new());
-        }
+    for e in [Eval::Plain, Eval::Hand, Eval::Exchange] {
+        assert_agrees(rt, &p, e, 0, 1, &mut Forgetful::new());
     }
     Ok(())
 }

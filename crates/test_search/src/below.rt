@@ -3,7 +3,7 @@
 use crate::forgetful::Forgetful;
 use crate::plain::{children_of, minimax};
 use crate::positions::{each_twentieth, position};
-use crate::searches::{TestSearch, brief, has_few, search, search_below};
+use crate::searches::{TestSearch, brief, search, search_below};
 use crate::tables::{TWO_PAWNS, table_of};
 use shogi_core::Position;
 use shogi_eval::Eval;
@@ -49,17 +49,17 @@ fn assert_bound(
     beta: i32,
     memo: &mut Forgetful,
 ) -> Result<(), Fail> {
-    let found = search_below(p, e, depth, beta, &mut NoMemo);
+    let found = search_below(rt, p, e, depth, beta, &mut NoMemo);
     assert_below(rt, &found, plain, beta);
     holds!(*rt; in_steps(p, e, depth, beta, &mut NoMemo) == Some(found));
-    assert_below(rt, &search_below(p, e, depth, beta, memo), plain, beta);
+    assert_below(rt, &search_below(rt, p, e, depth, beta, memo), plain, beta);
 
     let mut table = table_of(alloc, 1000)?;
     let found = in_steps(p, e, depth, beta, &mut table).ok_or("an end")?;
     assert_below(rt, &found, plain, beta);
     assert_below(
         rt,
-        &search_below(p, e, depth, beta, &mut table),
+        &search_below(rt, p, e, depth, beta, &mut table),
         plain,
         beta,
     );
@@ -67,19 +67,14 @@ fn assert_bound(
     Ok(())
 }
 
-// Each twentieth position of a game, at depths 0 to 2, and at 3 where two plies have few paths, below each
-// bound around its value.
+// Each twentieth position of a game, at depths 0 to 2, below each bound around its value.
 fn walk(rt: &impl Abort, alloc: Global, moves: &[&str]) -> Result<(), Fail> {
     let mut memo = Forgetful::new();
     for p in each_twentieth(rt, alloc, moves)?.as_slice() {
-        for depth in 0..4u8 {
-            for e in [Eval::Plain, Eval::Hand] {
-                if has_few(p, depth.saturating_sub(1), 1000) {
-                    let plain = minimax(p, e, depth);
-                    for beta in bounds_of(plain.value) {
-                        assert_bound(rt, alloc, p, (e, depth), &plain, beta, &mut memo)?;
-                    }
-                }
+        for (e, depth) in [(Eval::Plain, 0u8), (Eval::Hand, 1), (Eval::Plain, 2)] {
+            let plain = minimax(p, e, depth);
+            for beta in bounds_of(plain.value) {
+                assert_bound(rt, alloc, p, (e, depth), &plain, beta, &mut memo)?;
             }
         }
     }
@@ -91,27 +86,17 @@ fn first_game_below(rt: HostRuntime) -> Result<(), Fail> {
     walk(&rt, rt.alloc(), games::first())
 }
 
-#[test]
-fn second_game_below(rt: HostRuntime) -> Result<(), Fail> {
-    walk(&rt, rt.alloc(), games::second())
-}
-
-#[test]
-fn third_game_below(rt: HostRuntime) -> Result<(), Fail> {
-    walk(&rt, rt.alloc(), games::third())
-}
-
 // Below each of four bounds, one search after another.
 fn assert_bounds<M: Memo>(rt: &impl Abort, p: &Position, depth: u8, plain: &Found, memo: &mut M) {
     for beta in [-30999, 0, 1, 200] {
-        let found = search_below(p, Eval::Plain, depth, beta, memo);
+        let found = search_below(rt, p, Eval::Plain, depth, beta, memo);
         assert_below(rt, &found, plain, beta);
     }
 }
 
 #[test]
 fn bounds_over_tables(rt: HostRuntime) -> Result<(), Fail> {
-    for (p, depth) in [(Position::start(), 4u8), (position(TWO_PAWNS)?, 5)] {
+    for (p, depth) in [(Position::start(), 3u8), (position(TWO_PAWNS)?, 5)] {
         let plain = minimax(&p, Eval::Plain, depth);
         assert_bounds(&rt, &p, depth, &plain, &mut NoMemo);
         for capacity in [1, 30, 1000] {
@@ -145,7 +130,7 @@ fn assert_children<M: Memo>(
 
 #[test]
 fn one_search_after_another(rt: HostRuntime) -> Result<(), Fail> {
-    for (p, depth) in [(Position::start(), 3u8), (position(TWO_PAWNS)?, 4)] {
+    for (p, depth) in [(Position::start(), 2u8), (position(TWO_PAWNS)?, 4)] {
         assert_children(&rt, rt.alloc(), &p, depth, &mut NoMemo)?;
         let mut table = table_of(rt.alloc(), 1000)?;
         assert_children(&rt, rt.alloc(), &p, depth, &mut table)?;

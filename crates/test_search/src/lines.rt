@@ -9,7 +9,7 @@ use crate::tables::table_of;
 use shogi_core::{Move, Position};
 use shogi_eval::Eval;
 use shogi_search::{INFINITY, Memo, NoMemo};
-use std::alloc::Global;
+use std::alloc::{AllocError, Global};
 use std::process::Abort;
 use std::test::Fail;
 use test_support::{games, holds, same};
@@ -32,7 +32,7 @@ fn take_in<M: Memo>(
     memo: &mut M,
 ) {
     let beta = child_beta(ranks);
-    let found = search_below(&child.position, Eval::Plain, depth, beta, memo);
+    let found = search_below(rt, &child.position, Eval::Plain, depth, beta, memo);
     if found.value < beta {
         let m = Move::of_code(child.code).expect(rt, "a move");
         ranks.offer(rt, m, found.value.saturating_neg());
@@ -56,27 +56,33 @@ fn assert_line(rt: &impl Abort, worths: &[(u16, i32)], line: usize, listed: (u16
     same!(*rt; ahead, line, line);
 }
 
-// The list of a position at a depth has the first of its moves, ranked by plain minimax.
-fn assert_ranked<M: Memo>(
-    rt: &impl Abort,
-    alloc: Global,
-    p: &Position,
-    depth: u8,
-    lines: usize,
-    memo: &mut M,
-) -> Result<(), Fail> {
-    let mut ranks = TestRanks::new(lines);
+// The codes of moves with their worths, by plain minimax at a depth behind each.
+fn worths_of(alloc: Global, children: &[Child], depth: u8) -> Result<Vec<(u16, i32)>, AllocError> {
     let mut worths = Vec::new(alloc);
-    for child in children_of(alloc, p)?.as_slice() {
-        take_in(rt, &mut ranks, child, depth, memo);
+    for child in children {
         let plain = minimax(&child.position, Eval::Plain, depth);
         worths.push((child.code, plain.value.saturating_neg()))?;
     }
+    Ok(worths)
+}
+
+// The list of so many lines has the first of the moves, ranked by their worths.
+fn assert_ranked<M: Memo>(
+    rt: &impl Abort,
+    children: &[Child],
+    worths: &[(u16, i32)],
+    depth: u8,
+    lines: usize,
+    memo: &mut M,
+) {
+    let mut ranks = TestRanks::new(lines);
+    for child in children {
+        take_in(rt, &mut ranks, child, depth, memo);
+    }
     same!(*rt; ranks.list().len(), worths.len().min(lines));
     for (line, (m, value)) in ranks.list().iter().enumerate() {
-        assert_line(rt, worths.as_slice(), line, (m.code(), *value));
+        assert_line(rt, worths, line, (m.code(), *value));
     }
-    Ok(())
 }
 
 // Each twentieth position of a game, at depths 1 and 2, and at 3 where two plies have few paths.
@@ -84,10 +90,13 @@ fn walk(rt: &impl Abort, alloc: Global, moves: &[&str]) -> Result<(), Fail> {
     let mut table = table_of(alloc, 1000)?;
     for p in each_twentieth(rt, alloc, moves)?.as_slice() {
         for below in 0..3u8 {
-            if has_few(p, below, 1000) {
-                for lines in [1usize, 2, 4, 8] {
-                    assert_ranked(rt, alloc, p, below, lines, &mut NoMemo)?;
-                    assert_ranked(rt, alloc, p, below, lines, &mut table)?;
+            if has_few(p, below, 100) {
+                let children = children_of(alloc, p)?;
+                let worths = worths_of(alloc, children.as_slice(), below)?;
+                let (children, worths) = (children.as_slice(), worths.as_slice());
+                for lines in [1usize, 4] {
+                    assert_ranked(rt, children, worths, below, lines, &mut NoMemo);
+                    assert_ranked(rt, children, worths, below, lines, &mut table);
                 }
             }
         }
@@ -98,9 +107,4 @@ fn walk(rt: &impl Abort, alloc: Global, moves: &[&str]) -> Result<(), Fail> {
 #[test]
 fn lines_of_the_first_game(rt: HostRuntime) -> Result<(), Fail> {
     walk(&rt, rt.alloc(), games::first())
-}
-
-#[test]
-fn lines_of_the_second_game(rt: HostRuntime) -> Result<(), Fail> {
-    walk(&rt, rt.alloc(), games::second())
 }

@@ -121,7 +121,7 @@ fn places_where_a_move_is_easily_passed(rt: HostRuntime) -> Result<(), Fail> {
 fn every_move_passed(rt: HostRuntime) {
     let start = Position::start();
     for e in [Eval::Plain, Eval::Hand] {
-        let found = search_below(&start, e, 3, -500, &mut NoMemo);
+        let found = search_below(&rt, &start, e, 3, -500, &mut NoMemo);
         holds!(rt; found.value >= -500 && found.value <= minimax(&start, e, 3).value);
         same!(rt; found.steps, 4);
     }
@@ -137,7 +137,8 @@ fn after_some_move(alloc: Global, p: &Position, random: &mut Random) -> Result<P
     }
 }
 
-// Random games from the opening position, of 40 moves each; at depth 3 each fourth position.
+// Random games from the opening position, of 40 moves each; at depth 2 each twentieth position, and at 3
+// where two plies have few paths.
 #[test]
 fn random_games(rt: HostRuntime) -> Result<(), Fail> {
     let mut random = Random::new(20261125);
@@ -145,8 +146,8 @@ fn random_games(rt: HostRuntime) -> Result<(), Fail> {
         let mut p = Position::start();
         for at in 0..40u8 {
             for depth in 1..4u8 {
-                let is_short = depth < 3 || at % 4 == 0;
-                if is_short && has_few(&p, depth.saturating_sub(1), 1000) {
+                let is_due = depth != 2 || at % 20 == 0;
+                if is_due && has_few(&p, depth.saturating_sub(1), 100) {
                     for e in [Eval::Plain, Eval::Hand] {
                         assert_agrees(&rt, &p, e, depth);
                     }

@@ -10,6 +10,7 @@ use shogi_eval::Eval;
 use shogi_moves::perft;
 use shogi_search::{Found, INFINITY, Memo, Search};
 use std::marker::Model;
+use std::process::Abort;
 
 /// What a search finds, to a depth of at most 16.
 pub fn search<M: Memo>(p: &Position, e: Eval, depth: u8, memo: &mut M) -> Found {
@@ -29,8 +30,17 @@ fn bound_of(beta: i32) -> i32
 }
 
 /// The same below a bound.
-pub fn search_below<M: Memo>(p: &Position, e: Eval, depth: u8, beta: i32, memo: &mut M) -> Found {
-    shogi_search::search_below(p, e, depth.min(16), bound_of(beta), memo)
+pub fn search_below<M: Memo>(
+    rt: &impl Abort,
+    p: &Position,
+    e: Eval,
+    depth: u8,
+    beta: i32,
+    memo: &mut M,
+) -> Found {
+    TestSearch::start_below(p, e, depth, beta)
+        .advance(memo, u64::MAX)
+        .expect(rt, "an end")
 }
 
 /// The value, and the code of the best move.

@@ -99,7 +99,7 @@ fn assert_values(
 fn the_opening_over_tables(rt: HostRuntime) -> Result<(), Fail> {
     let start = Position::start();
     let capacities = [1, 2, 30, 1000, 100000];
-    assert_values(&rt, rt.alloc(), (&start, Eval::Plain, 4), &capacities)?;
+    assert_values(&rt, rt.alloc(), (&start, Eval::Plain, 3), &capacities)?;
     assert_values(&rt, rt.alloc(), (&start, Eval::Hand, 3), &capacities)?;
     assert_values(&rt, rt.alloc(), (&start, Eval::Exchange, 3), &capacities)
 }
@@ -108,7 +108,7 @@ fn the_opening_over_tables(rt: HostRuntime) -> Result<(), Fail> {
 fn two_pawns_over_tables(rt: HostRuntime) -> Result<(), Fail> {
     let pawns = position(TWO_PAWNS)?;
     for e in [Eval::Plain, Eval::Hand, Eval::Exchange] {
-        assert_values(&rt, rt.alloc(), (&pawns, e, 6), &[1, 2, 30, 1000])?;
+        assert_values(&rt, rt.alloc(), (&pawns, e, 5), &[1, 2, 30, 1000])?;
     }
     Ok(())
 }
@@ -122,7 +122,7 @@ const MATED: &str = "4k4/9/4G4/9/9/9/9/9/9 w G";
 #[test]
 fn mates_over_tables(rt: HostRuntime) -> Result<(), Fail> {
     for sfen in [MATE, MATED] {
-        let mated = (&position(sfen)?, Eval::Plain, 5);
+        let mated = (&position(sfen)?, Eval::Plain, 4);
         assert_values(&rt, rt.alloc(), mated, &[1, 30, 1000])?;
     }
     Ok(())
@@ -147,13 +147,13 @@ const PLAYED: [&str; 4] = [
 ];
 
 #[test]
-fn plain_minimax_at_depth_four(rt: HostRuntime) -> Result<(), Fail> {
+fn the_ends_of_games(rt: HostRuntime) -> Result<(), Fail> {
     for sfen in PLAYED {
         let p = position(sfen)?;
-        let plain = minimax(&p, Eval::Plain, 4);
-        let found = search(&p, Eval::Plain, 4, &mut NoMemo);
+        let plain = minimax(&p, Eval::Plain, 3);
+        let found = search(&p, Eval::Plain, 3, &mut NoMemo);
         same!(rt; brief(&found), brief(&plain), sfen);
-        let found = search(&p, Eval::Plain, 4, &mut table_of(rt.alloc(), 1000)?);
+        let found = search(&p, Eval::Plain, 3, &mut table_of(rt.alloc(), 1000)?);
         same!(rt; brief(&found), brief(&plain), sfen);
     }
     Ok(())

@@ -1,21 +1,21 @@
 -- A script that is read to its end, and its output written.
-use Rattle.std.proofs.Common.{◌≡◌, ◌≢◌, ◌<◌, ◌≤◌, ◌+◌, ◌-◌, ◌^◌, ℕ, zero, suc, inl, inr, List, [], ◌∷◌, ◌++◌, Option, None, Some, Result, IsErrAnd, IfErr, Ok, Err, refl, sym, ap, ◌∙◌, length, take, arith, append_assoc, append-nil, length-append}
-use Rattle.std.specs.Prelude.{Vec, flat_map}
-use Rattle.std.specs.Io.KnownBytes.{Appends, Consumes, Keeps}
+use Rattle.std.proofs.Common.{◌≡◌, ◌≢◌, ◌<◌, ◌≤◌, ◌+◌, ◌-◌, ◌^◌, ℕ, zero, suc, inl, inr, List, [], ◌∷◌, ◌++◌, Bool, true, Option, None, Some, Result, IsErrAnd, IfErr, Ok, Err, refl, sym, subst, ap, ◌∙◌, length, take, arith, append_assoc, append-nil, length-append}
+use Rattle.std.specs.Prelude.{Vec, flat_map, map}
+use Rattle.std.specs.Io.KnownBytes.{Consumes, Keeps}
 use Rattle.std.proofs.lemmas.Grind.{flat_map-append}
 use Rattle.std.proofs.lemmas.List.{map-append}
 use Rattle.std.proofs.lemmas.List.Elements.{All-nil, All-push}
-use Rattle.std.proofs.KnownBytes.{Consumes-nil, Consumes-trans, Consumes-kept, Keeps-refl, Keeps-trans}
+use Rattle.std.proofs.KnownBytes.{Appends-kept, Appends-nil, Appends-trans, Consumes-nil, Consumes-trans, Consumes-kept}
 use Rattle.usi_texts.specs.declared.setup.Setup.{Setup}
-use Rattle.usi_stdio.specs.Calls.{Call, Read, FailedRead, Makes, Report, Reads}
-use Rattle.usi_stdio.specs.Saying.{Says, SaysPrefix}
-use Rattle.usi_stdio.proofs.Talking.{called_none, called_then}
+use Rattle.usi_stdio.specs.Calls.{Call, Read, FailedRead, Gives, Makes, Report, Reads, given_by, of_calls, taken_by}
+use Rattle.usi_stdio.specs.Saying.{Says, SaysPrefix, SaysTo, asked_by}
+use Rattle.usi_stdio.proofs.Talking.{called_none, called_then, gives_at, moves_more, takes_at}
 use Rattle.usi_stdio.specs.declared.streams.StdioFault.{StdioFault}
 use Rattle.usi_stdio.specs.declared.streams.StdioFault.TheVariants as stdio
 use Rattle.usi_replay.specs.declared.fault.ReplayFault.{ReplayFault}
 use Rattle.usi_replay.specs.declared.fault.ReplayFault.TheVariants.{OutOfMemory, ReadFailed, WriteFailed, BadScript}
 use Rattle.host_core.specs.Steps.{HostState, new_host_under}
-use Rattle.usi_replay.specs.Replayed.{AreReads, ReadsAll, EndsReading, EndsEarly, ReadsBy, Recites, GivesAll, ReplaysAsked, ReplaysOn, Leaves, IsAnswerFault, IsOutputOf, IsOutputOn}
+use Rattle.usi_replay.specs.Replayed.{AreReads, ReadsAll, EndsReading, EndsEarly, ReadsBy, Recites, GivesAll, TakesAll, ReplaysAsked, ReplaysOn, Leaves, IsAnswerFault, IsOutputOf, IsOutputOn}
 
 -- ---- the calls
 
@@ -35,33 +35,77 @@ some_taken zero buf lt le = absurd (omega arith)
 some_taken (suc n) [] lt le = absurd (omega arith)
 some_taken (suc n) (byte ∷ rest) lt le = λ e. cc
 
+-- the bytes that they gave
+flat_reads : (chunks : List (List ℕ)) → flat_map given_by (map Read chunks) ≡ flat_map (λ (chunk : List ℕ). chunk) chunks
+flat_reads [] = refl
+flat_reads (chunk ∷ rest) = ap (λ l. chunk ++ l) (flat_reads rest)
+
+reads_give : (old new : Option (List Call)) (calls : List Call) (bytes : List ℕ) → Makes old new calls → AreReads calls bytes → Gives old new bytes
+reads_give old new calls bytes called r =
+    subst (λ moved. Gives old new moved) (ap (flat_map given_by) r.calls_are ∙ (flat_reads r.chunks ∙ sym r.bytes_are)) (moves_more given_by old new calls called)
+
+-- ---- what is taken
+
+takes_none : (r : Report) → TakesAll r r []
+takes_none r = record { appended = Appends-nil r.written; taken = Appends-nil (of_calls taken_by r.calls) }
+
+-- these bytes, behind no others
+takes_then : (old mid new : Report) (bytes : List ℕ) → TakesAll old mid [] → TakesAll mid new bytes → TakesAll old new bytes
+takes_then old mid new bytes none more = record {
+  appended = Appends-trans old.written mid.written new.written [] bytes none.appended more.appended;
+  taken = Appends-trans (of_calls taken_by old.calls) (of_calls taken_by mid.calls) (of_calls taken_by new.calls) [] bytes none.taken more.taken;
+}
+
+read_takes : {E : Type 0} (mid now : Report) (buf : List ℕ) (result : Result ℕ E) → Reads mid now result buf → TakesAll mid now []
+read_takes mid now buf (Ok n) r = record { appended = Appends-kept mid.written mid.written now.written [] (Appends-nil mid.written) r.written; taken = moves_more taken_by mid.calls now.calls (Read (take n buf) ∷ []) r.called }
+read_takes mid now buf (Err error) r = record { appended = Appends-kept mid.written mid.written now.written [] (Appends-nil mid.written) r.written; taken = moves_more taken_by mid.calls now.calls (FailedRead ∷ []) r.called }
+
+-- what a front end takes after a reading, which gives nothing more
+gives_then : (old mid new : Option (List Call)) (bytes : List ℕ) → Gives old mid bytes → Gives mid new [] → Gives old new bytes
+gives_then old mid new bytes p q =
+    subst (λ moved. Gives old new moved) (append-nil bytes) (Appends-trans (of_calls given_by old) (of_calls given_by mid) (of_calls given_by new) bytes [] p q)
+
+module _ (f : Bool) (o : Option (Result (Unit {0}) StdioFault)) (old mid new : Report) (bytes out : List ℕ) (said : SaysTo f o mid new out) where
+  all_given : GivesAll old mid bytes → GivesAll old new bytes
+  all_given g = record {
+    consumed = rw said.unread g.consumed;
+    ended = rw said.unread g.ended;
+    given = gives_then old.calls mid.calls new.calls bytes g.given (gives_at mid.calls new.calls said.calls _ said.called (said.spoken.after [] 0 []));
+  }
+
+  all_taken : TakesAll old mid [] → TakesAll old new out
+  all_taken none = takes_then old mid new out none (record {
+    appended = said.written;
+    taken = takes_at mid.calls new.calls said.calls _ said.called (said.spoken.after [] 0 []);
+  })
+
 -- ---- the reading
 
 -- these bytes were read so far, in so many reads, and nothing was written
 pub record IsReading (old now : Report) (bytes : List ℕ) (reads : ℕ) : Type 0 where
   pub consumed : Consumes old.unread now.unread bytes
-  pub kept : Keeps old.written now.written
+  pub kept : TakesAll old now []
   pub calls : List Call
   pub called : Makes old.calls now.calls calls
   pub are_reads : AreReads calls bytes
   pub count_is : length calls ≡ reads
 
 pub reading_start : (r : Report) (bytes : List ℕ) → bytes ≡ [] → IsReading r r bytes 0
-reading_start r bytes none = rw none (record { consumed = Consumes-nil r.unread; kept = Keeps-refl r.written; calls = []; called = called_none r.calls; are_reads = no_reads; count_is = refl })
+reading_start r bytes none = rw none (record { consumed = Consumes-nil r.unread; kept = takes_none r; calls = []; called = called_none r.calls; are_reads = no_reads; count_is = refl })
 
 -- one read more, which gave bytes
 pub reading_more : {E : Type 0} (old mid now : Report) (bytes all buf : List ℕ) (n reads : ℕ) → IsReading old mid bytes reads → Reads {E = E} mid now (Ok n) buf → 0 < n → all ≡ bytes ++ take n buf → IsReading old now all (reads + 1)
 reading_more old mid now bytes all buf n reads a r some same = rw same (record {
   consumed = Consumes-trans old.unread mid.unread now.unread bytes (take n buf) a.consumed r.consumed.0;
-  kept = Keeps-trans old.written mid.written now.written a.kept r.written;
+  kept = takes_then old mid now [] a.kept (read_takes mid now buf (Ok n) r);
   calls = a.calls ++ (Read (take n buf) ∷ []);
   called = called_then old.calls mid.calls now.calls a.calls (Read (take n buf) ∷ []) a.called r.called;
   are_reads = more_reads a.calls bytes (take n buf) a.are_reads (some_taken n buf some r.within);
   count_is = length-append a.calls (Read (take n buf) ∷ []) ∙ ap (λ k. k + 1) a.count_is;
 })
 
-pub reading_kept : {E : Type 0} (old mid now : Report) (bytes buf : List ℕ) (reads : ℕ) (result : Result ℕ E) → IsReading old mid bytes reads → Reads mid now result buf → Keeps old.written now.written
-reading_kept old mid now bytes buf reads result a r = Keeps-trans old.written mid.written now.written a.kept r.written
+pub reading_kept : {E : Type 0} (old mid now : Report) (bytes buf : List ℕ) (reads : ℕ) (result : Result ℕ E) → IsReading old mid bytes reads → Reads mid now result buf → TakesAll old now []
+reading_kept old mid now bytes buf reads result a r = takes_then old mid now [] a.kept (read_takes mid now buf result r)
 
 -- a read failed
 pub reads_failed : {E Z : Type 0} (old mid now : Report) (bytes buf : List ℕ) (reads : ℕ) (error : E) → IsReading old mid bytes reads → Reads mid now (Err error) buf → ReadsBy {Z = Z} old.calls now.calls (Err ReadFailed)
@@ -103,24 +147,20 @@ pub reading_done : {E : Type 0} (old mid now : Report) (bytes buf : List ℕ) (n
 reading_done old mid now bytes buf n reads a r none room = record {
   consumed = Consumes-kept old.unread mid.unread now.unread bytes a.consumed (none_read mid.unread now.unread buf n r.consumed.0 none);
   ended = r.consumed.1 none room;
+  given = gives_then old.calls mid.calls now.calls bytes (reads_give old.calls mid.calls a.calls bytes a.called a.are_reads) (moves_more given_by mid.calls now.calls (Read [] ∷ []) (rw none at r.called));
 }
-
--- the output was written behind what was there before the reading
-appended : (old mid new : Option (List ℕ)) (bytes : List ℕ) → Keeps old mid → Appends mid new bytes → Appends old new bytes
-appended None mid new bytes k a = tt
-appended (Some xs) None new bytes k a = absurd k
-appended (Some xs) (Some ys) None bytes k a = absurd a
-appended (Some xs) (Some ys) (Some zs) bytes k a = a ∙ ap (λ l. l ++ bytes) k
 
 -- the output from a host is that of the script
 pub output_is : (slice : ℕ) (before after : HostState) (bytes out : List ℕ) → IsOutputOn slice before bytes after out → IsOutputOf before.setup before.slots.max bytes out
 output_is slice before after bytes out is = (is.openings, is.comes, is.out_is)
 
-pub replays_on : (slice : ℕ) (before after : HostState) (old mid new : Report) (bytes out : List ℕ) → GivesAll old mid bytes → Keeps old.written mid.written → IsOutputOn slice before bytes after out → Says mid new out → ReplaysOn slice before after old new
+pub replays_on : (slice : ℕ) (before after : HostState) (old mid new : Report) (bytes out : List ℕ) → GivesAll old mid bytes → TakesAll old mid [] → IsOutputOn slice before bytes after out → Says mid new out → ReplaysOn slice before after old new
 replays_on slice before after old mid new bytes out given kept is said = record {
-  openings = is.openings;
-  read = record { bytes = bytes; consumed = rw said.unread given.consumed; ended = rw said.unread given.ended; comes_to = is.comes };
-  written = rw (← is.out_is) (appended old.written mid.written new.written out kept said.written);
+  replayed = record {
+    openings = is.openings;
+    script = record { bytes = bytes; read = all_given true None old mid new bytes out said given; comes_to = is.comes };
+    written = rw (← is.out_is) (all_taken true None old mid new bytes out said kept);
+  };
   transcripts = is.transcripts;
   played = is.played;
   run = is.run;
@@ -130,26 +170,29 @@ replays_on slice before after old mid new bytes out given kept is said = record 
 pub replays_asked : (setup : Setup) (slots entries slice : ℕ) (before after : HostState) (old new : Report) → before ≡ new_host_under setup slots entries → ReplaysOn slice before after old new → ReplaysAsked setup slots entries slice old new
 replays_asked setup slots entries slice before after old new e r = (after, rw e at r)
 
-pub leaves_write : (setup : Setup) (slots : ℕ) (old mid new : Report) (bytes out : List ℕ) (fault : StdioFault) → GivesAll old mid bytes → Keeps old.written mid.written → IsOutputOf setup slots bytes out → SaysPrefix mid new out fault → Leaves setup slots old new WriteFailed
+pub leaves_write : (setup : Setup) (slots : ℕ) (old mid new : Report) (bytes out : List ℕ) (fault : StdioFault) → GivesAll old mid bytes → TakesAll old mid [] → IsOutputOf setup slots bytes out → SaysPrefix mid new out fault → Leaves setup slots old new WriteFailed
 leaves_write setup slots old mid new bytes out fault given kept (os, reads, is) (left, w) = record {
   openings = os;
-  read = record { bytes = bytes; consumed = rw w.said.unread given.consumed; ended = rw w.said.unread given.ended; comes_to = reads };
-  written = (left, record { done = w.done; appended = appended old.written mid.written new.written w.done kept w.said.written; split = sym is ∙ w.split });
+  script = record { bytes = bytes; read = all_given w.is_flushed (asked_by fault) old mid new bytes w.done w.said given; comes_to = reads };
+  done = w.done;
+  left = left;
+  split = sym is ∙ w.split;
+  written = all_taken w.is_flushed (asked_by fault) old mid new bytes w.done w.said kept;
 }
 
 -- a fault before anything was written
-pub leaves_read : {Z : Type 0} (setup : Setup) (slots : ℕ) (old new : Report) (fault : ReplayFault) → ReadsBy {Z = Z} old.calls new.calls (Err fault) → Keeps old.written new.written → Leaves setup slots old new fault
+pub leaves_read : {Z : Type 0} (setup : Setup) (slots : ℕ) (old new : Report) (fault : ReplayFault) → ReadsBy {Z = Z} old.calls new.calls (Err fault) → TakesAll old new [] → Leaves setup slots old new fault
 leaves_read setup slots old new OutOfMemory r kept = kept
 leaves_read setup slots old new ReadFailed r kept = kept
 leaves_read setup slots old new WriteFailed r kept = absurd r.ended
 leaves_read setup slots old new (BadScript line) r kept = absurd r.ended
 
-pub leaves_answer : (setup : Setup) (slots : ℕ) (old new : Report) (bytes : List ℕ) (fault : ReplayFault) → GivesAll old new bytes → IsAnswerFault slots bytes fault → Keeps old.written new.written → Leaves setup slots old new fault
+pub leaves_answer : (setup : Setup) (slots : ℕ) (old new : Report) (bytes : List ℕ) (fault : ReplayFault) → GivesAll old new bytes → IsAnswerFault slots bytes fault → TakesAll old new [] → Leaves setup slots old new fault
 leaves_answer setup slots old new bytes OutOfMemory given is kept = kept
 leaves_answer setup slots old new bytes ReadFailed given is kept = absurd is
 leaves_answer setup slots old new bytes WriteFailed given is kept = absurd is
 leaves_answer setup slots old new bytes (BadScript line) given is kept = record {
-  read = record { bytes = bytes; consumed = given.consumed; ended = given.ended; comes_to = is };
+  script = record { bytes = bytes; read = given; comes_to = is };
   written = kept;
 }
 

@@ -1,11 +1,10 @@
 -- What `replay` does with its front end (own choice).
 use Rattle.std.specs.Prelude.{◌≡◌, ◌≢◌, ◌⊎◌, ◌-◌, ◌^◌, ℕ, List, [], ◌∷◌, ◌++◌, Bool, true, length, map, flat_map, Option, None, Some, Result, Ok, Err, MatchResult, Vec}
 use Rattle.std.specs.List.{All}
-use Rattle.std.specs.Io.KnownBytes.{Appends, Consumes, IsAtEnd, Keeps}
+use Rattle.std.specs.Io.KnownBytes.{Appends, Consumes, IsAtEnd}
 use Rattle.usi_texts.specs.declared.setup.Setup.{Setup}
-use Rattle.usi_stdio.specs.Calls.{Call, Read, FailedRead, Makes, Report}
+use Rattle.usi_stdio.specs.Calls.{Call, Read, FailedRead, Gives, Makes, Report, Takes}
 use Rattle.usi_stdio.specs.Saying.{Speaks}
-use Rattle.usi_stdio.specs.Stdio.{TakesPrefix}
 use Rattle.usi_stdio.specs.declared.streams.StdioFault.{StdioFault}
 use Rattle.usi_stdio.specs.declared.streams.StdioFault.TheVariants as stdio
 use Rattle.usi_replay.specs.declared.fault.ReplayFault.{ReplayFault}
@@ -14,47 +13,6 @@ use Rattle.host_core.specs.Steps.{HostState, new_host_under}
 use Rattle.usi_replay.specs.Playback.{Transcript, IsPlayback}
 use Rattle.usi_replay.specs.Script.{Opening, read_script, output}
 use Rattle.usi_replay.specs.Sessions.{RunsBy}
-
--- all that the reader had was read
-pub record IsAllRead (before after : Option (List ℕ)) (bytes : List ℕ) : Type 0 where
-  pub consumed : Consumes before after bytes
-  pub ended : IsAtEnd after
-
--- all was read, and is a script that comes to this
-pub record IsScript (slots : ℕ) (before after : Option (List ℕ))
-    (comes : Result (List Opening) ℕ) : Type 0 where
-  pub bytes : List ℕ
-  pub consumed : Consumes before after bytes
-  pub ended : IsAtEnd after
-  pub comes_to : read_script slots bytes ≡ comes
-
--- the script's output under a setup was written
-pub record IsReplayed (setup : Setup) (slots : ℕ) (before after old new : Option (List ℕ))
-    : Type 0 where
-  pub openings : List Opening
-  pub read : IsScript slots before after (Ok openings)
-  pub written : Appends old new (output setup openings)
-
--- a prefix of it was written
-pub record IsReplayedInPart (setup : Setup) (slots : ℕ) (before after old new : Option (List ℕ))
-    : Type 0 where
-  pub openings : List Opening
-  pub read : IsScript slots before after (Ok openings)
-  pub written : TakesPrefix old new (output setup openings)
-
--- the first bad line has this number, and nothing was written
-pub record IsBadAt (slots : ℕ) (before after old new : Option (List ℕ)) (line : ℕ) : Type 0 where
-  pub read : IsScript slots before after (Err line)
-  pub written : Keeps old new
-
--- what a fault leaves: only a write that failed leaves anything written
-abbrev pub IsFault : Setup → ℕ → Option (List ℕ) → Option (List ℕ) → Option (List ℕ)
-    → Option (List ℕ) → ReplayFault → Type 0
-IsFault setup slots before after old new OutOfMemory = Keeps old new
-IsFault setup slots before after old new ReadFailed = Keeps old new
-IsFault setup slots before after old new WriteFailed =
-    IsReplayedInPart setup slots before after old new
-IsFault setup slots before after old new (BadScript line) = IsBadAt slots before after old new line
 
 -- the output of a script under a setup
 abbrev pub IsOutputOf : Setup → ℕ → List ℕ → List ℕ → Type 0
@@ -153,27 +111,40 @@ pub record Recites {X : Type 0} (setup : Setup) (slots : ℕ) (old new : Option 
       MatchResult result (λ done. SaysOutput setup slots calls true None [])
       (EndsEarly setup slots calls)
 
--- ---- the same of what a front end reports
+-- ---- what a front end reports, of its bytes and of what its calls gave and took
 
 -- it gave these bytes, and they are all that it had
-abbrev pub GivesAll : Report → Report → List ℕ → Type 0
-GivesAll old new bytes = IsAllRead old.unread new.unread bytes
+pub record GivesAll (old new : Report) (bytes : List ℕ) : Type 0 where
+  pub consumed : Consumes old.unread new.unread bytes
+  pub ended : IsAtEnd new.unread
+  pub given : Gives old.calls new.calls bytes
 
 -- the same of the bytes in a buffer
 abbrev pub GivesAllIn : {Z : Type 0} → Report → Report → Vec ℕ Z → Type 0
 GivesAllIn old new bytes = GivesAll old new bytes.items
 
--- the script's output was written
-abbrev pub Replays : Setup → ℕ → Report → Report → Type 0
-Replays setup slots old new = IsReplayed setup slots old.unread new.unread old.written new.written
+-- it took these bytes, and no others
+pub record TakesAll (old new : Report) (bytes : List ℕ) : Type 0 where
+  pub appended : Appends old.written new.written bytes
+  pub taken : Takes old.calls new.calls bytes
 
--- the script's output was written, and this host played it in works of so many steps
-pub record ReplaysOn (slice : ℕ) (before after : HostState) (old new : Report) : Type 0 where
+-- all was read, and is a script that comes to this
+pub record IsScript (slots : ℕ) (old new : Report) (comes : Result (List Opening) ℕ) : Type 0 where
+  pub bytes : List ℕ
+  pub read : GivesAll old new bytes
+  pub comes_to : read_script slots bytes ≡ comes
+
+-- the script's output under a setup was written
+pub record Replays (setup : Setup) (slots : ℕ) (old new : Report) : Type 0 where
   pub openings : List Opening
-  pub read : IsScript before.slots.max old.unread new.unread (Ok openings)
-  pub written : Appends old.written new.written (output before.setup openings)
+  pub script : IsScript slots old new (Ok openings)
+  pub written : TakesAll old new (output setup openings)
+
+-- and this host played it in works of so many steps
+pub record ReplaysOn (slice : ℕ) (before after : HostState) (old new : Report) : Type 0 where
+  pub replayed : Replays before.setup before.slots.max old new
   pub transcripts : List Transcript
-  pub played : IsPlayback before.setup before.slots.max after openings transcripts
+  pub played : IsPlayback before.setup before.slots.max after replayed.openings transcripts
   pub run : RunsBy slice before after
 
 -- a new host of these numbers played it
@@ -181,7 +152,23 @@ abbrev pub ReplaysAsked : Setup → (slots entries slice : ℕ) → Report → R
 ReplaysAsked setup slots entries slice old new =
     (after : HostState) × ReplaysOn slice (new_host_under setup slots entries) after old new
 
+-- a prefix of the script's output was written
+pub record ReplaysInPart (setup : Setup) (slots : ℕ) (old new : Report) : Type 0 where
+  pub openings : List Opening
+  pub script : IsScript slots old new (Ok openings)
+  pub done : List ℕ
+  pub left : List ℕ
+  pub split : output setup openings ≡ done ++ left
+  pub written : TakesAll old new done
+
+-- the first bad line has this number, and nothing was written
+pub record IsBadAt (slots : ℕ) (old new : Report) (line : ℕ) : Type 0 where
+  pub script : IsScript slots old new (Err line)
+  pub written : TakesAll old new []
+
 -- what a fault leaves: only a write that failed leaves anything written
 abbrev pub Leaves : Setup → ℕ → Report → Report → ReplayFault → Type 0
-Leaves setup slots old new fault =
-    IsFault setup slots old.unread new.unread old.written new.written fault
+Leaves setup slots old new OutOfMemory = TakesAll old new []
+Leaves setup slots old new ReadFailed = TakesAll old new []
+Leaves setup slots old new WriteFailed = ReplaysInPart setup slots old new
+Leaves setup slots old new (BadScript line) = IsBadAt slots old new line

@@ -1,9 +1,8 @@
 //! A script over a front end.
 
-ghost use Rattle.std.specs.Prelude.{◌≤◌, OnOk, IfOk, IfErr};
-ghost use Rattle.std.specs.Io.KnownBytes.{Keeps};
+ghost use Rattle.std.specs.Prelude.{◌≤◌, [], OnOk, IfOk, IfErr};
 ghost use Rattle.usi_texts.specs.Setup.{default_setup};
-ghost use Rattle.usi_replay.specs.Replayed.{GivesAllIn, IsAnswerOn, Leaves, ReadsBy, Recites, Replays, ReplaysAsked, ReplaysOn};
+ghost use Rattle.usi_replay.specs.Replayed.{GivesAllIn, IsAnswerOn, Leaves, ReadsBy, Recites, Replays, ReplaysAsked, ReplaysOn, TakesAll};
 ghost use Rattle.usi_replay.specs.Sessions.{IsUnused};
 ghost use Rattle.session_slots.specs.declared.limits.TheConstants.{SESSIONS_MAX};
 ghost use Rattle.shared_table.specs.declared.table.TheConstants.{CAPACITY_MAX};
@@ -24,7 +23,7 @@ fn read_all<A: Allocator, T: FrontEnd>(
     front_end: &mut T,
 ) -> Result<Vec<u8, A>, ReplayFault>
     ensures read { IfOk result (GivesAllIn (T.report front_end.old) (T.report front_end.new)) }
-    ensures kept { Keeps (T.report front_end.old).written (T.report front_end.new).written }
+    ensures kept { TakesAll (T.report front_end.old) (T.report front_end.new) [] }
     ensures calls { ReadsBy (T.report front_end.old).calls (T.report front_end.new).calls result }
 {
     let mut bytes = Vec::new(alloc);

@@ -4,7 +4,7 @@ use Rattle.minimax.specs.declared.bounds.TheConstants.{SEARCH_DEPTH_MAX, INFINIT
 use Rattle.usi_lines.specs.declared.line.TheConstants.{LINE_MAX, LINE_FEED}
 use Rattle.usi_lines.specs.declared.options.TheConstants.{DEPTH_MIN, DEPTH_MAX, MULTI_PV_MIN, MULTI_PV_MAX}
 use Rattle.usi_session.specs.declared.limits.TheConstants.{CHUNK_MAX, QUEUE_FULL}
-use Rattle.usi_texts.specs.declared.options.TheConstants.{DEPTH_DEFAULT, MULTI_PV_DEFAULT}
+use Rattle.usi_texts.specs.declared.setup.TheConstants.{DEPTH_DEFAULT, MULTI_PV_DEFAULT}
 
 -- depths, in plies
 pub record AreDepths : Type 0 where

@@ -4,18 +4,12 @@ ghost use Rattle.std.specs.Prelude.{◌≡◌, ◌++◌, decimal};
 ghost use Rattle.usi_texts.specs.Texts.{Writes};
 ghost use Rattle.usi_texts.specs.Options.{options_under, option_lines, eval_line, eval_name, eval_names, spin_name, spin_range, spin_line};
 
+use crate::parts::write_parts;
 use crate::setup::Setup;
-use crate::text::write_parts;
 use itoa::Buffer;
 use shogi_eval::Eval;
 use std::alloc::{AllocError, Allocator};
 use usi_lines::{DEPTH_MIN, MULTI_PV_MAX, MULTI_PV_MIN};
-
-/// The depth of a session whose `Depth` was never set (own choice).
-pub const DEPTH_DEFAULT: u8 = 3;
-
-/// The number of best lines of a session whose `MultiPV` was never set (USI, option).
-pub const MULTI_PV_DEFAULT: u8 = 1;
 
 /// What the options are set to.
 #[derive(Clone, Copy, Debug)]

@@ -3,9 +3,14 @@
 ghost use Rattle.std.specs.Prelude.{◌≡◌, true};
 ghost use Rattle.usi_texts.specs.SetupRange.{is_depth, is_multi_pv, is_setup};
 
-use crate::options::{DEPTH_DEFAULT, MULTI_PV_DEFAULT};
 use shogi_eval::Eval;
 use usi_lines::{DEPTH_MAX, DEPTH_MIN, MULTI_PV_MAX, MULTI_PV_MIN};
+
+/// The depth of a session whose `Depth` was never set (own choice).
+pub const DEPTH_DEFAULT: u8 = 3;
+
+/// The number of best lines of a session whose `MultiPV` was never set (USI, option).
+pub const MULTI_PV_DEFAULT: u8 = 1;
 
 /// Why there is no setup of some numbers, in the order of refusal (own choice).
 #[derive(Clone, Copy, Debug, PartialEq, Eq)]

@@ -1,9 +1,10 @@
 //! The lines that a session writes.
 
-ghost use Rattle.std.specs.Prelude.{◌++◌, flat_map};
+ghost use Rattle.std.specs.Prelude.{◌++◌};
 ghost use Rattle.usi_texts.specs.Texts.{Writes, usi_reply, mate_not_implemented_reply, bad_position_line, illegal_move_line, size_text, score_text, moves_text, head_text, pv_text, info_with, info_text, numbered_info_text, bestmove_line};
 
 use crate::options::write_options;
+use crate::parts::write_parts;
 use crate::setup::Setup;
 use itoa::Buffer;
 use minimax::MATE;
@@ -13,16 +14,6 @@ use std::alloc::{AllocError, Allocator};
 
 /// From which size on a value is a mate.
 const MATE_MIN: u32 = MATE as u32;
-
-/// Appends the parts, one after another.
-pub fn write_parts<A: Allocator>(out: &mut Vec<u8, A>, parts: &[&[u8]]) -> Result<(), AllocError>
-    ensures { Writes result out.old out.new (flat_map (λ part. part.now) parts.now) }
-{
-    for part in parts {
-        out.extend_from_slice(part)?;
-    }
-    Ok(())
-}
 
 /// Names the program and its options under a setup (USI, usi).
 pub fn write_usi<A: Allocator>(out: &mut Vec<u8, A>, setup: &Setup) -> Result<(), AllocError>

@@ -1,4 +1,4 @@
-use Rattle.std.proofs.Common.{rules, arith, ◌≡◌, ◌-◌, ◌≤◌, ◌+◌, ℕ, drop, length, take}
+use Rattle.std.proofs.Common.{rules, arith, ◌≡◌, ◌-◌, ◌≤◌, ℕ, drop, length, take}
 use Rattle.std.proofs.lemmas.List.{length-drop, take_all}
 use Rattle.host_core.proofs.BestmoveLaws.{bestmoves_at, bestmoves_end}
 use Rattle.host_core.proofs.bestmoves.bestmove_count.Goals as goal

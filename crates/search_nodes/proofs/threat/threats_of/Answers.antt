@@ -1,4 +1,4 @@
-use Rattle.std.proofs.Common.{◌≡◌, ◌<◌, ◌-◌, ◌^◌, ℕ, true, false, ◌∙◌, sym, subst, ap, arith, inl, inr, bit_and, bit_or}
+use Rattle.std.proofs.Common.{◌≡◌, ◌<◌, ◌-◌, ◌^◌, ℕ, Some, true, false, ◌∙◌, sym, subst, ap, arith, inl, inr, bit_and, bit_or}
 use Rattle.std.proofs.lemmas.Bool.{and_parts, both_ways, not-true, or_cases}
 use Rattle.std.proofs.lemmas.Grind.{merely}
 use Rattle.shogi_core.specs.declared.piece.Color.{Color}
@@ -11,7 +11,8 @@ use Rattle.shogi_core.proofs.BitLaws.{has_bit-and, has_bit-none, has_bit-or}
 use Rattle.shogi_core.proofs.LineBits.{has_bit-not}
 use Rattle.shogi_moves.proofs.CheckInfoLaws.{other_side}
 use Rattle.shogi_replies.specs.Threats.{IsAttack, IsThreat}
-use Rattle.search_nodes.specs.Threats.{AreAttacked}
+use Rattle.search_nodes.specs.Threats.{AreAttacked, AreThreatsIn}
+use Rattle.search_nodes.specs.declared.threat.Threats.{Threats}
 use Rattle.search_nodes.proofs.threat.threats_of.Goals as goal
 
 -- an attack on one of the squares of the mover is a threat
@@ -56,3 +57,13 @@ attackers-preserved c = record {
   takes = λ n h e. attacked_more c.args.p.now c.in-Some.from c.attackers.takes.bits c.attacks_of-attacks.result.non_promoting.bits c.attackers.invariant.takes c.attacks_of-attacks.ensures.non_promoting n h (rw c.bitor-takes.ensures at e);
   greatest = c.with_ends-greatest-in-Some.ensures;
 }
+
+pub returns : goal.returns
+returns c = λ threats is. subst (AreThreatsIn c.args.p.now c.args.e) (one _ threats is) (record {
+  plain = sym c.resolves_captures.ensures ∙ c.if-resolves_captures.false;
+  takes = c.attackers.invariant.takes;
+  greatest = c.threat_by.ensures;
+})
+  where
+    one : (x y : Threats) → Some x ≡ Some y → x ≡ y
+    one x y h = cc

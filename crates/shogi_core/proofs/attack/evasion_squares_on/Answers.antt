@@ -17,15 +17,15 @@ returns-in-Some c = record {
 pub invariant_of-result : goal.invariant_of-result
 invariant_of-result c = record { fits = marked_fits 0 c.with.result c.in-Some.from (omega arith) c.in-Some.ensures.range c.with.type_inv c.with.ensures }
 
-pub loop-direction-init : goal.loop-direction-init
-loop-direction-init c = some_below_none (slider_attacks_along c.args.board.now c.args.by c.args.square)
+pub directions-init : goal.directions-init
+directions-init c = rw c.all-left.ensures (some_below_none (slider_attacks_along c.args.board.now c.args.by c.args.square))
 
 pub returns-then-slider_attacks_along : goal.returns-then-slider_attacks_along
-returns-then-slider_attacks_along c = record { stays = λ _. shot_stays c.slide_squares.result.bits c.args.board.now c.args.by c.args.square c.loop-direction.direction c.requires (omega arith) (search rules) c.slide_squares.ensures.squares }
+returns-then-slider_attacks_along c = record { stays = λ _. shot_stays c.slide_squares.result.bits c.args.board.now c.args.by c.args.square c.in-Some-next.direction c.requires c.in-Some-next.ensures.range (search rules) c.slide_squares.ensures.squares }
 
-pub loop-direction-preserved : goal.loop-direction-preserved
-loop-direction-preserved c =
-    some_below_more c.loop-direction.direction (slider_attacks_along c.args.board.now c.args.by c.args.square) ∙ or_from _ _ c.loop-direction.invariant (search rules)
+pub directions-preserved : goal.directions-preserved
+directions-preserved c =
+    rw c.in-Some-next.ensures.rest (some_below_more c.in-Some-next.direction (slider_attacks_along c.args.board.now c.args.by c.args.square) ∙ or_from _ _ (rw (sym c.in-Some-next.ensures.some) at c.directions.invariant) (search rules))
 
 pub returns : goal.returns
 returns c = record {

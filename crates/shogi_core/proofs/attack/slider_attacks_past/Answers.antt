@@ -11,7 +11,7 @@ returns-in_default c = λ color seen shows. none_shoots seen color c.args.square
 
 pub returns-then-not-has : goal.returns-then-not-has
 returns-then-not-has c = λ color seen shows. first_harmless seen color c.args.square c.requires.square c.args.snipers.bits shows.snipers_on
-    c.args.direction c.in-Some.first c.requires.direction c.in-Some.ensures.range (c.in-Some.ensures.first seen shows.pieces).reached (c.in-Some.ensures.first seen shows.pieces).piece (sym c.if-not-has.ensures)
+    c.args.direction c.in-Some.first c.reveal_invariant.ensures c.in-Some.ensures.range (c.in-Some.ensures.first seen shows.pieces).reached (c.in-Some.ensures.first seen shows.pieces).piece (sym c.if-not-has.ensures)
 
 pub returns : goal.returns
 returns c = λ color seen shows.
@@ -19,4 +19,4 @@ returns c = λ color seen shows.
     let against : c.slides_back.result ≡ cell_slides_back (direction_at c.args.direction) (piece_at c.args.board.now c.in-Some.first) = search rules in
     (against ∙ ap (cell_slides_back (direction_at c.args.direction)) (sym (shows.same c.in-Some.first c.in-Some.ensures.range set)))
     ∙ first_shoots seen color c.args.square c.requires.square c.args.snipers.bits shows.snipers_on
-    c.args.direction c.in-Some.first c.requires.direction c.in-Some.ensures.range (c.in-Some.ensures.first seen shows.pieces).reached (c.in-Some.ensures.first seen shows.pieces).piece set
+    c.args.direction c.in-Some.first c.reveal_invariant.ensures c.in-Some.ensures.range (c.in-Some.ensures.first seen shows.pieces).reached (c.in-Some.ensures.first seen shows.pieces).piece set

@@ -13,7 +13,7 @@ returns-in_default-clause-all c = λ _ n a l h pin. none_on_line c.args.board.no
 
 pub returns-then-has-clause-shot : goal.returns-then-has-clause-shot
 returns-then-has-clause-shot c = (search rules) ∙ first_shoots c.args.board.now (opponent_of c.args.side) c.args.square c.requires.square c.args.snipers.bits c.requires.snipers
-    c.args.direction c.in-Some.first c.requires.direction c.in-Some.ensures.range c.in-Some.ensures.first.reached c.in-Some.ensures.first.piece (sym c.if-has.ensures)
+    c.args.direction c.in-Some.first c.reveal_invariant.ensures c.in-Some.ensures.range c.in-Some.ensures.first.reached c.in-Some.ensures.first.piece (sym c.if-has.ensures)
 
 pub returns-then-has-clause-all : goal.returns-then-has-clause-all
 returns-then-has-clause-all c = λ _ n a l h pin. snipers_not_pinned c.args.board.now c.args.side c.args.square c.args.direction c.args.snipers.bits c.requires.snipers
@@ -21,7 +21,7 @@ returns-then-has-clause-all c = λ _ n a l h pin. snipers_not_pinned c.args.boar
 
 pub returns-then-not-has-clause-shot : goal.returns-then-not-has-clause-shot
 returns-then-not-has-clause-shot c = first_harmless c.args.board.now (opponent_of c.args.side) c.args.square c.requires.square c.args.snipers.bits c.requires.snipers
-    c.args.direction c.in-Some.first c.requires.direction c.in-Some.ensures.range c.in-Some.ensures.first.reached c.in-Some.ensures.first.piece (sym c.if-has.ensures)
+    c.args.direction c.in-Some.first c.reveal_invariant.ensures c.in-Some.ensures.range c.in-Some.ensures.first.reached c.in-Some.ensures.first.piece (sym c.if-has.ensures)
 
 pub returns-then-not-has-clause-all : goal.returns-then-not-has-clause-all
 returns-then-not-has-clause-all c = λ _ n a l h pin. others_not_pinned c.args.board.now c.args.side c.args.square c.args.direction c.args.snipers.bits c.requires.snipers
@@ -29,7 +29,7 @@ returns-then-not-has-clause-all c = λ _ n a l h pin. others_not_pinned c.args.b
 
 pub returns-in_default-first_piece-clause-shot : goal.returns-in_default-first_piece-clause-shot
 returns-in_default-first_piece-clause-shot c = first_harmless c.args.board.now (opponent_of c.args.side) c.args.square c.requires.square c.args.snipers.bits c.requires.snipers
-    c.args.direction c.in-Some.first c.requires.direction c.in-Some.ensures.range c.in-Some.ensures.first.reached c.in-Some.ensures.first.piece (sym c.if-has.ensures)
+    c.args.direction c.in-Some.first c.reveal_invariant.ensures c.in-Some.ensures.range c.in-Some.ensures.first.reached c.in-Some.ensures.first.piece (sym c.if-has.ensures)
 
 pub returns-in_default-first_piece-clause-all : goal.returns-in_default-first_piece-clause-all
 returns-in_default-first_piece-clause-all c = λ _ n a l h pin. none_beyond c.args.board.now c.args.side c.args.square c.args.direction c.args.snipers.bits c.requires.snipers
@@ -37,7 +37,7 @@ returns-in_default-first_piece-clause-all c = λ _ n a l h pin. none_beyond c.ar
 
 pub returns-then-has-2-clause-shot : goal.returns-then-has-2-clause-shot
 returns-then-has-2-clause-shot c = first_harmless c.args.board.now (opponent_of c.args.side) c.args.square c.requires.square c.args.snipers.bits c.requires.snipers
-    c.args.direction c.in-Some.first c.requires.direction c.in-Some.ensures.range c.in-Some.ensures.first.reached c.in-Some.ensures.first.piece (sym c.if-has.ensures)
+    c.args.direction c.in-Some.first c.reveal_invariant.ensures c.in-Some.ensures.range c.in-Some.ensures.first.reached c.in-Some.ensures.first.piece (sym c.if-has.ensures)
 
 pub returns-then-has-2-clause-fits : goal.returns-then-has-2-clause-fits
 returns-then-has-2-clause-fits c = marked_fits c.args.pinned.now c.with.result c.in-Some.first c.requires.fits c.in-Some.ensures.range (search rules) c.with.ensures
@@ -51,7 +51,7 @@ returns-then-has-2-clause-all c = λ _ n a l h pin. first_marked c.args.board.no
 
 pub returns-else-has-2-clause-shot : goal.returns-else-has-2-clause-shot
 returns-else-has-2-clause-shot c = first_harmless c.args.board.now (opponent_of c.args.side) c.args.square c.requires.square c.args.snipers.bits c.requires.snipers
-    c.args.direction c.in-Some.first c.requires.direction c.in-Some.ensures.range c.in-Some.ensures.first.reached c.in-Some.ensures.first.piece (sym c.if-has.ensures)
+    c.args.direction c.in-Some.first c.reveal_invariant.ensures c.in-Some.ensures.range c.in-Some.ensures.first.reached c.in-Some.ensures.first.piece (sym c.if-has.ensures)
 
 pub returns-else-has-2-clause-all : goal.returns-else-has-2-clause-all
 returns-else-has-2-clause-all c = λ _ n a l h pin. no_sniper_next c.args.board.now c.args.side c.args.square c.args.direction c.args.snipers.bits c.requires.snipers

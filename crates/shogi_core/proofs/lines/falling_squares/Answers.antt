@@ -8,8 +8,8 @@ returns c = record {
       λ b h.
       rw (c.ray-line.ensures.ray, c.ray.ensures.ray)
       (falling_bits c.args.board.now (direction_at c.args.direction) c.args.from c.occupied.result.bits c.occupied.ensures
-      (direction_falls c.args.direction c.requires.direction.0 c.requires.direction.1)
-      (falling_end c.args.direction c.requires.direction.0 c.requires.direction.1)
+      (direction_falls c.args.direction c.requires.direction c.reveal_invariant.ensures)
+      (falling_end c.args.direction c.requires.direction c.reveal_invariant.ensures)
       c.highest-first.result c.highest-first.ensures.range
       (rw c.ray-line.ensures.ray at c.highest-first.ensures.set) (rw c.ray-line.ensures.ray at c.highest-first.ensures.greatest) b h);
 }

@@ -7,7 +7,7 @@ use Rattle.shogi_core.proofs.rays.ray.Goals as goal
 
 pub invariant_of-result : goal.invariant_of-result
 invariant_of-result c =
-    record { fits = subst (λ (m : ℕ). m < 2 ^ 81) (sym (rays_right c.args.direction c.args.from c.requires.direction c.requires.from)) (ray_fits (direction_at c.args.direction) c.args.from) }
+    record { fits = subst (λ (m : ℕ). m < 2 ^ 81) (sym (rays_right c.number.result c.args.from c.number.ensures.range c.requires)) (ray_fits (direction_at c.number.result) c.args.from) }
 
 pub returns : goal.returns
-returns c = record { ray = rays_right c.args.direction c.args.from c.requires.direction c.requires.from }
+returns c = record { ray = rw (sym c.number.ensures.number) (rays_right c.number.result c.args.from c.number.ensures.range c.requires) }

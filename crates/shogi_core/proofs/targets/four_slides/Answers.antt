@@ -10,9 +10,11 @@ invariant_of-result c = record {
 pub returns-clause-straight : goal.returns-clause-straight
 returns-clause-straight c = λ zero color n h.
     straight_second c.args.board.now color c.args.first c.args.from n c.falling_squares.result.bits c.rising_squares.result.bits c.rising_squares-2.result.bits c.falling_squares-2.result.bits zero
-    (c.falling_squares.ensures.squares n h) (c.rising_squares.ensures.squares n h) (c.rising_squares-2.ensures.squares n h) (c.falling_squares-2.ensures.squares n h)
+    (rw c.opposite.ensures at c.falling_squares.ensures.squares n h) (c.rising_squares.ensures.squares n h)
+    (rw c.quarter_turn-second.ensures at c.rising_squares-2.ensures.squares n h) (rw (c.opposite-2.ensures, c.quarter_turn-second.ensures) at c.falling_squares-2.ensures.squares n h)
 
 pub returns-clause-diagonal : goal.returns-clause-diagonal
 returns-clause-diagonal c = λ one color n h.
     diagonal_second c.args.board.now color c.args.first c.args.from n c.falling_squares.result.bits c.rising_squares.result.bits c.rising_squares-2.result.bits c.falling_squares-2.result.bits one
-    (c.falling_squares.ensures.squares n h) (c.rising_squares.ensures.squares n h) (c.rising_squares-2.ensures.squares n h) (c.falling_squares-2.ensures.squares n h)
+    (rw c.opposite.ensures at c.falling_squares.ensures.squares n h) (c.rising_squares.ensures.squares n h)
+    (rw c.quarter_turn-second.ensures at c.rising_squares-2.ensures.squares n h) (rw (c.opposite-2.ensures, c.quarter_turn-second.ensures) at c.falling_squares-2.ensures.squares n h)

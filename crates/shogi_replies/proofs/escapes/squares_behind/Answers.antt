@@ -1,9 +1,10 @@
-use Rattle.shogi_core.proofs.LineBits.{or_fits}
+use Rattle.std.proofs.Common.{sym}
 use Rattle.shogi_replies.proofs.EscapeLaws.{more_rays}
 use Rattle.shogi_replies.proofs.escapes.squares_behind.Goals as goal
 
-pub loop-direction-preserved : goal.loop-direction-preserved
-loop-direction-preserved c = record {
-  far = rw (c.bitand-behind.ensures, c.ray.ensures.ray, c.ray-in-loop-direction.ensures.ray) (more_rays c.args.from c.args.over c.loop-direction.direction c.loop-direction.behind c.loop-direction.invariant.far);
-  fits = or_fits c.loop-direction.behind c.bitand-behind.result.bits c.loop-direction.invariant.fits c.bitand-behind.result.fits;
-}
+pub directions-preserved : goal.directions-preserved
+directions-preserved c = rw (c.bitor-behind.ensures, c.bitand.ensures, c.ray.ensures.ray, c.ray-in-Some.ensures.ray, c.in-Some.ensures.rest)
+    (more_rays c.args.from c.args.over c.in-Some.direction c.directions.behind.bits (rw (sym c.in-Some.ensures.some) at c.directions.invariant))
+
+pub returns : goal.returns
+returns c = rw c.in_default.ensures.none at c.directions.invariant

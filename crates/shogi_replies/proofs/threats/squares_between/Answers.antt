@@ -1,10 +1,10 @@
-use Rattle.std.proofs.Common.{arith}
-use Rattle.shogi_core.proofs.LineBits.{or_fits}
+use Rattle.std.proofs.Common.{sym}
 use Rattle.shogi_replies.proofs.PinLaws.{between_more}
 use Rattle.shogi_replies.proofs.threats.squares_between.Goals as goal
 
-pub loop-direction-preserved : goal.loop-direction-preserved
-loop-direction-preserved c = record {
-  all = rw c.bitand-between.ensures (between_more c.args.from c.args.to c.loop-direction.direction c.loop-direction.between c.ray.result.bits c.ray-in-loop-direction.result.bits c.loop-direction.invariant.all (omega (arith, c.loop-direction-test.true)) c.ray.ensures.ray c.ray-in-loop-direction.ensures.ray);
-  fits = or_fits c.loop-direction.between c.bitand-between.result.bits c.loop-direction.invariant.fits c.bitand-between.result.fits;
-}
+pub directions-preserved : goal.directions-preserved
+directions-preserved c = rw (c.bitor-between.ensures, c.bitand.ensures, c.in-Some.ensures.rest) (between_more c.args.from c.args.to c.in-Some.direction c.directions.between.bits c.ray.result.bits c.ray-in-Some.result.bits
+    (rw (sym c.in-Some.ensures.some) at c.directions.invariant) c.in-Some.ensures.range c.ray.ensures.ray (rw c.opposite.ensures at c.ray-in-Some.ensures.ray))
+
+pub returns : goal.returns
+returns c = rw c.in_default.ensures.none at c.directions.invariant

@@ -1,9 +1,9 @@
-use Rattle.std.proofs.Common.{◌<◌, ◌^◌}
+use Rattle.std.proofs.Common.{◌-◌}
 use Rattle.shogi_replies.proofs.PinLaws.{HasBetweenBelow}
 use Rattle.shogi_replies.proofs.threats.squares_between.Given as goal
 
-abbrev pub invariant-loop-direction : goal.invariant-loop-direction
-invariant-loop-direction l = record {
-  all : HasBetweenBelow l.fn.from l.fn.to l.direction l.between;
-  fits : l.between < 2 ^ 81;
-}
+abbrev pub invariant-directions : goal.invariant-directions
+invariant-directions l = HasBetweenBelow l.fn.from l.fn.to l.left l.between.bits
+
+abbrev pub decreases-directions : goal.decreases-directions
+decreases-directions l = 8 - l.left

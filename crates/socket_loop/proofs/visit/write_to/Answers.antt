@@ -1,4 +1,8 @@
-use Rattle.std.proofs.Common.{◌≡◌, ◌==◌, ◌∙◌, [], ◌∷◌, false, true, length, refl, rules, sym}
+use Rattle.std.proofs.Common.{◌≡◌, ◌∙◌, [], ◌∷◌, ap, length, ltb, not, refl, rules, sym, true}
+use Rattle.std.proofs.lemmas.Bool.{not-false}
+use Rattle.session_slots.specs.Slots.{find}
+use Rattle.host_core.specs.ById.{queued_of}
+use Rattle.host_core.specs.declared.notes.Activity.{Activity}
 use Rattle.host_core.specs.Events.{Take}
 use Rattle.host_core.specs.Seen.{passed_from}
 use Rattle.transport.specs.Report.{Shuts}
@@ -19,15 +23,12 @@ returns-then-held-clause-writes g c = record { visited = visit_none _ _ _ _ (sea
 pub returns-in_default-clause-writes : goal.returns-in_default-clause-writes
 returns-in_default-clause-writes g c = record { visited = visit_none _ _ _ _ (search rules); carries = λ marks. carries_by_same _ _ _ _ _ _ }
 
-pub returns-then-is_empty-clause-writes : goal.returns-then-is_empty-clause-writes
-returns-then-is_empty-clause-writes g c = record { visited = visit_none _ _ _ _ (search rules); carries = λ marks. carries_by_same _ _ _ _ _ _ }
-
 pub returns-in-Ok-clause-writes : goal.returns-in-Ok-clause-writes
 returns-in-Ok-clause-writes g c =
     let x : Connection = c.args.held.now in
     let before : Scene = scene g.W.Wire (x ∷ []) c.args.wire.now c.args.host.now in
     let after : Scene = scene g.W.Wire (x ∷ []) c.write.new.self c.pass-passed.new.self in
-    let some : (length c.in-Some.bytes.now == 0) ≡ false = sym c.is_empty.ensures ∙ c.if-is_empty.false in
+    let some : ltb 0 (length (queued_of (find c.args.host.now.slots x.link.id))) ≡ true = not-false (ltb 0 (length (queued_of (find c.args.host.now.slots x.link.id)))) (ap (λ (now : Activity). not now.has_output) (sym c.activity.ensures) ∙ c.if-not-activity.false) in
     let visits : Visits IsOutput x.link.id c.args.host.now c.pass-passed.new.self = visits_step IsOutput x.link.id c.args.host.now c.pass-passed.new.self (Take x.link.id c.in-Ok.n) (passed_from c.args.host.now x.link.id c.in-Ok.n c.pass-passed.result) tt refl (record { below = c.pass-passed.ensures.below; stepped = c.pass-passed.ensures.taken }) in
     record {
       visited = wrote x before after c.in-Ok.n c.in-Some.bytes c.if-held.false c.in-Some.ensures some c.in-Ok.ensures.written c.write.ensures.asked (visited_same IsOutput x before after visits c.write.ensures.bound c.write.ensures.cause.0);
@@ -39,7 +40,7 @@ returns-in-Err-clause-writes g c =
     let x : Connection = c.args.held.now in
     let before : Scene = scene g.W.Wire (x ∷ []) c.args.wire.now c.args.host.now in
     let after : Scene = scene g.W.Wire ((record x { is_shut = true }) ∷ []) c.shut_down.new.wire c.shut_down.new.host in
-    let some : (length c.in-Some.bytes.now == 0) ≡ false = sym c.is_empty.ensures ∙ c.if-is_empty.false in
+    let some : ltb 0 (length (queued_of (find c.args.host.now.slots x.link.id))) ≡ true = not-false (ltb 0 (length (queued_of (find c.args.host.now.slots x.link.id)))) (ap (λ (now : Activity). not now.has_output) (sym c.activity.ensures) ∙ c.if-not-activity.false) in
     let shuts : Shuts before.bound (g.W.Wire.report c.write.new.self) after.report x.link.number = rw c.write.ensures.bound at c.shut_down.ensures.shuts in
     let visits : Visits IsOutput x.link.id c.args.host.now c.shut_down.new.host = visits_closing IsOutput x.link.id c.args.host.now c.shut_down.new.host tt c.shut_down.ensures.closed in
     record {

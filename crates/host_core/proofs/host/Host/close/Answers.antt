@@ -1,16 +1,16 @@
-use Rattle.std.proofs.Common.{◌≡◌, ◌∙◌, None, refl, sym, ap}
+use Rattle.std.proofs.Common.{◌≡◌, ◌∙◌, refl, sym, ap}
 use Rattle.std.specs.Prelude.{◌+◌}
 use Rattle.session_slots.specs.Slots.{OpenSessions, count, find}
 use Rattle.usi_session.specs.Due.{SessionView}
 use Rattle.host_core.specs.Steps.{HostState}
 use Rattle.host_core.proofs.Found.{closed_found, closed_none, on_some}
-use Rattle.host_core.proofs.Still.{still_after}
+use Rattle.host_core.proofs.Noted.{noted_closed}
 use Rattle.host_core.proofs.host.Host.close.Goals as goal
 
 pub invariant_of-self : goal.invariant_of-self
 invariant_of-self g c =
     rw c.set.ensures
-    (still_after c.self.inside.idle.items c.self.inside.slots c.close.new.self c.args.id None c.close.ensures.if_none c.self.invariant c.close.ensures.others)
+    (noted_closed c.self.inside.notes.items c.self.inside.slots c.close.new.self c.args.id (rw c.close.ensures.value at c.in-Some.ensures.some) c.close.ensures.if_none c.close.ensures.others c.self.invariant)
 
 pub returns-in-Some-clause-closed : goal.returns-in-Some-clause-closed
 returns-in-Some-clause-closed g c =

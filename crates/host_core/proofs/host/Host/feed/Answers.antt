@@ -6,7 +6,7 @@ use Rattle.host_core.specs.Seen.{done_of}
 use Rattle.host_core.specs.Sessions.{Feeds}
 use Rattle.host_core.proofs.Found.{on_found, on_none}
 use Rattle.host_core.proofs.Kept.{refused_call}
-use Rattle.host_core.proofs.Still.{still_written}
+use Rattle.host_core.proofs.Noted.{noted_written}
 use Rattle.host_core.proofs.host.Host.feed.Goals as goal
 
 pub returns-clause-fed : goal.returns-clause-fed
@@ -46,4 +46,4 @@ pub invariant_of-self-2 : goal.invariant_of-self-2
 invariant_of-self-2 g c =
     let is : find c.self.inside.slots c.args.id ≡ Some c.in-Some.session.now = sym c.in-Some.ensures.value in
     rw (c.set.ensures, c.of.ensures)
-    (still_written c.self.inside.idle.items c.self.inside.slots c.args.id c.in-Some.session.now c.feed-fed.new.session is c.self.invariant)
+    (noted_written c.self.inside.notes.items c.self.inside.slots c.args.id c.in-Some.session.now c.feed-fed.new.session is c.self.invariant)

@@ -14,7 +14,7 @@ starts_at (Some slot) first s = omega arith
 pub returns-clause-next : goal.returns-clause-next
 returns-clause-next g c =
     let same = ap (λ (h : HostState). h.slots) c.self.view_is in
-    next_found c.args.self.now.slots c.args.from c.past_still-first.result c.checked_sub.result c.next_open.result (starts_at _ _ c.checked_sub.ensures) (c.next_open.ensures.value ∙ ap (λ s. next_of s c.checked_sub.result) same) c.past_still-first.ensures.on c.past_still-first.ensures.passed
+    next_found c.args.self.now.slots c.args.from c.past_settled-first.result c.checked_sub.result c.next_open.result (starts_at _ _ c.checked_sub.ensures) (c.next_open.ensures.value ∙ ap (λ s. next_of s c.checked_sub.result) same) c.past_settled-first.ensures.on c.past_settled-first.ensures.passed
 
 pub returns-clause-open : goal.returns-clause-open
 returns-clause-open g c =
@@ -24,4 +24,4 @@ returns-clause-open g c =
 pub returns-clause-if_none : goal.returns-clause-if_none
 returns-clause-if_none g c =
     let same = ap (λ (h : HostState). h.slots) c.self.view_is in
-    next_none c.args.self.now.slots c.args.from c.past_still-first.result c.checked_sub.result c.next_open.result (starts_at _ _ c.checked_sub.ensures) (c.next_open.ensures.value ∙ ap (λ s. next_of s c.checked_sub.result) same) c.past_still-first.ensures.passed
+    next_none c.args.self.now.slots c.args.from c.past_settled-first.result c.checked_sub.result c.next_open.result (starts_at _ _ c.checked_sub.ensures) (c.next_open.ensures.value ∙ ap (λ s. next_of s c.checked_sub.result) same) c.past_settled-first.ensures.passed

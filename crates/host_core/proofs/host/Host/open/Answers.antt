@@ -2,18 +2,18 @@ use Rattle.std.proofs.Common.{◌∙◌, refl, ap}
 use Rattle.session_slots.specs.Slots.{OpenSessions}
 use Rattle.usi_session.specs.Due.{SessionView}
 use Rattle.host_core.specs.Steps.{HostState}
-use Rattle.host_core.proofs.Still.{still_opened}
+use Rattle.host_core.proofs.Noted.{noted_opened}
 use Rattle.host_core.proofs.host.Host.open.Goals as goal
 
 pub invariant_of-self : goal.invariant_of-self
 invariant_of-self g c =
-    rw c.set.ensures
-    (still_opened c.self.inside.setup c.self.inside.idle.items c.self.inside.slots c.open.new.self c.in-Ok.id c.self.invariant (rw c.with_setup.ensures.initial at c.in-Ok.ensures.opened))
+    rw (c.set.ensures, c.of-activity.ensures)
+    (noted_opened c.self.inside.notes.items c.self.inside.slots c.open.new.self c.in-Ok.id _ c.in-Ok.ensures.opened c.self.invariant)
 
 pub returns-in-Ok-clause-opened : goal.returns-in-Ok-clause-opened
 returns-in-Ok-clause-opened g c =
     rw (← c.self.view_is)
-    (record { room = λ full. (let e = c.in-Ok.ensures.full.1 full in absurd (cc)); opens = rw c.with_setup.ensures.initial at c.in-Ok.ensures.opened; table_is = refl; setup_is = refl })
+    (record { room = λ full. (let e = c.in-Ok.ensures.full.1 full in absurd (cc)); opens = rw c.with_setup-session.ensures.initial at c.in-Ok.ensures.opened; table_is = refl; setup_is = refl })
 
 pub returns-in-Ok-clause-below : goal.returns-in-Ok-clause-below
 returns-in-Ok-clause-below g c = rw (← c.self.view_is) c.reveal_invariant.ensures.below

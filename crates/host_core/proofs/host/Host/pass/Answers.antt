@@ -7,7 +7,7 @@ use Rattle.host_core.specs.Sessions.{Takes}
 use Rattle.host_core.specs.Steps.{HostState}
 use Rattle.host_core.proofs.Found.{on_found}
 use Rattle.host_core.proofs.Kept.{keeps_others, refused_call}
-use Rattle.host_core.proofs.Still.{still_written}
+use Rattle.host_core.proofs.Noted.{noted_written}
 use Rattle.host_core.proofs.host.Host.pass.Goals as goal
 
 pub returns-clause-taken : goal.returns-clause-taken
@@ -32,4 +32,4 @@ returns-clause-err g c = refused_call (λ _. Gave (take c.args.n (queued_of (fin
 pub invariant_of-self-2 : goal.invariant_of-self-2
 invariant_of-self-2 g c =
     rw (c.set.ensures, c.of.ensures)
-    (still_written c.self.inside.idle.items c.self.inside.slots c.args.id c.in-Some.session.now c.pass-passed.new.session (search rules) c.self.invariant)
+    (noted_written c.self.inside.notes.items c.self.inside.slots c.args.id c.in-Some.session.now c.pass-passed.new.session (search rules) c.self.invariant)

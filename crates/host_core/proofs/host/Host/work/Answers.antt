@@ -11,14 +11,14 @@ use Rattle.host_core.specs.Seen.{as_outcome}
 use Rattle.host_core.specs.Sessions.{Works}
 use Rattle.host_core.proofs.Found.{on_found}
 use Rattle.host_core.proofs.Shares.{no_step, of_written}
-use Rattle.host_core.proofs.Still.{still_written}
+use Rattle.host_core.proofs.Noted.{noted_written}
 use Rattle.host_core.proofs.host.Host.work.Goals as goal
 
 pub invariant_of-self-2 : goal.invariant_of-self-2
 invariant_of-self-2 g c =
     let is : find c.self.inside.slots c.args.id ≡ Some c.in-Some.session.now = sym c.in-Some.ensures.value in
     rw (c.set.ensures, c.of.ensures)
-    (still_written c.self.inside.idle.items c.self.inside.slots c.args.id c.in-Some.session.now c.work-worked.new.session is c.self.invariant)
+    (noted_written c.self.inside.notes.items c.self.inside.slots c.args.id c.in-Some.session.now c.work-worked.new.session is c.self.invariant)
 
 pub returns-clause-worked : goal.returns-clause-worked
 returns-clause-worked g c =

@@ -1,15 +1,11 @@
 use Rattle.std.proofs.Common.{◌-◌, FitsSigned, false, refl, subst, w32, ◌≡◌, ℤ, ◌≤ℤ◌, ◌<ℤ◌, None, Some, sym, to_z, of_z}
 use Rattle.std.proofs.lemmas.Bool.{both_ways}
 use Rattle.std.proofs.lemmas.Int.{to_z-of_z}
-use Rattle.shogi_core.specs.Position.{Shogi}
 use Rattle.shogi_core.specs.Validity.{IsValid}
-use Rattle.shogi_replies.specs.ReplyInfo.{IsReplyInfo}
 use Rattle.minimax.specs.Minimax.{worth, negated}
 use Rattle.search_nodes.proofs.Nodes.{new_node}
-use Rattle.shogi_core.specs.declared.squares.Squares.{Squares}
 use Rattle.minimax.specs.declared.bounds.TheConstants.{INFINITY}
 use Rattle.dull_moves.specs.declared.moves.DullMoves.{DullMoves}
-use Rattle.search_nodes.specs.declared.threat.Threats.{Threats}
 use Rattle.search_nodes.proofs.frame.Frame.enter.Goals as goal
 
 pub invariant_of-self-clause-known : goal.invariant_of-self-clause-known
@@ -29,9 +25,6 @@ invariant_of-self-clause-shallow c = c.requires.shallow
 
 pub invariant_of-self-clause-moves : goal.invariant_of-self-clause-moves
 invariant_of-self-clause-moves c = λ e. absurd (both_ways false refl e)
-
-pub invariant_of-self-clause-replied : goal.invariant_of-self-clause-replied
-invariant_of-self-clause-replied c = subst (λ (q : Shogi). IsReplyInfo q c.unknown-self.result.king_view.bits c.unknown-self.result.free_movers.bits) c.as_position-2.ensures c.unknown-self.ensures
 
 pub returns-clause-place : goal.returns-clause-place
 returns-clause-place c =
@@ -66,12 +59,6 @@ invariant_of-self-clause-most c = subst (λ (v : ℤ). v ≤ℤ INFINITY) (sym (
 -- nothing is something
 no_some : (A : Type 0) (x : A) → None ≡ Some x → ⊥
 no_some A x e = cc
-
-pub invariant_of-self-clause-escaping : goal.invariant_of-self-clause-escaping
-invariant_of-self-clause-escaping c = λ squares e. absurd (no_some Squares squares e)
-
-pub invariant_of-self-clause-threatened : goal.invariant_of-self-clause-threatened
-invariant_of-self-clause-threatened c = λ threats e. absurd (no_some Threats threats e)
 
 pub invariant_of-self-clause-refuted : goal.invariant_of-self-clause-refuted
 invariant_of-self-clause-refuted c = λ moves e. absurd (no_some DullMoves moves e)

@@ -1,14 +1,12 @@
-use Rattle.std.proofs.Common.{rules, ◌≡◌, ◌≤ℤ◌, ◌-◌, true, ℕ, ℤ, sym, subst, arith, inl, inr, FitsSigned, w32}
+use Rattle.std.proofs.Common.{rules, ◌≡◌, ◌≤ℤ◌, true, subst, arith, FitsSigned, w32}
 use Rattle.std.proofs.lemmas.Int.{ints, to_z-of_z}
 use Rattle.shogi_core.specs.declared.moves.Move.{Move}
-use Rattle.shogi_core.specs.Codes.{code_of}
 use Rattle.shogi_moves.specs.Legal.{is_legal}
 use Rattle.shogi_moves.proofs.LegalLaws.{listed_to_legal}
 use Rattle.shogi_eval.specs.Evaluated.{Evaluated}
-use Rattle.minimax.specs.Minimax.{worth}
-use Rattle.dull_moves.specs.Dull.{AreDull, IsWorthAtMost}
+use Rattle.dull_moves.specs.Dull.{AreDull}
 use Rattle.search_nodes.specs.declared.frame.Frame.{Frame}
-use Rattle.search_nodes.specs.Frames.{PrunesDull, move_alpha_of, worth_of}
+use Rattle.search_nodes.specs.Frames.{move_alpha_of, worth_of}
 use Rattle.search_nodes.proofs.Nodes.{waits}
 use Rattle.search_nodes.proofs.DullRows.{worth_there}
 use Rattle.search_nodes.proofs.Rows.{lost_kept}

@@ -27,9 +27,6 @@ invariant_of-self c =
       known = asked_known f m c.next.new.self c.requires.next codes;
       moves = f.moves;
       kept = subst (λ (q : Shogi). IsKept q c.next.new.self) c.as_position.ensures c.next.ensures.consistent;
-      replied = f.replied;
-      escaping = f.escaping;
-      threatened = f.threatened;
       refuted = f.refuted;
     }
 
@@ -44,12 +41,9 @@ invariant_of-self-in-None c =
       least = f.least;
       «open» = f.open;
       most = f.most;
-      known = turned_known f c.next.new.self c.requires.next (none.1 ∙ sym none.0);
+      known = turned_known f c.next.new.self (none.1 ∙ sym none.0);
       moves = f.moves;
       kept = subst (λ (q : Shogi). IsKept q c.next.new.self) c.as_position.ensures c.next.ensures.consistent;
-      replied = f.replied;
-      escaping = f.escaping;
-      threatened = f.threatened;
       refuted = f.refuted;
     }
 

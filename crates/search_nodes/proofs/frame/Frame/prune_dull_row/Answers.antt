@@ -21,9 +21,6 @@ invariant_of-self-then-are_dull_from c =
       known = dull_known f dull.1.0 c.in-Some.code c.skip_dull.new.self c.requires.next dull.0 (f.refuted dull.1.0 dull.1.1) dull.1.2 passed;
       moves = f.moves;
       kept = subst (λ (q : Shogi). IsKept q c.skip_dull.new.self) c.as_position.ensures c.skip_dull.ensures.consistent;
-      replied = f.replied;
-      escaping = f.escaping;
-      threatened = f.threatened;
       refuted = f.refuted;
     }
 
@@ -32,4 +29,4 @@ returns-then-are_dull_from c =
     let f : Frame = c.args.self.now in
     let dull : _ = c.are_dull_from.ensures c.if-are_dull_from.true in
     let passed : IsSkipped (IsDullFrom f.node.position dull.1.0 c.in-Some.code) (todo f.node.position f.picker) (todo f.node.position c.skip_dull.new.self) = rw c.as_position.ensures at (c.skip_dull.ensures.passed dull.1.0 dull.1.1 c.in-Some.code c.in-Some.ensures) in
-    ((refl, (refl, (refl, refl))), (c.requires.next, left_passed f c.skip_dull.new.self (IsDullFrom f.node.position dull.1.0 c.in-Some.code) passed))
+    ((refl, (refl, (refl, refl))), (refl, left_passed f c.skip_dull.new.self (IsDullFrom f.node.position dull.1.0 c.in-Some.code) passed))

@@ -31,15 +31,6 @@ invariant_of-self-clause-moves c = c.args.self.now.moves
 pub invariant_of-self-clause-kept : goal.invariant_of-self-clause-kept
 invariant_of-self-clause-kept c = c.args.self.now.kept
 
-pub invariant_of-self-clause-replied : goal.invariant_of-self-clause-replied
-invariant_of-self-clause-replied c = c.args.self.now.replied
-
-pub invariant_of-self-clause-escaping : goal.invariant_of-self-clause-escaping
-invariant_of-self-clause-escaping c = c.args.self.now.escaping
-
-pub invariant_of-self-clause-threatened : goal.invariant_of-self-clause-threatened
-invariant_of-self-clause-threatened c = c.args.self.now.threatened
-
 pub invariant_of-self-clause-refuted : goal.invariant_of-self-clause-refuted
 invariant_of-self-clause-refuted c = c.args.self.now.refuted
 

@@ -20,12 +20,9 @@ invariant_of-self c =
       least = f.least;
       «open» = f.open;
       most = f.most;
-      known = turned_known f c.turn_to_quiets.new.self c.requires.next codes;
+      known = turned_known f c.turn_to_quiets.new.self codes;
       moves = f.moves;
       kept = subst (λ (q : Shogi). IsKept q c.turn_to_quiets.new.self) c.as_position.ensures c.turn_to_quiets.ensures.consistent;
-      replied = f.replied;
-      escaping = f.escaping;
-      threatened = f.threatened;
       refuted = f.refuted;
     }
 
@@ -33,4 +30,4 @@ pub returns : goal.returns
 returns c =
     let f : Frame = c.args.self.now in
     let codes : todo f.node.position c.turn_to_quiets.new.self ≡ todo f.node.position f.picker = subst (λ (q : Shogi). todo q c.turn_to_quiets.new.self ≡ todo q f.picker) c.as_position.ensures c.turn_to_quiets.ensures.unchanged in
-    ((refl, (refl, (refl, refl))), (c.requires.next, turned_left f c.turn_to_quiets.new.self codes))
+    ((refl, (refl, (refl, refl))), (refl, turned_left f c.turn_to_quiets.new.self codes))

@@ -9,7 +9,7 @@ use Rattle.shogi_replies.proofs.replies.ReplyInfo.guarantees_replies.Goals as go
 pub returns : goal.returns
 returns c = λ e. guaranteed_moves c.args.p.now c.args.capture c.args.move_filter.now c.args.from c.bitand-ends.result.bits c.promoting_squares.result.bits c.guaranteed_destinations-guaranteed.result.bits c.promotions-promotions.result.bits c.guaranteed_destinations-promoted.result.bits
     (λ n h. ap (λ m. has_bit m n) c.bitand-ends.ensures ∙ among_bits c.targets.result.bits c.matching_destinations.result.bits n _ _ (rw c.as_board.ensures at c.targets.ensures.squares n h) (c.matching_destinations.ensures.squares n h))
-    (rw c.at-2.ensures at c.promoting_squares.ensures.squares) (sym c.has.ensures ∙ c.if-not-has.false) (omega arith) (omega arith) (rw c.at.ensures at c.promotions-promotions.ensures.promoting) c.guaranteed_destinations-guaranteed.ensures.guaranteed c.guaranteed_destinations-promoted.ensures.guaranteed
+    (rw c.at.ensures at c.promoting_squares.ensures.squares) (sym c.has.ensures ∙ c.if-not-has.false) (omega arith) (omega arith) c.promotions-promotions.ensures.promotes c.guaranteed_destinations-guaranteed.ensures.guaranteed c.guaranteed_destinations-promoted.ensures.guaranteed
     (rw (c.bitor-uncertain.ensures, c.without-4.ensures, c.without-5.ensures, c.bitand-2.ensures, c.bitand-3.ensures, c.bitand-promoting.ensures) at (none_there _ _ c.is_empty-4.ensures e))
 
 pub returns-then-not-has-2 : goal.returns-then-not-has-2
@@ -22,7 +22,7 @@ returns-then-not-has-2 c = λ e. record {
   promoting = λ n h reached may. (
       let ends : _ = ap (λ m. has_bit m n) c.bitand-ends.ensures ∙ among_bits c.targets.result.bits c.matching_destinations.result.bits n _ _ (rw c.as_board.ensures at c.targets.ensures.squares n h) (c.matching_destinations.ensures.squares n h) in
       let both : _ = and_parts _ _ (sym (has_bit-and c.promotions-promotions.result.bits c.unseen_destinations-guaranteed.result.bits n) ∙ (ap (λ m. has_bit m n) (sym c.bitand-then-not-has-2-2.ensures) ∙ c.are_among.ensures.promoting e n h (ends ∙ reached) may)) in
-      ((rw c.at.ensures at c.promotions-promotions.ensures.promoting) n both.0, c.unseen_destinations-guaranteed.ensures.guaranteed c.args.move_filter.now.escapes.bits true n h both.1));
+      (c.promotions-promotions.ensures.promotes n both.0, c.unseen_destinations-guaranteed.ensures.guaranteed c.args.move_filter.now.escapes.bits true n h both.1));
 }
 
 pub returns-then-not-has : goal.returns-then-not-has

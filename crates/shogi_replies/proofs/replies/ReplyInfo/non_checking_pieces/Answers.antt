@@ -1,10 +1,9 @@
 use Rattle.std.proofs.Common.{arith, ap, ◌∙◌, false, sym, true}
-use Rattle.std.proofs.lemmas.Bool.{and_parts, both_ways, eqb-true, true_from_ne_false}
+use Rattle.std.proofs.lemmas.Bool.{and_parts, both_ways, true_from_ne_false}
 use Rattle.shogi_core.proofs.BitLaws.{has_bit-and, has_bit-none}
-use Rattle.shogi_core.specs.Movement.{piece_at}
 use Rattle.shogi_core.specs.Bits.{has_bit}
 use Rattle.shogi_moves.proofs.DestinationLaws.{none_there}
-use Rattle.shogi_replies.proofs.PassLaws.{all_promote, none_uncertain}
+use Rattle.shogi_replies.proofs.PassLaws.{none_uncertain}
 use Rattle.shogi_replies.proofs.ReplyLaws.{open_far}
 use Rattle.shogi_core.proofs.ZoneLaws.{all_squares}
 use Rattle.shogi_replies.proofs.replies.ReplyInfo.non_checking_pieces.Goals as goal
@@ -28,7 +27,7 @@ returns c = rw c.bitand.ensures (λ a ha both.
           ));
       promoting = λ n h e may. (
           let far : _ = c.non_checking_pieces.ensures a n ha h set (and_parts _ _ e).0 in (
-            all_promote c.args.move_filter.now.promoting (piece_at c.args.p.now.cells a) a n (eqb-true _ _ (true_from_ne_false _ (λ never. both_ways _ (far.non_promoting never) may))) may,
+            true_from_ne_false _ (λ never. both_ways _ (far.non_promoting never) may),
             open_far c.args.p.now c.args.move_filter.now.escapes.bits a n true c.args.self.now.king_view.bits c.none.result.bits c.args.self.now.free_movers.bits c.reveal_invariant.ensures c.requires.consistent ha h far.unseen (far.harmless true)
                 (c.open_squares-open.ensures n h (none_uncertain c.all.result.bits c.open_squares-open.result.bits n (omega arith) h (sym c.without.ensures ∙ none_there _ _ c.is_empty.ensures c.if-not-is_empty.false) (ap (λ m. has_bit m n) c.all.ensures ∙ all_squares n h))),
           ));

@@ -14,7 +14,7 @@ returns-then-is_empty-clause-passed c =
       up = omega (arith, c.requires.consistent.destinations.high);
       passed = λ first low. destinations_passed c.args.p.now c.args.capture c.args.move_filter.now c.args.sweep.now.from c.args.sweep.now.code _ c.args.sweep.now.destinations.non_promoting.bits c.args.sweep.now.destinations.promoting.bits first c.reveal_invariant.ensures (sym c.has.ensures ∙ c.if-not-has.false) c.requires.consistent.destinations low (omega (arith, c.requires.consistent.destinations.high)) (omega arith)
           (λ n h set below. (let it : _ = (at n h).0 set in (it.0, c.guaranteed_destinations-guaranteed.ensures.guaranteed n h it.1)))
-          (λ n h set below. (let it : _ = (at n h).1 set in (c.promotions-promotions.ensures.squares n it.0, (rw c.at.ensures at c.promotions-promotions.ensures.promoting) n it.0, c.guaranteed_destinations-promoted.ensures.guaranteed n h it.1)));
+          (λ n h set below. (let it : _ = (at n h).1 set in (c.promotions-promotions.ensures.squares n it.0, c.promotions-promotions.ensures.promotes n it.0, c.guaranteed_destinations-promoted.ensures.guaranteed n h it.1)));
     })
 
 pub returns-then-index-to-clause-passed : goal.returns-then-index-to-clause-passed
@@ -26,7 +26,7 @@ returns-then-index-to-clause-passed c =
       up = omega (arith, c.if-index-to.true, c.index.ensures.index);
       passed = λ first low. destinations_passed c.args.p.now c.args.capture c.args.move_filter.now c.args.sweep.now.from c.args.sweep.now.code _ c.args.sweep.now.destinations.non_promoting.bits c.args.sweep.now.destinations.promoting.bits first c.reveal_invariant.ensures (sym c.has.ensures ∙ c.if-not-has.false) c.requires.consistent.destinations low (omega (arith, c.if-index-to.true, c.index.ensures.index)) (omega (arith, c.lowest-to.ensures.range))
           (λ n h set below. (let it : _ = (at n h (omega (arith, below))).0 set in (it.0, c.guaranteed_destinations-guaranteed.ensures.guaranteed n h it.1)))
-          (λ n h set below. (let it : _ = (at n h (omega (arith, below))).1 set in (c.promotions-promotions.ensures.squares n it.0, (rw c.at.ensures at c.promotions-promotions.ensures.promoting) n it.0, c.guaranteed_destinations-promoted.ensures.guaranteed n h it.1)));
+          (λ n h set below. (let it : _ = (at n h (omega (arith, below))).1 set in (c.promotions-promotions.ensures.squares n it.0, c.promotions-promotions.ensures.promotes n it.0, c.guaranteed_destinations-promoted.ensures.guaranteed n h it.1)));
     })
 
 pub returns-else-index-to-clause-passed : goal.returns-else-index-to-clause-passed

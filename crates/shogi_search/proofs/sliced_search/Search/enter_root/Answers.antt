@@ -1,4 +1,4 @@
-use Rattle.std.proofs.Common.{arith, refl, ap, map, subst, true, w32, ◌≡◌, ◌<◌, ◌≤◌, ◌+◌, ◌-◌, ◌*◌, ◌^◌, ◌∙◌, ◌≤ℤ◌, ℕ, ℤ, Bool, false, Option, None, Some, length}
+use Rattle.std.proofs.Common.{arith, refl, ap, map, subst, sym, true, w32, ◌≡◌, ◌<◌, ◌≤◌, ◌+◌, ◌-◌, ◌*◌, ◌^◌, ◌∙◌, ◌≤ℤ◌, ℕ, ℤ, Bool, false, Option, None, Some, length}
 use Rattle.std.specs.Prelude.{min}
 use Rattle.std.specs.Option.{ForSome}
 use Rattle.std.proofs.lemmas.Int.{ints}
@@ -15,13 +15,14 @@ use Rattle.minimax.specs.declared.bounds.TheConstants.{INFINITY, SEARCH_DEPTH_MA
 use Rattle.search_nodes.specs.Changes.{IsAt}
 use Rattle.search_nodes.specs.Order.{IsWithinTree}
 use Rattle.search_nodes.specs.Visits.{IsFree}
+use Rattle.search_nodes.specs.ReplyCache.{IsFoundAt}
 use Rattle.shogi_search.specs.Stack.{IsStack, frames_of, steps_left}
 use Rattle.shogi_search.specs.Progress.{Progress}
 use Rattle.shogi_search.specs.declared.sliced_search.Search.TheInside.{Inside}
 use Rattle.shogi_search.specs.SlicedSearch.{IsSearch, entered_in, entered_of, left_in, progress_of, steps_of_tree}
 use Rattle.shogi_search.specs.declared.found.Found.{Found}
 use Rattle.shogi_search.specs.declared.stack.Stack.{Stack}
-use Rattle.shogi_search.proofs.Places.{stack_with, on_with, with_frame, left_begun, left_positive, free_next}
+use Rattle.shogi_search.proofs.Places.{stack_with, on_with, found_at, with_cache, with_frame, left_begun, left_positive, free_next}
 use Rattle.shogi_search.proofs.NarrowRoots.{with_bound}
 use Rattle.shogi_search.proofs.sliced_search.Search.enter_root.Goals as goal
 
@@ -80,7 +81,8 @@ invariant_of-self g c =
     let s : Stack = c.self.inside.stack in
     let i : IsSearch c.self.inside = c.self.invariant in
     let whole : to_z w32 (of_z w32 s.beta) ≡ s.beta = end_kept s.beta i.above i.most in
-    let n : Stack = with_bound s (to_z w32 (of_z w32 s.beta)) in
+    let n : Stack = with_cache (with_bound s (to_z w32 (of_z w32 s.beta))) c.unknown-self-inside.result in
+    let looked : IsFoundAt c.enter.new.self c.unknown-self-inside.result = found_at c.enter.new.self _ _ c.unknown-self-inside.result (c.enter.ensures.place.position ∙ sym c.as_position.ensures) refl (c.unknown-self-inside.ensures c.enter.new.self.node.eval) in
     let room : 0 < length s.frames = omega arith in
     let none : c.self.inside.found ≡ None = found_seen c.self.inside c.args.self.now c.self.view_is ∙ c.requires.«open» in
     let fresh : c.self.inside.started ≡ false = started_seen c.self.inside c.args.self.now c.self.view_is ∙ c.requires.fresh in
@@ -91,7 +93,7 @@ invariant_of-self g c =
       above = i.above;
       most = i.most;
       known = none_known c.self.inside.found _ none;
-      chain = λ _ _. stack_with n 0 c.enter.new.self room first_fits i.shallow (not_above _ _ whole) i.most root;
+      chain = λ _ _. stack_with n 0 c.enter.new.self room first_fits i.shallow (not_above _ _ whole) i.most root looked;
       whole = λ _ _ _. whole;
       free = λ _ _. on_with n 0 c.enter.new.self (λ (top : Frame). IsFree top.state) room (free_next _ c.enter.ensures.state);
       counted = counted_begun c.self.inside.found c.self.inside.started (steps_of_tree s) _ _ c.self.inside.steps _ none fresh i.counted c.saturating_add-self-inside.ensures left;
@@ -101,11 +103,12 @@ pub returns-clause-slice : goal.returns-clause-slice
 returns-clause-slice g c =
     let s : Stack = c.self.inside.stack in
     let i : IsSearch c.self.inside = c.self.invariant in
-    let n : Stack = with_bound s (to_z w32 (of_z w32 s.beta)) in
+    let n : Stack = with_cache (with_bound s (to_z w32 (of_z w32 s.beta))) c.unknown-self-inside.result in
+    let looked : IsFoundAt c.enter.new.self c.unknown-self-inside.result = found_at c.enter.new.self _ _ c.unknown-self-inside.result (c.enter.ensures.place.position ∙ sym c.as_position.ensures) refl (c.unknown-self-inside.ensures c.enter.new.self.node.eval) in
     let none : c.self.inside.found ≡ None = found_seen c.self.inside c.args.self.now c.self.view_is ∙ c.requires.«open» in
     let fresh : c.self.inside.started ≡ false = started_seen c.self.inside c.args.self.now c.self.view_is ∙ c.requires.fresh in
     let root : IsAt s.root s.eval s.depth (negated INFINITY) n.bound c.enter.new.self = root_at s c.enter.new.self c.of-node.result _ c.of-node.ensures.position c.of-node.ensures.eval c.enter.ensures.place in
-    let chain : IsStack (with_frame n 0 c.enter.new.self) = stack_with n 0 c.enter.new.self (omega arith) first_fits i.shallow (not_above _ _ (end_kept s.beta i.above i.most)) i.most root in
+    let chain : IsStack (with_frame n 0 c.enter.new.self) = stack_with n 0 c.enter.new.self (omega arith) first_fits i.shallow (not_above _ _ (end_kept s.beta i.above i.most)) i.most root looked in
     let rest : steps_left (with_frame n 0 c.enter.new.self) + 1 < 4 * tree_size s.root s.depth = left_begun n c.enter.new.self _ _ _ _ (omega arith) root (counted_as s.root s.depth c.enter.new.self c.of-node.ensures.position c.enter.ensures.counted) in
     let left : left_in c.self.inside.found true (steps_of_tree s) (steps_left (with_frame n 0 c.enter.new.self)) + 1 ≤ left_in c.self.inside.found c.self.inside.started (steps_of_tree s) (steps_left s) = left_less c.self.inside.found c.self.inside.started (steps_of_tree s) (steps_left s) (steps_left (with_frame n 0 c.enter.new.self)) none fresh rest in
     let steps : c.saturating_add-self-inside.result ≡ min (c.self.inside.steps + 1) (2 ^ 64 - 1) = c.saturating_add-self-inside.ensures in
@@ -125,13 +128,14 @@ pub returns-clause-calls : goal.returns-clause-calls
 returns-clause-calls g c =
     let s : Stack = c.self.inside.stack in
     let i : IsSearch c.self.inside = c.self.invariant in
-    let n : Stack = with_bound s (to_z w32 (of_z w32 s.beta)) in
+    let n : Stack = with_cache (with_bound s (to_z w32 (of_z w32 s.beta))) c.unknown-self-inside.result in
+    let looked : IsFoundAt c.enter.new.self c.unknown-self-inside.result = found_at c.enter.new.self _ _ c.unknown-self-inside.result (c.enter.ensures.place.position ∙ sym c.as_position.ensures) refl (c.unknown-self-inside.ensures c.enter.new.self.node.eval) in
     let none : c.self.inside.found ≡ None = found_seen c.self.inside c.args.self.now c.self.view_is ∙ c.requires.«open» in
     let fresh : c.self.inside.started ≡ false = started_seen c.self.inside c.args.self.now c.self.view_is ∙ c.requires.fresh in
     let root : IsAt s.root s.eval s.depth (negated INFINITY) n.bound c.enter.new.self = root_at s c.enter.new.self c.of-node.result _ c.of-node.ensures.position c.of-node.ensures.eval c.enter.ensures.place in
     record {
       calls = root_calls g.M.Memo.called c.args.memo.now c.hash_move_of-hash_move.new.memo c.self.inside c.args.self.now c.saturating_add-self-inside.result (with_frame n 0 c.enter.new.self) c.self.view_is none fresh
-          (stack_with n 0 c.enter.new.self (omega arith) first_fits i.shallow (not_above _ _ (end_kept s.beta i.above i.most)) i.most root)
+          (stack_with n 0 c.enter.new.self (omega arith) first_fits i.shallow (not_above _ _ (end_kept s.beta i.above i.most)) i.most root looked)
           refl c.hash_move_of-hash_move.ensures.asks.asked c.saturating_add-self-inside.ensures;
       told = tt;
       capacity = c.hash_move_of-hash_move.ensures.asks.capacity;

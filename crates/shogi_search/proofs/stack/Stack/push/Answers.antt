@@ -1,4 +1,4 @@
-use Rattle.std.proofs.Common.{arith, get_or, length, refl, subst, ◌<◌, ◌-◌, ◌+◌, ◌∙◌}
+use Rattle.std.proofs.Common.{arith, get_or, length, refl, subst, sym, ◌<◌, ◌-◌, ◌+◌, ◌∙◌}
 use Rattle.std.proofs.lemmas.Int.{ints}
 use Rattle.minimax.specs.Minimax.{negated}
 use Rattle.shogi_core.specs.Position.{Shogi}
@@ -11,7 +11,7 @@ use Rattle.search_nodes.specs.declared.frame.Frame.{Frame}
 use Rattle.search_nodes.proofs.Nodes.{asked}
 use Rattle.shogi_search.specs.Stack.{AwaitsChild}
 use Rattle.shogi_search.specs.declared.stack.Stack.{Stack}
-use Rattle.shogi_search.proofs.Places.{IsTop, read_top, on_top, on_with, stack_entered, left_child, left_once, free_next}
+use Rattle.shogi_search.proofs.Places.{IsTop, read_top, on_top, on_with, stack_entered, left_child, left_once, free_next, found_at}
 use Rattle.shogi_search.proofs.stack.Stack.push.Goals as goal
 
 pub enter-requires-clause-shallow : goal.enter-requires-clause-shallow
@@ -64,7 +64,8 @@ returns g c =
     let counted : IsWithinTree (position_after f m) (f.depth - 1) c.enter.new.self.picker = subst (λ (p : Shogi). IsWithinTree p (f.depth - 1) c.enter.new.self.picker) waits.position c.enter.ensures.counted in
     record {
       ready = record {
-        stack = stack_entered s f c.enter.new.self m is c.requires.stack waits.asked deep c.requires.room room window;
+        stack = stack_entered s f c.enter.new.self m c.unknown-self.result is c.requires.stack waits.asked deep c.requires.room room window
+            (found_at c.enter.new.self _ _ c.unknown-self.result (c.enter.ensures.place.position ∙ sym c.as_position-3.ensures) refl (c.unknown-self.ensures c.enter.new.self.node.eval));
         whole = λ root. absurd (omega (arith, root));
         free = on_with s (s.height + 1) c.enter.new.self (λ (top : Frame). IsFree top.state) room (free_next _ c.enter.ensures.state);
       };

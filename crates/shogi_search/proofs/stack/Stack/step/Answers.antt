@@ -4,22 +4,29 @@ use Rattle.std.proofs.lemmas.Bool.{both_ways}
 use Rattle.search_nodes.specs.Order.{todo}
 use Rattle.search_nodes.specs.Visits.{IsFree, IsOver}
 use Rattle.search_nodes.specs.declared.frame.Frame.{Frame}
+use Rattle.search_nodes.specs.ReplyCache.{IsFoundAt}
 use Rattle.search_nodes.specs.declared.frame.NodeState.TheVariants.{AwaitingChild}
-use Rattle.shogi_search.proofs.Places.{IsTop, left_passed, read_top, on_top, on_with, changed, over_next, over_cut, left_descended}
+use Rattle.shogi_search.proofs.Places.{IsTop, left_passed, read_top, on_top, on_with, changed, looked, over_next, over_cut, left_descended}
 use Rattle.shogi_search.proofs.Runs.{step_from}
 use Rattle.shogi_search.proofs.stack.Stack.step.Goals as goal
 
+pub next_move-requires-clause-found : goal.next_move-requires-clause-found
+next_move-requires-clause-found g c =
+    let s : Stack = c.args.self.now in
+    let f : Frame = get_or s.frames s.height c.index-self-self.result in
+    on_top s f (λ (top : Frame). IsFoundAt top s.reply_cache) (read_top s c.index-self-self.result (omega (arith, c.requires.stack.height_fits))) c.requires.stack.found
+
 pub enter_child-requires-clause-stack : goal.enter_child-requires-clause-stack
-enter_child-requires-clause-stack g c = changed c.args.self.now _ c.next_move.new.self (read_top c.args.self.now c.index-self-self.result (omega (arith, c.requires.stack.height_fits))) c.requires.stack c.next_move.ensures.0
+enter_child-requires-clause-stack g c = looked c.args.self.now _ c.next_move.new.self c.next_move.new.cache (read_top c.args.self.now c.index-self-self.result (omega (arith, c.requires.stack.height_fits))) c.requires.stack c.next_move.ensures.asks.0 c.next_move.ensures.found
 
 pub enter_child-requires-clause-asked : goal.enter_child-requires-clause-asked
-enter_child-requires-clause-asked g c = on_with c.args.self.now c.args.self.now.height c.next_move.new.self (λ (top : Frame). top.state ≡ AwaitingChild c.in-Some.current) (omega (arith, c.requires.stack.height_fits)) c.in-Some.ensures.1.0
+enter_child-requires-clause-asked g c = on_with c.args.self.now c.args.self.now.height c.next_move.new.self (λ (top : Frame). top.state ≡ AwaitingChild c.in-Some.current) (omega (arith, c.requires.stack.height_fits)) c.in-Some.ensures.asks.1.0
 
 pub leave-requires-clause-stack : goal.leave-requires-clause-stack
-leave-requires-clause-stack g c = changed c.args.self.now _ c.next_move.new.self (read_top c.args.self.now c.index-self-self.result (omega (arith, c.requires.stack.height_fits))) c.requires.stack c.next_move.ensures.0
+leave-requires-clause-stack g c = looked c.args.self.now _ c.next_move.new.self c.next_move.new.cache (read_top c.args.self.now c.index-self-self.result (omega (arith, c.requires.stack.height_fits))) c.requires.stack c.next_move.ensures.asks.0 c.next_move.ensures.found
 
 pub leave-requires-clause-over : goal.leave-requires-clause-over
-leave-requires-clause-over g c = on_with c.args.self.now c.args.self.now.height c.next_move.new.self (λ (top : Frame). IsOver top.state (todo top.node.position top.picker)) (omega (arith, c.requires.stack.height_fits)) (over_next c.next_move.new.self c.in_default.ensures.1.0 c.in_default.ensures.1.1.1)
+leave-requires-clause-over g c = on_with c.args.self.now c.args.self.now.height c.next_move.new.self (λ (top : Frame). IsOver top.state (todo top.node.position top.picker)) (omega (arith, c.requires.stack.height_fits)) (over_next c.next_move.new.self c.in_default.ensures.asks.1.0 c.in_default.ensures.asks.1.1.1)
 
 pub leave-requires-2-clause-over : goal.leave-requires-2-clause-over
 leave-requires-2-clause-over g c =
@@ -37,7 +44,7 @@ leave-requires-2-clause-stack g c =
 pub returns-then-is_next : goal.returns-then-is_next
 returns-then-is_next g c = record {
   ready = c.enter_child.ensures.ready;
-  fewer = left_descended c.args.self.now c.enter_child.new.self c.in-Some.current (get_or c.args.self.now.frames c.args.self.now.height c.index-self-self.result) c.next_move.new.self 1 (read_top c.args.self.now c.index-self-self.result (omega (arith, c.requires.stack.height_fits))) c.next_move.ensures.0 c.in-Some.ensures.1.1.0 c.enter_child.ensures.left;
+  fewer = left_descended c.args.self.now c.enter_child.new.self c.in-Some.current (get_or c.args.self.now.frames c.args.self.now.height c.index-self-self.result) c.next_move.new.self 1 (read_top c.args.self.now c.index-self-self.result (omega (arith, c.requires.stack.height_fits))) c.next_move.ensures.asks.0 c.in-Some.ensures.asks.1.1.0 c.enter_child.ensures.left;
   known = tt;
   unchanged = c.enter_child.ensures.unchanged;
   calls = c.enter_child.ensures.calls;
@@ -49,11 +56,11 @@ pub returns-in_default : goal.returns-in_default
 returns-in_default g c =
     let s : Stack = c.args.self.now in
     let is = read_top s c.index-self-self.result (omega (arith, c.requires.stack.height_fits)) in
-    step_from g.M.Memo _ _ s c.next_move.new.self _ _ (left_passed s _ c.next_move.new.self is c.next_move.ensures.0 c.in_default.ensures.1.1.0) c.leave.ensures
+    step_from g.M.Memo _ _ s c.next_move.new.self c.next_move.new.cache _ _ (left_passed s _ c.next_move.new.self is c.next_move.ensures.asks.0 c.in_default.ensures.asks.1.1.0) c.leave.ensures
 
 pub returns : goal.returns
 returns g c =
     let s : Stack = c.args.self.now in
     let f : Frame = get_or s.frames s.height c.index-self-self.result in
     let is : IsTop s f = read_top s c.index-self-self.result (omega (arith, c.requires.stack.height_fits)) in
-    step_from g.M.Memo _ _ s f _ _ (left_passed s f f is (refl, (refl, (refl, refl))) (omega arith)) c.leave-2.ensures
+    step_from g.M.Memo _ _ s f s.reply_cache _ _ (left_passed s f f is (refl, (refl, (refl, refl))) (omega arith)) c.leave-2.ensures

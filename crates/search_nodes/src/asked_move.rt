@@ -1,0 +1,151 @@
+//! Whether the current move of the node two plies before the end is surely not worth enough.
+
+ghost use Rattle.std.specs.Prelude.{◌≡◌, true, false};
+ghost use Rattle.shogi_eval.specs.Exchange.{resolves_captures};
+ghost use Rattle.shogi_replies.specs.Threats.{IsTaken};
+ghost use Rattle.search_nodes.specs.Frames.{HasReply, IsLost, FailsLowIfTaken, IsLostWhere, IsWorthAtMost};
+ghost use Rattle.search_nodes.specs.ReplyCache.{IsReplyCacheOf};
+ghost use Rattle.search_nodes.specs.declared.frame.NodeState.TheVariants.{AwaitingChild};
+ghost use Rattle.std.proofs.Props.{props};
+
+use crate::frame::Frame;
+use crate::reply_cache::ReplyCache;
+use shogi_core::Move;
+use shogi_eval::taken_gain;
+use shogi_replies::{king_takes, leaves_escape, put_by};
+
+/// A node two plies before the end that waits for the answer of a move, with what was found of the
+/// other side's replies.
+#[derive(Drop)]
+pub(crate) struct AskedMove<'a> {
+    pub frame: &'a Frame,
+    pub current: &'a Move,
+    pub cache: &'a mut ReplyCache,
+    ghost last: { frame.now.depth ≡ 2 },
+    ghost asked: { frame.now.state ≡ AwaitingChild current.now },
+    ghost found: { IsReplyCacheOf frame.now.node cache.now } by { Prim.hlevel props },
+}
+
+impl<'a> AskedMove<'a> {
+    ghost use Rattle.search_nodes.specs.PreFrontier.{StaysAsked};
+
+    /// Whether it is certain without making the move that the other side has a legal move after it:
+    /// one that it has where no check is given, or a step of its king out of that check.
+    fn is_answered(&mut self) -> bool
+        ensures some { result ≡ true → HasReply self.old.frame.now self.old.current.now }
+        ensures unchanged { StaysAsked self.old self.new }
+    {
+        let (p, current) = (self.frame.node.as_position(), self.current);
+        self.cache.look_ahead(self.frame);
+        current.reveal_invariant();
+        if self.cache.replies.guarantees_reply(p, current) {
+            return true;
+        }
+        let escapes = self.cache.look_for_escapes(self.frame);
+        leaves_escape(p, escapes, current)
+    }
+
+    /// What the move is worth at most, where the other side has a legal move after it: that move,
+    /// whichever it is, leaves it its material, or what a drop of it loses less.
+    #[inline(always)]
+    fn most_after(&self) -> i32
+        ensures { HasReply self.now.frame.now self.now.current.now
+            → IsWorthAtMost self.now.frame.now self.now.current.now result }
+    {
+        self.current.reveal_invariant();
+        self.frame.loss_after() - self.frame.node.score_after(self.current)
+    }
+
+    /// Whether a threat makes the move not worth enough, if it gives no check.
+    #[inline(always)]
+    fn fails_low_by_threat(&self) -> bool
+        ensures { result ≡ true → IsLostWhere self.now.frame.now self.now.current.now }
+    {
+        let Some(threats) = &self.cache.threats else {
+            return false;
+        };
+        let (node, current) = (&self.frame.node, self.current);
+        current.reveal_invariant();
+        let gain = threats.gain_after(node.as_position(), node.eval(), current);
+        if gain == 0 {
+            return false;
+        }
+        0 - node.score_after(current) - gain as i32 <= self.frame.move_alpha(current)
+    }
+
+    /// Whether the other side surely takes what the move puts on its square, once its attackers were
+    /// looked for: one that nothing pins does, or its king.
+    fn is_retaken(&self) -> bool
+        ensures taken { result ≡ true
+            → ∥ IsTaken self.now.frame.now.node.position self.now.current.now ∥₁ }
+        ensures plain { result ≡ true → resolves_captures self.now.frame.now.node.eval ≡ false }
+    {
+        let Some(threats) = &self.cache.threats else {
+            return false;
+        };
+        let (p, current) = (self.frame.node.as_position(), self.current);
+        current.reveal_invariant();
+        if threats.has_retake(p, &self.cache.replies, current) {
+            return true;
+        }
+        king_takes(p, current)
+    }
+
+    /// Whether it is certain without making the move that the other side has a legal move after it:
+    /// it answers, or takes what the move puts on its square.
+    fn has_reply(&mut self) -> bool
+        ensures some { result ≡ true → HasReply self.old.frame.now self.old.current.now }
+        ensures unchanged { StaysAsked self.old self.new }
+    {
+        if self.is_answered() {
+            return true;
+        }
+        self.cache.look_for_threats(self.frame);
+        self.is_retaken()
+    }
+
+    /// Whether the move is not worth enough, if the other side takes what it puts on its square.
+    fn fails_low_if_taken(&self) -> bool
+        ensures { result ≡ true → FailsLowIfTaken self.now.frame.now self.now.current.now }
+    {
+        let (node, current) = (&self.frame.node, self.current);
+        current.reveal_invariant();
+        let gain = taken_gain(node.eval(), put_by(node.as_position(), current));
+        0 - node.score_after(current) - gain as i32 <= self.frame.move_alpha(current)
+    }
+
+    /// Whether it is certain without making the move that it is not worth enough, since it is taken
+    /// or a threat stands after it.
+    fn is_lost_under_threat(&mut self) -> bool
+        ensures lost { result ≡ true → IsLost self.old.frame.now self.old.current.now }
+        ensures unchanged { StaysAsked self.old self.new }
+    {
+        self.cache.look_for_threats(self.frame);
+        if self.cache.threats.is_none() {
+            return false;
+        }
+        self.cache.look_ahead(self.frame);
+        if self.fails_low_if_taken() && self.is_retaken() {
+            return true;
+        }
+        if !self.fails_low_by_threat() {
+            return false;
+        }
+        self.current.reveal_invariant();
+        let p = self.frame.node.as_position();
+        self.cache.replies.guarantees_reply(p, self.current)
+    }
+
+    /// Whether it is certain without making the move that it is not worth enough.
+    #[inline(always)]
+    pub(crate) fn is_lost(&mut self) -> bool
+        ensures lost { result ≡ true → IsLost self.old.frame.now self.old.current.now }
+        ensures unchanged { StaysAsked self.old self.new }
+        ensures found { IsReplyCacheOf self.old.frame.now.node self.new.cache.now }
+    {
+        if self.most_after() > self.frame.move_alpha(self.current) {
+            return self.is_lost_under_threat();
+        }
+        self.has_reply()
+    }
+}
