@@ -1,7 +1,8 @@
 #!/usr/bin/env python3
 """Tries all that can be tried without a proof: compiles the program and the tests of every crate, unproved and with
 checks at run time, runs them, and runs the scripts of this folder on that program. It proves nothing, and tries no
-edit: `make test` does. Checks that measure time or memory are left out, since the unproved program takes more of both.
+edit: `make test` does. Of the worked rows each sixth is run, since each is run in some twenty ways. Checks that measure
+time or memory are left out, since the unproved program takes more of both.
 Each part has a line as it ends; what failed is shown again at the end. Its last line is `N passed, M failed`."""
 
 import concurrent.futures
@@ -11,6 +12,7 @@ import re
 import signal
 import subprocess
 import sys
+import tempfile
 import time
 
 import build
@@ -22,6 +24,8 @@ COUNTED = re.compile(r"^(?:test result: .*?)?(\d+) passed[,;] (\d+) failed", re.
 FAILED = re.compile(r"^.*(?:FAILED|panicked|fault|^error).*$", re.M)
 # How long the tests of a crate may take, in seconds.
 PATIENCE = "900"
+# How many rows apart those are that are run.
+ROW_STRIDE = 6
 # What takes longest is begun first.
 LONGEST = ("tests of test_search", "tests of test_memory", "output of test_rows")
 
@@ -52,18 +56,36 @@ def tests_of(crate):
     return ended(words, cwd=os.path.join(build.CRATES, crate), stdin=subprocess.DEVNULL)
 
 
+def few_of(path, folder):
+    """A file of each sixth row of this one, and how many those are. An empty line ends a row."""
+    with open(path, encoding="utf-8") as file:
+        blocks = file.read().split("\n\n")
+    rows = [it for it in blocks if re.search(r"^[^#\n]", it, re.M)][::ROW_STRIDE]
+    few = os.path.join(folder, os.path.basename(path))
+    with open(few, "w", encoding="utf-8") as file:
+        file.writelines(f"{it}\n\n" for it in rows)
+    return few, len(rows)
+
+
 def output_of(crate):
     """The program prints what is wanted."""
-    folder = os.path.join(build.CRATES, crate)
+    with tempfile.TemporaryDirectory() as few:
+        return output_in(os.path.join(build.CRATES, crate), crate, few)
+
+
+def output_in(folder, crate, few):
     words = ["rt", "try", "--seconds", PATIENCE]
-    for path in sorted(glob.glob(os.path.join(folder, "data", "*"))):
-        words += ["--data", f"{os.path.basename(path)}={path}"]
     given = {}
     for name in ("stdin", "stdout", "args"):
         path = os.path.join(folder, name)
         if os.path.exists(path):
             with open(path, "rb") as file:
                 given[name] = file.read()
+    for path in sorted(glob.glob(os.path.join(folder, "data", "*"))):
+        name = os.path.basename(path)
+        path, rows = few_of(path, few)
+        words += ["--data", f"{name}={path}"]
+        given["stdout"] = re.sub(rf"({name}: )\d+( rows)".encode(), rf"\g<1>{rows}\2".encode(), given["stdout"])
     if "args" in given:
         words += ["--", *given["args"].decode().splitlines()]
     done = subprocess.run(words, cwd=folder, input=given.get("stdin", b""), capture_output=True, check=False)

@@ -1003,13 +1003,15 @@ def a_status_names_its_process():
 
 
 def a_status_counts_searches():
-    with told() as running:
+    with told("--slice", "1") as running:
         picked(running, bestmoves=0, steps=0, probes=0, hits=0)
         want(running.ask(b"isready\ngo depth 3\nquit\n"), b"readyok\n" + DEPTH_THREE, "a client")
         until_status(running, "its end", finished=1, bestmoves=1)
         first = status(running)
         if not (first["steps"] > 0 and first["probes"] > first["hits"] >= 0):
             raise Wrong(f"a search: {first}")
+        if first["steps"] > first["turns"]:
+            raise Wrong(f"more steps a turn than the slice: {first}")
         # What the table has takes no step.
         want(running.ask(b"go depth 3\ngo depth 3\nquit\n"), DEPTH_THREE * 2, "another client")
         until_status(running, "its end", finished=2, bestmoves=3, steps=first["steps"])
@@ -1174,6 +1176,16 @@ def a_status_whose_accept_fails_is_answered_later():
             raise Wrong("it spins while an accept fails")
 
 
+def a_status_is_looked_for_only_where_somebody_asks():
+    """Turns without a visitor make no accept, so none of those that are refused here is reached."""
+    with refusals.refusing(refusals.ACCEPT4, set(range(6, 60))) as how, told(**how) as running:
+        with running.connect() as client:
+            for _ in range(40):
+                client.sendall(b"isready\n")
+                want(exactly(client, 8), b"readyok\n", "a client")
+            picked(running, faults=0)
+
+
 def what_comes_behind_quit_is_not_counted():
     with told() as running:
         want(running.ask(b"isready\nquit\n" + b"usi\n" * 100), b"readyok\n", "a client")
@@ -1308,6 +1320,7 @@ CHECKS = (
     a_status_while_the_host_is_full,
     a_status_while_no_more_files_can_be_opened,
     a_status_whose_accept_fails_is_answered_later,
+    a_status_is_looked_for_only_where_somebody_asks,
     what_comes_behind_quit_is_not_counted,
     a_status_socket_that_cannot_be_made_is_told,
     too_few_files_are_told_at_the_start,
