@@ -13,7 +13,7 @@ use Rattle.shogi_core.specs.Movement.{piece_at, cell_reaches, has_step, has_slid
 use Rattle.shogi_core.specs.Pieces.{opponent_of}
 use Rattle.shogi_core.specs.Position.{Shogi}
 use Rattle.shogi_core.specs.Validity.{IsValid}
-use Rattle.shogi_core.proofs.BitLaws.{has_bit-none, has_bit-and, has_bit-or, has_bit-mask}
+use Rattle.shogi_core.proofs.BitLaws.{has_bit-and, has_bit-or, has_bit-mask}
 use Rattle.shogi_core.proofs.LineBits.{lowest_set, has_bit-not}
 use Rattle.shogi_core.proofs.SeenLaws.{slide_seen, lined_aligned, slides_role}
 use Rattle.shogi_moves.specs.After.{dropped, piece_moved}
@@ -110,10 +110,6 @@ apart_from closing marked kings e n bits out =
 pub taken_there : (p : Shogi) (kind : Kind) (squares escapes kings n : ℕ) → IsValid p → escapes < 2 ^ 81 → AreEscapes p escapes → ((k : ℕ) → k < 81 → has_bit kings k ≡ is_king (opponent_of p.side) (piece_at p.cells k)) → kings < 2 ^ 81 → kings ≢ 0 → n < 81 → has_bit squares n ≡ true → has_bit (bit_and squares (2 ^ 128 - 1 - escapes)) n ≡ false → IsAnswered p (Drop kind n)
 taken_there p kind squares escapes kings n v among a bits fits some hn e out = λ legal. taken_drop p kind escapes kings n v hn a fits bits some
     (true_from_ne_false (has_bit escapes n) (λ off. both_ways (has_bit (bit_and squares (2 ^ 128 - 1 - escapes)) n) out (has_bit-and squares (2 ^ 128 - 1 - escapes) n ∙ and_from _ _ e (has_bit-not escapes n (omega (arith, among)) (omega arith) ∙ ap not off))))
-
--- no escape is known
-pub no_escapes : (p : Shogi) → AreEscapes p 0
-no_escapes p k e hk king he among = absurd (both_ways (has_bit 0 e) (has_bit-none e) among)
 
 -- a square that is kept no more was not among the closing ones
 pub not_closing : (kept closing n : ℕ) → has_bit (bit_and kept closing) n ≡ false → has_bit kept n ≡ true → has_bit closing n ≡ false

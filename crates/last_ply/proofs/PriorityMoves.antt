@@ -21,7 +21,7 @@ use Rattle.shogi_eval.specs.declared.eval.Eval.{Eval}
 use Rattle.shogi_eval.specs.Evaluated.{Evaluated}
 use Rattle.shogi_eval.specs.Material.{material_of}
 use Rattle.shogi_moves.specs.Destinations.{is_own}
-use Rattle.last_ply.specs.LastPly.{is_legal_board_move, score_at, IsFirstFrom, IsReach, NoneScoresFrom, Scores, ScoresFromAtMost, OnOwn, NoneScores, IsFirstToScore}
+use Rattle.last_ply.specs.LastPly.{is_legal_board_move, score_at, IsFirstFrom, IsReach, NoneScoresFrom, Scores, OnOwn, NoneScores, IsFirstToScore}
 use Rattle.last_ply.proofs.Scores.{by_moves, legal_end, legal_parts, score_drop, score_quiet}
 use Rattle.last_ply.proofs.Squares.{out_within}
 
@@ -37,10 +37,6 @@ quiet_end p e from targets foe zone n promote v hf h rb fb zb out l = go promote
     go : (promote : Bool) → is_legal_board_move p from n promote ≡ true → score_at p e (code_of (Board from n promote)) ≡ material_of p e
     go true l = absurd (both_ways (has_bit zone n) (off true l).1 (zb n h ∙ (legal_parts p from n true hf h l).2))
     go false l = score_quiet p e from n v hf h l (sym (fb n h) ∙ (off false l).0)
-
--- what scores less does not score this
-pub not_so_much : (node : Evaluated) (v w : ℤ) (from : ℕ) → ScoresFromAtMost node.position node.eval from w → w <ℤ v → NoneScoresFrom node v from
-not_so_much node v w from most less n promote h l s = (let m : _ = most n promote h l in omega (arith, ints, m, s, less))
 
 -- the first move of the first piece that has one is the least of all
 pub first_of_all : (node : Evaluated) (v : ℤ) (from code : ℕ) → from < 81 → IsFirstFrom node v from code

@@ -2,7 +2,8 @@
 use Rattle.std.proofs.Common.{◌≡◌, ◌<◌, ◌≤◌, ◌+◌, ◌-◌, ◌/◌, ◌%◌, ℕ, ℤ, pos, ◌-ℤ◌, ◌+ℤ◌, ◌≤ℤ◌, Bool, true, false, not, Option, Some, None, bit_and, bit_or, refl, sym, ap, ◌∙◌, subst, arith, inl, inr}
 use Rattle.std.specs.Prelude.{◌&&◌, ◌||◌, ◌==◌, is_none}
 use Rattle.std.proofs.lemmas.Int.{ints}
-use Rattle.std.proofs.lemmas.Bool.{and_parts, and_from, both_ways, cases_Bool, cases_lt, cases_eq, true_from_ne_false, false_from_ne_true, or_parts, not-true}
+use Rattle.std.proofs.Math.Bool.{and-true}
+use Rattle.std.proofs.lemmas.Bool.{eq-eqb, or_right, and_parts, and_from, both_ways, cases_Bool, cases_lt, cases_eq, true_from_ne_false, false_from_ne_true, or_parts, not-true}
 use Rattle.shogi_core.specs.declared.moves.TheConstants.{FIRST_DROP, MOVE_CODE_COUNT}
 use Rattle.shogi_core.specs.declared.moves.Move.TheVariants.{Board, Drop}
 use Rattle.shogi_core.specs.declared.piece.Color.{Color}
@@ -111,6 +112,14 @@ all_legal p from targets ends n promote hf h rb bits = elim (cases_Bool (is_lega
   | inl legal ↦ bits ∙ (and_from _ _ (legal_end p from targets n promote hf h rb legal) legal ∙ sym legal)
   | inr illegal ↦ false_from_ne_true (has_bit ends n) (λ set. both_ways (is_legal_board_move p from n promote) illegal (and_parts (has_bit targets n) _ (sym bits ∙ set)).1) ∙ sym illegal
 ]
+
+-- of a square alone too
+pub legal_at : (p : Shogi) (from targets square ends to : ℕ) (promote : Bool) → from < 81 → to < 81 → IsReach p from targets → ((i : ℕ) → has_bit square i ≡ (has_bit 0 i || (i == to)))
+    → has_bit ends to ≡ (has_bit (bit_and targets square) to && is_legal_board_move p from to promote) → has_bit ends to ≡ is_legal_board_move p from to promote
+legal_at p from targets square ends to promote hf ht rb one bits =
+    let here : has_bit square to ≡ true = one to ∙ or_right (has_bit 0 to) (to == to) (eq-eqb to to refl) in
+    let both : has_bit (bit_and targets square) to ≡ has_bit targets to = has_bit-and targets square to ∙ ap (λ b. has_bit targets to && b) here ∙ and-true (has_bit targets to) in
+    all_legal p from targets ends to promote hf ht rb (bits ∙ ap (λ b. b && is_legal_board_move p from to promote) both)
 
 -- what a piece's captures and promotions score at most, all its moves do, where the node has no more
 pub from_ends : (p : Shogi) (e : Eval) (from targets foe zone : ℕ) (floor first last : ℤ) → IsValid p → from < 81 → IsReach p from targets

@@ -1,5 +1,5 @@
 -- What a move scores once it is settled, by what the other side wins.
-use Rattle.std.proofs.Common.{◌≡◌, ◌<◌, ℕ, ℤ, pos, negsuc, ◌-ℤ◌, ◌≤ℤ◌, Bool, true, false, Some, FitsSigned, w32, to_z, of_z, sym, ap, ◌∙◌, arith}
+use Rattle.std.proofs.Common.{◌≡◌, ◌<◌, ℕ, ℤ, pos, negsuc, ◌-ℤ◌, ◌≤ℤ◌, Bool, true, Some, FitsSigned, w32, to_z, of_z, sym, ap, ◌∙◌, arith}
 use Rattle.std.specs.Prelude.{unsigned_abs}
 use Rattle.std.proofs.lemmas.Int.{ints, to_z-of_z}
 use Rattle.shogi_core.specs.declared.moves.Move.{Move}
@@ -14,7 +14,6 @@ use Rattle.shogi_eval.specs.declared.eval.Eval.{Eval}
 use Rattle.shogi_eval.specs.declared.eval.Eval.TheVariants.{Plain, Hand, Exchange}
 use Rattle.shogi_eval.specs.declared.points.TheConstants.{POINTS_MAX}
 use Rattle.shogi_eval.specs.Exchange.{resolves_captures}
-use Rattle.minimax.proofs.Settling.{left_plain}
 use Rattle.static_exchange.specs.Reprisals.{IsReprisal, IsEnough}
 use Rattle.last_ply.specs.LastPly.{is_legal_board_move, score_at, raw_score}
 use Rattle.last_ply.proofs.Composing.{score_bounds, raw_bounds}
@@ -30,10 +29,6 @@ apart_held a b n fa fb is up =
     let first : unsigned_abs (to_z w32 (of_z w32 a) -ℤ to_z w32 (of_z w32 b)) ≡ unsigned_abs (a -ℤ to_z w32 (of_z w32 b)) = ap (λ (x : ℤ). unsigned_abs (x -ℤ to_z w32 (of_z w32 b))) (to_z-of_z w32 a fa) in
     let second : unsigned_abs (a -ℤ to_z w32 (of_z w32 b)) ≡ unsigned_abs (a -ℤ b) = ap (λ (x : ℤ). unsigned_abs (a -ℤ x)) (to_z-of_z w32 b fb) in
     apart (a -ℤ b) n (is ∙ first ∙ second) (omega (arith, ints, up))
-
--- where nothing is settled, it scores what it scores unsettled
-pub score_plain : (p : Shogi) (e : Eval) (code : ℕ) → resolves_captures e ≡ false → score_at p e code ≡ raw_score p e code
-score_plain p e code plain = ap (λ (v : ℤ). pos 0 -ℤ v) (left_plain p e code plain)
 
 -- elsewhere less what the other side wins
 pub score_won : (p : Shogi) (e : Eval) (code won : ℕ) → resolves_captures e ≡ true → IsReprisal p code won → score_at p e code ≡ raw_score p e code -ℤ pos won

@@ -1,8 +1,9 @@
 -- What holds of a node with one ply left as it is looked at (own choice).
 use Rattle.std.specs.Prelude.{ℕ, ℤ, Bool}
 use Rattle.shogi_core.specs.declared.piece.Kind.{Kind}
+use Rattle.shogi_moves.specs.declared.origin.Origin.{Origin}
 use Rattle.last_ply.specs.declared.frontier.FrontierNode.{FrontierNode}
-use Rattle.last_ply.specs.LastPly.{AreAnsweredOff, AreDoubtfulEnds, AreDropsAnsweredOff, DropsLeaveSomeAmong, HasNoneFrom, LeaveSomeAmong, NodeScoresFromAtMost, NoneScoresFrom, OnEach, OnRest, TakesLittle}
+use Rattle.last_ply.specs.LastPly.{AreAnsweredOff, AreDoubtfulEnds, AreDropsAnsweredOff, HasNoneFrom, LeaveSomeAmong, NodeScoresFromAtMost, NoneScoresFrom, OnEach, OnRest, TakesLittle}
 
 -- the side's other pieces than these have no legal move
 abbrev pub OthersCannotMove : FrontierNode → ℕ → Type 0
@@ -36,10 +37,6 @@ FrontierDropsAnsweredOff frontier = AreDropsAnsweredOff frontier.node.now.positi
 abbrev pub FrontierDoubtfulEnds : FrontierNode → ℕ → Bool → ℕ → Type 0
 FrontierDoubtfulEnds frontier = AreDoubtfulEnds frontier.node.now.position
 
--- each move of what stands on the square to one of the ends, promoting or not, leaves the other side one
-abbrev pub FrontierLeavesSomeAmong : FrontierNode → ℕ → Bool → ℕ → Type 0
+-- each move from there to one of the ends leaves the other side one
+abbrev pub FrontierLeavesSomeAmong : FrontierNode → Origin → ℕ → Type 0
 FrontierLeavesSomeAmong frontier = LeaveSomeAmong frontier.node.now.position
-
--- and each drop of the kind on one of the ends
-abbrev pub FrontierDropsLeaveSomeAmong : FrontierNode → Kind → ℕ → Type 0
-FrontierDropsLeaveSomeAmong frontier = DropsLeaveSomeAmong frontier.node.now.position

@@ -16,6 +16,8 @@ use Rattle.shogi_moves.specs.After.{after_code, piece_moved}
 use Rattle.shogi_moves.specs.Destinations.{is_own, AreEnterable}
 use Rattle.shogi_moves.specs.Legal.{is_legal_code}
 use Rattle.shogi_moves.specs.LegalMoves.{legal_codes}
+use Rattle.shogi_moves.specs.Origins.{move_to}
+use Rattle.shogi_moves.specs.declared.origin.Origin.{Origin}
 use Rattle.shogi_moves.specs.Rising.{is_in}
 use Rattle.shogi_replies.specs.ReplyInfo.{IsAnswered}
 use Rattle.shogi_eval.specs.declared.eval.Eval.{Eval}
@@ -182,10 +184,6 @@ NoneScoresAmong node v from squares = (n : ℕ) (promote : Bool) → n < 81
     → has_bit squares n ≡ false
     → ScoresElse node v from n promote
 
--- the same, if this is no less than the node has
-abbrev pub OtherEndsScoreElse : Evaluated → ℤ → ℕ → ℕ → Type 0
-OtherEndsScoreElse node v from ends = base_of node ≤ℤ v → NoneScoresAmong node v from ends
-
 -- of the legal moves of what stands on the square that score this, the code is the least
 pub record IsFirstFrom (node : Evaluated) (v : ℤ) (from code : ℕ) : Type 0 where
   pub listed : is_legal_code node.position code ≡ true
@@ -232,13 +230,9 @@ TakesLittle node v t n = reaches node.position.cells n t ≡ true → TakesTooLi
 abbrev pub HasReachers : Cells → ℕ → ℕ → Type 0
 HasReachers cells squares t = Outside squares (λ n. reaches cells n t ≡ false)
 
--- the moves of what stands on the square to the ends are legal, promoting or not
-abbrev pub AreLegalEnds : Shogi → ℕ → Bool → ℕ → Type 0
-AreLegalEnds p from promote ends = OnEach ends (λ n. is_legal_board_move p from n promote ≡ true)
-
--- the drops of the kind on the ends are legal
-abbrev pub AreLegalDropEnds : Shogi → Kind → ℕ → Type 0
-AreLegalDropEnds p kind ends = OnEach ends (λ n. is_legal_code p (code_of (Drop kind n)) ≡ true)
+-- the moves from there to the ends are legal
+abbrev pub AreLegalEnds : Shogi → Origin → ℕ → Type 0
+AreLegalEnds p origin ends = OnEach ends (λ n. is_legal_code p (code_of (move_to origin n)) ≡ true)
 
 -- if the move of what stands on the square is legal, it leaves the other side one
 abbrev pub LeavesSomeTo : Shogi → ℕ → ℕ → Bool → Type 0
@@ -258,13 +252,9 @@ pub record AreDoubtfulEnds (p : Shogi) (from : ℕ) (promote : Bool) (ends : ℕ
   pub enterable : AreEnterable p from ends
   pub others : Outside ends (λ n. LeavesSomeTo p from n promote)
 
--- and each move to one of the ends, promoting or not
-abbrev pub LeaveSomeAmong : Shogi → ℕ → Bool → ℕ → Type 0
-LeaveSomeAmong p from promote ends = OnEach ends (λ n. LeavesSome p (code_of (Board from n promote)))
-
--- and each drop of the kind on one of the ends
-abbrev pub DropsLeaveSomeAmong : Shogi → Kind → ℕ → Type 0
-DropsLeaveSomeAmong p kind ends = OnEach ends (λ n. LeavesSome p (code_of (Drop kind n)))
+-- each move from there to one of the ends leaves the other side one
+abbrev pub LeaveSomeAmong : Shogi → Origin → ℕ → Type 0
+LeaveSomeAmong p origin ends = OnEach ends (λ n. LeavesSome p (code_of (move_to origin n)))
 
 -- each legal drop of the kind leaves the other side a legal move
 abbrev pub DropsLeaveSome : Shogi → Kind → Type 0

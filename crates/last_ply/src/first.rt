@@ -1,20 +1,92 @@
 //! The legal move of least code that meets something.
 
-ghost use Rattle.std.specs.Prelude.{◌≡◌, ◌≤ℤ◌, ◌<ℤ◌, ℕ, ℤ, true, false, IfSome, IsNone};
+ghost use Rattle.std.specs.Prelude.{◌≡◌, ◌≤ℤ◌, ◌<ℤ◌, ℤ, true, false, IfSome, IsNone};
 ghost use Rattle.shogi_core.specs.Codes.{code_of};
-ghost use Rattle.shogi_core.specs.Movement.{reaches};
-ghost use Rattle.shogi_moves.specs.Destinations.{is_own, AreEnterable, IsWithin};
-ghost use Rattle.shogi_moves.specs.Legal.{is_legal};
+ghost use Rattle.shogi_moves.specs.Destinations.{IsWithin};
 ghost use Rattle.minimax.specs.Entries.{IsConclusive};
-ghost use Rattle.last_ply.specs.LastPly.{base_of, BoardMoveScores, HasNoMate, IsFirstFrom, IsFirstMate, IsFirstToScore, IsLegalTo, NoneGains, NoneScores, NoneScoresFrom, OtherEndsScoreElse, Scores, ScoresElse, NodeHasScore, NodeScoresAtMost, IsTrueOf};
+ghost use Rattle.last_ply.specs.LastPly.{BoardMoveScores, HasNoMate, IsFirstFrom, IsFirstMate, IsFirstToScore, IsLegalTo, IsTrueOf, NodeHasScore, NodeScoresAtMost, NoneGains, NoneScores, NoneScoresAmong, NoneScoresFrom, ScoresElse};
 ghost use Rattle.last_ply.specs.FrontierNodes.{OthersScoreElse};
 
 use crate::frontier::FrontierNode;
 use crate::mates::MateSearch;
+use crate::moving_piece::MovingPiece;
+use crate::scored_move::ScoredMove;
 use minimax::{Entry, INFINITY, MATE};
 use shogi_core::zones::promoting_squares;
 use shogi_core::{Move, Square, Squares};
 use shogi_moves::Walk;
+
+impl MovingPiece<'_> {
+    /// Whether its move to the square is legal and scores this.
+    fn is_gain(&self, to: Square, promote: bool, score: i32) -> bool
+        ensures legal { result ≡ true
+            → IsLegalTo self.now.frontier.now.node.now.position self.now.from to promote }
+        ensures scores { result ≡ true
+            → BoardMoveScores self.now.frontier.now.node.now score self.now.from to promote }
+        ensures other { result ≡ false
+            → ScoresElse self.now.frontier.now.node.now score self.now.from to promote }
+    {
+        let from = self.from;
+        from.reveal_invariant();
+        to.reveal_invariant();
+        let raw = self.raw_to(to, promote);
+        if raw < score {
+            return false;
+        }
+        if !self.is_end(to, promote) {
+            return false;
+        }
+        let legal_move = ScoredMove {
+            node: self.frontier.node,
+            current: Move::Board { from, to, promote },
+            raw,
+        };
+        legal_move.scores(score)
+    }
+
+    /// The squares at which a legal move of it may score this: where it is more than the node has,
+    /// those of captures and promotions.
+    fn ends_scoring(&self, score: i32) -> Squares
+        ensures { NoneScoresAmong self.now.frontier.now.node.now score self.now.from result.bits }
+    {
+        let from = self.from;
+        from.reveal_invariant();
+        let node = self.frontier.node;
+        if score <= node.score() {
+            return self.targets;
+        }
+        let zone = promoting_squares(node.as_position().at(from), from);
+        self.targets & (self.frontier.foe | zone)
+    }
+
+    /// Its move of least code that is legal and scores this.
+    fn first_to_score(&self, score: i32) -> Option<Move>
+        ensures some { IfSome result (λ m. IsFirstFrom self.now.frontier.now.node.now
+            score self.now.from (code_of m)) }
+        ensures if_none { IsNone result
+            → NoneScoresFrom self.now.frontier.now.node.now score self.now.from }
+    {
+        let from = self.from;
+        let mut left = self.ends_scoring(score).iter();
+        'ends: while let Some(to) = left.next() {
+            if self.is_gain(to, false, score) {
+                return Some(Move::Board {
+                    from,
+                    to,
+                    promote: false,
+                });
+            }
+            if self.is_gain(to, true, score) {
+                return Some(Move::Board {
+                    from,
+                    to,
+                    promote: true,
+                });
+            }
+        }
+        None
+    }
+}
 
 impl FrontierNode<'_> {
     /// The legal move of least code that leaves the other side without one.
@@ -32,75 +104,9 @@ impl FrontierNode<'_> {
         None
     }
 
-    /// Whether the move of one of the side's pieces to a square that it reaches is legal and scores
-    /// this.
-    fn is_gain(&self, from: Square, to: Square, promote: bool, score: i32) -> bool
-        requires own { is_own self.now.node.now.position from ≡ true }
-        requires reached { reaches self.now.node.now.position.cells from to ≡ true }
-        requires free { is_own self.now.node.now.position to ≡ false }
-        ensures legal { result ≡ true → IsLegalTo self.now.node.now.position from to promote }
-        ensures scores { result ≡ true → BoardMoveScores self.now.node.now score from to promote }
-        ensures other { result ≡ false → ScoresElse self.now.node.now score from to promote }
-    {
-        from.reveal_invariant();
-        to.reveal_invariant();
-        let raw = self.raw_to(from, to, promote);
-        if raw < score {
-            return false;
-        }
-        if !self.is_end(from, to, promote) {
-            return false;
-        }
-        self.scores(Move::Board { from, to, promote }, raw, score)
-    }
-
-    /// The squares at which a legal move of one of the side's pieces may score this, no less than the
-    /// node has: where it is more, those of captures and promotions.
-    fn ends_scoring(&self, from: Square, score: i32) -> Squares
-        ensures reached { AreEnterable self.now.node.now.position from result.bits }
-        ensures others { OtherEndsScoreElse self.now.node.now score from result.bits }
-    {
-        from.reveal_invariant();
-        let p = self.node.as_position();
-        let targets = self.targets(from);
-        if score <= self.node.score() {
-            return targets;
-        }
-        targets & (self.foe | promoting_squares(p.at(from), from))
-    }
-
-    /// The move of least code of one of the side's pieces that is legal and scores this, no less
-    /// than the node has.
-    fn first_from(&self, from: Square, score: i32) -> Option<Move>
-        requires own { is_own self.now.node.now.position from ≡ true }
-        requires least { base_of self.now.node.now ≤ℤ score }
-        ensures some { IfSome result (λ m. IsFirstFrom self.now.node.now score from (code_of m)) }
-        ensures if_none { IsNone result → NoneScoresFrom self.now.node.now score from }
-    {
-        let mut left = self.ends_scoring(from, score).iter();
-        'ends: while let Some(to) = left.next() {
-            if self.is_gain(from, to, false, score) {
-                return Some(Move::Board {
-                    from,
-                    to,
-                    promote: false,
-                });
-            }
-            if self.is_gain(from, to, true, score) {
-                return Some(Move::Board {
-                    from,
-                    to,
-                    promote: true,
-                });
-            }
-        }
-        None
-    }
-
-    /// Those of the side's pieces of which a legal move may score this, no less than the node has:
-    /// where it is more, those that may take or promote.
+    /// Those of the side's pieces of which a legal move may score this: where it is more than the
+    /// node has, those that may take or promote.
     fn pieces_scoring(&self, score: i32) -> Squares
-        requires { base_of self.now.node.now ≤ℤ score }
         ensures within { IsWithin result.bits self.now.own.bits }
         ensures others { OthersScoreElse self.now score result.bits }
     {
@@ -110,29 +116,18 @@ impl FrontierNode<'_> {
         self.gainers(score - 1)
     }
 
-    /// The legal move on the board of least code that scores this, no less than the node has.
+    /// The legal move on the board of least code that scores this.
     fn first_on_board(&self, score: i32) -> Option<Move>
-        requires { base_of self.now.node.now ≤ℤ score }
         ensures some { IfSome result (λ m. IsFirstToScore self.now.node.now score (code_of m)) }
         ensures if_none { IsNone result → NoneGains self.now.node.now score }
     {
         let mut left = self.pieces_scoring(score).iter();
         'pieces: while let Some(from) = left.next() {
-            if let Some(m) = self.first_from(from, score) {
+            if let Some(m) = self.moving_piece(from).first_to_score(score) {
                 return Some(m);
             }
         }
         None
-    }
-
-    /// Whether the legal move scores this.
-    fn has_score(&self, m: &Move, score: i32) -> bool
-        requires { is_legal self.now.node.now.position m.now ≡ true }
-        ensures scores { result ≡ true → Scores self.now.node.now score (code_of m.now) }
-        ensures other { result ≡ false → Scores self.now.node.now score (code_of m.now) → ⊥ }
-    {
-        let raw = self.raw_with(m);
-        raw >= score && self.scores(*m, raw, score)
     }
 
     /// The legal move of least code that scores this.
@@ -149,7 +144,7 @@ impl FrontierNode<'_> {
         }
         let mut walk = Walk::new(self.node.as_position());
         'moves: while let Some(m) = walk.next() {
-            if self.has_score(&m, score) {
+            if self.scored(&m).scores(score) {
                 return Some(m);
             }
         }
@@ -166,7 +161,7 @@ impl FrontierNode<'_> {
         let mut best = floor;
         let mut walk = Walk::new(self.node.as_position());
         'moves: while let Some(m) = walk.next() {
-            best = self.best_score_with(&m, best);
+            best = self.scored(&m).score_above(best);
         }
         best
     }
@@ -186,7 +181,7 @@ impl FrontierNode<'_> {
                 m.reveal_invariant();
                 return Entry::Exact(MATE, Some(m));
             }
-            let score = self.best_score_with(&m, most);
+            let score = self.scored(&m).score_above(most);
             if score > most {
                 most = score;
                 first = Some(m);

@@ -8,7 +8,7 @@ ghost use Rattle.last_ply.specs.LastPly.{is_foe};
 
 use shogi_core::{Square, Squares};
 use shogi_eval::Node;
-use shogi_moves::{Destinations, KnownPosition, check_info_of, legal_destinations};
+use shogi_moves::{KnownPosition, check_info_of};
 
 /// A node, and what is known of it: of checks, which squares the pieces of the side to move stand
 /// on, and those of the other side.
@@ -25,8 +25,6 @@ pub struct FrontierNode<'a> {
 }
 
 impl FrontierNode<'_> {
-    ghost use Rattle.std.specs.Prelude.{true};
-    ghost use Rattle.shogi_moves.specs.Destinations.{AreAllDestinations};
     ghost use Rattle.last_ply.specs.LastPly.{IsReach};
 
     /// The frontier node.
@@ -52,14 +50,5 @@ impl FrontierNode<'_> {
     {
         let board = self.node.as_position().as_board();
         board.targets(from).without(self.own)
-    }
-
-    /// The legal destinations of one of the side's pieces.
-    pub fn destinations(&self, from: Square) -> Destinations
-        requires { is_own self.now.node.now.position from ≡ true }
-        ensures { AreAllDestinations self.now.node.now.position from result }
-    {
-        from.reveal_invariant();
-        legal_destinations(&self.known, from, self.targets(from))
     }
 }

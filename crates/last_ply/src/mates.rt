@@ -4,37 +4,35 @@ ghost use Rattle.std.specs.Prelude.{[], ◌≢◌, ◌≡◌, ◌<◌, true, fal
 ghost use Rattle.std.proofs.Props.{props};
 ghost use Rattle.shogi_core.specs.Bits.{has_bit};
 ghost use Rattle.shogi_moves.specs.Destinations.{is_own, AreDropSquares, IsWithin};
-ghost use Rattle.shogi_moves.specs.Escapes.{AreEscapes};
 ghost use Rattle.shogi_moves.specs.LegalMoves.{legal_codes};
 ghost use Rattle.shogi_moves.specs.Legal.{is_legal};
-ghost use Rattle.shogi_replies.specs.ReplyInfo.{IsAnswered, IsReplyInfo};
-ghost use Rattle.last_ply.specs.LastPly.{AllDropsLeaveSome, AreLegalDropEnds, BoardLeavesSome, OnEach, Outside, HasMate, HasNoMate, IsMate, IsNoMate, IsPieceMoved, AreLegalEnds, LeaveSomeFrom, DropsLeaveSome, IsOutOfReach, HasOthers};
-ghost use Rattle.last_ply.specs.FrontierNodes.{FrontierAnsweredOff, FrontierDoubtfulEnds, FrontierDropsAnsweredOff, FrontierDropsLeaveSomeAmong, FrontierLeavesSomeAmong};
+ghost use Rattle.shogi_replies.specs.ReplyInfo.{IsAnswered};
+ghost use Rattle.last_ply.specs.LastPly.{AllDropsLeaveSome, BoardLeavesSome, OnEach, Outside, HasMate, HasNoMate, IsMate, IsNoMate, IsPieceMoved, AreLegalEnds, LeaveSomeFrom, DropsLeaveSome, IsOutOfReach, HasOthers};
+ghost use Rattle.last_ply.specs.FrontierNodes.{FrontierAnsweredOff, FrontierDoubtfulEnds, FrontierDropsAnsweredOff, FrontierLeavesSomeAmong};
 
 use crate::frontier::FrontierNode;
 use shogi_core::bits::{lowest, without_lowest};
 use shogi_core::zones::promoting_squares;
 use shogi_core::{Kind, Move, Piece, Position, Role, Square, Squares, line_mask, step_squares};
 use shogi_moves::{
-    Destinations, drop_destinations, drop_squares, has_legal, is_legal, legal_destinations,
+    Destinations, Origin, drop_destinations, drop_squares, has_legal, is_legal, legal_destinations,
 };
-use shogi_replies::{ReplyInfo, king_takes, leaves_escape, leaves_king_move, some_escapes};
+use shogi_replies::{KnownReplies, ReplyInfo, king_takes, some_escapes};
 
 /// A frontier node, and what shows of most moves that the other side surely has one after them.
 #[derive(Clone, Copy)]
 pub struct MateSearch<'a> {
     pub frontier: FrontierNode<'a>,
-    pub replies: ReplyInfo,
-    /// Three of the squares to which the other side's king may go, or fewer where there are no more.
-    pub escapes: Squares,
+    /// With three of the squares to which the other side's king may go, or fewer where there are no
+    /// more.
+    pub replies: KnownReplies<'a>,
     /// The empty squares on which a held piece may be dropped.
     pub squares: Squares,
     /// Whether the other side surely has a legal move after each one that gives it no check.
     pub spared: bool,
-    ghost replied: { IsReplyInfo frontier.node.now.position replies.king_view.bits replies.free_movers.bits } by { Prim.hlevel props },
-    ghost escaping: { AreEscapes frontier.node.now.position escapes.bits } by { Prim.hlevel props },
+    ghost same: { replies.position.now ≡ frontier.node.now.position },
     ghost dropping: { AreDropSquares frontier.node.now.position squares.bits } by { Prim.hlevel props },
-    ghost others: { spared ≡ true → HasOthers replies.free_movers.bits },
+    ghost others: { spared ≡ true → HasOthers replies.info.free_movers.bits },
 }
 
 /// Whether there are two squares.
@@ -45,14 +43,6 @@ fn has_two(squares: Squares) -> bool
         return false;
     }
     without_lowest(squares.bits, lowest(squares.bits)) != 0
-}
-
-/// The square where the move ends.
-fn end_of(m: &Move) -> Square {
-    match m {
-        Move::Board { to, .. } => *to,
-        Move::Drop { to, .. } => *to,
-    }
 }
 
 /// The pieces of the side to move, but its king, next to the square or a knight's jump away.
@@ -94,7 +84,7 @@ fn takes_legally(p: &Position, from: Square, to: Square) -> bool
 fn retakes(p: &Position, m: &Move) -> bool
     ensures { result ≡ true → legal_codes p.now ≢ [] }
 {
-    let to = end_of(m);
+    let to = m.to();
     to.reveal_invariant();
     let mut left = pieces_near(p, to.index()).iter();
     'pieces: while let Some(from) = left.next() {
@@ -158,13 +148,12 @@ impl MateSearch<'_> {
         ensures { result.frontier.node.now ≡ frontier.now.node.now }
     {
         let p = frontier.node.as_position();
-        let replies = ReplyInfo::of(p);
+        let info = ReplyInfo::of(p);
         MateSearch {
             frontier: *frontier,
-            replies,
-            escapes: some_escapes(p),
+            replies: info.at(p, some_escapes(p)),
             squares: drop_squares(&frontier.known),
-            spared: has_two(replies.free_movers),
+            spared: has_two(info.free_movers),
         }
     }
 
@@ -172,8 +161,7 @@ impl MateSearch<'_> {
     fn leaves_way(&self, m: &Move) -> bool
         ensures { result ≡ true → IsAnswered self.now.frontier.node.now.position m.now }
     {
-        let p = self.frontier.node.as_position();
-        leaves_escape(p, self.escapes, m) || leaves_king_move(p, self.escapes, m)
+        self.replies.leaves_escape(m) || self.replies.leaves_king_move(m)
     }
 
     /// Whether the legal move leaves the other side without one; where its king surely has a way, the
@@ -199,40 +187,21 @@ impl MateSearch<'_> {
         ensures if_none { result ≡ false → IsNoMate self.now.frontier.node.now.position m.now }
     {
         m.reveal_invariant();
-        !self
-            .replies
-            .guarantees_reply(self.frontier.node.as_position(), m)
-            && self.tries(m)
+        !self.replies.guarantees_reply(m) && self.tries(m)
     }
 
-    /// Whether one of the legal moves of what stands on the square to these does.
-    fn mates_among(&self, from: Square, promote: bool, ends: Squares) -> bool
-        requires { AreLegalEnds self.now.frontier.node.now.position from promote ends.bits }
+    /// Whether one of the legal moves from there to these squares does.
+    #[inline(always)]
+    fn mates_among(&self, origin: &Origin, ends: Squares) -> bool
+        requires { AreLegalEnds self.now.frontier.node.now.position origin.now ends.bits }
         ensures some { result ≡ true → HasMate self.now.frontier.node.now.position }
         ensures if_none { result ≡ false
-            → FrontierLeavesSomeAmong self.now.frontier from promote ends.bits }
-    {
-        from.reveal_invariant();
-        let mut left = ends.iter();
-        'ends: while let Some(to) = left.next() {
-            let m = Move::Board { from, to, promote };
-            if self.tries(&m) {
-                return true;
-            }
-        }
-        false
-    }
-
-    /// Whether one of the legal drops of the kind on these squares does.
-    fn mates_by_drops(&self, kind: Kind, ends: Squares) -> bool
-        requires { AreLegalDropEnds self.now.frontier.node.now.position kind ends.bits }
-        ensures some { result ≡ true → HasMate self.now.frontier.node.now.position }
-        ensures if_none { result ≡ false
-            → FrontierDropsLeaveSomeAmong self.now.frontier kind ends.bits }
+            → FrontierLeavesSomeAmong self.now.frontier origin.now ends.bits }
     {
         let mut left = ends.iter();
         'ends: while let Some(to) = left.next() {
-            let m = Move::Drop { kind, to };
+            let m = origin.to(to);
+            m.reveal_invariant();
             if self.tries(&m) {
                 return true;
             }
@@ -243,17 +212,17 @@ impl MateSearch<'_> {
     /// Whether the other side's king sees neither the square nor one of the ends, and that side
     /// surely has a legal move after each one that gives it no check.
     fn is_unseen(&self, from: Square, ends: Squares) -> bool
-        ensures others { result ≡ true → HasOthers self.now.replies.free_movers.bits }
-        ensures start { result ≡ true → has_bit self.now.replies.king_view.bits from ≡ false }
-        ensures ends { result ≡ true → bit_and ends.bits self.now.replies.king_view.bits ≡ 0 }
+        ensures others { result ≡ true → HasOthers self.now.replies.info.free_movers.bits }
+        ensures start { result ≡ true → has_bit self.now.replies.info.king_view.bits from ≡ false }
+        ensures ends { result ≡ true → bit_and ends.bits self.now.replies.info.king_view.bits ≡ 0 }
     {
         if !self.spared {
             return false;
         }
-        if self.replies.king_view.has(from) {
+        if self.replies.info.king_view.has(from) {
             return false;
         }
-        (ends & self.replies.king_view).is_empty()
+        (ends & self.replies.info.king_view).is_empty()
     }
 
     /// Those of the ends from which what moves there from the square, this piece, may reach each
@@ -273,7 +242,7 @@ impl MateSearch<'_> {
             return ends;
         }
         let mut kept = ends;
-        let mut left = self.escapes.without(line_mask(from.index())).iter();
+        let mut left = self.replies.escapes.without(line_mask(from.index())).iter();
         'escapes: while let Some(escape) = left.next() {
             if kept.is_empty() {
                 break;
@@ -291,12 +260,9 @@ impl MateSearch<'_> {
         ensures answered { FrontierAnsweredOff self.now.frontier
             from promote ends.bits result.bits }
     {
-        let p = self.frontier.node.as_position();
         let closing = self.closing_ends(from, promote, piece, ends);
-        let guaranteed = self
-            .replies
-            .guaranteed_destinations(p, Squares::none(), from, promote, closing);
-        closing.without(guaranteed)
+        let origin = Origin::Board { from, promote };
+        closing.without(self.replies.non_checking_destinations(&origin, closing))
     }
 
     /// Where what stands on the square may go, without promotion and with it, legally or not, so that
@@ -354,8 +320,16 @@ impl MateSearch<'_> {
             return false;
         }
         let ends = legal_destinations(&self.frontier.known, from, among);
-        self.mates_among(from, false, ends.non_promoting & doubtful.non_promoting)
-            || self.mates_among(from, true, ends.promoting & doubtful.promoting)
+        let plain = Origin::Board {
+            from,
+            promote: false,
+        };
+        let promoting = Origin::Board {
+            from,
+            promote: true,
+        };
+        self.mates_among(&plain, ends.non_promoting & doubtful.non_promoting)
+            || self.mates_among(&promoting, ends.promoting & doubtful.promoting)
     }
 
     /// Pieces of the side that are far from the other side's king, after each of whose moves that
@@ -363,8 +337,7 @@ impl MateSearch<'_> {
     fn non_mating_pieces(&self) -> Squares
         ensures { OnEach result.bits (LeaveSomeFrom self.now.frontier.node.now.position) }
     {
-        self.replies
-            .distant_pieces(self.frontier.node.as_position())
+        self.replies.distant_pieces()
     }
 
     /// Whether a legal move on the board leaves the other side without one.
@@ -401,8 +374,9 @@ impl MateSearch<'_> {
             color: side,
             role: Role::from(kind),
         };
-        let mut kept = squares.without(self.escapes);
-        let mut left = self.escapes.iter();
+        let escapes = self.replies.escapes;
+        let mut kept = squares.without(escapes);
+        let mut left = escapes.iter();
         'escapes: while let Some(escape) = left.next() {
             if kept.is_empty() {
                 break;
@@ -418,20 +392,18 @@ impl MateSearch<'_> {
         ensures some { result ≡ true → HasMate self.now.frontier.node.now.position }
         ensures if_none { result ≡ false → DropsLeaveSome self.now.frontier.node.now.position kind }
     {
-        let p = self.frontier.node.as_position();
         let closing = self.closing_drops(kind, self.squares);
         if closing.is_empty() {
             return false;
         }
-        let guaranteed = self
-            .replies
-            .guaranteed_drops(p, Squares::none(), kind, closing);
-        let doubtful = closing.without(guaranteed);
+        let origin = Origin::Drop { kind };
+        let doubtful = closing.without(self.replies.non_checking_destinations(&origin, closing));
         if doubtful.is_empty() {
             return false;
         }
+        let p = self.frontier.node.as_position();
         let ends = drop_destinations(p, self.squares, kind);
-        self.mates_by_drops(kind, ends & doubtful)
+        self.mates_among(&origin, ends & doubtful)
     }
 
     /// Whether a legal drop of the kind leaves the other side without a legal move.

@@ -27,5 +27,5 @@ pub fn last_worth(p: &Position, e: Eval, m: Move) -> i32
     }
     let node = Node::of(*p, e);
     let frontier = FrontierNode::of(&node);
-    frontier.best_score_with(&m, -INFINITY)
+    frontier.scored(&m).score_above(-INFINITY)
 }

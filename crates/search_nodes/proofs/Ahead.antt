@@ -20,7 +20,8 @@ use Rattle.shogi_moves.specs.LegalMoves.{legal_codes}
 use Rattle.shogi_moves.specs.Rising.{is_in}
 use Rattle.shogi_replies.specs.ReplyInfo as replies
 use Rattle.shogi_replies.specs.ReplyInfo.{is_quiet_code, quiet_codes}
-use Rattle.shogi_replies.specs.Threats.{IsAttack, IsTaken, IsThreat, KeepsThreats, LeavesThreat, MayRetake, MayTake, end_of, put_by}
+use Rattle.shogi_core.specs.Moves.{end_of}
+use Rattle.shogi_replies.specs.Threats.{IsAttack, IsTaken, IsThreat, KeepsThreats, LeavesThreat, MayRetake, MayTake, put_by}
 use Rattle.shogi_moves.proofs.CheckInfoLaws.{other_side}
 use Rattle.shogi_moves.proofs.Keeps.{is_safe_from_legal}
 use Rattle.shogi_moves.proofs.KeepsDrop.{safe_drop}
@@ -120,8 +121,8 @@ attacker_off p (Board from to promote) a t leaves same = leaves.1.attacker_stays
 attacker_off p (Drop kind to) a t leaves same = leaves.attacker_stays (sym same)
 
 -- a threat that stands after the move gains what it did
-pub threat_gain : (p : Shogi) (e : Eval) (m : Move) (a t gain : ℕ) (promote : Bool) → IsValid p → move_of (code_of m) ≡ Some m → is_legal p m ≡ true → IsThreat p a t promote → gain ≡ taken_gain e (piece_at p.cells t) + promotion_gain promote (piece_at p.cells a) → LeavesThreat p a t m → TakesAfter p e m gain
-threat_gain p e m a t gain promote v back legal threat is leaves = λ plain keeps retakes.
+pub threat_gain : (p : Shogi) (e : Eval) (plain : resolves_captures e ≡ false) (m : Move) (a t gain : ℕ) (promote : Bool) → IsValid p → move_of (code_of m) ≡ Some m → is_legal p m ≡ true → IsThreat p a t promote → gain ≡ taken_gain e (piece_at p.cells t) + promotion_gain promote (piece_at p.cells a) → LeavesThreat p a t m → TakesAfter p e m gain
+threat_gain p e plain m a t gain promote v back legal threat is leaves = λ keeps retakes.
     let valid : IsValid (after p m) = valid_after p m v back (legal_to_listed p m back legal) in
     let least : (material_of (after p m) e +ℤ pos (taken_gain e (piece_at p.cells t) + promotion_gain promote (piece_at (after p m).cells a))) ≤ℤ value (after p m) e 1 = value_taking (after p m) e plain a t promote (piece_at p.cells t) valid threat.attack.attacker.on_board threat.attack.on_board (keeps a t promote threat leaves) in
     let same : promotion_gain promote (piece_at (after p m).cells a) ≡ promotion_gain promote (piece_at p.cells a) = ap (promotion_gain promote) (kept_at p m a legal threat.attack.attacker.theirs (attacker_off p m a t leaves)) in
@@ -145,8 +146,8 @@ retaken p m to ends retakes attacked =
     let attack : IsAttack p attacked.0 (end_of m) false = subst (λ (n : ℕ). IsAttack p attacked.0 n false) (sym ends) attacked.1 in
     record { taker = attacked.0; on_board = (attack.attacker.on_board, attack.on_board); takes = retakes attacked.0 false attack }
 
-pub retake_gain : (p : Shogi) (e : Eval) (m : Move) (to gain : ℕ) → IsValid p → move_of (code_of m) ≡ Some m → is_legal p m ≡ true → end_of m ≡ to → IsAttacked p to → gain ≡ taken_gain e (put_by p m) → TakesAfter p e m gain
-retake_gain p e m to gain v back legal ends attacked is = λ plain keeps retakes. omega (arith, ints, taken_left p e plain m v back legal (retaken p m to ends retakes attacked), is)
+pub retake_gain : (p : Shogi) (e : Eval) (plain : resolves_captures e ≡ false) (m : Move) (to gain : ℕ) → IsValid p → move_of (code_of m) ≡ Some m → is_legal p m ≡ true → end_of m ≡ to → IsAttacked p to → gain ≡ taken_gain e (put_by p m) → TakesAfter p e m gain
+retake_gain p e plain m to gain v back legal ends attacked is = λ keeps retakes. omega (arith, ints, taken_left p e plain m v back legal (retaken p m to ends retakes attacked), is)
 
 -- ---- a quiet reply, whatever the evaluation settles
 
@@ -216,8 +217,8 @@ pub material_left : (p : Shogi) (e : Eval) (loss : ℤ) (m : Move) → IsValid p
 material_left p e loss m v back legal h l some = value_least_standing (after p m) e loss (valid_after p m v back (legal_to_listed p m back legal)) h (loses_after p e loss m l) some
 
 -- by a threat that stands
-pub threat_left : (p : Shogi) (e : Eval) (plain : resolves_captures e ≡ false) (m : Move) (gain : ℕ) → KeepsThreats p m → MayRetake p m → TakesAfter p e m gain → (material_of (after p m) e -ℤ negated (pos gain)) ≤ℤ value (after p m) e 1
-threat_left p e plain m gain keeps retakes takes = omega (arith, ints, takes plain keeps retakes)
+pub threat_left : (p : Shogi) (e : Eval) (m : Move) (gain : ℕ) → KeepsThreats p m → MayRetake p m → TakesAfter p e m gain → (material_of (after p m) e -ℤ negated (pos gain)) ≤ℤ value (after p m) e 1
+threat_left p e m gain keeps retakes takes = omega (arith, ints, takes keeps retakes)
 
 -- so the move is worth no more than that leaves
 pub worth_leaving : (p : Shogi) (e : Eval) (d : ℕ) (loss : ℤ) (m : Move) → move_of (code_of m) ≡ Some m → d ≡ 2 → (material_of (after p m) e -ℤ loss) ≤ℤ value (after p m) e 1 → worth p e (d - 1) (code_of m) ≤ℤ negated (material_of (after p m) e -ℤ loss)

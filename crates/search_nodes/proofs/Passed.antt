@@ -145,18 +145,18 @@ nothing_taken e None h = refl
 nothing_taken e (Some piece) h = cc
 
 -- a move that takes nothing is worth no more than it leaves, with what promotion adds
-quiet_at : (f : Frame) (move_filter : MoveFilter) (first c most from to : ℕ) (promote : Bool) (loss : ℤ) → f.depth ≡ 2 → MovesLeave f loss move_filter.pieces.bits move_filter.squares.bits move_filter.escapes.bits → IsGuaranteedMove f.node.position false move_filter first c → from < 81 → to < 81 → c ≡ code_of (Board from to promote) → has_bit move_filter.pieces.bits from ≡ true → has_bit move_filter.squares.bits to ≡ true → promotion_gain promote (piece_at f.node.position.cells from) ≤ most
+quiet_at : (f : Frame) (move_filter : MoveFilter) (escapes first c most from to : ℕ) (promote : Bool) (loss : ℤ) → f.depth ≡ 2 → MovesLeave f loss move_filter.pieces.bits move_filter.squares.bits escapes → IsGuaranteedMove f.node.position false move_filter escapes first c → from < 81 → to < 81 → c ≡ code_of (Board from to promote) → has_bit move_filter.pieces.bits from ≡ true → has_bit move_filter.squares.bits to ≡ true → promotion_gain promote (piece_at f.node.position.cells from) ≤ most
     → worth f.node.position f.node.eval (f.depth - 1) c ≤ℤ (material_of f.node.position f.node.eval +ℤ pos most +ℤ loss)
-quiet_at f move_filter first c most from to promote loss last leave k from_fits to_fits is piece set more =
+quiet_at f move_filter escapes first c most from to promote loss last leave k from_fits to_fits is piece set more =
     let back : move_of (code_of (Board from to promote)) ≡ Some (Board from to promote) = move_of-board from to promote from_fits to_fits in
     let parts : (is_legal f.node.position (Board from to promote) ≡ true) × (not (is_some (piece_at f.node.position.cells to)) ≡ true) = and_parts _ _ (sym (matching_move f.node.position false (Board from to promote) back) ∙ (ap (is_matching f.node.position false) (sym is) ∙ k.matching)) in
-    let guaranteed : GuaranteesReply f.node.position move_filter.escapes.bits (Board from to promote) = guaranteed_move f.node.position move_filter.escapes.bits c (Board from to promote) (ap (after_code f.node.position) is ∙ after_code_of f.node.position (Board from to promote) back) k.leaves in
+    let guaranteed : GuaranteesReply f.node.position escapes (Board from to promote) = guaranteed_move f.node.position escapes c (Board from to promote) (ap (after_code f.node.position) is ∙ after_code_of f.node.position (Board from to promote) back) k.leaves in
     let worth_most : _ = gain_worth f.node.position f.node.eval f.depth c from to promote loss f.valid last from_fits to_fits is parts.0 (leave from to promote from_fits to_fits piece set parts.0 guaranteed) in
     omega (arith, ints, worth_most, nothing_taken f.node.eval (piece_at f.node.position.cells to) parts.1, more)
 
-quiet_worth : (f : Frame) (move_filter : MoveFilter) (first c most : ℕ) (loss : ℤ) → f.depth ≡ 2 → MovesLeave f loss move_filter.pieces.bits move_filter.squares.bits move_filter.escapes.bits → (move_filter.promotes ≡ true → PROMOTION_GAIN_MAX ≤ most) → IsGuaranteedMove f.node.position false move_filter first c
+quiet_worth : (f : Frame) (move_filter : MoveFilter) (escapes first c most : ℕ) (loss : ℤ) → f.depth ≡ 2 → MovesLeave f loss move_filter.pieces.bits move_filter.squares.bits escapes → (move_filter.promotes ≡ true → PROMOTION_GAIN_MAX ≤ most) → IsGuaranteedMove f.node.position false move_filter escapes first c
     → worth f.node.position f.node.eval (f.depth - 1) c ≤ℤ (material_of f.node.position f.node.eval +ℤ pos most +ℤ loss)
-quiet_worth f move_filter first c most loss last leave within k =
+quiet_worth f move_filter escapes first c most loss last leave within k =
     let from : ℕ = c / SQUARE_CODES in
     let to : ℕ = c / 2 % 81 in
     let from_fits : from < 81 = omega (arith, k.on_board) in
@@ -164,8 +164,8 @@ quiet_worth f move_filter first c most loss last leave within k =
     elim (cases_eq (c % 2) 0) [
       | inl even ↦ (
           let none : promotion_gain false (piece_at f.node.position.cells from) ≡ 0 = no_promotion (piece_at f.node.position.cells from) in
-          quiet_at f move_filter first c most from to false loss last leave k from_fits to_fits (omega (arith, even)) k.piece k.end (omega (arith, none)))
-      | inr odd ↦ quiet_at f move_filter first c most from to true loss last leave k from_fits to_fits (omega (arith, odd)) k.piece k.end (omega (arith, within (k.promotes (omega (arith, odd))), promotion_within (piece_at f.node.position.cells from)))
+          quiet_at f move_filter escapes first c most from to false loss last leave k from_fits to_fits (omega (arith, even)) k.piece k.end (omega (arith, none)))
+      | inr odd ↦ quiet_at f move_filter escapes first c most from to true loss last leave k from_fits to_fits (omega (arith, odd)) k.piece k.end (omega (arith, within (k.promotes (omega (arith, odd))), promotion_within (piece_at f.node.position.cells from)))
     ]
 
 -- what is known of a node that waits for nothing
@@ -176,10 +176,10 @@ pub next_known : (p : Shogi) (e : Eval) (d : ℕ) (alpha beta best_value : ℤ) 
 next_known p e d alpha beta best_value b codes w next k = subst (λ (x : NodeState). IsKnownWhile p e d alpha beta best_value b codes x) (sym next) k
 
 -- moves on the board that take nothing are lost by what they leave
-pub quiets_lost : (f : Frame) (move_filter : MoveFilter) (first most : ℕ) (loss : ℤ) → f.depth ≡ 2 → MovesLeave f loss move_filter.pieces.bits move_filter.squares.bits move_filter.escapes.bits → (move_filter.promotes ≡ true → PROMOTION_GAIN_MAX ≤ most) → (material_of f.node.position f.node.eval +ℤ pos most +ℤ loss) ≤ℤ move_alpha f.best_value (code_at f.best_move) first
-    → (c : ℕ) → IsGuaranteedMove f.node.position false move_filter first c → worth f.node.position f.node.eval (f.depth - 1) c ≤ℤ move_alpha f.best_value (code_at f.best_move) c
-quiets_lost f move_filter first most loss last leave within low = λ c is.
-    let worth_most : worth f.node.position f.node.eval (f.depth - 1) c ≤ℤ (material_of f.node.position f.node.eval +ℤ pos most +ℤ loss) = quiet_worth f move_filter first c most loss last leave within is in
+pub quiets_lost : (f : Frame) (move_filter : MoveFilter) (escapes first most : ℕ) (loss : ℤ) → f.depth ≡ 2 → MovesLeave f loss move_filter.pieces.bits move_filter.squares.bits escapes → (move_filter.promotes ≡ true → PROMOTION_GAIN_MAX ≤ most) → (material_of f.node.position f.node.eval +ℤ pos most +ℤ loss) ≤ℤ move_alpha f.best_value (code_at f.best_move) first
+    → (c : ℕ) → IsGuaranteedMove f.node.position false move_filter escapes first c → worth f.node.position f.node.eval (f.depth - 1) c ≤ℤ move_alpha f.best_value (code_at f.best_move) c
+quiets_lost f move_filter escapes first most loss last leave within low = λ c is.
+    let worth_most : worth f.node.position f.node.eval (f.depth - 1) c ≤ℤ (material_of f.node.position f.node.eval +ℤ pos most +ℤ loss) = quiet_worth f move_filter escapes first c most loss last leave within is in
     let up : move_alpha f.best_value (code_at f.best_move) first ≤ℤ move_alpha f.best_value (code_at f.best_move) c = threshold_rises f.best_value (code_at f.best_move) first c is.above in
     omega (arith, ints, worth_most, up, low)
 

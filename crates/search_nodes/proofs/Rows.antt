@@ -58,9 +58,9 @@ material_drops f kind squares escapes first loss last least fails_low_by_threat 
 pub threat_leaves : (f : Frame) (plain : resolves_captures f.node.eval ≡ false) (threat : Threat) (loss : ℤ) (pieces aside : ℕ) → IsThreatIn f.node.position f.node.eval threat → loss ≡ pos 0 -ℤ pos threat.gain → ((n : ℕ) → has_bit pieces n ≡ true → n ≢ threat.target) → AreNonInterfering threat true aside → MovesLeave f loss pieces aside 0
 threat_leaves f plain threat loss pieces aside is gains others spared = λ from to promote hf ht piece set legal guaranteed.
     let shut : in_check (after f.node.position (Board from to promote)).cells (opponent_of f.node.position.side) ≡ false = guaranteed.1 refl legal in
-    let takes : TakesAfter f.node.position f.node.eval (Board from to promote) threat.gain = threat_gain f.node.position f.node.eval (Board from to promote) threat.from threat.target threat.gain threat.promote f.valid (move_of-board from to promote hf ht) legal is.gains.is_threat is.gains.gain_is
+    let takes : TakesAfter f.node.position f.node.eval (Board from to promote) threat.gain = threat_gain f.node.position f.node.eval plain (Board from to promote) threat.from threat.target threat.gain threat.promote f.valid (move_of-board from to promote hf ht) legal is.gains.is_threat is.gains.gain_is
     (others from piece, spared to _ ht set (λ _. refl) f.node.position f.node.eval (Board from to promote) is refl refl) in
-    let least : _ = threat_left f.node.position f.node.eval plain (Board from to promote) threat.gain (threat_board f.node.position from to promote f.valid hf ht legal shut) (retake_unchecked f.node.position from to promote f.valid hf ht legal shut) takes in
+    let least : _ = threat_left f.node.position f.node.eval (Board from to promote) threat.gain (threat_board f.node.position from to promote f.valid hf ht legal shut) (retake_unchecked f.node.position from to promote f.valid hf ht legal shut) takes in
     subst (λ (x : ℤ). LeavesAtLeast f x (Board from to promote)) (sym gains) least
 
 -- and so do such drops
@@ -68,17 +68,17 @@ pub drop_survived : (f : Frame) (plain : resolves_captures f.node.eval ≡ false
     → LeavesAtLeast f loss (Drop kind to)
 drop_survived f plain threat loss kind sliding aside squares c to is gains spared slides set at =
     let shut : in_check (after f.node.position (Drop kind to)).cells (opponent_of f.node.position.side) ≡ false = at.guaranteed.1 refl at.legal in
-    let takes : TakesAfter f.node.position f.node.eval (Drop kind to) threat.gain = threat_gain f.node.position f.node.eval (Drop kind to) threat.from threat.target threat.gain threat.promote f.valid (move_of-drop kind to at.fits) at.legal is.gains.is_threat is.gains.gain_is
+    let takes : TakesAfter f.node.position f.node.eval (Drop kind to) threat.gain = threat_gain f.node.position f.node.eval plain (Drop kind to) threat.from threat.target threat.gain threat.promote f.valid (move_of-drop kind to at.fits) at.legal is.gains.is_threat is.gains.gain_is
     (spared to _ at.fits set slides f.node.position f.node.eval (Drop kind to) is refl refl) in
-    let least : _ = threat_left f.node.position f.node.eval plain (Drop kind to) threat.gain (threat_drop f.node.position kind to f.valid at.fits shut) (retake_drop f.node.position kind to f.valid at.fits) takes in
+    let least : _ = threat_left f.node.position f.node.eval (Drop kind to) threat.gain (threat_drop f.node.position kind to f.valid at.fits shut) (retake_drop f.node.position kind to f.valid at.fits) takes in
     subst (λ (x : ℤ). LeavesAtLeast f x (Drop kind to)) (sym gains) least
 
 -- a drop that gives no check is taken where such a piece attacks its square
 pub drop_retaken : (f : Frame) (plain : resolves_captures f.node.eval ≡ false) (loss : ℤ) (kind : Kind) (gain squares c to : ℕ) → gain ≡ taken_gain f.node.eval (dropped f.node.position.side kind) → loss ≡ pos 0 -ℤ pos gain → ∥ IsAttacked f.node.position to ∥₁ → IsDropAt f.node.position kind squares 0 c to → LeavesAtLeast f loss (Drop kind to)
 drop_retaken f plain loss kind gain squares c to value gains attacked at =
     let shut : in_check (after f.node.position (Drop kind to)).cells (opponent_of f.node.position.side) ≡ false = at.guaranteed.1 refl at.legal in
-    let takes : TakesAfter f.node.position f.node.eval (Drop kind to) gain = λ plain keeps retakes. ∥∥₁_elim attacked (Prim.hlevel props) (λ here. retake_gain f.node.position f.node.eval (Drop kind to) to gain f.valid (move_of-drop kind to at.fits) at.legal refl here value plain keeps retakes) in
-    let least : _ = threat_left f.node.position f.node.eval plain (Drop kind to) gain (threat_drop f.node.position kind to f.valid at.fits shut) (retake_drop f.node.position kind to f.valid at.fits) takes in
+    let takes : TakesAfter f.node.position f.node.eval (Drop kind to) gain = λ keeps retakes. ∥∥₁_elim attacked (Prim.hlevel props) (λ here. retake_gain f.node.position f.node.eval plain (Drop kind to) to gain f.valid (move_of-drop kind to at.fits) at.legal refl here value keeps retakes) in
+    let least : _ = threat_left f.node.position f.node.eval (Drop kind to) gain (threat_drop f.node.position kind to f.valid at.fits shut) (retake_drop f.node.position kind to f.valid at.fits) takes in
     subst (λ (x : ℤ). LeavesAtLeast f x (Drop kind to)) (sym gains) least
 
 -- so such drops are lost that do not suffice by it

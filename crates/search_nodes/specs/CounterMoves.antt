@@ -7,7 +7,7 @@ use Rattle.shogi_core.specs.declared.piece.Piece.{Piece}
 use Rattle.shogi_core.specs.Movement.{piece_at}
 use Rattle.shogi_core.specs.Position.{Shogi}
 use Rattle.shogi_core.specs.Same.{role_number}
-use Rattle.shogi_replies.specs.Threats.{end_of}
+use Rattle.shogi_core.specs.Moves.{end_of}
 
 -- the number of the first role of the other side's moves
 abbrev pub roles_before : Color → ℕ

@@ -1,5 +1,5 @@
 -- What clauses say of a node on the stack and of a move of it (own choice).
-use Rattle.std.specs.Prelude.{◌≡◌, ◌≢◌, ◌<◌, ◌⊎◌, ℕ, ◌-◌, ℤ, ◌-ℤ◌, ◌≤ℤ◌, pos, List, [], Bool, true, false, Option, Some, cond, nat_lt}
+use Rattle.std.specs.Prelude.{◌≡◌, ◌≢◌, ◌<◌, ◌⊎◌, ℕ, ◌-◌, ℤ, ◌-ℤ◌, ◌≤ℤ◌, pos, List, [], Bool, true, false, Option, cond, nat_lt}
 use Rattle.shogi_core.specs.declared.moves.Move.{Move}
 use Rattle.shogi_core.specs.declared.moves.Move.TheVariants.{Board, Drop}
 use Rattle.shogi_core.specs.declared.piece.Kind.{Kind}
@@ -15,7 +15,6 @@ use Rattle.shogi_replies.specs.declared.move_filter.MoveFilter.{MoveFilter}
 use Rattle.shogi_replies.specs.Passes.{IsGuaranteedDrop, IsGuaranteedMove}
 use Rattle.shogi_replies.specs.ReplyInfo.{GuaranteesReply, quiet_codes}
 use Rattle.shogi_replies.specs.Threats.{IsTaken, KeepsThreats, MayRetake}
-use Rattle.dull_moves.specs.declared.moves.DullMoves.{DullMoves}
 use Rattle.search_nodes.specs.declared.frame.Frame.{Frame}
 use Rattle.minimax.specs.declared.entry.Entry.{Entry}
 use Rattle.minimax.specs.Entries.{IsConclusive}
@@ -26,6 +25,7 @@ use Rattle.shogi_eval.specs.Material.{material_of}
 use Rattle.minimax.specs.Minimax.{value, worth, IsTrueEntry, negated}
 use Rattle.search_nodes.specs.PriorityMoves.{with_each, with_some}
 use Rattle.search_nodes.specs.Order.{todo}
+use Rattle.search_nodes.specs.Threats.{LeavesCaptures}
 use Rattle.search_nodes.specs.Visits.{IsOver, WhereCurrent}
 use Rattle.minimax.specs.Window.{move_alpha, code_at}
 
@@ -83,8 +83,7 @@ IsLostWhere f m = KeepsThreats f.node.position m → MayRetake f.node.position m
 
 -- if the other side may take what the move puts on its square, and no captures are settled at the end, that is not worth more than it has to be
 abbrev pub FailsLowIfTaken : Frame → Move → Type 0
-FailsLowIfTaken f m =
-    resolves_captures f.node.eval ≡ false → ∥ IsTaken f.node.position m ∥₁ → IsLost f m
+FailsLowIfTaken f m = LeavesCaptures f.node.eval → ∥ IsTaken f.node.position m ∥₁ → IsLost f m
 
 -- no drop of the other side takes more than this from its material
 abbrev pub RepliesLoseAtMost : Frame → ℤ → Type 0
@@ -119,11 +118,11 @@ DropsFailLow f kind squares escapes first = (code : ℕ)
     → IsGuaranteedDrop f.node.position kind squares escapes first code
     → worth f.node.position f.node.eval (f.depth - 1) code ≤ℤ move_alpha_at f code
 
--- none of the quiet moves that the filter has and that guarantee a reply, from a code on, is worth more than it has to be, and the filter's escapes are some
-pub record AreFutileQuiets (f : Frame) (move_filter : MoveFilter) (first : ℕ) : Type 0 where
-  pub lost : (code : ℕ) → IsGuaranteedMove f.node.position false move_filter first code
+-- none of the quiet moves that the filter has and that guarantee a reply with these escapes, from a code on, is worth more than it has to be
+pub record AreFutileQuiets (f : Frame) (move_filter : MoveFilter) (escapes first : ℕ) : Type 0 where
+  pub lost : (code : ℕ) → IsGuaranteedMove f.node.position false move_filter escapes first code
       → worth f.node.position f.node.eval (f.depth - 1) code ≤ℤ move_alpha_at f code
-  pub escapes : AreEscapes f.node.position move_filter.escapes.bits
+  pub are_escapes : AreEscapes f.node.position escapes
 
 -- what a reply may take from the material of its side, or may add to it where that is negative
 abbrev pub IsLoss : ℤ → Type 0
@@ -140,9 +139,4 @@ priority_moves_at given hash_move f depth =
 
 -- a dull move is worth no more than its bound at the node: with two plies after it, or with three where captures at the end are not settled
 abbrev pub PrunesDull : Frame → Type 0
-PrunesDull f = (f.depth ≡ 3) ⊎ ((f.depth ≡ 4) × (resolves_captures f.node.eval ≡ false))
-
--- dull moves were found that are not worth enough from a code on
-abbrev pub AreDullFrom : Frame → ℕ → Type 0
-AreDullFrom f code = PrunesDull f × ((d : DullMoves) × (f.dull ≡ Some d)
-    × (d.most ≤ℤ move_alpha f.best_value (code_at f.best_move) code))
+PrunesDull f = (f.depth ≡ 3) ⊎ ((f.depth ≡ 4) × LeavesCaptures f.node.eval)

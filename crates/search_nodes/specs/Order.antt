@@ -119,10 +119,10 @@ IsAtDrops (Drops priority_moves s) kind code = (s.kind ≡ kind) × (s.code ≡ 
 IsAtDrops Done kind code = ⊥
 
 -- where the moves on the board that take nothing are under way, some of them are skipped that the filter has and that surely have a reply
-abbrev pub SkipsQuiets : Shogi → MoveFilter → MovePicker → MovePicker → Type 0
-SkipsQuiets p move_filter old new =
+abbrev pub SkipsQuiets : Shogi → MoveFilter → ℕ → MovePicker → MovePicker → Type 0
+SkipsQuiets p move_filter escapes old new =
     (code : ℕ) → IsAtQuiets old code
-    → IsSkipped (IsGuaranteedMove p false move_filter code) (todo p old) (todo p new)
+    → IsSkipped (IsGuaranteedMove p false move_filter escapes code) (todo p old) (todo p new)
 
 -- and so are drops on some squares, where those of a kind are under way
 abbrev pub SkipsDrops : Shogi → ℕ → ℕ → MovePicker → MovePicker → Type 0

@@ -8,11 +8,12 @@ use Rattle.shogi_core.specs.declared.moves.Move.{Move}
 use Rattle.shogi_core.specs.declared.piece.Piece.{Piece}
 use Rattle.shogi_core.specs.Movement.{piece_at}
 use Rattle.shogi_core.specs.Pieces.{opponent_of}
+use Rattle.shogi_core.specs.Moves.{end_of}
 use Rattle.shogi_core.specs.Position.{Shogi}
 use Rattle.shogi_core.specs.Rays.{direction_at, is_on_ray}
 use Rattle.shogi_moves.specs.After.{after}
 use Rattle.shogi_replies.specs.ReplyInfo.{is_aligned_with_king}
-use Rattle.shogi_replies.specs.Threats.{IsAttack, IsThreat, EndsNonInterfering, KeepsThreats, LeavesThreat, MayRetake, end_of, put_by}
+use Rattle.shogi_replies.specs.Threats.{IsAttack, IsThreat, EndsNonInterfering, KeepsThreats, LeavesThreat, MayRetake, put_by}
 use Rattle.shogi_eval.specs.declared.eval.Eval.{Eval}
 use Rattle.shogi_eval.specs.Material.{material_of, promotion_gain, taken_gain}
 use Rattle.shogi_eval.specs.Exchange.{resolves_captures}
@@ -65,9 +66,13 @@ IsAttacked p n = (a : ℕ) × IsAttack p a n false
 abbrev pub AreAttacked : Shogi → ℕ → Type 0
 AreAttacked p mask = (n : ℕ) → n < 81 → has_bit mask n ≡ true → ∥ IsAttacked p n ∥₁
 
+-- captures at the end of a line are not settled
+abbrev pub LeavesCaptures : Eval → Type 0
+LeavesCaptures e = resolves_captures e ≡ false
+
 -- each square of the mask is attacked, the threat is one, and no captures are settled at the end
 pub record AreThreatsIn (p : Shogi) (e : Eval) (threats : Threats) : Type 0 where
-  pub plain : resolves_captures e ≡ false
+  pub plain : LeavesCaptures e
   pub takes : AreAttacked p threats.takes.bits
   pub greatest : ForSome threats.greatest (IsThreatIn p e)
 
@@ -95,7 +100,11 @@ abbrev pub AreNonInterfering : Threat → Bool → ℕ → Type 0
 AreNonInterfering threat slides squares = (n : ℕ) (put : Option Piece) → n < 81 → has_bit squares n ≡ true
     → (is_slider put ≡ true → slides ≡ true) → SurvivesAt threat put n
 
--- if the other side may carry out its threats after the move and nothing is settled, it is worth at least its material and this then, with one ply left
+-- after the move the other side is worth at least its material and this, with one ply left
+abbrev pub GainsAtLeast : Shogi → Eval → Move → ℕ → Type 0
+GainsAtLeast p e m gain =
+    (material_of (after p m) e +ℤ pos gain) ≤ℤ value (after p m) e 1
+
+-- if it may carry out its threats then
 abbrev pub TakesAfter : Shogi → Eval → Move → ℕ → Type 0
-TakesAfter p e m gain = resolves_captures e ≡ false → KeepsThreats p m → MayRetake p m
-    → (material_of (after p m) e +ℤ pos gain) ≤ℤ value (after p m) e 1
+TakesAfter p e m gain = KeepsThreats p m → MayRetake p m → GainsAtLeast p e m gain

@@ -1,18 +1,20 @@
 //! Whether the current move of the node two plies before the end is surely not worth enough.
 
-ghost use Rattle.std.specs.Prelude.{◌≡◌, true, false};
-ghost use Rattle.shogi_eval.specs.Exchange.{resolves_captures};
+ghost use Rattle.std.specs.Prelude.{◌≡◌, ◌≤◌, ◌<◌, true};
 ghost use Rattle.shogi_replies.specs.Threats.{IsTaken};
 ghost use Rattle.search_nodes.specs.Frames.{HasReply, IsLost, FailsLowIfTaken, IsLostWhere, IsWorthAtMost};
 ghost use Rattle.search_nodes.specs.ReplyCache.{IsReplyCacheOf};
+ghost use Rattle.search_nodes.specs.Threats.{GainsAtLeast, LeavesCaptures, TakesAfter};
 ghost use Rattle.search_nodes.specs.declared.frame.NodeState.TheVariants.{AwaitingChild};
 ghost use Rattle.std.proofs.Props.{props};
 
 use crate::frame::Frame;
 use crate::reply_cache::ReplyCache;
-use shogi_core::Move;
+use crate::threat::gain_if_left;
+use shogi_core::{Move, Squares};
 use shogi_eval::taken_gain;
-use shogi_replies::{king_takes, leaves_escape, put_by};
+use shogi_moves::Origin;
+use shogi_replies::{KnownReplies, king_takes};
 
 /// A node two plies before the end that waits for the answer of a move, with what was found of the
 /// other side's replies.
@@ -29,20 +31,32 @@ pub(crate) struct AskedMove<'a> {
 impl<'a> AskedMove<'a> {
     ghost use Rattle.search_nodes.specs.PreFrontier.{StaysAsked};
 
+    /// What was found of replies, with no squares to which the other side's king may go.
+    #[inline(always)]
+    fn known(&self) -> KnownReplies<'_>
+        ensures { result.position.now ≡ self.now.frame.now.node.position }
+    {
+        let p = self.frame.node.as_position();
+        self.cache.replies.at(p, Squares::none())
+    }
+
     /// Whether it is certain without making the move that the other side has a legal move after it:
     /// one that it has where no check is given, or a step of its king out of that check.
     fn is_answered(&mut self) -> bool
         ensures some { result ≡ true → HasReply self.old.frame.now self.old.current.now }
         ensures unchanged { StaysAsked self.old self.new }
     {
-        let (p, current) = (self.frame.node.as_position(), self.current);
         self.cache.look_ahead(self.frame);
-        current.reveal_invariant();
-        if self.cache.replies.guarantees_reply(p, current) {
+        self.current.reveal_invariant();
+        if self.known().guarantees_reply(self.current) {
             return true;
         }
         let escapes = self.cache.look_for_escapes(self.frame);
-        leaves_escape(p, escapes, current)
+        let p = self.frame.node.as_position();
+        self.cache
+            .replies
+            .at(p, escapes)
+            .leaves_escape(self.current)
     }
 
     /// What the move is worth at most, where the other side has a legal move after it: that move,
@@ -56,21 +70,52 @@ impl<'a> AskedMove<'a> {
         self.frame.loss_after() - self.frame.node.score_after(self.current)
     }
 
+    /// Whether the move is not worth enough, if the other side surely gains so much after it.
+    #[inline(always)]
+    fn fails_low_by(&self, gain: u32) -> bool
+        requires { gain ≤ 4000 }
+        ensures { result ≡ true
+            → GainsAtLeast self.now.frame.now.node.position
+            self.now.frame.now.node.eval self.now.current.now gain
+            → IsLost self.now.frame.now self.now.current.now }
+    {
+        let (node, current) = (&self.frame.node, self.current);
+        current.reveal_invariant();
+        0 - node.score_after(current) - gain as i32 <= self.frame.move_alpha(current)
+    }
+
+    /// What the other side gains at least by a threat after the move, or by taking what that puts on
+    /// its square, if it gives no check; 0 where nothing of that is certain.
+    #[inline(always)]
+    fn gain_after(&self) -> u32
+        ensures gain { 0 < result → TakesAfter self.now.frame.now.node.position
+            self.now.frame.now.node.eval self.now.current.now result }
+        ensures fits { result ≤ 4000 }
+    {
+        let Some(threats) = &self.cache.threats else {
+            return 0;
+        };
+        let (node, current) = (&self.frame.node, self.current);
+        current.reveal_invariant();
+        let put = Origin::of(current).put(node.as_position());
+        let retake = if threats.takes.has(current.to()) {
+            taken_gain(node.eval(), put)
+        } else {
+            0
+        };
+        gain_if_left(&threats.greatest, current, put, retake)
+    }
+
     /// Whether a threat makes the move not worth enough, if it gives no check.
     #[inline(always)]
     fn fails_low_by_threat(&self) -> bool
         ensures { result ≡ true → IsLostWhere self.now.frame.now self.now.current.now }
     {
-        let Some(threats) = &self.cache.threats else {
-            return false;
-        };
-        let (node, current) = (&self.frame.node, self.current);
-        current.reveal_invariant();
-        let gain = threats.gain_after(node.as_position(), node.eval(), current);
+        let gain = self.gain_after();
         if gain == 0 {
             return false;
         }
-        0 - node.score_after(current) - gain as i32 <= self.frame.move_alpha(current)
+        self.fails_low_by(gain)
     }
 
     /// Whether the other side surely takes what the move puts on its square, once its attackers were
@@ -78,17 +123,19 @@ impl<'a> AskedMove<'a> {
     fn is_retaken(&self) -> bool
         ensures taken { result ≡ true
             → ∥ IsTaken self.now.frame.now.node.position self.now.current.now ∥₁ }
-        ensures plain { result ≡ true → resolves_captures self.now.frame.now.node.eval ≡ false }
+        ensures plain { result ≡ true → LeavesCaptures self.now.frame.now.node.eval }
     {
         let Some(threats) = &self.cache.threats else {
             return false;
         };
-        let (p, current) = (self.frame.node.as_position(), self.current);
+        let current = self.current;
         current.reveal_invariant();
-        if threats.has_retake(p, &self.cache.replies, current) {
-            return true;
+        if threats.takes.has(current.to()) {
+            if self.known().discovers_no_check(current) {
+                return true;
+            }
         }
-        king_takes(p, current)
+        king_takes(self.frame.node.as_position(), current)
     }
 
     /// Whether it is certain without making the move that the other side has a legal move after it:
@@ -110,8 +157,8 @@ impl<'a> AskedMove<'a> {
     {
         let (node, current) = (&self.frame.node, self.current);
         current.reveal_invariant();
-        let gain = taken_gain(node.eval(), put_by(node.as_position(), current));
-        0 - node.score_after(current) - gain as i32 <= self.frame.move_alpha(current)
+        let put = Origin::of(current).put(node.as_position());
+        self.fails_low_by(taken_gain(node.eval(), put))
     }
 
     /// Whether it is certain without making the move that it is not worth enough, since it is taken
@@ -132,8 +179,7 @@ impl<'a> AskedMove<'a> {
             return false;
         }
         self.current.reveal_invariant();
-        let p = self.frame.node.as_position();
-        self.cache.replies.guarantees_reply(p, self.current)
+        self.known().guarantees_reply(self.current)
     }
 
     /// Whether it is certain without making the move that it is not worth enough.

@@ -2,11 +2,10 @@
 
 ghost use Rattle.std.specs.Prelude.{◌≡◌, ◌<◌, ◌≤◌, slice_index, slice_set};
 ghost use Rattle.shogi_core.specs.Same.{role_number};
-ghost use Rattle.shogi_replies.specs.Threats.{end_of};
 ghost use Rattle.search_nodes.specs.CounterMoves.{place_of};
 ghost use Rattle.search_nodes.specs.declared.counter_moves.TheConstants.{PLACES};
 
-use shogi_core::{Color, Move, Position, Role, Square};
+use shogi_core::{Color, Move, Position, Role};
 
 /// Two sides, fourteen roles and 81 squares.
 const PLACES: usize = 2268;
@@ -26,22 +25,12 @@ fn number_of(role: Role) -> usize
     role as usize
 }
 
-/// Where a move ends.
-fn end_of(m: &Move) -> Square
-    ensures { result ≡ end_of m.now }
-{
-    match m {
-        Move::Board { to, .. } => *to,
-        Move::Drop { to, .. } => *to,
-    }
-}
-
 /// The place for the move that led to the position.
 fn place_of(p: &Position, m: &Move) -> usize
     ensures value { result ≡ place_of p.now m.now }
     ensures range { result < PLACES }
 {
-    let to = end_of(m);
+    let to = m.to();
     to.reveal_invariant();
     let number = match p.at(to) {
         Some(piece) => number_of(piece.role),

@@ -15,7 +15,7 @@ ghost use Rattle.minimax.specs.declared.bounds.TheConstants.{SEARCH_DEPTH_MAX, I
 
 use crate::move_picker::MovePicker;
 use crate::priority_moves::{KILLERS, PriorityMoves, with_killer};
-use crate::window::move_alpha;
+use crate::window::move_alpha_at;
 use dull_moves::DullMoves;
 use minimax::{Entry, MATE};
 use shogi_core::Move;
@@ -201,7 +201,7 @@ impl Frame {
         ensures least { negated INFINITY ≤ℤ result }
         ensures open { result <ℤ self.now.beta }
     {
-        move_alpha(self.best_value, &self.best_move, current)
+        move_alpha_at(self.best_value, &self.best_move, current.code())
     }
 
     /// The window of the child after the current move.
@@ -228,15 +228,6 @@ impl Frame {
         self.beta = beta;
     }
 
-    /// Whether this worth makes the current move the best one.
-    fn is_better(&self, current: &Move, worth: i32) -> bool
-        requires current { IsCurrent self.now.state current.now }
-        ensures above { result ≡ true → move_alpha_of self.now current.now <ℤ worth }
-        ensures below { result ≡ false → worth ≤ℤ move_alpha_of self.now current.now }
-    {
-        worth > self.move_alpha(current)
-    }
-
     /// Takes in what is known of the current move.
     #[inline(always)]
     pub fn back_up(&mut self, current: &Move, entry: &Entry)
@@ -251,8 +242,10 @@ impl Frame {
                 let worth = -*v;
                 if worth >= self.beta {
                     self.cut_off(current, worth);
-                } else if self.is_better(current, worth) {
-                    self.raise_alpha(current, worth);
+                } else if worth > self.move_alpha(current) {
+                    self.best_value = worth;
+                    self.best_move = Some(*current);
+                    self.state = NodeState::Expanding;
                 } else {
                     self.fail_low();
                 }
@@ -284,19 +277,6 @@ impl Frame {
         ensures next { self.new.state ≡ NodeState.Expanding }
     {
         self.has_move = true;
-        self.state = NodeState::Expanding;
-    }
-
-    /// Passes the current move, which is the best so far.
-    fn raise_alpha(&mut self, current: &Move, value: i32)
-        requires current { IsCurrent self.old.state current.now }
-        requires is { worth_of self.old current.now ≡ value }
-        requires above { move_alpha_of self.old current.now <ℤ value }
-        requires open { value <ℤ self.old.beta }
-        ensures { EndsVisit self.old self.new }
-    {
-        self.best_value = value;
-        self.best_move = Some(*current);
         self.state = NodeState::Expanding;
     }
 

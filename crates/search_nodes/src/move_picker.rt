@@ -1,11 +1,8 @@
 //! The move picker: in which order a node's moves are visited.
 
-ghost use Rattle.std.specs.Option.{ForSome};
 ghost use Rattle.std.specs.Prelude.{◌≡◌, ◌<◌, Some, None, IfSome, true, false};
 ghost use Rattle.shogi_core.specs.Attack.{in_check};
 ghost use Rattle.shogi_core.specs.Codes.{code_of};
-ghost use Rattle.shogi_moves.specs.Escapes.{AreEscapes};
-ghost use Rattle.shogi_replies.specs.ReplyInfo.{IsReplyInfo};
 ghost use Rattle.shogi_moves.specs.Sweeps.{IsBoardSweep, IsDropSweep};
 ghost use Rattle.shogi_moves.specs.Sweeps.{board_left, drops_left};
 ghost use Rattle.shogi_replies.specs.Passes.{IsSkipped};
@@ -16,7 +13,7 @@ use dull_moves::DullMoves;
 use shogi_core::bits::lowest;
 use shogi_core::{Kind, Move, Position, SQUARE_CODES, Squares};
 use shogi_moves::{BoardSweep, DropSweep, KnownPosition, check_info_of};
-use shogi_replies::{MoveFilter, ReplyInfo};
+use shogi_replies::{KnownReplies, MoveFilter};
 
 /// How far the visits of a node's moves have come: the priority moves from a place on, and what is
 /// still to come of the captures, of the quiet board moves and of the drops.
@@ -295,21 +292,14 @@ impl MovePicker {
     /// Skips the next moves to visit, as long as they are on the board, take nothing, the filter has them,
     /// and the other side surely has a legal move after them.
     #[tactic(auto, using(crate::proofs::MatchingOthers::passing_others))]
-    pub(crate) fn skip_quiets(
-        &mut self,
-        p: &Position,
-        move_filter: &MoveFilter,
-        replies: &ReplyInfo,
-    )
-        requires consistent { IsKept p.now self.old }
-        requires replies { IsReplyInfo p.now
-            replies.now.king_view.bits replies.now.free_movers.bits }
-        requires escapes { AreEscapes p.now move_filter.now.escapes.bits }
-        ensures consistent { IsKept p.now self.new }
-        ensures passed { SkipsQuiets p.now move_filter.now self.old self.new }
+    pub(crate) fn skip_quiets(&mut self, replies: &KnownReplies<'_>, move_filter: &MoveFilter)
+        requires consistent { IsKept replies.now.position.now self.old }
+        ensures consistent { IsKept replies.now.position.now self.new }
+        ensures passed { SkipsQuiets replies.now.position.now move_filter.now
+            replies.now.escapes.bits self.old self.new }
     {
         if let MovePicker::Quiets(_, sweep) = self {
-            replies.skip_moves(p, false, move_filter, sweep);
+            replies.skip_moves(false, move_filter, sweep);
         }
     }
 
@@ -326,22 +316,14 @@ impl MovePicker {
     /// Passes the next moves to visit, as long as they are drops of the kind that is under way on these
     /// squares and the other side surely has a legal move after them.
     #[tactic(auto, using(crate::proofs::MatchingOthers::passing_others))]
-    pub(crate) fn skip_drops(
-        &mut self,
-        p: &Position,
-        squares: Squares,
-        escapes: Squares,
-        replies: &ReplyInfo,
-    )
-        requires consistent { IsKept p.now self.old }
-        requires replies { IsReplyInfo p.now
-            replies.now.king_view.bits replies.now.free_movers.bits }
-        requires escapes { AreEscapes p.now escapes.bits }
-        ensures consistent { IsKept p.now self.new }
-        ensures passed { SkipsDrops p.now squares.bits escapes.bits self.old self.new }
+    pub(crate) fn skip_drops(&mut self, replies: &KnownReplies<'_>, squares: Squares)
+        requires consistent { IsKept replies.now.position.now self.old }
+        ensures consistent { IsKept replies.now.position.now self.new }
+        ensures passed { SkipsDrops replies.now.position.now squares.bits
+            replies.now.escapes.bits self.old self.new }
     {
         if let MovePicker::Drops(_, sweep) = self {
-            replies.skip_drops(p, squares, escapes, sweep);
+            replies.skip_drops(squares, sweep);
         }
     }
 
@@ -359,14 +341,11 @@ impl MovePicker {
     /// Skips the next moves to visit, as long as they are quiet moves of the present piece, or drops of
     /// the present kind, that are dull.
     #[tactic(auto, using(crate::proofs::MatchingOthers::passing_others))]
-    pub(crate) fn skip_dull(&mut self, p: &Position, dull: &Option<DullMoves>)
+    pub(crate) fn skip_dull(&mut self, p: &Position, dull: &DullMoves)
         requires consistent { IsKept p.now self.old }
         ensures consistent { IsKept p.now self.new }
-        ensures passed { ForSome dull.now (λ moves. SkipsDull p.now moves self.old self.new) }
+        ensures passed { SkipsDull p.now dull.now self.old self.new }
     {
-        let Some(dull) = dull else {
-            return;
-        };
         if let MovePicker::Quiets(_, sweep) = self {
             skip_dull_destinations(p, dull, sweep);
             return;

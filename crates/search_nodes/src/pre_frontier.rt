@@ -52,11 +52,11 @@ impl<'a> PreFrontier<'a> {
         pieces: Squares,
         squares: Squares,
         escapes: Squares,
-    ) -> Option<MoveFilter>
+    ) -> Option<(MoveFilter, Squares)>
         requires { IsLoss loss }
         ensures { MovesLeave self.now.frame.now loss pieces.bits squares.bits escapes.bits
             → AreEscapes self.now.frame.now.node.position escapes.bits
-            → IfSome result (λ f. AreFutileQuiets self.now.frame.now f code) }
+            → IfSome result (λ f. AreFutileQuiets self.now.frame.now f.0 f.1.bits code) }
     {
         let frame = &*self.frame;
         let move_alpha = move_alpha_at(frame.best_value, &frame.best_move, code);
@@ -65,12 +65,12 @@ impl<'a> PreFrontier<'a> {
             return None;
         }
         let promotes = covers_promotions(room as u32);
-        Some(MoveFilter {
+        let filter = MoveFilter {
             pieces,
             squares,
             promotes,
-            escapes,
-        })
+        };
+        Some((filter, escapes))
     }
 
     /// Looks for threats of the other side, and with them for what shows which moves surely have a
@@ -87,8 +87,8 @@ impl<'a> PreFrontier<'a> {
     /// The next moves on the board that take nothing, where it is certain without making them that
     /// the greatest threat stands and makes no such move worth enough.
     #[inline(always)]
-    fn quiets_under_threat(&self, code: u16) -> Option<MoveFilter>
-        ensures { IfSome result (λ f. AreFutileQuiets self.now.frame.now f code) }
+    fn quiets_under_threat(&self, code: u16) -> Option<(MoveFilter, Squares)>
+        ensures { IfSome result (λ f. AreFutileQuiets self.now.frame.now f.0 f.1.bits code) }
     {
         let Some(threats) = &self.cache.threats else {
             return None;
@@ -104,8 +104,8 @@ impl<'a> PreFrontier<'a> {
     /// The same, or where it is certain that the other side has a legal move, if no such move is worth
     /// enough.
     #[inline(always)]
-    fn futile_quiets(&mut self, code: u16) -> Option<MoveFilter>
-        ensures lost { IfSome result (λ f. AreFutileQuiets self.old.frame.now f code) }
+    fn futile_quiets(&mut self, code: u16) -> Option<(MoveFilter, Squares)>
+        ensures lost { IfSome result (λ f. AreFutileQuiets self.old.frame.now f.0 f.1.bits code) }
         ensures unchanged { KeepsFrame self.old self.new }
     {
         let (all, escapes) = (Squares::all(), self.cache.known_escapes());
@@ -127,11 +127,12 @@ impl<'a> PreFrontier<'a> {
         let Some(code) = frame.picker.quiets() else {
             return;
         };
-        let Some(filter) = self.futile_quiets(code) else {
+        let Some((filter, escapes)) = self.futile_quiets(code) else {
             return;
         };
-        let replies = self.cache.replies;
-        self.frame.skip_quiets(code, &filter, &replies);
+        let frame = &mut *self.frame;
+        let known = self.cache.replies.at(frame.node.as_position(), escapes);
+        frame.picker.skip_quiets(&known, &filter);
     }
 
     /// Whether a drop of the kind is not worth enough that leaves the other side its material less
@@ -214,8 +215,10 @@ impl<'a> PreFrontier<'a> {
         if squares.is_empty() {
             return false;
         }
-        let replies = self.cache.replies;
-        self.frame.skip_kind(kind, code, squares, escapes, &replies)
+        let frame = &mut *self.frame;
+        let known = self.cache.replies.at(frame.node.as_position(), escapes);
+        frame.picker.skip_drops(&known, squares);
+        frame.picker.turn_to_kind(frame.node.as_position())
     }
 
     /// The same of the drops, kind after kind.

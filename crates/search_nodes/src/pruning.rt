@@ -10,21 +10,16 @@ use crate::pre_frontier::PreFrontier;
 use crate::reply_cache::ReplyCache;
 use crate::window::move_alpha_at;
 use dull_moves::DullMoves;
-use shogi_core::{Kind, Move, Squares};
+use shogi_core::Move;
 use shogi_eval::loss_of_drops;
-use shogi_replies::{MoveFilter, ReplyInfo};
 
 // How many replies to moves of a node are tried for refuting others.
 const DULL_TRIES_MAX: u8 = 8;
 
 impl Frame {
-    ghost use Rattle.search_nodes.specs.Frames.{AreDullFrom, AreFutileQuiets, DropsFailLow, IsLost, PrunesDull, RepliesLoseAtMost};
-    ghost use Rattle.search_nodes.specs.Order.{IsAtDrops, IsAtQuiets};
-    ghost use Rattle.shogi_moves.specs.Escapes.{AreEscapes};
-    ghost use Rattle.shogi_replies.specs.ReplyInfo.{IsReplyInfo};
+    ghost use Rattle.search_nodes.specs.Frames.{IsLost, PrunesDull, RepliesLoseAtMost};
     ghost use Rattle.search_nodes.specs.ReplyCache.{IsFoundAt, IsPreFrontier};
     ghost use Rattle.search_nodes.specs.Changes.{IsSame, KeepsMoves, AsksFor, PrunesFiltered};
-    ghost use Rattle.search_nodes.specs.Visits.{IsCurrent};
 
     /// The most that a reply takes from the material of its side: what a drop of the other side may
     /// lose.
@@ -50,48 +45,6 @@ impl Frame {
         ensures { PrunesFiltered self.old self.new }
     {
         self.picker.turn_to_drops(self.node.as_position());
-    }
-
-    /// Passes the next moves on the board that take nothing, as long as the filter has them and the
-    /// other side surely has a legal move after them.
-    #[inline(always)]
-    pub(crate) fn skip_quiets(&mut self, code: u16, move_filter: &MoveFilter, replies: &ReplyInfo)
-        requires next { self.old.state ≡ NodeState.Expanding }
-        requires at { IsAtQuiets self.old.picker code }
-        requires futile { AreFutileQuiets self.old move_filter.now code }
-        requires replies { IsReplyInfo self.old.node.position
-            replies.now.king_view.bits replies.now.free_movers.bits }
-        ensures { PrunesFiltered self.old self.new }
-    {
-        let _ = code;
-        self.picker
-            .skip_quiets(self.node.as_position(), move_filter, replies);
-    }
-
-    /// Passes the next drops of the kind that is under way on these squares, as long as the other side
-    /// surely has a legal move after them; whether none of that kind is left, and those of another
-    /// one are under way.
-    #[inline(always)]
-    pub(crate) fn skip_kind(
-        &mut self,
-        kind: Kind,
-        code: u16,
-        squares: Squares,
-        escapes: Squares,
-        replies: &ReplyInfo,
-    ) -> bool
-        requires next { self.old.state ≡ NodeState.Expanding }
-        requires at { IsAtDrops self.old.picker kind code }
-        requires escapes { AreEscapes self.old.node.position escapes.bits }
-        requires lost { DropsFailLow self.old kind squares.bits escapes.bits code }
-        requires replies { IsReplyInfo self.old.node.position
-            replies.now.king_view.bits replies.now.free_movers.bits }
-        ensures { PrunesFiltered self.old self.new }
-    {
-        let _ = (kind, code);
-        self.picker
-            .skip_drops(self.node.as_position(), squares, escapes, replies);
-        self.picker.turn_to_kind(self.node.as_position())
     }
 
     /// Whether it is known that the side to move is in check.
@@ -135,15 +88,16 @@ impl Frame {
         ensures asks { AsksFor result self.old self.new }
         ensures at { IsPreFrontier self.new cache.new }
     {
-        self.prune_in_bulk(cache);
-        'moves: while let Some(current) = self.pick_move() {
+        'moves: loop {
+            self.prune_in_bulk(cache);
+            let Some(current) = self.pick_move() else {
+                return None;
+            };
             if !self.is_lost(&current, cache) {
                 return Some(current);
             }
             self.fail_low();
-            self.prune_in_bulk(cache);
         }
-        None
     }
 
     /// Whether the reply was the last one that was tried for refuting moves.
@@ -192,12 +146,14 @@ impl Frame {
         self.depth == 3 || self.depth == 4 && !self.node.eval().resolves_captures()
     }
 
-    /// Whether the current move is a quiet one that the reply to a move before it refutes as well,
-    /// since it changes nothing of what that leaves.
-    fn is_dull(&mut self, current: &Move, reply: &Option<Move>) -> bool
-        requires current { IsCurrent self.old.state current.now }
-        ensures lost { result ≡ true → IsLost self.new current.now }
-        ensures unchanged { KeepsMoves self.old self.new }
+    /// Prunes the current move where it is a quiet one that the reply to a move before it refutes as
+    /// well, since it changes nothing of what that leaves; whether it did.
+    fn prune_dull(&mut self, current: &Move, reply: &Option<Move>) -> bool
+        requires asked { self.old.state ≡ NodeState.AwaitingChild current.now }
+        ensures next { result ≡ true → self.new.state ≡ NodeState.Expanding }
+        ensures asked { result ≡ false → self.new.state ≡ self.old.state }
+        ensures picker { self.new.picker ≡ self.old.picker }
+        ensures unchanged { IsSame self.old self.new }
     {
         if !self.prunes_dull() || !self.is_quiet(current) {
             return false;
@@ -208,40 +164,14 @@ impl Frame {
         let move_alpha = self.move_alpha(current);
         self.look_for_dull(reply, move_alpha);
         current.reveal_invariant();
-        match &self.dull {
-            Some(dull) => dull.most <= move_alpha && dull.has(current),
-            None => false,
-        }
-    }
-
-    /// Prunes the current move where it is dull, and returns whether it did.
-    fn prune_dull(&mut self, current: &Move, reply: &Option<Move>) -> bool
-        requires asked { self.old.state ≡ NodeState.AwaitingChild current.now }
-        ensures next { result ≡ true → self.new.state ≡ NodeState.Expanding }
-        ensures asked { result ≡ false → self.new.state ≡ self.old.state }
-        ensures picker { self.new.picker ≡ self.old.picker }
-        ensures unchanged { IsSame self.old self.new }
-    {
-        if !self.is_dull(current, reply) {
+        let Some(dull) = &self.dull else {
+            return false;
+        };
+        if dull.most > move_alpha || !dull.has(current) {
             return false;
         }
         self.fail_low();
         true
-    }
-
-    /// Whether the dull moves that were found, if any were, are not worth enough from a code on.
-    fn are_dull_from(&self, code: u16) -> bool
-        requires next { self.now.state ≡ NodeState.Expanding }
-        ensures { result ≡ true → AreDullFrom self.now code }
-    {
-        if !self.prunes_dull() {
-            return false;
-        }
-        let move_alpha = move_alpha_at(self.best_value, &self.best_move, code);
-        match &self.dull {
-            Some(dull) => dull.most <= move_alpha,
-            None => false,
-        }
     }
 
     /// Prunes the next moves that are dull: those of the piece, or the drops of the kind, that is under
@@ -253,8 +183,14 @@ impl Frame {
         let Some(code) = self.picker.quiet_code() else {
             return;
         };
-        if self.are_dull_from(code) {
-            self.picker.skip_dull(self.node.as_position(), &self.dull);
+        if !self.prunes_dull() {
+            return;
+        }
+        let Some(dull) = &self.dull else {
+            return;
+        };
+        if dull.most <= move_alpha_at(self.best_value, &self.best_move, code) {
+            self.picker.skip_dull(self.node.as_position(), dull);
         }
     }
 

@@ -3,20 +3,14 @@
 ghost use Rattle.std.specs.Prelude.{◌≡◌, ◌≤◌, ◌<◌, ◌^◌, ◌⊎◌, ℕ, Bool, Some, true};
 ghost use Rattle.std.specs.Option.{ForSome};
 ghost use Rattle.shogi_core.specs.Cell.{is_slider};
-ghost use Rattle.shogi_core.specs.Pieces.{opponent_of};
 ghost use Rattle.shogi_core.specs.Position.{Shogi};
-ghost use Rattle.shogi_moves.specs.Legal.{is_legal};
 ghost use Rattle.shogi_eval.specs.declared.eval.Eval.{Eval};
-ghost use Rattle.shogi_replies.specs.ReplyInfo.{Aligns, IsReplyInfo};
-ghost use Rattle.shogi_replies.specs.Threats.{IsTaken, IsUnpinnable, end_of};
-ghost use Rattle.shogi_core.specs.Validity.{IsValid};
-ghost use Rattle.search_nodes.specs.Threats.{AreAttacked, AreNonInterfering, AreSomeThreats, AreThreatEnds, AreThreatsIn, GainsAfter, HoldsPinning, IsCandidateIn, IsThreatIn, SurvivesAt, SurvivesMove, TakesAfter};
+ghost use Rattle.shogi_replies.specs.Threats.{IsUnpinnable};
+ghost use Rattle.search_nodes.specs.Threats.{AreNonInterfering, AreSomeThreats, AreThreatEnds, GainsAfter, HoldsPinning, IsCandidateIn, IsThreatIn, SurvivesAt, SurvivesMove};
 
 use shogi_core::{Move, Piece, Position, Square, Squares, line_mask};
 use shogi_eval::{Eval, promotion_gain, taken_gain};
-use shogi_replies::{
-    ReplyInfo, attacks_of, king_line_mask, put_by, squares_between, unpinnable_pieces,
-};
+use shogi_replies::{attacks_of, king_line_mask, squares_between, unpinnable_pieces};
 
 /// A move by a piece of the side that is not to move that nothing pins, promoting or not, to a square
 /// without a piece of its side, and what it gains; none where that is 0.
@@ -101,11 +95,10 @@ impl ThreatCandidate {
 /// Those of the lines of its king on which a piece that slides might come to pin what stands on the
 /// square.
 #[inline(always)]
-fn pinning_squares(p: &Position, lines: Squares, from: Square) -> Squares
-    requires lines { Aligns p.now.cells (opponent_of p.now.side) 0 lines.bits }
+fn pinning_squares(p: &Position, from: Square) -> Squares
     ensures { HoldsPinning p.now from result.bits }
 {
-    let _ = p;
+    let lines = king_line_mask(p, p.side().opponent());
     from.reveal_invariant();
     if lines.has(from) {
         lines & line_mask(from.index())
@@ -114,11 +107,10 @@ fn pinning_squares(p: &Position, lines: Squares, from: Square) -> Squares
     }
 }
 
-/// The threat, if it gains something, where those are the lines of the king of its side.
+/// The threat, if it gains something.
 #[inline(always)]
-fn threat_by(p: &Position, e: Eval, candidate: ThreatCandidate, lines: Squares) -> Option<Threat>
-    requires candidate { IsCandidateIn p.now e candidate }
-    requires lines { Aligns p.now.cells (opponent_of p.now.side) 0 lines.bits }
+fn threat_by(p: &Position, e: Eval, candidate: ThreatCandidate) -> Option<Threat>
+    requires { IsCandidateIn p.now e candidate }
     ensures { ForSome result (IsThreatIn p.now e) }
 {
     let _ = e;
@@ -129,7 +121,7 @@ fn threat_by(p: &Position, e: Eval, candidate: ThreatCandidate, lines: Squares) 
     let between = squares_between(from.index(), target.index());
     Some(Threat {
         way: between.with(from).with(target),
-        line: pinning_squares(p, lines, from),
+        line: pinning_squares(p, from),
         gain: candidate.gain,
         from,
         target,
@@ -144,7 +136,6 @@ pub(crate) fn threats_of(p: &Position, e: Eval) -> Option<Threats>
     if e.resolves_captures() {
         return None;
     }
-    let lines = king_line_mask(p, p.side().opponent());
     let board = p.as_board();
     let own = board.own(p.side());
     let theirs = board.own(p.side().opponent());
@@ -159,7 +150,7 @@ pub(crate) fn threats_of(p: &Position, e: Eval) -> Option<Threats>
     }
     Some(Threats {
         takes,
-        greatest: threat_by(p, e, greatest, lines),
+        greatest: threat_by(p, e, greatest),
     })
 }
 
@@ -207,63 +198,14 @@ impl Threat {
     }
 }
 
-/// Where the move ends.
-#[inline(always)]
-fn end_of(m: &Move) -> Square
-    ensures { result ≡ end_of m.now }
-{
-    match m {
-        Move::Board { to, .. } => *to,
-        Move::Drop { to, .. } => *to,
-    }
-}
-
 /// What the threat gains after the move, which puts this on its square, where that is more than the
 /// least and the move surely lets it stand; else the least.
 #[inline(always)]
-fn gain_if_left(threat: &Option<Threat>, m: &Move, put: Option<Piece>, least: u32) -> u32
+pub(crate) fn gain_if_left(threat: &Option<Threat>, m: &Move, put: Option<Piece>, least: u32) -> u32
     ensures { (result ≡ least) ⊎ GainsAfter threat.now put m.now result }
 {
     match threat {
         Some(threat) if threat.gain > least && threat.survives(m, put) => threat.gain,
         _ => least,
-    }
-}
-
-impl Threats {
-    /// Whether such a piece surely takes what the legal move puts on its square, also where that
-    /// gives check.
-    #[inline(always)]
-    pub(crate) fn has_retake(&self, p: &Position, replies: &ReplyInfo, m: &Move) -> bool
-        requires takes { AreAttacked p.now self.now.takes.bits }
-        requires consistent { IsReplyInfo p.now
-            replies.now.king_view.bits replies.now.free_movers.bits }
-        requires legal { is_legal p.now m.now ≡ true }
-        ensures { result ≡ true → ∥ IsTaken p.now m.now ∥₁ }
-    {
-        if !self.takes.has(end_of(m)) {
-            return false;
-        }
-        replies.discovers_no_check(p, m)
-    }
-
-    /// What the other side gains at least by one of these moves after the legal move, if that gives
-    /// no check; 0 where none of them surely stands.
-    #[inline(always)]
-    pub(crate) fn gain_after(&self, p: &Position, e: Eval, m: &Move) -> u32
-        requires threats { AreThreatsIn p.now e self.now }
-        requires valid { IsValid p.now }
-        requires legal { is_legal p.now m.now ≡ true }
-        ensures gain { 0 < result → TakesAfter p.now e m.now result }
-        ensures fits { result ≤ 4000 }
-    {
-        m.reveal_invariant();
-        let put = put_by(p, m);
-        let retake = if self.takes.has(end_of(m)) {
-            taken_gain(e, put)
-        } else {
-            0
-        };
-        gain_if_left(&self.greatest, m, put, retake)
     }
 }

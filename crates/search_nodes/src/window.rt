@@ -1,7 +1,6 @@
 //! What a move has to be worth to become the best one.
 
 ghost use Rattle.std.specs.Prelude.{◌≡◌, ◌≤ℤ◌};
-ghost use Rattle.shogi_core.specs.Codes.{code_of};
 ghost use Rattle.minimax.specs.Window.{move_alpha, code_at};
 ghost use Rattle.minimax.specs.declared.bounds.TheConstants.{INFINITY};
 ghost use Rattle.minimax.specs.Minimax.{negated};
@@ -17,12 +16,4 @@ pub(crate) fn move_alpha_at(best_value: i32, best_move: &Option<Move>, code: u16
         Some(best) if code < best.code() => best_value - 1,
         _ => best_value,
     }
-}
-
-/// The best so far, and one less for a move of lesser code than the best move.
-pub(crate) fn move_alpha(best_value: i32, best_move: &Option<Move>, m: &Move) -> i32
-    requires { negated INFINITY ≤ℤ best_value }
-    ensures { result ≡ move_alpha best_value (code_at best_move.now) (code_of m.now) }
-{
-    move_alpha_at(best_value, best_move, m.code())
 }

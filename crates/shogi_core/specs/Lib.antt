@@ -10,6 +10,7 @@ pub mod Same
 pub mod Validity
 pub mod Start
 pub mod Codes
+pub mod Moves
 pub mod Bits
 pub mod Masks
 pub mod Sets

@@ -3,6 +3,7 @@
 ghost use Rattle.std.specs.Prelude.{◌≡◌, ◌<◌, ◌≤◌, ◌+◌, ◌↔◌, IsNone, IfSome, Some};
 ghost use Rattle.shogi_core.specs.declared.moves.TheConstants.{MOVE_CODE_COUNT};
 ghost use Rattle.shogi_core.specs.Codes.{code_of, move_of, kind_at};
+ghost use Rattle.shogi_core.specs.Moves.{end_of};
 
 use crate::piece::Kind;
 use crate::square::Square;
@@ -57,6 +58,17 @@ fn kind_at(n: usize) -> Kind
 }
 
 impl Move {
+    /// The square where it ends.
+    #[inline(always)]
+    pub fn to(&self) -> Square
+        ensures { result ≡ end_of self.now }
+    {
+        match self {
+            Move::Board { to, .. } => *to,
+            Move::Drop { to, .. } => *to,
+        }
+    }
+
     /// Its place in the order of all moves, from 0 to 13,688 (own choice).
     #[tactic(auto, using(crate::proofs::CodesBack::codes_back))]
     pub fn code(self) -> u16

@@ -11,4 +11,4 @@ pub use eval::Eval;
 pub use gain::{PROMOTION_GAIN_MAX, drop_gain, promotion_gain, taken_gain};
 pub use losses::loss_of_drops;
 pub use node::Node;
-pub use points::{POINTS_MAX, material};
+pub use points::{POINTS_MAX, material, value_of};

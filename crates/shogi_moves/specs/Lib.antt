@@ -1,5 +1,6 @@
 pub mod Rising
 pub mod After
+pub mod Origins
 pub mod Legal
 pub mod LegalMoves
 pub mod Places

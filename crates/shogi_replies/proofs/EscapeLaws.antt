@@ -3,6 +3,7 @@ use Rattle.std.proofs.Common.{◌≡◌, ◌≢◌, ◌⊎◌, ℕ, ◌+◌, ◌
 use Rattle.std.specs.Prelude.{◌==◌, ◌||◌, is_none}
 use Rattle.std.specs.List.{list_any, list_all}
 use Rattle.std.proofs.lemmas.Bool.{cases_eq, false_from_ne_true, true_from_ne_false, both_ways, and_parts, and_from, or_parts, or_cases, or_left, or_right, eqb-true}
+use Rattle.shogi_core.specs.declared.moves.Move.{Move}
 use Rattle.shogi_core.specs.declared.moves.Move.TheVariants.{Board, Drop}
 use Rattle.shogi_core.specs.declared.offset.Offset.{Offset}
 use Rattle.shogi_core.specs.declared.piece.Color.{Color}
@@ -12,6 +13,7 @@ use Rattle.shogi_core.specs.Attack.{is_sniper}
 use Rattle.shogi_core.specs.Bits.{has_bit}
 use Rattle.shogi_core.specs.Cell.{is_piece_of, is_king, is_slider, HasNoOtherKing}
 use Rattle.shogi_core.specs.Lines.{are_aligned, are_lined, around}
+use Rattle.shogi_core.specs.Moves.{end_of}
 use Rattle.shogi_core.specs.Movement.{Cells, piece_at, cell_reaches, has_step, has_slide, is_slide, slides, slides_of, for_side}
 use Rattle.shogi_core.specs.Pieces.{opponent_of}
 use Rattle.shogi_core.specs.Position.{Shogi, HandCounts}
@@ -27,7 +29,9 @@ use Rattle.shogi_core.proofs.LineBits.{has_bit-ray}
 use Rattle.shogi_core.proofs.SeenLaws.{lined_aligned, lined_back, slide_seen}
 use Rattle.shogi_moves.specs.After.{after, cells_after, piece_moved, dropped}
 use Rattle.shogi_moves.specs.Escapes.{IsEscape, HasOpenEscape}
-use Rattle.shogi_replies.specs.Escapes.{HasRaysBehind, ReachesWithin}
+use Rattle.shogi_moves.specs.Origins.{origin_of}
+use Rattle.shogi_replies.specs.Escapes.{HasRaysBehind, OpensWithin, ReachesWithin}
+use Rattle.shogi_replies.specs.Threats.{put_by}
 use Rattle.shogi_moves.specs.Legal.{is_legal}
 use Rattle.shogi_moves.specs.LegalMoves.{legal_codes}
 use Rattle.shogi_moves.proofs.CheckInfoLaws.{look, other_side, is_piece_of-piece_moved, dropped_of}
@@ -118,7 +122,7 @@ escaped_drop p kind to reach v ht h far = reply_by (after p (Drop kind to)) h.ki
 bare_end : (cells : Cells) (occupied n : ℕ) → n < 81 → ((x : ℕ) → x < 81 → has_bit occupied x ≡ not (is_none (piece_at cells x))) → has_bit occupied n ≡ false → is_none (piece_at cells n) ≡ true
 bare_end cells occupied n h bits out = true_from_ne_false (is_none (piece_at cells n)) (λ stands. both_ways (has_bit occupied n) out (bits n h ∙ ap not stands))
 
-pub escaped_board_quietly : (p : Shogi) (from to closed reach lines beyond occupied : ℕ) (promote : Bool) → IsValid p → from < 81 → to < 81 → is_legal p (Board from to promote) ≡ true → HasOpenEscape p closed to → closed ≡ bit_or beyond occupied → beyond ≡ bit_or reach lines → ((n : ℕ) → n < 81 → has_bit occupied n ≡ not (is_none (piece_at p.cells n)))
+escaped_board_quietly : (p : Shogi) (from to closed reach lines beyond occupied : ℕ) (promote : Bool) → IsValid p → from < 81 → to < 81 → is_legal p (Board from to promote) ≡ true → HasOpenEscape p closed to → closed ≡ bit_or beyond occupied → beyond ≡ bit_or reach lines → ((n : ℕ) → n < 81 → has_bit occupied n ≡ not (is_none (piece_at p.cells n)))
     → ReachesWithin p (piece_moved promote (piece_at p.cells from)) to reach → ((n : ℕ) → n < 81 → has_bit lines n ≡ are_aligned from n) → quiet_codes (after p (Board from to promote)) ≢ []
 escaped_board_quietly p from to closed reach lines beyond occupied promote v hf ht legal h is sum stands far bits =
     let ends : _ = off_both beyond occupied closed h.end is h.open_end in
@@ -127,12 +131,14 @@ escaped_board_quietly p from to closed reach lines beyond occupied promote v hf 
     (step_board p from to closed reach lines promote v hf ht legal h off.0 off.1 far bits)
     ((left_board p from to promote v hf ht (legal_own p from to promote legal)).empty h.end (bare_end p.cells occupied h.end h.on_board.1 stands ends.1) h.elsewhere.1)
 
-pub escaped_drop_quietly : (p : Shogi) (kind : Kind) (to closed reach occupied : ℕ) → IsValid p → to < 81 → HasOpenEscape p closed to → closed ≡ bit_or reach occupied → ((n : ℕ) → n < 81 → has_bit occupied n ≡ not (is_none (piece_at p.cells n)))
-    → ReachesWithin p (dropped p.side kind) to reach → quiet_codes (after p (Drop kind to)) ≢ []
-escaped_drop_quietly p kind to closed reach occupied v ht h is stands far =
-    let ends : _ = off_both reach occupied closed h.end is h.open_end in
+pub escaped_quietly : (p : Shogi) (m : Move) (closed reach lines beyond occupied : ℕ) → IsValid p → end_of m < 81 → is_legal p m ≡ true → HasOpenEscape p closed (end_of m) → closed ≡ bit_or beyond occupied → beyond ≡ bit_or reach lines → ((n : ℕ) → n < 81 → has_bit occupied n ≡ not (is_none (piece_at p.cells n)))
+    → ReachesWithin p (put_by p m) (end_of m) reach → OpensWithin (origin_of m) lines → quiet_codes (after p m) ≢ []
+escaped_quietly p (Board from to promote) closed reach lines beyond occupied v ht legal h is sum stands far opens = escaped_board_quietly p from to closed reach lines beyond occupied promote v opens.0 ht legal h is sum stands far opens.1
+escaped_quietly p (Drop kind to) closed reach lines beyond occupied v ht legal h is sum stands far opens =
+    let ends : _ = off_both beyond occupied closed h.end is h.open_end in
+    let off : _ = off_both reach lines beyond h.end sum ends.0 in
     some_quiet (after p (Drop kind to)) (Board h.king_on h.end false) (move_of-board h.king_on h.end false h.on_board.0 h.on_board.1)
-    (step_drop p kind to closed reach v ht h ends.0 far)
+    (step_drop p kind to closed reach v ht h off.0 far)
     ((left_drop p kind to v ht).empty h.end (bare_end p.cells occupied h.end h.on_board.1 stands ends.1) h.elsewhere.1)
 
 -- ---- such squares as bits

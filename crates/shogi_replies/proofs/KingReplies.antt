@@ -24,7 +24,8 @@ use Rattle.shogi_core.proofs.Discovered.{attacked_was_but}
 use Rattle.shogi_moves.specs.After.{after, cells_after, piece_moved, dropped}
 use Rattle.shogi_moves.specs.Escapes.{IsEscape, AreEscapes, HasOpenEscape}
 use Rattle.shogi_replies.specs.Escapes.{HasNoSniper}
-use Rattle.shogi_replies.specs.Threats.{IsTaken, MayTake, end_of, put_by}
+use Rattle.shogi_core.specs.Moves.{end_of}
+use Rattle.shogi_replies.specs.Threats.{IsTaken, MayTake, put_by}
 use Rattle.shogi_moves.specs.Legal.{is_legal}
 use Rattle.shogi_moves.specs.LegalMoves.{legal_codes}
 use Rattle.shogi_moves.proofs.CheckInfoLaws.{look, other_side, own_some, is_piece_of-piece_moved, dropped_of, king_set}

@@ -87,39 +87,39 @@ leaves_reply p escapes c m at back listed guaranteed =
     }
 
 -- a matching move on the board that is certain, without promotion and with it
-guaranteed_move : (p : Shogi) (capture : Bool) (move_filter : MoveFilter) (first c from n : ℕ) → from < 81 → n < 81 → first ≤ c → c ≡ code_of (Board from n false) → is_matching p capture c ≡ true → has_bit move_filter.pieces.bits from ≡ true → has_bit move_filter.squares.bits n ≡ true → GuaranteesReply p move_filter.escapes.bits (Board from n false) → IsGuaranteedMove p capture move_filter first c
-guaranteed_move p capture move_filter first c from n hf hn above at matching piece set guaranteed = record {
+guaranteed_move : (p : Shogi) (capture : Bool) (move_filter : MoveFilter) (escapes first c from n : ℕ) → from < 81 → n < 81 → first ≤ c → c ≡ code_of (Board from n false) → is_matching p capture c ≡ true → has_bit move_filter.pieces.bits from ≡ true → has_bit move_filter.squares.bits n ≡ true → GuaranteesReply p escapes (Board from n false) → IsGuaranteedMove p capture move_filter escapes first c
+guaranteed_move p capture move_filter escapes first c from n hf hn above at matching piece set guaranteed = record {
   above = above;
   on_board = omega (arith, at);
   piece = subst (λ (k : ℕ). has_bit move_filter.pieces.bits k ≡ true) (omega (arith, at)) piece;
   end = subst (λ (k : ℕ). has_bit move_filter.squares.bits k ≡ true) (omega (arith, at)) set;
   promotes = λ odd. absurd (omega (arith, at, odd));
   matching = matching;
-  leaves = leaves_reply p move_filter.escapes.bits c (Board from n false) at (move_of-board from n false hf hn) (and_parts _ _ matching).0 guaranteed;
+  leaves = leaves_reply p escapes c (Board from n false) at (move_of-board from n false hf hn) (and_parts _ _ matching).0 guaranteed;
 }
 
-guaranteed_promotion : (p : Shogi) (capture : Bool) (move_filter : MoveFilter) (first c from n : ℕ) → from < 81 → n < 81 → first ≤ c → c ≡ code_of (Board from n true) → is_matching p capture c ≡ true → has_bit move_filter.pieces.bits from ≡ true → has_bit move_filter.squares.bits n ≡ true → move_filter.promotes ≡ true → GuaranteesReply p move_filter.escapes.bits (Board from n true) → IsGuaranteedMove p capture move_filter first c
-guaranteed_promotion p capture move_filter first c from n hf hn above at matching piece set lets guaranteed = record {
+guaranteed_promotion : (p : Shogi) (capture : Bool) (move_filter : MoveFilter) (escapes first c from n : ℕ) → from < 81 → n < 81 → first ≤ c → c ≡ code_of (Board from n true) → is_matching p capture c ≡ true → has_bit move_filter.pieces.bits from ≡ true → has_bit move_filter.squares.bits n ≡ true → move_filter.promotes ≡ true → GuaranteesReply p escapes (Board from n true) → IsGuaranteedMove p capture move_filter escapes first c
+guaranteed_promotion p capture move_filter escapes first c from n hf hn above at matching piece set lets guaranteed = record {
   above = above;
   on_board = omega (arith, at);
   piece = subst (λ (k : ℕ). has_bit move_filter.pieces.bits k ≡ true) (omega (arith, at)) piece;
   end = subst (λ (k : ℕ). has_bit move_filter.squares.bits k ≡ true) (omega (arith, at)) set;
   promotes = λ odd. lets;
   matching = matching;
-  leaves = leaves_reply p move_filter.escapes.bits c (Board from n true) at (move_of-board from n true hf hn) (and_parts _ _ matching).0 guaranteed;
+  leaves = leaves_reply p escapes c (Board from n true) at (move_of-board from n true hf hn) (and_parts _ _ matching).0 guaranteed;
 }
 
 -- those below another code are passed, where each of them is certain
-pub destinations_passed : (p : Shogi) (capture : Bool) (move_filter : MoveFilter) (from code next non_promoting promoting first : ℕ) → from < 81 → has_bit move_filter.pieces.bits from ≡ true → KeepsBoard p capture from code non_promoting promoting → first ≤ code → code ≤ next → next ≤ from * SQUARE_CODES + SQUARE_CODES
-    → ((n : ℕ) → n < 81 → has_bit non_promoting n ≡ true → code_of (Board from n false) < next → (has_bit move_filter.squares.bits n ≡ true) × GuaranteesReply p move_filter.escapes.bits (Board from n false))
-    → ((n : ℕ) → n < 81 → has_bit promoting n ≡ true → code_of (Board from n true) < next → (has_bit move_filter.squares.bits n ≡ true) × (move_filter.promotes ≡ true) × GuaranteesReply p move_filter.escapes.bits (Board from n true))
-    → IsSkipped (IsGuaranteedMove p capture move_filter first) (matching_from p capture code) (matching_from p capture next)
-destinations_passed p capture move_filter from code next non_promoting promoting first hf piece k low up high plainly by_promotion =
-    passed_to p capture (IsGuaranteedMove p capture move_filter first) code next up (omega arith) (λ c above below matching.
+pub destinations_passed : (p : Shogi) (capture : Bool) (move_filter : MoveFilter) (escapes from code next non_promoting promoting first : ℕ) → from < 81 → has_bit move_filter.pieces.bits from ≡ true → KeepsBoard p capture from code non_promoting promoting → first ≤ code → code ≤ next → next ≤ from * SQUARE_CODES + SQUARE_CODES
+    → ((n : ℕ) → n < 81 → has_bit non_promoting n ≡ true → code_of (Board from n false) < next → (has_bit move_filter.squares.bits n ≡ true) × GuaranteesReply p escapes (Board from n false))
+    → ((n : ℕ) → n < 81 → has_bit promoting n ≡ true → code_of (Board from n true) < next → (has_bit move_filter.squares.bits n ≡ true) × (move_filter.promotes ≡ true) × GuaranteesReply p escapes (Board from n true))
+    → IsSkipped (IsGuaranteedMove p capture move_filter escapes first) (matching_from p capture code) (matching_from p capture next)
+destinations_passed p capture move_filter escapes from code next non_promoting promoting first hf piece k low up high plainly by_promotion =
+    passed_to p capture (IsGuaranteedMove p capture move_filter escapes first) code next up (omega arith) (λ c above below matching.
     let hn : c / 2 % 81 < 81 = omega arith in
     elim (destination_of p capture from code non_promoting promoting c k above (omega arith) matching) [
-      | inl at ↦ (let it : _ = plainly (c / 2 % 81) hn at.1 (omega (arith, at.0)) in guaranteed_move p capture move_filter first c from (c / 2 % 81) hf hn (omega arith) at.0 matching piece it.0 it.1)
-      | inr at ↦ (let it : _ = by_promotion (c / 2 % 81) hn at.1 (omega (arith, at.0)) in guaranteed_promotion p capture move_filter first c from (c / 2 % 81) hf hn (omega arith) at.0 matching piece it.0 it.1 it.2)
+      | inl at ↦ (let it : _ = plainly (c / 2 % 81) hn at.1 (omega (arith, at.0)) in guaranteed_move p capture move_filter escapes first c from (c / 2 % 81) hf hn (omega arith) at.0 matching piece it.0 it.1)
+      | inr at ↦ (let it : _ = by_promotion (c / 2 % 81) hn at.1 (omega (arith, at.0)) in guaranteed_promotion p capture move_filter escapes first c from (c / 2 % 81) hf hn (omega arith) at.0 matching piece it.0 it.1 it.2)
     ])
 
 -- what is not uncertain is certain
@@ -161,10 +161,10 @@ promoting_among p capture from n len hf hn own matching =
     ((and_parts _ _ parts.0).0, (and_parts _ _ parts.1).0)
 
 -- no move of a piece but certain ones
-pub guaranteed_moves : (p : Shogi) (capture : Bool) (move_filter : MoveFilter) (from ends zone guaranteed promotions promoted : ℕ) → ((n : ℕ) → n < 81 → has_bit ends n ≡ is_reached p capture from n) → ((n : ℕ) → n < 81 → has_bit zone n ≡ may_promote (piece_at p.cells from) from n)
-    → has_bit move_filter.pieces.bits from ≡ true → move_filter.squares.bits < 2 ^ 128 → promotions < 2 ^ 128 → ((n : ℕ) → has_bit promotions n ≡ true → move_filter.promotes ≡ true) → ((n : ℕ) → n < 81 → has_bit guaranteed n ≡ true → GuaranteesReply p move_filter.escapes.bits (Board from n false)) → ((n : ℕ) → n < 81 → has_bit promoted n ≡ true → GuaranteesReply p move_filter.escapes.bits (Board from n true))
-    → bit_or (bit_and ends (2 ^ 128 - 1 - bit_and move_filter.squares.bits guaranteed)) (bit_and (bit_and ends zone) (2 ^ 128 - 1 - bit_and promotions promoted)) ≡ 0 → GuaranteesReplies p capture move_filter from
-guaranteed_moves p capture move_filter from ends zone guaranteed promotions promoted ends_bits zone_bits piece f g lets answered by_promotion none =
+pub guaranteed_moves : (p : Shogi) (capture : Bool) (move_filter : MoveFilter) (escapes from ends zone guaranteed promotions promoted : ℕ) → ((n : ℕ) → n < 81 → has_bit ends n ≡ is_reached p capture from n) → ((n : ℕ) → n < 81 → has_bit zone n ≡ may_promote (piece_at p.cells from) from n)
+    → has_bit move_filter.pieces.bits from ≡ true → move_filter.squares.bits < 2 ^ 128 → promotions < 2 ^ 128 → ((n : ℕ) → has_bit promotions n ≡ true → move_filter.promotes ≡ true) → ((n : ℕ) → n < 81 → has_bit guaranteed n ≡ true → GuaranteesReply p escapes (Board from n false)) → ((n : ℕ) → n < 81 → has_bit promoted n ≡ true → GuaranteesReply p escapes (Board from n true))
+    → bit_or (bit_and ends (2 ^ 128 - 1 - bit_and move_filter.squares.bits guaranteed)) (bit_and (bit_and ends zone) (2 ^ 128 - 1 - bit_and promotions promoted)) ≡ 0 → GuaranteesReplies p capture move_filter escapes from
+guaranteed_moves p capture move_filter escapes from ends zone guaranteed promotions promoted ends_bits zone_bits piece f g lets answered by_promotion none =
     let at : (n : ℕ) → n < 81 → _ = λ n h. of_both ends move_filter.squares.bits guaranteed (bit_and ends zone) promotions promoted n f g h (ap (λ m. has_bit m n) none ∙ has_bit-none n) in
     record {
       piece = piece;
@@ -173,32 +173,32 @@ guaranteed_moves p capture move_filter from ends zone guaranteed promotions prom
     }
 
 -- the moves of all pieces below a square are passed, where each of them is certain
-row_passed : (p : Shogi) (capture : Bool) (move_filter : MoveFilter) (first code moving end : ℕ) → length p.cells ≡ 81 → end ≤ 81 → HasMatchingOn p capture code moving
-    → ((n : ℕ) → n < 81 → has_bit moving n ≡ true → is_piece_of p.side (piece_at p.cells n) ≡ true) → ((n : ℕ) → n < 81 → n < end → has_bit moving n ≡ true → GuaranteesReplies p capture move_filter n)
-    → first ≤ code → code ≤ end * SQUARE_CODES → IsSkipped (IsGuaranteedMove p capture move_filter first) (matching_from p capture code) (matching_from p capture (end * SQUARE_CODES))
-row_passed p capture move_filter first code moving end len he on mine guaranteed low up =
-    passed_to p capture (IsGuaranteedMove p capture move_filter first) code (end * SQUARE_CODES) up (omega arith) (λ c above below matching.
+row_passed : (p : Shogi) (capture : Bool) (move_filter : MoveFilter) (escapes first code moving end : ℕ) → length p.cells ≡ 81 → end ≤ 81 → HasMatchingOn p capture code moving
+    → ((n : ℕ) → n < 81 → has_bit moving n ≡ true → is_piece_of p.side (piece_at p.cells n) ≡ true) → ((n : ℕ) → n < 81 → n < end → has_bit moving n ≡ true → GuaranteesReplies p capture move_filter escapes n)
+    → first ≤ code → code ≤ end * SQUARE_CODES → IsSkipped (IsGuaranteedMove p capture move_filter escapes first) (matching_from p capture code) (matching_from p capture (end * SQUARE_CODES))
+row_passed p capture move_filter escapes first code moving end len he on mine guaranteed low up =
+    passed_to p capture (IsGuaranteedMove p capture move_filter escapes first) code (end * SQUARE_CODES) up (omega arith) (λ c above below matching.
     let hf : c / SQUARE_CODES < 81 = omega arith in
     let hn : c / 2 % 81 < 81 = omega arith in
     let here : has_bit moving (c / SQUARE_CODES) ≡ true = on.on c above (omega arith) matching in
     let own : is_piece_of p.side (piece_at p.cells (c / SQUARE_CODES)) ≡ true = mine (c / SQUARE_CODES) hf here in
-    let moves : GuaranteesReplies p capture move_filter (c / SQUARE_CODES) = guaranteed (c / SQUARE_CODES) hf (omega arith) here in
+    let moves : GuaranteesReplies p capture move_filter escapes (c / SQUARE_CODES) = guaranteed (c / SQUARE_CODES) hf (omega arith) here in
     elim (at_code (c / SQUARE_CODES) c (omega arith) (omega arith)) [
       | inl at ↦ (
           let it : _ = moves.non_promoting (c / 2 % 81) hn (plain_among p capture (c / SQUARE_CODES) (c / 2 % 81) len hf hn own (ap (is_matching p capture) (sym at) ∙ matching)) in
-          guaranteed_move p capture move_filter first c (c / SQUARE_CODES) (c / 2 % 81) hf hn (omega arith) at matching moves.piece it.0 it.1)
+          guaranteed_move p capture move_filter escapes first c (c / SQUARE_CODES) (c / 2 % 81) hf hn (omega arith) at matching moves.piece it.0 it.1)
       | inr at ↦ (
           let there : (is_reached p capture (c / SQUARE_CODES) (c / 2 % 81) ≡ true) × (may_promote (piece_at p.cells (c / SQUARE_CODES)) (c / SQUARE_CODES) (c / 2 % 81) ≡ true) = promoting_among p capture (c / SQUARE_CODES) (c / 2 % 81) len hf hn own (ap (is_matching p capture) (sym at) ∙ matching) in
           let it : _ = moves.promoting (c / 2 % 81) hn there.0 there.1 in
-          guaranteed_promotion p capture move_filter first c (c / SQUARE_CODES) (c / 2 % 81) hf hn (omega arith) at matching moves.piece (moves.non_promoting (c / 2 % 81) hn there.0).0 it.0 it.1)
+          guaranteed_promotion p capture move_filter escapes first c (c / SQUARE_CODES) (c / 2 % 81) hf hn (omega arith) at matching moves.piece (moves.non_promoting (c / 2 % 81) hn there.0).0 it.0 it.1)
     ])
 
-pub row_passed_to : (p : Shogi) (capture : Bool) (move_filter : MoveFilter) (code moving end : ℕ) → length p.cells ≡ 81 → end ≤ 81 → HasMatchingOn p capture code moving
-    → ((n : ℕ) → n < 81 → has_bit moving n ≡ true → is_piece_of p.side (piece_at p.cells n) ≡ true) → ((n : ℕ) → n < 81 → n < end → has_bit moving n ≡ true → GuaranteesReplies p capture move_filter n)
-    → code ≤ end * SQUARE_CODES → IsPassedTo p capture move_filter code (end * SQUARE_CODES)
-row_passed_to p capture move_filter code moving end len he on mine guaranteed up = record {
+pub row_passed_to : (p : Shogi) (capture : Bool) (move_filter : MoveFilter) (escapes code moving end : ℕ) → length p.cells ≡ 81 → end ≤ 81 → HasMatchingOn p capture code moving
+    → ((n : ℕ) → n < 81 → has_bit moving n ≡ true → is_piece_of p.side (piece_at p.cells n) ≡ true) → ((n : ℕ) → n < 81 → n < end → has_bit moving n ≡ true → GuaranteesReplies p capture move_filter escapes n)
+    → code ≤ end * SQUARE_CODES → IsPassedTo p capture move_filter escapes code (end * SQUARE_CODES)
+row_passed_to p capture move_filter escapes code moving end len he on mine guaranteed up = record {
   up = up;
-  passed = λ first low. row_passed p capture move_filter first code moving end len he on mine guaranteed low up;
+  passed = λ first low. row_passed p capture move_filter escapes first code moving end len he on mine guaranteed low up;
 }
 
 -- one that is no longer left and is not the one that went was not left before

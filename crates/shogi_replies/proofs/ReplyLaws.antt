@@ -36,7 +36,10 @@ use Rattle.shogi_moves.specs.After.{after, cells_after, piece_moved, dropped, wi
 use Rattle.shogi_moves.specs.Legal.{is_legal, is_safe, is_pseudo_legal_board_move, is_pseudo_legal_drop, is_pawn_kind, is_mated_by_drop}
 use Rattle.shogi_moves.specs.LegalMoves.{legal_codes}
 use Rattle.shogi_moves.specs.Rising.{is_in}
-use Rattle.shogi_replies.specs.ReplyInfo.{holds_free, is_quiet, is_quiet_code, quiet_codes, is_line_of_king, is_aligned_with_king, is_quiet_step, is_step_beside, is_unbound, is_spare, is_way, HasOthers, AreQuietSteps, LeaveFreeMovers, Sees, Aligns, IsReplyInfo, IsHarmless, IsHarmlessFrom, StaysCovered, DiscoversNothing, DiscoversWithin, IsOpen, IsAnswered, IsQuietlyAnswered, GuaranteesReply}
+use Rattle.shogi_moves.specs.declared.origin.Origin.{Origin}
+use Rattle.shogi_moves.specs.declared.origin.Origin.TheVariants as origins
+use Rattle.shogi_moves.specs.Origins.{move_to, put_from}
+use Rattle.shogi_replies.specs.ReplyInfo.{holds_free, is_quiet, is_quiet_code, quiet_codes, is_line_of_king, is_aligned_with_king, is_quiet_step, is_step_beside, is_unbound, is_spare, is_way, HasOthers, AreQuietSteps, LeaveFreeMovers, Sees, Aligns, IsReplyInfo, IsHarmless, IsHarmlessFrom, StaysCovered, DiscoversNothing, DiscoversWithin, OpensChecksWithin, IsOpen, IsAnswered, IsQuietlyAnswered, GuaranteesReply}
 use Rattle.shogi_moves.proofs.DropChecks as drops
 use Rattle.shogi_moves.proofs.DestinationLaws.{legal_board, legal_drop, drop_matching, still}
 use Rattle.shogi_moves.proofs.ExistenceLaws.{some_legal}
@@ -734,3 +737,10 @@ open_drop p escapes kind n king_view closed free_movers v r hn off o = (
   λ legal. replied_drop p kind n king_view free_movers o.way.0 v r hn off o.way.1 o.way.2 o.way.3,
   λ none legal. shut_drop p kind n v hn off,
 )
+
+pub open_either : (p : Shogi) (escapes : ℕ) (origin : Origin) (n king_view checking opening free_movers : ℕ) → IsValid p → IsReplyInfo p king_view free_movers → n < 81 → OpensChecksWithin p king_view origin opening
+    → (has_bit checking n ≡ false → IsHarmless p.cells (opponent_of p.side) (put_from p origin) n) → IsOpen (bit_or checking opening) free_movers n → GuaranteesReply p escapes (move_to origin n)
+open_either p escapes (origins.Board from promote) n king_view checking opening free_movers v r hn within far o = open_board p escapes from n promote king_view checking opening free_movers v r within.0 hn within.1 far o
+open_either p escapes (origins.Drop kind) n king_view checking opening free_movers v r hn within far o =
+    let out : has_bit checking n ≡ false = (or_parts (has_bit checking n) (has_bit opening n) (sym (has_bit-or checking opening n) ∙ o.unclosed)).0 in
+    open_drop p escapes kind n king_view (bit_or checking opening) free_movers v r hn (far out) o

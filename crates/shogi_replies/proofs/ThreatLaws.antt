@@ -29,7 +29,8 @@ use Rattle.shogi_moves.specs.After.{after, cells_after, piece_moved, dropped}
 use Rattle.shogi_moves.specs.Legal.{is_legal, is_pseudo_legal_board_move}
 use Rattle.shogi_core.specs.Zones.{may_promote}
 use Rattle.shogi_replies.specs.ReplyInfo.{is_aligned_with_king, is_line_of_king}
-use Rattle.shogi_replies.specs.Threats.{IsOffPins, IsUnpinnable, IsAttack, IsThreat, EndsNonInterfering, LeavesThreat, MayTake, end_of, put_by}
+use Rattle.shogi_core.specs.Moves.{end_of}
+use Rattle.shogi_replies.specs.Threats.{IsOffPins, IsUnpinnable, IsAttack, IsThreat, EndsNonInterfering, LeavesThreat, MayTake, put_by}
 use Rattle.shogi_core.proofs.RayLaws.{slides_bare}
 use Rattle.shogi_moves.proofs.DestinationLaws.{alive, legal_board, still}
 use Rattle.shogi_moves.proofs.CheckInfoLaws.{dropped_of, filled, is_piece_of-piece_moved, look, other_side, quiet_board}

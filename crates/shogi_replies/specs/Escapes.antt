@@ -1,14 +1,17 @@
 -- What leaves such a square open: what a piece reaches once a king has gone, and lines with no piece that slides (own choice).
-use Rattle.std.specs.Prelude.{ℕ, ◌≡◌, ◌<◌, ◌&&◌, not, true, false, Option, None, slice_set}
+use Rattle.std.specs.Prelude.{ℕ, ◌≡◌, ◌<◌, ◌&&◌, ⊤, not, true, false, Option, None, slice_set}
 use Rattle.shogi_core.specs.declared.piece.Color.{Color}
 use Rattle.shogi_core.specs.declared.piece.Piece.{Piece}
 use Rattle.shogi_core.specs.Attack.{is_attacked, is_sniper}
 use Rattle.shogi_core.specs.Bits.{HasBits, has_bit}
 use Rattle.shogi_core.specs.Cell.{is_king, HasNoOtherKing}
+use Rattle.shogi_core.specs.Lines.{are_aligned}
 use Rattle.shogi_core.specs.Movement.{Cells, piece_at, cell_reaches}
 use Rattle.shogi_core.specs.Pieces.{opponent_of}
 use Rattle.shogi_core.specs.Position.{Shogi}
 use Rattle.shogi_core.specs.Rays.{direction_at, is_on_ray}
+use Rattle.shogi_moves.specs.declared.origin.Origin.{Origin}
+use Rattle.shogi_moves.specs.declared.origin.Origin.TheVariants.{Board, Drop}
 
 -- the set has all squares to which the direction leads from both
 abbrev pub HasRaysBehind : ℕ → ℕ → ℕ → ℕ → Type 0
@@ -27,6 +30,11 @@ ReachesWithin p cell to set = (k n : ℕ) → k < 81 → n < 81
     → is_king (opponent_of p.side) (piece_at p.cells k) ≡ true
     → HasNoOtherKing p.cells (opponent_of p.side) k → has_bit set n ≡ false
     → cell_reaches (slice_set p.cells k None) cell to n ≡ false
+
+-- the set has the squares on lines with the one that a move leaves; a drop leaves none
+abbrev pub OpensWithin : Origin → ℕ → Type 0
+OpensWithin (Board from promote) set = (from < 81) × HasBits set (are_aligned from)
+OpensWithin (Drop kind) set = ⊤
 
 -- no piece of the side that slides is on a line with the square, whatever stands between
 abbrev pub HasNoSniper : Cells → Color → ℕ → Type 0

@@ -21,14 +21,14 @@ pub record LeavesReply (p : Shogi) (escapes code : ℕ) : Type 0 where
   pub unchecked : escapes ≡ 0 → in_check (after_code p code).cells (opponent_of p.side) ≡ false
 
 -- the code is that of a legal move of the kind on the board, from a code on, which the filter has, and after which the other side has such a move
-pub record IsGuaranteedMove (p : Shogi) (capture : Bool) (move_filter : MoveFilter) (first code : ℕ) : Type 0 where
+pub record IsGuaranteedMove (p : Shogi) (capture : Bool) (move_filter : MoveFilter) (escapes first code : ℕ) : Type 0 where
   pub above : first ≤ code
   pub on_board : code < FIRST_DROP
   pub piece : has_bit move_filter.pieces.bits (code / SQUARE_CODES) ≡ true
   pub end : has_bit move_filter.squares.bits (code / 2 % 81) ≡ true
   pub promotes : code % 2 ≡ 1 → move_filter.promotes ≡ true
   pub matching : is_matching p capture code ≡ true
-  pub leaves : LeavesReply p move_filter.escapes.bits code
+  pub leaves : LeavesReply p escapes code
 
 -- the code is that of a legal drop of the kind, from a code on, on one of the squares, after which the other side has such a move
 pub record IsGuaranteedDrop (p : Shogi) (kind : Kind) (squares escapes first code : ℕ) : Type 0 where
@@ -45,9 +45,10 @@ IsSkipped fact [] left = [] ≡ left
 IsSkipped fact (code ∷ codes) left = (code ∷ codes ≡ left) ⊎ (fact code × IsSkipped fact codes left)
 
 -- the moves of the kind below another code are skipped, each of which guarantees a reply
-pub record IsPassedTo (p : Shogi) (capture : Bool) (move_filter : MoveFilter) (code next : ℕ) : Type 0 where
+pub record IsPassedTo (p : Shogi) (capture : Bool) (move_filter : MoveFilter) (escapes code next : ℕ) : Type 0 where
   pub up : code ≤ next
-  pub passed : (first : ℕ) → first ≤ code → IsSkipped (IsGuaranteedMove p capture move_filter first)
+  pub passed : (first : ℕ) → first ≤ code
+      → IsSkipped (IsGuaranteedMove p capture move_filter escapes first)
       (matching_from p capture code) (matching_from p capture next)
 
 -- no destination of the present piece is left, neither without promotion nor with it
@@ -57,9 +58,9 @@ HasNoEnds sweep =
 
 -- moves that guarantee a reply are skipped, and the others are left
 abbrev pub SkipsBoard :
-    Shogi → Bool → MoveFilter → BoardSweep → BoardSweep → Type 0
-SkipsBoard p capture move_filter old new =
-    IsSkipped (IsGuaranteedMove p capture move_filter old.code)
+    Shogi → Bool → MoveFilter → ℕ → BoardSweep → BoardSweep → Type 0
+SkipsBoard p capture move_filter escapes old new =
+    IsSkipped (IsGuaranteedMove p capture move_filter escapes old.code)
     (board_left p capture old) (board_left p capture new)
 
 abbrev pub SkipsDrops : Shogi → ℕ → ℕ → DropSweep → DropSweep → Type 0

@@ -1,9 +1,8 @@
 -- What is kept of a position to decide that after most of its moves the other side is in no check and has a legal move.
-use Rattle.std.specs.Prelude.{ℕ, ◌≡◌, ◌≢◌, ◌<◌, ◌==◌, ◌⊎◌, ◌&&◌, ◌||◌, Bool, true, false, not, nat_lt, Option, Some, None, is_none, List, [], filter, slice_set}
+use Rattle.std.specs.Prelude.{ℕ, ◌≡◌, ◌≢◌, ◌<◌, ◌==◌, ◌⊎◌, ◌&&◌, ◌||◌, ⊤, Bool, true, false, not, nat_lt, Option, Some, None, is_none, List, [], filter, slice_set}
 use Rattle.shogi_core.specs.declared.moves.Move.{Move}
 use Rattle.shogi_core.specs.declared.moves.Move.TheVariants.{Board, Drop}
 use Rattle.shogi_core.specs.declared.piece.Color.{Color}
-use Rattle.shogi_core.specs.declared.piece.Kind.{Kind}
 use Rattle.shogi_core.specs.declared.piece.Kind.TheVariants.{Silver, Gold, Bishop, Rook}
 use Rattle.shogi_core.specs.declared.piece.Piece.{Piece}
 use Rattle.shogi_core.specs.Attack.{in_check, is_sniping, cell_steps}
@@ -18,6 +17,9 @@ use Rattle.shogi_core.specs.Position.{Shogi, HandCounts, count_in_hand}
 use Rattle.shogi_moves.specs.After.{after, piece_moved}
 use Rattle.shogi_moves.specs.Destinations.{is_destination}
 use Rattle.shogi_moves.specs.Legal.{is_legal}
+use Rattle.shogi_moves.specs.Origins.{move_to}
+use Rattle.shogi_moves.specs.declared.origin.Origin.{Origin}
+use Rattle.shogi_moves.specs.declared.origin.Origin.TheVariants as origins
 use Rattle.shogi_core.specs.Zones.{may_promote, is_around}
 use Rattle.shogi_moves.specs.LegalMoves.{legal_codes}
 use Rattle.shogi_replies.specs.declared.move_filter.MoveFilter.{MoveFilter}
@@ -144,6 +146,12 @@ DiscoversWithin cells side king_view from set = (promote : Bool) (n : ℕ) → n
 abbrev pub DiscoversChecksWithin : Shogi → ℕ → ℕ → ℕ → Type 0
 DiscoversChecksWithin p king_view from set = DiscoversWithin p.cells (opponent_of p.side) king_view from set
 
+-- a move from there discovers nothing so; a drop never does
+abbrev pub OpensChecksWithin : Shogi → ℕ → Origin → ℕ → Type 0
+OpensChecksWithin p king_view (origins.Board from promote) set =
+    (from < 81) × DiscoversChecksWithin p king_view from set
+OpensChecksWithin p king_view (origins.Drop kind) set = ⊤
+
 -- such squares for the side that is not to move, and others, of which it has a way wherever a move ends that leaves one of them
 pub record IsReplyInfo (p : Shogi) (king_view free_movers : ℕ) : Type 0 where
   pub sees : Sees p.cells (opponent_of p.side) 0 king_view
@@ -168,10 +176,10 @@ IsAnswered p m = is_legal p m ≡ true → legal_codes (after p m) ≢ []
 abbrev pub IsQuietlyAnswered : Shogi → Move → Type 0
 IsQuietlyAnswered p m = is_legal p m ≡ true → quiet_codes (after p m) ≢ []
 
--- a move from the square to each one in the set is so answered, promoting or not
-abbrev pub AreAnswered : Shogi → ℕ → Bool → ℕ → Type 0
-AreAnswered p from promote set =
-    (n : ℕ) → n < 81 → has_bit set n ≡ true → IsQuietlyAnswered p (Board from n promote)
+-- a move from there to each square in the set is so answered
+abbrev pub AreAnswered : Shogi → Origin → ℕ → Type 0
+AreAnswered p origin set =
+    (n : ℕ) → n < 81 → has_bit set n ≡ true → IsQuietlyAnswered p (move_to origin n)
 
 -- so is each move on the board of what stands on the squares
 abbrev pub AreDistant : Shogi → ℕ → Type 0
@@ -187,11 +195,6 @@ abbrev pub PromotesWithin : Cells → ℕ → ℕ → ℕ → Type 0
 PromotesWithin cells from squares set = (n : ℕ) → n < 81 → has_bit squares n ≡ true
     → may_promote (piece_at cells from) from n ≡ true → has_bit set n ≡ true
 
--- so is a drop of the kind on each of the squares
-abbrev pub AreDropsAnswered : Shogi → Kind → ℕ → Type 0
-AreDropsAnswered p kind squares =
-    (n : ℕ) → n < 81 → has_bit squares n ≡ true → IsQuietlyAnswered p (Drop kind n)
-
 -- if the move is legal, it gives no check
 abbrev pub GivesNoCheck : Shogi → Move → Type 0
 GivesNoCheck p m = is_legal p m ≡ true → in_check (after p m).cells (opponent_of p.side) ≡ false
@@ -200,19 +203,15 @@ GivesNoCheck p m = is_legal p m ≡ true → in_check (after p m).cells (opponen
 abbrev pub GuaranteesReply : Shogi → ℕ → Move → Type 0
 GuaranteesReply p escapes m = IsQuietlyAnswered p m × (escapes ≡ 0 → GivesNoCheck p m)
 
--- so is a move from the square to each one in the set, promoting or not
-abbrev pub AreGuaranteed : Shogi → ℕ → ℕ → Bool → ℕ → Type 0
-AreGuaranteed p escapes from promote set =
-    (n : ℕ) → n < 81 → has_bit set n ≡ true → GuaranteesReply p escapes (Board from n promote)
+-- so is a move from there to each square in the set
+abbrev pub AreGuaranteed : Shogi → ℕ → Origin → ℕ → Type 0
+AreGuaranteed p escapes origin set =
+    (n : ℕ) → n < 81 → has_bit set n ≡ true → GuaranteesReply p escapes (move_to origin n)
 
--- and so whatever escapes are given, and promoting or not
+-- and so from the square whatever escapes are given, and promoting or not
 abbrev pub AreAlwaysGuaranteed : Shogi → ℕ → ℕ → Type 0
-AreAlwaysGuaranteed p from set = (escapes : ℕ) (promote : Bool) → AreGuaranteed p escapes from promote set
-
--- and a drop of the kind on each of the squares
-abbrev pub AreDropsGuaranteed : Shogi → ℕ → Kind → ℕ → Type 0
-AreDropsGuaranteed p escapes kind squares =
-    (n : ℕ) → n < 81 → has_bit squares n ≡ true → GuaranteesReply p escapes (Drop kind n)
+AreAlwaysGuaranteed p from set = (escapes : ℕ) (promote : Bool)
+    → AreGuaranteed p escapes (origins.Board from promote) set
 
 -- the squares have all around a king of the side among them
 abbrev pub HasAroundKings : Cells → Color → ℕ → Type 0
@@ -236,19 +235,18 @@ abbrev pub LetPromote : Bool → ℕ → Type 0
 LetPromote promotes set = (n : ℕ) → has_bit set n ≡ true → promotes ≡ true
 
 -- the filter has each move of the kind of what stands on the square, and each guarantees a reply
-pub record GuaranteesReplies (p : Shogi) (capture : Bool) (move_filter : MoveFilter) (from : ℕ) : Type 0 where
+pub record GuaranteesReplies (p : Shogi) (capture : Bool) (move_filter : MoveFilter) (escapes from : ℕ) : Type 0 where
   pub piece : has_bit move_filter.pieces.bits from ≡ true
   pub non_promoting : (n : ℕ) → n < 81 → is_reached p capture from n ≡ true
-      → (has_bit move_filter.squares.bits n ≡ true) × GuaranteesReply p move_filter.escapes.bits (Board from n false)
+      → (has_bit move_filter.squares.bits n ≡ true) × GuaranteesReply p escapes (Board from n false)
   pub promoting : (n : ℕ) → n < 81 → is_reached p capture from n ≡ true
       → may_promote (piece_at p.cells from) from n ≡ true
-      → (move_filter.promotes ≡ true)
-      × GuaranteesReply p move_filter.escapes.bits (Board from n true)
+      → (move_filter.promotes ≡ true) × GuaranteesReply p escapes (Board from n true)
 
 -- the same of what stands on each of the squares
-abbrev pub GuaranteeReplies : Shogi → Bool → MoveFilter → ℕ → Type 0
-GuaranteeReplies p capture move_filter squares =
-    (n : ℕ) → n < 81 → has_bit squares n ≡ true → GuaranteesReplies p capture move_filter n
+abbrev pub GuaranteeReplies : Shogi → Bool → MoveFilter → ℕ → ℕ → Type 0
+GuaranteeReplies p capture move_filter escapes squares =
+    (n : ℕ) → n < 81 → has_bit squares n ≡ true → GuaranteesReplies p capture move_filter escapes n
 
 -- what stands on the squares makes such moves alone
 abbrev pub AreNonChecking : Shogi → ℕ → Bool → ℕ → Type 0

@@ -8,12 +8,14 @@ use Rattle.shogi_core.specs.Attack.{is_sniper, is_sniper_of_king}
 use Rattle.shogi_core.specs.Bits.{has_bit}
 use Rattle.shogi_core.specs.Cell.{is_piece_of, is_king, is_immobile, is_slider}
 use Rattle.shogi_core.specs.Lines.{are_aligned}
+use Rattle.shogi_core.specs.Moves.{end_of}
 use Rattle.shogi_core.specs.Movement.{Cells, piece_at, reaches}
 use Rattle.shogi_core.specs.Pieces.{opponent_of}
 use Rattle.shogi_core.specs.Position.{Shogi}
 use Rattle.shogi_core.specs.Rays.{direction_at, is_on_ray}
-use Rattle.shogi_moves.specs.After.{after, piece_moved, dropped}
+use Rattle.shogi_moves.specs.After.{after, piece_moved}
 use Rattle.shogi_moves.specs.Legal.{is_legal}
+use Rattle.shogi_moves.specs.Origins.{origin_of, put_from}
 use Rattle.shogi_core.specs.Zones.{may_promote}
 use Rattle.shogi_replies.specs.ReplyInfo.{is_aligned_with_king}
 
@@ -59,15 +61,9 @@ pub record IsThreat (p : Shogi) (a t : ℕ) (promote : Bool) : Type 0 where
   pub attack : IsAttack p a t promote
   pub target : is_piece_of (opponent_of p.side) (piece_at p.cells t) ≡ false
 
--- where a move ends
-abbrev pub end_of : Move → ℕ
-end_of (Board from to promote) = to
-end_of (Drop kind to) = to
-
 -- what it puts there
 abbrev pub put_by : Shogi → Move → Option Piece
-put_by p (Board from to promote) = piece_moved promote (piece_at p.cells from)
-put_by p (Drop kind to) = dropped p.side kind
+put_by p m = put_from p (origin_of m)
 
 -- a move that ends neither on the attacker nor on the target nor between them, and puts nothing there that slides and is on lines with the attacker and with a king of the other side, as the attacker is
 pub record EndsNonInterfering (p : Shogi) (a t : ℕ) (m : Move) : Type 0 where

@@ -5,16 +5,16 @@ ghost use Rattle.shogi_core.specs.Movement.{reaches};
 ghost use Rattle.shogi_moves.specs.Destinations.{IsWithin};
 ghost use Rattle.shogi_moves.specs.Escapes.{AreEscapes};
 ghost use Rattle.shogi_moves.specs.Legal.{is_legal};
-ghost use Rattle.shogi_replies.specs.Escapes.{AreAllUnattacked, AreUnattacked, IsSafeWithoutBoth, HasRaysBehind, HasKingsRays, ReachesWithin, HasNoSniper};
-ghost use Rattle.shogi_replies.specs.ReplyInfo.{IsAnswered, IsQuietlyAnswered, AreAnswered, AreDropsAnswered};
+ghost use Rattle.shogi_replies.specs.Escapes.{AreAllUnattacked, AreUnattacked, IsSafeWithoutBoth, HasRaysBehind, HasKingsRays, ReachesWithin, HasNoSniper, OpensWithin};
+ghost use Rattle.shogi_replies.specs.ReplyInfo.{IsAnswered, IsQuietlyAnswered, AreAnswered};
 ghost use Rattle.shogi_replies.specs.Threats.{IsTaken};
 
+use crate::replies::KnownReplies;
 use shogi_core::bits::lowest;
 use shogi_core::{
-    Board, Color, Direction, Kind, Move, Piece, Position, Square, Squares, line_mask, ray,
-    step_squares,
+    Board, Color, Direction, Move, Piece, Position, Square, Squares, line_mask, ray, step_squares,
 };
-use shogi_moves::{dropped, has_open, king_steps, piece_moved};
+use shogi_moves::{Origin, has_open, king_steps, piece_moved};
 
 /// Those of the squares that the side does not attack.
 fn unattacked(board: &Board, by: Color, squares: Squares) -> Squares
@@ -122,35 +122,6 @@ fn within_reach(p: &Position, cell: Option<Piece>, to: Square, among: Squares) -
     }
 }
 
-/// Whether one of the squares on which nothing stands is surely left to the king after the legal
-/// move, should that give it check: the move does not end there, what moves does not reach it, and it
-/// is on no line with the square that it leaves.
-pub fn leaves_escape(p: &Position, escapes: Squares, m: &Move) -> bool
-    requires { AreEscapes p.now escapes.bits }
-    ensures { result ≡ true → IsQuietlyAnswered p.now m.now }
-{
-    p.reveal_invariant();
-    let occupied = p.as_board().occupied();
-    match m {
-        Move::Board { from, to, promote } => {
-            from.reveal_invariant();
-            to.reveal_invariant();
-            let lines = line_mask(from.index());
-            let left = escapes.without(lines);
-            if left.is_empty() {
-                return false;
-            }
-            let reach = within_reach(p, piece_moved(p.at(*from), *promote), *to, left);
-            has_open(p, escapes, reach | lines | occupied, *to)
-        }
-        Move::Drop { kind, to } => {
-            to.reveal_invariant();
-            let reach = within_reach(p, dropped(p.side(), *kind), *to, escapes);
-            has_open(p, escapes, reach | occupied, *to)
-        }
-    }
-}
-
 /// Whether no piece of the side to move that slides is on a line with the square, whatever stands
 /// between.
 fn has_no_sniper(p: &Position, square: Square) -> bool
@@ -160,37 +131,6 @@ fn has_no_sniper(p: &Position, square: Square) -> bool
     let board = p.as_board();
     let snipers = board.own(p.side()) & board.sliders() & line_mask(square.index());
     snipers.is_empty()
-}
-
-/// Whether one of the squares is surely left to the king after the legal move, should that give it
-/// check, as `leaves_escape` does not see it: on the board what moves does not slide on, and leaves
-/// a square on no line with a piece of its side that slides, so that it discovers nothing; what is
-/// dropped on such a square, the king takes.
-pub fn leaves_king_move(p: &Position, escapes: Squares, m: &Move) -> bool
-    requires { AreEscapes p.now escapes.bits }
-    ensures { result ≡ true → IsAnswered p.now m.now }
-{
-    if escapes.is_empty() {
-        return false;
-    }
-    p.reveal_invariant();
-    match m {
-        Move::Board { from, to, promote } => {
-            let Some(piece) = piece_moved(p.at(*from), *promote) else {
-                return false
-            };
-            from.reveal_invariant();
-            to.reveal_invariant();
-            if piece.role.is_sliding() || !has_no_sniper(p, *from) {
-                return false;
-            }
-            has_open(p, escapes, step_squares(piece, to.index()), *to)
-        }
-        Move::Drop { to, .. } => {
-            to.reveal_invariant();
-            escapes.has(*to) && !p.as_board().kings(p.side().opponent()).is_empty()
-        }
-    }
 }
 
 /// Whether the king on the square steps to another one, `to`, which no piece of the side to move
@@ -234,47 +174,86 @@ pub fn king_takes(p: &Position, m: &Move) -> bool
     }
 }
 
-/// Those of the squares to which what stands on a square may move, promoting or not, so that one of
-/// the escapes is surely left to the king: up to the first after which none is.
-#[tactic(auto, using(crate::proofs::EscapeLaws::gathering))]
-pub fn escaped_destinations(
-    p: &Position,
-    escapes: Squares,
-    from: Square,
-    promote: bool,
-    destinations: Squares,
-) -> Squares
-    requires { AreEscapes p.now escapes.bits }
-    ensures among { IsWithin result.bits destinations.bits }
-    ensures answered { AreAnswered p.now from promote result.bits }
+/// The lines that a move opens: those of the square that it leaves.
+fn opened_lines(origin: &Origin) -> Squares
+    ensures { OpensWithin origin.now result.bits }
 {
-    let mut left = destinations.iter();
-    let mut answered = Squares::none();
-    'squares: while let Some(to) = left.next() {
-        let m = Move::Board { from, to, promote };
-        if !leaves_escape(p, escapes, &m) {
-            return answered;
+    match origin {
+        Origin::Board { from, .. } => {
+            from.reveal_invariant();
+            line_mask(from.index())
         }
-        answered = answered.with(to);
+        Origin::Drop { .. } => Squares::none(),
     }
-    answered
 }
 
-/// Those of the squares on which a piece of the kind may be dropped so that one of the escapes is
-/// surely left to the king: up to the first after which none is.
-#[tactic(auto, using(crate::proofs::EscapeLaws::gathering))]
-pub fn escaped_drops(p: &Position, escapes: Squares, kind: Kind, destinations: Squares) -> Squares
-    requires { AreEscapes p.now escapes.bits }
-    ensures among { IsWithin result.bits destinations.bits }
-    ensures answered { AreDropsAnswered p.now kind result.bits }
-{
-    let mut left = destinations.iter();
-    let mut answered = Squares::none();
-    'squares: while let Some(to) = left.next() {
-        if !leaves_escape(p, escapes, &Move::Drop { kind, to }) {
-            return answered;
+impl KnownReplies<'_> {
+    /// Whether one of the escapes on which nothing stands is surely left to the king after the legal
+    /// move, should that give it check: the move does not end there, what moves does not reach it, and
+    /// it is on no line with the square that it leaves.
+    pub fn leaves_escape(&self, m: &Move) -> bool
+        ensures { result ≡ true → IsQuietlyAnswered self.now.position.now m.now }
+    {
+        let (p, to) = (self.position, m.to());
+        let origin = Origin::of(m);
+        p.reveal_invariant();
+        to.reveal_invariant();
+        let lines = opened_lines(&origin);
+        let left = self.escapes.without(lines);
+        if left.is_empty() {
+            return false;
         }
-        answered = answered.with(to);
+        let reach = within_reach(p, origin.put(p), to, left);
+        has_open(p, self.escapes, reach | lines | p.as_board().occupied(), to)
     }
-    answered
+
+    /// Whether one of the escapes is surely left to the king after the legal move, should that give it
+    /// check, as `leaves_escape` does not see it: on the board what moves does not slide on, and leaves
+    /// a square on no line with a piece of its side that slides, so that it discovers nothing; what is
+    /// dropped on such a square, the king takes.
+    pub fn leaves_king_move(&self, m: &Move) -> bool
+        ensures { result ≡ true → IsAnswered self.now.position.now m.now }
+    {
+        let (p, escapes) = (self.position, self.escapes);
+        if escapes.is_empty() {
+            return false;
+        }
+        p.reveal_invariant();
+        match m {
+            Move::Board { from, to, promote } => {
+                let Some(piece) = piece_moved(p.at(*from), *promote) else {
+                    return false
+                };
+                from.reveal_invariant();
+                to.reveal_invariant();
+                if piece.role.is_sliding() || !has_no_sniper(p, *from) {
+                    return false;
+                }
+                has_open(p, escapes, step_squares(piece, to.index()), *to)
+            }
+            Move::Drop { to, .. } => {
+                to.reveal_invariant();
+                escapes.has(*to) && !p.as_board().kings(p.side().opponent()).is_empty()
+            }
+        }
+    }
+
+    /// Those of the squares at which a move ends so that one of the escapes is surely left to the king:
+    /// up to the first after which none is.
+    #[tactic(auto, using(crate::proofs::EscapeLaws::gathering))]
+    pub(crate) fn escaped_destinations(&self, origin: &Origin, destinations: Squares) -> Squares
+        ensures among { IsWithin result.bits destinations.bits }
+        ensures answered { AreAnswered self.now.position.now origin.now result.bits }
+    {
+        let mut left = destinations.iter();
+        let mut answered = Squares::none();
+        'squares: while let Some(to) = left.next() {
+            let m = origin.to(to);
+            if !self.leaves_escape(&m) {
+                return answered;
+            }
+            answered = answered.with(to);
+        }
+        answered
+    }
 }

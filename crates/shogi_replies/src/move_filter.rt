@@ -5,15 +5,12 @@ ghost use Rattle.shogi_replies.specs.ReplyInfo.{LetPromote};
 
 use shogi_core::Squares;
 
-/// Moves of the pieces on some squares to some squares, with promotion or without it alone; and squares
-/// to which the other side's king may go, should a move give it check. Where there are none of these, a
-/// move that gives check is not skipped.
+/// Moves of the pieces on some squares to some squares, with promotion or without it alone.
 #[derive(Clone, Copy, Debug)]
 pub struct MoveFilter {
     pub pieces: Squares,
     pub squares: Squares,
     pub promotes: bool,
-    pub escapes: Squares,
 }
 
 impl MoveFilter {

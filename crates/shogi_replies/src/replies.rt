@@ -1,22 +1,23 @@
 //! Whether the other side surely has a legal move after a move, without making it.
 
 ghost use Rattle.std.specs.Prelude.{◌≡◌, ◌≢◌, [], true, false, bit_and};
+ghost use Rattle.std.proofs.Props.{props};
 ghost use Rattle.shogi_core.specs.Bits.{has_bit};
 ghost use Rattle.shogi_core.specs.Pieces.{opponent_of};
 ghost use Rattle.shogi_moves.specs.After.{after};
 ghost use Rattle.shogi_moves.specs.Destinations.{IsWithin};
 ghost use Rattle.shogi_moves.specs.Escapes.{AreEscapes};
 ghost use Rattle.shogi_moves.specs.Legal.{is_legal};
-ghost use Rattle.shogi_replies.specs.ReplyInfo.{AreQuietSteps, ChecksAmong, HasOthers, LeaveFreeMovers, holds_free, quiet_codes, Sees, Aligns, IsReplyInfo, IsHarmless, StaysCovered, DiscoversNoCheck, AreGuaranteed, AreDropsGuaranteed, AreDistant, GuaranteesReplies, PromotesWithin, DiscoversChecksWithin, AreOpen, AreAmong, ChecksWithin, GuaranteeReplies, AreAlwaysGuaranteed};
+ghost use Rattle.shogi_moves.specs.Origins.{put_from};
+ghost use Rattle.shogi_replies.specs.ReplyInfo.{AreQuietSteps, ChecksAmong, HasOthers, LeaveFreeMovers, holds_free, quiet_codes, Sees, Aligns, IsReplyInfo, IsHarmless, StaysCovered, DiscoversNoCheck, AreGuaranteed, AreDistant, GuaranteesReplies, PromotesWithin, DiscoversChecksWithin, OpensChecksWithin, AreOpen, AreAmong, ChecksWithin, GuaranteeReplies, AreAlwaysGuaranteed};
 ghost use Rattle.shogi_replies.specs.Threats.{KeepsThreats, MayRetake};
 
-use crate::escapes::{escaped_destinations, escaped_drops};
 use crate::far::non_checking_pieces;
 use crate::move_filter::MoveFilter;
 use shogi_core::bits::{lowest, without_lowest};
 use shogi_core::zones::{dead_squares, promoting_squares};
 use shogi_core::{Color, Kind, Move, Piece, Position, Square, Squares, line_mask, step_squares};
-use shogi_moves::{dropped, matching_destinations, piece_moved};
+use shogi_moves::{Origin, dropped, matching_destinations, piece_moved};
 
 /// What is kept of a position to decide that after most of its moves the other side is in no check
 /// and has a legal move that takes nothing and does not promote: what its king sees, and pieces of it
@@ -27,6 +28,17 @@ use shogi_moves::{dropped, matching_destinations, piece_moved};
 pub struct ReplyInfo {
     pub king_view: Squares,
     pub free_movers: Squares,
+}
+
+/// A position with what is kept of it, and squares to which the king of the side that is not to move may
+/// go, should a move give it check; there may be more.
+#[derive(Clone, Copy)]
+pub struct KnownReplies<'a> {
+    pub position: &'a Position,
+    pub info: ReplyInfo,
+    pub escapes: Squares,
+    ghost right: { IsReplyInfo position.now info.king_view.bits info.free_movers.bits } by { Prim.hlevel props },
+    ghost escaping: { AreEscapes position.now escapes.bits } by { Prim.hlevel props },
 }
 
 /// The squares of kings of the side, of open lines with them, and a knight's jump away.
@@ -209,56 +221,6 @@ fn are_among(
 }
 
 impl ReplyInfo {
-    /// Whether what comes to stand on the square surely gives no check to the other side.
-    #[inline(always)]
-    fn is_harmless(&self, p: &Position, cell: Option<Piece>, to: Square) -> bool
-        requires consistent { IsReplyInfo p.now self.now.king_view.bits self.now.free_movers.bits }
-        ensures { result ≡ true → IsHarmless p.now.cells (opponent_of p.now.side) cell to }
-    {
-        to.reveal_invariant();
-        if self.king_view.has(to) {
-            return !attacks_king(p, p.side().opponent(), cell, to);
-        }
-        true
-    }
-
-    /// The squares to which a move of what stands on the square may discover a check: none where no
-    /// king sees it, all where it may cover one, and else the lines of the king for a piece that
-    /// slides.
-    #[inline(always)]
-    fn discovering_squares(&self, p: &Position, from: Square) -> Squares
-        ensures { DiscoversChecksWithin p.now self.now.king_view.bits from result.bits }
-    {
-        from.reveal_invariant();
-        if !self.king_view.has(from) {
-            return Squares::none();
-        }
-        let side = p.side().opponent();
-        if may_discover_check(p, side, from) {
-            return Squares::all();
-        }
-        if p.as_board().sliders().has(from) {
-            king_line_mask(p, side)
-        } else {
-            Squares::none()
-        }
-    }
-
-    /// Whether what stands on the one square may discover a check on its way to the other.
-    #[inline(always)]
-    fn discovers(&self, p: &Position, from: Square, to: Square) -> bool
-        requires consistent { IsReplyInfo p.now self.now.king_view.bits self.now.free_movers.bits }
-        ensures { result ≡ false → DiscoversNoCheck p.now from to }
-    {
-        p.reveal_invariant();
-        from.reveal_invariant();
-        to.reveal_invariant();
-        if self.discovering_squares(p, from).has(to) {
-            return discovers_check(p, from, to);
-        }
-        false
-    }
-
     /// What is kept of the position.
     pub fn of(p: &Position) -> ReplyInfo
         ensures { IsReplyInfo p.now result.king_view.bits result.free_movers.bits }
@@ -287,71 +249,21 @@ impl ReplyInfo {
         }
     }
 
-    /// Whether it is certain that after the legal move the other side is in no check and has a
-    /// legal move that takes nothing and does not promote. Then it may carry out each of its threats that the move leaves, and take what the
-    /// move puts on its square.
+    /// The position that this is kept of, with it and with squares to which the king of the side that
+    /// is not to move may go.
     #[inline(always)]
-    pub fn guarantees_reply(&self, p: &Position, m: &Move) -> bool
-        requires consistent { IsReplyInfo p.now self.now.king_view.bits self.now.free_movers.bits }
-        requires legal { is_legal p.now m.now ≡ true }
-        ensures replied { result ≡ true → quiet_codes (after p.now m.now) ≢ [] }
-        ensures threats { result ≡ true → KeepsThreats p.now m.now }
-        ensures retakes { result ≡ true → MayRetake p.now m.now }
+    pub fn at(self, position: &Position, escapes: Squares) -> KnownReplies<'_>
+        requires replies { IsReplyInfo position.now self.king_view.bits self.free_movers.bits }
+        requires escapes { AreEscapes position.now escapes.bits }
+        ensures position { result.position.now ≡ position.now }
+        ensures info { result.info ≡ self }
+        ensures escapes { result.escapes ≡ escapes }
     {
-        p.reveal_invariant();
-        match m {
-            Move::Board { from, to, promote } => {
-                from.reveal_invariant();
-                to.reveal_invariant();
-                if !self.is_harmless(p, piece_moved(p.at(*from), *promote), *to) {
-                    return false;
-                }
-                if self.discovers(p, *from, *to) {
-                    return false;
-                }
-                !self.free_movers.except(*to).is_empty()
-            }
-            Move::Drop { kind, to } => {
-                to.reveal_invariant();
-                if !self.is_harmless(p, dropped(p.side(), *kind), *to) {
-                    return false;
-                }
-                !self.free_movers.except(*to).is_empty()
-            }
+        KnownReplies {
+            position,
+            info: self,
+            escapes,
         }
-    }
-
-    /// Whether the legal move surely discovers no check: what it puts on its square may then be taken
-    /// by each such attack, also where that gives check.
-    pub fn discovers_no_check(&self, p: &Position, m: &Move) -> bool
-        requires consistent { IsReplyInfo p.now self.now.king_view.bits self.now.free_movers.bits }
-        requires legal { is_legal p.now m.now ≡ true }
-        ensures { result ≡ true → MayRetake p.now m.now }
-    {
-        p.reveal_invariant();
-        match m {
-            Move::Board { from, to, .. } => {
-                from.reveal_invariant();
-                to.reveal_invariant();
-                !self.king_view.has(*from) || !may_discover_check(p, p.side().opponent(), *from)
-            }
-            Move::Drop { to, .. } => {
-                to.reveal_invariant();
-                true
-            }
-        }
-    }
-
-    /// Those of the squares on which what comes to stand may give check.
-    fn checking_squares(&self, p: &Position, cell: Option<Piece>, destinations: Squares) -> Squares
-        requires consistent { IsReplyInfo p.now self.now.king_view.bits self.now.free_movers.bits }
-        ensures { ChecksAmong p.now cell destinations.bits result.bits }
-    {
-        let seen = destinations & self.king_view;
-        if seen.is_empty() {
-            return Squares::none();
-        }
-        seen & check_squares(p, p.side().opponent(), cell)
     }
 
     /// The squares that are not closed and leave the other side one that gives it a move.
@@ -368,21 +280,141 @@ impl ReplyInfo {
         }
         open.except(Square::of_index(one))
     }
+}
+
+impl KnownReplies<'_> {
+    /// Whether what comes to stand on the square surely gives no check to the other side.
+    #[inline(always)]
+    fn is_harmless(&self, cell: Option<Piece>, to: Square) -> bool
+        ensures { result ≡ true → IsHarmless self.now.position.now.cells
+            (opponent_of self.now.position.now.side) cell to }
+    {
+        to.reveal_invariant();
+        if self.info.king_view.has(to) {
+            let p = self.position;
+            return !attacks_king(p, p.side().opponent(), cell, to);
+        }
+        true
+    }
+
+    /// The squares to which a move of what stands on the square may discover a check: none where no
+    /// king sees it, all where it may cover one, and else the lines of the king for a piece that
+    /// slides.
+    #[inline(always)]
+    fn discovering_squares(&self, from: Square) -> Squares
+        ensures { DiscoversChecksWithin self.now.position.now
+            self.now.info.king_view.bits from result.bits }
+    {
+        from.reveal_invariant();
+        if !self.info.king_view.has(from) {
+            return Squares::none();
+        }
+        let p = self.position;
+        let side = p.side().opponent();
+        if may_discover_check(p, side, from) {
+            return Squares::all();
+        }
+        if p.as_board().sliders().has(from) {
+            king_line_mask(p, side)
+        } else {
+            Squares::none()
+        }
+    }
+
+    /// Whether what stands on the one square may discover a check on its way to the other.
+    #[inline(always)]
+    fn discovers(&self, from: Square, to: Square) -> bool
+        ensures { result ≡ false → DiscoversNoCheck self.now.position.now from to }
+    {
+        self.position.reveal_invariant();
+        from.reveal_invariant();
+        to.reveal_invariant();
+        if self.discovering_squares(from).has(to) {
+            return discovers_check(self.position, from, to);
+        }
+        false
+    }
+
+    /// Whether it is certain that after the legal move the other side is in no check and has a
+    /// legal move that takes nothing and does not promote. Then it may carry out each of its threats
+    /// that the move leaves, and take what the move puts on its square.
+    #[inline(always)]
+    pub fn guarantees_reply(&self, m: &Move) -> bool
+        requires legal { is_legal self.now.position.now m.now ≡ true }
+        ensures replied { result ≡ true → quiet_codes (after self.now.position.now m.now) ≢ [] }
+        ensures threats { result ≡ true → KeepsThreats self.now.position.now m.now }
+        ensures retakes { result ≡ true → MayRetake self.now.position.now m.now }
+    {
+        let p = self.position;
+        p.reveal_invariant();
+        match m {
+            Move::Board { from, to, promote } => {
+                from.reveal_invariant();
+                to.reveal_invariant();
+                if !self.is_harmless(piece_moved(p.at(*from), *promote), *to) {
+                    return false;
+                }
+                if self.discovers(*from, *to) {
+                    return false;
+                }
+                !self.info.free_movers.except(*to).is_empty()
+            }
+            Move::Drop { kind, to } => {
+                to.reveal_invariant();
+                if !self.is_harmless(dropped(p.side(), *kind), *to) {
+                    return false;
+                }
+                !self.info.free_movers.except(*to).is_empty()
+            }
+        }
+    }
+
+    /// Whether the legal move surely discovers no check: what it puts on its square may then be taken
+    /// by each such attack, also where that gives check.
+    pub fn discovers_no_check(&self, m: &Move) -> bool
+        requires legal { is_legal self.now.position.now m.now ≡ true }
+        ensures { result ≡ true → MayRetake self.now.position.now m.now }
+    {
+        let p = self.position;
+        p.reveal_invariant();
+        match m {
+            Move::Board { from, to, .. } => {
+                from.reveal_invariant();
+                to.reveal_invariant();
+                !self.info.king_view.has(*from)
+                    || !may_discover_check(p, p.side().opponent(), *from)
+            }
+            Move::Drop { to, .. } => {
+                to.reveal_invariant();
+                true
+            }
+        }
+    }
+
+    /// Those of the squares on which what comes to stand there may give check.
+    #[inline(always)]
+    fn checking_squares(&self, origin: &Origin, destinations: Squares) -> Squares
+        ensures { ChecksAmong self.now.position.now
+            (put_from self.now.position.now origin.now) destinations.bits result.bits }
+    {
+        let seen = destinations & self.info.king_view;
+        if seen.is_empty() {
+            return Squares::none();
+        }
+        let p = self.position;
+        seen & check_squares(p, p.side().opponent(), origin.put(p))
+    }
 
     /// Pieces of the side to move of which the filter has each move of the kind, and each leaves the
     /// other side a legal move and gives no check, since they are far from its kings; none where the
     /// filter has not all squares for moves without promotion.
-    pub fn non_checking_pieces(
-        &self,
-        p: &Position,
-        capture: bool,
-        move_filter: &MoveFilter,
-    ) -> Squares
-        requires consistent { IsReplyInfo p.now self.now.king_view.bits self.now.free_movers.bits }
-        ensures { GuaranteeReplies p.now capture move_filter.now result.bits }
+    pub fn non_checking_pieces(&self, capture: bool, move_filter: &MoveFilter) -> Squares
+        ensures { GuaranteeReplies self.now.position.now capture
+            move_filter.now self.now.escapes.bits result.bits }
     {
+        let p = self.position;
         p.reveal_invariant();
-        let open = self.open_squares(Squares::none());
+        let open = self.info.open_squares(Squares::none());
         if !Squares::all().without(open).is_empty() {
             return Squares::none();
         }
@@ -390,38 +422,31 @@ impl ReplyInfo {
         if !ends.without(move_filter.squares).is_empty() {
             return Squares::none();
         }
-        non_checking_pieces(p, self.king_view, move_filter.promotes) & move_filter.pieces
+        non_checking_pieces(p, self.info.king_view, move_filter.promotes) & move_filter.pieces
     }
 
     /// Pieces of the side to move of which each move, promoting or not, leaves the other side a legal
     /// move, since they are far from its kings.
-    pub fn distant_pieces(&self, p: &Position) -> Squares
-        requires consistent { IsReplyInfo p.now self.now.king_view.bits self.now.free_movers.bits }
-        ensures { AreDistant p.now result.bits }
+    pub fn distant_pieces(&self) -> Squares
+        ensures { AreDistant self.now.position.now result.bits }
     {
-        p.reveal_invariant();
-        let open = self.open_squares(Squares::none());
+        self.position.reveal_invariant();
+        let open = self.info.open_squares(Squares::none());
         if !Squares::all().without(open).is_empty() {
             return Squares::none();
         }
-        non_checking_pieces(p, self.king_view, true)
+        non_checking_pieces(self.position, self.info.king_view, true)
     }
 
     /// Whether the filter has each move of the kind of what stands on the square, and each surely leaves
-    /// the other side a legal move and, where the filter has no escapes, gives no check. Which of the
-    /// moves are legal need not be known.
+    /// the other side a legal move and, where there are no escapes, gives no check. Which of the moves
+    /// are legal need not be known.
     #[inline(always)]
-    pub fn guarantees_replies(
-        &self,
-        p: &Position,
-        capture: bool,
-        move_filter: &MoveFilter,
-        from: Square,
-    ) -> bool
-        requires consistent { IsReplyInfo p.now self.now.king_view.bits self.now.free_movers.bits }
-        requires escapes { AreEscapes p.now move_filter.now.escapes.bits }
-        ensures { result ≡ true → GuaranteesReplies p.now capture move_filter.now from }
+    pub fn guarantees_replies(&self, capture: bool, move_filter: &MoveFilter, from: Square) -> bool
+        ensures { result ≡ true → GuaranteesReplies self.now.position.now capture
+            move_filter.now self.now.escapes.bits from }
     {
+        let p = self.position;
         p.reveal_invariant();
         from.reveal_invariant();
         if !move_filter.pieces.has(from) {
@@ -429,8 +454,8 @@ impl ReplyInfo {
         }
         let promotions = move_filter.promotions();
         let ends = p.as_board().targets(from) & matching_destinations(p, capture);
-        if (ends & self.king_view).is_empty() && !self.king_view.has(from) {
-            let guaranteed = self.unseen_destinations(p, from, ends);
+        if (ends & self.info.king_view).is_empty() && !self.info.king_view.has(from) {
+            let guaranteed = self.unseen_destinations(from, ends);
             return are_among(
                 p,
                 from,
@@ -443,11 +468,13 @@ impl ReplyInfo {
         if !(ends.without(move_filter.squares) | promoting.without(promotions)).is_empty() {
             return false;
         }
-        let guaranteed = self.guaranteed_destinations(p, move_filter.escapes, from, false, ends);
+        let promote = false;
+        let guaranteed = self.guaranteed_destinations(&Origin::Board { from, promote }, ends);
         if !ends.without(guaranteed).is_empty() {
             return false;
         }
-        let promoted = self.guaranteed_destinations(p, move_filter.escapes, from, true, promoting);
+        let promote = true;
+        let promoted = self.guaranteed_destinations(&Origin::Board { from, promote }, promoting);
         let uncertain = ends.without(move_filter.squares & guaranteed)
             | promoting.without(promotions & promoted);
         uncertain.is_empty()
@@ -456,93 +483,59 @@ impl ReplyInfo {
     /// Those of the squares to which what stands on a square may move so that the other side surely
     /// has a legal move after it and is in no check, where no king sees that square or one of these.
     #[inline(always)]
-    fn unseen_destinations(&self, p: &Position, from: Square, destinations: Squares) -> Squares
-        requires consistent { IsReplyInfo p.now self.now.king_view.bits self.now.free_movers.bits }
-        requires unseen { has_bit self.now.king_view.bits from ≡ false }
-        requires off { bit_and destinations.bits self.now.king_view.bits ≡ 0 }
+    fn unseen_destinations(&self, from: Square, destinations: Squares) -> Squares
+        requires unseen { has_bit self.now.info.king_view.bits from ≡ false }
+        requires off { bit_and destinations.bits self.now.info.king_view.bits ≡ 0 }
         ensures among { IsWithin result.bits destinations.bits }
-        ensures guaranteed { AreAlwaysGuaranteed p.now from result.bits }
+        ensures guaranteed { AreAlwaysGuaranteed self.now.position.now from result.bits }
     {
-        p.reveal_invariant();
+        self.position.reveal_invariant();
         from.reveal_invariant();
-        destinations & self.open_squares(Squares::none())
+        destinations & self.info.open_squares(Squares::none())
     }
 
-    /// Those of the squares to which what stands on a square may move, promoting or not, so that
-    /// the other side surely has a legal move after it: it is in no check, or its king has one of
-    /// the escapes left, where there are some.
+    /// The squares to which a move may discover a check; a drop discovers none.
     #[inline(always)]
-    pub fn guaranteed_destinations(
-        &self,
-        p: &Position,
-        escapes: Squares,
-        from: Square,
-        promote: bool,
-        destinations: Squares,
-    ) -> Squares
-        requires escapes { AreEscapes p.now escapes.bits }
-        requires consistent { IsReplyInfo p.now self.now.king_view.bits self.now.free_movers.bits }
-        ensures among { IsWithin result.bits destinations.bits }
-        ensures guaranteed { AreGuaranteed p.now escapes.bits from promote result.bits }
+    fn discovering_from(&self, origin: &Origin) -> Squares
+        ensures { OpensChecksWithin self.now.position.now
+            self.now.info.king_view.bits origin.now result.bits }
     {
-        p.reveal_invariant();
-        from.reveal_invariant();
+        match origin {
+            Origin::Board { from, .. } => {
+                from.reveal_invariant();
+                self.discovering_squares(*from)
+            }
+            Origin::Drop { .. } => Squares::none(),
+        }
+    }
+
+    /// Those of the squares at which a move ends so that the other side surely has a legal move after
+    /// it and is in no check.
+    #[inline(always)]
+    pub fn non_checking_destinations(&self, origin: &Origin, destinations: Squares) -> Squares
+        ensures among { IsWithin result.bits destinations.bits }
+        ensures guaranteed { AreGuaranteed self.now.position.now 0 origin.now result.bits }
+    {
+        self.position.reveal_invariant();
         if destinations.is_empty() {
             return Squares::none();
         }
-        if (destinations & self.king_view).is_empty() && !self.king_view.has(from) {
-            return self.unseen_destinations(p, from, destinations);
-        }
-        self.guaranteed_among(p, escapes, from, promote, destinations)
+        let closed = self.checking_squares(origin, destinations) | self.discovering_from(origin);
+        destinations & self.info.open_squares(closed)
     }
 
-    /// The same, where a king sees some of the squares.
-    #[inline(never)]
-    fn guaranteed_among(
-        &self,
-        p: &Position,
-        escapes: Squares,
-        from: Square,
-        promote: bool,
-        destinations: Squares,
-    ) -> Squares
-        requires escapes { AreEscapes p.now escapes.bits }
-        requires consistent { IsReplyInfo p.now self.now.king_view.bits self.now.free_movers.bits }
+    /// Those of the squares at which a move ends so that the other side surely has a legal move after
+    /// it: it is in no check, or its king has one of the escapes left, where there are some.
+    #[inline(always)]
+    pub fn guaranteed_destinations(&self, origin: &Origin, destinations: Squares) -> Squares
         ensures among { IsWithin result.bits destinations.bits }
-        ensures guaranteed { AreGuaranteed p.now escapes.bits from promote result.bits }
+        ensures guaranteed { AreGuaranteed self.now.position.now
+            self.now.escapes.bits origin.now result.bits }
     {
-        p.reveal_invariant();
-        from.reveal_invariant();
-        let closed = self.checking_squares(p, piece_moved(p.at(from), promote), destinations)
-            | self.discovering_squares(p, from);
-        let open = destinations & self.open_squares(closed);
-        if open.bits == destinations.bits || escapes.is_empty() {
+        let open = self.non_checking_destinations(origin, destinations);
+        if open.bits == destinations.bits || self.escapes.is_empty() {
             return open;
         }
-        open | escaped_destinations(p, escapes, from, promote, destinations.without(open))
-    }
-
-    /// Those of the squares on which a piece of the kind may be dropped so that the other side
-    /// surely has a legal move after it: it is in no check, or its king has one of the escapes
-    /// left, where there are some.
-    pub fn guaranteed_drops(
-        &self,
-        p: &Position,
-        escapes: Squares,
-        kind: Kind,
-        destinations: Squares,
-    ) -> Squares
-        requires escapes { AreEscapes p.now escapes.bits }
-        requires consistent { IsReplyInfo p.now self.now.king_view.bits self.now.free_movers.bits }
-        ensures among { IsWithin result.bits destinations.bits }
-        ensures guaranteed { AreDropsGuaranteed p.now escapes.bits kind result.bits }
-    {
-        p.reveal_invariant();
-        let checking = self.checking_squares(p, dropped(p.side(), kind), destinations);
-        let open = destinations & self.open_squares(checking);
-        if open.bits == destinations.bits || escapes.is_empty() {
-            return open;
-        }
-        open | escaped_drops(p, escapes, kind, destinations.without(open))
+        open | self.escaped_destinations(origin, destinations.without(open))
     }
 }

@@ -1,49 +1,39 @@
 //! Moves that are skipped together.
 
-ghost use Rattle.shogi_moves.specs.Escapes.{AreEscapes};
 ghost use Rattle.shogi_moves.specs.Sweeps.{IsBoardSweep, IsDropSweep};
 ghost use Rattle.shogi_replies.specs.Passes.{HasNoEnds, IsPassedTo, SkipsBoard, SkipsDrops};
-ghost use Rattle.shogi_replies.specs.ReplyInfo.{IsReplyInfo};
 
 use crate::move_filter::MoveFilter;
-use crate::replies::ReplyInfo;
+use crate::replies::KnownReplies;
 use shogi_core::bits::{bits_above, lowest};
-use shogi_core::{Position, SQUARE_CODES, Squares};
-use shogi_moves::{BoardSweep, DropSweep, matching_movers};
+use shogi_core::{SQUARE_CODES, Squares};
+use shogi_moves::{BoardSweep, Destinations, DropSweep, Origin, matching_movers};
 
-impl ReplyInfo {
+impl KnownReplies<'_> {
     /// Skips the destinations of the present piece, up to the first one that the filter does not
     /// have, or that guarantees no reply.
-    fn skip_destinations(
-        &self,
-        p: &Position,
-        capture: bool,
-        move_filter: &MoveFilter,
-        sweep: &mut BoardSweep,
-    )
-        requires consistent { IsBoardSweep p.now capture sweep.old }
-        requires replies { IsReplyInfo p.now self.now.king_view.bits self.now.free_movers.bits }
-        requires escapes { AreEscapes p.now move_filter.now.escapes.bits }
-        ensures consistent { IsBoardSweep p.now capture sweep.new }
-        ensures passed { IsPassedTo p.now capture move_filter.now sweep.old.code sweep.new.code }
+    fn skip_destinations(&self, capture: bool, move_filter: &MoveFilter, sweep: &mut BoardSweep)
+        requires consistent { IsBoardSweep self.now.position.now capture sweep.old }
+        ensures consistent { IsBoardSweep self.now.position.now capture sweep.new }
+        ensures passed { IsPassedTo self.now.position.now capture move_filter.now
+            self.now.escapes.bits sweep.old.code sweep.new.code }
     {
-        let (from, non_promoting, promoting) = (
-            sweep.from,
-            sweep.destinations.non_promoting,
-            sweep.destinations.promoting,
-        );
+        let (p, from) = (self.position, sweep.from);
+        let Destinations {
+            non_promoting,
+            promoting,
+        } = sweep.destinations;
         from.reveal_invariant();
         if !move_filter.pieces.has(from) {
             return;
         }
+        let promote = false;
         let guaranteed = self.guaranteed_destinations(
-            p,
-            move_filter.escapes,
-            from,
-            false,
+            &Origin::Board { from, promote },
             non_promoting,
         );
-        let promoted = self.guaranteed_destinations(p, move_filter.escapes, from, true, promoting);
+        let promote = true;
+        let promoted = self.guaranteed_destinations(&Origin::Board { from, promote }, promoting);
         let promotions = move_filter.promotions();
         let uncertain = non_promoting.without(move_filter.squares & guaranteed)
             | promoting.without(promotions & promoted);
@@ -59,29 +49,23 @@ impl ReplyInfo {
 
     /// Skips all moves of the next pieces, as long as the filter has each and it guarantees a reply. Pieces
     /// that are far are not looked at one by one.
-    fn skip_pieces(
-        &self,
-        p: &Position,
-        capture: bool,
-        move_filter: &MoveFilter,
-        sweep: &mut BoardSweep,
-    )
-        requires consistent { IsBoardSweep p.now capture sweep.old }
+    fn skip_pieces(&self, capture: bool, move_filter: &MoveFilter, sweep: &mut BoardSweep)
+        requires consistent { IsBoardSweep self.now.position.now capture sweep.old }
         requires if_none { HasNoEnds sweep.old }
-        requires replies { IsReplyInfo p.now self.now.king_view.bits self.now.free_movers.bits }
-        requires escapes { AreEscapes p.now move_filter.now.escapes.bits }
-        ensures consistent { IsBoardSweep p.now capture sweep.new }
-        ensures passed { IsPassedTo p.now capture move_filter.now sweep.old.code sweep.new.code }
+        ensures consistent { IsBoardSweep self.now.position.now capture sweep.new }
+        ensures passed { IsPassedTo self.now.position.now capture move_filter.now
+            self.now.escapes.bits sweep.old.code sweep.new.code }
     {
+        let p = self.position;
         p.reveal_invariant();
-        let far = self.non_checking_pieces(p, capture, move_filter);
+        let far = self.non_checking_pieces(capture, move_filter);
         let pieces = Squares {
             bits: bits_above(p.as_board().own(p.side()).bits, sweep.from.index()),
         };
         let moving = matching_movers(p, capture, pieces);
         let mut left = moving.without(far).iter();
         'squares: while let Some(from) = left.next() {
-            if !self.guarantees_replies(p, capture, move_filter, from) {
+            if !self.guarantees_replies(capture, move_filter, from) {
                 sweep.skip_pieces(p, capture, from.index());
                 return;
             }
@@ -92,23 +76,16 @@ impl ReplyInfo {
     /// Skips the next moves of the sweep, as long as the filter has them and it is certain by a look
     /// at squares alone that the other side has a legal move after them and, where the filter has no
     /// escapes, that they give no check.
-    pub fn skip_moves(
-        &self,
-        p: &Position,
-        capture: bool,
-        move_filter: &MoveFilter,
-        sweep: &mut BoardSweep,
-    )
-        requires consistent { IsBoardSweep p.now capture sweep.old }
-        requires replies { IsReplyInfo p.now self.now.king_view.bits self.now.free_movers.bits }
-        requires escapes { AreEscapes p.now move_filter.now.escapes.bits }
-        ensures consistent { IsBoardSweep p.now capture sweep.new }
-        ensures passed { SkipsBoard p.now capture move_filter.now sweep.old sweep.new }
+    pub fn skip_moves(&self, capture: bool, move_filter: &MoveFilter, sweep: &mut BoardSweep)
+        requires consistent { IsBoardSweep self.now.position.now capture sweep.old }
+        ensures consistent { IsBoardSweep self.now.position.now capture sweep.new }
+        ensures passed { SkipsBoard self.now.position.now capture move_filter.now
+            self.now.escapes.bits sweep.old sweep.new }
     {
-        self.skip_destinations(p, capture, move_filter, sweep);
+        self.skip_destinations(capture, move_filter, sweep);
         if sweep.destinations.non_promoting.is_empty() {
             if sweep.destinations.promoting.is_empty() {
-                self.skip_pieces(p, capture, move_filter, sweep);
+                self.skip_pieces(capture, move_filter, sweep);
             }
         }
     }
@@ -116,26 +93,19 @@ impl ReplyInfo {
     /// Skips the drops of the kind that the sweep is at, up to the first that is on none of the
     /// squares, or after which it is not certain by a look at squares alone that the other side has a
     /// legal move and, where there are no escapes, is in no check.
-    pub fn skip_drops(
-        &self,
-        p: &Position,
-        squares: Squares,
-        escapes: Squares,
-        sweep: &mut DropSweep,
-    )
-        requires consistent { IsDropSweep p.now sweep.old }
-        requires replies { IsReplyInfo p.now self.now.king_view.bits self.now.free_movers.bits }
-        requires escapes { AreEscapes p.now escapes.bits }
-        ensures consistent { IsDropSweep p.now sweep.new }
-        ensures passed { SkipsDrops p.now squares.bits escapes.bits sweep.old sweep.new }
+    pub fn skip_drops(&self, squares: Squares, sweep: &mut DropSweep)
+        requires consistent { IsDropSweep self.now.position.now sweep.old }
+        ensures consistent { IsDropSweep self.now.position.now sweep.new }
+        ensures passed { SkipsDrops self.now.position.now squares.bits
+            self.now.escapes.bits sweep.old sweep.new }
     {
-        let destinations = sweep.destinations;
-        let guaranteed = self.guaranteed_drops(p, escapes, sweep.kind, destinations);
+        let (kind, destinations) = (sweep.kind, sweep.destinations);
+        let guaranteed = self.guaranteed_destinations(&Origin::Drop { kind }, destinations);
         let uncertain = destinations.without(squares & guaranteed);
         if uncertain.is_empty() {
-            sweep.skip_destinations(p, 81);
+            sweep.skip_destinations(self.position, 81);
             return;
         }
-        sweep.skip_destinations(p, lowest(uncertain.bits));
+        sweep.skip_destinations(self.position, lowest(uncertain.bits));
     }
 }

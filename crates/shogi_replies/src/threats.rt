@@ -3,11 +3,11 @@
 ghost use Rattle.std.specs.Prelude.{◌≡◌, ◌<◌, ℕ, true, false};
 ghost use Rattle.shogi_core.specs.Bits.{has_bit};
 ghost use Rattle.shogi_core.specs.Movement.{reaches};
-ghost use Rattle.shogi_replies.specs.Threats.{AreAttacks, HasBetween, HasBeforeSnipers, IsOffPins, IsUnpinnable, put_by};
+ghost use Rattle.shogi_replies.specs.Threats.{AreAttacks, HasBetween, HasBeforeSnipers, IsOffPins, IsUnpinnable};
 
 use shogi_core::zones::{dead_squares, promoting_squares};
-use shogi_core::{Color, Direction, Move, Piece, Position, Square, Squares, line_mask, ray};
-use shogi_moves::{Destinations, dropped, piece_moved};
+use shogi_core::{Color, Direction, Position, Square, Squares, line_mask, ray};
+use shogi_moves::Destinations;
 
 /// The squares between the two on a line, whatever stands there.
 pub fn squares_between(from: usize, to: usize) -> Squares
@@ -80,16 +80,5 @@ pub fn attacks_of(p: &Position, from: Square, reach: Squares) -> Destinations
     Destinations {
         non_promoting: others.without(dead_squares(cell)),
         promoting: others & promoting_squares(cell, from),
-    }
-}
-
-/// What the move puts on the square where it ends.
-#[inline(always)]
-pub fn put_by(p: &Position, m: &Move) -> Option<Piece>
-    ensures { result ≡ put_by p.now m.now }
-{
-    match m {
-        Move::Board { from, promote, .. } => piece_moved(p.at(*from), *promote),
-        Move::Drop { kind, .. } => dropped(p.side(), *kind),
     }
 }

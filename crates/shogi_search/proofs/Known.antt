@@ -88,7 +88,7 @@ path_in None true p e d low high ns b o h = h
 pub nodes_path : (s : Inside) → IsSearch s → s.started ≡ true → s.found ≡ None → HasPath (progress_of s)
 nodes_path s i b o = record {
   high = s.stack.bound;
-  within = (i.chain o b).within;
-  whole = λ one. i.whole o b (omega (arith, one, entered_count s.found s.started s.stack o b (i.chain o b)));
-  path = path_in s.found s.started _ _ _ _ _ _ b o (stack_path s.stack (i.chain o b));
+  within = (i.ready o b).stack.within;
+  whole = λ one. (i.ready o b).whole (omega (arith, one, entered_count s.found s.started s.stack o b (i.ready o b).stack));
+  path = path_in s.found s.started _ _ _ _ _ _ b o (stack_path s.stack (i.ready o b).stack);
 }

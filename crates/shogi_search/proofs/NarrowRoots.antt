@@ -116,11 +116,11 @@ pub record IsRootBelow (s : Stack) (m : Move) (f : Frame) : Type 0 where
   pub parents : parents_of s ≡ take (s.height - 1) s.frames ++ f ∷ []
   pub child : IsChild f top m
 
-pub root_below : (s : Stack) (d : Frame) (m : Move) → IsStack s → IsNarrow s → s.height < length s.frames → (get_or s.frames (s.height - 1) d).state ≡ AwaitingChild m → IsRootBelow s m (get_or s.frames (s.height - 1) d)
-root_below s d m k narrow fits asks =
+pub root_below : (s : Stack) (d : Frame) (m : Move) → IsNarrow s → s.height < length s.frames → (get_or s.frames (s.height - 1) d).state ≡ AwaitingChild m → IsRootBelow s m (get_or s.frames (s.height - 1) d)
+root_below s d m narrow fits asks =
     let f : Frame = get_or s.frames (s.height - 1) d in
-    let r : IsBelow s f = below s d k (omega (arith, narrow.0)) fits in
-    let e : s.height - 1 ≡ 0 = omega (arith, narrow.0) in
+    let r : IsBelow s f = below s d narrow.stack (omega (arith, narrow.child)) fits in
+    let e : s.height - 1 ≡ 0 = omega (arith, narrow.child) in
     record { top = r.top; is = r.is; first = e; at = first_at s (s.height - 1) f e r.popped.chain; parents = r.parents; child = same_asked _ _ _ _ r.popped.child asks }
 
 pub widened : (s : Stack) (m : Move) (f g : Frame) (bound : ℤ) → IsRootBelow s m f → IsStack s → KeepsAsked f g → g.beta ≡ bound → bound ≡ s.beta → IsStack (with_frame (with_bound s bound) (s.height - 1) g)
@@ -138,7 +138,7 @@ left_widened s m f g bound r narrow same =
     ap (λ (p : Shogi). tree_size p r.top.depth) (r.child.at_child.position ∙ ap (λ (x : Evaluated). after_code x.position (code_of m)) (sym same.0))
     ∙ ap (tree_size (position_after g m)) (r.child.at_child.depth ∙ ap (λ (n : ℕ). n - 1) (sym same.1.0)) in
     of_top (with_frame (with_bound s bound) (s.height - 1) g) g (λ (root : Frame). steps_left (with_frame (with_bound s bound) (s.height - 1) g) + 1 + steps_after root m ≤ steps_left s) there
-    (omega (arith, none, tree, left_alone (with_frame (with_bound s bound) (s.height - 1) g) g there r.first (same.1.0 ∙ r.at.depth), asked_kept f g same, left_read s r.top r.is, left_above (left_in s) (parents_of s) (take (s.height - 1) s.frames) f r.parents, left_root s.depth s.bound s.beta f r.at.depth, left_narrow s.depth s.bound s.beta r.top below narrow.1))
+    (omega (arith, none, tree, left_alone (with_frame (with_bound s bound) (s.height - 1) g) g there r.first (same.1.0 ∙ r.at.depth), asked_kept f g same, left_read s r.top r.is, left_above (left_in s) (parents_of s) (take (s.height - 1) s.frames) f r.parents, left_root s.depth s.bound s.beta f r.at.depth, left_narrow s.depth s.bound s.beta r.top below narrow.less))
 
 pub child_widened : (s : Stack) (m : Move) (f g : Frame) (bound : ℤ) → IsRootBelow s m f → KeepsAsked f g → OnTop s (λ child. OnTop (with_frame (with_bound s bound) (s.height - 1) g) (IsParentOf child m))
 child_widened s m f g bound r same =

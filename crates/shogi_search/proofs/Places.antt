@@ -132,6 +132,10 @@ stack_with s i f h fits shallow within most c found = record {
 pub read_top : (s : Stack) (d : Frame) → s.height < length s.frames → IsTop s (get_or s.frames s.height d)
 read_top s d h = slice_get-get_or s.frames s.height d h
 
+-- what holds of it holds of it as it is read
+pub read_on : (s : Stack) (d : Frame) (fact : Frame → Type 0) → s.height < length s.frames → OnTop s fact → fact (get_or s.frames s.height d)
+read_on s d fact fits k = on_top s (get_or s.frames s.height d) fact (read_top s d fits) k
+
 pub left_read : (s : Stack) (f : Frame) → IsTop s f → steps_left s ≡ sum_by (left_in s) (parents_of s) + left_in s f
 left_read s f e = left_above (left_in s) (frames_of s) (parents_of s) f (frames_are s f e)
 

@@ -1,5 +1,5 @@
 -- What a search knows between its slices and once it has ended.
-use Rattle.std.proofs.Common.{◌≡◌, ℤ, Option, Some, None, refl, sym, ◌∙◌, ◌<ℤ◌, ◌≤ℤ◌, w32, ap, arith, subst}
+use Rattle.std.proofs.Common.{◌≡◌, ℕ, ℤ, Bool, true, false, Option, Some, None, refl, sym, ◌∙◌, ◌≤◌, ◌<ℤ◌, ◌≤ℤ◌, w32, ap, arith, subst}
 use Rattle.std.proofs.lemmas.Int.{ints, to_z-of_z}
 use lib.IntN.{negsuc, pos}
 use mir.Val.{to_z, of_z}
@@ -7,10 +7,9 @@ use Rattle.std.specs.Prelude.{IfSome}
 use Rattle.std.specs.Option.{ForSome}
 use Rattle.shogi_search.specs.declared.found.Found.{Found}
 use Rattle.shogi_search.specs.declared.sliced_search.Search.TheInside.{Inside}
-use Rattle.minimax.specs.Minimax.{value, best, negated}
-use Rattle.shogi_search.specs.Progress.{IsFoundBelow, Progress}
-use Rattle.shogi_search.specs.SlicedSearch.{IsKnown, progress_of}
-use Rattle.shogi_search.proofs.Entries.{whole_value, whole_best}
+use Rattle.minimax.specs.Minimax.{negated}
+use Rattle.shogi_search.specs.Progress.{FitsTree, IsFoundBelow, IsFoundBy, Progress}
+use Rattle.shogi_search.specs.SlicedSearch.{IsKnown, left_in, progress_of, steps_of_tree}
 use Rattle.minimax.specs.declared.bounds.TheConstants.{INFINITY}
 
 -- what is found is known
@@ -22,14 +21,29 @@ known_found s f beta e l b n h q =
     one : (x y : Found) → Some x ≡ Some y → x ≡ y
     one x y h = cc
 
--- where every value is below the bound, it is the value and the best move
-pub known_value : (s : Inside) (found : Option Found) → ForSome found (IsKnown s) → IfSome found (λ f. s.stack.beta ≡ INFINITY → f.value ≡ value s.stack.root s.stack.eval s.stack.depth)
-known_value s None k = tt
-known_value s (Some f) k = λ e. whole_value _ _ _ _ f (k f refl).below e
+-- what it found before is found of its root, in its steps
+pub known_below : (s : Inside) (found : Option Found) → ForSome found (IsKnown s) → IfSome found (IsFoundBy (progress_of s))
+known_below s None k = tt
+known_below s (Some f) k = (k f refl).below
 
-pub known_best : (s : Inside) (found : Option Found) → ForSome found (IsKnown s) → IfSome found (λ f. s.stack.beta ≡ INFINITY → f.best ≡ best s.stack.root s.stack.eval s.stack.depth)
-known_best s None k = tt
-known_best s (Some f) k = λ e. whole_best _ _ _ _ f (k f refl).below e
+pub known_steps : (s : Inside) (found : Option Found) → ForSome found (IsKnown s) → IfSome found (λ f. f.steps ≡ s.steps)
+known_steps s None k = tt
+known_steps s (Some f) k = (k f refl).steps_are
+
+pub known_range : (s : Inside) (found : Option Found) → ForSome found (IsKnown s) → s.steps ≤ steps_of_tree s.stack → IfSome found (FitsTree (progress_of s))
+known_range s None k most = tt
+known_range s (Some f) k most = (let same : f.steps ≡ s.steps = (k f refl).steps_are in omega (arith, same))
+
+-- before the root is entered all of the tree is left, and then what is left of the stack
+pub whole_left : (found : Option Found) (started : Bool) (whole rest : ℕ) → found ≡ None → started ≡ false → left_in found started whole rest ≡ whole
+whole_left None false whole rest e f = refl
+whole_left None true whole rest e f = absurd (cc)
+whole_left (Some x) started whole rest e f = absurd (cc)
+
+pub rest_left : (found : Option Found) (started : Bool) (whole rest : ℕ) → found ≡ None → started ≡ true → left_in found started whole rest ≡ rest
+rest_left None true whole rest e f = refl
+rest_left None false whole rest e f = absurd (cc)
+rest_left (Some x) started whole rest e f = absurd (cc)
 
 -- what its caller sees is what it has inside
 pub found_seen : (inside : Inside) (search : Progress) → progress_of inside ≡ search → inside.found ≡ search.found

@@ -1,12 +1,18 @@
 -- Slices of a search, one after another.
-use Rattle.std.proofs.Common.{◌≡◌, ◌<◌, ◌≤◌, ◌+◌, ◌-◌, ◌*◌, ◌^◌, ◌∙◌, ℕ, Option, None, Some, arith, subst}
-use Rattle.std.specs.Prelude.{IfNone, IfSome, IsSome, min}
+use Rattle.std.proofs.Common.{◌≡◌, ◌<◌, ◌≤◌, ◌+◌, ◌-◌, ◌*◌, ◌^◌, ◌∙◌, ℕ, Bool, false, List, [], Option, None, Some, refl, sym, arith, subst}
+use Rattle.std.specs.Prelude.{IfNone, IfSome, IsSome, OnSome, min}
 use Rattle.shogi_core.specs.Position.{Shogi}
 use Rattle.minimax.specs.Minimax.{tree_size}
 use Rattle.shogi_search.specs.Progress.{FindsBest, FindsValue, FitsTree, IsFoundBy, KeepsQuestion, Progress, left_of}
+use Rattle.minimax.proofs.MinimaxLaws.{tree_size-positive}
+use Rattle.shogi_search.specs.Entered.{Entered}
 use Rattle.shogi_search.specs.Slices.{Finds, IsSliceOf}
+use Rattle.shogi_search.specs.SlicedSearch.{IsSearch, entered_in, left_in, progress_of, steps_of_tree}
+use Rattle.shogi_search.specs.Stack.{steps_left}
+use Rattle.shogi_search.specs.declared.sliced_search.Search.TheInside.{Inside}
 use Rattle.shogi_search.specs.declared.found.Found.{Found}
 use Rattle.shogi_search.proofs.Entries.{same_found, whole_best, whole_value}
+use Rattle.shogi_search.proofs.Searches.{known_below, known_range, known_steps, whole_left}
 
 -- what is found of the root, in so many steps
 pub finds_by : (old : Progress) (result : Option Found) (new : Progress) → IfSome result (IsFoundBy old)
@@ -38,6 +44,9 @@ fits_as old new (Some f) same k =
     subst (λ (x : Shogi). f.steps ≤ 4 * tree_size x old.depth) same.0
     (subst (λ (x : ℕ). f.steps ≤ 4 * tree_size new.root x) same.1.1.0 k)
 
+pub finds_as : (old mid : Progress) (result : Option Found) (new : Progress) → KeepsQuestion old mid → Finds mid result new → Finds old result new
+finds_as old mid result new same k = finds_by old result new (found_as old mid result same k.below) k.counted (fits_as old mid result same k.range)
+
 -- a step, and then the rest of them
 all_used : (result : Option Found) (old mid new budget most : ℕ) → 0 < budget → mid ≡ min (old + 1) most
     → IfNone result (new ≡ min (mid + (budget - 1)) most) → IfNone result (new ≡ min (old + budget) most)
@@ -63,7 +72,6 @@ step_and_slice budget old mid result new some first second =
           (second.unchanged.1.1.0 ∙ first.unchanged.1.1.0, second.unchanged.1.1.1 ∙ first.unchanged.1.1.1),
         ),
       );
-      finds = finds_by old result new (found_as old mid result first.unchanged second.finds.below) second.finds.counted (fits_as old mid result first.unchanged second.finds.range);
       counts = record {
         all = all_used result old.steps mid.steps new.steps budget _ some one second.counts.all;
         rises = omega (arith, first.counts.rises, second.counts.rises);
@@ -86,7 +94,6 @@ pub ends_in_slice : (budget : ℕ) (old : Progress) (result : Option Found) (new
     → IsSliceOf 1 old result new → IsSliceOf budget old result new
 ends_in_slice budget old result new some ends k = record {
   unchanged = k.unchanged;
-  finds = k.finds;
   counts = record {
     all = if_found result _ ends;
     rises = k.counts.rises;
@@ -98,4 +105,63 @@ ends_in_slice budget old result new some ends k = record {
   over = k.over;
   left_all = k.left_all;
   unfinished = k.unfinished;
+}
+
+-- ---- without a step
+
+nothing_left : (found : Option Found) (started : Bool) (whole rest : ℕ) → OnSome found (left_in found started whole rest ≡ 0)
+nothing_left None started whole rest = tt
+nothing_left (Some f) started whole rest = refl
+
+all_left : (found : Option Found) (started : Bool) (nodes : List Entered) → OnSome found (entered_in found started nodes ≡ [])
+all_left None started nodes = tt
+all_left (Some f) started nodes = refl
+
+-- a search that has ended stays as it is
+pub ended_finds : (s : Inside) → IsSearch s → Finds (progress_of s) s.found (progress_of s)
+ended_finds s i = finds_by _ _ _ (known_below s s.found i.known) (known_steps s s.found i.known) (known_range s s.found i.known (omega (arith, i.counted)))
+
+pub ended_slice : (budget : ℕ) (s : Inside) → IsSome s.found → IsSliceOf budget (progress_of s) s.found (progress_of s)
+ended_slice budget s some = record {
+  unchanged = (refl, (refl, (refl, refl)));
+  counts = record { all = if_found s.found _ some; rises = omega arith; most = omega arith };
+  left = if_found s.found _ some;
+  fell = omega arith;
+  found = refl;
+  over = nothing_left s.found s.started _ _;
+  left_all = all_left s.found s.started _;
+  unfinished = if_found s.found _ some;
+}
+
+-- one that is answered before its first step ends
+pub answered_finds : (s : Inside) (search : Progress) (f : Found) → progress_of s ≡ search → IsSearch s → IsFoundBy search f → f.steps ≡ search.steps
+    → Finds search (Some f) (progress_of (record s { found = Some f }))
+answered_finds s search f e i below counted =
+    let same : f.steps ≡ s.steps = subst (λ (p : Progress). f.steps ≡ p.steps) (sym e) counted in
+    subst (λ (p : Progress). Finds p (Some f) (progress_of (record s { found = Some f }))) e
+    (finds_by (progress_of s) (Some f) _ (subst (λ (p : Progress). IsFoundBy p f) (sym e) below) same (omega (arith, same, i.counted)))
+
+pub answered_slice : (budget : ℕ) (s : Inside) (f : Found) → IsSliceOf budget (progress_of s) (Some f) (progress_of (record s { found = Some f }))
+answered_slice budget s f = record {
+  unchanged = (refl, (refl, (refl, refl)));
+  counts = record { all = tt; rises = omega arith; most = omega arith };
+  left = tt;
+  fell = omega arith;
+  found = refl;
+  over = refl;
+  left_all = refl;
+  unfinished = tt;
+}
+
+-- with no budget nothing is done, and all of the tree is left
+pub empty_slice : (budget : ℕ) (s : Inside) → budget ≡ 0 → s.found ≡ None → s.started ≡ false → s.steps < 2 ^ 64 → IsSliceOf budget (progress_of s) None (progress_of s)
+empty_slice budget s zero none fresh fits = record {
+  unchanged = (refl, (refl, (refl, refl)));
+  counts = record { all = omega (arith, zero, fits); rises = omega arith; most = omega arith };
+  left = omega (arith, zero);
+  fell = omega arith;
+  found = none;
+  over = tt;
+  left_all = tt;
+  unfinished = omega (arith, whole_left s.found s.started (steps_of_tree s.stack) (steps_left s.stack) none fresh, tree_size-positive s.stack.root s.stack.depth);
 }

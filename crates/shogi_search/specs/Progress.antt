@@ -1,5 +1,5 @@
 -- A search in slices, as its caller sees it (own choice).
-use Rattle.std.specs.Prelude.{◌≡◌, ℕ, ℤ, ◌*◌, ◌≤◌, ◌≤ℤ◌, ◌<ℤ◌, Bool, false, List, [], length, Option, None, Some, IsSome}
+use Rattle.std.specs.Prelude.{◌≡◌, ℕ, ℤ, ◌*◌, ◌≤◌, ◌≤ℤ◌, ◌<ℤ◌, Bool, true, false, List, [], length, Option, None, Some, IsSome}
 use Rattle.std.specs.Option.{ForSome}
 use Rattle.shogi_core.specs.Position.{Shogi}
 use Rattle.shogi_eval.specs.declared.eval.Eval.{Eval}
@@ -44,6 +44,16 @@ untouched_below p e d beta = record {
 abbrev pub untouched : Shogi → Eval → ℕ → Progress
 untouched p e d = untouched_below p e d INFINITY
 
+-- it has made no step yet
+pub record IsFresh (search : Progress) : Type 0 where
+  pub unstarted : search.started ≡ false
+  pub none : search.found ≡ None
+
+-- it has entered its root, and not ended
+pub record IsUnderWay (search : Progress) : Type 0 where
+  pub begun : search.started ≡ true
+  pub none : search.found ≡ None
+
 -- the nodes that it has entered and not left are a way down from its root, whose window ends at the bound, or before it while a child of the root is entered
 pub record HasPath (search : Progress) : Type 0 where
   pub high : ℤ
@@ -51,6 +61,11 @@ pub record HasPath (search : Progress) : Type 0 where
   pub whole : length search.entered ≡ 1 → high ≡ search.beta
   pub path :
       IsPath search.root search.eval search.depth (negated INFINITY) high search.entered
+
+-- a bound below which a search may look for values
+pub record IsBeta (beta : ℤ) : Type 0 where
+  pub above : negated INFINITY <ℤ beta
+  pub most : beta ≤ℤ INFINITY
 
 -- what a memory that gives these answers has for its root says enough, below its bound
 abbrev pub IsAnsweredBy : (Shogi → Eval → ℕ → Option Entry) → Progress → Type 0

@@ -1,5 +1,5 @@
 -- What holds of a search between its slices, whatever memos they were given.
-use Rattle.std.specs.Prelude.{◌≡◌, ℕ, ℤ, ◌+◌, ◌*◌, ◌≤◌, ◌<ℤ◌, ◌≤ℤ◌, Bool, true, false, List, [], ◌∷◌, map, Option, None, Some}
+use Rattle.std.specs.Prelude.{◌≡◌, ℕ, ℤ, ◌+◌, ◌*◌, ◌≤◌, Bool, true, false, List, [], ◌∷◌, map, Option, None, Some}
 use Rattle.std.specs.Option.{ForSome}
 use Rattle.shogi_core.specs.Codes.{code_of}
 use Rattle.search_nodes.specs.declared.frame.Frame.{Frame}
@@ -8,14 +8,13 @@ use Rattle.search_nodes.specs.declared.frame.NodeState.TheVariants.{Expanding, A
 use Rattle.shogi_search.specs.declared.found.Found.{Found}
 use Rattle.shogi_search.specs.declared.sliced_search.Search.TheInside.{Inside}
 use Rattle.shogi_search.specs.declared.stack.Stack.{Stack}
-use Rattle.minimax.specs.Minimax.{tree_size, negated}
+use Rattle.minimax.specs.Minimax.{tree_size}
 use Rattle.shogi_search.specs.Entered.{Entered}
 use Rattle.search_nodes.specs.Order.{todo}
-use Rattle.shogi_search.specs.Progress.{Progress, IsFoundBelow}
-use Rattle.search_nodes.specs.Visits.{IsFree}
-use Rattle.shogi_search.specs.Stack.{IsStack, IsWhole, OnTop, frames_of, steps_left}
+use Rattle.shogi_search.specs.Progress.{IsBeta, Progress, IsFoundBelow}
+use Rattle.shogi_search.specs.Stack.{IsReady, frames_of, steps_left}
 use Rattle.minimax.specs.Window.{code_at}
-use Rattle.minimax.specs.declared.bounds.TheConstants.{SEARCH_DEPTH_MAX, INFINITY}
+use Rattle.minimax.specs.declared.bounds.TheConstants.{SEARCH_DEPTH_MAX}
 
 -- the most steps of the search: four for each node of the tree, since moves of the root may be asked twice
 abbrev pub steps_of_tree : Stack → ℕ
@@ -87,12 +86,9 @@ pub record IsKnown (s : Inside) (f : Found) : Type 0 where
 -- once started and until it has found, the stack is a chain from the root
 pub record IsSearch (s : Inside) : Type 0 where
   pub shallow : s.stack.depth ≤ SEARCH_DEPTH_MAX
-  pub above : negated INFINITY <ℤ s.stack.beta
-  pub most : s.stack.beta ≤ℤ INFINITY
+  pub beta : IsBeta s.stack.beta
   pub known : ForSome s.found (IsKnown s)
-  pub chain : s.found ≡ None → s.started ≡ true → IsStack s.stack
-  pub whole : s.found ≡ None → s.started ≡ true → IsWhole s.stack
-  pub free : s.found ≡ None → s.started ≡ true → OnTop s.stack (λ top. IsFree top.state)
+  pub ready : s.found ≡ None → s.started ≡ true → IsReady s.stack
   pub counted :
       s.steps + left_in s.found s.started (steps_of_tree s.stack) (steps_left s.stack)
       ≤ steps_of_tree s.stack

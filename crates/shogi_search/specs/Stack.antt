@@ -75,7 +75,11 @@ pub record IsConclusiveEntry (p : Shogi) (e : Eval) (d : ℕ) (alpha beta : ℤ)
   pub truth : IsTrueEntry p e d entry
   pub conclusive : IsConclusive alpha beta entry
 
--- and that of the root, for its whole window
+-- an entry is true of a node, and says enough for its window
+abbrev pub IsEntryOf : Frame → Entry → Type 0
+IsEntryOf f entry = IsConclusiveEntry f.node.position f.node.eval f.depth f.alpha f.beta entry
+
+-- and of the root, for its whole window
 abbrev pub IsRootEntry : Stack → Entry → Type 0
 IsRootEntry s entry = IsConclusiveEntry s.root s.eval s.depth (negated INFINITY) s.beta entry
 
@@ -96,15 +100,26 @@ pub record IsStack (s : Stack) : Type 0 where
 abbrev pub IsWhole : Stack → Type 0
 IsWhole s = s.height ≡ 0 → s.bound ≡ s.beta
 
--- between two steps the node on top waits for no child
-pub record IsReady (s : Stack) : Type 0 where
+-- a chain from the root, and this holds of the node on top
+pub record IsStackWith (s : Stack) (fact : Frame → Type 0) : Type 0 where
+  pub stack : IsStack s
+  pub top : OnTop s fact
+
+-- and that node has its whole window, if it is the root
+pub record IsWholeWith (s : Stack) (fact : Frame → Type 0) : Type 0 where
   pub stack : IsStack s
   pub whole : IsWhole s
-  pub free : OnTop s (λ top. IsFree top.state)
+  pub top : OnTop s fact
+
+-- between two steps the node on top waits for no child
+abbrev pub IsReady : Stack → Type 0
+IsReady s = IsWholeWith s (λ top. IsFree top.state)
 
 -- a child of the root is on top, under a window that is narrower than the one that is left for its move
-abbrev pub IsNarrow : Stack → Type 0
-IsNarrow s = (s.height ≡ 1) × (s.bound <ℤ s.beta)
+pub record IsNarrow (s : Stack) : Type 0 where
+  pub stack : IsStack s
+  pub child : s.height ≡ 1
+  pub less : s.bound <ℤ s.beta
 
 -- what may be left once more, since moves of the root may be asked twice: all of the root, and the whole tree of its child while that has a narrow window
 abbrev pub left_again : ℕ → ℤ → ℤ → Frame → ℕ

@@ -1,11 +1,10 @@
 //! The best moves of a position, for analysis with several lines.
 
-ghost use Rattle.std.specs.Prelude.{◌≡◌, ℕ, ℤ, ◌≤◌, ◌≤ℤ◌, ◌<ℤ◌, [], length, take, insert, true, false};
+ghost use Rattle.std.specs.Prelude.{◌≡◌, ℕ, ℤ, ◌≤◌, [], length, take, insert, true, false};
 ghost use Rattle.shogi_core.specs.Codes.{code_of};
 ghost use Rattle.shogi_moves.specs.Rising.{is_in};
 ghost use Rattle.shogi_search.specs.Ranked.{is_better, insert_pair, IsPlaceOf, codes_in, are_ranked, IsTop, JoinsTop, value_to_pass, child_beta};
-ghost use Rattle.minimax.specs.Minimax.{negated};
-ghost use Rattle.minimax.specs.declared.bounds.TheConstants.{INFINITY};
+ghost use Rattle.shogi_search.specs.Progress.{IsBeta};
 ghost use Rattle.shogi_search.specs.declared.ranks.TheConstants.{MULTI_PV_MAX};
 
 use arrayvec::ArrayVec;
@@ -97,11 +96,9 @@ impl Ranks {
     /// The bound below which the child of such a move is searched: from there on the move is not
     /// listed. The end of the whole window where a line is free.
     pub fn child_beta(&self) -> i32
-        requires least { negated INFINITY <ℤ child_beta self.now }
-        requires most { child_beta self.now ≤ℤ INFINITY }
+        requires { IsBeta (child_beta self.now) }
         ensures value { result ≡ child_beta self.now }
-        ensures open { negated INFINITY <ℤ result }
-        ensures end { result ≤ℤ INFINITY }
+        ensures beta { IsBeta result }
     {
         match self.move_alpha() {
             Some(value) => -value,

@@ -1,15 +1,15 @@
 //! A search in slices.
 
-ghost use Rattle.std.specs.Prelude.{◌≡◌, ◌≤◌, ◌<◌, ◌+◌, ◌*◌, ◌-◌, ◌^◌, ◌≤ℤ◌, ◌<ℤ◌, [], true, false, Some, None, IfSome, IfNone, OnSome, IsSome, ◌↔◌, min};
+ghost use Rattle.std.specs.Prelude.{◌≡◌, ◌≤◌, ◌<◌, ◌<ℤ◌, true, Some, None, IfSome, IfNone, IsSome, ◌↔◌};
 ghost use Rattle.std.specs.List.{All};
 ghost use Rattle.std.specs.Option.{ForSome};
 ghost use Rattle.minimax.specs.Minimax.{negated};
 ghost use Rattle.shogi_search.specs.Entered.{IsKnownNode};
 ghost use Rattle.shogi_search.specs.Calls.{probe_of};
 ghost use Rattle.shogi_search.specs.SearchCalls.{AsksRootFirst, CallsOfSearch, Says, TellsFound, TellsRoot};
-ghost use Rattle.shogi_search.specs.Slices.{CallsInSlice, IsSliceOf};
+ghost use Rattle.shogi_search.specs.Slices.{CallsInSlice, Finds, IsSliceOf};
 ghost use Rattle.shogi_search.specs.Stack.{IsConclusiveEntry, OnlyAsks};
-ghost use Rattle.shogi_search.specs.Progress.{untouched, untouched_below, left_of, HasPath, IsAnsweredBy, EndsWhereAnswered, EndsWhereKnown, IsFoundBelow, IsFoundBy, FindsValue, FindsBest, FitsTree};
+ghost use Rattle.shogi_search.specs.Progress.{untouched, untouched_below, HasPath, IsAnsweredBy, IsBeta, IsFresh, IsUnderWay, EndsWhereAnswered, EndsWhereKnown, IsFoundBelow, IsFoundBy};
 ghost use Rattle.minimax.specs.declared.bounds.TheConstants.{SEARCH_DEPTH_MAX, INFINITY};
 
 use crate::found::Found;
@@ -95,8 +95,7 @@ impl Search {
     /// value.
     pub fn start_below(p: &Position, e: Eval, d: u8, beta: i32) -> Self
         requires shallow { d ≤ SEARCH_DEPTH_MAX }
-        requires open { negated INFINITY <ℤ beta }
-        requires most { beta ≤ℤ INFINITY }
+        requires beta { IsBeta beta }
         ensures { result ≡ untouched_below p.now e d beta }
     {
         Search {
@@ -131,8 +130,7 @@ impl Search {
     /// started.
     pub fn restart_below(&mut self, p: &Position, e: Eval, d: u8, beta: i32)
         requires shallow { d ≤ SEARCH_DEPTH_MAX }
-        requires open { negated INFINITY <ℤ beta }
-        requires most { beta ≤ℤ INFINITY }
+        requires beta { IsBeta beta }
         ensures { self.new ≡ untouched_below p.now e d beta }
     {
         self.stack.root = *p;
@@ -178,8 +176,7 @@ impl Search {
 
     /// Enters the root.
     fn enter_root<M: Memo>(&mut self, memo: &mut M)
-        requires fresh { self.old.started ≡ false }
-        requires open { self.old.found ≡ None }
+        requires fresh { IsFresh self.old }
         requires deep { 2 ≤ self.old.depth }
         ensures slice { IsSliceOf 1 self.old None self.new }
         ensures calls { CallsInSlice M.Memo memo.old memo.new self.old None self.new }
@@ -200,9 +197,9 @@ impl Search {
 
     /// Answers a root with one ply left or none, in one step.
     fn answer_root<M: Memo>(&mut self, memo: &mut M) -> Option<Found>
-        requires fresh { self.old.started ≡ false }
-        requires open { self.old.found ≡ None }
+        requires fresh { IsFresh self.old }
         requires last { self.old.depth < 2 }
+        ensures finds { Finds self.old result self.new }
         ensures slice { IsSliceOf 1 self.old result self.new }
         ensures calls { CallsInSlice M.Memo memo.old memo.new self.old result self.new }
         ensures some { IsSome result }
@@ -218,8 +215,8 @@ impl Search {
 
     /// Makes its steps below the root.
     fn resume<M: Memo>(&mut self, memo: &mut M, budget: u64) -> Option<Found>
-        requires begun { self.old.started ≡ true }
-        requires open { self.old.found ≡ None }
+        requires { IsUnderWay self.old }
+        ensures finds { Finds self.old result self.new }
         ensures slice { IsSliceOf budget self.old result self.new }
         ensures calls { CallsInSlice M.Memo memo.old memo.new self.old result self.new }
         ensures begun { self.new.started ≡ true }
@@ -252,36 +249,18 @@ impl Search {
     /// Continues by so many steps, or fewer where it ends, and then returns what it found. After the
     /// end it returns the same again, without a step or a call of the memo.
     pub fn advance<M: Memo>(&mut self, memo: &mut M, budget: u64) -> Option<Found>
-        ensures below { IfSome result (IsFoundBy self.old) }
-        // Below the end of the whole window lies every value.
-        ensures value { IfSome result (FindsValue self.old) }
-        ensures best { IfSome result (FindsBest self.old) }
-        ensures counted { IfSome result (λ f. f.steps ≡ self.new.steps) }
-        ensures range { IfSome result (FitsTree self.old) }
-        ensures root { (self.new.root ≡ self.old.root) × (self.new.depth ≡ self.old.depth) }
-        ensures eval { self.new.eval ≡ self.old.eval }
-        ensures beta { self.new.beta ≡ self.old.beta }
-        ensures capacity { M.capacity memo.new ≡ M.capacity memo.old }
+        ensures finds { Finds self.old result self.new }
+        // Until the end the whole budget is used, and then nothing is left.
+        ensures slice { IsSliceOf budget self.old result self.new }
         ensures calls { CallsOfSearch M.called memo.old memo.new self.old self.new }
         // Its first call asks for the root, and is the only one where the answer says enough.
         ensures asked { AsksRootFirst M.called (M.answers memo.old) memo.old memo.new self.old }
         // Its last call says what it found of the root.
         ensures told { TellsFound M.called memo.old memo.new self.old result }
-        ensures found { self.new.found ≡ result }
-
-        // Until the end the whole budget is used.
-        ensures all { IfNone result (self.new.steps ≡ min (self.old.steps + budget) (2 ^ 64 - 1)) }
-        ensures left { IfNone result (left_of self.new + budget ≤ left_of self.old) }
-        ensures rises { self.old.steps ≤ self.new.steps }
-        ensures most { self.new.steps ≤ self.old.steps + budget }
-        ensures fell { self.new.steps + left_of self.new ≤ self.old.steps + left_of self.old }
+        ensures capacity { M.capacity memo.new ≡ M.capacity memo.old }
 
         ensures again { ForSome self.old.found (λ f. (result ≡ Some f) × (self.new ≡ self.old)) }
         ensures idle { IsSome self.old.found → memo.new ≡ memo.old }
-        // Once it has ended nothing is left, and until then something is.
-        ensures over { OnSome result (self.new.left ≡ 0) }
-        ensures left_all { OnSome result (self.new.entered ≡ []) }
-        ensures unfinished { IfNone result (0 < self.new.left) }
         ensures begun { 0 < budget → IfNone result (self.new.started ≡ true) }
         // Before the first step an answer for the root that says enough ends it.
         ensures enough { EndsWhereAnswered (M.answers memo.old) result self.old self.new }

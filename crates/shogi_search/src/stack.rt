@@ -5,7 +5,7 @@ ghost use Rattle.minimax.specs.Entries.{IsConclusive, IsEnough, move_in};
 ghost use Rattle.search_nodes.specs.Visits.{IsAsked};
 ghost use Rattle.search_nodes.specs.Frames.{IsTrueOf, IsToBeLeft};
 ghost use Rattle.search_nodes.specs.Changes.{KeepsAsked};
-ghost use Rattle.shogi_search.specs.Stack.{AwaitsChild, CallsOnStack, CountsSteps, EntersChild, IsConclusiveEntry, IsNarrow, IsParentOf, IsReady, IsRootEntry, IsRunOf, IsStack, IsStep, IsTrueAnywhere, IsWhole, KeepsGoal, LeavesStepsFor, LeavesTop, NotesRoot, OnTop, OnlyAsks, UsesSteps, steps_left};
+ghost use Rattle.shogi_search.specs.Stack.{AwaitsChild, CallsOnStack, CountsSteps, EntersChild, IsConclusiveEntry, IsEntryOf, IsNarrow, IsParentOf, IsReady, IsRootEntry, IsRunOf, IsStack, IsStackWith, IsStep, IsTrueAnywhere, IsWholeWith, KeepsGoal, LeavesStepsFor, LeavesTop, NotesRoot, OnTop, OnlyAsks, UsesSteps, steps_left};
 ghost use Rattle.shogi_search.specs.Calls.{probe_of, TellsOnce};
 ghost use Rattle.minimax.specs.declared.bounds.TheConstants.{SEARCH_DEPTH_MAX};
 
@@ -97,7 +97,6 @@ fn is_noted_anyway(depth: u8, entry: &Entry) -> bool {
 
 /// What every node of the depth is worth at least or at most, where that is enough for the window.
 fn mate_distance_bound(depth: u8, alpha: i32, beta: i32) -> Option<Entry>
-    requires shallow { depth ≤ SEARCH_DEPTH_MAX }
     ensures truth { IfSome result (IsTrueAnywhere depth) }
     ensures conclusive { IfSome result (IsConclusive alpha beta) }
 {
@@ -162,8 +161,7 @@ impl Stack {
     /// Where a root is on top that is narrowed and has a best move, its window ends one above
     /// what that is worth: a child that is worth more is only known to be, and is entered again.
     fn narrow(&mut self)
-        requires stack { IsStack self.old }
-        requires asked { OnTop self.old (λ top. IsAsked top.state) }
+        requires { IsStackWith self.old (λ top. IsAsked top.state) }
         ensures stack { IsStack self.new }
         ensures height { self.new.height ≡ self.old.height }
         ensures top { OnTop self.old (λ old. OnTop self.new (λ new. KeepsAsked old new)) }
@@ -184,8 +182,7 @@ impl Stack {
 
     /// The root is on top again, with its whole window, and waits for the answer of its move.
     fn widen(&mut self) -> Move
-        requires stack { IsStack self.old }
-        requires narrow { IsNarrow self.old }
+        requires { IsNarrow self.old }
         ensures stack { IsStack self.new }
         ensures whole { self.new.bound ≡ self.new.beta }
         ensures root { self.new.height ≡ 0 }
@@ -213,9 +210,7 @@ impl Stack {
         counter_moves: &CounterMoves,
         memo: &mut M,
     )
-        requires stack { IsStack self.old }
-        requires room { self.old.height + 1 < SEARCH_DEPTH_MAX }
-        requires child { OnTop self.old (AwaitsChild current.now node.now) }
+        requires { IsStackWith self.old (AwaitsChild current.now node.now) }
         ensures { EntersChild M.Memo memo.old memo.new self.old current.now self.new }
     {
         let top = &self.frames[self.height];
@@ -237,7 +232,6 @@ impl Stack {
     /// window; else that child is entered again under it.
     #[inline(never)]
     fn leave_narrow<M: Memo>(&mut self, entry: &Entry, counter_moves: &CounterMoves, memo: &mut M)
-        requires stack { IsStack self.old }
         requires narrow { IsNarrow self.old }
         requires truth { OnTop self.old (λ top. IsTrueOf top entry.now) }
         ensures { LeavesTop M.Memo memo.old memo.new self.old self.new }
@@ -255,10 +249,7 @@ impl Stack {
     /// The node below the top takes in what is known of the node on top, where there is one. A child
     /// of the root that was asked under a narrow window may be entered again.
     fn pop<M: Memo>(&mut self, entry: &Entry, counter_moves: &CounterMoves, memo: &mut M) -> bool
-        requires stack { IsStack self.old }
-        requires whole { IsWhole self.old }
-        requires truth { OnTop self.old (λ top. IsTrueOf top entry.now) }
-        requires conclusive { OnTop self.old (λ top. IsConclusive top.alpha top.beta entry.now) }
+        requires { IsWholeWith self.old (λ top. IsEntryOf top entry.now) }
         ensures left { result ≡ true → LeavesTop M.Memo memo.old memo.new self.old self.new }
         ensures root { result ≡ false → (self.old.height ≡ 0) × IsRootEntry self.old entry.now }
         ensures kept { result ≡ false → (memo.new ≡ memo.old) × KeepsGoal self.old self.new }
@@ -283,9 +274,7 @@ impl Stack {
     /// child, which is on top then.
     #[inline(never)]
     fn enter_child<M: Memo>(&mut self, current: &Move, counter_moves: &CounterMoves, memo: &mut M)
-        requires stack { IsStack self.old }
-        requires whole { IsWhole self.old }
-        requires asked { OnTop self.old (λ top. top.state ≡ NodeState.AwaitingChild current.now) }
+        requires { IsWholeWith self.old (λ top. top.state ≡ NodeState.AwaitingChild current.now) }
         ensures ready { IsReady self.new }
         ensures left { UsesSteps self.old self.new current.now 1 }
         ensures unchanged { KeepsGoal self.old self.new }
@@ -339,8 +328,7 @@ impl Stack {
     /// Tells the memo what is known of the node on top, where that is the root, serves the memo, or is
     /// noted anyway.
     fn store_top<M: Memo>(&self, entry: &Entry, memo: &mut M)
-        requires stack { IsStack self.now }
-        requires truth { OnTop self.now (λ top. IsTrueOf top entry.now) }
+        requires { IsStackWith self.now (λ top. IsTrueOf top entry.now) }
         ensures root { NotesRoot M.called memo.old memo.new self.now entry.now }
         ensures told { TellsOnce M.called memo.old memo.new }
         ensures capacity { M.capacity memo.new ≡ M.capacity memo.old }
@@ -353,10 +341,8 @@ impl Stack {
 
     /// Where the node on top is cut off, keeps the move that cut it off as the reply to the one that
     /// led to it.
-    fn keep_counter_move(&self, counter_moves: &mut CounterMoves)
-        requires { self.now.height < SEARCH_DEPTH_MAX }
-    {
-        if self.height == 0 {
+    fn keep_counter_move(&self, counter_moves: &mut CounterMoves) {
+        if self.height == 0 || self.height >= self.frames.len() {
             return;
         }
         let top = &self.frames[self.height];
@@ -374,9 +360,7 @@ impl Stack {
     /// Leaves the node on top, and gives what is known of the root where that was it.
     #[inline(always)]
     fn leave<M: Memo>(&mut self, counter_moves: &mut CounterMoves, memo: &mut M) -> Option<Entry>
-        requires stack { IsStack self.old }
-        requires whole { IsWhole self.old }
-        requires over { OnTop self.old (λ top. IsToBeLeft top) }
+        requires { IsWholeWith self.old (λ top. IsToBeLeft top) }
         ensures { IsStep M.Memo memo.old memo.new self.old result self.new }
     {
         let entry = self.frames[self.height].to_entry();
@@ -394,12 +378,9 @@ impl Stack {
 
     /// The best move of the last child of the node on top that was entered, or the one that cut it off.
     #[inline(always)]
-    fn last_reply(&self) -> Option<Move>
-        requires { self.now.height < SEARCH_DEPTH_MAX }
-    {
-        let above = self.height + 1;
-        if above < self.frames.len() {
-            return self.frames[above].best_move;
+    fn last_reply(&self) -> Option<Move> {
+        if self.height < self.frames.len() - 1 {
+            return self.frames[self.height + 1].best_move;
         }
         None
     }

@@ -56,7 +56,7 @@ status_from process limits totals faults host connections wire = record {
   refused_notes = host.table.refused;
   probes = host.table.probes;
   hits = host.table.hits;
-  received = wire.received;
-  sent = wire.sent;
+  received = wire.traffic.received;
+  sent = wire.traffic.sent;
   faults = plus wire.failed faults;
 }

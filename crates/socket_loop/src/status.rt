@@ -144,8 +144,8 @@ pub fn status_of<S: BuildHasher, A: Allocator + Copy>(
         refused_notes: host.refused_notes(),
         probes: host.probes(),
         hits: host.hits(),
-        received: wire.received,
-        sent: wire.sent,
+        received: wire.traffic.received,
+        sent: wire.traffic.sent,
         faults: wire.faults().saturating_add(faults),
     }
 }

@@ -7,7 +7,7 @@ ghost use Rattle.shogi_eval.specs.Exchange.{is_quiet};
 ghost use Rattle.static_exchange.specs.Reprisals.{IsReprisal, IsEnough};
 
 use crate::exchanges::best_won;
-use shogi_core::{Move, Position, Square};
+use shogi_core::{Move, Position};
 use shogi_moves::apply;
 
 /// Whether the move takes nothing and does not promote.
@@ -17,14 +17,6 @@ pub fn is_quiet(p: &Position, m: &Move) -> bool
     match m {
         Move::Board { to, promote, .. } => !*promote && p.at(*to).is_none(),
         Move::Drop { .. } => true,
-    }
-}
-
-/// The square on which the move ends.
-fn end_of(m: &Move) -> Square {
-    match m {
-        Move::Board { to, .. } => *to,
-        Move::Drop { to, .. } => *to,
     }
 }
 
@@ -40,6 +32,5 @@ pub fn best_exchange(p: &Position, m: Move, enough: u32) -> u32
     if is_quiet(p, &m) {
         return 0;
     }
-    let last = end_of(&m);
-    best_won(&apply(p, m), last, enough)
+    best_won(&apply(p, m), m.to(), enough)
 }

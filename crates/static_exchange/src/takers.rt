@@ -12,6 +12,7 @@ ghost use Rattle.static_exchange.specs.Takers.{code_in, rank_on, taking, IsFirst
 use shogi_core::bits::{cleared, lowest};
 use shogi_core::zones::may_promote;
 use shogi_core::{Board, Move, Piece, Position, Role, Square, Squares, line_mask, near_squares};
+use shogi_eval::value_of;
 use shogi_moves::{is_legal, takers};
 
 /// What a piece is worth to send into an exchange: its value, a king last.
@@ -21,17 +22,7 @@ fn exchange_price(role: Role) -> u32
 {
     match role {
         Role::King => 10_000,
-        Role::Pawn => 100,
-        Role::Lance => 300,
-        Role::Knight => 400,
-        Role::Silver => 500,
-        Role::Gold => 600,
-        Role::Bishop => 800,
-        Role::Rook => 1000,
-        Role::PromotedPawn | Role::PromotedLance | Role::PromotedKnight | Role::PromotedSilver =>
-            600,
-        Role::Horse => 1100,
-        Role::Dragon => 1300,
+        _ => value_of(role),
     }
 }
 

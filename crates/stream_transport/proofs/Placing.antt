@@ -1,5 +1,5 @@
 -- What stands in the place of a number, and what is held under it.
-use Rattle.std.proofs.Common.{◌≡◌, ◌≢◌, ℕ, Bool, true, false, ◌<◌, ◌≤◌, ◌%◌, List, [], ◌∷◌, ◌++◌, Option, Some, None, Ok, length, get_or, refl, sym, ap, subst, ◌∙◌, append-nil, inl, inr}
+use Rattle.std.proofs.Common.{◌≡◌, ◌≢◌, ℕ, Bool, true, false, ◌<◌, ◌≤◌, ◌%◌, List, [], ◌∷◌, ◌++◌, Option, Some, None, Result, Ok, length, get_or, refl, sym, ap, subst, ◌∙◌, append-nil, inl, inr}
 use Rattle.std.specs.Prelude.{◌==◌, ◌||◌, ◌&&◌, cond, is_some, nat_eq, not, suc, zero, IfSome}
 use Rattle.std.proofs.KnownBytes.{Appends-nil}
 use Rattle.std.proofs.Math.ListN.{set}
@@ -8,9 +8,12 @@ use Rattle.std.proofs.lemmas.List.{get_or_past, get_or_read, get_or-set_same, ge
 use borrow.Author.Tests.{eqb-true, ne_eqb}
 use Rattle.stream_transport.specs.declared.connection.BufferedStream.{BufferedStream}
 use Rattle.stream_transport.specs.declared.connection.TheConstants.{PLACES}
-use Rattle.stream_transport.specs.Held.{HasPassed, HoldsOthers, IsFree, held, kept_in, of_number}
+use Rattle.stream_transport.specs.declared.readiness.Readiness.{Readiness}
+use Rattle.stream_transport.specs.Held.{HasPassed, HoldsOthers, IsFree, has_kept, held, kept_in, of_number}
 use Rattle.stream_transport.specs.declared.listener.StreamCall.{StreamCall}
-use Rattle.stream_transport.specs.Asking.{AsksToGive, IsQuiet, OfHeld, readable}
+use Rattle.stream_transport.specs.Asking.{AsksToGive, IsQuiet, OfHeld, after_read, after_write, found_nothing, readable, took_nothing, writable}
+use Rattle.transport.specs.declared.wire.Got.{Got}
+use Rattle.transport.specs.declared.wire.WireFault.{WireFault}
 use Rattle.transport.specs.declared.wire.Got.TheVariants.{Nothing}
 
 or_false : (b : Bool) → b ≡ (b || false)
@@ -144,10 +147,18 @@ module _ {S A : Type 0} where
   quiet_sleeps None q = absurd q
   quiet_sleeps (Some p) q = q.0
 
--- nothing is noted of one that sleeps
-pub none_noted : (unsure may found : Bool) → may ≡ false → unsure ≡ (unsure || (may && found))
-none_noted unsure may found e = or_false unsure ∙ ap (λ (b : Bool). unsure || (b && found)) (sym e)
+-- nothing is noted of one that sleeps and has nothing left
+notes_none : (old : Readiness) (kept may : Bool) → kept ≡ false → may ≡ false → old ≡ record old { has_buffered = old.has_buffered || kept; needs_timeout = old.needs_timeout || may }
+notes_none old kept may k m =
+    ap (λ (b : Bool). record old { has_buffered = b }) (or_false old.has_buffered ∙ ap (λ (b : Bool). old.has_buffered || b) (sym k))
+    ∙ ap (λ (b : Bool). record old { has_buffered = old.has_buffered || kept; needs_timeout = b }) (or_false old.needs_timeout ∙ ap (λ (b : Bool). old.needs_timeout || b) (sym m))
 
--- nothing more is left to be given
-pub no_more : (more : Bool) (kept : List ℕ) → kept ≡ [] → more ≡ (more || not (nat_eq (length kept) 0))
-no_more more kept e = or_false more ∙ ap (λ xs. more || not (nat_eq (length xs) 0)) (sym e)
+module _ {S A : Type 0} where
+  pub quiet_notes : (old : Readiness) (a : Option (BufferedStream S A)) (r : Result Got WireFault) → IsQuiet a → old ≡ after_read old a r
+  quiet_notes old a r q = notes_none old (has_kept a) (readable a && found_nothing r) (ap (λ xs. not (nat_eq (length xs) 0)) (quiet_kept a q)) (ap (λ (b : Bool). b && found_nothing r) (quiet_sleeps a q))
+
+  pub none_reads : (old : Readiness) (a : Option (BufferedStream S A)) (r : Result Got WireFault) → a ≡ None → old ≡ after_read old a r
+  none_reads old a r e = notes_none old (has_kept a) (readable a && found_nothing r) (ap (λ x. has_kept x) e) (ap (λ x. readable x && found_nothing r) e)
+
+  pub none_writes : (old : Readiness) (a : Option (BufferedStream S A)) (r : Result ℕ WireFault) → a ≡ None → old ≡ after_write old a r
+  none_writes old a r e = ap (λ (b : Bool). record old { needs_timeout = b }) (or_false old.needs_timeout ∙ ap (λ x. old.needs_timeout || (writable x && took_nothing r)) (sym e))

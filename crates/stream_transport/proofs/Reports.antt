@@ -86,16 +86,6 @@ module _ {S A : Type 0} where
     failed = (kept n).failed;
   }
 
-  -- nothing moved
-  pub unmoved : (r c : S → Option (List ℕ)) (g : ℕ → List ℕ) (t u : Report) (old new : List (Option (BufferedStream S A))) → u ≡ t → new ≡ old → KeepsAll (reported r c g t old) (reported r c g u new)
-  unmoved r c g t u old new e f =
-      subst (λ x. KeepsAll (reported r c g t old) (reported r c g x new)) (sym e)
-      (subst (λ x. KeepsAll (reported r c g t old) (reported r c g t x)) (sym f) (kept_same (reported r c g t old)))
-
-  -- the listener was asked, and what it found was remembered
-  pub looked : (r c : S → Option (List ℕ)) (g : ℕ → List ℕ) (t u v : Report) (old new : List (Option (BufferedStream S A))) → v ≡ u → AreAlike old new → KeepsAll t u → KeepsAll (reported r c g t old) (reported r c g v new)
-  looked r c g t u v old new e alike kept = subst (λ x. KeepsAll (reported r c g t old) (reported r c g x new)) (sym e) (alike_keeps r c g t u old new alike kept)
-
   -- a stream comes, under its number
   pub comes : (r c : S → Option (List ℕ)) (g : ℕ → List ℕ) (t u : Report) (old mid new : List (Option (BufferedStream S A))) (number : ℕ) (q : BufferedStream S A) → AreAlike old mid → held mid number ≡ None → held new number ≡ Some q → HoldsOthers mid new number
       → Keeps (t.unread number) (r q.stream) × Keeps (t.written number) (c q.stream) → KeepsElse t u number → q.kept ≡ [] → KeepsAll (reported r c g t old) (reported r c g u new)

@@ -1,11 +1,7 @@
 -- What was noted under a number, after one more.
-use Rattle.std.proofs.Common.{◌≡◌, ◌≢◌, ℕ, Bool, true, false, List, [], ◌∷◌, ◌++◌, Some, Result, Ok, take, append-nil, append_assoc, refl, sym, ap, ◌∙◌}
+use Rattle.std.proofs.Common.{◌≡◌, ◌≢◌, ℕ, Bool, true, false, List, [], ◌∷◌, ◌++◌, Some, append-nil, append_assoc, refl, sym, ap, ◌∙◌}
 use Rattle.std.specs.Prelude.{◌==◌, ◌||◌, cond}
 use borrow.Author.Tests.{eqb-false, ne_eqb}
-use Rattle.transport.specs.Report.{bytes_read}
-use Rattle.transport.specs.declared.wire.Got.{Got}
-use Rattle.transport.specs.declared.wire.Got.TheVariants as found
-use Rattle.transport.specs.declared.wire.WireFault.{WireFault}
 use Rattle.stream_transport.specs.Held.{given_under}
 use Rattle.stream_transport.specs.Streams.{IsToldFailed, IsToldShut, KeepsElse}
 use Rattle.byte_logs.specs.Noted.{all_under, is_noted, last_after, last_under}
@@ -53,9 +49,9 @@ module _ {X : Type 0} where
     all_else (y ∷ xs) number other x apart = ap (λ (l : List ℕ). cond (y.0 == other) (f y.1) [] ++ l) (all_else xs number other x apart)
 
 -- what one more read gave was noted
-pub given_now : (noted now : List (ℕ × Bytes)) (number n : ℕ) (moved : Bytes) (none front : List ℕ) (got : Result Got WireFault) (buf : List ℕ) → now ≡ noted ++ (number, moved) ∷ [] → moved.items ≡ none ++ front → none ≡ [] → front ≡ take n buf → got ≡ Ok (found.Bytes n) → given_under now number ≡ given_under noted number ++ bytes_read got buf
-given_now noted now number n moved none front got buf e m z f g =
-    let bytes : moved.items ≡ bytes_read got buf = m ∙ (ap (λ (l : List ℕ). l ++ front) z ∙ (f ∙ sym (ap (λ (r : Result Got WireFault). bytes_read r buf) g))) in
+pub given_now : (noted now : List (ℕ × Bytes)) (number : ℕ) (moved : Bytes) (none given : List ℕ) → now ≡ noted ++ (number, moved) ∷ [] → moved.items ≡ none ++ given → none ≡ [] → given_under now number ≡ given_under noted number ++ given
+given_now noted now number moved none given e m z =
+    let bytes : moved.items ≡ given = m ∙ ap (λ (l : List ℕ). l ++ given) z in
     ap (λ (xs : List (ℕ × Bytes)). given_under xs number) e ∙ (all_now (λ (b : Bytes). b.items) noted number moved ∙ ap (λ (l : List ℕ). given_under noted number ++ l) bytes)
 
 pub given_else : (noted now : List (ℕ × Bytes)) (number other : ℕ) (moved : Bytes) → other ≢ number → now ≡ noted ++ (number, moved) ∷ [] → given_under now other ≡ given_under noted other

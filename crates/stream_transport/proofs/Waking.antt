@@ -38,15 +38,6 @@ module _ {S A : Type 0} where
     | inr apart ↦ subst (λ x. IsAwakeStill (held old m) x) (sym (others m apart)) (still_as (held old m))
   ]
 
-  -- one that is alike and awake, and one that is new and awake
-  still_woken : (a b : Option (BufferedStream S A)) → IsAlike a b → IsAwake b → IsAwakeStill a b
-  still_woken None b alike awake = awake
-  still_woken (Some p) None alike awake = absurd alike
-  still_woken (Some p) (Some q) alike awake = ((λ e. awake.0), (λ e. awake.1))
-
-  pub still_wakes : (old new : List (Option (BufferedStream S A))) (number : ℕ) → HoldsOthers old new number → AreAlike old new → IsAwake (held new number) → AreAwakeStill old new
-  still_wakes old new number others alike awake = still_one old new number others (still_woken (held old number) (held new number) (alike number) awake)
-
   pub still_comes : (old new : List (Option (BufferedStream S A))) (number : ℕ) → HoldsOthers old new number → held old number ≡ None → IsAwake (held new number) → AreAwakeStill old new
   still_comes old new number others none awake = still_one old new number others (subst (λ x. IsAwakeStill x (held new number)) (sym none) awake)
 
@@ -126,5 +117,5 @@ named_more n named found old new is one still before place lt e = elim (cases_eq
 pub named_all : (n : ℕ) (named : List Ready) (now : Bool) → n ≡ length named → NamedTo n named now → NamesListener named → now ≡ true
 named_all n named now e before names = before names.0 (let lt : names.0 < length named = slice_get_within named names.0 Listener names.1 in omega arith) names.1
 
-pub at_end : (place last found named : ℕ) → last ≤ place → place ≤ last → last ≡ found → named ≡ found → place ≡ named
-at_end place last found named past within is same = omega arith
+pub at_end : (place last found : ℕ) → last ≤ place → place ≤ last → last ≡ found → place ≡ found
+at_end place last found past within is = omega arith

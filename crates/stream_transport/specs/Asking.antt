@@ -20,6 +20,7 @@ use Rattle.stream_transport.specs.declared.listener.StreamFault.{StreamFault}
 use Rattle.stream_transport.specs.declared.listener.StreamFault.TheVariants as why
 use Rattle.stream_transport.specs.declared.connection.BufferedStream.{BufferedStream}
 use Rattle.stream_transport.specs.declared.connection.TheConstants.{PLACES}
+use Rattle.stream_transport.specs.declared.readiness.Readiness.{Readiness}
 use Rattle.stream_transport.specs.declared.wire.StreamWire.{StreamWire}
 
 -- where bytes are kept, a read gives the first line of them, or as much of it as there is room for
@@ -122,6 +123,16 @@ abbrev pub GivesSome : ℕ → Result Got WireFault → Type 0
 GivesSome n result =
     ((n ≡ 0) × (result ≡ Ok Ended)) ⊎ ((n ≢ 0) × ((some : ℕ) × (result ≡ Ok (Bytes some))))
 
+-- nobody was asked: somebody may wait to be accepted
+abbrev pub nothing_asked : Readiness
+nothing_asked = record { may_accept = true; has_buffered = false; needs_timeout = false }
+
+-- after an accept: nobody waits, where it found nobody; and nothing may say when to make it again, where it failed
+abbrev pub after_accept : Readiness → Result (Option ℕ) WireFault → Readiness
+after_accept old (Ok (Some number)) = old
+after_accept old (Ok None) = record old { may_accept = false }
+after_accept old (Err fault) = record old { needs_timeout = true }
+
 -- somebody may wait to be accepted, after one was accepted; and after a failure where it was so before
 abbrev pub StaysOpen : Result (Option ℕ) WireFault → Bool → Bool → Type 0
 StaysOpen (Ok (Some number)) old new = new ≡ true
@@ -209,6 +220,20 @@ module _ {S A : Type 0} where
   writable None = false
   writable (Some connection) = connection.writable
 
+  -- after a read that left this connection: something is left to be given, where bytes are kept or it was so before; and
+  -- nothing may say when to make it again, where it found nothing and the stream may give more
+  abbrev pub after_read : Readiness → Option (BufferedStream S A) → Result Got WireFault → Readiness
+  after_read old connection result = record old {
+    has_buffered = old.has_buffered || has_kept connection;
+    needs_timeout = old.needs_timeout || (readable connection && found_nothing result);
+  }
+
+  -- the same of a write that took nothing
+  abbrev pub after_write : Readiness → Option (BufferedStream S A) → Result ℕ WireFault → Readiness
+  after_write old connection result = record old {
+    needs_timeout = old.needs_timeout || (writable connection && took_nothing result);
+  }
+
   -- who is held after an accept with this answer: who was before, and one more where it gave a number
   abbrev pub HoldsAccepted : Result (Option ℕ) WireFault → List (Option (BufferedStream S A))
       → List (Option (BufferedStream S A)) → Type 0
@@ -240,15 +265,6 @@ module _ {L A S : Type 0} where
   AsksByRead calls number buf result old new =
       OfNumber number (AsksToGive calls (length buf) result) old new
 
-  -- a read of this number has left something to be given, where there was something or it is kept now
-  abbrev pub LeavesMore : ℕ → (old new : StreamWire L A S) → Type 0
-  LeavesMore number old new =
-      new.has_buffered ≡ (old.has_buffered || has_kept new.places.items number)
-
-  -- where a look or a wait has named the listener, somebody may wait to be accepted
-  abbrev pub OpensIfNamed : (L → List Ready) → StreamWire L A S → Type 0
-  OpensIfNamed named wire = NamesListener (named wire.listener) → wire.acceptable ≡ true
-
   -- its listener was asked for the next one who waits, with this answer
   abbrev pub AsksNext : (L → Option (List ListenerCall)) → (old new : StreamWire L A S)
       → Result (Option ℕ) WireFault → Type 0
@@ -259,14 +275,14 @@ module _ {L A S : Type 0} where
   abbrev pub AsksByAccept : (L → List Ready) → (L → Option (List ListenerCall))
       → (old new : StreamWire L A S) → Result (Option ℕ) WireFault → Type 0
   AsksByAccept named asked old new result =
-      IsAskedToAccept old.acceptable (named new.listener) (length new.places.items) old.next
-      new.needs_timeout (asked old.listener) (asked new.listener) result
+      IsAskedToAccept old.readiness.may_accept (named new.listener) (length new.places.items) old.next
+      new.readiness.needs_timeout (asked old.listener) (asked new.listener) result
 
   -- its listener was asked to wait, with this answer
   abbrev pub AsksByWait : (L → Option (List ListenerCall)) → Bool → (old new : StreamWire L A S)
       → Result (Unit {0}) WireFault → Type 0
   AsksByWait asked idle old new result =
-      IsAskedToWait (is_made idle old.has_buffered) old.needs_timeout
+      IsAskedToWait (is_made idle old.readiness.has_buffered) old.readiness.needs_timeout
       (asked old.listener) (asked new.listener) result
 
   -- where it has looked each stream that was named is awake
@@ -276,17 +292,14 @@ module _ {L A S : Type 0} where
   -- where it has waited each stream that was named is awake
   abbrev pub WakesByWait : (L → List Ready) → Bool → (old new : StreamWire L A S) → Type 0
   WakesByWait named idle old new =
-      idle ≡ true → old.has_buffered ≡ false → AreAwake (named new.listener) new.places.items
+      idle ≡ true → old.readiness.has_buffered ≡ false → AreAwake (named new.listener) new.places.items
 
-  -- nothing may say when to make a read of this number again that found nothing, where its stream may give more; and what
-  -- was so before stays
+  -- it is noted what a read of this number found, and what is left
   abbrev pub NotesByRead : ℕ → Result Got WireFault → (old new : StreamWire L A S) → Type 0
   NotesByRead number result old new =
-      new.needs_timeout
-      ≡ (old.needs_timeout || (readable (held new.places.items number) && found_nothing result))
+      new.readiness ≡ after_read old.readiness (held new.places.items number) result
 
-  -- the same of a write that took nothing
+  -- it is noted whether a write to this number found room
   abbrev pub NotesByWrite : ℕ → Result ℕ WireFault → (old new : StreamWire L A S) → Type 0
   NotesByWrite number result old new =
-      new.needs_timeout
-      ≡ (old.needs_timeout || (writable (held new.places.items number) && took_nothing result))
+      new.readiness ≡ after_write old.readiness (held new.places.items number) result

@@ -81,8 +81,8 @@ module _ {S A : Type 0} where
   abbrev pub kept_of : List (Option (BufferedStream S A)) → ℕ → List ℕ
   kept_of places number = kept_in (held places number)
 
-  abbrev pub has_kept : List (Option (BufferedStream S A)) → ℕ → Bool
-  has_kept places number = not (nat_eq (length (kept_of places number)) 0)
+  abbrev pub has_kept : Option (BufferedStream S A) → Bool
+  has_kept connection = not (nat_eq (length (kept_in connection)) 0)
 
   -- ---- what calls do to what is held
 

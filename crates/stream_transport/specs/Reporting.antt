@@ -6,6 +6,7 @@ use Rattle.transport.specs.declared.wire.Wire.{Ghosts}
 use Rattle.transport.specs.declared.wire.WireFault.{WireFault}
 use Rattle.stream_transport.specs.Held.{counted}
 use Rattle.stream_transport.specs.declared.wire.StreamWire.{StreamWire}
+use Rattle.stream_transport.specs.declared.wire.Traffic.{Traffic}
 
 -- of a number is reported that nothing was given or written, that it is not shut, and that no call of it has failed
 pub record IsBlank (report : Report) (number : ℕ) : Type 0 where
@@ -30,11 +31,17 @@ module _ {W : Type 0} (wires : Ghosts W) (old new : W) where
   abbrev pub ReportsShut : ℕ → Type 0
   ReportsShut number = Shuts (wires.bound old) (wires.report old) (wires.report new) number
 
+-- no byte passed yet
+abbrev pub no_traffic : Traffic
+no_traffic = record { received = 0; sent = 0 }
+
 module _ {L A S : Type 0} (old new : StreamWire L A S) where
   -- the bytes that a read gave were counted
   abbrev pub CountsRead : Result Got WireFault → List ℕ → Type 0
-  CountsRead result buf = new.received ≡ counted old.received (bytes_read result buf)
+  CountsRead result buf =
+      new.traffic ≡ record old.traffic { received = counted old.traffic.received (bytes_read result buf) }
 
   -- the bytes that a write took were counted
   abbrev pub CountsWrite : Result ℕ WireFault → List ℕ → Type 0
-  CountsWrite result buf = new.sent ≡ counted old.sent (bytes_written result buf)
+  CountsWrite result buf =
+      new.traffic ≡ record old.traffic { sent = counted old.traffic.sent (bytes_written result buf) }

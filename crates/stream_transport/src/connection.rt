@@ -50,8 +50,8 @@ impl<S: ByteStream, A: Allocator + Copy> BufferedStream<S, A> {
     }
 
     /// Reads once, and gives the first line of what came, or all of it where no line has ended. The rest
-    /// is kept, in room that is asked for before.
-    fn read_stream(&mut self, alloc: A, buf: &mut [u8]) -> Result<Got, WireFault>
+    /// is kept in the spare room, which is made large enough before.
+    fn read_stream(&mut self, spare: &mut Vec<u8, A>, buf: &mut [u8]) -> Result<Got, WireFault>
         requires { self.old.kept ≡ [] }
         ensures number { self.new.number ≡ self.old.number }
         ensures within { IsWithin result (length buf.new) }
@@ -65,14 +65,13 @@ impl<S: ByteStream, A: Allocator + Copy> BufferedStream<S, A> {
         if buf.is_empty() || !self.readable {
             return Ok(Got::Nothing);
         }
-        let room = Vec::with_capacity(alloc, buf.len())?;
+        spare.clear();
+        spare.reserve(buf.len())?;
         match self.stream.receive(buf) {
             Ok(0) => Ok(Got::Ended),
             Ok(n) => {
                 let (line, rest) = cut_line(buf.split_at(n).0);
-                if !rest.is_empty() {
-                    self.kept = ReadBuffer::within(room, rest);
-                }
+                self.kept.fill(spare, rest);
                 Ok(Got::Bytes(line.len()))
             }
             Err(StreamFault::WouldBlock) => {
@@ -85,7 +84,7 @@ impl<S: ByteStream, A: Allocator + Copy> BufferedStream<S, A> {
     }
 
     /// Gives the first line, or a part of it, of what is kept; where nothing is, of what the stream has.
-    pub fn read(&mut self, alloc: A, buf: &mut [u8]) -> Result<Got, WireFault>
+    pub fn read(&mut self, spare: &mut Vec<u8, A>, buf: &mut [u8]) -> Result<Got, WireFault>
         ensures number { self.new.number ≡ self.old.number }
         ensures within { IsWithin result (length buf.new) }
         ensures line { IsOneLine (bytes_read result buf.new) }
@@ -97,9 +96,9 @@ impl<S: ByteStream, A: Allocator + Copy> BufferedStream<S, A> {
         ensures asked { AsksToGive S.calls (length buf.old) result self.old self.new }
     {
         if self.kept.is_empty() {
-            return self.read_stream(alloc, buf);
+            return self.read_stream(spare, buf);
         }
-        match self.kept.give_line(buf) {
+        match self.kept.give_line(spare, buf) {
             0 => Ok(Got::Nothing),
             n => Ok(Got::Bytes(n)),
         }

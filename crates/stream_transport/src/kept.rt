@@ -1,10 +1,11 @@
 //! What was read from a connection and is not given yet.
 
-ghost use Rattle.std.specs.Prelude.{◌≡◌, ◌≢◌, ◌≤◌, ◌+◌, [], ◌++◌, length, take, nat_eq, vec_capacity};
+ghost use Rattle.std.specs.Prelude.{◌≡◌, ◌≤◌, ◌+◌, [], ◌++◌, length, take, nat_eq, vec_capacity};
 ghost use Rattle.usi_lines.specs.OneLine.{one_line, IsOneLine};
 
 use std::alloc::Allocator;
 use std::marker::Model;
+use std::mem::swap;
 use usi_lines::cut_line;
 
 /// Bytes that were read and are not given yet. It has room only while there are some.
@@ -36,19 +37,19 @@ impl<A: Allocator> ReadBuffer<A> {
         }
     }
 
-    /// Some bytes, in this room.
-    pub fn within(room: Vec<u8, A>, bytes: &[u8]) -> ReadBuffer<A>
-        requires empty { room.items ≡ [] }
-        requires some { bytes.now ≢ [] }
-        requires fits { length bytes.now ≤ vec_capacity room }
-        ensures { result ≡ bytes.now }
+    /// Keeps these bytes where none are kept. Where there are some, they take the room.
+    pub fn fill(&mut self, room: &mut Vec<u8, A>, bytes: &[u8])
+        requires none { self.old ≡ [] }
+        requires empty { room.old.items ≡ [] }
+        requires fits { length bytes.now ≤ vec_capacity room.old }
+        ensures { self.new ≡ bytes.now }
     {
-        let mut kept = room;
-        let _fits = kept.extend_from_slice(bytes);
-        ReadBuffer {
-            bytes: kept,
-            start: 0,
+        if bytes.is_empty() {
+            return;
         }
+        let _fits = room.extend_from_slice(bytes);
+        swap(&mut self.bytes, room);
+        self.start = 0;
     }
 
     /// All of them.
@@ -67,7 +68,8 @@ impl<A: Allocator> ReadBuffer<A> {
 
     /// Gives the first line with its LF, or all bytes where no line has ended, at the front of the
     /// buffer; where the buffer is too short for it, as many as fit. Returns how many bytes were given.
-    pub fn give_line(&mut self, buf: &mut [u8]) -> usize
+    /// With the last byte its room is the spare one.
+    pub fn give_line(&mut self, spare: &mut Vec<u8, A>, buf: &mut [u8]) -> usize
         ensures given { take result buf.new ≡ take (length buf.old) (one_line self.old) }
         ensures line { IsOneLine (take result buf.new) }
         ensures kept { take result buf.new ++ self.new ≡ self.old }
@@ -80,6 +82,7 @@ impl<A: Allocator> ReadBuffer<A> {
         buf.split_at_mut(n).0.copy_from_slice(given);
         self.start += n;
         if self.start == self.bytes.len() {
+            swap(&mut self.bytes, spare);
             self.bytes.clear();
             self.bytes.shrink_to(0);
             self.start = 0;

@@ -6,9 +6,10 @@ mod kept;
 mod lingering;
 mod listener;
 mod places;
+mod readiness;
 mod sockets;
 mod wire;
 
 pub use listener::{ByteStream, Listener, ListenerCall, Ready, StreamCall, StreamFault};
 pub use sockets::{MioListener, MioWire, SocketStream, watch_again};
-pub use wire::StreamWire;
+pub use wire::{StreamWire, Traffic};

@@ -1,36 +1,39 @@
 //! A wire over a listener.
 
-ghost use Rattle.std.specs.Prelude.{◌≡◌, ◌≢◌, ◌≤◌, ◌-◌, ◌^◌, ◌&&◌, not, true, false, ℕ, [], ◌++◌, length, is_some, IfOk, Err, None, Ok, Some, OnErr, OnOk};
+ghost use Rattle.std.specs.Prelude.{◌≡◌, ◌≢◌, ◌≤◌, ◌-◌, ◌^◌, ◌&&◌, not, true, ℕ, [], ◌++◌, length, IfOk, Err, None, Ok, OnOk};
 ghost use Rattle.usi_lines.specs.OneLine.{IsOneLine};
 ghost use Rattle.transport.specs.Report.{GivesNumber, HasCause, HasRisen, IsWithin, KeepsAll, bytes_read, bytes_written};
 ghost use Rattle.transport.specs.declared.wire.WireFault.TheVariants.{Device};
-ghost use Rattle.stream_transport.specs.Asking.{AnswersAs, AreAwake, AreAwakeStill, AsksByAccept, AsksByRead, AsksByWait, AsksNext, AsksToTake, GivesKept, HoldsAccepted, IsNamedAwake, LeavesMore, NotesByRead, NotesByWrite, OfNumber, OpensIfNamed, StaysOpen, WakesByAccept, WakesByWait, found_nothing, is_made, took_nothing};
-ghost use Rattle.stream_transport.specs.Held.{AreAlike, HasPassed, HoldsOthers, given_under, held, kept_of, none_given};
-ghost use Rattle.stream_transport.specs.Reporting.{CountsRead, CountsWrite, KeepsReport, ReportsRead, ReportsShut, ReportsWrite};
+ghost use Rattle.stream_transport.specs.Asking.{AnswersAs, AreAwakeStill, AsksByAccept, AsksByRead, AsksByWait, AsksNext, AsksToTake, GivesKept, HoldsAccepted, NotesByRead, NotesByWrite, OfNumber, StaysOpen, WakesByAccept, WakesByWait, is_made, nothing_asked};
+ghost use Rattle.stream_transport.specs.Held.{HasPassed, HoldsOthers, counted, given_under, held, kept_of, none_given};
+ghost use Rattle.stream_transport.specs.Reporting.{CountsRead, CountsWrite, KeepsReport, ReportsRead, ReportsShut, ReportsWrite, no_traffic};
 ghost use Rattle.stream_transport.specs.Streams.{Notes};
-ghost use Rattle.stream_transport.specs.declared.listener.Ready.TheVariants as who;
-ghost use Rattle.stream_transport.specs.declared.listener.StreamFault.TheVariants as why;
 ghost use Rattle.stream_transport.specs.declared.connection.TheConstants.{PLACES};
 
 use crate::connection::{BufferedStream, PLACES};
-use crate::listener::{Listener, Ready, StreamFault};
-use crate::places::{free_place, insert, is_quiet, mark_ready, number_at, remove};
+use crate::listener::{Listener, StreamFault};
+use crate::places::{free_place, insert, is_quiet, number_at, remove};
+use crate::readiness::{Readiness, mark_all_ready, patience_for};
 use byte_logs::Bytes;
 use http_server::Log;
 use std::alloc::Allocator;
-use std::time::Duration;
 use transport::{Got, Wire, WireFault};
 
-/// After so many milliseconds a call is made again that failed or was interrupted, where nothing may
-/// say when.
-const PATIENCE: u64 = 500;
+/// How many bytes passed. Each count stays at the greatest number once it is there.
+#[derive(Clone, Copy)]
+pub struct Traffic {
+    /// How many bytes reads gave.
+    pub received: u64,
+    /// How many bytes writes took.
+    pub sent: u64,
+}
 
 /// The connections of a listener. It reports what its reads gave, and what the streams tell of their bytes.
 /// Only `wait` waits.
 ///
 /// A read gives one line at most, so that a turn answers one line of each connection. What else came
-/// with it is kept, and given by the next reads before the stream is asked again. Room for it is asked
-/// for before the bytes are read: where allocation fails the read fails, and no byte is lost.
+/// with it is kept, and given by the next reads before the stream is asked again. Room for it is there
+/// before the bytes are read: where allocation fails the read fails, and no byte is lost.
 ///
 /// A listener or a stream that has said that it has nothing, or no room, is not asked again before a
 /// look has named it. Each `accept` looks, so nobody who may be ready waits for a `wait`.
@@ -39,97 +42,99 @@ pub struct StreamWire<L: Listener, A: Allocator> {
     alloc: A,
     /// Where its connections come from.
     pub listener: L,
-    // The last accept found somebody or failed, or a look has named the listener since.
-    acceptable: bool,
     // By the place of each one's number.
     places: Vec<Option<BufferedStream<L::Stream, A>>, A>,
-    // A read has left something to be given, and no wait has returned at once since.
-    has_buffered: bool,
-    // A call failed or was interrupted, and nothing may say when to make it again.
-    needs_timeout: bool,
+    // Room for what the next read leaves, once a read has asked for it.
+    spare: Vec<u8, A>,
+    readiness: Readiness,
     // The number of the next connection is this one or a greater one.
     next: u64,
     failed: u64,
-    /// How many bytes reads gave. It stays at the greatest number once it is there.
-    pub received: u64,
-    /// How many bytes writes took. It stays at the greatest number once it is there.
-    pub sent: u64,
+    /// The bytes that passed so far.
+    pub traffic: Traffic,
     // What each read gave, by its number. It takes no memory.
     given: Log<u64, Bytes>,
 }
 
-/// How long a wait lasts at most: for a while, where nothing may say when somebody is ready.
-fn patience_for(needs_timeout: bool) -> Option<Duration>
-    ensures { is_some result ≡ needs_timeout }
+/// The bytes that a read gave.
+fn bytes_read<'a>(got: &Result<Got, WireFault>, buf: &'a [u8]) -> &'a [u8]
+    requires { IsWithin got.now (length buf.now) }
+    ensures { result.now ≡ bytes_read got.now buf.now }
 {
-    if needs_timeout {
-        Some(Duration::from_millis(PATIENCE))
-    } else {
-        None
+    match got {
+        Ok(Got::Bytes(n)) => buf.split_at(*n).0,
+        _ => buf.split_at(0).0,
     }
 }
 
-/// How many bytes a read gave.
-fn given_by(got: &Result<Got, WireFault>, buf: &[u8]) -> u64
-    requires { IsWithin got.now (length buf.now) }
-    ensures { result ≡ length (bytes_read got.now buf.now) }
+/// The bytes that a write took.
+fn bytes_written<'a>(taken: &Result<usize, WireFault>, buf: &'a [u8]) -> &'a [u8]
+    requires { IfOk taken.now (λ n. n ≤ length buf.now) }
+    ensures { result.now ≡ bytes_written taken.now buf.now }
 {
-    match got {
-        Ok(Got::Bytes(n)) => *n as u64,
-        _ => 0,
+    match taken {
+        Ok(n) => buf.split_at(*n).0,
+        Err(_) => buf.split_at(0).0,
     }
+}
+
+/// The count with these bytes.
+fn counted(count: u64, bytes: &[u8]) -> u64
+    ensures { result ≡ counted count bytes.now }
+{
+    count.saturating_add(bytes.len() as u64)
 }
 
 /// Notes what a read of this number gave, for clauses alone.
-fn note_read(log: &mut Log<u64, Bytes>, number: u64, got: &Result<Got, WireFault>, buf: &[u8])
-    requires { IsWithin got.now (length buf.now) }
+fn note_given(log: &mut Log<u64, Bytes>, number: u64, given: &[u8])
     ensures given { given_under log.new.items number
-        ≡ given_under log.old.items number ++ bytes_read got.now buf.now }
+        ≡ given_under log.old.items number ++ given.now }
     ensures others { (other : ℕ) → other ≢ number
         → given_under log.new.items other ≡ given_under log.old.items other }
 {
-    if let Ok(Got::Bytes(n)) = got {
-        let mut bytes = Bytes::new();
-        bytes.note(buf.split_at(*n).0);
-        *log = log.and(&number, &bytes);
+    let mut bytes = Bytes::new();
+    bytes.note(given);
+    *log = log.and(&number, &bytes);
+}
+
+/// Counts a call that failed.
+fn fault(failed: &mut u64) -> WireFault
+    ensures device { result ≡ Device }
+    ensures rises { failed.old ≤ failed.new }
+    ensures risen { HasRisen failed.old failed.new }
+{
+    *failed = failed.saturating_add(1);
+    WireFault::Device
+}
+
+/// Answers as a look or a wait, and counts one that failed.
+fn answer_as(failed: &mut u64, looked: Result<(), StreamFault>) -> Result<(), WireFault>
+    ensures answers { AnswersAs result looked }
+    ensures cause { HasCause failed.old failed.new result }
+{
+    match looked {
+        Ok(()) => Ok(()),
+        Err(_) => Err(fault(failed)),
     }
 }
 
-/// How many bytes a write took.
-fn taken_by(taken: &Result<usize, WireFault>, buf: &[u8]) -> u64
-    requires { IfOk taken.now (λ n. n ≤ length buf.now) }
-    ensures { result ≡ length (bytes_written taken.now buf.now) }
+/// Tells the listener of a call of this number that failed, and counts it.
+fn tell<L: Listener, T>(
+    listener: &mut L,
+    failed: &mut u64,
+    number: u64,
+    found: &Result<T, WireFault>,
+)
+    ensures noted { Notes (L.told listener.old) (L.told listener.new) number found.now }
+    ensures cause { HasCause failed.old failed.new found.now }
+    ensures asks { L.asked listener.new ≡ L.asked listener.old }
 {
-    match taken {
-        Ok(n) => *n as u64,
-        Err(_) => 0,
+    if let Err(cause) = found {
+        listener.fail(number);
+        if *cause == WireFault::Device {
+            let _counted = fault(failed);
+        }
     }
-}
-
-/// Whether an accept that gave nothing says that nobody waits.
-fn is_nobody(fault: StreamFault) -> bool
-    ensures yes { result ≡ true → fault ≡ why.WouldBlock }
-    ensures no { result ≡ false → fault ≢ why.WouldBlock }
-{
-    match fault {
-        StreamFault::WouldBlock => true,
-        StreamFault::Interrupted => false,
-        StreamFault::Failed => false,
-    }
-}
-
-/// Whether a read found nothing.
-fn gave_nothing(got: &Result<Got, WireFault>) -> bool
-    ensures { result ≡ found_nothing got.now }
-{
-    matches!(got, Ok(Got::Nothing))
-}
-
-/// Whether a write found no room.
-fn took_nothing(taken: &Result<usize, WireFault>) -> bool
-    ensures { result ≡ took_nothing taken.now }
-{
-    matches!(taken, Ok(0))
 }
 
 impl<L: Listener, A: Allocator + Copy> StreamWire<L, A> {
@@ -137,121 +142,28 @@ impl<L: Listener, A: Allocator + Copy> StreamWire<L, A> {
     pub fn new(alloc: A, listener: L) -> StreamWire<L, A>
         ensures bound { ⟦<Self as Wire>⟧.bound result ≡ 0 }
         ensures failed { ⟦<Self as Wire>⟧.failed result ≡ 0 }
-        ensures if_none { (result.received ≡ 0) × (result.sent ≡ 0) }
-        ensures opens { result.acceptable ≡ true }
-        ensures sure { result.needs_timeout ≡ false }
+        ensures traffic { result.traffic ≡ no_traffic }
+        ensures readiness { result.readiness ≡ nothing_asked }
         ensures report { KeepsAll (none_given (L.told listener)) (⟦<Self as Wire>⟧.report result) }
     {
         StreamWire {
             alloc,
             listener,
-            acceptable: true,
             places: Vec::new(alloc),
-            has_buffered: false,
-            needs_timeout: false,
+            spare: Vec::new(alloc),
+            readiness: Readiness {
+                may_accept: true,
+                has_buffered: false,
+                needs_timeout: false,
+            },
             next: 0,
             failed: 0,
-            received: 0,
-            sent: 0,
+            traffic: Traffic {
+                received: 0,
+                sent: 0,
+            },
             given: Log::new(),
         }
-    }
-
-    /// Counts a call that failed.
-    fn fault(&mut self) -> WireFault
-        ensures device { result ≡ Device }
-        ensures rises { self.old.failed ≤ self.new.failed }
-        ensures risen { HasRisen self.old.failed self.new.failed }
-        ensures listener { self.new.listener ≡ self.old.listener }
-        ensures places { self.new.places ≡ self.old.places }
-        ensures next { self.new.next ≡ self.old.next }
-        ensures opens { self.new.acceptable ≡ self.old.acceptable }
-        ensures more { self.new.has_buffered ≡ self.old.has_buffered }
-        ensures unsure { self.new.needs_timeout ≡ self.old.needs_timeout }
-        ensures received { self.new.received ≡ self.old.received }
-        ensures sent { self.new.sent ≡ self.old.sent }
-        ensures given { self.new.given ≡ self.old.given }
-    {
-        self.failed = self.failed.saturating_add(1);
-        WireFault::Device
-    }
-
-    /// Tells the listener of a call of this number that failed, and counts it.
-    fn answer<T>(&mut self, number: u64, found: Result<T, WireFault>) -> Result<T, WireFault>
-        ensures unchanged { result ≡ found }
-        ensures noted { Notes (L.told self.old.listener) (L.told self.new.listener) number result }
-        ensures cause { HasCause self.old.failed self.new.failed result }
-        ensures asks { L.asked self.new.listener ≡ L.asked self.old.listener }
-        ensures places { self.new.places ≡ self.old.places }
-        ensures next { self.new.next ≡ self.old.next }
-        ensures opens { self.new.acceptable ≡ self.old.acceptable }
-        ensures more { self.new.has_buffered ≡ self.old.has_buffered }
-        ensures unsure { self.new.needs_timeout ≡ self.old.needs_timeout }
-        ensures received { self.new.received ≡ self.old.received }
-        ensures sent { self.new.sent ≡ self.old.sent }
-        ensures given { self.new.given ≡ self.old.given }
-    {
-        match found {
-            Ok(value) => Ok(value),
-            Err(fault) => {
-                self.listener.fail(number);
-                if fault == WireFault::Device {
-                    let _counted = self.fault();
-                }
-                Err(fault)
-            }
-        }
-    }
-
-    /// Remembers one who may be ready.
-    fn mark_one_ready(&mut self, found: Option<Ready>)
-        ensures awake { IsNamedAwake found self.new.places.items }
-        ensures still { AreAwakeStill self.old.places.items self.new.places.items }
-        ensures named { found ≡ Some who.Listener → self.new.acceptable ≡ true }
-        ensures opens { self.old.acceptable ≡ true → self.new.acceptable ≡ true }
-        ensures alike { AreAlike self.old.places.items self.new.places.items }
-        ensures listener { self.new.listener ≡ self.old.listener }
-        ensures next { self.new.next ≡ self.old.next }
-        ensures failed { self.new.failed ≡ self.old.failed }
-        ensures more { self.new.has_buffered ≡ self.old.has_buffered }
-        ensures unsure { self.new.needs_timeout ≡ self.old.needs_timeout }
-        ensures received { self.new.received ≡ self.old.received }
-        ensures sent { self.new.sent ≡ self.old.sent }
-        ensures given { self.new.given ≡ self.old.given }
-    {
-        match found {
-            Some(Ready::Listener) => self.acceptable = true,
-            Some(Ready::Stream(number)) => mark_ready(&mut self.places, number),
-            None => {}
-        }
-    }
-
-    /// Remembers who may be ready, by what a look or a wait has found.
-    fn mark_all_ready(&mut self, looked: Result<(), StreamFault>) -> Result<(), WireFault>
-        requires nobody { OnErr looked (L.named self.old.listener ≡ []) }
-        ensures answers { AnswersAs result looked }
-        ensures cause { HasCause self.old.failed self.new.failed result }
-        ensures listener { self.new.listener ≡ self.old.listener }
-        ensures alike { AreAlike self.old.places.items self.new.places.items }
-        ensures awake { AreAwake (L.named self.new.listener) self.new.places.items }
-        ensures named { OpensIfNamed L.named self.new }
-        ensures still { AreAwakeStill self.old.places.items self.new.places.items }
-        ensures opens { self.old.acceptable ≡ true → self.new.acceptable ≡ true }
-        ensures next { self.new.next ≡ self.old.next }
-        ensures more { self.new.has_buffered ≡ self.old.has_buffered }
-        ensures unsure { self.new.needs_timeout ≡ self.old.needs_timeout }
-        ensures received { self.new.received ≡ self.old.received }
-        ensures sent { self.new.sent ≡ self.old.sent }
-        ensures given { self.new.given ≡ self.old.given }
-    {
-        if looked.is_err() {
-            return Err(self.fault());
-        }
-        for place in 0..self.listener.found() {
-            let found = self.listener.ready(place);
-            self.mark_one_ready(found);
-        }
-        Ok(())
     }
 
     /// Accepts who waits first, under the next number that has a free place.
@@ -263,16 +175,13 @@ impl<L: Listener, A: Allocator + Copy> StreamWire<L, A> {
         ensures named { L.named self.new.listener ≡ L.named self.old.listener }
         ensures awake { AreAwakeStill self.old.places.items self.new.places.items }
         ensures holds { HoldsAccepted result self.old.places.items self.new.places.items }
-        ensures opens { result ≢ Ok None → self.new.acceptable ≡ self.old.acceptable }
-        ensures more { self.new.has_buffered ≡ self.old.has_buffered }
-        ensures unsure { self.new.needs_timeout ≡ self.old.needs_timeout }
-        ensures received { self.new.received ≡ self.old.received }
-        ensures sent { self.new.sent ≡ self.old.sent }
+        ensures readiness { self.new.readiness ≡ self.old.readiness }
+        ensures traffic { self.new.traffic ≡ self.old.traffic }
         ensures unchanged { KeepsReport ⟦<Self as Wire>⟧ self.old self.new }
     {
         let place = free_place(&mut self.places)?;
         if place >= PLACES as usize {
-            return Err(self.fault());
+            return Err(fault(&mut self.failed));
         }
         let number = number_at(self.next, place as u64);
         match self.listener.accept(number) {
@@ -284,93 +193,11 @@ impl<L: Listener, A: Allocator + Copy> StreamWire<L, A> {
                 self.next = number + 1;
                 Ok(Some(number))
             }
-            Err(fault) if is_nobody(fault) => {
-                self.acceptable = false;
-                Ok(None)
-            }
-            Err(_) => Err(self.fault()),
+            Err(cause) => match cause {
+                StreamFault::WouldBlock => Ok(None),
+                _ => Err(fault(&mut self.failed)),
+            },
         }
-    }
-
-    /// The same. After a failure others may still wait, and nothing names them.
-    fn accept_or_retry(&mut self) -> Result<Option<u64>, WireFault>
-        requires left { self.old.next ≤ 2 ^ 64 - 1 - PLACES }
-        ensures number { GivesNumber self.old.next self.new.next result }
-        ensures cause { HasCause self.old.failed self.new.failed result }
-        ensures asks { AsksNext L.asked self.old self.new result }
-        ensures named { L.named self.new.listener ≡ L.named self.old.listener }
-        ensures awake { AreAwakeStill self.old.places.items self.new.places.items }
-        ensures holds { HoldsAccepted result self.old.places.items self.new.places.items }
-        ensures opens { result ≢ Ok None → self.new.acceptable ≡ self.old.acceptable }
-        ensures more { self.new.has_buffered ≡ self.old.has_buffered }
-        ensures unchanged { KeepsReport ⟦<Self as Wire>⟧ self.old self.new }
-        ensures unsure { OnErr result (self.new.needs_timeout ≡ true) }
-        ensures sure { OnOk result (self.new.needs_timeout ≡ self.old.needs_timeout) }
-        ensures received { self.new.received ≡ self.old.received }
-        ensures sent { self.new.sent ≡ self.old.sent }
-    {
-        let accepted = self.accept_next();
-        if accepted.is_err() {
-            self.needs_timeout = true;
-        }
-        accepted
-    }
-
-    /// Reads from the connection of this number, where it may have something.
-    fn read_from(&mut self, number: u64, buf: &mut [u8]) -> Result<Got, WireFault>
-        ensures bound { self.new.next ≡ self.old.next }
-        ensures read { ReportsRead ⟦<Self as Wire>⟧ self.old self.new number result buf.new }
-        ensures line { IsOneLine (bytes_read result buf.new) }
-        ensures cause { HasCause self.old.failed self.new.failed result }
-        ensures absent { held self.old.places.items number ≡ None → result ≡ Err Device }
-        ensures first { GivesKept (kept_of self.old.places.items number) result buf.new }
-        ensures asks { L.asked self.new.listener ≡ L.asked self.old.listener }
-        ensures gives { AsksByRead L.Stream.calls number buf.old result self.old self.new }
-        ensures came { OfNumber number (λ old new.
-            HasPassed L.Stream.given old new (bytes_read result buf.new)) self.old self.new }
-        ensures others { HoldsOthers self.old.places.items self.new.places.items number }
-        ensures opens { self.new.acceptable ≡ self.old.acceptable }
-        ensures more { LeavesMore number self.old self.new }
-        ensures unsure { NotesByRead number result self.old self.new }
-        ensures received { self.new.received ≡ self.old.received }
-        ensures sent { self.new.sent ≡ self.old.sent }
-    {
-        let Some(mut connection) = remove(&mut self.places, number) else {
-            return self.answer(number, Err(WireFault::Device));
-        };
-        let got = connection.read(self.alloc, buf);
-        note_read(&mut self.given, number, &got, buf);
-        self.has_buffered = self.has_buffered | !connection.kept.is_empty();
-        self.needs_timeout = self.needs_timeout | (connection.readable & gave_nothing(&got));
-        insert(&mut self.places, connection);
-        self.answer(number, got)
-    }
-
-    /// Writes to the connection of this number.
-    fn write_to(&mut self, number: u64, buf: &[u8]) -> Result<usize, WireFault>
-        ensures bound { self.new.next ≡ self.old.next }
-        ensures written { ReportsWrite ⟦<Self as Wire>⟧ self.old self.new number result buf.now }
-        ensures cause { HasCause self.old.failed self.new.failed result }
-        ensures absent { held self.old.places.items number ≡ None → result ≡ Err Device }
-        ensures asks { L.asked self.new.listener ≡ L.asked self.old.listener }
-        ensures takes { OfNumber number
-            (AsksToTake L.Stream.calls (length buf.now) result) self.old self.new }
-        ensures came { OfNumber number (λ old new.
-            HasPassed L.Stream.given old new []) self.old self.new }
-        ensures unsure { NotesByWrite number result self.old self.new }
-        ensures others { HoldsOthers self.old.places.items self.new.places.items number }
-        ensures opens { self.new.acceptable ≡ self.old.acceptable }
-        ensures more { self.new.has_buffered ≡ self.old.has_buffered }
-        ensures received { self.new.received ≡ self.old.received }
-        ensures sent { self.new.sent ≡ self.old.sent }
-    {
-        let Some(mut connection) = remove(&mut self.places, number) else {
-            return self.answer(number, Err(WireFault::Device));
-        };
-        let taken = connection.write(buf);
-        self.needs_timeout = self.needs_timeout | (connection.writable & took_nothing(&taken));
-        insert(&mut self.places, connection);
-        self.answer(number, taken)
     }
 }
 
@@ -389,24 +216,32 @@ impl<L: Listener, A: Allocator + Copy> Wire for StreamWire<L, A> {
         ensures unchanged { KeepsReport ⟦<Self as Wire>⟧ self.old self.new }
         ensures cause { HasCause self.old.failed self.new.failed result }
         ensures asks { AsksByAccept L.named L.asked self.old self.new result }
-        ensures opens { StaysOpen result self.old.acceptable self.new.acceptable }
+        ensures opens { StaysOpen result
+            self.old.readiness.may_accept self.new.readiness.may_accept }
         ensures awake { WakesByAccept L.named self.old self.new }
         ensures still { AreAwakeStill self.old.places.items self.new.places.items }
         ensures holds { HoldsAccepted result self.old.places.items self.new.places.items }
-        ensures more { self.new.has_buffered ≡ self.old.has_buffered }
-        ensures sure { OnOk result (self.new.needs_timeout ≡ self.old.needs_timeout) }
-        ensures received { self.new.received ≡ self.old.received }
-        ensures sent { self.new.sent ≡ self.old.sent }
+        ensures more { self.new.readiness.has_buffered ≡ self.old.readiness.has_buffered }
+        ensures sure { OnOk result
+            (self.new.readiness.needs_timeout ≡ self.old.readiness.needs_timeout) }
+        ensures traffic { self.new.traffic ≡ self.old.traffic }
     {
         if self.next > u64::MAX - PLACES {
-            return Err(self.fault());
+            return Err(fault(&mut self.failed));
         }
         let looked = self.listener.look();
-        self.mark_all_ready(looked)?;
-        if !self.acceptable {
+        mark_all_ready(
+            &self.listener,
+            &mut self.readiness.may_accept,
+            &mut self.places,
+        );
+        answer_as(&mut self.failed, looked)?;
+        if !self.readiness.may_accept {
             return Ok(None);
         }
-        self.accept_or_retry()
+        let accepted = self.accept_next();
+        self.readiness.note_accept(&accepted);
+        accepted
     }
 
     fn read(&mut self, number: u64, buf: &mut [u8]) -> Result<Got, WireFault>
@@ -421,18 +256,25 @@ impl<L: Listener, A: Allocator + Copy> Wire for StreamWire<L, A> {
         ensures came { OfNumber number (λ old new.
             HasPassed L.Stream.given old new (bytes_read result buf.new)) self.old self.new }
         ensures others { HoldsOthers self.old.places.items self.new.places.items number }
-        ensures opens { self.new.acceptable ≡ self.old.acceptable }
-        ensures more { LeavesMore number self.old self.new }
-        ensures unsure { NotesByRead number result self.old self.new }
-        ensures received { CountsRead self.old self.new result buf.new }
-        ensures sent { self.new.sent ≡ self.old.sent }
+        ensures readiness { NotesByRead number result self.old self.new }
+        ensures traffic { CountsRead self.old self.new result buf.new }
     {
-        let received = self.received;
+        let received = self.traffic.received;
         if is_quiet(self.places.as_slice(), number) {
             return Ok(Got::Nothing);
         }
-        let got = self.read_from(number, buf);
-        self.received = received.saturating_add(given_by(&got, buf));
+        let Some(mut reader) = remove(&mut self.places, number) else {
+            let absent = Err(WireFault::Device);
+            tell(&mut self.listener, &mut self.failed, number, &absent);
+            return absent;
+        };
+        let got = reader.read(&mut self.spare, buf);
+        let given = bytes_read(&got, buf);
+        note_given(&mut self.given, number, given);
+        self.traffic.received = counted(received, given);
+        self.readiness.note_read(&reader, &got);
+        insert(&mut self.places, reader);
+        tell(&mut self.listener, &mut self.failed, number, &got);
         got
     }
 
@@ -446,16 +288,21 @@ impl<L: Listener, A: Allocator + Copy> Wire for StreamWire<L, A> {
             (AsksToTake L.Stream.calls (length buf.now) result) self.old self.new }
         ensures came { OfNumber number (λ old new.
             HasPassed L.Stream.given old new []) self.old self.new }
-        ensures unsure { NotesByWrite number result self.old self.new }
         ensures others { HoldsOthers self.old.places.items self.new.places.items number }
-        ensures opens { self.new.acceptable ≡ self.old.acceptable }
-        ensures more { self.new.has_buffered ≡ self.old.has_buffered }
-        ensures sent { CountsWrite self.old self.new result buf.now }
-        ensures received { self.new.received ≡ self.old.received }
+        ensures readiness { NotesByWrite number result self.old self.new }
+        ensures traffic { CountsWrite self.old self.new result buf.now }
     {
-        let sent = self.sent;
-        let taken = self.write_to(number, buf);
-        self.sent = sent.saturating_add(taken_by(&taken, buf));
+        let sent = self.traffic.sent;
+        let Some(mut writer) = remove(&mut self.places, number) else {
+            let absent = Err(WireFault::Device);
+            tell(&mut self.listener, &mut self.failed, number, &absent);
+            return absent;
+        };
+        let taken = writer.write(buf);
+        self.traffic.sent = counted(sent, bytes_written(&taken, buf));
+        self.readiness.note_write(&writer, &taken);
+        insert(&mut self.places, writer);
+        tell(&mut self.listener, &mut self.failed, number, &taken);
         taken
     }
 
@@ -466,11 +313,8 @@ impl<L: Listener, A: Allocator + Copy> Wire for StreamWire<L, A> {
         ensures others { HoldsOthers self.old.places.items self.new.places.items number }
         ensures faults { self.old.failed ≤ self.new.failed }
         ensures asks { L.asked self.new.listener ≡ L.asked self.old.listener }
-        ensures opens { self.new.acceptable ≡ self.old.acceptable }
-        ensures more { self.new.has_buffered ≡ self.old.has_buffered }
-        ensures unsure { self.new.needs_timeout ≡ self.old.needs_timeout }
-        ensures received { self.new.received ≡ self.old.received }
-        ensures sent { self.new.sent ≡ self.old.sent }
+        ensures readiness { self.new.readiness ≡ self.old.readiness }
+        ensures traffic { self.new.traffic ≡ self.old.traffic }
     {
         self.listener.shut(number);
         if let Some(connection) = remove(&mut self.places, number) {
@@ -486,24 +330,30 @@ impl<L: Listener, A: Allocator + Copy> Wire for StreamWire<L, A> {
         ensures asks { AsksByWait L.asked idle self.old self.new result }
         ensures awake { WakesByWait L.named idle self.old self.new }
         ensures still { AreAwakeStill self.old.places.items self.new.places.items }
-        ensures opens { self.old.acceptable ≡ true → self.new.acceptable ≡ true }
-        ensures more { self.new.has_buffered ≡ (self.old.has_buffered && not idle) }
-        ensures unsure { self.new.needs_timeout
-            ≡ (self.old.needs_timeout && not (is_made idle self.old.has_buffered)) }
-        ensures received { self.new.received ≡ self.old.received }
-        ensures sent { self.new.sent ≡ self.old.sent }
+        ensures opens { self.old.readiness.may_accept ≡ true
+            → self.new.readiness.may_accept ≡ true }
+        ensures more { self.new.readiness.has_buffered
+            ≡ (self.old.readiness.has_buffered && not idle) }
+        ensures unsure { self.new.readiness.needs_timeout ≡ (self.old.readiness.needs_timeout
+            && not (is_made idle self.old.readiness.has_buffered)) }
+        ensures traffic { self.new.traffic ≡ self.old.traffic }
     {
         if !idle {
             return Ok(());
         }
-        if self.has_buffered {
-            self.has_buffered = false;
+        if self.readiness.has_buffered {
+            self.readiness.has_buffered = false;
             return Ok(());
         }
-        let needs_timeout = self.needs_timeout;
-        self.needs_timeout = false;
-        let looked = self.listener.wait(patience_for(needs_timeout));
-        self.mark_all_ready(looked)
+        let patience = patience_for(self.readiness.needs_timeout);
+        self.readiness.needs_timeout = false;
+        let looked = self.listener.wait(patience);
+        mark_all_ready(
+            &self.listener,
+            &mut self.readiness.may_accept,
+            &mut self.places,
+        );
+        answer_as(&mut self.failed, looked)
     }
 
     fn faults(&self) -> u64 {

@@ -122,8 +122,14 @@ fn a_session_of_a_host(rt: HostRuntime) -> Result<(), Fail> {
     let mut host = Host::new(rt.alloc(), 1, 100, hasher)?;
     let id = open_and_feed(&mut host, b"isready\n")?;
     assert!(rt; open_and_feed(&mut host, b"isready\n").is_err());
+    let fed = host.activity(id);
+    assert!(rt; fed.is_open && fed.is_pending && !fed.has_output);
     assert!(rt; matches!(host.step(Event::Work(id, 1)), Outcome::Worked(_)));
     assert_eq!(rt; host.output(id), Some(b"readyok\n".as_slice()));
+    let worked = host.activity(id);
+    assert!(rt; worked.wants_input && worked.has_output && !worked.is_pending && !worked.is_over);
+    host.close(id)?;
+    assert!(rt; !host.activity(id).is_open);
     Ok(())
 }
 

@@ -216,7 +216,7 @@ fn assert_as_small(
 ) -> Result<(), Fail> {
     let (line, lines) = (longest_line(alloc)?, usi_lines(alloc)?);
     let mut held = 0;
-    for number in 0..10_000u64 {
+    for number in 0..1_000u64 {
         let (sent, answered) = match number % 100 {
             98 => (line.as_slice(), 0),
             99 => (lines.as_slice(), 234_496),

@@ -10,7 +10,7 @@ use shogi_moves::{
     BoardSweep, DropSweep, check_info_of, has_legal, in_check, is_attacked, is_legal, next_legal,
     perft, play, play_in_place, takers,
 };
-use shogi_replies::{ReplyInfo, escape_squares, king_takes, leaves_escape, leaves_king_move};
+use shogi_replies::{KnownReplies, ReplyInfo, escape_squares, king_takes};
 use std::test::Fail;
 use test_support::{holds, same};
 
@@ -108,10 +108,17 @@ fn legal(sfen: &str, text: &str) -> Result<(Position, Move), Fail>
     Ok((p, m))
 }
 
+/// What is known of the replies to moves of the position.
+fn known_replies(p: &Position) -> KnownReplies<'_>
+    ensures { result.position.now ≡ p.now }
+{
+    ReplyInfo::of(p).at(p, escape_squares(p))
+}
+
 /// Whether it is decided without making the move that it leaves a reply.
 fn leaves_reply(sfen: &str, text: &str) -> Result<bool, Fail> {
     let (p, m) = legal(sfen, text)?;
-    Ok(ReplyInfo::of(&p).guarantees_reply(&p, &m))
+    Ok(known_replies(&p).guarantees_reply(&m))
 }
 
 /// A silver leaves the file of the king of the other side, with nothing behind it that slides, with
@@ -172,7 +179,7 @@ fn moves_of_spare_pieces(rt: HostRuntime) -> Result<(), Fail> {
 /// Whether it is decided without making the move that it leaves the other king a way out.
 fn leaves_way_out(sfen: &str, text: &str) -> Result<bool, Fail> {
     let (p, m) = legal(sfen, text)?;
-    Ok(leaves_escape(&p, escape_squares(&p), &m))
+    Ok(known_replies(&p).leaves_escape(&m))
 }
 
 /// A rook gives check from afar and a silver from below, and the king may step aside. A gold
@@ -202,7 +209,7 @@ fn ways_out_of_a_check(rt: HostRuntime) -> Result<(), Fail> {
 /// square that is left, or take what is dropped.
 fn leaves_way_on_line(sfen: &str, text: &str) -> Result<bool, Fail> {
     let (p, m) = legal(sfen, text)?;
-    Ok(leaves_king_move(&p, escape_squares(&p), &m))
+    Ok(known_replies(&p).leaves_king_move(&m))
 }
 
 /// A knight gives check, and the only square that is left to the king is on the file that it

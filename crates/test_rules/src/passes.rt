@@ -21,9 +21,9 @@ fn first_of(
         pieces,
         squares,
         promotes,
-        escapes: escape_squares(p),
     };
-    ReplyInfo::of(p).skip_moves(p, capture, &row, &mut sweep);
+    let replies = ReplyInfo::of(p).at(p, escape_squares(p));
+    replies.skip_moves(capture, &row, &mut sweep);
     sweep.next(p, capture)
 }
 
@@ -102,7 +102,8 @@ fn quiet_moves_of_some_pieces(rt: HostRuntime) -> Result<(), Fail> {
 fn first_drop(sfen: &str) -> Result<Option<Move>, Fail> {
     let p = position(sfen)?;
     let mut sweep = DropSweep::new(&check_info_of(&p).at(&p));
-    ReplyInfo::of(&p).skip_drops(&p, Squares::all(), escape_squares(&p), &mut sweep);
+    let replies = ReplyInfo::of(&p).at(&p, escape_squares(&p));
+    replies.skip_drops(Squares::all(), &mut sweep);
     Ok(sweep.next(&p))
 }
 

@@ -4,8 +4,8 @@
 use crate::boards::{Placed, board, file_of, square, squares_of};
 use shogi_core::Color::{Black, White};
 use shogi_core::{
-    Board, Color, Hands, Kind, Move, Piece, Position, PositionFault, Role, Square, Squares,
-    line_mask,
+    Board, Color, Direction, Hands, Kind, Move, Piece, Position, PositionFault, Role, Square,
+    Squares, line_mask, ray,
 };
 use std::test::Fail;
 use test_support::{holds, same};
@@ -36,6 +36,35 @@ fn squares_one_by_one(rt: HostRuntime) -> Result<(), Fail> {
     holds!(rt; left.next().is_none());
     let mut none = Squares::none().iter();
     holds!(rt; none.next().is_none());
+    Ok(())
+}
+
+/// The directions by number, each with its opposite, the one a quarter turn clockwise, and the squares that lie so
+/// of 5e as Black sees the board. Behind the last there is none, however often one asks.
+#[test]
+fn directions_one_by_one(rt: HostRuntime) -> Result<(), Fail> {
+    let mut left = Direction::all();
+    for (number, opposite, turned, squares) in [
+        (0usize, 4usize, 2usize, "5f 5g 5h 5i"),
+        (1, 5, 3, "6d 7c 8b 9a"),
+        (2, 6, 4, "6e 7e 8e 9e"),
+        (3, 7, 5, "6f 7g 8h 9i"),
+        (4, 0, 6, "5a 5b 5c 5d"),
+        (5, 1, 7, "1i 2h 3g 4f"),
+        (6, 2, 0, "1e 2e 3e 4e"),
+        (7, 3, 1, "1a 2b 3c 4d"),
+    ] {
+        let direction = left.next().ok_or("a direction")?;
+        same!(rt; direction.number(), number);
+        same!(rt; direction.opposite().number(), opposite);
+        same!(rt; direction.quarter_turn().number(), turned);
+        holds!(rt; ray(direction, 40) == squares_of(squares)?, number);
+    }
+    holds!(rt; left.next().is_none());
+    holds!(rt; left.next().is_none());
+    same!(rt; Direction::down().number(), 0);
+    same!(rt; Direction::up_left().number(), 1);
+    same!(rt; Direction::up().number(), 4);
     Ok(())
 }
 

@@ -3,9 +3,9 @@
 use crate::boards::{position, read, square, squares_of};
 use shogi_core::Color::{Black, White};
 use shogi_core::{Piece, Position, Role, Square};
-use shogi_moves::Destinations;
+use shogi_moves::{Destinations, Origin};
 use shogi_replies::{
-    ReplyInfo, attacks_of, king_line_mask, put_by, quiet_steps, some_escapes, unpinnable_pieces,
+    ReplyInfo, attacks_of, king_line_mask, quiet_steps, some_escapes, unpinnable_pieces,
 };
 use std::test::Fail;
 use test_support::{holds, same};
@@ -72,7 +72,8 @@ fn lines_of_a_king(rt: HostRuntime) -> Result<(), Fail> {
 #[test]
 fn distant_pieces(rt: HostRuntime) -> Result<(), Fail> {
     let p = position("4k4/9/3GP4/p7p/9/9/P7P/9/K8 b -")?;
-    let remote = ReplyInfo::of(&p).distant_pieces(&p);
+    let replies = ReplyInfo::of(&p).at(&p, some_escapes(&p));
+    let remote = replies.distant_pieces();
     let pawns = squares_of("9g 1g")?;
     holds!(rt; remote & pawns == pawns);
     holds!(rt; !remote.has(square("6c")?));
@@ -110,8 +111,15 @@ fn attacks_of_a_piece(rt: HostRuntime) -> Result<(), Fail> {
 fn what_a_move_puts(rt: HostRuntime) -> Result<(), Fail> {
     let p = position("4k4/9/9/2P6/9/9/9/9/4K4 b G")?;
     let black = |role| Some(Piece { color: Black, role });
-    holds!(rt; put_by(&p, &read("7d7c")?) == black(Role::Pawn));
-    holds!(rt; put_by(&p, &read("7d7c+")?) == black(Role::PromotedPawn));
-    holds!(rt; put_by(&p, &read("G*5e")?) == black(Role::Gold));
+    for (text, role) in [
+        ("7d7c", Role::Pawn),
+        ("7d7c+", Role::PromotedPawn),
+        ("G*5e", Role::Gold),
+    ] {
+        let m = read(text)?;
+        let origin = Origin::of(&m);
+        holds!(rt; origin.put(&p) == black(role), text);
+        holds!(rt; origin.to(m.to()) == m, text);
+    }
     Ok(())
 }

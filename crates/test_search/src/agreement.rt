@@ -37,17 +37,17 @@ fn assert_agrees(
     again.steps == 0
 }
 
-// Walks through a game up to its mate, and searches each third position under each evaluation at depths
-// 0 and 1, each 24th at depth 2, and each at depth 3 where two plies have few paths. The memo is the same
-// all along; it keeps some roots and forgets others.
+// Walks through a game up to its mate, and searches each fifth position under each evaluation at depths
+// 0 and 1, and each 25th at depth 2 where few moves are legal. The memo is the same all along; it keeps
+// some roots and forgets others.
 fn walk(rt: &impl Abort, moves: &[&str]) {
     let mut memo = Forgetful::new();
     let mut p = Position::start();
     let (mut known, mut forgotten) = (false, false);
     for (at, text) in moves.iter().enumerate() {
-        for (depth, stride) in [(0u8, 3), (1, 3), (2, 24), (3, 1)] {
+        for (depth, stride) in [(0u8, 5), (1, 5), (2, 25)] {
             for e in [Eval::Plain, Eval::Hand, Eval::Exchange] {
-                if at % stride == 0 && has_few(&p, depth.saturating_sub(1), 100) {
+                if at % stride == 0 && has_few(&p, depth.saturating_sub(1), 50) {
                     if assert_agrees(rt, &p, e, at, depth, &mut memo) {
                         known = true;
                     } else {

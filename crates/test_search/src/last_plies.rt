@@ -51,12 +51,12 @@ fn assert_known(rt: &impl Abort, p: &Position, e: Eval) {
     }
 }
 
-// The same under each evaluation, after each fourth move too.
+// The same under each evaluation, after each eighth move too.
 fn assert_known_around(rt: &impl Abort, alloc: Global, p: &Position) -> Result<(), Fail> {
     for e in [Eval::Plain, Eval::Hand, Eval::Exchange] {
         assert_known(rt, p, e);
         for (at, child) in children_of(alloc, p)?.as_slice().iter().enumerate() {
-            if at % 4 == 0 {
+            if at % 8 == 0 {
                 assert_known(rt, &child.position, e);
             }
         }

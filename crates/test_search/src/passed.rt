@@ -96,10 +96,13 @@ fn assert_agrees(rt: &impl Abort, p: &Position, e: Eval, depth: u8) {
     same!(*rt; brief(&found), brief(&minimax(p, e, depth)), depth);
 }
 
-// The same at depths 1 to 3, with this value and best move at depth 2.
+// The same at depths 1 and 2, and at 3 where two plies have few paths, with this value and best move at
+// depth 2.
 fn assert_found(rt: &impl Abort, p: &Position, e: Eval, (value, text): (i32, &str)) {
     for depth in 1..4u8 {
-        assert_agrees(rt, p, e, depth);
+        if has_few(p, depth.saturating_sub(1), 1000) {
+            assert_agrees(rt, p, e, depth);
+        }
     }
     let found = search(p, e, 2, &mut NoMemo);
     holds!(*rt; found.value == value && found.best == read_move(text.as_bytes()), text);

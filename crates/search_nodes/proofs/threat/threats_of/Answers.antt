@@ -42,13 +42,13 @@ attackers-init c = record {
 
 pub with_ends-greatest-requires-clause-ends : goal.with_ends-greatest-requires-clause-ends
 with_ends-greatest-requires-clause-ends c = λ t h e. capture_at c.args.p.now c.in-Some.from t c.own-own.result.bits c.attacks_of-attacks.result.non_promoting.bits
-    (subst (λ (s : Color). (n : ℕ) → n < 81 → has_bit c.own-own.result.bits n ≡ is_piece_of s (piece_at c.args.p.now.cells n)) c.side-2.ensures (rw c.as_board-board.ensures at c.own-own.ensures.squares))
+    (subst (λ (s : Color). (n : ℕ) → n < 81 → has_bit c.own-own.result.bits n ≡ is_piece_of s (piece_at c.args.p.now.cells n)) c.side.ensures (rw c.as_board-board.ensures at c.own-own.ensures.squares))
     c.attacks_of-attacks.ensures.non_promoting h (rw c.bitand.ensures at e)
 
 pub with_ends-greatest-requires-in-Some-clause-ends :
     goal.with_ends-greatest-requires-in-Some-clause-ends
 with_ends-greatest-requires-in-Some-clause-ends c = λ t h e. promotion_at c.args.p.now c.in-Some.from t c.own-theirs.result.bits c.attacks_of-attacks.result.promoting.bits (omega arith)
-    (subst (λ (s : Color). (n : ℕ) → n < 81 → has_bit c.own-theirs.result.bits n ≡ is_piece_of s (piece_at c.args.p.now.cells n)) (c.opponent-2.ensures ∙ ap opponent_of c.side-3.ensures) (rw c.as_board-board.ensures at c.own-theirs.ensures.squares))
+    (subst (λ (s : Color). (n : ℕ) → n < 81 → has_bit c.own-theirs.result.bits n ≡ is_piece_of s (piece_at c.args.p.now.cells n)) (c.opponent.ensures ∙ ap opponent_of c.side-2.ensures) (rw c.as_board-board.ensures at c.own-theirs.ensures.squares))
     c.attacks_of-attacks.ensures.promoting h (rw c.without.ensures at e)
 
 pub attackers-preserved : goal.attackers-preserved

@@ -1,5 +1,3 @@
-use Rattle.std.proofs.Common.{◌≡◌, ◌<◌, ◌≤◌, ◌-◌, ℕ, get_or}
-use Rattle.stream_transport.specs.declared.lingering.LingeringStream.{LingeringStream}
 use Rattle.stream_transport.proofs.Leaving.{HavePassed}
 use Rattle.stream_transport.proofs.lingering.pass_all.Given as goal
 

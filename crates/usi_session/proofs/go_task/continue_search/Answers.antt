@@ -23,25 +23,25 @@ pub returns-clause-calls : goal.returns-clause-calls
 returns-clause-calls g c = record { calls = c.advance-2.ensures.calls.calls; each = c.advance-2.ensures.calls.each }
 
 pub returns-then-leaf-clause-most : goal.returns-then-leaf-clause-most
-returns-then-leaf-clause-most g c = most_found c.advance.result c.advance.new.self.steps (c.args.search.now.steps + c.args.budget) c.advance.ensures.counted c.advance.ensures.most
+returns-then-leaf-clause-most g c = most_found c.advance.result c.advance.new.self.steps (c.args.search.now.steps + c.args.budget) c.advance.ensures.finds.counted c.advance.ensures.slice.counts.most
 
 pub returns-then-leaf-clause-made : goal.returns-then-leaf-clause-made
-returns-then-leaf-clause-made g c = most_found c.advance.result c.advance.new.self.steps (c.args.search.now.steps + c.args.search.now.left) c.advance.ensures.counted (at_most c.advance.new.self.steps c.advance.new.self.left (c.args.search.now.steps + c.args.search.now.left) c.advance.ensures.fell)
+returns-then-leaf-clause-made g c = most_found c.advance.result c.advance.new.self.steps (c.args.search.now.steps + c.args.search.now.left) c.advance.ensures.finds.counted (at_most c.advance.new.self.steps c.advance.new.self.left (c.args.search.now.steps + c.args.search.now.left) c.advance.ensures.slice.fell)
 
 pub returns-clause-most : goal.returns-clause-most
-returns-clause-most g c = most_found c.advance-2.result c.advance-2.new.self.steps (c.args.search.now.steps + c.args.budget) c.advance-2.ensures.counted c.advance-2.ensures.most
+returns-clause-most g c = most_found c.advance-2.result c.advance-2.new.self.steps (c.args.search.now.steps + c.args.budget) c.advance-2.ensures.finds.counted c.advance-2.ensures.slice.counts.most
 
 pub returns-clause-made : goal.returns-clause-made
-returns-clause-made g c = most_found c.advance-2.result c.advance-2.new.self.steps (c.args.search.now.steps + c.args.search.now.left) c.advance-2.ensures.counted (at_most c.advance-2.new.self.steps c.advance-2.new.self.left (c.args.search.now.steps + c.args.search.now.left) c.advance-2.ensures.fell)
+returns-clause-made g c = most_found c.advance-2.result c.advance-2.new.self.steps (c.args.search.now.steps + c.args.search.now.left) c.advance-2.ensures.finds.counted (at_most c.advance-2.new.self.steps c.advance-2.new.self.left (c.args.search.now.steps + c.args.search.now.left) c.advance-2.ensures.slice.fell)
 
 pub returns-then-leaf-clause-spent : goal.returns-then-leaf-clause-spent
-returns-then-leaf-clause-spent g c = spent_of c.advance.result c.args.budget c.advance.new.self.left c.args.search.now.left c.advance.ensures.left
+returns-then-leaf-clause-spent g c = spent_of c.advance.result c.args.budget c.advance.new.self.left c.args.search.now.left c.advance.ensures.slice.left
 
 pub returns-then-leaf-clause-unchanged : goal.returns-then-leaf-clause-unchanged
-returns-then-leaf-clause-unchanged g c = (c.advance.ensures.root.0, (c.advance.ensures.eval, (c.advance.ensures.root.1, c.advance.ensures.beta)))
+returns-then-leaf-clause-unchanged g c = c.advance.ensures.slice.unchanged
 
 pub returns-clause-spent : goal.returns-clause-spent
-returns-clause-spent g c = spent_of c.advance-2.result c.args.budget c.advance-2.new.self.left c.args.search.now.left c.advance-2.ensures.left
+returns-clause-spent g c = spent_of c.advance-2.result c.args.budget c.advance-2.new.self.left c.args.search.now.left c.advance-2.ensures.slice.left
 
 pub returns-clause-unchanged : goal.returns-clause-unchanged
-returns-clause-unchanged g c = (c.advance-2.ensures.root.0, (c.advance-2.ensures.eval, (c.advance-2.ensures.root.1, c.advance-2.ensures.beta)))
+returns-clause-unchanged g c = c.advance-2.ensures.slice.unchanged

@@ -25,11 +25,10 @@ returns-then-is_settled c =
     (gone_on q.position f c.requires.ranked.passed c.args.ranks.now c.offer.new.self c.args.root_move (gone _ _ _ _ c.requires.ranked.ranked) c.requires.ranked.next (λ codes t i. c.offer.ensures.top f codes t i (search rules)))
     (c.offer.ensures.lines ∙ c.requires.ranked.ranked.most)
 
-pub child_beta-requires-clause-least : goal.child_beta-requires-clause-least
-child_beta-requires-clause-least c = (child_window c.args.go_request.now c.args.depths_done c.args.root_move c.args.ranks.now c.reveal_invariant-2.ensures c.requires.go_request c.requires.more c.requires.ranked).0
-
-pub child_beta-requires-clause-most : goal.child_beta-requires-clause-most
-child_beta-requires-clause-most c = (child_window c.args.go_request.now c.args.depths_done c.args.root_move c.args.ranks.now c.reveal_invariant-2.ensures c.requires.go_request c.requires.more c.requires.ranked).1
+pub child_beta-requires : goal.child_beta-requires
+child_beta-requires c =
+    let w = child_window c.args.go_request.now c.args.depths_done c.args.root_move c.args.ranks.now c.reveal_invariant-2.ensures c.requires.go_request c.requires.more c.requires.ranked in
+    record { above = w.0; most = w.1 }
 
 pub offer-requires-then-found-child_beta : goal.offer-requires-then-found-child_beta
 offer-requires-then-found-child_beta c = gone_fresh _ _ _ _ _ _ (gone _ _ _ _ c.requires.ranked.ranked) c.requires.ranked.next

@@ -19,17 +19,22 @@ moves-init c = record {
 }
 
 pub moves-preserved : goal.moves-preserved
-moves-preserved c = record {
-  position = c.in-Some.ensures.position ∙ c.moves.invariant.position;
-  least = omega (arith, ints, c.moves.invariant.least, c.best_score_with-best.ensures.least);
-  some = carried (NodeHasScore c.args.self.now.node.now) _ _ c.best_score_with-best.result _ c.moves.invariant.some c.best_score_with-best.ensures.some c.best_score_with-best.ensures.least (omega (arith, ints));
-  passed = passed_one c.args.self.now.node.now.position _ c.moves.walk.codes c.next.new.self.codes (code_of c.in-Some.m) c.in-Some.ensures.next
-      (raised c.args.self.now.node.now.position (λ (n : ℕ). score_at c.args.self.now.node.now.position c.args.self.now.node.now.eval n) _ _ c.moves.walk.codes c.moves.invariant.passed (omega (arith, ints, c.best_score_with-best.ensures.least)))
-      (λ above. absurd (omega (arith, ints, above, c.best_score_with-best.ensures.at)));
-}
+moves-preserved c =
+    let node = c.args.self.now.node.now in
+    let code = code_of c.in-Some.m in
+    let at = rw (c.scored.ensures.node, c.scored.ensures.current) at c.score_above-best.ensures.at in
+    let exact = rw (c.scored.ensures.node, c.scored.ensures.current) at c.score_above-best.ensures.exact in
+    record {
+      position = c.in-Some.ensures.position ∙ c.moves.invariant.position;
+      least = omega (arith, ints, c.moves.invariant.least, c.score_above-best.ensures.least);
+      some = carried (NodeHasScore node) _ _ c.score_above-best.result _ c.moves.invariant.some (λ above. record { code = code; listed = rw (c.scored.ensures.node, c.scored.ensures.current) at c.scored.result.listed; at_least = omega (arith, ints, exact above) }) c.score_above-best.ensures.least (omega (arith, ints));
+      passed = passed_one node.position _ c.moves.walk.codes c.next.new.self.codes code c.in-Some.ensures.next
+          (raised node.position (λ (n : ℕ). score_at node.position node.eval n) _ _ c.moves.walk.codes c.moves.invariant.passed (omega (arith, ints, c.score_above-best.ensures.least)))
+          (λ above. absurd (omega (arith, ints, above, at)));
+    }
 
-pub best_score_with-best-requires : goal.best_score_with-best-requires
-best_score_with-best-requires c = subst (λ (q : Shogi). is_legal q c.in-Some.m ≡ true) c.moves.invariant.position c.in-Some.ensures.legal
+pub scored-requires : goal.scored-requires
+scored-requires c = subst (λ (q : Shogi). is_legal q c.in-Some.m ≡ true) c.moves.invariant.position c.in-Some.ensures.legal
 
 pub moves-smaller : goal.moves-smaller
 moves-smaller c = fewer_left c.moves.walk.codes c.next.new.self.codes (code_of c.in-Some.m) c.in-Some.ensures.next

@@ -19,20 +19,20 @@ moves-init c = record {
 pub moves-preserved : goal.moves-preserved
 moves-preserved c = record {
   position = c.in-Some.ensures.position ∙ c.moves.invariant.position;
-  passed = passed_one c.args.self.now.node.now.position _ c.moves.walk.codes c.next.new.self.codes (code_of c.in-Some.m) c.in-Some.ensures.next c.moves.invariant.passed (λ met. c.has_score.ensures.other c.if-has_score.false (omega (arith, ints, met)));
+  passed = passed_one c.args.self.now.node.now.position _ c.moves.walk.codes c.next.new.self.codes (code_of c.in-Some.m) c.in-Some.ensures.next c.moves.invariant.passed (λ met. rw (c.scored.ensures.node, c.scored.ensures.current) at c.scores.ensures.other c.if-scores.false (omega (arith, ints, met)));
 }
 
-pub returns-then-has_score-clause-some : goal.returns-then-has_score-clause-some
-returns-then-has_score-clause-some c =
+pub returns-then-scores-clause-some : goal.returns-then-scores-clause-some
+returns-then-scores-clause-some c =
     let h = c.moves.invariant.passed in
     found_least c.args.self.now.node.now.position (Scores c.args.self.now.node.now c.args.score) c.moves.walk.codes c.next.new.self.codes (code_of c.in-Some.m) c.in-Some.ensures.next
-    (record { among = h.among; rising = h.rising; passed = λ n i o q. h.passed n i o (omega (arith, ints, q)) }) (omega (arith, ints, c.has_score.ensures.scores c.if-has_score.true))
+    (record { among = h.among; rising = h.rising; passed = λ n i o q. h.passed n i o (omega (arith, ints, q)) }) (omega (arith, ints, rw (c.scored.ensures.node, c.scored.ensures.current) at (c.scores.ensures.scores c.if-scores.true)))
 
-pub has_score-requires : goal.has_score-requires
-has_score-requires c = subst (λ (q : Shogi). is_legal q c.in-Some.m ≡ true) c.moves.invariant.position c.in-Some.ensures.legal
+pub scored-requires : goal.scored-requires
+scored-requires c = subst (λ (q : Shogi). is_legal q c.in-Some.m ≡ true) c.moves.invariant.position c.in-Some.ensures.legal
 
-pub returns-then-has_score-clause-if_none : goal.returns-then-has_score-clause-if_none
-returns-then-has_score-clause-if_none c = λ e. absurd (both_ways true e refl)
+pub returns-then-scores-clause-if_none : goal.returns-then-scores-clause-if_none
+returns-then-scores-clause-if_none c = λ e. absurd (both_ways true e refl)
 
 pub moves-smaller : goal.moves-smaller
 moves-smaller c = fewer_left c.moves.walk.codes c.next.new.self.codes (code_of c.in-Some.m) c.in-Some.ensures.next

@@ -3,7 +3,7 @@ use Rattle.std.proofs.lemmas.Int.{ints}
 use Rattle.shogi_core.specs.Codes.{code_of}
 use Rattle.shogi_moves.specs.LegalMoves.{legal_codes}
 use Rattle.last_ply.specs.LastPly.{LeavesNone}
-use Rattle.last_ply.proofs.Composing.{mate_found}
+use Rattle.last_ply.proofs.Composing.{mate_found, score_bounds}
 use Rattle.last_ply.proofs.OneWalk.{walked_none, walked_raised, walked_on, walked_lost, walked_best}
 use Rattle.last_ply.proofs.Passing.{found_least}
 use Rattle.last_ply.proofs.frontier.FrontierNode.resolve_evasions.Goals as goal
@@ -22,16 +22,22 @@ returns-then-mates_past-clause-truth c =
     (f.value_is, f.best_is)
 
 pub moves-preserved-then-score-most : goal.moves-preserved-then-score-most
-moves-preserved-then-score-most c = record {
-  position = c.in-Some.ensures.position ∙ c.moves.invariant.position;
-  walked = walked_raised _ _ c.moves.walk.codes c.next.new.self.codes c.in-Some.m _ c.best_score_with-score.result _ _ _ c.moves.invariant.walked c.in-Some.ensures.next (rw c.of-mate_search.ensures at (c.if-mates_past.ensures.if_none refl)) (c.best_score_with-score.ensures.exact (omega (arith, ints, c.if-score-most.true))) (omega (arith, ints, c.if-score-most.true)) (omega (arith, ints)) refl;
-}
+moves-preserved-then-score-most c =
+    let exact = rw (c.scored.ensures.node, c.scored.ensures.current) at (c.score_above-score.ensures.exact (omega (arith, ints, c.if-score-most.true))) in
+    record {
+      position = c.in-Some.ensures.position ∙ c.moves.invariant.position;
+      walked = walked_raised _ _ c.moves.walk.codes c.next.new.self.codes c.in-Some.m _ c.score_above-score.result _ _ _ c.moves.invariant.walked c.in-Some.ensures.next (rw c.of-mate_search.ensures at (c.if-mates_past.ensures.if_none refl)) exact (omega (arith, ints, c.if-score-most.true)) (omega (arith, ints)) refl;
+    }
 
 pub moves-preserved : goal.moves-preserved
-moves-preserved c = record {
-  position = c.in-Some.ensures.position ∙ c.moves.invariant.position;
-  walked = walked_on _ _ c.moves.walk.codes c.next.new.self.codes c.in-Some.m _ _ c.moves.invariant.walked c.in-Some.ensures.next (rw c.of-mate_search.ensures at (c.if-mates_past.ensures.if_none refl)) (omega (arith, ints, c.best_score_with-score.ensures.at, c.if-score-most.false)) (omega (arith, ints, c.best_score_with-score.ensures.range, c.if-score-most.false));
-}
+moves-preserved c =
+    let node = c.args.self.now.node.now in
+    let at = rw (c.scored.ensures.node, c.scored.ensures.current) at c.score_above-score.ensures.at in
+    let bounds = score_bounds node.position node.eval (code_of c.in-Some.m) c.args.self.now.valid (rw (c.scored.ensures.node, c.scored.ensures.current) at c.scored.result.listed) in
+    record {
+      position = c.in-Some.ensures.position ∙ c.moves.invariant.position;
+      walked = walked_on _ _ c.moves.walk.codes c.next.new.self.codes c.in-Some.m _ _ c.moves.invariant.walked c.in-Some.ensures.next (rw c.of-mate_search.ensures at (c.if-mates_past.ensures.if_none refl)) (omega (arith, ints, at, c.if-score-most.false)) (omega (arith, ints, at, bounds.0, c.if-score-most.false));
+    }
 
 pub returns-in-None-clause-truth : goal.returns-in-None-clause-truth
 returns-in-None-clause-truth c =

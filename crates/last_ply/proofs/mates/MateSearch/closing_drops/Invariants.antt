@@ -8,8 +8,8 @@ abbrev pub invariant-escapes : goal.invariant-escapes
 invariant-escapes l = record {
   all : AreDropsAnsweredOff l.self.frontier.node.now.position l.fn.kind l.fn.squares.bits l.kept.bits;
   among : IsWithin l.kept.bits l.fn.squares.bits;
-  off : (n : ℕ) → has_bit l.kept.bits n ≡ true → n < 81 → has_bit l.self.escapes.bits n ≡ false;
-  within : IsWithin l.left l.self.escapes.bits;
+  off : (n : ℕ) → has_bit l.kept.bits n ≡ true → n < 81 → has_bit l.self.replies.escapes.bits n ≡ false;
+  within : IsWithin l.left l.self.replies.escapes.bits;
 }
 
 abbrev pub decreases-escapes : goal.decreases-escapes

@@ -7,7 +7,7 @@ use Rattle.last_ply.proofs.mates.MateSearch.closing_ends.Given as goal
 abbrev pub invariant-escapes : goal.invariant-escapes
 invariant-escapes l = record {
   all : AreAnsweredOff l.self.frontier.node.now.position l.fn.from l.fn.promote l.fn.ends.bits l.kept.bits;
-  within : IsWithin l.left l.self.escapes.bits;
+  within : IsWithin l.left l.self.replies.escapes.bits;
   apart : OnEach l.left (λ n. are_aligned l.fn.from n ≡ false);
   among : IsWithin l.kept.bits l.fn.ends.bits;
 }

@@ -8,4 +8,4 @@ use Rattle.last_ply.proofs.mates.MateSearch.non_mating_pieces.Goals as goal
 pub returns : goal.returns
 returns c = λ a ha set n promote h legal.
     let reached = (legal_parts c.args.self.now.frontier.node.now.position a n promote ha h legal).0 in
-    answered_code c.args.self.now.frontier.node.now.position (Board a n promote) (move_of-board a n promote ha h) legal (answered c.args.self.now.frontier.node.now.position (Board a n promote) ((rw c.as_position.ensures at c.distant_pieces.ensures) a n promote ha h set reached))
+    answered_code c.args.self.now.frontier.node.now.position (Board a n promote) (move_of-board a n promote ha h) legal (answered c.args.self.now.frontier.node.now.position (Board a n promote) ((rw c.args.self.now.same at c.distant_pieces.ensures) a n promote ha h set reached))

@@ -1,44 +1,5 @@
-use Rattle.std.proofs.Common.{◌≡◌, ◌≤ℤ◌, ◌+ℤ◌, ◌-◌, pos, true, arith, subst, sym, rules, FitsSigned, w32}
-use Rattle.std.proofs.lemmas.Int.{ints}
-use Rattle.search_nodes.specs.declared.frame.Frame.{Frame}
-use Rattle.shogi_core.specs.declared.moves.Move.{Move}
-use Rattle.search_nodes.proofs.AskedMoves.{IsMove, asked_move}
-use Rattle.shogi_core.specs.Codes.{code_of}
-use Rattle.shogi_core.specs.Position.{Shogi}
-use Rattle.shogi_moves.specs.After.{after}
-use Rattle.shogi_moves.specs.Legal.{is_legal}
-use Rattle.shogi_eval.specs.declared.eval.Eval.{Eval}
-use Rattle.shogi_eval.specs.Material.{material_of}
-use Rattle.minimax.specs.Minimax.{worth, negated}
-use Rattle.search_nodes.specs.Threats.{TakesAfter}
-use Rattle.search_nodes.proofs.Ahead.{worth_under_threat}
+use Rattle.std.proofs.Common.{arith}
 use Rattle.search_nodes.proofs.asked_move.AskedMove.fails_low_by_threat.Goals as goal
 
-pub gain_after-gain-requires-clause-legal : goal.gain_after-gain-requires-clause-legal
-gain_after-gain-requires-clause-legal c =
-    subst (λ (q : Shogi). is_legal q c.args.self.now.current.now ≡ true) (sym c.as_position.ensures) (asked_move c.args.self.now.frame.now c.args.self.now.current.now c.args.self.now.asked c.reveal_invariant.ensures.back).legal
-
-pub score_after-requires : goal.score_after-requires
-score_after-requires c = (asked_move c.args.self.now.frame.now c.args.self.now.current.now c.args.self.now.asked c.reveal_invariant.ensures.back).legal
-
-pub overflow_sub-result : goal.overflow_sub-result
-overflow_sub-result c =
-    let k : _ = asked_move c.args.self.now.frame.now c.args.self.now.current.now c.args.self.now.asked c.reveal_invariant.ensures.back in
-    omega (arith, ints, k.least, k.most, c.score_after.ensures)
-
-pub overflow_sub-result-2 : goal.overflow_sub-result-2
-overflow_sub-result-2 c =
-    let k : _ = asked_move c.args.self.now.frame.now c.args.self.now.current.now c.args.self.now.asked c.reveal_invariant.ensures.back in
-    omega (arith, ints, k.least, k.most, c.score_after.ensures, c.gain_after-gain.ensures.fits)
-
 pub returns : goal.returns
-returns c = λ low keeps retakes.
-    let f : Frame = c.args.self.now.frame.now in
-    let m : Move = c.args.self.now.current.now in
-    let k : IsMove f m = asked_move f m c.args.self.now.asked c.reveal_invariant.ensures.back in
-    let takes : TakesAfter f.node.position f.node.eval m c.gain_after-gain.result =
-    subst (λ (e : Eval). TakesAfter f.node.position e m c.gain_after-gain.result) c.eval.ensures
-    (subst (λ (q : Shogi). TakesAfter q c.eval.result m c.gain_after-gain.result) c.as_position.ensures (c.gain_after-gain.ensures.gain (omega (arith, c.if-gain-eq0.false)))) in
-    let most : worth f.node.position f.node.eval (f.depth - 1) (code_of m) ≤ℤ negated (material_of (after f.node.position m) f.node.eval +ℤ pos c.gain_after-gain.result) = worth_under_threat f.node.position f.node.eval f.depth c.gain_after-gain.result m c.reveal_invariant.ensures.back c.args.self.now.last (takes (c.args.self.now.found.1.1 c.in-Some.threats c.in-Some.is).plain keeps retakes) in
-    let fits : FitsSigned w32 c.move_alpha.result = search rules in
-    omega (arith, ints, most, k.least, k.most, c.score_after.ensures, c.gain_after-gain.ensures.fits, c.move_alpha.ensures.move_alpha, low)
+returns c = λ low keeps retakes. c.fails_low_by.ensures low (c.gain_after-gain.ensures.gain (omega (arith, c.if-gain-eq0.false)) keeps retakes)

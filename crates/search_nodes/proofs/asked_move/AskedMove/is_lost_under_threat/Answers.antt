@@ -10,6 +10,7 @@ invariant_of-self-clause-found c = c.look_for_threats.ensures c.args.self.now.fo
 pub invariant_of-self-2-clause-found : goal.invariant_of-self-2-clause-found
 invariant_of-self-2-clause-found c = c.look_ahead.ensures (c.look_for_threats.ensures c.args.self.now.found)
 
-pub guarantees_reply-requires-clause-legal : goal.guarantees_reply-requires-clause-legal
-guarantees_reply-requires-clause-legal c =
-    subst (λ (q : Shogi). is_legal q c.args.self.now.current.now ≡ true) (sym c.as_position-p.ensures) (asked_move c.args.self.now.frame.now c.args.self.now.current.now c.args.self.now.asked c.reveal_invariant.ensures.back).legal
+pub guarantees_reply-requires : goal.guarantees_reply-requires
+guarantees_reply-requires c = record {
+  legal = subst (λ (q : Shogi). is_legal q c.args.self.now.current.now ≡ true) (sym c.known.ensures) (asked_move c.args.self.now.frame.now c.args.self.now.current.now c.args.self.now.asked c.reveal_invariant.ensures.back).legal;
+}

@@ -34,7 +34,7 @@ returns c = λ leave escapes.
     let f : FitsSigned w32 g.best_value = search rules in
     let e : c.move_alpha_at-move_alpha.result ≡ move_alpha g.best_value (code_at g.best_move) c.args.code = simp to_z-of_z at c.move_alpha_at-move_alpha.ensures in
     record {
-      lost = quiets_lost g (record { pieces = c.args.pieces; squares = c.args.squares; promotes = c.covers_promotions-promotes.result; escapes = c.args.escapes }) c.args.code _ c.args.loss c.args.self.now.last leave c.covers_promotions-promotes.ensures
+      lost = quiets_lost g (record { pieces = c.args.pieces; squares = c.args.squares; promotes = c.covers_promotions-promotes.result }) c.args.escapes.bits c.args.code _ c.args.loss c.args.self.now.last leave c.covers_promotions-promotes.ensures
           (omega (arith, ints, w.1.least, w.1.most, e, c.score.ensures.value, c.score.ensures.least, c.score.ensures.most, c.requires.0, c.requires.1, c.if-room-lt0.false));
-      escapes = escapes;
+      are_escapes = escapes;
     }

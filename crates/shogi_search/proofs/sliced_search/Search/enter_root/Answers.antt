@@ -1,4 +1,4 @@
-use Rattle.std.proofs.Common.{arith, refl, ap, map, subst, sym, true, w32, ◌≡◌, ◌<◌, ◌≤◌, ◌+◌, ◌-◌, ◌*◌, ◌^◌, ◌∙◌, ◌≤ℤ◌, ℕ, ℤ, Bool, false, Option, None, Some, length}
+use Rattle.std.proofs.Common.{arith, refl, ap, map, subst, sym, true, w32, ◌≡◌, ◌<◌, ◌+◌, ◌-◌, ◌*◌, ◌^◌, ◌∙◌, ◌≤ℤ◌, ℕ, ℤ, false, Option, None, length}
 use Rattle.std.specs.Prelude.{min}
 use Rattle.std.specs.Option.{ForSome}
 use Rattle.std.proofs.lemmas.Int.{ints}
@@ -8,7 +8,7 @@ use Rattle.shogi_eval.specs.Evaluated.{Evaluated}
 use Rattle.shogi_search.specs.Calls.{Asks, Call, CallsInSteps}
 use Rattle.shogi_search.proofs.CallLaws.{as_counted, asks_in_step}
 use Rattle.shogi_search.proofs.SearchCallLaws.{entered_count, none_entered}
-use Rattle.shogi_search.proofs.Searches.{end_kept, found_seen, started_seen}
+use Rattle.shogi_search.proofs.Searches.{end_kept, found_seen, rest_left, started_seen, whole_left}
 use Rattle.search_nodes.specs.declared.frame.Frame.{Frame}
 use Rattle.minimax.specs.Minimax.{negated, tree_size}
 use Rattle.minimax.specs.declared.bounds.TheConstants.{INFINITY, SEARCH_DEPTH_MAX}
@@ -25,21 +25,6 @@ use Rattle.shogi_search.specs.declared.stack.Stack.{Stack}
 use Rattle.shogi_search.proofs.Places.{stack_with, on_with, found_at, with_cache, with_frame, left_begun, left_positive, free_next}
 use Rattle.shogi_search.proofs.NarrowRoots.{with_bound}
 use Rattle.shogi_search.proofs.sliced_search.Search.enter_root.Goals as goal
-
--- the root waits for its first move, and less is left than before it was entered
-left_less : (found : Option Found) (started : Bool) (whole rest rest' : ℕ) → found ≡ None → started ≡ false → rest' + 1 < whole → left_in found true whole rest' + 1 ≤ left_in found started whole rest
-left_less None false whole rest rest' e f h = omega arith
-left_less None true whole rest rest' e f h = absurd (cc)
-left_less (Some x) started whole rest rest' e f h = absurd (cc)
-
-left_some : (found : Option Found) (whole rest : ℕ) → found ≡ None → 0 < rest → 0 < left_in found true whole rest
-left_some None whole rest e some = some
-left_some (Some x) whole rest e some = absurd (cc)
-
-counted_begun : (found : Option Found) (started : Bool) (whole rest rest' steps now : ℕ) → found ≡ None → started ≡ false → steps + left_in found started whole rest ≤ whole → now ≡ min (steps + 1) (2 ^ 64 - 1) → rest' + 1 < whole → now + left_in found true whole rest' ≤ whole
-counted_begun None false whole rest rest' steps now e f k n h = omega arith
-counted_begun None true whole rest rest' steps now e f k n h = absurd (cc)
-counted_begun (Some x) started whole rest rest' steps now e f k n h = absurd (cc)
 
 none_known : (found : Option Found) (fact : Found → Type 0) → found ≡ None → ForSome found fact
 none_known found fact none x e = absurd (cc)
@@ -80,63 +65,56 @@ pub invariant_of-self : goal.invariant_of-self
 invariant_of-self g c =
     let s : Stack = c.self.inside.stack in
     let i : IsSearch c.self.inside = c.self.invariant in
-    let whole : to_z w32 (of_z w32 s.beta) ≡ s.beta = end_kept s.beta i.above i.most in
+    let whole : to_z w32 (of_z w32 s.beta) ≡ s.beta = end_kept s.beta i.beta.above i.beta.most in
     let n : Stack = with_cache (with_bound s (to_z w32 (of_z w32 s.beta))) c.unknown-self-inside.result in
     let looked : IsFoundAt c.enter.new.self c.unknown-self-inside.result = found_at c.enter.new.self _ _ c.unknown-self-inside.result (c.enter.ensures.place.position ∙ sym c.as_position.ensures) refl (c.unknown-self-inside.ensures c.enter.new.self.node.eval) in
     let room : 0 < length s.frames = omega arith in
-    let none : c.self.inside.found ≡ None = found_seen c.self.inside c.args.self.now c.self.view_is ∙ c.requires.«open» in
-    let fresh : c.self.inside.started ≡ false = started_seen c.self.inside c.args.self.now c.self.view_is ∙ c.requires.fresh in
+    let none : c.self.inside.found ≡ None = found_seen c.self.inside c.args.self.now c.self.view_is ∙ c.requires.fresh.none in
+    let fresh : c.self.inside.started ≡ false = started_seen c.self.inside c.args.self.now c.self.view_is ∙ c.requires.fresh.unstarted in
     let root : IsAt s.root s.eval s.depth (negated INFINITY) n.bound c.enter.new.self = root_at s c.enter.new.self c.of-node.result _ c.of-node.ensures.position c.of-node.ensures.eval c.enter.ensures.place in
     let left : steps_left (with_frame n 0 c.enter.new.self) + 1 < 4 * tree_size s.root s.depth = left_begun n c.enter.new.self _ _ _ _ room root (counted_as s.root s.depth c.enter.new.self c.of-node.ensures.position c.enter.ensures.counted) in
     record {
       shallow = i.shallow;
-      above = i.above;
-      most = i.most;
+      beta = i.beta;
       known = none_known c.self.inside.found _ none;
-      chain = λ _ _. stack_with n 0 c.enter.new.self room first_fits i.shallow (not_above _ _ whole) i.most root looked;
-      whole = λ _ _ _. whole;
-      free = λ _ _. on_with n 0 c.enter.new.self (λ (top : Frame). IsFree top.state) room (free_next _ c.enter.ensures.state);
-      counted = counted_begun c.self.inside.found c.self.inside.started (steps_of_tree s) _ _ c.self.inside.steps _ none fresh i.counted c.saturating_add-self-inside.ensures left;
+      ready = λ _ _. record {
+        stack = stack_with n 0 c.enter.new.self room first_fits i.shallow (not_above _ _ whole) i.beta.most root looked;
+        whole = λ _. whole;
+        top = on_with n 0 c.enter.new.self (λ (top : Frame). IsFree top.state) room (free_next _ c.enter.ensures.state);
+      };
+      counted = omega (arith, i.counted, c.saturating_add-self-inside.ensures, left, whole_left c.self.inside.found c.self.inside.started (steps_of_tree s) (steps_left s) none fresh, rest_left c.self.inside.found true (steps_of_tree s) (steps_left (with_frame n 0 c.enter.new.self)) none refl);
     }
 
-pub returns-clause-slice : goal.returns-clause-slice
-returns-clause-slice g c =
+pub returns : goal.returns
+returns g c =
     let s : Stack = c.self.inside.stack in
     let i : IsSearch c.self.inside = c.self.invariant in
     let n : Stack = with_cache (with_bound s (to_z w32 (of_z w32 s.beta))) c.unknown-self-inside.result in
     let looked : IsFoundAt c.enter.new.self c.unknown-self-inside.result = found_at c.enter.new.self _ _ c.unknown-self-inside.result (c.enter.ensures.place.position ∙ sym c.as_position.ensures) refl (c.unknown-self-inside.ensures c.enter.new.self.node.eval) in
-    let none : c.self.inside.found ≡ None = found_seen c.self.inside c.args.self.now c.self.view_is ∙ c.requires.«open» in
-    let fresh : c.self.inside.started ≡ false = started_seen c.self.inside c.args.self.now c.self.view_is ∙ c.requires.fresh in
+    let none : c.self.inside.found ≡ None = found_seen c.self.inside c.args.self.now c.self.view_is ∙ c.requires.fresh.none in
+    let fresh : c.self.inside.started ≡ false = started_seen c.self.inside c.args.self.now c.self.view_is ∙ c.requires.fresh.unstarted in
     let root : IsAt s.root s.eval s.depth (negated INFINITY) n.bound c.enter.new.self = root_at s c.enter.new.self c.of-node.result _ c.of-node.ensures.position c.of-node.ensures.eval c.enter.ensures.place in
-    let chain : IsStack (with_frame n 0 c.enter.new.self) = stack_with n 0 c.enter.new.self (omega arith) first_fits i.shallow (not_above _ _ (end_kept s.beta i.above i.most)) i.most root looked in
+    let chain : IsStack (with_frame n 0 c.enter.new.self) = stack_with n 0 c.enter.new.self (omega arith) first_fits i.shallow (not_above _ _ (end_kept s.beta i.beta.above i.beta.most)) i.beta.most root looked in
     let rest : steps_left (with_frame n 0 c.enter.new.self) + 1 < 4 * tree_size s.root s.depth = left_begun n c.enter.new.self _ _ _ _ (omega arith) root (counted_as s.root s.depth c.enter.new.self c.of-node.ensures.position c.enter.ensures.counted) in
-    let left : left_in c.self.inside.found true (steps_of_tree s) (steps_left (with_frame n 0 c.enter.new.self)) + 1 ≤ left_in c.self.inside.found c.self.inside.started (steps_of_tree s) (steps_left s) = left_less c.self.inside.found c.self.inside.started (steps_of_tree s) (steps_left s) (steps_left (with_frame n 0 c.enter.new.self)) none fresh rest in
+    let before : left_in c.self.inside.found c.self.inside.started (steps_of_tree s) (steps_left s) ≡ steps_of_tree s = whole_left _ _ _ _ none fresh in
+    let after : left_in c.self.inside.found true (steps_of_tree s) (steps_left (with_frame n 0 c.enter.new.self)) ≡ steps_left (with_frame n 0 c.enter.new.self) = rest_left _ _ _ _ none refl in
     let steps : c.saturating_add-self-inside.result ≡ min (c.self.inside.steps + 1) (2 ^ 64 - 1) = c.saturating_add-self-inside.ensures in
-    rw (← c.self.view_is) (record {
-      unchanged = (refl, (refl, (refl, refl)));
-      finds = record { below = tt; value = tt; best = tt; counted = tt; range = tt };
-      counts = record { all = steps; rises = omega (arith, steps, c.self.ranges); most = omega (arith, steps) };
-      left = left;
-      fell = omega (arith, steps, left);
-      found = none;
-      over = tt;
-      left_all = tt;
-      unfinished = left_some c.self.inside.found (steps_of_tree s) _ none (left_positive (with_frame n 0 c.enter.new.self) chain);
-    })
-
-pub returns-clause-calls : goal.returns-clause-calls
-returns-clause-calls g c =
-    let s : Stack = c.self.inside.stack in
-    let i : IsSearch c.self.inside = c.self.invariant in
-    let n : Stack = with_cache (with_bound s (to_z w32 (of_z w32 s.beta))) c.unknown-self-inside.result in
-    let looked : IsFoundAt c.enter.new.self c.unknown-self-inside.result = found_at c.enter.new.self _ _ c.unknown-self-inside.result (c.enter.ensures.place.position ∙ sym c.as_position.ensures) refl (c.unknown-self-inside.ensures c.enter.new.self.node.eval) in
-    let none : c.self.inside.found ≡ None = found_seen c.self.inside c.args.self.now c.self.view_is ∙ c.requires.«open» in
-    let fresh : c.self.inside.started ≡ false = started_seen c.self.inside c.args.self.now c.self.view_is ∙ c.requires.fresh in
-    let root : IsAt s.root s.eval s.depth (negated INFINITY) n.bound c.enter.new.self = root_at s c.enter.new.self c.of-node.result _ c.of-node.ensures.position c.of-node.ensures.eval c.enter.ensures.place in
     record {
-      calls = root_calls g.M.Memo.called c.args.memo.now c.hash_move_of-hash_move.new.memo c.self.inside c.args.self.now c.saturating_add-self-inside.result (with_frame n 0 c.enter.new.self) c.self.view_is none fresh
-          (stack_with n 0 c.enter.new.self (omega arith) first_fits i.shallow (not_above _ _ (end_kept s.beta i.above i.most)) i.most root looked)
-          refl c.hash_move_of-hash_move.ensures.asks.asked c.saturating_add-self-inside.ensures;
-      told = tt;
-      capacity = c.hash_move_of-hash_move.ensures.asks.capacity;
+      slice = rw (← c.self.view_is) (record {
+        unchanged = (refl, (refl, (refl, refl)));
+        counts = record { all = steps; rises = omega (arith, steps, c.self.ranges); most = omega (arith, steps) };
+        left = omega (arith, before, after, rest);
+        fell = omega (arith, steps, before, after, rest);
+        found = none;
+        over = tt;
+        left_all = tt;
+        unfinished = omega (arith, after, left_positive (with_frame n 0 c.enter.new.self) chain);
+      });
+      calls = record {
+        calls = root_calls g.M.Memo.called c.args.memo.now c.hash_move_of-hash_move.new.memo c.self.inside c.args.self.now c.saturating_add-self-inside.result (with_frame n 0 c.enter.new.self) c.self.view_is none fresh
+            chain refl c.hash_move_of-hash_move.ensures.asks.asked c.saturating_add-self-inside.ensures;
+        told = tt;
+        capacity = c.hash_move_of-hash_move.ensures.asks.capacity;
+      };
+      begun = refl;
     }

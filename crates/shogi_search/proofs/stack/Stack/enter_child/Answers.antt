@@ -1,4 +1,4 @@
-use Rattle.std.proofs.Common.{arith, get_or, rules, refl, ap, subst, sym, ℕ, ◌≡◌, ◌<◌, ◌≤◌, ◌-◌, ◌∙◌}
+use Rattle.std.proofs.Common.{arith, get_or, length, rules, refl, ap, subst, sym, ℕ, ◌≡◌, ◌<◌, ◌≤◌, ◌-◌, ◌∙◌}
 use Rattle.shogi_moves.proofs.LegalLaws.{listed_to_legal}
 use Rattle.shogi_moves.specs.After.{after_code}
 use Rattle.shogi_eval.specs.Evaluated.{Evaluated}
@@ -10,66 +10,77 @@ use Rattle.shogi_search.proofs.Entries.{same_truth, same_window}
 use Rattle.minimax.specs.Minimax.{IsTrueEntry, negated}
 use Rattle.search_nodes.specs.Changes.{EndsVisit, KeepsAsked}
 use Rattle.shogi_search.specs.Stack.{AwaitsChild, IsReady, IsStack, IsWhole, OnTop}
-use Rattle.search_nodes.specs.Visits.{IsAsked, IsFree}
+use Rattle.search_nodes.specs.Visits.{IsAsked, IsCurrent, IsFree}
 use Rattle.search_nodes.specs.declared.frame.Frame.{Frame}
 use Rattle.search_nodes.specs.declared.frame.NodeState.TheVariants.{AwaitingChild}
 use Rattle.minimax.proofs.Valid.{after_valid}
 use Rattle.shogi_core.specs.Codes.{code_of}
 use Rattle.shogi_search.specs.declared.stack.Stack.{Stack}
 use Rattle.search_nodes.proofs.Nodes.{asked, is_asked, waits}
-use Rattle.shogi_search.proofs.Places.{top_deep, IsTop, one_top, read_top, on_map, on_top, on_with, with_frame, changed, room, left_visited}
+use Rattle.shogi_search.proofs.Places.{top_deep, IsTop, one_top, read_on, read_top, on_map, on_top, on_with, with_frame, changed, left_visited}
 use Rattle.shogi_search.proofs.NarrowRoots.{uses_after}
 use Rattle.shogi_search.proofs.CallLaws.{asks_in_step, asks_none, steps_and_steps}
 use Rattle.shogi_search.proofs.stack.Stack.enter_child.Goals as goal
 
+-- the node on top waits for the answer of this move
+asks_there : (s : Stack) (m : Move) (d : Frame) → s.height < length s.frames → OnTop s (λ top. top.state ≡ AwaitingChild m) → IsCurrent (get_or s.frames s.height d).state m
+asks_there s m d fits top = asked _ m (read_on s d (λ (f : Frame). f.state ≡ AwaitingChild m) fits top)
+
 pub advance-requires : goal.advance-requires
 advance-requires g c =
     let f : Frame = get_or c.args.self.now.frames c.args.self.now.height c.index-self-self.result in
-    let is : IsTop c.args.self.now f = read_top c.args.self.now c.index-self-self.result (omega (arith, c.requires.stack.height_fits)) in
-    let asks : f.state ≡ AwaitingChild c.args.current.now = on_top c.args.self.now f (λ (top : Frame). top.state ≡ AwaitingChild c.args.current.now) is c.requires.asked in
-    let w : _ = waits _ _ _ _ _ _ _ _ _ _ (asked f.state c.args.current.now asks) f.known in
+    let w : _ = waits _ _ _ _ _ _ _ _ _ _ (asks_there c.args.self.now c.args.current.now c.index-self-self.result (omega (arith, c.requires.stack.height_fits)) c.requires.top) f.known in
     listed_to_legal _ _ c.reveal_invariant.ensures.back w.is_listed
 
-pub back_up-requires-clause-truth : goal.back_up-requires-clause-truth
-back_up-requires-clause-truth g c =
-    let f : Frame = get_or c.args.self.now.frames c.args.self.now.height c.index-self-self-in-Some.result in
-    let h : Frame = get_or c.args.self.now.frames c.args.self.now.height c.index-self-self.result in
-    let is : IsTop c.args.self.now f = read_top c.args.self.now c.index-self-self-in-Some.result (omega (arith, c.requires.stack.height_fits)) in
-    let same : h ≡ f = one_top c.args.self.now h f (read_top c.args.self.now c.index-self-self.result (omega (arith, c.requires.stack.height_fits))) is in
-    let asks : f.state ≡ AwaitingChild c.args.current.now = on_top c.args.self.now f (λ (top : Frame). top.state ≡ AwaitingChild c.args.current.now) is c.requires.asked in
-    let w : _ = waits _ _ _ _ _ _ _ _ _ _ (asked f.state c.args.current.now asks) f.known in
-    let truth : IsTrueEntry (position_after f c.args.current.now) f.node.eval (h.depth - 1) c.in-Some.entry = c.in-Some.ensures.truth _ _ (after_valid f.node.position (code_of c.args.current.now) f.valid w.is_listed) in
-    subst (λ (x : Frame). IsTrueEntry (position_after f c.args.current.now) f.node.eval (x.depth - 1) c.in-Some.entry) same truth
+pub back_up-requires : goal.back_up-requires
+back_up-requires g c =
+    let s : Stack = c.args.self.now in
+    let m : Move = c.args.current.now in
+    let f : Frame = get_or s.frames s.height c.index-self-self-in-Some.result in
+    let h : Frame = get_or s.frames s.height c.index-self-self.result in
+    let is : IsTop s f = read_top s c.index-self-self-in-Some.result (omega (arith, c.requires.stack.height_fits)) in
+    let same : h ≡ f = one_top s h f (read_top s c.index-self-self.result (omega (arith, c.requires.stack.height_fits))) is in
+    let current : IsCurrent f.state m = asks_there s m c.index-self-self-in-Some.result (omega (arith, c.requires.stack.height_fits)) c.requires.top in
+    let w : _ = waits _ _ _ _ _ _ _ _ _ _ current f.known in
+    let truth : IsTrueEntry (position_after f m) f.node.eval (h.depth - 1) c.in-Some.entry = c.in-Some.ensures.truth _ _ (after_valid f.node.position (code_of m) f.valid w.is_listed) in
+    record {
+      deep = top_deep s f is c.requires.stack;
+      current = current;
+      truth = subst (λ (x : Frame). IsTrueEntry (position_after f m) f.node.eval (x.depth - 1) c.in-Some.entry) same truth;
+      conclusive = subst (λ (x : Frame). IsConclusiveAfter x m c.in-Some.entry) same
+          (same_window _ (negated h.beta) _ (negated (move_alpha_of h m)) c.in-Some.entry
+          (omega (arith, ints, c.window-alpha.ensures.alpha, c.window-alpha.ensures.least, c.window-alpha.ensures.«open», c.window-alpha.ensures.most))
+          (omega (arith, ints, c.window-alpha.ensures.beta, c.window-alpha.ensures.least, c.window-alpha.ensures.«open», c.window-alpha.ensures.most))
+          c.in-Some.ensures.conclusive);
+    }
 
-pub back_up-requires-clause-current : goal.back_up-requires-clause-current
-back_up-requires-clause-current g c =
-    let f : Frame = get_or c.args.self.now.frames c.args.self.now.height c.index-self-self-in-Some.result in
-    let is : IsTop c.args.self.now f = read_top c.args.self.now c.index-self-self-in-Some.result (omega (arith, c.requires.stack.height_fits)) in
-    let asks : f.state ≡ AwaitingChild c.args.current.now = on_top c.args.self.now f (λ (top : Frame). top.state ≡ AwaitingChild c.args.current.now) is c.requires.asked in
-    asked f.state c.args.current.now asks
+pub back_up-requires-in-Some-answer_of : goal.back_up-requires-in-Some-answer_of
+back_up-requires-in-Some-answer_of g c =
+    let s : Stack = c.args.self.now in
+    let m : Move = c.args.current.now in
+    let f : Frame = get_or s.frames s.height c.index-self-self-in-Some-answer_of.result in
+    let h : Frame = get_or s.frames s.height c.index-self-self.result in
+    let is : IsTop s f = read_top s c.index-self-self-in-Some-answer_of.result (omega (arith, c.requires.stack.height_fits)) in
+    let same : h ≡ f = one_top s h f (read_top s c.index-self-self.result (omega (arith, c.requires.stack.height_fits))) is in
+    let current : IsCurrent f.state m = asks_there s m c.index-self-self-in-Some-answer_of.result (omega (arith, c.requires.stack.height_fits)) c.requires.top in
+    let place : c.advance.new.self.position ≡ position_after h m = search rules in
+    let eval : c.advance.new.self.eval ≡ h.node.eval = search rules in
+    let truth : IsTrueEntry (position_after h m) h.node.eval (h.depth - 1) c.in-Some-answer_of.entry = same_truth _ _ _ _ _ _ c.in-Some-answer_of.entry place eval refl c.in-Some-answer_of.ensures.known.truth in
+    record {
+      deep = top_deep s f is c.requires.stack;
+      current = current;
+      truth = subst (λ (x : Frame). IsTrueEntry (position_after x m) x.node.eval (x.depth - 1) c.in-Some-answer_of.entry) same truth;
+      conclusive = subst (λ (x : Frame). IsConclusiveAfter x m c.in-Some-answer_of.entry) same
+          (same_window _ (negated h.beta) _ (negated (move_alpha_of h m)) c.in-Some-answer_of.entry
+          (omega (arith, ints, c.window-alpha.ensures.alpha, c.window-alpha.ensures.least, c.window-alpha.ensures.«open», c.window-alpha.ensures.most))
+          (omega (arith, ints, c.window-alpha.ensures.beta, c.window-alpha.ensures.least, c.window-alpha.ensures.«open», c.window-alpha.ensures.most))
+          c.in-Some-answer_of.ensures.known.conclusive);
+    }
 
 pub returns-in-Some-clause-left : goal.returns-in-Some-clause-left
 returns-in-Some-clause-left g c =
     let f : Frame = get_or c.args.self.now.frames c.args.self.now.height c.index-self-self-in-Some.result in
     left_visited c.args.self.now c.args.current.now f c.back_up.new.self (read_top c.args.self.now c.index-self-self-in-Some.result (omega (arith, c.requires.stack.height_fits))) c.back_up.ensures.0 c.back_up.ensures.1.0
-
-pub back_up-requires-in-Some-answer_of-clause-current : goal.back_up-requires-in-Some-answer_of-clause-current
-back_up-requires-in-Some-answer_of-clause-current g c =
-    let f : Frame = get_or c.args.self.now.frames c.args.self.now.height c.index-self-self-in-Some-answer_of.result in
-    let is : IsTop c.args.self.now f = read_top c.args.self.now c.index-self-self-in-Some-answer_of.result (omega (arith, c.requires.stack.height_fits)) in
-    let asks : f.state ≡ AwaitingChild c.args.current.now = on_top c.args.self.now f (λ (top : Frame). top.state ≡ AwaitingChild c.args.current.now) is c.requires.asked in
-    asked f.state c.args.current.now asks
-
-pub back_up-requires-in-Some-answer_of-clause-conclusive : goal.back_up-requires-in-Some-answer_of-clause-conclusive
-back_up-requires-in-Some-answer_of-clause-conclusive g c =
-    let f : Frame = get_or c.args.self.now.frames c.args.self.now.height c.index-self-self-in-Some-answer_of.result in
-    let h : Frame = get_or c.args.self.now.frames c.args.self.now.height c.index-self-self.result in
-    let same : h ≡ f = one_top c.args.self.now h f (read_top c.args.self.now c.index-self-self.result (omega (arith, c.requires.stack.height_fits))) (read_top c.args.self.now c.index-self-self-in-Some-answer_of.result (omega (arith, c.requires.stack.height_fits))) in
-    subst (λ (x : Frame). IsConclusiveAfter x c.args.current.now c.in-Some-answer_of.entry) same
-    (same_window _ (negated h.beta) _ (negated (move_alpha_of h c.args.current.now)) c.in-Some-answer_of.entry
-    (omega (arith, ints, c.window-alpha.ensures.alpha, c.window-alpha.ensures.least, c.window-alpha.ensures.«open», c.window-alpha.ensures.most))
-    (omega (arith, ints, c.window-alpha.ensures.beta, c.window-alpha.ensures.least, c.window-alpha.ensures.«open», c.window-alpha.ensures.most))
-    c.in-Some-answer_of.ensures.known.conclusive)
 
 pub returns-in-Some-answer_of-clause-left : goal.returns-in-Some-answer_of-clause-left
 returns-in-Some-answer_of-clause-left g c =
@@ -81,22 +92,18 @@ ready_on : (s : Stack) (f h : Frame) → IsTop s f → IsStack s → IsWhole s �
 ready_on s f h is stack whole ends = record {
   stack = changed s f h is stack ends.0;
   whole = whole;
-  free = on_with s s.height h (λ (top : Frame). IsFree top.state) (slice_get_within s.frames s.height f is) ends.1.1;
+  top = on_with s s.height h (λ (top : Frame). IsFree top.state) (slice_get_within s.frames s.height f is) ends.1.1;
 }
 
 -- the node on top after the window of a root was narrowed
 topmost : (s : Stack) (d : Frame) (n : Stack) → IsTop s (get_or s.frames s.height d) → OnTop s (λ old. OnTop n (λ new. KeepsAsked old new)) → OnTop n (λ new. KeepsAsked (get_or s.frames s.height d) new)
 topmost s d n is top = on_top s (get_or s.frames s.height d) (λ (old : Frame). OnTop n (λ new. KeepsAsked old new)) is top
 
-pub narrow-requires-clause-asked : goal.narrow-requires-clause-asked
-narrow-requires-clause-asked g c = on_map c.args.self.now (λ top. top.state ≡ AwaitingChild c.args.current.now) (λ top. IsAsked top.state) (λ f e. is_asked f.state c.args.current.now e) c.requires.asked
-
-pub push-requires-clause-room : goal.push-requires-clause-room
-push-requires-clause-room g c =
-    let f : Frame = get_or c.args.self.now.frames c.args.self.now.height c.index-self-self.result in
-    let is : IsTop c.args.self.now f = read_top c.args.self.now c.index-self-self.result (omega (arith, c.requires.stack.height_fits)) in
-    let deep : 2 ≤ f.depth - 1 = c.in_default-answer_of.ensures.deep in
-    omega (arith, c.narrow.ensures.height, room c.args.self.now f is c.requires.stack (omega (arith, deep)))
+pub narrow-requires : goal.narrow-requires
+narrow-requires g c = record {
+  stack = c.requires.stack;
+  top = on_map c.args.self.now (λ top. top.state ≡ AwaitingChild c.args.current.now) (λ top. IsAsked top.state) (λ f e. is_asked f.state c.args.current.now e) c.requires.top;
+}
 
 pub returns-clause-left : goal.returns-clause-left
 returns-clause-left g c =
@@ -117,74 +124,34 @@ returns-clause-calls g c =
     refl (omega (arith, c.push.ensures.height, c.narrow.ensures.height)) (omega (arith, c.push.ensures.height, c.narrow.ensures.height))
 
 pub window-alpha-requires : goal.window-alpha-requires
-window-alpha-requires g c =
-    let f : Frame = get_or c.args.self.now.frames c.args.self.now.height c.index-self-self.result in
-    let is : IsTop c.args.self.now f = read_top c.args.self.now c.index-self-self.result (omega (arith, c.requires.stack.height_fits)) in
-    let asks : f.state ≡ AwaitingChild c.args.current.now = on_top c.args.self.now f (λ (top : Frame). top.state ≡ AwaitingChild c.args.current.now) is c.requires.asked in
-    record { current = asked f.state c.args.current.now asks }
+window-alpha-requires g c = record { current = asks_there c.args.self.now c.args.current.now c.index-self-self.result (omega (arith, c.requires.stack.height_fits)) c.requires.top }
 
 pub overflow_sub-depth : goal.overflow_sub-depth
 overflow_sub-depth g c =
     let f : Frame = get_or c.args.self.now.frames c.args.self.now.height c.index-self-self.result in
-    let is : IsTop c.args.self.now f = read_top c.args.self.now c.index-self-self.result (omega (arith, c.requires.stack.height_fits)) in
-    let asks : f.state ≡ AwaitingChild c.args.current.now = on_top c.args.self.now f (λ (top : Frame). top.state ≡ AwaitingChild c.args.current.now) is c.requires.asked in
-    let w : _ = waits _ _ _ _ _ _ _ _ _ _ (asked f.state c.args.current.now asks) f.known in
-    omega (arith, w.deep)
-
-pub mate_distance_bound-requires : goal.mate_distance_bound-requires
-mate_distance_bound-requires g c =
-    let f : Frame = get_or c.args.self.now.frames c.args.self.now.height c.index-self-self.result in
-    record { shallow = omega (arith, f.shallow) }
+    omega (arith, (waits _ _ _ _ _ _ _ _ _ _ (asks_there c.args.self.now c.args.current.now c.index-self-self.result (omega (arith, c.requires.stack.height_fits)) c.requires.top) f.known).deep)
 
 pub answer_of-requires : goal.answer_of-requires
 answer_of-requires g c = record { «open» = omega (arith, ints, c.window-alpha.ensures.least, c.window-alpha.ensures.«open», c.window-alpha.ensures.most) }
 
-pub back_up-requires-clause-conclusive : goal.back_up-requires-clause-conclusive
-back_up-requires-clause-conclusive g c =
-    let f : Frame = get_or c.args.self.now.frames c.args.self.now.height c.index-self-self-in-Some.result in
-    let h : Frame = get_or c.args.self.now.frames c.args.self.now.height c.index-self-self.result in
-    let same : h ≡ f = one_top c.args.self.now h f (read_top c.args.self.now c.index-self-self.result (omega (arith, c.requires.stack.height_fits))) (read_top c.args.self.now c.index-self-self-in-Some.result (omega (arith, c.requires.stack.height_fits))) in
-    subst (λ (x : Frame). IsConclusiveAfter x c.args.current.now c.in-Some.entry) same
-    (same_window _ (negated h.beta) _ (negated (move_alpha_of h c.args.current.now)) c.in-Some.entry
-    (omega (arith, ints, c.window-alpha.ensures.alpha, c.window-alpha.ensures.least, c.window-alpha.ensures.«open», c.window-alpha.ensures.most))
-    (omega (arith, ints, c.window-alpha.ensures.beta, c.window-alpha.ensures.least, c.window-alpha.ensures.«open», c.window-alpha.ensures.most))
-    c.in-Some.ensures.conclusive)
-
-pub back_up-requires-in-Some-answer_of-clause-truth : goal.back_up-requires-in-Some-answer_of-clause-truth
-back_up-requires-in-Some-answer_of-clause-truth g c =
-    let f : Frame = get_or c.args.self.now.frames c.args.self.now.height c.index-self-self-in-Some-answer_of.result in
-    let h : Frame = get_or c.args.self.now.frames c.args.self.now.height c.index-self-self.result in
-    let same : h ≡ f = one_top c.args.self.now h f (read_top c.args.self.now c.index-self-self.result (omega (arith, c.requires.stack.height_fits))) (read_top c.args.self.now c.index-self-self-in-Some-answer_of.result (omega (arith, c.requires.stack.height_fits))) in
-    let place : c.advance.new.self.position ≡ position_after h c.args.current.now = search rules in
-    let eval : c.advance.new.self.eval ≡ h.node.eval = search rules in
-    subst (λ (x : Frame). IsTrueEntry (position_after x c.args.current.now) x.node.eval (x.depth - 1) c.in-Some-answer_of.entry) same
-    (same_truth _ _ _ _ _ _ c.in-Some-answer_of.entry place eval refl c.in-Some-answer_of.ensures.known.truth)
-
-pub back_up-requires-clause-deep : goal.back_up-requires-clause-deep
-back_up-requires-clause-deep g c =
-    let f : Frame = get_or c.args.self.now.frames c.args.self.now.height c.index-self-self-in-Some.result in
-    top_deep c.args.self.now f (read_top c.args.self.now c.index-self-self-in-Some.result (omega (arith, c.requires.stack.height_fits))) c.requires.stack
-
-pub back_up-requires-in-Some-answer_of-clause-deep : goal.back_up-requires-in-Some-answer_of-clause-deep
-back_up-requires-in-Some-answer_of-clause-deep g c =
-    let f : Frame = get_or c.args.self.now.frames c.args.self.now.height c.index-self-self-in-Some-answer_of.result in
-    top_deep c.args.self.now f (read_top c.args.self.now c.index-self-self-in-Some-answer_of.result (omega (arith, c.requires.stack.height_fits))) c.requires.stack
-
-pub push-requires-clause-child : goal.push-requires-clause-child
-push-requires-clause-child g c =
+pub push-requires : goal.push-requires
+push-requires g c =
     let m : Move = c.args.current.now in
     let f : Frame = get_or c.args.self.now.frames c.args.self.now.height c.index-self-self.result in
     let is : IsTop c.args.self.now f = read_top c.args.self.now c.index-self-self.result (omega (arith, c.requires.stack.height_fits)) in
-    let asks : f.state ≡ AwaitingChild m = on_top c.args.self.now f (λ (top : Frame). top.state ≡ AwaitingChild m) is c.requires.asked in
+    let asks : f.state ≡ AwaitingChild m = on_top c.args.self.now f (λ (top : Frame). top.state ≡ AwaitingChild m) is c.requires.top in
     let deep : 2 ≤ f.depth - 1 = c.in_default-answer_of.ensures.deep in
     let position : c.advance.new.self.position ≡ position_after f m = search rules in
     let eval : c.advance.new.self.eval ≡ f.node.eval = search rules in
-    on_map c.narrow.new.self (λ new. KeepsAsked f new) (AwaitsChild m c.advance.new.self) (λ new k. record {
-      asked = k.1.1.1.1.0 ∙ asks;
-      deep = subst (λ (n : ℕ). 2 < n) (sym k.1.0) (omega (arith, deep));
-      position = position ∙ ap (λ (x : Evaluated). after_code x.position (code_of m)) (sym k.0);
-      eval = eval ∙ ap (λ (x : Evaluated). x.eval) (sym k.0);
-    }) (topmost c.args.self.now c.index-self-self.result c.narrow.new.self is c.narrow.ensures.top)
+    record {
+      stack = c.narrow.ensures.stack;
+      top = on_map c.narrow.new.self (λ new. KeepsAsked f new) (AwaitsChild m c.advance.new.self) (λ new k. record {
+        asked = k.1.1.1.1.0 ∙ asks;
+        deep = subst (λ (n : ℕ). 2 < n) (sym k.1.0) (omega (arith, deep));
+        position = position ∙ ap (λ (x : Evaluated). after_code x.position (code_of m)) (sym k.0);
+        eval = eval ∙ ap (λ (x : Evaluated). x.eval) (sym k.0);
+      }) (topmost c.args.self.now c.index-self-self.result c.narrow.new.self is c.narrow.ensures.top);
+    }
 
 pub returns-in-Some-clause-ready : goal.returns-in-Some-clause-ready
 returns-in-Some-clause-ready g c = ready_on c.args.self.now _ c.back_up.new.self (read_top c.args.self.now c.index-self-self-in-Some.result (omega (arith, c.requires.stack.height_fits))) c.requires.stack c.requires.whole c.back_up.ensures

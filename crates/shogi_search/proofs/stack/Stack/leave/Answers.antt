@@ -1,42 +1,40 @@
 use Rattle.std.proofs.Common.{ap, arith, get_or, refl, subst, sym, ◌∙◌}
 use Rattle.search_nodes.specs.Frames.{IsToBeLeft, IsTrueOf}
 use Rattle.search_nodes.specs.declared.frame.Frame.{Frame}
-use Rattle.minimax.specs.Entries.{IsConclusive}
 use Rattle.shogi_search.specs.declared.stack.Stack.{Stack}
 use Rattle.shogi_search.specs.Calls.{EndsWith}
-use Rattle.shogi_search.specs.Stack.{note_of_root}
-use Rattle.shogi_search.proofs.Places.{IsTop, of_top, on_top, read_top}
+use Rattle.shogi_search.specs.Stack.{IsEntryOf, note_of_root}
+use Rattle.shogi_search.proofs.Places.{IsTop, of_top, read_on, read_top}
 use Rattle.shogi_search.proofs.CallLaws.{asks_further, asks_nothing, leaves, ends_at_once}
 use Rattle.shogi_search.proofs.Runs.{one_fewer}
 use Rattle.shogi_search.proofs.stack.Stack.leave.Goals as goal
 
 pub to_entry-entry-requires : goal.to_entry-entry-requires
-to_entry-entry-requires g c =
-    let s : Stack = c.args.self.now in
-    let f : Frame = get_or s.frames s.height c.index-self-self.result in
-    let is : IsTop s f = read_top s c.index-self-self.result (omega (arith, c.requires.stack.height_fits)) in
-    record { over = on_top s f IsToBeLeft is c.requires.over }
+to_entry-entry-requires g c = record { over = read_on c.args.self.now c.index-self-self.result IsToBeLeft (omega (arith, c.requires.stack.height_fits)) c.requires.top }
 
-pub store_top-requires-clause-truth : goal.store_top-requires-clause-truth
-store_top-requires-clause-truth g c =
+pub store_top-requires : goal.store_top-requires
+store_top-requires g c =
     let s : Stack = c.args.self.now in
     let f : Frame = get_or s.frames s.height c.index-self-self.result in
     let is : IsTop s f = read_top s c.index-self-self.result (omega (arith, c.requires.stack.height_fits)) in
-    of_top s f (λ (top : Frame). IsTrueOf top c.to_entry-entry.result) is c.to_entry-entry.ensures.truth
+    record {
+      stack = c.requires.stack;
+      top = of_top s f (λ (top : Frame). IsTrueOf top c.to_entry-entry.result) is c.to_entry-entry.ensures.truth;
+    }
 
-pub pop-requires-clause-truth : goal.pop-requires-clause-truth
-pop-requires-clause-truth g c =
+pub pop-requires : goal.pop-requires
+pop-requires g c =
     let s : Stack = c.args.self.now in
     let f : Frame = get_or s.frames s.height c.index-self-self.result in
     let is : IsTop s f = read_top s c.index-self-self.result (omega (arith, c.requires.stack.height_fits)) in
-    of_top s f (λ (top : Frame). IsTrueOf top c.to_entry-entry.result) is c.to_entry-entry.ensures.truth
-
-pub pop-requires-clause-conclusive : goal.pop-requires-clause-conclusive
-pop-requires-clause-conclusive g c =
-    let s : Stack = c.args.self.now in
-    let f : Frame = get_or s.frames s.height c.index-self-self.result in
-    let is : IsTop s f = read_top s c.index-self-self.result (omega (arith, c.requires.stack.height_fits)) in
-    of_top s f (λ (top : Frame). IsConclusive top.alpha top.beta c.to_entry-entry.result) is c.to_entry-entry.ensures.conclusive
+    record {
+      stack = c.requires.stack;
+      whole = c.requires.whole;
+      top = of_top s f (λ (top : Frame). IsEntryOf top c.to_entry-entry.result) is (record {
+        truth = c.to_entry-entry.ensures.truth;
+        conclusive = c.to_entry-entry.ensures.conclusive;
+      });
+    }
 
 pub returns-then-not-pop : goal.returns-then-not-pop
 returns-then-not-pop g c =

@@ -22,46 +22,29 @@ parent_of : (s n : Stack) (child f : Frame) (m : Move) → IsTop s child → IsT
 parent_of s n child f m is top at =
     on_top n f (IsParentOf child m) top (on_top s child (λ (c : Frame). OnTop n (IsParentOf c m)) is at)
 
-pub back_up-requires-clause-conclusive : goal.back_up-requires-clause-conclusive
-back_up-requires-clause-conclusive g c =
+pub back_up-requires : goal.back_up-requires
+back_up-requires g c =
+    let s : Stack = c.args.self.now in
     let n : Stack = c.widen-current.new.self in
+    let m : Move = c.widen-current.result in
+    let low : n.height < length n.frames = omega (arith, c.widen-current.ensures.root) in
+    let child : Frame = get_or s.frames s.height c.index-self-self.result in
+    let top : IsTop s child = read_top s c.index-self-self.result (omega (arith, c.requires.narrow.stack.height_fits)) in
     let f : Frame = get_or n.frames n.height c.index-self-self-then-is_conclusive.result in
-    let is : IsTop n f = read_top n c.index-self-self-then-is_conclusive.result (omega (arith, c.widen-current.ensures.root)) in
+    let is : IsTop n f = read_top n c.index-self-self-then-is_conclusive.result low in
     let h : Frame = get_or n.frames n.height c.index-self-self-2.result in
-    let same : h ≡ f = one_top n h f (read_top n c.index-self-self-2.result (omega (arith, c.widen-current.ensures.root))) is in
-    subst (λ (x : Frame). IsConclusiveAfter x c.widen-current.result c.args.entry.now) same
-    (same_window _ (negated h.beta) _ (negated (move_alpha_of h c.widen-current.result)) c.args.entry.now
-    (omega (arith, ints, c.window-alpha.ensures.alpha, c.window-alpha.ensures.least, c.window-alpha.ensures.«open», c.window-alpha.ensures.most))
-    (omega (arith, ints, c.window-alpha.ensures.beta, c.window-alpha.ensures.least, c.window-alpha.ensures.«open», c.window-alpha.ensures.most))
-    (c.is_conclusive.ensures.0 c.if-is_conclusive.true))
-
-pub push-requires-clause-room : goal.push-requires-clause-room
-push-requires-clause-room g c = omega (arith, c.widen-current.ensures.root)
-
-pub back_up-requires-clause-deep : goal.back_up-requires-clause-deep
-back_up-requires-clause-deep g c =
-    let n : Stack = c.widen-current.new.self in
-    let f : Frame = get_or n.frames n.height c.index-self-self-then-is_conclusive.result in
-    top_deep n f (read_top n c.index-self-self-then-is_conclusive.result (omega (arith, c.widen-current.ensures.root))) c.widen-current.ensures.stack
-
-pub back_up-requires-clause-current : goal.back_up-requires-clause-current
-back_up-requires-clause-current g c =
-    let s : Stack = c.args.self.now in
-    let n : Stack = c.widen-current.new.self in
-    let child : Frame = get_or s.frames s.height c.index-self-self.result in
-    let f : Frame = get_or n.frames n.height c.index-self-self-then-is_conclusive.result in
-    let p : IsParentOf child c.widen-current.result f = parent_of s n child f c.widen-current.result (read_top s c.index-self-self.result (omega (arith, c.requires.stack.height_fits))) (read_top n c.index-self-self-then-is_conclusive.result (omega (arith, c.widen-current.ensures.root))) c.widen-current.ensures.child in
-    asked f.state c.widen-current.result p.waits.asked
-
-pub back_up-requires-clause-truth : goal.back_up-requires-clause-truth
-back_up-requires-clause-truth g c =
-    let s : Stack = c.args.self.now in
-    let n : Stack = c.widen-current.new.self in
-    let child : Frame = get_or s.frames s.height c.index-self-self.result in
-    let is : IsTop s child = read_top s c.index-self-self.result (omega (arith, c.requires.stack.height_fits)) in
-    let f : Frame = get_or n.frames n.height c.index-self-self-then-is_conclusive.result in
-    let p : IsParentOf child c.widen-current.result f = parent_of s n child f c.widen-current.result is (read_top n c.index-self-self-then-is_conclusive.result (omega (arith, c.widen-current.ensures.root))) c.widen-current.ensures.child in
-    same_truth _ _ _ _ _ _ c.args.entry.now p.waits.position p.waits.eval p.depth_is (on_top s child (λ (top : Frame). IsTrueOf top c.args.entry.now) is c.requires.truth)
+    let same : h ≡ f = one_top n h f (read_top n c.index-self-self-2.result low) is in
+    let p : IsParentOf child m f = parent_of s n child f m top is c.widen-current.ensures.child in
+    record {
+      deep = top_deep n f is c.widen-current.ensures.stack;
+      current = asked f.state m p.waits.asked;
+      truth = same_truth _ _ _ _ _ _ c.args.entry.now p.waits.position p.waits.eval p.depth_is (on_top s child (λ (top : Frame). IsTrueOf top c.args.entry.now) top c.requires.truth);
+      conclusive = subst (λ (x : Frame). IsConclusiveAfter x m c.args.entry.now) same
+          (same_window _ (negated h.beta) _ (negated (move_alpha_of h m)) c.args.entry.now
+          (omega (arith, ints, c.window-alpha.ensures.alpha, c.window-alpha.ensures.least, c.window-alpha.ensures.«open», c.window-alpha.ensures.most))
+          (omega (arith, ints, c.window-alpha.ensures.beta, c.window-alpha.ensures.least, c.window-alpha.ensures.«open», c.window-alpha.ensures.most))
+          (c.is_conclusive.ensures.0 c.if-is_conclusive.true));
+    }
 
 pub window-alpha-requires : goal.window-alpha-requires
 window-alpha-requires g c =
@@ -69,17 +52,20 @@ window-alpha-requires g c =
     let n : Stack = c.widen-current.new.self in
     let child : Frame = get_or s.frames s.height c.index-self-self.result in
     let f : Frame = get_or n.frames n.height c.index-self-self-2.result in
-    let p : IsParentOf child c.widen-current.result f = parent_of s n child f c.widen-current.result (read_top s c.index-self-self.result (omega (arith, c.requires.stack.height_fits))) (read_top n c.index-self-self-2.result (omega (arith, c.widen-current.ensures.root))) c.widen-current.ensures.child in
+    let p : IsParentOf child c.widen-current.result f = parent_of s n child f c.widen-current.result (read_top s c.index-self-self.result (omega (arith, c.requires.narrow.stack.height_fits))) (read_top n c.index-self-self-2.result (omega (arith, c.widen-current.ensures.root))) c.widen-current.ensures.child in
     record { current = asked f.state c.widen-current.result p.waits.asked }
 
-pub push-requires-clause-child : goal.push-requires-clause-child
-push-requires-clause-child g c =
+pub push-requires : goal.push-requires
+push-requires g c =
     let s : Stack = c.args.self.now in
     let n : Stack = c.widen-current.new.self in
     let m : Move = c.widen-current.result in
     let child : Frame = get_or s.frames s.height c.index-self-self.result in
-    let is : IsTop s child = read_top s c.index-self-self.result (omega (arith, c.requires.stack.height_fits)) in
-    on_map n (IsParentOf child m) (AwaitsChild m child.node) (λ top p. p.waits) (on_top s child (λ (top : Frame). OnTop n (IsParentOf top m)) is c.widen-current.ensures.child)
+    let is : IsTop s child = read_top s c.index-self-self.result (omega (arith, c.requires.narrow.stack.height_fits)) in
+    record {
+      stack = c.widen-current.ensures.stack;
+      top = on_map n (IsParentOf child m) (AwaitsChild m child.node) (λ top p. p.waits) (on_top s child (λ (top : Frame). OnTop n (IsParentOf top m)) is c.widen-current.ensures.child);
+    }
 
 pub returns-then-is_conclusive : goal.returns-then-is_conclusive
 returns-then-is_conclusive g c =
@@ -93,12 +79,12 @@ returns-then-is_conclusive g c =
       ready = record {
         stack = changed n f c.back_up.new.self is c.widen-current.ensures.stack c.back_up.ensures.0;
         whole = λ _. c.widen-current.ensures.whole;
-        free = on_with n n.height c.back_up.new.self (λ (top : Frame). IsFree top.state) low c.back_up.ensures.1.1;
+        top = on_with n n.height c.back_up.new.self (λ (top : Frame). IsFree top.state) low c.back_up.ensures.1.1;
       };
       fewer = omega (arith, kept, less, left_changed n f c.back_up.new.self is);
-      some = omega (arith, c.requires.narrow.0);
+      some = omega (arith, c.requires.narrow.child);
       above = omega (arith, c.widen-current.ensures.root);
-      below = omega (arith, c.requires.narrow.0);
+      below = omega (arith, c.requires.narrow.child);
       unchanged = c.widen-current.ensures.unchanged;
       asks = only_asks_none g.M.Memo _ _;
     }
@@ -113,9 +99,9 @@ returns g c =
     record {
       ready = c.push.ensures.ready;
       fewer = omega (arith, once, h.has);
-      some = omega (arith, c.requires.narrow.0);
-      above = omega (arith, c.push.ensures.height, c.widen-current.ensures.root, c.requires.narrow.0);
-      below = omega (arith, c.requires.narrow.0);
+      some = omega (arith, c.requires.narrow.child);
+      above = omega (arith, c.push.ensures.height, c.widen-current.ensures.root, c.requires.narrow.child);
+      below = omega (arith, c.requires.narrow.child);
       unchanged = kept_on s n c.push.new.self c.widen-current.ensures.unchanged c.push.ensures.unchanged;
-      asks = only_at_most g.M.Memo _ _ 1 _ c.push.ensures.asks (omega (arith, c.push.ensures.height, c.requires.narrow.0));
+      asks = only_at_most g.M.Memo _ _ 1 _ c.push.ensures.asks (omega (arith, c.push.ensures.height, c.requires.narrow.child));
     }

@@ -5,25 +5,22 @@ use mir.Val.{to_z, of_z}
 use Rattle.search_nodes.specs.Visits.{IsAsked}
 use Rattle.search_nodes.specs.declared.frame.Frame.{Frame}
 use Rattle.shogi_search.specs.declared.stack.Stack.{Stack}
-use Rattle.shogi_search.proofs.Places.{HasTop, IsTop, has_top, on_top, one_top, read_top}
+use Rattle.shogi_search.proofs.Places.{HasTop, IsTop, has_top, one_top, read_on, read_top}
 use Rattle.shogi_search.proofs.NarrowRoots.{left_narrowed, narrowed, top_narrowed, top_same}
 use Rattle.shogi_search.proofs.stack.Stack.narrow.Goals as goal
 
 pub returns-then-self-gt0-clause-top : goal.returns-then-self-gt0-clause-top
 returns-then-self-gt0-clause-top c =
-    let t : HasTop c.args.self.now (λ (top : Frame). IsAsked top.state) = has_top c.args.self.now _ c.requires.asked in
+    let t : HasTop c.args.self.now (λ (top : Frame). IsAsked top.state) = has_top c.args.self.now _ c.requires.top in
     top_same c.args.self.now t.top t.is
 
 pub returns-then-is_none-clause-top : goal.returns-then-is_none-clause-top
 returns-then-is_none-clause-top c =
-    let t : HasTop c.args.self.now (λ (top : Frame). IsAsked top.state) = has_top c.args.self.now _ c.requires.asked in
+    let t : HasTop c.args.self.now (λ (top : Frame). IsAsked top.state) = has_top c.args.self.now _ c.requires.top in
     top_same c.args.self.now t.top t.is
 
 pub end_at-requires-clause-asked : goal.end_at-requires-clause-asked
-end_at-requires-clause-asked c =
-    let s : Stack = c.args.self.now in
-    let f : Frame = get_or s.frames s.height c.index-self-self-2.result in
-    on_top s f (λ (top : Frame). IsAsked top.state) (read_top s c.index-self-self-2.result (omega (arith, c.requires.stack.height_fits))) c.requires.asked
+end_at-requires-clause-asked c = read_on c.args.self.now c.index-self-self-2.result (λ (top : Frame). IsAsked top.state) (omega (arith, c.requires.stack.height_fits)) c.requires.top
 
 pub end_at-requires-clause-open : goal.end_at-requires-clause-open
 end_at-requires-clause-open c =

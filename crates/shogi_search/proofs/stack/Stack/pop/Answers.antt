@@ -5,29 +5,36 @@ use Rattle.search_nodes.specs.Changes.{IsAt}
 use Rattle.search_nodes.specs.Frames.{IsTrueOf}
 use Rattle.search_nodes.proofs.Nodes.{asked}
 use Rattle.minimax.specs.Entries.{IsConclusive}
+use Rattle.minimax.specs.declared.entry.Entry.{Entry}
 use Rattle.minimax.specs.Minimax.{negated}
 use Rattle.minimax.specs.declared.bounds.TheConstants.{INFINITY}
-use Rattle.shogi_search.specs.Stack.{IsChain, parents_of}
+use Rattle.shogi_search.specs.Stack.{IsChain, IsEntryOf, OnTop, parents_of}
 use Rattle.shogi_search.specs.declared.stack.Stack.{Stack}
 use Rattle.shogi_search.proofs.Entries.{same_truth, same_window}
 use Rattle.shogi_search.proofs.NarrowRoots.{first_at}
 use Rattle.search_nodes.specs.declared.frame.Frame.{Frame}
-use Rattle.shogi_search.proofs.Places.{below_deep, HasTop, has_top, on_top, asked_below, truth_below, conclusive_below, stack_popped, left_popped, on_with}
+use Rattle.shogi_search.proofs.Places.{below_deep, HasTop, has_top, on_map, on_top, asked_below, truth_below, conclusive_below, stack_popped, left_popped, on_with}
 use Rattle.shogi_search.proofs.CallLaws.{only_asks_none}
 use Rattle.shogi_search.proofs.stack.Stack.pop.Goals as goal
 use Rattle.shogi_search.proofs.stack.Stack.pop.Goals.{else-self-eq1-via-then-self-eq1+else-self, else-self-eq1-via-else-self-eq1}
+
+truth_on : (s : Stack) (entry : Entry) → OnTop s (λ top. IsEntryOf top entry) → OnTop s (λ top. IsTrueOf top entry)
+truth_on s entry k = on_map s (λ top. IsEntryOf top entry) (λ top. IsTrueOf top entry) (λ f known. known.truth) k
+
+conclusive_on : (s : Stack) (entry : Entry) → OnTop s (λ top. IsEntryOf top entry) → OnTop s (λ top. IsConclusive top.alpha top.beta entry)
+conclusive_on s entry k = on_map s (λ top. IsEntryOf top entry) (λ top. IsConclusive top.alpha top.beta entry) (λ f known. known.conclusive) k
 
 pub unreachable-requires : goal.unreachable-requires
 unreachable-requires g c = asked_below c.args.self.now _ c.requires.stack (omega (arith, c.if-self-eq0.false)) (omega (arith, c.requires.stack.height_fits)) c.in_default.not-AwaitingChild
 
 pub back_up-requires-clause-truth : goal.back_up-requires-clause-truth
-back_up-requires-clause-truth g c = truth_below c.args.self.now _ _ _ c.requires.stack (omega (arith, c.if-self-eq0.false)) (omega (arith, c.requires.stack.height_fits)) c.in-AwaitingChild.is c.requires.truth
+back_up-requires-clause-truth g c = truth_below c.args.self.now _ _ _ c.requires.stack (omega (arith, c.if-self-eq0.false)) (omega (arith, c.requires.stack.height_fits)) c.in-AwaitingChild.is (truth_on c.args.self.now c.args.entry.now c.requires.top)
 
 pub back_up-requires-clause-conclusive : goal.back_up-requires-clause-conclusive
-back_up-requires-clause-conclusive g c = conclusive_below c.args.self.now _ _ _ c.requires.stack (omega (arith, c.if-self-eq0.false)) (omega (arith, c.requires.stack.height_fits)) c.in-AwaitingChild.is c.requires.conclusive
+back_up-requires-clause-conclusive g c = conclusive_below c.args.self.now _ _ _ c.requires.stack (omega (arith, c.if-self-eq0.false)) (omega (arith, c.requires.stack.height_fits)) c.in-AwaitingChild.is (conclusive_on c.args.self.now c.args.entry.now c.requires.top)
 
 pub leave_narrow-requires-clause-truth : goal.leave_narrow-requires-clause-truth
-leave_narrow-requires-clause-truth g c = c.requires.truth
+leave_narrow-requires-clause-truth g c = truth_on c.args.self.now c.args.entry.now c.requires.top
 
 pub back_up-requires-clause-current : goal.back_up-requires-clause-current
 back_up-requires-clause-current g c = asked _ _ c.in-AwaitingChild.is
@@ -37,7 +44,11 @@ leave_narrow-requires-clause-narrow g c =
     let s : Stack = c.args.self.now in
     let low : FitsSigned w32 s.bound = search rules in
     let high : FitsSigned w32 s.beta = search rules in
-    (c.if-self-eq1.true, omega (arith, ints, to_z-of_z w32 s.bound low, to_z-of_z w32 s.beta high, c.if-self.true))
+    record {
+      stack = c.requires.stack;
+      child = c.if-self-eq1.true;
+      less = omega (arith, ints, to_z-of_z w32 s.bound low, to_z-of_z w32 s.beta high, c.if-self.true);
+    }
 
 pub back_up-requires-clause-deep : goal.back_up-requires-clause-deep
 back_up-requires-clause-deep g c = below_deep c.args.self.now _ c.requires.stack (omega (arith, c.if-self-eq0.false)) (omega (arith, c.requires.stack.height_fits))
@@ -46,11 +57,12 @@ pub returns-then-self-eq0-clause-root : goal.returns-then-self-eq0-clause-root
 returns-then-self-eq0-clause-root g c = λ _.
     let s : Stack = c.args.self.now in
     let t : HasTop s (IsChain s.root s.eval s.depth (negated INFINITY) s.bound (parents_of s)) = has_top s _ c.requires.stack.chain in
-    let at : IsAt s.root s.eval s.depth (negated INFINITY) s.bound t.top = first_at s s.height t.top c.if-self-eq0.true t.has in (
+    let at : IsAt s.root s.eval s.depth (negated INFINITY) s.bound t.top = first_at s s.height t.top c.if-self-eq0.true t.has in
+    let known : IsEntryOf t.top c.args.entry.now = on_top s t.top (λ (top : Frame). IsEntryOf top c.args.entry.now) t.is c.requires.top in (
       c.if-self-eq0.true,
       record {
-        truth = same_truth _ _ _ _ _ _ c.args.entry.now at.position at.eval at.depth (on_top s t.top (λ (top : Frame). IsTrueOf top c.args.entry.now) t.is c.requires.truth);
-        conclusive = same_window _ _ _ _ c.args.entry.now at.alpha_is (at.beta_is ∙ c.requires.whole c.if-self-eq0.true) (on_top s t.top (λ (top : Frame). IsConclusive top.alpha top.beta c.args.entry.now) t.is c.requires.conclusive);
+        truth = same_truth _ _ _ _ _ _ c.args.entry.now at.position at.eval at.depth known.truth;
+        conclusive = same_window _ _ _ _ c.args.entry.now at.alpha_is (at.beta_is ∙ c.requires.whole c.if-self-eq0.true) known.conclusive;
       },
     )
 
@@ -71,7 +83,7 @@ returns-clause-left g c = λ _.
           | else-self-eq1-via-then-self-eq1+else-self w ↦ omega (arith, ints, to_z-of_z w32 s.bound low, to_z-of_z w32 s.beta high, w.if-self.false, c.requires.stack.within)
           | else-self-eq1-via-else-self-eq1 w ↦ absurd {A = s.bound ≡ s.beta} (omega (arith, zero, c.if-self-eq0.false, w.if-self-eq1.false))
         ];
-        free = on_with s (s.height - 1) c.back_up.new.self (λ (top : Frame). IsFree top.state) (omega (arith, fits)) c.back_up.ensures.1.1;
+        top = on_with s (s.height - 1) c.back_up.new.self (λ (top : Frame). IsFree top.state) (omega (arith, fits)) c.back_up.ensures.1.1;
       };
       fewer = left_popped s _ c.back_up.new.self c.requires.stack some fits c.back_up.ensures.0 c.back_up.ensures.1.0;
       some = some;

@@ -6,40 +6,37 @@ use Rattle.search_nodes.specs.Visits.{IsFree, IsOver}
 use Rattle.search_nodes.specs.declared.frame.Frame.{Frame}
 use Rattle.search_nodes.specs.ReplyCache.{IsFoundAt}
 use Rattle.search_nodes.specs.declared.frame.NodeState.TheVariants.{AwaitingChild}
-use Rattle.shogi_search.proofs.Places.{IsTop, left_passed, read_top, on_top, on_with, changed, looked, over_next, over_cut, left_descended}
+use Rattle.shogi_search.proofs.Places.{IsTop, left_passed, read_on, read_top, on_with, changed, looked, over_next, over_cut, left_descended}
 use Rattle.shogi_search.proofs.Runs.{step_from}
 use Rattle.shogi_search.proofs.stack.Stack.step.Goals as goal
 
 pub next_move-requires-clause-found : goal.next_move-requires-clause-found
-next_move-requires-clause-found g c =
+next_move-requires-clause-found g c = read_on c.args.self.now c.index-self-self.result (λ (top : Frame). IsFoundAt top c.args.self.now.reply_cache) (omega (arith, c.requires.stack.height_fits)) c.requires.stack.found
+
+pub enter_child-requires : goal.enter_child-requires
+enter_child-requires g c = record {
+  stack = looked c.args.self.now _ c.next_move.new.self c.next_move.new.cache (read_top c.args.self.now c.index-self-self.result (omega (arith, c.requires.stack.height_fits))) c.requires.stack c.next_move.ensures.asks.0 c.next_move.ensures.found;
+  whole = c.requires.whole;
+  top = on_with c.args.self.now c.args.self.now.height c.next_move.new.self (λ (top : Frame). top.state ≡ AwaitingChild c.in-Some.current) (omega (arith, c.requires.stack.height_fits)) c.in-Some.ensures.asks.1.0;
+}
+
+pub leave-requires : goal.leave-requires
+leave-requires g c = record {
+  stack = looked c.args.self.now _ c.next_move.new.self c.next_move.new.cache (read_top c.args.self.now c.index-self-self.result (omega (arith, c.requires.stack.height_fits))) c.requires.stack c.next_move.ensures.asks.0 c.next_move.ensures.found;
+  whole = c.requires.whole;
+  top = on_with c.args.self.now c.args.self.now.height c.next_move.new.self (λ (top : Frame). IsOver top.state (todo top.node.position top.picker)) (omega (arith, c.requires.stack.height_fits)) (over_next c.next_move.new.self c.in_default.ensures.asks.1.0 c.in_default.ensures.asks.1.1.1);
+}
+
+pub leave-requires-2 : goal.leave-requires-2
+leave-requires-2 g c =
     let s : Stack = c.args.self.now in
     let f : Frame = get_or s.frames s.height c.index-self-self.result in
-    on_top s f (λ (top : Frame). IsFoundAt top s.reply_cache) (read_top s c.index-self-self.result (omega (arith, c.requires.stack.height_fits))) c.requires.stack.found
-
-pub enter_child-requires-clause-stack : goal.enter_child-requires-clause-stack
-enter_child-requires-clause-stack g c = looked c.args.self.now _ c.next_move.new.self c.next_move.new.cache (read_top c.args.self.now c.index-self-self.result (omega (arith, c.requires.stack.height_fits))) c.requires.stack c.next_move.ensures.asks.0 c.next_move.ensures.found
-
-pub enter_child-requires-clause-asked : goal.enter_child-requires-clause-asked
-enter_child-requires-clause-asked g c = on_with c.args.self.now c.args.self.now.height c.next_move.new.self (λ (top : Frame). top.state ≡ AwaitingChild c.in-Some.current) (omega (arith, c.requires.stack.height_fits)) c.in-Some.ensures.asks.1.0
-
-pub leave-requires-clause-stack : goal.leave-requires-clause-stack
-leave-requires-clause-stack g c = looked c.args.self.now _ c.next_move.new.self c.next_move.new.cache (read_top c.args.self.now c.index-self-self.result (omega (arith, c.requires.stack.height_fits))) c.requires.stack c.next_move.ensures.asks.0 c.next_move.ensures.found
-
-pub leave-requires-clause-over : goal.leave-requires-clause-over
-leave-requires-clause-over g c = on_with c.args.self.now c.args.self.now.height c.next_move.new.self (λ (top : Frame). IsOver top.state (todo top.node.position top.picker)) (omega (arith, c.requires.stack.height_fits)) (over_next c.next_move.new.self c.in_default.ensures.asks.1.0 c.in_default.ensures.asks.1.1.1)
-
-pub leave-requires-2-clause-over : goal.leave-requires-2-clause-over
-leave-requires-2-clause-over g c =
-    let f : Frame = get_or c.args.self.now.frames c.args.self.now.height c.index-self-self.result in
-    let free : IsFree f.state = on_top c.args.self.now f (λ (top : Frame). IsFree top.state) (read_top c.args.self.now c.index-self-self.result (omega (arith, c.requires.stack.height_fits))) c.requires.free in
-    on_with c.args.self.now c.args.self.now.height f (λ (top : Frame). IsOver top.state (todo top.node.position top.picker)) (omega (arith, c.requires.stack.height_fits)) (over_cut f.state (todo f.node.position f.picker) (λ next. both_ways c.is_next.result c.if-is_next.false (c.is_next.ensures.1 next)) free)
-
-pub leave-requires-2-clause-stack : goal.leave-requires-2-clause-stack
-leave-requires-2-clause-stack g c =
-    let s : Stack = c.args.self.now in
-    let f : Frame = get_or s.frames s.height c.index-self-self.result in
-    let is : IsTop s f = read_top s c.index-self-self.result (omega (arith, c.requires.stack.height_fits)) in
-    changed s f f is c.requires.stack (refl, (refl, (refl, refl)))
+    let free : IsFree f.state = read_on s c.index-self-self.result (λ (top : Frame). IsFree top.state) (omega (arith, c.requires.stack.height_fits)) c.requires.top in
+    record {
+      stack = changed s f f (read_top s c.index-self-self.result (omega (arith, c.requires.stack.height_fits))) c.requires.stack (refl, (refl, (refl, refl)));
+      whole = c.requires.whole;
+      top = on_with s s.height f (λ (top : Frame). IsOver top.state (todo top.node.position top.picker)) (omega (arith, c.requires.stack.height_fits)) (over_cut f.state (todo f.node.position f.picker) (λ next. both_ways c.is_next.result c.if-is_next.false (c.is_next.ensures.1 next)) free);
+    }
 
 pub returns-then-is_next : goal.returns-then-is_next
 returns-then-is_next g c = record {

@@ -1,7 +1,7 @@
-use Rattle.std.proofs.Common.{◌≡◌, true, false, ◌++◌, length, take, refl, sym, subst, inl, inr, ◌∙◌}
+use Rattle.std.proofs.Common.{arith, ◌≡◌, true, false, ◌++◌, length, take, refl, sym, subst, inl, inr, ◌∙◌}
 use Rattle.std.proofs.KnownBytes.{Keeps-refl}
 use Rattle.usi_lines.specs.OneLine.{IsOneLine}
-use Rattle.stream_transport.proofs.Reading.{gives_line, gives_none, line_in_front, line_within, no_room, none_left, passes_line, passes_none, rest_fits, some_left}
+use Rattle.stream_transport.proofs.Reading.{gives_line, gives_none, line_in_front, line_within, no_room, passes_line, passes_none, rest_fits}
 use Rattle.stream_transport.proofs.connection.BufferedStream.read_stream.Goals.{then-is_empty-via-then-is_empty, then-is_empty-via-else-is_empty+then-not-self}
 use Rattle.stream_transport.proofs.connection.BufferedStream.read_stream.Goals as goal
 
@@ -26,52 +26,35 @@ pub returns-in-Ok-eq0-clause-asked : goal.returns-in-Ok-eq0-clause-asked
 returns-in-Ok-eq0-clause-asked g c = record { called = λ may kept room. inr (c.receive.result, (c.receive.ensures.called, rw c.in-Ok-eq0.is (inl (c.in-Ok-eq0.field-0-test, refl), may))); awake = λ may found. may; takes = λ may. may }
 
 -- bytes came
-pub within-requires-clause-empty : goal.within-requires-clause-empty
-within-requires-clause-empty g c = c.in_ok-room.ensures.items
+pub fill-requires-clause-empty : goal.fill-requires-clause-empty
+fill-requires-clause-empty g c = c.in_ok-reserve.ensures.items ∙ c.clear.ensures.items
 
-pub within-requires-clause-some : goal.within-requires-clause-some
-within-requires-clause-some g c = some_left c.cut_line.result.1.now c.is_empty-in-Ok.result c.is_empty-in-Ok.ensures c.if-not-is_empty.true
+pub fill-requires-clause-fits : goal.fill-requires-clause-fits
+fill-requires-clause-fits g c = rest_fits c.receive.new.buf c.cut_line.result.0.now c.cut_line.result.1.now c.in-Ok.n (length c.args.buf.now) _ (sym c.split_at.ensures.front ∙ c.cut_line.ensures.whole) c.in-Ok.ensures.bound.0 c.receive.auto.buf (omega (arith, c.in_ok-reserve.ensures.ok))
 
-pub within-requires-clause-fits : goal.within-requires-clause-fits
-within-requires-clause-fits g c = rest_fits c.receive.new.buf c.cut_line.result.0.now c.cut_line.result.1.now c.in-Ok.n (length c.args.buf.now) _ (sym c.split_at.ensures.front ∙ c.cut_line.ensures.whole) c.in-Ok.ensures.bound.0 c.receive.auto.buf c.in_ok-room.ensures.capacity
+pub returns-in-Ok-clause-within : goal.returns-in-Ok-clause-within
+returns-in-Ok-clause-within g c = line_within c.receive.new.buf c.split_at.result.0.now c.cut_line.result.0.now c.cut_line.result.1.now c.in-Ok.n c.split_at.ensures.front c.cut_line.ensures.whole c.in-Ok.n-test.1 c.in-Ok.ensures.bound.0 c.cut_line.ensures.shorter
 
-pub returns-then-not-is_empty-clause-within : goal.returns-then-not-is_empty-clause-within
-returns-then-not-is_empty-clause-within g c = line_within c.receive.new.buf c.split_at.result.0.now c.cut_line.result.0.now c.cut_line.result.1.now c.in-Ok.n c.split_at.ensures.front c.cut_line.ensures.whole c.in-Ok.n-test.1 c.in-Ok.ensures.bound.0 c.cut_line.ensures.shorter
-
-pub returns-then-not-is_empty-clause-line : goal.returns-then-not-is_empty-clause-line
-returns-then-not-is_empty-clause-line g c =
+pub returns-in-Ok-clause-line : goal.returns-in-Ok-clause-line
+returns-in-Ok-clause-line g c =
     let is : take (length c.cut_line.result.0.now) c.receive.new.buf ≡ c.cut_line.result.0.now = line_in_front c.receive.new.buf c.cut_line.result.0.now c.cut_line.result.1.now c.in-Ok.n (sym c.split_at.ensures.front ∙ c.cut_line.ensures.whole) in
     subst (λ xs. IsOneLine xs) (sym is) c.cut_line.ensures.one
 
-pub returns-then-not-is_empty-clause-unread : goal.returns-then-not-is_empty-clause-unread
-returns-then-not-is_empty-clause-unread g c =
+pub returns-in-Ok-clause-unread : goal.returns-in-Ok-clause-unread
+returns-in-Ok-clause-unread g c =
     let split : take c.in-Ok.n c.receive.new.buf ≡ c.cut_line.result.0.now ++ c.cut_line.result.1.now = sym c.split_at.ensures.front ∙ c.cut_line.ensures.whole in
-    gives_line g.S.ByteStream.unread c.args.self.now (record c.args.self.now { stream = c.receive.new.self; kept = c.within.result }) c.cut_line.result.0.now c.cut_line.result.1.now (take c.in-Ok.n c.receive.new.buf) (take (length c.cut_line.result.0.now) c.receive.new.buf) c.requires split (line_in_front c.receive.new.buf c.cut_line.result.0.now c.cut_line.result.1.now c.in-Ok.n split) c.within.ensures c.in-Ok.ensures.bytes.0
+    gives_line g.S.ByteStream.unread c.args.self.now (record c.args.self.now { stream = c.receive.new.self; kept = c.fill.new.self }) c.cut_line.result.0.now c.cut_line.result.1.now (take c.in-Ok.n c.receive.new.buf) (take (length c.cut_line.result.0.now) c.receive.new.buf) c.requires split (line_in_front c.receive.new.buf c.cut_line.result.0.now c.cut_line.result.1.now c.in-Ok.n split) c.fill.ensures c.in-Ok.ensures.bytes.0
 
-pub returns-then-not-is_empty-clause-written : goal.returns-then-not-is_empty-clause-written
-returns-then-not-is_empty-clause-written g c = c.receive.ensures.written
-
-pub returns-then-not-is_empty-clause-asked : goal.returns-then-not-is_empty-clause-asked
-returns-then-not-is_empty-clause-asked g c = record { called = λ may kept room. inr (c.receive.result, (c.receive.ensures.called, rw c.in-Ok.is (inr (c.in-Ok.n-test.1, (length c.cut_line.result.0.now, refl)), may))); awake = λ may found. may; takes = λ may. may }
-
-pub returns-else-not-is_empty-clause-within : goal.returns-else-not-is_empty-clause-within
-returns-else-not-is_empty-clause-within g c = line_within c.receive.new.buf c.split_at.result.0.now c.cut_line.result.0.now c.cut_line.result.1.now c.in-Ok.n c.split_at.ensures.front c.cut_line.ensures.whole c.in-Ok.n-test.1 c.in-Ok.ensures.bound.0 c.cut_line.ensures.shorter
-
-pub returns-else-not-is_empty-clause-line : goal.returns-else-not-is_empty-clause-line
-returns-else-not-is_empty-clause-line g c =
-    let is : take (length c.cut_line.result.0.now) c.receive.new.buf ≡ c.cut_line.result.0.now = line_in_front c.receive.new.buf c.cut_line.result.0.now c.cut_line.result.1.now c.in-Ok.n (sym c.split_at.ensures.front ∙ c.cut_line.ensures.whole) in
-    subst (λ xs. IsOneLine xs) (sym is) c.cut_line.ensures.one
-
-pub returns-else-not-is_empty-clause-unread : goal.returns-else-not-is_empty-clause-unread
-returns-else-not-is_empty-clause-unread g c =
+pub returns-in-Ok-clause-came : goal.returns-in-Ok-clause-came
+returns-in-Ok-clause-came g c =
     let split : take c.in-Ok.n c.receive.new.buf ≡ c.cut_line.result.0.now ++ c.cut_line.result.1.now = sym c.split_at.ensures.front ∙ c.cut_line.ensures.whole in
-    gives_line g.S.ByteStream.unread c.args.self.now (record c.args.self.now { stream = c.receive.new.self; kept = c.args.self.now.kept }) c.cut_line.result.0.now c.cut_line.result.1.now (take c.in-Ok.n c.receive.new.buf) (take (length c.cut_line.result.0.now) c.receive.new.buf) c.requires split (line_in_front c.receive.new.buf c.cut_line.result.0.now c.cut_line.result.1.now c.in-Ok.n split) (c.requires ∙ sym (none_left c.cut_line.result.1.now c.is_empty-in-Ok.result c.is_empty-in-Ok.ensures c.if-not-is_empty.false)) c.in-Ok.ensures.bytes.0
+    passes_line g.S.ByteStream.given c.args.self.now (record c.args.self.now { stream = c.receive.new.self; kept = c.fill.new.self }) c.cut_line.result.0.now c.cut_line.result.1.now (take c.in-Ok.n c.receive.new.buf) (take (length c.cut_line.result.0.now) c.receive.new.buf) c.requires split (line_in_front c.receive.new.buf c.cut_line.result.0.now c.cut_line.result.1.now c.in-Ok.n split) c.fill.ensures c.in-Ok.ensures.gave
 
-pub returns-else-not-is_empty-clause-written : goal.returns-else-not-is_empty-clause-written
-returns-else-not-is_empty-clause-written g c = c.receive.ensures.written
+pub returns-in-Ok-clause-written : goal.returns-in-Ok-clause-written
+returns-in-Ok-clause-written g c = c.receive.ensures.written
 
-pub returns-else-not-is_empty-clause-asked : goal.returns-else-not-is_empty-clause-asked
-returns-else-not-is_empty-clause-asked g c = record { called = λ may kept room. inr (c.receive.result, (c.receive.ensures.called, rw c.in-Ok.is (inr (c.in-Ok.n-test.1, (length c.cut_line.result.0.now, refl)), may))); awake = λ may found. may; takes = λ may. may }
+pub returns-in-Ok-clause-asked : goal.returns-in-Ok-clause-asked
+returns-in-Ok-clause-asked g c = record { called = λ may kept room. inr (c.receive.result, (c.receive.ensures.called, rw c.in-Ok.is (inr (c.in-Ok.n-test.1, (length c.cut_line.result.0.now, refl)), may))); awake = λ may found. may; takes = λ may. may }
 
 -- none came
 pub returns-in-Err-WouldBlock-clause-unread : goal.returns-in-Err-WouldBlock-clause-unread
@@ -92,28 +75,18 @@ returns-in-Err-Interrupted-clause-written g c = c.receive.ensures.written
 pub returns-in-Err-Interrupted-clause-asked : goal.returns-in-Err-Interrupted-clause-asked
 returns-in-Err-Interrupted-clause-asked g c = record { called = λ may kept room. inr (c.receive.result, (c.receive.ensures.called, rw (c.in-Err-Interrupted.is, c.in-Err-Interrupted.field-0-is) (refl, may))); awake = λ may found. may; takes = λ may. may }
 
-pub returns-clause-unread : goal.returns-clause-unread
-returns-clause-unread g c = gives_none g.S.ByteStream.unread c.args.self.now (record c.args.self.now { stream = c.receive.new.self }) refl c.in-Err-Failed.ensures.bytes
+pub returns-in-Err-Failed-clause-unread : goal.returns-in-Err-Failed-clause-unread
+returns-in-Err-Failed-clause-unread g c = gives_none g.S.ByteStream.unread c.args.self.now (record c.args.self.now { stream = c.receive.new.self }) refl c.in-Err-Failed.ensures.bytes
 
-pub returns-clause-written : goal.returns-clause-written
-returns-clause-written g c = c.receive.ensures.written
+pub returns-in-Err-Failed-clause-written : goal.returns-in-Err-Failed-clause-written
+returns-in-Err-Failed-clause-written g c = c.receive.ensures.written
 
-pub returns-clause-asked : goal.returns-clause-asked
-returns-clause-asked g c = record { called = λ may kept room. inr (c.receive.result, (c.receive.ensures.called, rw (c.in-Err-Failed.is, c.in-Err-Failed.field-0-is) (refl, may))); awake = λ may found. may; takes = λ may. may }
+pub returns-in-Err-Failed-clause-asked : goal.returns-in-Err-Failed-clause-asked
+returns-in-Err-Failed-clause-asked g c = record { called = λ may kept room. inr (c.receive.result, (c.receive.ensures.called, rw (c.in-Err-Failed.is, c.in-Err-Failed.field-0-is) (refl, may))); awake = λ may found. may; takes = λ may. may }
 
 -- what passed
 pub returns-then-is_empty-clause-came : goal.returns-then-is_empty-clause-came
 returns-then-is_empty-clause-came g c = passes_none g.S.ByteStream.given c.args.self.now c.args.self.now refl (Keeps-refl (g.S.ByteStream.given c.args.self.now.stream))
-
-pub returns-then-not-is_empty-clause-came : goal.returns-then-not-is_empty-clause-came
-returns-then-not-is_empty-clause-came g c =
-    let split : take c.in-Ok.n c.receive.new.buf ≡ c.cut_line.result.0.now ++ c.cut_line.result.1.now = sym c.split_at.ensures.front ∙ c.cut_line.ensures.whole in
-    passes_line g.S.ByteStream.given c.args.self.now (record c.args.self.now { stream = c.receive.new.self; kept = c.within.result }) c.cut_line.result.0.now c.cut_line.result.1.now (take c.in-Ok.n c.receive.new.buf) (take (length c.cut_line.result.0.now) c.receive.new.buf) c.requires split (line_in_front c.receive.new.buf c.cut_line.result.0.now c.cut_line.result.1.now c.in-Ok.n split) c.within.ensures c.in-Ok.ensures.gave
-
-pub returns-else-not-is_empty-clause-came : goal.returns-else-not-is_empty-clause-came
-returns-else-not-is_empty-clause-came g c =
-    let split : take c.in-Ok.n c.receive.new.buf ≡ c.cut_line.result.0.now ++ c.cut_line.result.1.now = sym c.split_at.ensures.front ∙ c.cut_line.ensures.whole in
-    passes_line g.S.ByteStream.given c.args.self.now (record c.args.self.now { stream = c.receive.new.self; kept = c.args.self.now.kept }) c.cut_line.result.0.now c.cut_line.result.1.now (take c.in-Ok.n c.receive.new.buf) (take (length c.cut_line.result.0.now) c.receive.new.buf) c.requires split (line_in_front c.receive.new.buf c.cut_line.result.0.now c.cut_line.result.1.now c.in-Ok.n split) (c.requires ∙ sym (none_left c.cut_line.result.1.now c.is_empty-in-Ok.result c.is_empty-in-Ok.ensures c.if-not-is_empty.false)) c.in-Ok.ensures.gave
 
 pub returns-in-Err-WouldBlock-clause-came : goal.returns-in-Err-WouldBlock-clause-came
 returns-in-Err-WouldBlock-clause-came g c = passes_none g.S.ByteStream.given c.args.self.now (record c.args.self.now { stream = c.receive.new.self; readable = false }) refl c.in-Err-WouldBlock.ensures.gave
@@ -121,5 +94,5 @@ returns-in-Err-WouldBlock-clause-came g c = passes_none g.S.ByteStream.given c.a
 pub returns-in-Err-Interrupted-clause-came : goal.returns-in-Err-Interrupted-clause-came
 returns-in-Err-Interrupted-clause-came g c = passes_none g.S.ByteStream.given c.args.self.now (record c.args.self.now { stream = c.receive.new.self }) refl c.in-Err-Interrupted.ensures.gave
 
-pub returns-clause-came : goal.returns-clause-came
-returns-clause-came g c = passes_none g.S.ByteStream.given c.args.self.now (record c.args.self.now { stream = c.receive.new.self }) refl c.in-Err-Failed.ensures.gave
+pub returns-in-Err-Failed-clause-came : goal.returns-in-Err-Failed-clause-came
+returns-in-Err-Failed-clause-came g c = passes_none g.S.ByteStream.given c.args.self.now (record c.args.self.now { stream = c.receive.new.self }) refl c.in-Err-Failed.ensures.gave

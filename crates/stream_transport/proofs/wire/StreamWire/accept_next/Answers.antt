@@ -1,5 +1,5 @@
 use Rattle.std.specs.Prelude.{vec_len}
-use Rattle.std.proofs.Common.{◌≡◌, arith, length, [], ◌∷◌, Ok, Err, Some, refl, ap, inr, ◌∙◌, rules}
+use Rattle.std.proofs.Common.{◌≡◌, arith, length, [], ◌∷◌, Ok, Err, Some, refl, inr, rules}
 use Rattle.transport.specs.declared.wire.WireFault.TheVariants.{OutOfMemory}
 use Rattle.std.specs.Io.KnownBytes.{Keeps}
 use Rattle.transport.proofs.Reported.{kept_same}
@@ -29,48 +29,45 @@ pub returns-then-place-clause-cause : goal.returns-then-place-clause-cause
 returns-then-place-clause-cause g c = (c.fault.ensures.rises, λ e. c.fault.ensures.risen)
 
 pub returns-then-place-clause-asks : goal.returns-then-place-clause-asks
-returns-then-place-clause-asks g c = asked_no_next (length c.fault.new.self.places.items) (g.L.Listener.asked c.args.self.now.listener) (g.L.Listener.asked c.fault.new.self.listener) c.fault.result (ap g.L.Listener.asked c.fault.ensures.listener) (rw (c.fault.ensures.places, c.fault.ensures.device) (crowded c.in_ok-place.place (vec_len c.free_place.new.places) (length c.free_place.new.places.items) c.if-place.true c.in_ok-place.ensures.room (omega (arith, c.free_place.new.places.ok))))
-
-pub returns-then-place-clause-named : goal.returns-then-place-clause-named
-returns-then-place-clause-named g c = ap g.L.Listener.named c.fault.ensures.listener
+returns-then-place-clause-asks g c = asked_no_next (length c.free_place.new.places.items) (g.L.Listener.asked c.args.self.now.listener) (g.L.Listener.asked c.args.self.now.listener) c.fault.result refl (rw c.fault.ensures.device (crowded c.in_ok-place.place (vec_len c.free_place.new.places) (length c.free_place.new.places.items) c.if-place.true c.in_ok-place.ensures.room (omega (arith, c.free_place.new.places.ok))))
 
 pub returns-then-place-clause-awake : goal.returns-then-place-clause-awake
-returns-then-place-clause-awake g c = rw c.fault.ensures.places (still_same c.args.self.now.places.items c.free_place.new.places.items c.free_place.ensures.same)
+returns-then-place-clause-awake g c = still_same c.args.self.now.places.items c.free_place.new.places.items c.free_place.ensures.same
 
-pub returns-then-place-clause-opens : goal.returns-then-place-clause-opens
-returns-then-place-clause-opens g c = λ some. c.fault.ensures.opens
+pub returns-then-place-clause-holds : goal.returns-then-place-clause-holds
+returns-then-place-clause-holds g c = same_alike c.args.self.now.places.items c.free_place.new.places.items c.free_place.ensures.same
 
 pub returns-then-place-clause-unchanged : goal.returns-then-place-clause-unchanged
 returns-then-place-clause-unchanged g c =
     let told = g.L.Listener.told in
     let old = c.args.self.now in
-    rw (c.fault.ensures.listener, c.fault.ensures.places, c.fault.ensures.given) (alike_keeps g.L.Stream.ByteStream.unread g.L.Stream.ByteStream.written (given_under old.given.items) (told old.listener) (told old.listener) old.places.items c.free_place.new.places.items (same_alike old.places.items c.free_place.new.places.items c.free_place.ensures.same) (kept_same (told old.listener)))
+    alike_keeps g.L.Stream.ByteStream.unread g.L.Stream.ByteStream.written (given_under old.given.items) (told old.listener) (told old.listener) old.places.items c.free_place.new.places.items (same_alike old.places.items c.free_place.new.places.items c.free_place.ensures.same) (kept_same (told old.listener))
 
 -- the listener failed
-pub returns-in-Err-2-clause-cause : goal.returns-in-Err-2-clause-cause
-returns-in-Err-2-clause-cause g c = (c.fault-in-Err-2.ensures.rises, λ e. c.fault-in-Err-2.ensures.risen)
+pub returns-in_default-clause-cause : goal.returns-in_default-clause-cause
+returns-in_default-clause-cause g c = (c.fault-in_default.ensures.rises, λ e. c.fault-in_default.ensures.risen)
 
-pub returns-in-Err-2-clause-asks : goal.returns-in-Err-2-clause-asks
-returns-in-Err-2-clause-asks g c = record {
+pub returns-in_default-clause-asks : goal.returns-in_default-clause-asks
+returns-in_default-clause-asks g c = record {
   asks = Accept (answer_of c.accept.result) ∷ [];
-  asked = rw c.fault-in-Err-2.ensures.listener c.accept.ensures.asked;
-  due = rw c.in-Err.is (inr (c.in-Err.fault, (c.is_nobody.ensures.no c.if-is_nobody.false, refl)));
+  asked = c.accept.ensures.asked;
+  due = rw c.in-Err.is (inr (c.in-Err.cause, (c.in_default.not-WouldBlock, refl)));
 }
 
-pub returns-in-Err-2-clause-named : goal.returns-in-Err-2-clause-named
-returns-in-Err-2-clause-named g c = ap g.L.Listener.named c.fault-in-Err-2.ensures.listener ∙ c.accept.ensures.named
+pub returns-in_default-clause-named : goal.returns-in_default-clause-named
+returns-in_default-clause-named g c = c.accept.ensures.named
 
-pub returns-in-Err-2-clause-awake : goal.returns-in-Err-2-clause-awake
-returns-in-Err-2-clause-awake g c = rw c.fault-in-Err-2.ensures.places (still_same c.args.self.now.places.items c.free_place.new.places.items c.free_place.ensures.same)
+pub returns-in_default-clause-awake : goal.returns-in_default-clause-awake
+returns-in_default-clause-awake g c = still_same c.args.self.now.places.items c.free_place.new.places.items c.free_place.ensures.same
 
-pub returns-in-Err-2-clause-opens : goal.returns-in-Err-2-clause-opens
-returns-in-Err-2-clause-opens g c = λ some. c.fault-in-Err-2.ensures.opens
+pub returns-in_default-clause-holds : goal.returns-in_default-clause-holds
+returns-in_default-clause-holds g c = same_alike c.args.self.now.places.items c.free_place.new.places.items c.free_place.ensures.same
 
-pub returns-in-Err-2-clause-unchanged : goal.returns-in-Err-2-clause-unchanged
-returns-in-Err-2-clause-unchanged g c =
+pub returns-in_default-clause-unchanged : goal.returns-in_default-clause-unchanged
+returns-in_default-clause-unchanged g c =
     let told = g.L.Listener.told in
     let old = c.args.self.now in
-    rw (c.fault-in-Err-2.ensures.listener, c.fault-in-Err-2.ensures.places, c.fault-in-Err-2.ensures.given) (alike_keeps g.L.Stream.ByteStream.unread g.L.Stream.ByteStream.written (given_under old.given.items) (told old.listener) (told c.accept.new.self) old.places.items c.free_place.new.places.items (same_alike old.places.items c.free_place.new.places.items c.free_place.ensures.same) c.in-Err-2.ensures.err)
+    alike_keeps g.L.Stream.ByteStream.unread g.L.Stream.ByteStream.written (given_under old.given.items) (told old.listener) (told c.accept.new.self) old.places.items c.free_place.new.places.items (same_alike old.places.items c.free_place.new.places.items c.free_place.ensures.same) c.in-Err.ensures.err
 
 -- no memory for a place
 pub returns-in_err-place-clause-awake : goal.returns-in_err-place-clause-awake
@@ -105,38 +102,29 @@ pub returns-in-Ok-clause-awake : goal.returns-in-Ok-clause-awake
 returns-in-Ok-clause-awake g c = still_then c.args.self.now.places.items c.free_place.new.places.items c.insert.new.places.items (still_same c.args.self.now.places.items c.free_place.new.places.items c.free_place.ensures.same) (still_comes c.free_place.new.places.items c.insert.new.places.items c.new.result.number c.insert.ensures.others c.insert.ensures.if_none (rw c.insert.ensures.held c.new.ensures.awake))
 
 -- nobody waits
-pub returns-in-Err-clause-cause : goal.returns-in-Err-clause-cause
-returns-in-Err-clause-cause g c = cause_of_ok _ c.args.self.now.failed c.args.self.now.failed (not_below c.args.self.now.failed)
+pub returns-in-WouldBlock-clause-cause : goal.returns-in-WouldBlock-clause-cause
+returns-in-WouldBlock-clause-cause g c = cause_of_ok _ c.args.self.now.failed c.args.self.now.failed (not_below c.args.self.now.failed)
 
-pub returns-in-Err-clause-asks : goal.returns-in-Err-clause-asks
-returns-in-Err-clause-asks g c = record { asks = Accept (answer_of c.accept.result) ∷ []; asked = c.accept.ensures.asked; due = rw (c.in-Err.is, c.is_nobody.ensures.yes c.if-is_nobody.true) refl }
+pub returns-in-WouldBlock-clause-asks : goal.returns-in-WouldBlock-clause-asks
+returns-in-WouldBlock-clause-asks g c = record { asks = Accept (answer_of c.accept.result) ∷ []; asked = c.accept.ensures.asked; due = rw (c.in-Err.is, c.in-WouldBlock.is) refl }
 
-pub returns-in-Err-clause-named : goal.returns-in-Err-clause-named
-returns-in-Err-clause-named g c = c.accept.ensures.named
+pub returns-in-WouldBlock-clause-named : goal.returns-in-WouldBlock-clause-named
+returns-in-WouldBlock-clause-named g c = c.accept.ensures.named
 
-pub returns-in-Err-clause-awake : goal.returns-in-Err-clause-awake
-returns-in-Err-clause-awake g c = still_same c.args.self.now.places.items c.free_place.new.places.items c.free_place.ensures.same
+pub returns-in-WouldBlock-clause-awake : goal.returns-in-WouldBlock-clause-awake
+returns-in-WouldBlock-clause-awake g c = still_same c.args.self.now.places.items c.free_place.new.places.items c.free_place.ensures.same
 
-pub returns-in-Err-clause-opens : goal.returns-in-Err-clause-opens
-returns-in-Err-clause-opens g c = λ some. absurd (some refl)
+pub returns-in-WouldBlock-clause-holds : goal.returns-in-WouldBlock-clause-holds
+returns-in-WouldBlock-clause-holds g c = same_alike c.args.self.now.places.items c.free_place.new.places.items c.free_place.ensures.same
 
-pub returns-in-Err-clause-unchanged : goal.returns-in-Err-clause-unchanged
-returns-in-Err-clause-unchanged g c =
+pub returns-in-WouldBlock-clause-unchanged : goal.returns-in-WouldBlock-clause-unchanged
+returns-in-WouldBlock-clause-unchanged g c =
     let told = g.L.Listener.told in
     let old = c.args.self.now in
     alike_keeps g.L.Stream.ByteStream.unread g.L.Stream.ByteStream.written (given_under old.given.items) (told old.listener) (told c.accept.new.self) old.places.items c.free_place.new.places.items (same_alike old.places.items c.free_place.new.places.items c.free_place.ensures.same) c.in-Err.ensures.err
 
 pub returns-in-Ok-clause-holds : goal.returns-in-Ok-clause-holds
 returns-in-Ok-clause-holds g c = accepted_alike (Ok (Some c.number_at-number.result)) c.args.self.now.places.items c.free_place.new.places.items c.insert.new.places.items (same_alike c.args.self.now.places.items c.free_place.new.places.items c.free_place.ensures.same) (accepted_one c.free_place.new.places.items c.insert.new.places.items c.number_at-number.result c.new.result.number c.new.result c.new.ensures.number c.insert.ensures.held c.insert.ensures.others)
-
-pub returns-in-Err-clause-holds : goal.returns-in-Err-clause-holds
-returns-in-Err-clause-holds g c = same_alike c.args.self.now.places.items c.free_place.new.places.items c.free_place.ensures.same
-
-pub returns-in-Err-2-clause-holds : goal.returns-in-Err-2-clause-holds
-returns-in-Err-2-clause-holds g c = rw c.fault-in-Err-2.ensures.places (same_alike c.args.self.now.places.items c.free_place.new.places.items c.free_place.ensures.same)
-
-pub returns-then-place-clause-holds : goal.returns-then-place-clause-holds
-returns-then-place-clause-holds g c = rw c.fault.ensures.places (same_alike c.args.self.now.places.items c.free_place.new.places.items c.free_place.ensures.same)
 
 pub returns-in_err-place-clause-holds : goal.returns-in_err-place-clause-holds
 returns-in_err-place-clause-holds g c =

@@ -1,9 +1,13 @@
-use Rattle.std.proofs.Common.{refl}
+use Rattle.std.proofs.Common.{arith, ap, ℕ, Ok, Err, ◌≡◌, ◌<◌, ◌%◌, refl, sym, subst, ◌∙◌}
+use Rattle.std.specs.Prelude.{vec_len}
+use Rattle.transport.specs.declared.wire.Got.TheVariants.{Nothing}
+use Rattle.transport.specs.declared.wire.WireFault.TheVariants.{Device}
 use Rattle.stream_transport.specs.Asking.{IsQuiet}
-use Rattle.stream_transport.specs.Held.{held}
-use Rattle.stream_transport.proofs.Outcomes.{cause_of_ok, not_below}
-use Rattle.stream_transport.proofs.Placing.{no_more, none_noted, quiet_asks, quiet_kept, quiet_passes, quiet_sleeps}
-use Rattle.stream_transport.proofs.Reports.{reads_none}
+use Rattle.stream_transport.specs.Held.{IsFree, given_under, held}
+use Rattle.stream_transport.specs.declared.connection.TheConstants.{PLACES}
+use Rattle.stream_transport.proofs.Outcomes.{cause_of_ok, counted_none, not_below}
+use Rattle.stream_transport.proofs.Placing.{held_as, kept_held, none_kept, none_reads, of_held, of_none, others_then, quiet_asks, quiet_kept, quiet_notes, quiet_passes}
+use Rattle.stream_transport.proofs.Reports.{reads_held, reads_missing, reads_none}
 use Rattle.stream_transport.proofs.wire.StreamWireWire.read.Goals as goal
 
 -- the stream has said that it has nothing
@@ -23,54 +27,96 @@ returns-then-is_quiet-clause-gives g c =
     let quiet : IsQuiet (held c.args.self.now.places.items c.args.number) = rw c.as_slice.ensures.value at c.is_quiet.ensures c.if-is_quiet.true in
     quiet_asks _ _ (held c.args.self.now.places.items c.args.number) quiet
 
-pub returns-then-is_quiet-clause-more : goal.returns-then-is_quiet-clause-more
-returns-then-is_quiet-clause-more g c =
-    let quiet : IsQuiet (held c.args.self.now.places.items c.args.number) = rw c.as_slice.ensures.value at c.is_quiet.ensures c.if-is_quiet.true in
-    no_more c.args.self.now.has_buffered _ (quiet_kept (held c.args.self.now.places.items c.args.number) quiet)
-
-pub returns-then-is_quiet-clause-unsure : goal.returns-then-is_quiet-clause-unsure
-returns-then-is_quiet-clause-unsure g c =
-    let quiet : IsQuiet (held c.args.self.now.places.items c.args.number) = rw c.as_slice.ensures.value at c.is_quiet.ensures c.if-is_quiet.true in
-    none_noted c.args.self.now.needs_timeout _ _ (quiet_sleeps (held c.args.self.now.places.items c.args.number) quiet)
-
-pub returns-then-is_quiet-clause-others : goal.returns-then-is_quiet-clause-others
-returns-then-is_quiet-clause-others g c = λ other apart. refl
-
--- else it is asked
-pub given_by-requires : goal.given_by-requires
-given_by-requires g c = c.read_from-got.ensures.read.within
-
-pub returns-clause-read : goal.returns-clause-read
-returns-clause-read g c = c.read_from-got.ensures.read
-
-pub returns-clause-line : goal.returns-clause-line
-returns-clause-line g c = c.read_from-got.ensures.line
-
-pub returns-clause-cause : goal.returns-clause-cause
-returns-clause-cause g c = c.read_from-got.ensures.cause
-
-pub returns-clause-first : goal.returns-clause-first
-returns-clause-first g c = c.read_from-got.ensures.first
-
-pub returns-clause-asks : goal.returns-clause-asks
-returns-clause-asks g c = c.read_from-got.ensures.asks
-
-pub returns-clause-gives : goal.returns-clause-gives
-returns-clause-gives g c = c.read_from-got.ensures.gives
-
-pub returns-clause-more : goal.returns-clause-more
-returns-clause-more g c = c.read_from-got.ensures.more
-
-pub returns-clause-others : goal.returns-clause-others
-returns-clause-others g c = c.read_from-got.ensures.others
-
-pub returns-clause-unsure : goal.returns-clause-unsure
-returns-clause-unsure g c = c.read_from-got.ensures.unsure
-
 pub returns-then-is_quiet-clause-came : goal.returns-then-is_quiet-clause-came
 returns-then-is_quiet-clause-came g c =
     let quiet : IsQuiet (held c.args.self.now.places.items c.args.number) = rw c.as_slice.ensures.value at c.is_quiet.ensures c.if-is_quiet.true in
     quiet_passes _ (held c.args.self.now.places.items c.args.number) quiet
 
+pub returns-then-is_quiet-clause-readiness : goal.returns-then-is_quiet-clause-readiness
+returns-then-is_quiet-clause-readiness g c =
+    let quiet : IsQuiet (held c.args.self.now.places.items c.args.number) = rw c.as_slice.ensures.value at c.is_quiet.ensures c.if-is_quiet.true in
+    quiet_notes c.args.self.now.readiness (held c.args.self.now.places.items c.args.number) (Ok Nothing) quiet
+
+pub returns-then-is_quiet-clause-traffic : goal.returns-then-is_quiet-clause-traffic
+returns-then-is_quiet-clause-traffic g c = ap (λ (n : ℕ). record c.args.self.now.traffic { received = n }) (counted_none c.args.self.now.traffic.received (omega arith))
+
+pub returns-then-is_quiet-clause-others : goal.returns-then-is_quiet-clause-others
+returns-then-is_quiet-clause-others g c = λ other apart. refl
+
+-- no connection is held under this number
+pub returns-in_default-clause-read : goal.returns-in_default-clause-read
+returns-in_default-clause-read g c =
+    let told = g.L.Listener.told in
+    reads_missing g.L.Stream.ByteStream.unread g.L.Stream.ByteStream.written (given_under c.args.self.now.given.items) (told c.args.self.now.listener) (told c.tell.new.listener) c.args.self.now.places.items c.remove.new.places.items c.args.number _ c.args.buf.now (sym c.remove.ensures.out ∙ c.in_default.is) c.remove.ensures.if_none c.remove.ensures.others c.tell.ensures.noted
+
+pub returns-in_default-clause-cause : goal.returns-in_default-clause-cause
+returns-in_default-clause-cause g c = c.tell.ensures.cause
+
+pub returns-in_default-clause-asks : goal.returns-in_default-clause-asks
+returns-in_default-clause-asks g c = c.tell.ensures.asks
+
+pub returns-in_default-clause-gives : goal.returns-in_default-clause-gives
+returns-in_default-clause-gives g c = of_none _ (held c.args.self.now.places.items c.args.number) _ (sym c.remove.ensures.out ∙ c.in_default.is)
+
+pub returns-in_default-clause-came : goal.returns-in_default-clause-came
+returns-in_default-clause-came g c = of_none _ (held c.args.self.now.places.items c.args.number) _ (sym c.remove.ensures.out ∙ c.in_default.is)
+
+pub returns-in_default-clause-first : goal.returns-in_default-clause-first
+returns-in_default-clause-first g c = λ some. absurd (some (none_kept (held c.args.self.now.places.items c.args.number) (sym c.remove.ensures.out ∙ c.in_default.is)))
+
+pub returns-in_default-clause-readiness : goal.returns-in_default-clause-readiness
+returns-in_default-clause-readiness g c = none_reads c.args.self.now.readiness (held c.remove.new.places.items c.args.number) (Err Device) c.remove.ensures.if_none
+
+pub returns-in_default-clause-traffic : goal.returns-in_default-clause-traffic
+returns-in_default-clause-traffic g c = ap (λ (n : ℕ). record c.args.self.now.traffic { received = n }) (counted_none c.args.self.now.traffic.received (omega arith))
+
+pub returns-in_default-clause-others : goal.returns-in_default-clause-others
+returns-in_default-clause-others g c = c.remove.ensures.others
+
+-- the connection is put back into its place
+pub insert-requires-clause-room : goal.insert-requires-clause-room
+insert-requires-clause-room g c = subst (λ (k : _). k % PLACES < vec_len c.remove.new.places) (sym (c.read-got.ensures.number ∙ c.in-Some.ensures.number)) c.in-Some.ensures.room
+
+pub insert-requires-clause-free : goal.insert-requires-clause-free
+insert-requires-clause-free g c = subst (λ (k : _). IsFree c.remove.new.places.items k) (sym (c.read-got.ensures.number ∙ c.in-Some.ensures.number)) c.in-Some.ensures.free
+
+pub bytes_read-given-requires : goal.bytes_read-given-requires
+bytes_read-given-requires g c = c.read-got.ensures.within
+
+pub returns-clause-read : goal.returns-clause-read
+returns-clause-read g c =
+    let same : c.read-got.new.self.number ≡ c.args.number = c.read-got.ensures.number ∙ c.in-Some.ensures.number in
+    let told = g.L.Listener.told in
+    reads_held g.L.Stream.ByteStream.unread g.L.Stream.ByteStream.written (given_under c.args.self.now.given.items) (given_under c.note_given.new.log.items) (told c.args.self.now.listener) (told c.tell-2.new.listener) c.args.self.now.places.items c.insert.new.places.items c.args.number c.in-Some.reader c.read-got.new.self c.read-got.result c.read-got.new.buf (sym c.remove.ensures.out ∙ c.in-Some.is) (held_as c.insert.new.places.items c.args.number c.read-got.new.self.number c.read-got.new.self same c.insert.ensures.held) (others_then c.args.self.now.places.items c.remove.new.places.items c.insert.new.places.items c.args.number c.read-got.new.self.number same c.remove.ensures.others c.insert.ensures.others) c.read-got.ensures.within c.read-got.ensures.unread c.read-got.ensures.written c.read-got.ensures.ended c.tell-2.ensures.noted (rw c.bytes_read-given.ensures at c.note_given.ensures.given) c.note_given.ensures.others
+
+pub returns-clause-line : goal.returns-clause-line
+returns-clause-line g c = c.read-got.ensures.line
+
+pub returns-clause-cause : goal.returns-clause-cause
+returns-clause-cause g c = c.tell-2.ensures.cause
+
+pub returns-clause-first : goal.returns-clause-first
+returns-clause-first g c = rw (kept_held (held c.args.self.now.places.items c.args.number) c.in-Some.reader (sym c.remove.ensures.out ∙ c.in-Some.is)) c.read-got.ensures.first
+
+pub returns-clause-asks : goal.returns-clause-asks
+returns-clause-asks g c = c.tell-2.ensures.asks
+
+pub returns-clause-gives : goal.returns-clause-gives
+returns-clause-gives g c =
+    let same : c.read-got.new.self.number ≡ c.args.number = c.read-got.ensures.number ∙ c.in-Some.ensures.number in
+    of_held _ (held c.args.self.now.places.items c.args.number) (held c.insert.new.places.items c.args.number) c.in-Some.reader c.read-got.new.self (sym c.remove.ensures.out ∙ c.in-Some.is) (held_as c.insert.new.places.items c.args.number c.read-got.new.self.number c.read-got.new.self same c.insert.ensures.held) c.read-got.ensures.asked
+
 pub returns-clause-came : goal.returns-clause-came
-returns-clause-came g c = c.read_from-got.ensures.came
+returns-clause-came g c =
+    let same : c.read-got.new.self.number ≡ c.args.number = c.read-got.ensures.number ∙ c.in-Some.ensures.number in
+    of_held _ (held c.args.self.now.places.items c.args.number) (held c.insert.new.places.items c.args.number) c.in-Some.reader c.read-got.new.self (sym c.remove.ensures.out ∙ c.in-Some.is) (held_as c.insert.new.places.items c.args.number c.read-got.new.self.number c.read-got.new.self same c.insert.ensures.held) c.read-got.ensures.came
+
+pub returns-clause-readiness : goal.returns-clause-readiness
+returns-clause-readiness g c =
+    let same : c.read-got.new.self.number ≡ c.args.number = c.read-got.ensures.number ∙ c.in-Some.ensures.number in
+    rw (held_as c.insert.new.places.items c.args.number c.read-got.new.self.number c.read-got.new.self same c.insert.ensures.held) c.note_read.ensures
+
+pub returns-clause-others : goal.returns-clause-others
+returns-clause-others g c =
+    let same : c.read-got.new.self.number ≡ c.args.number = c.read-got.ensures.number ∙ c.in-Some.ensures.number in
+    others_then c.args.self.now.places.items c.remove.new.places.items c.insert.new.places.items c.args.number c.read-got.new.self.number same c.remove.ensures.others c.insert.ensures.others

@@ -1,0 +1,78 @@
+//! A piece of the side to move, with the squares to which it may go.
+
+ghost use Rattle.std.specs.Prelude.{◌≡◌, true};
+ghost use Rattle.shogi_moves.specs.Destinations.{is_own, AreAllDestinations};
+ghost use Rattle.last_ply.specs.LastPly.{is_legal_board_move, IsReach, RawScoresTo};
+
+use crate::frontier::FrontierNode;
+use shogi_core::{Square, Squares};
+use shogi_eval::{promotion_gain, taken_gain};
+use shogi_moves::{Destinations, legal_destinations};
+
+/// One of the side's pieces, with the squares that it reaches but those of the side's own pieces.
+#[derive(Clone, Copy)]
+pub struct MovingPiece<'a> {
+    pub frontier: &'a FrontierNode<'a>,
+    pub from: Square,
+    pub targets: Squares,
+    ghost own: { is_own frontier.now.node.now.position from ≡ true },
+    ghost reach: { IsReach frontier.now.node.now.position from targets.bits },
+}
+
+impl FrontierNode<'_> {
+    /// The piece of the side to move on the square.
+    #[inline(always)]
+    pub fn moving_piece(&self, from: Square) -> MovingPiece<'_>
+        requires { is_own self.now.node.now.position from ≡ true }
+        ensures frontier { result.frontier.now ≡ self.now }
+        ensures from { result.from ≡ from }
+    {
+        MovingPiece {
+            frontier: self,
+            from,
+            targets: self.targets(from),
+        }
+    }
+}
+
+impl MovingPiece<'_> {
+    /// Its legal destinations.
+    pub fn destinations(&self) -> Destinations
+        ensures { AreAllDestinations self.now.frontier.now.node.now.position self.now.from result }
+    {
+        let from = self.from;
+        from.reveal_invariant();
+        legal_destinations(&self.frontier.known, from, self.targets)
+    }
+
+    /// What its move to the square scores with nothing settled, where it is legal.
+    pub fn raw_to(&self, to: Square, promote: bool) -> i32
+        ensures { RawScoresTo self.now.frontier.now.node.now result self.now.from to promote }
+    {
+        let from = self.from;
+        from.reveal_invariant();
+        to.reveal_invariant();
+        let node = self.frontier.node;
+        let p = node.as_position();
+        let gain = taken_gain(node.eval(), p.at(to)) + promotion_gain(p.at(from), promote);
+        node.score() + gain as i32
+    }
+
+    /// Whether its move to the square is legal.
+    #[inline(never)]
+    pub fn is_end(&self, to: Square, promote: bool) -> bool
+        ensures { result ≡ is_legal_board_move self.now.frontier.now.node.now.position
+            self.now.from to promote }
+    {
+        let from = self.from;
+        from.reveal_invariant();
+        to.reveal_invariant();
+        let square = self.targets & Squares::none().with(to);
+        let ends = legal_destinations(&self.frontier.known, from, square);
+        if promote {
+            ends.promoting.has(to)
+        } else {
+            ends.non_promoting.has(to)
+        }
+    }
+}
