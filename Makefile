@@ -35,7 +35,7 @@ install:
 uninstall:
 	@check/uninstall.sh "$(PREFIX)" "$(DESTDIR)"
 
-# Compiles the program and all tests without a proof, and runs them and the scripts of check/.
+# Compiles the program and the tests without a proof, and runs them and the scripts of check/.
 quick:
 	@check/quick.py
 
@@ -76,7 +76,7 @@ help:
 	@echo 'make library    the library for C, static and shared'
 	@echo 'make install    puts the built usi_host and what goes with it below PREFIX (/usr/local)'
 	@echo 'make uninstall  takes it away again from PREFIX'
-	@echo 'make quick      all tests and scripts on the unproved program, in about five minutes'
+	@echo 'make quick      tests and scripts on the unproved program, in some five minutes'
 	@echo 'make check      tries the built program as its users run it'
 	@echo 'make dist       a tarball of program and library for machines without the toolchain'
 	@echo 'make test       the gate: every proof, each edit, test and program'
