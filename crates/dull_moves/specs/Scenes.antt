@@ -73,10 +73,6 @@ abbrev pub IsViewIn : Scene → ℕ → Type 0
 IsViewIn s view = (a : ℕ) → a < 81 → has_bit view a ≡ false
     → IsUnseen (place_in s) s.king s.squares.bits a
 
--- the king stands, and its squares leave its side a reply
-abbrev pub IsStandingIn : Scene → Type 0
-IsStandingIn s = IsStanding (place_in s) s.king s.squares.bits
-
 -- and so with what stands on the square lifted
 abbrev pub IsStandingLifted : Scene → ℕ → Type 0
 IsStandingLifted s a = IsStanding (lifted (place_in s) a) s.king s.squares.bits

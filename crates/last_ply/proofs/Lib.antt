@@ -5,7 +5,6 @@ pub mod Scores
 pub mod Settled
 pub mod Passing
 pub mod MateLaws
-pub mod OneWalk
 pub mod PriorityMoves
 pub mod DropLaws
 pub mod Held

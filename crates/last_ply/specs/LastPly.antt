@@ -1,11 +1,10 @@
 -- What is asked of a node with one ply left (own choice).
-use Rattle.std.specs.Prelude.{◌&&◌, ◌==◌, ◌+◌, ◌*◌, ◌≤◌, ◌+ℤ◌, pos, not, ◌≡◌, ◌≢◌, ◌<◌, ◌≤ℤ◌, ◌<ℤ◌, ◌⊎◌, ℕ, ℤ, [], true, false, Bool, Option, Some}
+use Rattle.std.specs.Prelude.{◌&&◌, ◌+◌, ◌*◌, ◌≤◌, ◌+ℤ◌, pos, not, ◌≡◌, ◌≢◌, ◌<◌, ◌≤ℤ◌, ◌<ℤ◌, ◌⊎◌, ℕ, ℤ, [], true, false, Bool, Option, Some}
 use Rattle.shogi_core.specs.declared.moves.Move.{Move}
 use Rattle.shogi_core.specs.declared.moves.Move.TheVariants.{Board, Drop}
 use Rattle.shogi_core.specs.declared.moves.TheConstants.{SQUARE_CODES}
 use Rattle.shogi_core.specs.declared.piece.Kind.{Kind}
 use Rattle.shogi_core.specs.declared.piece.Piece.{Piece}
-use Rattle.shogi_core.specs.Below.{some_below}
 use Rattle.shogi_core.specs.Bits.{HasBits, has_bit}
 use Rattle.shogi_core.specs.Cell.{is_piece_of, is_slider}
 use Rattle.shogi_core.specs.Codes.{code_of}
@@ -264,10 +263,6 @@ DropsLeaveSome p kind = (n : ℕ) → n < 81 → is_legal_code p (code_of (Drop 
 -- each legal drop does
 abbrev pub AllDropsLeaveSome : Shogi → Type 0
 AllDropsLeaveSome p = (kind : Kind) → DropsLeaveSome p kind
-
--- beside each square there is another one of these
-abbrev pub HasOthers : ℕ → Type 0
-HasOthers squares = (n : ℕ) → some_below 81 (λ a. has_bit squares a && not (a == n)) ≡ true
 
 -- the piece does not reach one square from another one, whatever stands between
 abbrev pub IsOutOfReach : Piece → ℕ → ℕ → Type 0

@@ -143,9 +143,6 @@ pub fn last_ply(node: &Node, alpha: i32, beta: i32) -> Entry
     ensures conclusive { IsConclusive alpha beta result }
 {
     let frontier = FrontierNode::of(node);
-    if frontier.known.info.checked && alpha < -MATE - 1 && beta > MATE {
-        return frontier.resolve_evasions();
-    }
     let windowed = WindowedNode {
         frontier: &frontier,
         alpha,

@@ -165,34 +165,4 @@ impl FrontierNode<'_> {
         }
         best
     }
-
-    /// The value and the best move of a node with few legal moves: they are gone through once.
-    #[inline(never)]
-    pub fn resolve_evasions(&self) -> Entry
-        ensures truth { IsTrueOf self.now.node.now result }
-        ensures conclusive { (alpha beta : ℤ) → IsConclusive alpha beta result }
-    {
-        let mate_search = MateSearch::of(self);
-        let mut walk = Walk::new(self.node.as_position());
-        let mut most = -INFINITY;
-        let mut first = None;
-        'moves: while let Some(m) = walk.next() {
-            if mate_search.mates_past(&m) {
-                m.reveal_invariant();
-                return Entry::Exact(MATE, Some(m));
-            }
-            let score = self.scored(&m).score_above(most);
-            if score > most {
-                most = score;
-                first = Some(m);
-            }
-        }
-        match first {
-            None => Entry::Exact(-MATE - 1, None),
-            Some(m) => {
-                m.reveal_invariant();
-                Entry::Exact(most, Some(m))
-            }
-        }
-    }
 }

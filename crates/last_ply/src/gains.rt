@@ -13,7 +13,7 @@ use crate::scored_move::ScoredMove;
 use shogi_core::zones::{promoting_squares, squares_near_zone};
 use shogi_core::{Color, Move, Piece, Role, Square, Squares, line_mask, near_squares};
 use shogi_eval::{Eval, PROMOTION_GAIN_MAX, promotion_gain, taken_gain};
-use shogi_moves::{legal_destinations, takers};
+use shogi_moves::takers;
 
 /// The most that the capture of a piece that does not slide gains, that of a gold.
 fn max_nonslider_gain(e: Eval) -> u32
@@ -97,8 +97,7 @@ impl FrontierNode<'_> {
         ensures { HasReachers self.now.node.now.position.cells result.bits square }
     {
         let board = self.node.as_position().as_board();
-        let index = square.index();
-        near_squares(index) | board.sliders() & line_mask(index)
+        near_squares(square) | board.sliders() & line_mask(square.index())
     }
 
     /// Squares outside which nothing takes on the square; none where that scores no more than the

@@ -6,18 +6,15 @@ ghost use Rattle.shogi_core.specs.Bits.{has_bit};
 ghost use Rattle.shogi_moves.specs.Destinations.{is_own, AreDropSquares, IsWithin};
 ghost use Rattle.shogi_moves.specs.LegalMoves.{legal_codes};
 ghost use Rattle.shogi_moves.specs.Legal.{is_legal};
-ghost use Rattle.shogi_replies.specs.ReplyInfo.{IsAnswered};
-ghost use Rattle.last_ply.specs.LastPly.{AllDropsLeaveSome, BoardLeavesSome, OnEach, Outside, HasMate, HasNoMate, IsMate, IsNoMate, IsPieceMoved, AreLegalEnds, LeaveSomeFrom, DropsLeaveSome, IsOutOfReach, HasOthers};
+ghost use Rattle.shogi_replies.specs.ReplyInfo.{HasOthers, IsAnswered, IsUnseen};
+ghost use Rattle.last_ply.specs.LastPly.{AllDropsLeaveSome, BoardLeavesSome, OnEach, Outside, HasMate, HasNoMate, IsMate, IsNoMate, IsPieceMoved, AreLegalEnds, LeaveSomeFrom, DropsLeaveSome, IsOutOfReach};
 ghost use Rattle.last_ply.specs.FrontierNodes.{FrontierAnsweredOff, FrontierDoubtfulEnds, FrontierDropsAnsweredOff, FrontierLeavesSomeAmong};
 
 use crate::frontier::FrontierNode;
-use shogi_core::bits::{lowest, without_lowest};
 use shogi_core::zones::promoting_squares;
 use shogi_core::{Kind, Move, Piece, Position, Role, Square, Squares, line_mask, step_squares};
-use shogi_moves::{
-    Destinations, Origin, drop_destinations, drop_squares, has_legal, is_legal, legal_destinations,
-};
-use shogi_replies::{KnownReplies, ReplyInfo, king_takes, some_escapes};
+use shogi_moves::{Destinations, KnownDrops, Origin, OwnPiece, drop_squares, has_legal, is_legal};
+use shogi_replies::{KnownReplies, ReplyInfo, has_two, king_takes, some_escapes};
 
 /// A frontier node, and what shows of most moves that the other side surely has one after them.
 #[derive(Clone, Copy)]
@@ -35,20 +32,9 @@ pub struct MateSearch<'a> {
     ghost others: { spared ≡ true → HasOthers replies.info.free_movers.bits },
 }
 
-/// Whether there are two squares.
-fn has_two(squares: Squares) -> bool
-    ensures { result ≡ true → HasOthers squares.bits }
-{
-    if squares.is_empty() {
-        return false;
-    }
-    without_lowest(squares.bits, lowest(squares.bits)) != 0
-}
-
 /// The pieces of the side to move, but its king, next to the square or a knight's jump away.
-fn pieces_near(p: &Position, to: usize) -> Squares
-    requires { to < 81 }
-{
+fn pieces_near(p: &Position, to: Square) -> Squares {
+    to.reveal_invariant();
     let side = p.side();
     let king = Piece {
         color: side,
@@ -58,7 +44,7 @@ fn pieces_near(p: &Position, to: usize) -> Squares
         color: side.opponent(),
         role: Role::Knight,
     };
-    let near = step_squares(king, to) | step_squares(knight, to);
+    let near = step_squares(king, to.index()) | step_squares(knight, to.index());
     let board = p.as_board();
     (board.own(side) & near).without(board.kings(side))
 }
@@ -85,8 +71,7 @@ fn retakes(p: &Position, m: &Move) -> bool
     ensures { result ≡ true → legal_codes p.now ≢ [] }
 {
     let to = m.to();
-    to.reveal_invariant();
-    let mut left = pieces_near(p, to.index()).iter();
+    let mut left = pieces_near(p, to).iter();
     'pieces: while let Some(from) = left.next() {
         if takes_legally(p, from, to) {
             return true;
@@ -213,16 +198,9 @@ impl MateSearch<'_> {
     /// surely has a legal move after each one that gives it no check.
     fn is_unseen(&self, from: Square, ends: Squares) -> bool
         ensures others { result ≡ true → HasOthers self.now.replies.info.free_movers.bits }
-        ensures start { result ≡ true → has_bit self.now.replies.info.king_view.bits from ≡ false }
-        ensures ends { result ≡ true → bit_and ends.bits self.now.replies.info.king_view.bits ≡ 0 }
+        ensures unseen { result ≡ true → IsUnseen self.now.replies.info from ends.bits }
     {
-        if !self.spared {
-            return false;
-        }
-        if self.replies.info.king_view.has(from) {
-            return false;
-        }
-        (ends & self.replies.info.king_view).is_empty()
+        self.spared && self.replies.info.is_unseen(from, ends)
     }
 
     /// Those of the ends from which what moves there from the square, this piece, may reach each
@@ -319,7 +297,11 @@ impl MateSearch<'_> {
         if among.is_empty() {
             return false;
         }
-        let ends = legal_destinations(&self.frontier.known, from, among);
+        let piece = OwnPiece {
+            known: &self.frontier.known,
+            from,
+        };
+        let ends = piece.legal_destinations(among);
         let plain = Origin::Board {
             from,
             promote: false,
@@ -402,7 +384,11 @@ impl MateSearch<'_> {
             return false;
         }
         let p = self.frontier.node.as_position();
-        let ends = drop_destinations(p, self.squares, kind);
+        let drops = KnownDrops {
+            position: p,
+            squares: self.squares,
+        };
+        let ends = drops.legal(kind);
         self.mates_among(&origin, ends & doubtful)
     }
 

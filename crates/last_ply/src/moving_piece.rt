@@ -7,7 +7,7 @@ ghost use Rattle.last_ply.specs.LastPly.{is_legal_board_move, IsReach, RawScores
 use crate::frontier::FrontierNode;
 use shogi_core::{Square, Squares};
 use shogi_eval::{promotion_gain, taken_gain};
-use shogi_moves::{Destinations, legal_destinations};
+use shogi_moves::{Destinations, OwnPiece};
 
 /// One of the side's pieces, with the squares that it reaches but those of the side's own pieces.
 #[derive(Clone, Copy)]
@@ -42,7 +42,11 @@ impl MovingPiece<'_> {
     {
         let from = self.from;
         from.reveal_invariant();
-        legal_destinations(&self.frontier.known, from, self.targets)
+        let piece = OwnPiece {
+            known: &self.frontier.known,
+            from,
+        };
+        piece.legal_destinations(self.targets)
     }
 
     /// What its move to the square scores with nothing settled, where it is legal.
@@ -68,7 +72,11 @@ impl MovingPiece<'_> {
         from.reveal_invariant();
         to.reveal_invariant();
         let square = self.targets & Squares::none().with(to);
-        let ends = legal_destinations(&self.frontier.known, from, square);
+        let piece = OwnPiece {
+            known: &self.frontier.known,
+            from,
+        };
+        let ends = piece.legal_destinations(square);
         if promote {
             ends.promoting.has(to)
         } else {

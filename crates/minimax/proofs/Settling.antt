@@ -1,7 +1,6 @@
 -- What is left by the move that ends a line, settled or not.
-use Rattle.std.proofs.Common.{◌≡◌, ◌<◌, ℕ, zero, suc, ℤ, pos, ◌-ℤ◌, ◌≤ℤ◌, List, [], ◌∷◌, Bool, true, false, cond, not, Option, Some, None, refl, sym, ap, ◌∙◌, arith, subst}
+use Rattle.std.proofs.Common.{◌≡◌, ℕ, zero, suc, ℤ, pos, ◌-ℤ◌, ◌≤ℤ◌, List, [], ◌∷◌, true, false, cond, not, Option, Some, None, refl, ap, arith, subst}
 use Rattle.std.specs.Prelude.{nat_lt, ◌&&◌}
-use Rattle.std.specs.Int.{int_max}
 use Rattle.std.proofs.lemmas.Int.{ints, clamps}
 use Rattle.std.proofs.lemmas.Bool.{or_left, or_right, eq-eqb, cond_both, both_ways}
 use Rattle.shogi_core.specs.Codes.{move_of}
@@ -119,14 +118,6 @@ pub left_plain : (p : Shogi) (e : Eval) (code : ℕ) → resolves_captures e ≡
 left_plain p Plain code q = refl
 left_plain p Hand code q = refl
 left_plain p Exchange code q = absurd (cc)
-
--- the two cases by one test
-pub left_held : (p : Shogi) (e : Eval) (code : ℕ) → (resolves_captures e && not (is_quiet p (move_of code))) ≡ false → leaf_after p e code ≡ material_of (after_code p code) e
-left_held p Plain code q = refl
-left_held p Hand code q = refl
-left_held p Exchange code q =
-    cond_both (is_quiet p (move_of code)) (material_of (after_code p code) Exchange) (best_settled (after_code p code) Exchange) (λ (v : ℤ). v ≡ material_of (after_code p code) Exchange)
-    (λ _. refl) (λ loud. absurd (both_ways (not (is_quiet p (move_of code))) q (ap not loud)))
 
 pub left_loud : (p : Shogi) (e : Eval) (code : ℕ) → (resolves_captures e && not (is_quiet p (move_of code))) ≡ true → leaf_after p e code ≡ best_settled (after_code p code) e
 left_loud p Plain code q = absurd (cc)

@@ -2,7 +2,7 @@
 use Rattle.std.specs.Prelude.{◌≡◌}
 use Rattle.std.specs.Option.{ForSome}
 use Rattle.shogi_moves.specs.Escapes.{AreEscapes}
-use Rattle.shogi_replies.specs.ReplyInfo.{IsReplyInfo}
+use Rattle.shogi_replies.specs.ReplyInfo.{IsReplyInfoOf}
 use Rattle.shogi_eval.specs.Evaluated.{Evaluated}
 use Rattle.search_nodes.specs.declared.frame.Frame.{Frame}
 use Rattle.search_nodes.specs.declared.reply_cache.ReplyCache.{ReplyCache}
@@ -11,7 +11,7 @@ use Rattle.search_nodes.specs.Threats.{AreSomeThreats}
 -- what was found is true of the node
 abbrev pub IsReplyCacheOf : Evaluated → ReplyCache → Type 0
 IsReplyCacheOf node cache =
-    IsReplyInfo node.position cache.replies.king_view.bits cache.replies.free_movers.bits
+    IsReplyInfoOf cache.replies node.position
     × (ForSome cache.escapes (λ squares. AreEscapes node.position squares.bits)
     × AreSomeThreats node.position node.eval cache.threats)
 

@@ -27,8 +27,6 @@ pub mask_off : (n : ℕ) (test : ℕ → Bool) → test n ≡ false → mask_bel
 unfolding mask_below
 mask_off n test e = rw add-one (rw e (omega arith))
 
-pub ruleset mask_steps = (mask_none, mask_on, mask_off)
-
 module _ (test : Option Piece → Bool) where
   pub places_fit : (cells : Cells) → places_of test cells < 2 ^ 81
   unfolding places_of

@@ -69,9 +69,9 @@ pub none_on_line : (cells : Cells) (side : Color) (square d : ℕ) → ((n : ℕ
 none_on_line cells side square d free found n a pin = absurd (both_ways (is_none (piece_at cells n)) (some_of side (piece_at cells n) (pin_own cells side square d n a pin)) (free n (pin_near cells side square d n a pin)))
 
 module _ (cells : Cells) (side : Color) (square d snipers : ℕ) (shots : (b : ℕ) → b < 81 → has_bit snipers b ≡ is_sniper cells (opponent_of side) square b) where
-  pub no_sniper_there : (line n a : ℕ) → line ≡ ray_of (direction_at d) square → bit_and line snipers ≡ 0 → n < 81 → a < 81 → is_pinned_by cells side square (direction_at d) n a ≡ true → has_bit 0 n ≡ true
-  no_sniper_there line n a there none l h pin = absurd (let clash : false ≡ true = no_bit (bit_and line snipers) a none
-      (has_bit-and line snipers a ∙ and_from _ _ (ap (λ (m : ℕ). has_bit m a) there ∙ (has_bit-ray (direction_at d) square a h ∙ pin_ray cells side square d n a pin)) (shots a h ∙ pin_sniper cells side square d n a pin)) in cc)
+  pub no_sniper_there : bit_and (ray_of (direction_at d) square) snipers ≡ 0 → (found n a : ℕ) → a < 81 → is_pinned_by cells side square (direction_at d) n a ≡ true → has_bit found n ≡ true
+  no_sniper_there none found n a h pin = absurd (let clash : false ≡ true = no_bit (bit_and (ray_of (direction_at d) square) snipers) a none
+      (has_bit-and (ray_of (direction_at d) square) snipers a ∙ and_from _ _ (has_bit-ray (direction_at d) square a h ∙ pin_ray cells side square d n a pin) (shots a h ∙ pin_sniper cells side square d n a pin)) in cc)
 
   module _ (f : ℕ) (inside : f < 81) (line : slides cells (direction_at d) square f ≡ true) (piece : is_none (piece_at cells f) ≡ false) where
     -- what is pinned is the first piece
@@ -127,16 +127,14 @@ unmarked_fits old new f fits wide bits =
 
 -- the mask has what is pinned in the first directions
 pub record PinsTo (cells : Cells) (side : Color) (square count found : ℕ) : Type 0 where
-  pub fits : found < 2 ^ 81
   pub all : (d n a : ℕ) → d < count → n < 81 → a < 81 → is_pinned_by cells side square (direction_at d) n a ≡ true → has_bit found n ≡ true
 
 pub pins_to_none : (cells : Cells) (side : Color) (square : ℕ) → PinsTo cells side square 0 0
-pins_to_none cells side square = record { fits = omega arith; all = λ d n a none l h e. absurd (omega arith) }
+pins_to_none cells side square = record { all = λ d n a none l h e. absurd (omega arith) }
 
-pub pins_to_more : (cells : Cells) (side : Color) (square count found more : ℕ) → PinsTo cells side square count found → more < 2 ^ 81 → ((n : ℕ) → has_bit found n ≡ true → has_bit more n ≡ true)
+pub pins_to_more : (cells : Cells) (side : Color) (square count found more : ℕ) → PinsTo cells side square count found → ((n : ℕ) → has_bit found n ≡ true → has_bit more n ≡ true)
     → ((n a : ℕ) → n < 81 → a < 81 → is_pinned_by cells side square (direction_at count) n a ≡ true → has_bit more n ≡ true) → PinsTo cells side square (count + 1) more
-pins_to_more cells side square count found more p fits kept next = record {
-  fits = fits;
+pins_to_more cells side square count found more p kept next = record {
   all = λ d n a low l h e. elim (cases_eq d count) [
     | inl same ↦ next n a l h (subst (λ (k : ℕ). is_pinned_by cells side square (direction_at k) n a ≡ true) same e)
     | inr other ↦ kept n (p.all d n a (omega arith) l h e)

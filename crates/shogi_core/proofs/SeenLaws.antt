@@ -45,7 +45,7 @@ pub seen_bits : (cells : Cells) (a b m n : ℕ) → has_bit m b ≡ are_lined ce
 unfolding is_seen
 seen_bits cells a b m n p q = has_bit-or m n b ∙ (rw (p, q) refl)
 
-pub ruleset seen = (lined_bits, seen_bits, or_fits)
+pub ruleset seen = (seen_bits, or_fits)
 
 -- ---- from the other end
 

@@ -240,10 +240,10 @@ module _ (cells : Cells) (color : Color) (square : ℕ) (low : square < 81) wher
     pub no_sniper : snipers ≡ 0 → some_below 81 (is_step_from cells color square) ≡ false → false ≡ is_attacked cells color square
     no_sniper bare none = attacked_by_slide false none (sym (some_below_no 8 (slider_attacks_along cells color square) (λ d h. no_slider_attack_from d h (λ a l e. ap (λ (m : ℕ). has_bit m a) bare ∙ has_bit-none a))))
 
-    pub no_sniper_ahead : (d line : ℕ) → d < 8 → line ≡ ray_of (direction_at d) square → bit_and line snipers ≡ 0 → false ≡ slider_attacks_along cells color square d
-    no_sniper_ahead d line h there bare = sym (no_slider_attack_from d h (λ a l e. false_from_ne_true (has_bit snipers a) (λ set.
-        both_ways (has_bit (bit_and line snipers) a) (ap (λ (m : ℕ). has_bit m a) bare ∙ has_bit-none a)
-        (has_bit-and line snipers a ∙ and_from _ _ (ap (λ (m : ℕ). has_bit m a) there ∙ (has_bit-ray (direction_at d) square a l ∙ slides_bare cells (direction_at d) square a ((and_parts _ _ e).1))) set))))
+    pub no_sniper_ahead : (d : ℕ) → d < 8 → bit_and (ray_of (direction_at d) square) snipers ≡ 0 → slider_attacks_along cells color square d ≡ false
+    no_sniper_ahead d h bare = no_slider_attack_from d h (λ a l e. false_from_ne_true (has_bit snipers a) (λ set.
+        both_ways (has_bit (bit_and (ray_of (direction_at d) square) snipers) a) (ap (λ (m : ℕ). has_bit m a) bare ∙ has_bit-none a)
+        (has_bit-and (ray_of (direction_at d) square) snipers a ∙ and_from _ _ (has_bit-ray (direction_at d) square a l ∙ slides_bare cells (direction_at d) square a ((and_parts _ _ e).1)) set)))
 
     pub shots_first : (d clear : ℕ) → d < 8 → ((b : ℕ) → b < 81 → has_bit clear b ≡ slides cells (direction_at d) square b) → Covers (bit_and clear snipers) (slider_attacks_from cells color square (direction_at d))
     shots_first d clear h lines = record {
@@ -334,7 +334,5 @@ pub sniper_own : (cells : Cells) (color : Color) (square n : ℕ) → is_sniper 
 sniper_own cells color square n e = (and_parts _ _ ((and_parts _ _ e).0)).0
 
 pub ruleset stepping = (covers_less, covers_none)
-
-pub ruleset shooting = (no_sniper_ahead, covers_less, covers_none)
 
 pub ruleset attacking = (attacked_by_step, attacked_by_slide, no_sniper)

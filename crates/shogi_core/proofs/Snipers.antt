@@ -116,11 +116,3 @@ module _ (old new : Cells) (n : ℕ) (opened : (x : ℕ) → is_none (piece_at n
                   (unpinned who.0 who.1 (some_below_at 81 (is_sniper_of_king old color who.0) k h (and_from _ _ king (and_from _ _ (and_from _ _ foe open_line.0) open_line.1)))) open_line.2
             ])
       ])))
-
--- what does not slide reaches the same squares whatever stands elsewhere
-pub stands_still : (old new : Cells) (cell : Option Piece) (a b : ℕ) → is_slider cell ≡ false → cell_reaches old cell a b ≡ false → cell_reaches new cell a b ≡ false
-stands_still old new None a b still off = refl
-stands_still old new (Some piece) a b still off = false_from_ne_true (has_step piece a b || has_slide new piece a b) (λ e. elim (or_cases (has_step piece a b) (has_slide new piece a b) e) [
-  | inl step ↦ both_ways (has_step piece a b || has_slide old piece a b) off (or_left _ _ step)
-  | inr slide ↦ both_ways (is_sliding_role piece.role) still (slides_role piece.role (λ o. slides new (for_side piece.color o) a b) slide)
-])

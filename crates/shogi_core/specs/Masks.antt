@@ -16,6 +16,12 @@ passes test cells square = test (piece_at cells square)
 unfoldable pub places_of : (Option Piece → Bool) → Cells → ℕ
 places_of test cells = mask_below 81 (passes test cells)
 
+-- the mask has the squares on which there stands what a call passes
+abbrev pub HasPassing : (Option Piece → Bool → Type 0) → Cells → ℕ → Type 0
+HasPassing post cells mask = (test : Option Piece → Bool)
+    → ((cell : Option Piece) (passed : Bool) → post cell passed → passed ≡ test cell)
+    → mask ≡ places_of test cells
+
 -- the squares on which pieces of the side stand
 abbrev pub own_of : Cells → Color → ℕ
 own_of cells color = places_of (is_piece_of color) cells

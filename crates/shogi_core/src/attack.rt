@@ -1,6 +1,6 @@
 //! Attacks and checks, seen from the square that is attacked.
 
-ghost use Rattle.std.specs.Prelude.{◌≡◌, ◌≢◌, ◌<◌, ◌≤◌, ◌^◌, ℕ, true, false, not, None, IfSome, IsNone};
+ghost use Rattle.std.specs.Prelude.{◌≡◌, ◌≢◌, ◌↔◌, ◌<◌, ◌≤◌, ◌^◌, ℕ, true, false, not, None, IfSome, IsNone, bit_and};
 ghost use Rattle.shogi_core.specs.Attack.{is_attacked, is_open_king, in_check, is_sniper, is_sniping, cell_steps, cell_slides_back, is_step_from, is_step_among, slider_attacks_along, slider_attacks, FindsOccupied, FindsPiece, TellsAttack, TellsSliderAttack, TellsSliderAttackAlong, HasPinned, HasPinnedAlong, OthersAreUnpinned, HasNoStep, StaysIfAttacked, StaysInCheck};
 ghost use Rattle.shogi_core.specs.Below.{some_below};
 ghost use Rattle.shogi_core.specs.Bits.{HasBits, has_bit};
@@ -8,9 +8,9 @@ ghost use Rattle.shogi_core.specs.Cell.{is_king};
 ghost use Rattle.shogi_core.specs.Lines.{are_lined, is_seen};
 ghost use Rattle.shogi_core.specs.Pieces.{opponent_of};
 ghost use Rattle.shogi_core.specs.declared.piece.Color.{Color};
-ghost use Rattle.shogi_core.specs.Rays.{direction_at};
+ghost use Rattle.shogi_core.specs.Rays.{direction_at, ray_of};
 
-use crate::bits::{has, highest, lowest, with};
+use crate::bits::{highest, lowest};
 use crate::board::Board;
 use crate::cell::is_king;
 use crate::direction::{DOWN, Direction, UP};
@@ -20,7 +20,7 @@ use crate::rays::ray;
 use crate::square::Square;
 use crate::squares::Squares;
 use crate::steps::{jump_squares, near_squares, step_squares};
-use crate::targets::{diagonal_squares, straight_squares};
+use crate::targets::four_slides;
 
 /// Whether a king of the side stands on the square and is attacked.
 fn is_open_king(board: &Board, color: Color, square: Square) -> bool
@@ -29,65 +29,42 @@ fn is_open_king(board: &Board, color: Color, square: Square) -> bool
     is_king(board.at(square), color) && board.is_attacked(color.opponent(), square)
 }
 
-/// The squares on open lines with the square, the first piece on each line included.
-#[tactic(auto, using(crate::proofs::SeenLaws::seen))]
-fn open_line_squares(board: &Board, from: usize) -> Squares
-    requires { from < 81 }
-    ensures squares { HasBits result.bits (are_lined board.now from) }
-{
-    straight_squares(board, Color::Black, from) | diagonal_squares(board, Color::Black, from)
-}
-
-/// The squares from which a piece could reach the square: those on open lines, and knights' jumps.
-#[tactic(auto, using(crate::proofs::SeenLaws::seen))]
-fn queen_and_knight_squares(board: &Board, from: usize) -> Squares
-    requires { from < 81 }
-    ensures squares { HasBits result.bits (is_seen board.now from) }
-{
-    open_line_squares(board, from) | jump_squares(from)
-}
-
 /// The squares of pieces of the side that slide and are on a line with the square.
 #[tactic(auto, using(crate::proofs::SeenLaws::snipers))]
-fn sniper_squares(board: &Board, by: Color, from: usize) -> Squares
-    requires { from < 81 }
+fn sniper_squares(board: &Board, by: Color, from: Square) -> Squares
     ensures squares { HasBits result.bits (is_sniper board.now by from) }
 {
-    board.own(by) & board.sliders() & line_mask(from)
+    board.own(by) & board.sliders() & line_mask(from.index())
 }
 
 /// Whether a step or a jump of what stands on the one square leads to the other.
-fn steps_to(cell: Option<Piece>, from: usize, to: usize) -> bool
-    requires from { from < 81 }
-    requires to { to < 81 }
+fn steps_to(cell: Option<Piece>, from: Square, to: Square) -> bool
     ensures { result ≡ cell_steps cell from to }
 {
     match cell {
         None => false,
-        Some(piece) => has(step_squares(piece, from).bits, to),
+        Some(piece) => step_squares(piece, from.index()).has(to),
     }
 }
 
 /// A piece on one of the squares of which a step or a jump leads to the square, if there is one.
 #[tactic(auto, using(crate::proofs::SliderAttacks::stepping))]
-fn first_stepper(board: &Board, among: Squares, square: usize) -> Option<usize>
-    requires { square < 81 }
+fn first_stepper(board: &Board, among: Squares, square: Square) -> Option<Square>
     ensures if_none { IsNone result → HasNoStep board.now among.bits square }
     ensures range { IfSome result (λ a. a < 81) }
     ensures steps { IfSome result (λ a. is_step_among board.now among.bits square a ≡ true) }
 {
     let mut left = (near_squares(square) & among).iter();
     'squares: while let Some(from) = left.next() {
-        if steps_to(board.at(from), from.index(), square) {
-            return Some(from.index());
+        if steps_to(board.at(from), from, square) {
+            return Some(from);
         }
     }
     None
 }
 
 /// Whether a step or a jump of a piece on one of the squares leads to the square.
-fn is_stepped_on_among(board: &Board, among: Squares, square: usize) -> bool
-    requires { square < 81 }
+fn is_stepped_on_among(board: &Board, among: Squares, square: Square) -> bool
     ensures { result ≡ some_below 81 (is_step_among board.now among.bits square) }
 {
     match first_stepper(board, among, square) {
@@ -97,8 +74,7 @@ fn is_stepped_on_among(board: &Board, among: Squares, square: usize) -> bool
 }
 
 /// Whether a step or a jump of a piece of the side leads to the square.
-fn is_stepped_on(board: &Board, by: Color, square: usize) -> bool
-    requires { square < 81 }
+fn is_stepped_on(board: &Board, by: Color, square: Square) -> bool
     ensures { result ≡ some_below 81 (is_step_from board.now by square) }
 {
     is_stepped_on_among(board, board.own(by), square)
@@ -123,19 +99,20 @@ fn slides_back(cell: Option<Piece>, direction: Direction) -> bool
 }
 
 /// Whether one of the snipers of the square slides to it against the direction.
-#[tactic(auto, using(crate::proofs::SliderAttacks::shooting))]
+#[inline(never)]
+#[tactic(auto, using(crate::proofs::SliderAttacks::stepping))]
 fn slider_attacks_on(
     board: &Board,
     by: Color,
-    square: usize,
+    square: Square,
     direction: Direction,
     snipers: Squares,
 ) -> bool
-    requires square { square < 81 }
     requires snipers { HasBits snipers.bits (is_sniper board.now by square) }
     ensures { result ≡ slider_attacks_along board.now by square direction }
 {
     direction.reveal_invariant();
+    square.reveal_invariant();
     let mut left = (slide_squares(board, direction, square) & snipers).iter();
     'squares: while let Some(from) = left.next() {
         if slides_back(board.at(from), direction) {
@@ -145,58 +122,50 @@ fn slider_attacks_on(
     false
 }
 
-/// The same, as a call of its own: in most directions there is no sniper.
-#[inline(never)]
-fn slider_attacks_apart(
-    board: &Board,
-    by: Color,
-    square: usize,
-    direction: Direction,
-    snipers: Squares,
-) -> bool
-    requires square { square < 81 }
-    requires snipers { HasBits snipers.bits (is_sniper board.now by square) }
-    ensures { result ≡ slider_attacks_along board.now by square direction }
+/// Whether one of the snipers stands in the direction, whatever is between.
+fn has_sniper(direction: Direction, square: Square, snipers: Squares) -> bool
+    ensures { result ≡ false ↔ bit_and (ray_of (direction_at direction) square) snipers.bits ≡ 0 }
 {
-    slider_attacks_on(board, by, square, direction, snipers)
+    ray(direction, square.index()).bits & snipers.bits != 0
 }
 
-/// The same, answered at once where there is no sniper in the direction.
-#[tactic(auto, using(crate::proofs::SliderAttacks::shooting))]
-fn slider_attacks_along(
+/// A direction against which one of the snipers of the square slides to it, if there is one.
+fn attacking_direction(
     board: &Board,
     by: Color,
-    square: usize,
-    direction: Direction,
+    square: Square,
     snipers: Squares,
-) -> bool
-    requires square { square < 81 }
+) -> Option<Direction>
     requires snipers { HasBits snipers.bits (is_sniper board.now by square) }
-    ensures { result ≡ slider_attacks_along board.now by square direction }
+    ensures if_none { IsNone result → slider_attacks board.now by square ≡ false }
+    ensures range { IfSome result (λ d. d < 8) }
+    ensures shot { IfSome result (λ d. slider_attacks_along board.now by square d ≡ true) }
 {
-    if ray(direction, square).bits & snipers.bits == 0 {
-        return false;
+    square.reveal_invariant();
+    let mut left = Direction::all();
+    'directions: while let Some(direction) = left.next() {
+        if has_sniper(direction, square, snipers)
+            && slider_attacks_on(board, by, square, direction, snipers)
+        {
+            return Some(direction);
+        }
     }
-    slider_attacks_apart(board, by, square, direction, snipers)
+    None
 }
 
 /// Whether one of the snipers of the square slides to it.
-fn slider_attacks(board: &Board, by: Color, square: usize, snipers: Squares) -> bool
-    requires square { square < 81 }
+fn slider_attacks(board: &Board, by: Color, square: Square, snipers: Squares) -> bool
     requires snipers { HasBits snipers.bits (is_sniper board.now by square) }
     ensures { result ≡ slider_attacks board.now by square }
 {
-    let mut left = Direction::all();
-    'directions: while let Some(direction) = left.next() {
-        if slider_attacks_along(board, by, square, direction, snipers) {
-            return true;
-        }
+    match attacking_direction(board, by, square, snipers) {
+        Some(_) => true,
+        None => false,
     }
-    false
 }
 
 /// The nearest of some squares of a line in the direction, as seen from where it begins.
-fn nearest(places: u128, direction: Direction) -> usize
+fn nearest(places: u128, direction: Direction) -> Square
     requires some { places ≢ 0 }
     requires fits { places < 2 ^ 81 }
     ensures range { result < 81 }
@@ -205,22 +174,21 @@ fn nearest(places: u128, direction: Direction) -> usize
     ensures falling { 4 ≤ direction → (n : ℕ) → has_bit places n ≡ true → n ≤ result }
 {
     if direction.number() < 4 {
-        lowest(places)
+        Square::of_index(lowest(places))
     } else {
-        highest(places)
+        Square::of_index(highest(places))
     }
 }
 
 /// The first of the squares in the direction, if there is one: the first piece on each board whose
 /// pieces stand on these squares.
 #[tactic(auto, using(crate::proofs::Nearest::first_pieces))]
-fn first_occupied(occupied: Squares, direction: Direction, from: usize) -> Option<usize>
-    requires from { from < 81 }
+fn first_occupied(occupied: Squares, direction: Direction, from: Square) -> Option<Square>
     ensures range { IfSome result (λ n. n < 81) }
     ensures first { FindsOccupied occupied.bits direction from result }
 {
     direction.reveal_invariant();
-    let pieces = ray(direction, from).bits & occupied.bits;
+    let pieces = ray(direction, from.index()).bits & occupied.bits;
     if pieces == 0 {
         return None;
     }
@@ -228,8 +196,7 @@ fn first_occupied(occupied: Squares, direction: Direction, from: usize) -> Optio
 }
 
 /// The square of the first piece in the direction, if there is one.
-fn first_piece(board: &Board, direction: Direction, from: usize) -> Option<usize>
-    requires from { from < 81 }
+fn first_piece(board: &Board, direction: Direction, from: Square) -> Option<Square>
     ensures range { IfSome result (λ n. n < 81) }
     ensures first { FindsPiece board.now direction from result }
 {
@@ -241,51 +208,35 @@ fn first_piece(board: &Board, direction: Direction, from: usize) -> Option<usize
 #[inline(never)]
 fn slider_attacks_past(
     board: &Board,
-    square: usize,
+    square: Square,
     direction: Direction,
     snipers: Squares,
     occupied: Squares,
 ) -> bool
-    requires square { square < 81 }
     ensures { TellsSliderAttackAlong board.now square direction snipers.bits occupied.bits result }
 {
     direction.reveal_invariant();
+    square.reveal_invariant();
     let Some(first) = first_occupied(occupied, direction, square) else {
         return false
     };
-    if !has(snipers.bits, first) {
+    if !snipers.has(first) {
         return false;
     }
-    slides_back(board.at(Square::of_index(first)), direction)
-}
-
-/// The same, answered at once where there is no sniper in the direction.
-fn slider_attacks_past_along(
-    board: &Board,
-    square: usize,
-    direction: Direction,
-    snipers: Squares,
-    occupied: Squares,
-) -> bool
-    requires square { square < 81 }
-    ensures { TellsSliderAttackAlong board.now square direction snipers.bits occupied.bits result }
-{
-    direction.reveal_invariant();
-    if ray(direction, square).bits & snipers.bits == 0 {
-        return false;
-    }
-    slider_attacks_past(board, square, direction, snipers, occupied)
+    slides_back(board.at(first), direction)
 }
 
 /// Whether one of the snipers of the square slides to it, where pieces stand on the occupied
 /// squares.
-fn slider_attacks_among(board: &Board, square: usize, snipers: Squares, occupied: Squares) -> bool
-    requires { square < 81 }
+fn slider_attacks_among(board: &Board, square: Square, snipers: Squares, occupied: Squares) -> bool
     ensures { TellsSliderAttack board.now square snipers.bits occupied.bits result }
 {
+    square.reveal_invariant();
     let mut left = Direction::all();
     'directions: while let Some(direction) = left.next() {
-        if slider_attacks_past_along(board, square, direction, snipers, occupied) {
+        if has_sniper(direction, square, snipers)
+            && slider_attacks_past(board, square, direction, snipers, occupied)
+        {
             return true;
         }
     }
@@ -298,89 +249,65 @@ fn slider_attacks_among(board: &Board, square: usize, snipers: Squares, occupied
 fn slider_check_or_pin(
     board: &Board,
     side: Color,
-    square: usize,
+    square: Square,
     direction: Direction,
     snipers: Squares,
-    pinned: &mut u128,
+    pinned: &mut Squares,
 ) -> bool
-    requires square { square < 81 }
     requires snipers { HasBits snipers.bits (is_sniper board.now (opponent_of side) square) }
-    requires fits { pinned.old < 2 ^ 81 }
     ensures shot { result ≡ slider_attacks_along board.now (opponent_of side) square direction }
-    ensures fits { pinned.new < 2 ^ 81 }
-    ensures kept { (n : ℕ) → has_bit pinned.old n ≡ true → has_bit pinned.new n ≡ true }
-    ensures all { result ≡ false → HasPinnedAlong pinned.new board.now side square direction }
+    ensures kept { (n : ℕ) → has_bit pinned.old.bits n ≡ true → has_bit pinned.new.bits n ≡ true }
+    ensures all { result ≡ false → HasPinnedAlong pinned.new.bits board.now side square direction }
 {
     direction.reveal_invariant();
+    square.reveal_invariant();
     let Some(first) = first_piece(board, direction, square) else {
         return false
     };
-    if has(snipers.bits, first) {
-        return slides_back(board.at(Square::of_index(first)), direction);
+    if snipers.has(first) {
+        return slides_back(board.at(first), direction);
     }
-    if !has(board.own(side).bits, first) {
+    if !board.own(side).has(first) {
         return false;
     }
     let Some(second) = first_piece(board, direction, first) else {
         return false
     };
-    if has(snipers.bits, second) {
-        *pinned = with(*pinned, first);
+    if snipers.has(second) {
+        *pinned = pinned.with(first);
     }
     false
 }
 
-/// The same, answered at once where there is no sniper in the direction.
-#[tactic(auto, using(crate::proofs::SliderAttacks::shooting))]
-fn slider_check_or_pin_along(
-    board: &Board,
-    side: Color,
-    square: usize,
-    direction: Direction,
-    snipers: Squares,
-    pinned: &mut u128,
-) -> bool
-    requires square { square < 81 }
-    requires snipers { HasBits snipers.bits (is_sniper board.now (opponent_of side) square) }
-    requires fits { pinned.old < 2 ^ 81 }
-    ensures shot { result ≡ slider_attacks_along board.now (opponent_of side) square direction }
-    ensures fits { pinned.new < 2 ^ 81 }
-    ensures kept { (n : ℕ) → has_bit pinned.old n ≡ true → has_bit pinned.new n ≡ true }
-    ensures all { result ≡ false → HasPinnedAlong pinned.new board.now side square direction }
-{
-    if ray(direction, square).bits & snipers.bits == 0 {
-        return false;
-    }
-    slider_check_or_pin(board, side, square, direction, snipers, pinned)
-}
-
 /// The squares of pieces of the side that stand alone between the square and one of its snipers, or
 /// `None` where one of those slides to the square.
-fn pinned_to(board: &Board, side: Color, square: usize, snipers: Squares) -> Option<Squares>
-    requires square { square < 81 }
+fn pinned_to(board: &Board, side: Color, square: Square, snipers: Squares) -> Option<Squares>
     requires snipers { HasBits snipers.bits (is_sniper board.now (opponent_of side) square) }
     ensures shot { IsNone result → slider_attacks board.now (opponent_of side) square ≡ true }
     ensures open { IfSome result (λ s. slider_attacks board.now (opponent_of side) square ≡ false) }
     ensures all { IfSome result (λ s. HasPinned s.bits board.now side square) }
 {
-    let mut pinned = 0;
+    square.reveal_invariant();
+    let mut pinned = Squares::none();
     let mut left = Direction::all();
     'directions: while let Some(direction) = left.next() {
-        if slider_check_or_pin_along(board, side, square, direction, snipers, &mut pinned) {
+        if has_sniper(direction, square, snipers)
+            && slider_check_or_pin(board, side, square, direction, snipers, &mut pinned)
+        {
             return None;
         }
     }
-    Some(Squares { bits: pinned })
+    Some(pinned)
 }
 
 /// The same of the snipers of the square, or `None` where the square is attacked.
 #[tactic(auto, using(crate::proofs::SliderAttacks::attacking, crate::proofs::Pins::unpinned))]
-fn pinned_pieces(board: &Board, side: Color, square: usize) -> Option<Squares>
-    requires square { square < 81 }
+fn pinned_pieces(board: &Board, side: Color, square: Square) -> Option<Squares>
     ensures attacked { IsNone result → is_attacked board.now (opponent_of side) square ≡ true }
     ensures safe { IfSome result (λ s. is_attacked board.now (opponent_of side) square ≡ false) }
     ensures all { IfSome result (λ s. HasPinned s.bits board.now side square) }
 {
+    square.reveal_invariant();
     let by = side.opponent();
     if is_stepped_on(board, by, square) {
         return None;
@@ -394,23 +321,17 @@ fn pinned_pieces(board: &Board, side: Color, square: usize) -> Option<Squares>
 
 /// The squares of which something has to come to stand on one where that ends an attack by the side:
 /// that of one attacker, and those on its way.
-fn evasion_squares_on(board: &Board, by: Color, square: usize) -> Squares
-    requires { square < 81 }
+fn evasion_squares_on(board: &Board, by: Color, square: Square) -> Squares
     ensures stays { StaysIfAttacked result.bits board.now by square }
 {
+    square.reveal_invariant();
     if let Some(from) = first_stepper(board, board.own(by), square) {
-        return Squares {
-            bits: with(0, from),
-        };
+        return Squares::none().with(from);
     }
-    let snipers = sniper_squares(board, by, square);
-    let mut left = Direction::all();
-    'directions: while let Some(direction) = left.next() {
-        if slider_attacks_along(board, by, square, direction, snipers) {
-            return slide_squares(board, direction, square);
-        }
+    match attacking_direction(board, by, square, sniper_squares(board, by, square)) {
+        Some(direction) => slide_squares(board, direction, square),
+        None => Squares::none(),
     }
-    Squares { bits: 0 }
 }
 
 impl Board {
@@ -419,17 +340,17 @@ impl Board {
     pub fn open_lines(&self, square: Square) -> Squares
         ensures squares { HasBits result.bits (are_lined self.now square) }
     {
-        square.reveal_invariant();
-        open_line_squares(self, square.index())
+        four_slides(self, Direction::down(), square)
+            | four_slides(self, Direction::up_left(), square)
     }
 
     /// The squares from which a piece could reach the square: those on open lines with it, and a
     /// knight's jump away.
+    #[tactic(auto, using(crate::proofs::SeenLaws::seen))]
     pub fn queen_and_knight_view(&self, square: Square) -> Squares
         ensures squares { HasBits result.bits (is_seen self.now square) }
     {
-        square.reveal_invariant();
-        queen_and_knight_squares(self, square.index())
+        self.open_lines(square) | jump_squares(square)
     }
 
     /// Whether a piece of the side reaches the square, whoever stands there.
@@ -437,15 +358,15 @@ impl Board {
     pub fn is_attacked(&self, by: Color, square: Square) -> bool
         ensures { result ≡ is_attacked self.now by square }
     {
-        let index = square.index();
-        if is_stepped_on(self, by, index) {
+        square.reveal_invariant();
+        if is_stepped_on(self, by, square) {
             return true;
         }
-        let snipers = sniper_squares(self, by, index);
+        let snipers = sniper_squares(self, by, square);
         if snipers.bits == 0 {
             return false;
         }
-        slider_attacks(self, by, index, snipers)
+        slider_attacks(self, by, square, snipers)
     }
 
     /// Whether a piece on one of these squares reaches the square where the occupied squares are those
@@ -455,15 +376,14 @@ impl Board {
         ensures { TellsAttack self.now among.bits occupied.bits square result }
     {
         square.reveal_invariant();
-        let index = square.index();
-        if is_stepped_on_among(self, among, index) {
+        if is_stepped_on_among(self, among, square) {
             return true;
         }
-        let snipers = among & self.sliders() & line_mask(index);
+        let snipers = among & self.sliders() & line_mask(square.index());
         if snipers.bits == 0 {
             return false;
         }
-        slider_attacks_among(self, index, snipers, occupied)
+        slider_attacks_among(self, square, snipers, occupied)
     }
 
     /// Whether a king of the side is attacked; a side without a king is never in check.
@@ -489,7 +409,7 @@ impl Board {
         let mut left = self.kings(side).iter();
         'kings: while let Some(king) = left.next() {
             if is_open_king(self, side, king) {
-                return evasion_squares_on(self, side.opponent(), king.index());
+                return evasion_squares_on(self, side.opponent(), king);
             }
         }
         Squares::none()
@@ -504,7 +424,7 @@ impl Board {
         let mut left = self.kings(side).iter();
         let mut found = Squares::none();
         'kings: while let Some(king) = left.next() {
-            found = found | sniper_squares(self, side.opponent(), king.index());
+            found = found | sniper_squares(self, side.opponent(), king);
         }
         found
     }
@@ -520,7 +440,7 @@ impl Board {
         let mut left = self.kings(side).iter();
         let mut found = Squares::none();
         'kings: while let Some(king) = left.next() {
-            match pinned_pieces(self, side, king.index()) {
+            match pinned_pieces(self, side, king) {
                 None => return None,
                 Some(more) => found = found | more,
             }

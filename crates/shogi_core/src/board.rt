@@ -3,7 +3,7 @@
 ghost use Rattle.std.specs.Prelude.{◌≡◌, ◌<◌, ◌^◌, ℕ, length, slice_set, cond, ◌==◌, not, is_none};
 ghost use Rattle.shogi_core.specs.Bits.{HasBits, has_bit};
 ghost use Rattle.shogi_core.specs.Cell.{is_piece_of, is_king, is_slider};
-ghost use Rattle.shogi_core.specs.Masks.{own_of, kings_of, sliders_of, is_any_king};
+ghost use Rattle.shogi_core.specs.Masks.{own_of, is_any_king, HasPassing};
 ghost use Rattle.shogi_core.specs.Movement.{piece_at};
 ghost use Rattle.shogi_core.specs.Start.{start_cells};
 ghost use Rattle.shogi_core.specs.Words.{board_words};
@@ -55,20 +55,6 @@ impl Model for Board {
     ghost inverse_ok = { λ b h. ap (λ black. record { cells = b.cells; black = black; white = own_of b.cells White; kings = kings_of b.cells; sliders = sliders_of b.cells; words = board_words b.cells }) (sym h.1) ∙ (ap (λ white. record { cells = b.cells; black = b.black; white = white; kings = kings_of b.cells; sliders = sliders_of b.cells; words = board_words b.cells }) (sym h.2) ∙ (ap (λ kings. record { cells = b.cells; black = b.black; white = b.white; kings = kings; sliders = sliders_of b.cells; words = board_words b.cells }) (sym h.3) ∙ (ap (λ sliders. record { cells = b.cells; black = b.black; white = b.white; kings = b.kings; sliders = sliders; words = board_words b.cells }) (sym h.4) ∙ ap (λ words. record { cells = b.cells; black = b.black; white = b.white; kings = b.kings; sliders = b.sliders; words = words }) (sym h.5)))) };
 }
 
-/// The squares on which pieces of the side stand.
-#[tactic(auto, using(crate::proofs::MaskLaws::mask_steps), unfolding(crate::specs::Masks::places_of))]
-fn own_squares(cells: &[Option<Piece>; 81], color: Color) -> u128
-    ensures { result ≡ own_of cells.now color }
-{
-    let mut mask = 0;
-    for square in 0..81 {
-        if is_piece_of(cells[square], color) {
-            mask |= 1 << square;
-        }
-    }
-    mask
-}
-
 /// Whether a king of either side stands there.
 fn is_any_king(cell: Option<Piece>) -> bool
     ensures { result ≡ is_any_king cell }
@@ -79,28 +65,14 @@ fn is_any_king(cell: Option<Piece>) -> bool
     }
 }
 
-/// The squares on which kings stand.
-#[tactic(auto, using(crate::proofs::MaskLaws::mask_steps), unfolding(crate::specs::Masks::places_of))]
-fn king_squares(cells: &[Option<Piece>; 81]) -> u128
-    ensures { result ≡ kings_of cells.now }
+/// The squares on which there stands what passes the test.
+fn passing_squares<F: Fn(Option<Piece>) -> bool>(cells: &[Option<Piece>; 81], test: F) -> u128
+    requires { F.IsAlwaysCallable test }
+    ensures { HasPassing (F.post test) cells.now result }
 {
     let mut mask = 0;
     for square in 0..81 {
-        if is_any_king(cells[square]) {
-            mask |= 1 << square;
-        }
-    }
-    mask
-}
-
-/// The squares on which pieces stand that slide.
-#[tactic(auto, using(crate::proofs::MaskLaws::mask_steps), unfolding(crate::specs::Masks::places_of))]
-fn slider_squares(cells: &[Option<Piece>; 81]) -> u128
-    ensures { result ≡ sliders_of cells.now }
-{
-    let mut mask = 0;
-    for square in 0..81 {
-        if is_slider(cells[square]) {
+        if test(cells[square]) {
             mask |= 1 << square;
         }
     }
@@ -109,14 +81,13 @@ fn slider_squares(cells: &[Option<Piece>; 81]) -> u128
 
 /// The mask with the bit of the square set or clear.
 #[tactic(auto, using(crate::proofs::MaskLaws::marks))]
-fn marked(mask: u128, square: usize, on: bool) -> u128
-    requires { square < 81 }
+fn marked(mask: u128, square: Square, on: bool) -> u128
     ensures { (n : ℕ) → has_bit result n ≡ cond (n == square) on (has_bit mask n) }
 {
     if on {
-        with(mask, square)
+        with(mask, square.index())
     } else {
-        without(mask, square)
+        without(mask, square.index())
     }
 }
 
@@ -127,10 +98,10 @@ impl Board {
     {
         Board {
             cells,
-            black: own_squares(&cells, Color::Black),
-            white: own_squares(&cells, Color::White),
-            kings: king_squares(&cells),
-            sliders: slider_squares(&cells),
+            black: passing_squares(&cells, |cell| is_piece_of(cell, Color::Black)),
+            white: passing_squares(&cells, |cell| is_piece_of(cell, Color::White)),
+            kings: passing_squares(&cells, is_any_king),
+            sliders: passing_squares(&cells, is_slider),
             words: board_words(&cells),
         }
     }
@@ -227,10 +198,10 @@ impl Board {
         let index = square.index();
         let before = self.cells[index];
         self.cells[index] = piece;
-        self.black = marked(self.black, index, is_piece_of(piece, Color::Black));
-        self.white = marked(self.white, index, is_piece_of(piece, Color::White));
-        self.kings = marked(self.kings, index, is_any_king(piece));
-        self.sliders = marked(self.sliders, index, is_slider(piece));
+        self.black = marked(self.black, square, is_piece_of(piece, Color::Black));
+        self.white = marked(self.white, square, is_piece_of(piece, Color::White));
+        self.kings = marked(self.kings, square, is_any_king(piece));
+        self.sliders = marked(self.sliders, square, is_slider(piece));
         self.words[index / 12] = with_digit(
             self.words[index / 12],
             index % 12,

@@ -11,6 +11,7 @@ use crate::board::Board;
 use crate::direction::Direction;
 use crate::line_table::ALIGNED;
 use crate::rays::ray;
+use crate::square::Square;
 use crate::squares::Squares;
 
 /// The squares on lines with the square, whatever stands between.
@@ -25,12 +26,11 @@ pub fn line_mask(from: usize) -> Squares
 
 /// The squares that a slide reaches in a direction in which indexes rise.
 #[tactic(auto, using(crate::proofs::LineBits::king_line_mask))]
-pub fn rising_squares(board: &Board, direction: Direction, from: usize) -> Squares
+pub fn rising_squares(board: &Board, direction: Direction, from: Square) -> Squares
     requires direction { direction < 4 }
-    requires from { from < 81 }
     ensures squares { HasBits result.bits (slides board.now (direction_at direction) from) }
 {
-    let line = ray(direction, from).bits;
+    let line = ray(direction, from.index()).bits;
     Squares {
         bits: line & up_to_lowest(line & board.occupied().bits),
     }
@@ -38,13 +38,12 @@ pub fn rising_squares(board: &Board, direction: Direction, from: usize) -> Squar
 
 /// The squares that a slide reaches in a direction in which indexes fall.
 #[tactic(auto, using(crate::proofs::LineBits::king_line_mask))]
-pub fn falling_squares(board: &Board, direction: Direction, from: usize) -> Squares
+pub fn falling_squares(board: &Board, direction: Direction, from: Square) -> Squares
     requires direction { 4 ≤ direction }
-    requires from { from < 81 }
     ensures squares { HasBits result.bits (slides board.now (direction_at direction) from) }
 {
     direction.reveal_invariant();
-    let line = ray(direction, from).bits;
+    let line = ray(direction, from.index()).bits;
     // No such line leads on from the square of index 0.
     let first = highest(line & board.occupied().bits | 1);
     Squares {
@@ -53,8 +52,7 @@ pub fn falling_squares(board: &Board, direction: Direction, from: usize) -> Squa
 }
 
 /// The squares that a slide in the direction reaches.
-pub fn slide_squares(board: &Board, direction: Direction, from: usize) -> Squares
-    requires from { from < 81 }
+pub fn slide_squares(board: &Board, direction: Direction, from: Square) -> Squares
     ensures squares { HasBits result.bits (slides board.now (direction_at direction) from) }
 {
     if direction.number() < 4 {

@@ -7,6 +7,7 @@ ghost use Rattle.shogi_core.specs.Steps.{steps_at, color_number};
 ghost use Rattle.shogi_core.specs.Lines.{is_jump, is_near};
 
 use crate::piece::{Color, Piece, Role};
+use crate::square::Square;
 use crate::squares::Squares;
 use crate::step_table::STEPS;
 
@@ -44,8 +45,7 @@ pub fn step_squares(piece: Piece, from: usize) -> Squares
 
 /// The squares to which a knight of either side would jump.
 #[tactic(auto, using(crate::proofs::TargetLaws::no_bits))]
-pub fn jump_squares(from: usize) -> Squares
-    requires { from < 81 }
+pub fn jump_squares(from: Square) -> Squares
     ensures squares { HasBits result.bits (is_jump from) }
 {
     let black = Piece {
@@ -56,18 +56,17 @@ pub fn jump_squares(from: usize) -> Squares
         color: Color::White,
         role: Role::Knight,
     };
-    step_squares(black, from) | step_squares(white, from)
+    step_squares(black, from.index()) | step_squares(white, from.index())
 }
 
 /// The squares next to the square, and a knight's jump away.
 #[tactic(auto, using(crate::proofs::TargetLaws::no_bits))]
-pub fn near_squares(from: usize) -> Squares
-    requires { from < 81 }
+pub fn near_squares(from: Square) -> Squares
     ensures squares { HasBits result.bits (is_near from) }
 {
     let king = Piece {
         color: Color::Black,
         role: Role::King,
     };
-    step_squares(king, from) | jump_squares(from)
+    step_squares(king, from.index()) | jump_squares(from)
 }

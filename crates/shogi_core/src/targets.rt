@@ -17,9 +17,8 @@ use crate::steps::step_squares;
 /// The squares that slides reach along ranks and files, where `first` is down, or along diagonals,
 /// where it is up-left: in every second direction from that one on.
 #[inline(always)]
-fn four_slides(board: &Board, first: Direction, from: usize) -> Squares
+pub fn four_slides(board: &Board, first: Direction, from: Square) -> Squares
     requires first { first < 2 }
-    requires from { from < 81 }
     ensures straight { first ≡ 0 → HasSlides result.bits board.now straight from }
     ensures diagonal { first ≡ 1 → HasSlides result.bits board.now diagonal from }
 {
@@ -32,28 +31,9 @@ fn four_slides(board: &Board, first: Direction, from: usize) -> Squares
     }
 }
 
-/// The squares that slides along ranks and files reach.
-pub fn straight_squares(board: &Board, color: Color, from: usize) -> Squares
-    requires { from < 81 }
-    ensures squares { HasBits result.bits (is_slide board.now color straight from) }
-{
-    let _ = color;
-    four_slides(board, Direction::down(), from)
-}
-
-/// The squares that slides along diagonals reach.
-pub fn diagonal_squares(board: &Board, color: Color, from: usize) -> Squares
-    requires { from < 81 }
-    ensures squares { HasBits result.bits (is_slide board.now color diagonal from) }
-{
-    let _ = color;
-    four_slides(board, Direction::up_left(), from)
-}
-
 /// The squares that a slide forward reaches.
 #[tactic(auto, using(crate::proofs::TargetLaws::one_way))]
-fn forward_squares(board: &Board, color: Color, from: usize) -> Squares
-    requires { from < 81 }
+fn forward_squares(board: &Board, color: Color, from: Square) -> Squares
     ensures squares { HasBits result.bits (is_slide board.now color forward from) }
 {
     match color {
@@ -80,8 +60,7 @@ fn first_direction(role: Role) -> Direction
 
 /// The squares that slides of the piece, which slides, reach.
 #[inline(never)]
-fn slider_slides(board: &Board, piece: Piece, from: usize) -> Squares
-    requires from { from < 81 }
+fn slider_slides(board: &Board, piece: Piece, from: Square) -> Squares
     requires sliding { is_sliding_role piece.role ≡ true }
     ensures squares { HasBits result.bits (has_slide board.now piece from) }
 {
@@ -93,8 +72,7 @@ fn slider_slides(board: &Board, piece: Piece, from: usize) -> Squares
 
 /// The squares that slides of the piece reach. Most pieces do not slide, and reach none.
 #[tactic(auto, using(crate::proofs::TargetLaws::no_slides))]
-fn piece_slides(board: &Board, piece: Piece, from: usize) -> Squares
-    requires { from < 81 }
+fn piece_slides(board: &Board, piece: Piece, from: Square) -> Squares
     ensures squares { HasBits result.bits (has_slide board.now piece from) }
 {
     if piece.role.is_sliding() {
@@ -111,8 +89,7 @@ impl Board {
     pub fn targets_of(&self, piece: Piece, from: Square) -> Squares
         ensures squares { HasBits result.bits (cell_reaches self.now (Some piece) from) }
     {
-        let index = from.index();
-        step_squares(piece, index) | piece_slides(self, piece, index)
+        step_squares(piece, from.index()) | piece_slides(self, piece, from)
     }
 
     /// The squares that the piece on the square reaches; none where it is empty.

@@ -224,11 +224,11 @@ const TALL_RANKS: [u128; 9] = [
 
 /// The squares that are at most two files and four ranks from the square.
 #[tactic(auto, using(crate::proofs::ZoneLaws::around_bits))]
-pub fn squares_around(square: usize) -> Squares
-    requires { square < 81 }
+pub fn squares_around(square: Square) -> Squares
     ensures squares { HasBits result.bits (is_around square) }
 {
+    let index = square.index();
     Squares {
-        bits: WIDE_FILES[square / 9] & TALL_RANKS[square % 9],
+        bits: WIDE_FILES[index / 9] & TALL_RANKS[index % 9],
     }
 }

@@ -42,4 +42,6 @@ pub is_safe_from_legal : (p : Shogi) (m : Move) → is_legal p m ≡ true → is
 unfolding is_legal
 is_safe_from_legal p m e = (and_parts (is_safe p m) _ e).0
 
+pub ruleset keeping = (no_fault_after_board, no_fault_after_drop)
+
 pub ruleset making = (is_safe_from_legal, after_code_of)

@@ -1,7 +1,7 @@
 -- Ways through the legal moves of a kind.
 use Rattle.std.proofs.Common.{◌≡◌, ◌≢◌, ℕ, ◌+◌, ◌-◌, ◌*◌, ◌/◌, ◌%◌, ◌<◌, ◌≤◌, ◌⊎◌, Bool, true, false, not, Some, List, [], filter, bit_and, ◌∷◌, refl, sym, ap, ◌∙◌, arith, inl, inr, subst, bit_or}
 use Rattle.std.specs.Prelude.{◌&&◌, ◌==◌}
-use Rattle.std.proofs.lemmas.Bool.{cases_eq, ne_eqb, eq-eqb, and_parts, both_ways, and_from, cases_lt, or_left, or_right, or_parts, or_cases, false_from_ne_true, true_from_ne_false, cond-true}
+use Rattle.std.proofs.lemmas.Bool.{cases_Bool, cases_eq, ne_eqb, eq-eqb, and_parts, both_ways, and_from, cases_lt, or_left, or_right, or_parts, or_cases, false_from_ne_true, true_from_ne_false, cond-true}
 use Rattle.shogi_core.specs.declared.moves.TheConstants.{MOVE_CODE_COUNT, FIRST_DROP, SQUARE_CODES}
 use Rattle.shogi_core.specs.declared.moves.Move.{Move}
 use Rattle.shogi_core.specs.declared.moves.Move.TheVariants.{Board, Drop}
@@ -187,14 +187,21 @@ module _ (p : Shogi) (capture : Bool) (from code non_promoting promoting to : �
         promotings = keeps_later (is_matching p capture) (λ n. code_of (Board from n true)) code (code_of (Board from to false) + 1) promoting k.promotings (omega arith) (λ n h set. (let le : to ≤ n = promoting_above n set in omega arith));
       }
 
-  pub promoting_set : bit_or non_promoting promoting ≢ 0 → has_bit (bit_or non_promoting promoting) to ≡ true → has_bit non_promoting to ≡ false → has_bit promoting to ≡ true
-  promoting_set some e out = elim (or_cases (has_bit non_promoting to) (has_bit promoting to) (sym (has_bit-or non_promoting promoting to) ∙ e)) [ inl one ↦ absurd (both_ways (has_bit non_promoting to) out one) | inr other ↦ other ]
+  pub promoting_set : has_bit (bit_or non_promoting promoting) to ≡ true → has_bit non_promoting to ≡ false → has_bit promoting to ≡ true
+  promoting_set e out = elim (or_cases (has_bit non_promoting to) (has_bit promoting to) (sym (has_bit-or non_promoting promoting to) ∙ e)) [ inl one ↦ absurd (both_ways (has_bit non_promoting to) out one) | inr other ↦ other ]
 
   pub promoting_taken : has_bit non_promoting to ≡ false → has_bit promoting to ≡ true → IsTaken p capture code (Board from to true)
   promoting_taken out e =
       let low : from * SQUARE_CODES ≤ code = k.low in
       let here : (code ≤ code_of (Board from to true)) × (is_matching p capture (code_of (Board from to true)) ≡ true) = k.promotings.set to ht e in
       taken_from p capture code (Board from to true) (move_of-board from to true hf ht) (omega arith) here.0 here.1 (record { none = fails_to_promoting (is_matching p capture) from code non_promoting promoting low k.plains k.promotings to ht least out })
+
+  -- it is the lowest, without promotion first
+  pub least_taken : has_bit (bit_or non_promoting promoting) to ≡ true → IsTaken p capture code (Board from to (not (has_bit non_promoting to)))
+  least_taken e = elim (cases_Bool (has_bit non_promoting to)) [
+    | inl here ↦ rw here (plain_taken here)
+    | inr out ↦ rw out (promoting_taken out (promoting_set e out))
+  ]
 
   pub promoting_kept : (next : ℕ) → has_bit non_promoting to ≡ false → has_bit promoting to ≡ true → ((i : ℕ) → has_bit next i ≡ (has_bit promoting i && not (i == to))) → KeepsBoard p capture from (code_of (Board from to true) + 1) non_promoting next
   promoting_kept next out e bits =

@@ -1,5 +1,5 @@
 -- What is kept on the way through the moves of a kind: the destinations still to come of the present piece.
-use Rattle.std.specs.Prelude.{ℕ, ◌≡◌, ◌≢◌, ◌≤◌, ◌<◌, ◌+◌, ◌*◌, Bool, true, false, List, [], ◌∷◌, filter, bit_or, Option}
+use Rattle.std.specs.Prelude.{ℕ, ◌≡◌, ◌≢◌, ◌≤◌, ◌<◌, ◌+◌, ◌*◌, Bool, true, false, List, [], filter, bit_or, Option}
 use Rattle.shogi_core.specs.declared.moves.TheConstants.{FIRST_DROP, SQUARE_CODES}
 use Rattle.shogi_core.specs.declared.moves.Move.{Move}
 use Rattle.shogi_core.specs.declared.moves.Move.TheVariants.{Board, Drop}
@@ -17,7 +17,6 @@ use Rattle.shogi_moves.specs.declared.walk.Place.TheVariants as places
 use Rattle.shogi_moves.specs.Captures.{matches_kind, is_matching}
 use Rattle.shogi_moves.specs.CheckInfo.{IsCheckInfoOf}
 use Rattle.shogi_moves.specs.Destinations.{AreDropSquares, AreAllDestinations, AreDestinations}
-use Rattle.shogi_moves.specs.Legal.{is_legal_code}
 use Rattle.shogi_moves.specs.LegalMoves.{legal_from}
 use Rattle.shogi_moves.specs.Walks.{IsNextOf}
 
@@ -38,11 +37,6 @@ AreMatchingDestinations p capture from =
 pub record Keeps (test : ℕ → Bool) (place : ℕ → ℕ) (code squares : ℕ) : Type 0 where
   pub set : (n : ℕ) → n < 81 → has_bit squares n ≡ true → (code ≤ place n) × (test (place n) ≡ true)
   pub clear : (n : ℕ) → n < 81 → has_bit squares n ≡ false → code ≤ place n → test (place n) ≡ false
-
--- they are the destinations of a legal move of the piece, promoting or not, from a code on
-abbrev pub KeepsLegal : Shogi → ℕ → Bool → ℕ → ℕ → Type 0
-KeepsLegal p from promote code squares =
-    Keeps (is_legal_code p) (λ n. code_of (Board from n promote)) code squares
 
 -- what is kept for a square are the destinations of the legal moves of what stands there
 abbrev pub AreKept : Shogi → KeptDestinations → Type 0
@@ -78,10 +72,6 @@ board_left p capture s = matching_from p capture s.code
 abbrev pub drops_left : Shogi → DropSweep → List ℕ
 drops_left p s = matching_from p false s.code
 
--- the move is the first of them, and the others are left
-abbrev pub TakesOnBoard : Shogi → Bool → Move → BoardSweep → BoardSweep → Type 0
-TakesOnBoard p capture m old new = board_left p capture old ≡ code_of m ∷ board_left p capture new
-
 -- no board move is left
 abbrev pub IsAtDrops : Shogi → Bool → BoardSweep → Type 0
 IsAtDrops p capture s = board_left p capture s ≡ matching_drops p capture
@@ -109,10 +99,6 @@ IsPlace p (places.Drops sweep) = IsDropSweep p sweep
 abbrev pub codes_at : Shogi → Place → List ℕ
 codes_at p (places.Board info code kept) = legal_from p code
 codes_at p (places.Drops sweep) = drops_left p sweep
-
--- the place is that from which on the legal moves from a code on are given
-abbrev pub StandsAt : Shogi → ℕ → Place → Type 0
-StandsAt p code place = codes_at p place ≡ legal_from p code
 
 -- the move found is the next one, and the others are left; where none is found, there is none of the sweep
 abbrev pub IsNextOnBoard : Shogi → Bool → Option Move → BoardSweep → BoardSweep → Type 0

@@ -1,11 +1,8 @@
 //! The position after a move.
 
 ghost use Rattle.std.specs.Prelude.{◌≡◌, ◌<◌, ◌-◌, ◌+◌, true};
-ghost use Rattle.shogi_core.specs.declared.piece.Kind.{Kind};
-ghost use Rattle.shogi_core.specs.declared.moves.Move.TheVariants as moves;
 ghost use Rattle.shogi_core.specs.Attack.{in_check};
 ghost use Rattle.shogi_core.specs.Codes.{code_of};
-ghost use Rattle.shogi_core.specs.Position.{count_in_hand};
 ghost use Rattle.shogi_core.specs.Validity.{IsValid};
 ghost use Rattle.shogi_moves.specs.After.{after, after_code, piece_moved, dropped, cells_after, with_captured};
 ghost use Rattle.shogi_moves.specs.Legal.{is_legal, is_safe};
@@ -65,64 +62,39 @@ pub fn is_checked_after(board: &Board, side: Color, m: &Move) -> bool
     next.in_check(side)
 }
 
-/// The hands with what the side captured, as its unpromoted kind.
-fn with_captured(hands: Hands, side: Color, cell: Option<Piece>) -> Hands
-    requires { (kind : Kind) → count_in_hand hands side kind < 255 }
-    ensures { result ≡ with_captured hands side cell }
+/// The hands with what the side to move captured, as its unpromoted kind.
+fn with_captured(p: &Position, cell: Option<Piece>) -> Hands
+    ensures { result ≡ with_captured p.now.hands p.now.side cell }
 {
+    p.reveal_invariant();
+    let hands = p.hands();
     let Some(piece) = cell else { return hands };
     let Some(kind) = piece.role.kind() else {
         return hands
     };
-    hands.with(side, kind, hands.count(side, kind) + 1)
-}
-
-/// Makes a safe move of a piece on the board.
-#[tactic(auto, using(crate::proofs::Keeps::no_fault_after_board))]
-fn make_board(p: &mut Position, from: Square, to: Square, promote: bool)
-    requires { is_safe p.old (moves.Board from to promote) ≡ true }
-    ensures { p.new ≡ after p.old (moves.Board from to promote) }
-{
-    p.reveal_invariant();
-    from.reveal_invariant();
-    to.reveal_invariant();
-    let (piece, taken) = (p.at(from), p.at(to));
-    let hands = with_captured(p.hands(), p.side(), taken);
-    p.move_piece(from, to, piece_moved(piece, promote), hands);
-}
-
-/// Makes a safe drop.
-#[tactic(auto, using(crate::proofs::Keeps::no_fault_after_drop))]
-fn make_drop(p: &mut Position, kind: Kind, to: Square)
-    requires { is_safe p.old (moves.Drop kind to) ≡ true }
-    ensures { p.new ≡ after p.old (moves.Drop kind to) }
-{
-    p.reveal_invariant();
-    to.reveal_invariant();
-    let side = p.side();
-    let hands = p.hands().with(side, kind, p.hand(side, kind) - 1);
-    p.drop_piece(to, dropped(side, kind), hands);
+    hands.with(p.side(), kind, hands.count(p.side(), kind) + 1)
 }
 
 /// Makes a safe move.
-fn make_safe(p: &mut Position, m: &Move)
+#[tactic(auto, using(crate::proofs::Keeps::keeping))]
+pub fn make_safe(p: &mut Position, m: &Move)
     requires { is_safe p.old m.now ≡ true }
     ensures { p.new ≡ after p.old m.now }
 {
+    p.reveal_invariant();
+    m.reveal_invariant();
     match m {
-        Move::Board { from, to, promote } => make_board(p, *from, *to, *promote),
-        Move::Drop { kind, to } => make_drop(p, *kind, *to),
+        Move::Board { from, to, promote } => {
+            let (piece, taken) = (p.at(*from), p.at(*to));
+            let hands = with_captured(p, taken);
+            p.move_piece(*from, *to, piece_moved(piece, *promote), hands);
+        }
+        Move::Drop { kind, to } => {
+            let side = p.side();
+            let hands = p.hands().with(side, *kind, p.hand(side, *kind) - 1);
+            p.drop_piece(*to, dropped(side, *kind), hands);
+        }
     }
-}
-
-/// The position after a safe move.
-pub fn apply_safe(p: &Position, m: &Move) -> Position
-    requires { is_safe p.now m.now ≡ true }
-    ensures { result ≡ after p.now m.now }
-{
-    let mut next = *p;
-    make_safe(&mut next, m);
-    next
 }
 
 /// Makes a legal move where the position stands: it is then that of `apply`.

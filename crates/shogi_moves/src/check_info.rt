@@ -1,7 +1,7 @@
 //! What is known of checks in a position, so that most of its moves need no look at them.
 
-ghost use Rattle.std.specs.Prelude.{true, ◌≡◌, ◌&&◌, not, false};
-ghost use Rattle.shogi_core.specs.Attack.{in_check, OthersAreUnpinned};
+ghost use Rattle.std.specs.Prelude.{true, ◌≡◌, ◌&&◌, not};
+ghost use Rattle.shogi_core.specs.Attack.{in_check};
 ghost use Rattle.shogi_core.specs.Bits.{has_bit};
 ghost use Rattle.shogi_moves.specs.CheckInfo.{IsCheckInfoOf};
 
@@ -26,7 +26,7 @@ pub struct KnownPosition<'a> {
 
 /// What is kept where there is a check.
 #[tactic(auto, using(crate::proofs::CheckInfoLaws::with_check))]
-fn checked_info(p: &Position) -> CheckInfo
+pub fn checked_info(p: &Position) -> CheckInfo
     requires { in_check p.now.cells p.now.side ≡ true }
     ensures { IsCheckInfoOf result p.now }
 {
@@ -37,39 +37,20 @@ fn checked_info(p: &Position) -> CheckInfo
     }
 }
 
-/// What is kept where there is no check: of the pieces of the side to move, the king and those that
-/// may be pinned.
+/// What is kept of the position: where there is no check, of the pieces of the side to move, the king
+/// and those that may be pinned.
 #[tactic(auto, using(crate::proofs::CheckInfoLaws::without_check))]
-fn unchecked_info(p: &Position, pinned: Squares) -> CheckInfo
-    requires safe { in_check p.now.cells p.now.side ≡ false }
-    requires free { OthersAreUnpinned pinned.bits p.now.cells p.now.side }
-    ensures { IsCheckInfoOf result p.now }
-{
-    CheckInfo {
-        checked: false,
-        pinned_or_king: p.as_board().kings(p.side()) | pinned,
-    }
-}
-
-/// What is kept of the position.
 pub fn check_info_of(p: &Position) -> CheckInfo
     ensures { IsCheckInfoOf result p.now }
 {
-    match p.as_board().pinned(p.side()) {
+    let board = p.as_board();
+    match board.pinned(p.side()) {
         None => checked_info(p),
-        Some(pinned) => unchecked_info(p, pinned),
+        Some(pinned) => CheckInfo {
+            checked: false,
+            pinned_or_king: board.kings(p.side()) | pinned,
+        },
     }
-}
-
-/// What is kept of a position of which it is known whether the side to move is in check.
-pub fn full_check_info(p: &Position, checked: bool) -> CheckInfo
-    requires { checked ≡ in_check p.now.cells p.now.side }
-    ensures { IsCheckInfoOf result p.now }
-{
-    if checked {
-        return checked_info(p);
-    }
-    check_info_of(p)
 }
 
 /// What is kept where no piece is looked for that may leave its square: each may be pinned.
@@ -94,6 +75,18 @@ impl CheckInfo {
             position,
             info: self,
         }
+    }
+}
+
+impl KnownPosition<'_> {
+    /// All that is kept of the position, of which it is known whether the side to move is in check.
+    pub fn full_info(&self) -> CheckInfo
+        ensures { IsCheckInfoOf result self.now.position.now }
+    {
+        if self.info.checked {
+            return checked_info(self.position);
+        }
+        check_info_of(self.position)
     }
 }
 

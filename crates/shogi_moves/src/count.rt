@@ -3,17 +3,14 @@
 ghost use Rattle.std.specs.Prelude.{◌≡◌, ◌≤◌, ◌<◌, ◌^◌, ◌+◌, ◌-◌, ◌↔◌, IfSome, IsNone, length, count_ones};
 ghost use Rattle.shogi_core.specs.declared.moves.TheConstants.{MOVE_CODE_COUNT, FIRST_DROP};
 ghost use Rattle.shogi_moves.specs.LegalMoves.{CountsLegal, legal_from, perft};
-ghost use Rattle.shogi_moves.specs.Destinations.{AreDropSquares};
 ghost use Rattle.shogi_moves.specs.Places.{first_of_kind};
 
 use crate::after::advance;
 use crate::check_info::{KnownPosition, check_info_of};
-use crate::destinations::{Destinations, all_by_marks, enterable, marked_squares};
-use crate::drops::drop_squares;
-use crate::pawn_drop::drop_destinations;
+use crate::destinations::Destinations;
+use crate::drops::KnownDrops;
 use crate::walk::Walk;
 use shogi_core::bits::{bits_from, low_half, lowest, without_lowest};
-use shogi_core::zones::zone_squares;
 use shogi_core::{Kind, Position, Square, Squares};
 
 /// How many moves lead to the destinations.
@@ -30,35 +27,32 @@ fn count_board(known: &KnownPosition<'_>) -> u64
     ensures range { result ≤ FIRST_DROP }
 {
     let p = known.position;
-    let squares = enterable(p);
-    let side = p.side();
-    let zone = zone_squares(side);
-    let marked = marked_squares(&known.info, zone);
-    let own = p.as_board().own(side);
+    let markings = known.markings();
+    let own = p.as_board().own(p.side());
     let high = bits_from(own.bits, 64);
     let mut low = low_half(own.bits);
     let mut total: u64 = 0;
     'low: while low != 0 {
         let square = lowest(low as u128);
         let from = Square::of_index(square);
-        total += count_of(all_by_marks(known, zone, marked, squares, from));
+        total += count_of(markings.all_destinations(from));
         low = without_lowest(low as u128, square) as u64;
     }
     let mut left = Squares { bits: high }.iter();
     'high: while let Some(from) = left.next() {
-        total += count_of(all_by_marks(known, zone, marked, squares, from));
+        total += count_of(markings.all_destinations(from));
     }
     total
 }
 
 /// How many drops of the kind are legal.
 #[inline(always)]
-fn count_kind(p: &Position, squares: Squares, kind: Kind) -> u64
-    requires { AreDropSquares p.now squares.bits }
-    ensures count { CountsLegal p.now (first_of_kind kind) (first_of_kind kind + 81) result }
+fn count_kind(drops: &KnownDrops<'_>, kind: Kind) -> u64
+    ensures count { CountsLegal drops.now.position.now (first_of_kind kind)
+        (first_of_kind kind + 81) result }
     ensures range { result ≤ 81 }
 {
-    drop_destinations(p, squares, kind).bits.count_ones() as u64
+    drops.legal(kind).bits.count_ones() as u64
 }
 
 /// How many drops are legal. Each kind is named, so that one that is not held costs no more than a
@@ -67,15 +61,14 @@ fn count_drops(known: &KnownPosition<'_>) -> u64
     ensures count { result ≡ length (legal_from known.now.position.now FIRST_DROP) }
     ensures range { result ≤ MOVE_CODE_COUNT - FIRST_DROP }
 {
-    let p = known.position;
-    let squares = drop_squares(known);
-    let pawns = count_kind(p, squares, Kind::Pawn);
-    let lances = count_kind(p, squares, Kind::Lance);
-    let knights = count_kind(p, squares, Kind::Knight);
-    let silvers = count_kind(p, squares, Kind::Silver);
-    let golds = count_kind(p, squares, Kind::Gold);
-    let bishops = count_kind(p, squares, Kind::Bishop);
-    let rooks = count_kind(p, squares, Kind::Rook);
+    let drops = known.drops();
+    let pawns = count_kind(&drops, Kind::Pawn);
+    let lances = count_kind(&drops, Kind::Lance);
+    let knights = count_kind(&drops, Kind::Knight);
+    let silvers = count_kind(&drops, Kind::Silver);
+    let golds = count_kind(&drops, Kind::Gold);
+    let bishops = count_kind(&drops, Kind::Bishop);
+    let rooks = count_kind(&drops, Kind::Rook);
     pawns + lances + knights + silvers + golds + bishops + rooks
 }
 

@@ -1,6 +1,7 @@
 //! Where held pieces may be dropped, apart from mate by a pawn.
 
 ghost use Rattle.std.specs.Prelude.{◌≡◌, true};
+ghost use Rattle.std.proofs.Props.{props};
 ghost use Rattle.shogi_core.specs.declared.moves.Move.TheVariants as moves;
 ghost use Rattle.shogi_core.specs.declared.piece.Kind.{Kind};
 ghost use Rattle.shogi_core.specs.Bits.{HasBits};
@@ -13,6 +14,15 @@ use crate::check_info::KnownPosition;
 use crate::king_safety::leaves_king_safe_on_copy;
 use shogi_core::zones::{dead_squares, pawn_files};
 use shogi_core::{Kind, Move, Position, Square, Squares};
+
+/// A position with the empty squares on which a held piece leaves the king unattacked, whatever its
+/// kind.
+#[derive(Clone, Copy)]
+pub struct KnownDrops<'a> {
+    pub position: &'a Position,
+    pub squares: Squares,
+    ghost right: { AreDropSquares position.now squares.bits } by { Prim.hlevel props },
+}
 
 /// Whether it is the pawn.
 pub fn is_pawn_kind(kind: Kind) -> bool
@@ -65,21 +75,37 @@ pub fn drop_squares(known: &KnownPosition<'_>) -> Squares
     tried_drops(p, free & known.info.pinned_or_king)
 }
 
-/// Where one of the held pieces may be dropped, apart from mate by a pawn.
-#[inline(always)]
-#[tactic(auto, using(crate::proofs::DestinationLaws::safe_dropping))]
-pub fn safe_drops(p: &Position, squares: Squares, kind: Kind) -> Squares
-    requires squares { AreDropSquares p.now squares.bits }
-    ensures squares { HasBits result.bits (λ n. is_safe p.now (moves.Drop kind n)) }
-{
-    let side = p.side();
-    if p.hand(side, kind) == 0 {
-        return Squares::none();
+impl<'a> KnownPosition<'a> {
+    /// The position with where its held pieces may be dropped.
+    #[inline(always)]
+    pub fn drops(&self) -> KnownDrops<'a>
+        ensures { result.position.now ≡ self.now.position.now }
+    {
+        KnownDrops {
+            position: self.position,
+            squares: drop_squares(self),
+        }
     }
-    let destinations = squares.without(dead_squares(dropped(side, kind)));
-    if is_pawn_kind(kind) {
-        destinations.without(pawn_files(p, side))
-    } else {
-        destinations
+}
+
+impl KnownDrops<'_> {
+    /// Where one of the held pieces may be dropped, apart from mate by a pawn.
+    #[inline(always)]
+    #[tactic(auto, using(crate::proofs::DestinationLaws::safe_dropping))]
+    pub fn safe(&self, kind: Kind) -> Squares
+        ensures squares { HasBits result.bits
+            (λ n. is_safe self.now.position.now (moves.Drop kind n)) }
+    {
+        let p = self.position;
+        let side = p.side();
+        if p.hand(side, kind) == 0 {
+            return Squares::none();
+        }
+        let destinations = self.squares.without(dead_squares(dropped(side, kind)));
+        if is_pawn_kind(kind) {
+            destinations.without(pawn_files(p, side))
+        } else {
+            destinations
+        }
     }
 }

@@ -3,10 +3,8 @@
 ghost use Rattle.std.specs.Prelude.{◌≡◌, ◌≢◌, ◌↔◌, true, false, [], IsTrue};
 ghost use Rattle.shogi_moves.specs.LegalMoves.{legal_codes, HasNoPawnDrop};
 
-use crate::check_info::{KnownPosition, full_check_info, rough_check_info};
-use crate::drops::drop_squares;
-use crate::pawn_drop::drop_destinations;
-use crate::safe::{has_king_move, has_other_move, has_piece_drop};
+use crate::check_info::{KnownPosition, rough_check_info};
+use crate::safe::{has_king_move, has_other_move};
 use shogi_core::{Kind, Position};
 
 /// Whether a held pawn has a legal drop.
@@ -14,7 +12,7 @@ fn has_pawn_drop(known: &KnownPosition<'_>) -> bool
     ensures some { result ≡ true → legal_codes known.now.position.now ≢ [] }
     ensures if_none { result ≡ false → HasNoPawnDrop known.now.position.now }
 {
-    !drop_destinations(known.position, drop_squares(known), Kind::Pawn).is_empty()
+    !known.drops().legal(Kind::Pawn).is_empty()
 }
 
 /// Whether some move is legal. Drops are looked for first where no check is to be answered: their
@@ -23,13 +21,13 @@ fn has_pawn_drop(known: &KnownPosition<'_>) -> bool
 pub fn has_legal(p: &Position) -> bool
     ensures { IsTrue result ↔ (legal_codes p.now ≢ []) }
 {
-    let rough = rough_check_info(p);
-    if !rough.checked && has_piece_drop(p, drop_squares(&rough.at(p))) {
+    let rough = rough_check_info(p).at(p);
+    if !rough.info.checked && rough.drops().has_piece() {
         return true;
     }
     if has_king_move(p) {
         return true;
     }
-    let known = full_check_info(p, rough.checked).at(p);
+    let known = rough.full_info().at(p);
     has_other_move(&known) || has_pawn_drop(&known)
 }

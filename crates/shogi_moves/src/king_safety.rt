@@ -1,12 +1,11 @@
 //! Whether a move leaves the mover's king unattacked, without making it where the side has a king.
 
 ghost use Rattle.std.specs.Prelude.{◌≡◌, true};
-ghost use Rattle.shogi_core.specs.Cell.{HasNoOtherKing};
-ghost use Rattle.shogi_moves.specs.Destinations.{is_own_king, leaves_king_safe};
+ghost use Rattle.shogi_moves.specs.Destinations.{leaves_king_safe};
 ghost use Rattle.shogi_moves.specs.Legal.{is_pseudo_legal};
 
 use crate::after::is_checked_after;
-use shogi_core::{Move, Position, Square};
+use shogi_core::{Move, Position};
 
 /// Whether the move, which is made on a board of its own, leaves the mover's king unattacked.
 pub fn leaves_king_safe_on_copy(p: &Position, m: &Move) -> bool
@@ -15,16 +14,18 @@ pub fn leaves_king_safe_on_copy(p: &Position, m: &Move) -> bool
     !is_checked_after(p.as_board(), p.side(), m)
 }
 
-/// Whether the only king of the side to move, which stands there, is unattacked after the move: it
-/// or its new square is looked at where the move leaves the squares empty and occupied.
+/// Whether the pseudo-legal move leaves the king unattacked: the king or its new square is looked at
+/// where the move leaves the squares empty and occupied. It is made on a board of its own where the
+/// side has no king.
 #[inline(always)]
-fn leaves_only_king_safe(p: &Position, king: Square, m: &Move) -> bool
-    requires pseudo { is_pseudo_legal p.now m.now ≡ true }
-    requires king { is_own_king p.now king ≡ true }
-    requires lone { HasNoOtherKing p.now.cells p.now.side king }
+pub fn leaves_king_safe(p: &Position, m: &Move) -> bool
+    requires { is_pseudo_legal p.now m.now ≡ true }
     ensures { result ≡ leaves_king_safe p.now m.now }
 {
     p.reveal_invariant();
+    let Some(king) = p.king(p.side()) else {
+        return leaves_king_safe_on_copy(p, m)
+    };
     king.reveal_invariant();
     let board = p.as_board();
     let theirs = board.own(p.side().opponent());
@@ -44,18 +45,5 @@ fn leaves_only_king_safe(p: &Position, king: Square, m: &Move) -> bool
             let occupied = board.occupied().with(*to);
             !board.is_attacked_among(king, theirs, occupied)
         }
-    }
-}
-
-/// Whether the pseudo-legal move leaves the king unattacked; made on a board of its own where the
-/// side has no king.
-#[inline(always)]
-pub fn leaves_king_safe(p: &Position, m: &Move) -> bool
-    requires { is_pseudo_legal p.now m.now ≡ true }
-    ensures { result ≡ leaves_king_safe p.now m.now }
-{
-    match p.king(p.side()) {
-        None => leaves_king_safe_on_copy(p, m),
-        Some(king) => leaves_only_king_safe(p, king, m),
     }
 }

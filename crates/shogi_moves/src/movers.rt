@@ -1,38 +1,19 @@
 //! The pieces that may have a move of a kind, found all at once.
 
-ghost use Rattle.std.specs.Prelude.{◌≡◌, ◌<◌, ◌^◌, ◌+◌, ◌⊎◌, true, ℕ, ◌*◌};
-ghost use Rattle.shogi_core.specs.Bits.{has_bit};
+ghost use Rattle.std.specs.Prelude.{◌≡◌, ◌<◌, ◌^◌, true};
 ghost use Rattle.shogi_core.specs.Lines.{is_near};
 ghost use Rattle.shogi_moves.specs.Destinations.{HasMovers, Spreads, IsWithin, SpreadsUp};
 
 use shogi_core::{Position, Squares};
-
-/// The places that are so many before or behind one of the squares.
-fn places_away(squares: Squares, places: usize) -> u128
-    requires { places < 12 }
-    ensures { Spreads (λ b a. (b ≡ a + places) ⊎ (a ≡ b + places)) squares.bits result }
-{
-    squares.bits >> places | squares.bits << places
-}
-
-/// The number with its bits so many places higher.
-fn raised(bits: u128, places: usize) -> u128
-    requires fits { bits < 2 ^ 100 }
-    requires places { places < 12 }
-    ensures value { result ≡ bits * 2 ^ places }
-    ensures raised { (n : ℕ) → has_bit bits n ≡ true → has_bit result (n + places) ≡ true }
-{
-    bits << places
-}
 
 /// The squares, and the places up to four above each.
 fn five_places(squares: Squares) -> u128
     ensures bits { SpreadsUp squares.bits result }
     ensures fits { result < 2 ^ 85 }
 {
-    let two = squares.bits | raised(squares.bits, 1);
-    let four = two | raised(two, 2);
-    four | raised(squares.bits, 4)
+    let one = squares.bits;
+    let two = one | one << 1;
+    two | two << 2 | one << 4
 }
 
 /// The squares next to one of these or a knight's jump away, and some more at the edges of the board
@@ -41,7 +22,7 @@ fn squares_near(squares: Squares) -> u128
     ensures { Spreads (λ b a. is_near b a ≡ true) squares.bits result }
 {
     let five = five_places(squares);
-    places_away(squares, 1) | raised(five, 7) | five >> 11
+    squares.bits >> 1 | squares.bits << 1 | five << 7 | five >> 11
 }
 
 /// Those of the pieces that may reach a square where such a move ends; to capture, a piece slides

@@ -1,16 +1,16 @@
 //! The next legal move of a piece on the board.
 
-ghost use Rattle.std.specs.Prelude.{◌≡◌, ◌≤◌, ◌<◌, ◌+◌, ◌*◌, true, false, IfSome};
+ghost use Rattle.std.specs.Prelude.{◌≡◌, ◌≤◌, ◌<◌, true, IfSome};
 ghost use Rattle.shogi_core.specs.declared.moves.TheConstants.{FIRST_DROP, SQUARE_CODES};
 ghost use Rattle.shogi_core.specs.Cell.{is_piece_of};
 ghost use Rattle.shogi_core.specs.Codes.{code_of};
 ghost use Rattle.shogi_moves.specs.Legal.{is_legal};
 ghost use Rattle.shogi_moves.specs.LegalMoves.{IsLeastFrom, IsLeastOn};
 ghost use Rattle.shogi_moves.specs.Places.{IsAtSquare};
-ghost use Rattle.shogi_moves.specs.Sweeps.{AreKept, KeepsLegal};
+ghost use Rattle.shogi_moves.specs.Sweeps.{AreKept};
 
 use crate::check_info::KnownPosition;
-use crate::destinations::{Destinations, all_destinations, enterable};
+use crate::destinations::Destinations;
 use shogi_core::bits::{bits_from, lowest};
 use shogi_core::{FIRST_DROP, Move, Position, SQUARE_CODES, Square, Squares, is_piece_of};
 
@@ -39,38 +39,7 @@ pub fn kept_at(known: &KnownPosition<'_>, from: Square) -> KeptDestinations
     }
     KeptDestinations {
         from,
-        destinations: all_destinations(known, from, enterable(p)),
-    }
-}
-
-/// Keeps those of what stands on the square, if it is another than before.
-fn keep(known: &KnownPosition<'_>, from: Square, kept: &mut KeptDestinations)
-    requires consistent { AreKept known.now.position.now kept.old }
-    ensures from { kept.new.from ≡ from }
-    ensures consistent { AreKept known.now.position.now kept.new }
-{
-    if kept.from.index() != from.index() {
-        *kept = kept_at(known, from);
-    }
-}
-
-/// The kept destinations whose moves are from a code on.
-fn destinations_left(p: &Position, kept: &KeptDestinations, code: u16) -> Destinations
-    requires consistent { AreKept p.now kept.now }
-    requires code { IsAtSquare kept.now.from code }
-    ensures non_promoting { KeepsLegal p.now kept.now.from false code result.non_promoting.bits }
-    ensures promoting { KeepsLegal p.now kept.now.from true code result.promoting.bits }
-{
-    let _ = p;
-    kept.from.reveal_invariant();
-    let passed = (code - kept.from.index() as u16 * SQUARE_CODES) as usize;
-    Destinations {
-        non_promoting: Squares {
-            bits: bits_from(kept.destinations.non_promoting.bits, (passed + 1) / 2),
-        },
-        promoting: Squares {
-            bits: bits_from(kept.destinations.promoting.bits, passed / 2),
-        },
+        destinations: known.markings().all_destinations(from),
     }
 }
 
@@ -94,9 +63,17 @@ fn least_destination(
     if !is_piece_of(p.at(from), p.side()) {
         return None;
     }
-    keep(known, from, kept);
-    let destinations = destinations_left(p, kept, code);
-    let both = destinations.non_promoting | destinations.promoting;
+    if kept.from.index() != from.index() {
+        *kept = kept_at(known, from);
+    }
+    let passed = (code - from.index() as u16 * SQUARE_CODES) as usize;
+    let non_promoting = Squares {
+        bits: bits_from(kept.destinations.non_promoting.bits, (passed + 1) / 2),
+    };
+    let promoting = Squares {
+        bits: bits_from(kept.destinations.promoting.bits, passed / 2),
+    };
+    let both = non_promoting | promoting;
     if both.is_empty() {
         return None;
     }
@@ -104,7 +81,7 @@ fn least_destination(
     Some(Move::Board {
         from,
         to,
-        promote: !destinations.non_promoting.has(to),
+        promote: !non_promoting.has(to),
     })
 }
 

@@ -1,10 +1,20 @@
 //! Whether a king that is given check by the drop of a pawn surely has a square to go to.
 
 ghost use Rattle.std.specs.Prelude.{◌≡◌, true, false};
+ghost use Rattle.std.proofs.Props.{props};
 ghost use Rattle.shogi_moves.specs.Destinations.{IsWithin, is_mating_square};
 ghost use Rattle.shogi_moves.specs.Escapes.{AreSafeFrom, AreKingSteps, AreEscapes, HasOpenEscape};
 
 use shogi_core::{Board, Color, Piece, Position, Role, Square, Squares, step_squares};
+
+/// A position with squares to which the king of the side that is not to move may go, should a move
+/// give it check.
+#[derive(Clone, Copy)]
+pub struct KnownEscapes<'a> {
+    pub position: &'a Position,
+    pub squares: Squares,
+    ghost right: { AreEscapes position.now squares.bits } by { Prim.hlevel props },
+}
 
 /// One of the squares that the side does not attack, if there is one.
 fn first_unattacked(board: &Board, by: Color, squares: Squares) -> Squares
@@ -30,26 +40,32 @@ pub fn king_steps(p: &Position) -> Squares
     board.targets(king).without(board.own(side))
 }
 
-/// One of those squares that is not closed, if there is one.
-fn first_escape(p: &Position, closed: Squares) -> Squares
-    ensures { AreEscapes p.now result.bits }
+/// The position with one of those squares that is not closed, if there is one.
+fn first_escape(position: &Position, closed: Squares) -> KnownEscapes<'_>
+    ensures { result.position.now ≡ position.now }
 {
-    p.reveal_invariant();
-    first_unattacked(p.as_board(), p.side(), king_steps(p).without(closed))
+    position.reveal_invariant();
+    let (board, side) = (position.as_board(), position.side());
+    KnownEscapes {
+        position,
+        squares: first_unattacked(board, side, king_steps(position).without(closed)),
+    }
 }
 
-/// Whether the king of the side that is not to move has one of the squares left that is not closed
-/// and not where a move ends.
-pub fn has_open(p: &Position, escapes: Squares, closed: Squares, to: Square) -> bool
-    requires { AreEscapes p.now escapes.bits }
-    ensures { result ≡ true → HasOpenEscape p.now closed.bits to }
-{
-    to.reveal_invariant();
-    let kings = p.as_board().kings(p.side().opponent());
-    if kings.is_empty() || kings.has(to) {
-        return false;
+impl KnownEscapes<'_> {
+    /// Whether the king has one of the squares left that is not closed and not where a move ends.
+    #[inline(always)]
+    pub fn has_open(&self, closed: Squares, to: Square) -> bool
+        ensures { result ≡ true → HasOpenEscape self.now.position.now closed.bits to }
+    {
+        to.reveal_invariant();
+        let p = self.position;
+        let kings = p.as_board().kings(p.side().opponent());
+        if kings.is_empty() || kings.has(to) {
+            return false;
+        }
+        !self.squares.without(closed).except(to).is_empty()
     }
-    !escapes.without(closed).except(to).is_empty()
 }
 
 /// Whether one of the squares is surely left to the king after the drop of a pawn, which then does
@@ -64,5 +80,5 @@ pub fn leaves_pawn_escape(p: &Position, to: Square) -> bool
         role: Role::Pawn,
     };
     let reach = step_squares(pawn, to.index());
-    has_open(p, first_escape(p, reach.with(to)), reach, to)
+    first_escape(p, reach.with(to)).has_open(reach, to)
 }

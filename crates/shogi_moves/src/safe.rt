@@ -1,34 +1,14 @@
 //! Whether some move is safe: legal but for mate by the drop of a pawn.
 
 ghost use Rattle.std.specs.Prelude.{◌≡◌, ◌≢◌, true, false, []};
-ghost use Rattle.shogi_core.specs.declared.moves.TheConstants.{MOVE_CODE_COUNT};
-ghost use Rattle.shogi_core.specs.Attack.{in_check};
-ghost use Rattle.shogi_core.specs.Below.{some_below};
-ghost use Rattle.shogi_moves.specs.Destinations.{is_own_king, AreDropSquares, AreEnterable};
-ghost use Rattle.shogi_moves.specs.Legal.{is_safe_code};
+ghost use Rattle.shogi_moves.specs.Legal.{is_mated_by_drop};
 ghost use Rattle.shogi_moves.specs.LegalMoves.{legal_codes, HasNoBoardMove, HasNoPieceDrop};
 
-use crate::check_info::{KnownPosition, full_check_info};
-use crate::destinations::{all_destinations, enterable, is_safe_for_king};
-use crate::drops::{drop_squares, safe_drops};
-use shogi_core::{Kind, Position, Square, Squares};
-
-/// Whether the king of the side to move may go to one of the squares, which it reaches and where no
-/// piece of its own stands.
-fn king_escapes(p: &Position, from: Square, destinations: Squares) -> bool
-    requires king { is_own_king p.now from ≡ true }
-    requires destinations { AreEnterable p.now from destinations.bits }
-    ensures { result ≡ true → legal_codes p.now ≢ [] }
-{
-    from.reveal_invariant();
-    let mut lifted = *p.as_board();
-    lifted.set(from, None);
-    let Some(to) = destinations.find(|to| is_safe_for_king(p, &lifted, from, to)) else {
-        return false
-    };
-    to.reveal_invariant();
-    true
-}
+use crate::attack::in_check;
+use crate::check_info::{KnownPosition, checked_info};
+use crate::destinations::SeenKing;
+use crate::drops::KnownDrops;
+use shogi_core::{Kind, Position};
 
 /// Whether the king of the side to move has a legal move.
 pub fn has_king_move(p: &Position) -> bool
@@ -39,8 +19,20 @@ pub fn has_king_move(p: &Position) -> bool
     let Some(from) = p.king(p.side()) else {
         return false
     };
-    let own = board.own(p.side());
-    king_escapes(p, from, board.targets(from).without(own))
+    from.reveal_invariant();
+    let mut lifted = *board;
+    lifted.set(from, None);
+    let king = SeenKing {
+        position: p,
+        seen: &lifted,
+        from,
+    };
+    let destinations = board.targets(from).without(board.own(p.side()));
+    let Some(to) = destinations.find(|to| king.is_safe_at(to)) else {
+        return false
+    };
+    to.reveal_invariant();
+    true
 }
 
 /// Whether a piece on the board has a legal move.
@@ -49,10 +41,10 @@ fn has_board_move(known: &KnownPosition<'_>) -> bool
     ensures if_none { result ≡ false → HasNoBoardMove known.now.position.now }
 {
     let p = known.position;
-    let squares = enterable(p);
+    let markings = known.markings();
     let mut left = p.as_board().own(p.side()).iter();
     'pieces: while let Some(from) = left.next() {
-        let destinations = all_destinations(known, from, squares);
+        let destinations = markings.all_destinations(from);
         if !(destinations.non_promoting | destinations.promoting).is_empty() {
             return true;
         }
@@ -60,20 +52,21 @@ fn has_board_move(known: &KnownPosition<'_>) -> bool
     false
 }
 
-/// Whether a held piece other than a pawn has a legal drop.
-pub fn has_piece_drop(p: &Position, squares: Squares) -> bool
-    requires { AreDropSquares p.now squares.bits }
-    ensures some { result ≡ true → legal_codes p.now ≢ [] }
-    ensures if_none { result ≡ false → HasNoPieceDrop p.now }
-{
-    let mut kind = Kind::Pawn;
-    'kinds: while let Some(next) = kind.next() {
-        if !safe_drops(p, squares, next).is_empty() {
-            return true;
+impl KnownDrops<'_> {
+    /// Whether a held piece other than a pawn has a legal drop.
+    pub fn has_piece(&self) -> bool
+        ensures some { result ≡ true → legal_codes self.now.position.now ≢ [] }
+        ensures if_none { result ≡ false → HasNoPieceDrop self.now.position.now }
+    {
+        let mut kind = Kind::Pawn;
+        'kinds: while let Some(next) = kind.next() {
+            if !self.safe(next).is_empty() {
+                return true;
+            }
+            kind = next;
         }
-        kind = next;
+        false
     }
-    false
 }
 
 /// Whether some move is legal other than the drop of a pawn.
@@ -82,21 +75,20 @@ pub fn has_other_move(known: &KnownPosition<'_>) -> bool
     ensures board { result ≡ false → HasNoBoardMove known.now.position.now }
     ensures drops { result ≡ false → HasNoPieceDrop known.now.position.now }
 {
-    has_board_move(known) || has_piece_drop(known.position, drop_squares(known))
+    has_board_move(known) || known.drops().has_piece()
 }
 
-/// Whether some move of a side in check is safe. The king, which most often has a way out, is asked
-/// first.
-pub fn has_safe(p: &Position) -> bool
-    requires { in_check p.now.cells p.now.side ≡ true }
-    ensures { result ≡ some_below MOVE_CODE_COUNT (is_safe_code p.now) }
+/// Whether the side to move is in check and has no safe move. The king, which most often has a way
+/// out, is asked first.
+pub fn is_mated_by_drop(p: &Position) -> bool
+    ensures { result ≡ is_mated_by_drop p.now }
 {
+    if !in_check(p) {
+        return false;
+    }
     if has_king_move(p) {
-        return true;
+        return false;
     }
-    let known = full_check_info(p, true).at(p);
-    if has_other_move(&known) {
-        return true;
-    }
-    !safe_drops(p, drop_squares(&known), Kind::Pawn).is_empty()
+    let known = checked_info(p).at(p);
+    !has_other_move(&known) && known.drops().safe(Kind::Pawn).is_empty()
 }

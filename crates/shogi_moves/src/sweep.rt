@@ -7,13 +7,12 @@ ghost use Rattle.shogi_core.specs.Cell.{is_piece_of};
 ghost use Rattle.shogi_core.specs.Codes.{code_of};
 ghost use Rattle.shogi_core.specs.Pieces.{kind_number};
 ghost use Rattle.shogi_moves.specs.Legal.{is_legal};
-ghost use Rattle.shogi_moves.specs.Sweeps.{drops_left, AreMatchingDestinations, IsBoardSweep, IsDropSweep, HasDestination, ContinuesBoard, ContinuesDrops, IsNextOnBoard, IsNextDrop, IsAtDrops, TakesOnBoard, HasNoDestination};
+ghost use Rattle.shogi_moves.specs.Sweeps.{drops_left, AreMatchingDestinations, IsBoardSweep, IsDropSweep, HasDestination, ContinuesBoard, ContinuesDrops, IsNextOnBoard, IsNextDrop, IsAtDrops, HasNoDestination};
 
 use crate::check_info::{CheckInfo, KnownPosition};
-use crate::destinations::{Destinations, legal_destinations, matching_destinations};
-use crate::drops::drop_squares;
+use crate::destinations::{Destinations, OwnPiece, matching_destinations};
+use crate::drops::KnownDrops;
 use crate::movers::matching_movers;
-use crate::pawn_drop::drop_destinations;
 use shogi_core::bits::{bits_above, bits_from, lowest, without_lowest};
 use shogi_core::{FIRST_DROP, Kind, Move, Position, SQUARE_CODES, Square, Squares, is_piece_of};
 
@@ -46,7 +45,7 @@ fn destinations_on(known: &KnownPosition<'_>, capture: bool, from: Square) -> De
     from.reveal_invariant();
     if is_piece_of(p.at(from), p.side()) {
         let among = p.as_board().targets(from) & matching_destinations(p, capture);
-        legal_destinations(known, from, among)
+        OwnPiece { known, from }.legal_destinations(among)
     } else {
         Destinations {
             non_promoting: Squares::none(),
@@ -71,50 +70,6 @@ impl BoardSweep {
         }
     }
 
-    /// The next of the destinations of the present piece.
-    #[inline(always)]
-    #[tactic(auto, using(crate::proofs::SweepLaws::sweeping))]
-    fn next_destination(&mut self, p: &Position, capture: bool) -> Move
-        requires consistent { IsBoardSweep p.now capture self.old }
-        requires some { HasDestination self.old }
-        ensures consistent { IsBoardSweep p.now capture self.new }
-        ensures next { TakesOnBoard p.now capture result self.old self.new }
-        ensures legal { is_legal p.now result ≡ true }
-    {
-        let (from, non_promoting, promoting) = (
-            self.from,
-            self.destinations.non_promoting,
-            self.destinations.promoting,
-        );
-        from.reveal_invariant();
-        let to = lowest((non_promoting | promoting).bits);
-        let end = Square::of_index(to);
-        if non_promoting.has(end) {
-            let m = Move::Board {
-                from,
-                to: end,
-                promote: false,
-            };
-            let code = m.code_above();
-            self.destinations.non_promoting = Squares {
-                bits: without_lowest(non_promoting.bits, to),
-            };
-            self.code = code;
-            return m;
-        }
-        let m = Move::Board {
-            from,
-            to: end,
-            promote: true,
-        };
-        let code = m.code_above();
-        self.destinations.promoting = Squares {
-            bits: without_lowest(promoting.bits, to),
-        };
-        self.code = code;
-        m
-    }
-
     /// Continues with the next piece that has a move of the kind, if there is one.
     #[inline(never)]
     #[tactic(auto, using(crate::proofs::SweepLaws::sweeping))]
@@ -137,7 +92,11 @@ impl BoardSweep {
         'squares: while let Some(from) = left.next() {
             let among = board.targets(from) & matching;
             if !among.is_empty() {
-                let destinations = legal_destinations(&known, from, among);
+                let piece = OwnPiece {
+                    known: &known,
+                    from,
+                };
+                let destinations = piece.legal_destinations(among);
                 if !(destinations.non_promoting | destinations.promoting).is_empty() {
                     self.from = from;
                     self.destinations = destinations;
@@ -177,7 +136,27 @@ impl BoardSweep {
         if !self.fill(p, capture) {
             return None;
         }
-        Some(self.next_destination(p, capture))
+        let (from, non_promoting, promoting) = (
+            self.from,
+            self.destinations.non_promoting,
+            self.destinations.promoting,
+        );
+        from.reveal_invariant();
+        let lowest = lowest((non_promoting | promoting).bits);
+        let to = Square::of_index(lowest);
+        let promote = !non_promoting.has(to);
+        let m = Move::Board { from, to, promote };
+        self.code = m.code_above();
+        if promote {
+            self.destinations.promoting = Squares {
+                bits: without_lowest(promoting.bits, lowest),
+            };
+        } else {
+            self.destinations.non_promoting = Squares {
+                bits: without_lowest(non_promoting.bits, lowest),
+            };
+        }
+        Some(m)
     }
 
     /// Passes the moves of the present piece to squares below this one, and all where it is 81.
@@ -228,11 +207,11 @@ impl DropSweep {
         ensures consistent { IsDropSweep known.now.position.now result }
         ensures code { result.code ≡ FIRST_DROP }
     {
-        let squares = drop_squares(known);
+        let drops = known.drops();
         DropSweep {
-            squares,
+            squares: drops.squares,
             kind: Kind::Pawn,
-            destinations: drop_destinations(known.position, squares, Kind::Pawn),
+            destinations: drops.legal(Kind::Pawn),
             code: FIRST_DROP,
         }
     }
@@ -243,40 +222,15 @@ impl DropSweep {
         ensures code { result.code ≡ code_of (moves.Drop kind to) + 1 }
     {
         to.reveal_invariant();
-        let squares = drop_squares(known);
+        let drops = known.drops();
         DropSweep {
-            squares,
+            squares: drops.squares,
             kind,
             destinations: Squares {
-                bits: bits_above(
-                    drop_destinations(known.position, squares, kind).bits,
-                    to.index(),
-                ),
+                bits: bits_above(drops.legal(kind).bits, to.index()),
             },
             code: Move::Drop { kind, to }.code_above(),
         }
-    }
-
-    /// The next of the destinations of the present kind.
-    #[inline(always)]
-    fn next_destination(&mut self, p: &Position) -> Move
-        requires consistent { IsDropSweep p.now self.old }
-        requires some { self.old.destinations.bits ≢ 0 }
-        ensures consistent { IsDropSweep p.now self.new }
-        ensures next { drops_left p.now self.old ≡ code_of result ∷ drops_left p.now self.new }
-        ensures code { self.new.code ≡ code_of result + 1 }
-        ensures legal { is_legal p.now result ≡ true }
-    {
-        let (kind, destinations) = (self.kind, self.destinations.bits);
-        let to = lowest(destinations);
-        let end = Square::of_index(to);
-        let m = Move::Drop { kind, to: end };
-        let code = m.code_above();
-        self.destinations = Squares {
-            bits: without_lowest(destinations, to),
-        };
-        self.code = code;
-        m
     }
 
     /// Continues with the next kind that has a legal drop, if there is one.
@@ -289,10 +243,13 @@ impl DropSweep {
         ensures end { result ≡ false → drops_left p.now self.old ≡ [] }
         ensures unchanged { result ≡ false → self.new.code ≡ self.old.code }
     {
-        let squares = self.squares;
+        let drops = KnownDrops {
+            position: p,
+            squares: self.squares,
+        };
         let mut kind = self.kind;
         'kinds: while let Some(next) = kind.next() {
-            let destinations = drop_destinations(p, squares, next);
+            let destinations = drops.legal(next);
             if !destinations.is_empty() {
                 self.kind = next;
                 self.destinations = destinations;
@@ -333,7 +290,15 @@ impl DropSweep {
         if !self.fill(p) {
             return None;
         }
-        Some(self.next_destination(p))
+        let (kind, destinations) = (self.kind, self.destinations.bits);
+        let lowest = lowest(destinations);
+        let to = Square::of_index(lowest);
+        let m = Move::Drop { kind, to };
+        self.code = m.code_above();
+        self.destinations = Squares {
+            bits: without_lowest(destinations, lowest),
+        };
+        Some(m)
     }
 
     /// Passes the drops of the present kind on squares below this one, and all where it is 81.

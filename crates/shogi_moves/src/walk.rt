@@ -5,7 +5,7 @@ ghost use Rattle.shogi_core.specs.declared.moves.TheConstants.{FIRST_DROP};
 ghost use Rattle.shogi_moves.specs.Legal.{is_legal};
 ghost use Rattle.shogi_moves.specs.LegalMoves.{IsNextAbove, legal_above, legal_codes};
 ghost use Rattle.shogi_moves.specs.Rising.{IsRising};
-ghost use Rattle.shogi_moves.specs.Sweeps.{IsPlace, codes_at, StandsAt};
+ghost use Rattle.shogi_moves.specs.Sweeps.{IsPlace, codes_at};
 ghost use Rattle.shogi_moves.specs.Walks.{TakesNext};
 
 use crate::check_info::{CheckInfo, KnownPosition, check_info_of};
@@ -44,16 +44,6 @@ impl Model for Walk {
     ghost invariant = { λ w. IsPlace w.position w.place };
 }
 
-/// The place at the board moves from a code on, which are first those of what stands on the square.
-#[inline(always)]
-fn board_place(known: &KnownPosition<'_>, code: u16, from: Square) -> Place
-    requires code { code ≤ FIRST_DROP }
-    ensures place { IsPlace known.now.position.now result }
-    ensures codes { StandsAt known.now.position.now code result }
-{
-    Place::Board(known.info, code, kept_at(known, from))
-}
-
 /// The place behind a move, or at the first move.
 #[inline(always)]
 fn place_behind(p: &Position, passed: Option<Move>) -> Place
@@ -62,11 +52,11 @@ fn place_behind(p: &Position, passed: Option<Move>) -> Place
 {
     let known = check_info_of(p).at(p);
     let Some(m) = passed else {
-        return board_place(&known, 0, Square::of_index(0))
+        return Place::Board(known.info, 0, kept_at(&known, Square::of_index(0)))
     };
     m.reveal_invariant();
     match m {
-        Move::Board { from, .. } => board_place(&known, m.code_above(), from),
+        Move::Board { from, .. } => Place::Board(known.info, m.code_above(), kept_at(&known, from)),
         Move::Drop { kind, to } => Place::Drops(DropSweep::above(&known, kind, to)),
     }
 }

@@ -103,10 +103,6 @@ foe_of : (side : Color) → is_piece_of side (foe side) ≡ false
 foe_of Black = refl
 foe_of White = refl
 
-foe_own : (side : Color) → is_piece_of (opponent_of side) (foe side) ≡ true
-foe_own Black = refl
-foe_own White = refl
-
 abbrev shown : Shogi → ℕ → ℕ → Cells
 shown p from to = set (set p.cells from None) to (foe p.side)
 

@@ -1,5 +1,5 @@
 -- After most moves the other side has a legal move.
-use Rattle.std.proofs.Common.{◌≡◌, ◌≢◌, ℕ, ◌+◌, ◌-◌, ◌%◌, ◌^◌, ◌<◌, ◌⊎◌, Bool, true, false, not, Option, Some, None, List, [], ◌∷◌, refl, sym, ap, subst, ◌∙◌, arith, inl, inr, filter, set, length, length-set, get_or-set_same, get_or-set_other, bit_and, bit_or, cond}
+use Rattle.std.proofs.Common.{◌≡◌, ◌≢◌, ℕ, ◌+◌, ◌-◌, ◌%◌, ◌^◌, ◌<◌, ◌⊎◌, Bool, true, false, not, Option, Some, None, List, [], ◌∷◌, refl, sym, ap, subst, ◌∙◌, arith, inl, inr, filter, set, length, length-set, get_or-set_same, get_or-set_other, bit_and, bit_or}
 use Rattle.std.specs.Prelude.{◌==◌, ◌&&◌, ◌||◌, nat_lt, is_none}
 use Rattle.std.specs.Int.{trailing_zeros, w128}
 use Rattle.std.proofs.lemmas.Bool.{cases_eq, false_from_ne_true, both_ways, and_parts, and_from, or_left, or_right, or_cases, or_parts, not-true, not_from_false, ne_eqb, eq-eqb, eqb-true, cond_both}
@@ -11,15 +11,15 @@ use Rattle.shogi_core.specs.declared.piece.Kind.{Kind}
 use Rattle.shogi_core.specs.declared.piece.Kind.TheVariants as kinds
 use Rattle.shogi_core.specs.declared.piece.Piece.{Piece}
 use Rattle.shogi_core.specs.declared.piece.Role.{Role}
-use Rattle.shogi_core.specs.declared.piece.Role.TheVariants.{King, Pawn, Lance, Knight, Silver, Gold, Bishop, Rook, PromotedPawn, PromotedLance, PromotedKnight, PromotedSilver, Horse, Dragon}
+use Rattle.shogi_core.specs.declared.piece.Role.TheVariants.{King}
 use Rattle.shogi_core.specs.Attack.{in_check, is_sniping, cell_steps}
 use Rattle.shogi_core.specs.Below.{some_below}
 use Rattle.shogi_core.specs.Bits.{has_bit}
-use Rattle.shogi_core.specs.Cell.{is_piece_of, is_king, is_king_role, is_immobile, is_immobile_role, is_slider, is_sliding_role}
+use Rattle.shogi_core.specs.Cell.{is_piece_of, is_king, is_king_role, is_immobile, is_immobile_role}
 use Rattle.shogi_core.specs.Codes.{code_of, move_of}
 use Rattle.shogi_core.specs.Lines.{are_aligned, are_lined, is_jump, is_line_to_king, is_lined_with_king, is_seen}
 use Rattle.shogi_core.specs.Movement.{Cells, piece_at, reaches, cell_reaches, has_step, has_slide}
-use Rattle.shogi_core.specs.Pieces.{is_same_color, opponent_of, kind_of, kind_number, promoted}
+use Rattle.shogi_core.specs.Pieces.{is_same_color, opponent_of, kind_of, kind_number}
 use Rattle.shogi_core.specs.Position.{Shogi, HandCounts, count_in_hand, place_of}
 use Rattle.shogi_core.specs.Sets.{HasNone, TakesLowest}
 use Rattle.shogi_core.specs.Validity.{IsValid}
@@ -31,7 +31,7 @@ use Rattle.shogi_core.proofs.Faults.{faultless_from, number_below}
 use Rattle.shogi_core.proofs.LineBits.{lowest_set, has_bit-not}
 use Rattle.shogi_core.proofs.Replies.{no_check}
 use Rattle.shogi_core.proofs.SeenLaws.{lined_back, lined_aligned, cell_seen, slide_seen}
-use Rattle.shogi_core.proofs.Snipers.{left_unpinned, stands_still}
+use Rattle.shogi_core.proofs.Snipers.{left_unpinned}
 use Rattle.shogi_moves.specs.After.{after, cells_after, piece_moved, dropped, with_captured, with_one_more}
 use Rattle.shogi_moves.specs.Legal.{is_legal, is_safe, is_pseudo_legal_board_move, is_pseudo_legal_drop, is_pawn_kind, is_mated_by_drop}
 use Rattle.shogi_moves.specs.LegalMoves.{legal_codes}
@@ -161,27 +161,6 @@ covered cells side n open_lines snipers lines o s l none a h sniping = false_fro
 pub covered_by_none : (cells : Cells) (side : Color) (n snipers lines : ℕ) → ((a : ℕ) → a < 81 → has_bit snipers a ≡ is_sniping cells side a) → ((a : ℕ) → a < 81 → has_bit lines a ≡ are_aligned n a) → bit_and snipers lines ≡ 0 → StaysCovered cells side n
 covered_by_none cells side n snipers lines s l none a h sniping = false_from_ne_true (are_lined cells n a) (λ lined. both_ways (has_bit (bit_and snipers lines) a) (ap (λ m. has_bit m a) none ∙ has_bit-none a)
     (has_bit-and snipers lines a ∙ and_from _ _ (s a h ∙ sniping) (l a h ∙ lined_aligned cells n a lined)))
-
-still_moved : (promote : Bool) (cell : Option Piece) → is_slider cell ≡ false → is_slider (piece_moved promote cell) ≡ false
-still_moved promote None e = refl
-still_moved promote (Some piece) e = go promote piece.role e
-  where
-    go : (promote : Bool) (role : Role) → is_sliding_role role ≡ false → is_sliding_role (cond promote (promoted role) role) ≡ false
-    go false role e = e
-    go true King e = refl
-    go true Pawn e = refl
-    go true Lance e = refl
-    go true Knight e = refl
-    go true Silver e = refl
-    go true Gold e = refl
-    go true Bishop e = absurd (cc)
-    go true Rook e = absurd (cc)
-    go true PromotedPawn e = refl
-    go true PromotedLance e = refl
-    go true PromotedKnight e = refl
-    go true PromotedSilver e = refl
-    go true Horse e = absurd (cc)
-    go true Dragon e = absurd (cc)
 
 -- off the sight of the kings: on no open line with one
 unlined : (cells : Cells) (side : Color) (king_view n : ℕ) → Sees cells side 0 king_view → n < 81 → has_bit king_view n ≡ false → is_lined_with_king cells side n ≡ false
@@ -347,9 +326,6 @@ module _ (old new : Cells) (hands : HandCounts) (color : Color) where
   ]
 
 -- ---- what moves attacks no king from where it ends, once it is gone
-
-harmless_still : (cells : Cells) (side : Color) (from : ℕ) (promote : Bool) (n : ℕ) → is_slider (piece_at cells from) ≡ false → IsHarmless cells side (piece_moved promote (piece_at cells from)) n → IsHarmlessFrom cells side from (piece_moved promote (piece_at cells from)) n
-harmless_still cells side from promote n still off k l e = stands_still cells (set cells from None) (piece_moved promote (piece_at cells from)) n k (still_moved promote (piece_at cells from) still) (off k l e)
 
 harmless_unaligned : (cells : Cells) (side : Color) (lines from : ℕ) (cell : Option Piece) (n : ℕ) → Aligns cells side 0 lines → n < 81 → has_bit lines n ≡ false → IsHarmless cells side cell n → IsHarmlessFrom cells side from cell n
 harmless_unaligned cells side lines from None n a h out off k l e = refl
@@ -615,10 +591,11 @@ steps_beside cells side to a t unbound step same =
 -- with two ends, each piece leaves a step: its own or that of another one
 pub sifted_done : (cells : Cells) (side : Color) (lines left kept ends : ℕ) → HasOthers ends → IsSifted cells side lines left kept ends → LeaveFreeMovers cells side kept
 sifted_done cells side lines left kept ends two f a to h set stays =
-    let end = two to in
-    let by = f.end end.0 end.1 end.2 in
+    let end = some_below_which 81 (λ t. has_bit ends t && not (t == to)) (two to) in
+    let apart : (has_bit ends end.0 ≡ true) × (not (end.0 == to) ≡ true) = and_parts (has_bit ends end.0) (not (end.0 == to)) end.2 in
+    let by = f.end end.0 end.1 apart.0 in
     elim (cases_eq by.0 to) [
-      | inr off ↦ spare_at cells side to by.0 end.0 by.1 end.1 off end.3 by.2 by.3
+      | inr off ↦ spare_at cells side to by.0 end.0 by.1 end.1 off (λ same. both_ways _ (ap not (eq-eqb end.0 to same)) apart.1) by.2 by.3
       | inl at ↦ (
           let mover = f.free_movers a h set in
           let step = some_below_which 81 (is_quiet_step cells a) mover.steps in
@@ -691,6 +668,12 @@ one_of_two free_movers one rest n fits h set bits some less = elim (cases_eq n o
   | inr other ↦ (one, h, set, λ e. other (sym e))
 ]
 
+-- so of two squares one is beside each square
+pub others_of_two : (squares one rest : ℕ) → squares < 2 ^ 81 → one < 81 → has_bit squares one ≡ true → ((i : ℕ) → has_bit rest i ≡ (has_bit squares i && not (i == one))) → rest ≢ 0 → rest < squares → HasOthers squares
+others_of_two squares one rest fits h set bits some less n =
+    let other = one_of_two squares one rest n fits h set bits some less in
+    some_below_at 81 (λ a. has_bit squares a && not (a == n)) other.0 other.1 (and_from _ _ other.2 (not_from_false _ (ne_eqb other.0 n other.3)))
+
 pub other_than : (free_movers one n : ℕ) → one < 81 → has_bit free_movers one ≡ true → not (n == one) ≡ true → (a : ℕ) × (a < 81) × (has_bit free_movers a ≡ true) × (a ≢ n)
 other_than free_movers one n h set other = (one, h, set, λ e. both_ways _ (ap not (eq-eqb n one (sym e))) other)
 
@@ -705,23 +688,12 @@ pub unmoved : (cell : Option Piece) → piece_moved false cell ≡ cell
 unmoved None = refl
 unmoved (Some piece) = refl
 
--- some of the squares, and others
-pub among_either : (destinations free more n : ℕ) → has_bit (bit_or (bit_and destinations free) more) n ≡ true → ((has_bit destinations n ≡ true) × (has_bit free n ≡ true)) ⊎ (has_bit more n ≡ true)
-among_either destinations free more n e = elim (or_cases (has_bit (bit_and destinations free) n) (has_bit more n) (sym (has_bit-or (bit_and destinations free) more n) ∙ e)) [
-  | inl both ↦ inl (and_parts _ _ (sym (has_bit-and destinations free n) ∙ both))
-  | inr other ↦ inr other
-]
-
 -- what moves to an open square without a check, or is dropped there, is answered
 pub open_far : (p : Shogi) (escapes from n : ℕ) (promote : Bool) (king_view closed free_movers : ℕ) → IsValid p → IsReplyInfo p king_view free_movers → from < 81 → n < 81 → has_bit king_view from ≡ false → IsHarmless p.cells (opponent_of p.side) (piece_moved promote (piece_at p.cells from)) n → IsOpen closed free_movers n → GuaranteesReply p escapes (Board from n promote)
 open_far p escapes from n promote king_view closed free_movers v r hf hn unseen_from far o = (
   λ legal. replied_board p from n promote king_view free_movers o.way.0 v r hf hn (legal_own p from n promote legal) (inl unseen_from) far o.way.1 o.way.2 o.way.3,
   λ none legal. shut_board p from n promote v hf hn (legal_own p from n promote legal) king_view free_movers r (inl unseen_from) far,
 )
-
--- a piece that does not promote stays what it is
-pub harmless_unmoved : (p : Shogi) (from n : ℕ) → IsHarmless p.cells (opponent_of p.side) (piece_at p.cells from) n → IsHarmless p.cells (opponent_of p.side) (piece_moved false (piece_at p.cells from)) n
-harmless_unmoved p from n far = subst (λ (cell : Option Piece). IsHarmless p.cells (opponent_of p.side) cell n) (sym (unmoved (piece_at p.cells from))) far
 
 pub open_board : (p : Shogi) (escapes from n : ℕ) (promote : Bool) (king_view checking discovering free_movers : ℕ) → IsValid p → IsReplyInfo p king_view free_movers → from < 81 → n < 81 → DiscoversWithin p.cells (opponent_of p.side) king_view from discovering
     → (has_bit checking n ≡ false → IsHarmless p.cells (opponent_of p.side) (piece_moved promote (piece_at p.cells from)) n) → IsOpen (bit_or checking discovering) free_movers n → GuaranteesReply p escapes (Board from n promote)

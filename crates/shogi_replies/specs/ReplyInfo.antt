@@ -1,5 +1,5 @@
 -- What is kept of a position to decide that after most of its moves the other side is in no check and has a legal move.
-use Rattle.std.specs.Prelude.{ℕ, ◌≡◌, ◌≢◌, ◌<◌, ◌==◌, ◌⊎◌, ◌&&◌, ◌||◌, ⊤, Bool, true, false, not, nat_lt, Option, Some, None, is_none, List, [], filter, slice_set}
+use Rattle.std.specs.Prelude.{ℕ, ◌≡◌, ◌≢◌, ◌<◌, ◌==◌, ◌⊎◌, ◌&&◌, ◌||◌, ⊤, Bool, true, false, not, nat_lt, Option, Some, None, is_none, List, [], filter, slice_set, bit_and}
 use Rattle.shogi_core.specs.declared.moves.Move.{Move}
 use Rattle.shogi_core.specs.declared.moves.Move.TheVariants.{Board, Drop}
 use Rattle.shogi_core.specs.declared.piece.Color.{Color}
@@ -23,6 +23,7 @@ use Rattle.shogi_moves.specs.declared.origin.Origin.TheVariants as origins
 use Rattle.shogi_core.specs.Zones.{may_promote, is_around}
 use Rattle.shogi_moves.specs.LegalMoves.{legal_codes}
 use Rattle.shogi_replies.specs.declared.move_filter.MoveFilter.{MoveFilter}
+use Rattle.shogi_replies.specs.declared.replies.ReplyInfo.{ReplyInfo}
 
 -- the move takes nothing and does not promote
 abbrev pub is_quiet : Shogi → Option Move → Bool
@@ -85,7 +86,7 @@ is_way p side to a =
 
 -- beside each square there is another one in the set
 abbrev pub HasOthers : ℕ → Type 0
-HasOthers set = (n : ℕ) → (a : ℕ) × (a < 81) × (has_bit set a ≡ true) × (a ≢ n)
+HasOthers set = (n : ℕ) → some_below 81 (λ a. has_bit set a && not (a == n)) ≡ true
 
 -- to what stands on a there is a step to each of the squares
 abbrev pub AreQuietSteps : Cells → ℕ → ℕ → Type 0
@@ -158,6 +159,15 @@ pub record IsReplyInfo (p : Shogi) (king_view free_movers : ℕ) : Type 0 where
   pub spares : (a to : ℕ) → a < 81 → has_bit free_movers a ≡ true → a ≢ to
       → some_below 81 (is_way p (opponent_of p.side) to) ≡ true
 
+-- what is kept is true of the position
+abbrev pub IsReplyInfoOf : ReplyInfo → Shogi → Type 0
+IsReplyInfoOf info p = IsReplyInfo p info.king_view.bits info.free_movers.bits
+
+-- no king sees the square, nor any of the squares
+pub record IsUnseen (info : ReplyInfo) (from squares : ℕ) : Type 0 where
+  pub start : has_bit info.king_view.bits from ≡ false
+  pub ends : bit_and squares info.king_view.bits ≡ 0
+
 -- the square is not closed, and another one gives the side a move
 pub record IsOpen (closed free_movers n : ℕ) : Type 0 where
   pub unclosed : has_bit closed n ≡ false
@@ -172,9 +182,13 @@ AreOpen closed free_movers squares =
 abbrev pub IsAnswered : Shogi → Move → Type 0
 IsAnswered p m = is_legal p m ≡ true → legal_codes (after p m) ≢ []
 
--- and one that takes nothing and does not promote
+-- after the move the other side has a legal one that takes nothing and does not promote
+abbrev pub HasQuietReply : Shogi → Move → Type 0
+HasQuietReply p m = quiet_codes (after p m) ≢ []
+
+-- if the move is legal, it has such a reply
 abbrev pub IsQuietlyAnswered : Shogi → Move → Type 0
-IsQuietlyAnswered p m = is_legal p m ≡ true → quiet_codes (after p m) ≢ []
+IsQuietlyAnswered p m = is_legal p m ≡ true → HasQuietReply p m
 
 -- a move from there to each square in the set is so answered
 abbrev pub AreAnswered : Shogi → Origin → ℕ → Type 0

@@ -14,7 +14,7 @@ use shogi_core::bits::lowest;
 use shogi_core::{
     Board, Color, Direction, Move, Piece, Position, Square, Squares, line_mask, ray, step_squares,
 };
-use shogi_moves::{Origin, has_open, king_steps, piece_moved};
+use shogi_moves::{KnownEscapes, Origin, king_steps, piece_moved};
 
 /// Those of the squares that the side does not attack.
 fn unattacked(board: &Board, by: Color, squares: Squares) -> Squares
@@ -204,7 +204,12 @@ impl KnownReplies<'_> {
             return false;
         }
         let reach = within_reach(p, origin.put(p), to, left);
-        has_open(p, self.escapes, reach | lines | p.as_board().occupied(), to)
+        let closed = reach | lines | p.as_board().occupied();
+        KnownEscapes {
+            position: p,
+            squares: self.escapes,
+        }
+        .has_open(closed, to)
     }
 
     /// Whether one of the escapes is surely left to the king after the legal move, should that give it
@@ -229,7 +234,11 @@ impl KnownReplies<'_> {
                 if piece.role.is_sliding() || !has_no_sniper(p, *from) {
                     return false;
                 }
-                has_open(p, escapes, step_squares(piece, to.index()), *to)
+                KnownEscapes {
+                    position: p,
+                    squares: escapes,
+                }
+                .has_open(step_squares(piece, to.index()), *to)
             }
             Move::Drop { to, .. } => {
                 to.reveal_invariant();

@@ -5,7 +5,7 @@ ghost use Rattle.shogi_replies.specs.ReplyInfo.{AreNonChecking, HasAroundKings};
 
 use shogi_core::bits::{cleared, lowest};
 use shogi_core::zones::{squares_around, squares_near_zone};
-use shogi_core::{Board, Color, Position, Squares};
+use shogi_core::{Board, Color, Position, Square, Squares};
 
 /// All squares around the kings of the side.
 #[inline(always)]
@@ -20,7 +20,7 @@ fn around_kings(board: &Board, side: Color) -> Squares
     if cleared(kings.bits, king) != 0 {
         return Squares::all();
     }
-    squares_around(king)
+    squares_around(Square::of_index(king))
 }
 
 /// Those of the pieces of the side to move that do not slide and are not in sight, whose moves end

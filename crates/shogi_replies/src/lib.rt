@@ -16,5 +16,5 @@ mod threats;
 
 pub use escapes::{escape_squares, king_takes, some_escapes};
 pub use move_filter::MoveFilter;
-pub use replies::{KnownReplies, ReplyInfo, king_line_mask, quiet_steps};
+pub use replies::{KnownReplies, ReplyInfo, has_two, king_line_mask, quiet_steps};
 pub use threats::{attacks_of, squares_between, unpinnable_pieces};

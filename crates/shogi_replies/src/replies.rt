@@ -9,7 +9,7 @@ ghost use Rattle.shogi_moves.specs.Destinations.{IsWithin};
 ghost use Rattle.shogi_moves.specs.Escapes.{AreEscapes};
 ghost use Rattle.shogi_moves.specs.Legal.{is_legal};
 ghost use Rattle.shogi_moves.specs.Origins.{put_from};
-ghost use Rattle.shogi_replies.specs.ReplyInfo.{AreQuietSteps, ChecksAmong, HasOthers, LeaveFreeMovers, holds_free, quiet_codes, Sees, Aligns, IsReplyInfo, IsHarmless, StaysCovered, DiscoversNoCheck, AreGuaranteed, AreDistant, GuaranteesReplies, PromotesWithin, DiscoversChecksWithin, OpensChecksWithin, AreOpen, AreAmong, ChecksWithin, GuaranteeReplies, AreAlwaysGuaranteed};
+ghost use Rattle.shogi_replies.specs.ReplyInfo.{AreQuietSteps, ChecksAmong, HasOthers, LeaveFreeMovers, holds_free, Sees, Aligns, IsReplyInfoOf, IsUnseen, HasQuietReply, IsHarmless, StaysCovered, DiscoversNoCheck, AreGuaranteed, AreDistant, GuaranteesReplies, PromotesWithin, DiscoversChecksWithin, OpensChecksWithin, AreOpen, AreAmong, ChecksWithin, GuaranteeReplies, AreAlwaysGuaranteed};
 ghost use Rattle.shogi_replies.specs.Threats.{KeepsThreats, MayRetake};
 
 use crate::far::non_checking_pieces;
@@ -37,7 +37,7 @@ pub struct KnownReplies<'a> {
     pub position: &'a Position,
     pub info: ReplyInfo,
     pub escapes: Squares,
-    ghost right: { IsReplyInfo position.now info.king_view.bits info.free_movers.bits } by { Prim.hlevel props },
+    ghost right: { IsReplyInfoOf info position.now } by { Prim.hlevel props },
     ghost escaping: { AreEscapes position.now escapes.bits } by { Prim.hlevel props },
 }
 
@@ -119,7 +119,7 @@ pub fn quiet_steps(p: &Position, from: Square) -> Squares
 }
 
 /// Whether there are two squares.
-fn has_two(squares: Squares) -> bool
+pub fn has_two(squares: Squares) -> bool
     ensures { result ≡ true → HasOthers squares.bits }
 {
     if squares.is_empty() {
@@ -223,7 +223,7 @@ fn are_among(
 impl ReplyInfo {
     /// What is kept of the position.
     pub fn of(p: &Position) -> ReplyInfo
-        ensures { IsReplyInfo p.now result.king_view.bits result.free_movers.bits }
+        ensures { IsReplyInfoOf result p.now }
     {
         let opponent = p.side().opponent();
         let king_view = king_view_squares(p, opponent);
@@ -240,7 +240,7 @@ impl ReplyInfo {
 
     /// Nothing is known: each square is held to be seen.
     pub fn unknown(p: &Position) -> ReplyInfo
-        ensures { IsReplyInfo p.now result.king_view.bits result.free_movers.bits }
+        ensures { IsReplyInfoOf result p.now }
     {
         let _ = p;
         ReplyInfo {
@@ -253,7 +253,7 @@ impl ReplyInfo {
     /// is not to move may go.
     #[inline(always)]
     pub fn at(self, position: &Position, escapes: Squares) -> KnownReplies<'_>
-        requires replies { IsReplyInfo position.now self.king_view.bits self.free_movers.bits }
+        requires replies { IsReplyInfoOf self position.now }
         requires escapes { AreEscapes position.now escapes.bits }
         ensures position { result.position.now ≡ position.now }
         ensures info { result.info ≡ self }
@@ -264,6 +264,14 @@ impl ReplyInfo {
             info: self,
             escapes,
         }
+    }
+
+    /// Whether no king sees the square, nor any of the others.
+    #[inline(always)]
+    pub fn is_unseen(&self, from: Square, squares: Squares) -> bool
+        ensures { result ≡ true → IsUnseen self.now from squares.bits }
+    {
+        (squares & self.king_view).is_empty() && !self.king_view.has(from)
     }
 
     /// The squares that are not closed and leave the other side one that gives it a move.
@@ -341,7 +349,7 @@ impl KnownReplies<'_> {
     #[inline(always)]
     pub fn guarantees_reply(&self, m: &Move) -> bool
         requires legal { is_legal self.now.position.now m.now ≡ true }
-        ensures replied { result ≡ true → quiet_codes (after self.now.position.now m.now) ≢ [] }
+        ensures replied { result ≡ true → HasQuietReply self.now.position.now m.now }
         ensures threats { result ≡ true → KeepsThreats self.now.position.now m.now }
         ensures retakes { result ≡ true → MayRetake self.now.position.now m.now }
     {
@@ -454,7 +462,7 @@ impl KnownReplies<'_> {
         }
         let promotions = move_filter.promotions();
         let ends = p.as_board().targets(from) & matching_destinations(p, capture);
-        if (ends & self.info.king_view).is_empty() && !self.info.king_view.has(from) {
+        if self.info.is_unseen(from, ends) {
             let guaranteed = self.unseen_destinations(from, ends);
             return are_among(
                 p,
@@ -484,8 +492,7 @@ impl KnownReplies<'_> {
     /// has a legal move after it and is in no check, where no king sees that square or one of these.
     #[inline(always)]
     fn unseen_destinations(&self, from: Square, destinations: Squares) -> Squares
-        requires unseen { has_bit self.now.info.king_view.bits from ≡ false }
-        requires off { bit_and destinations.bits self.now.info.king_view.bits ≡ 0 }
+        requires { IsUnseen self.now.info from destinations.bits }
         ensures among { IsWithin result.bits destinations.bits }
         ensures guaranteed { AreAlwaysGuaranteed self.now.position.now from result.bits }
     {

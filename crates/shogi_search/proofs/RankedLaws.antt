@@ -211,10 +211,6 @@ ranked_unique f (x ∷ xs) (y ∷ ys) r s h =
     let same : x ≡ y = same_head f x y xs ys r s h in
     ap (λ (k : ℕ). k ∷ xs) same ∙ ap (λ (l : List ℕ). y ∷ l) (ranked_unique f xs ys r.1 s.1 (same_rest f x y xs ys r s h same))
 
--- the same codes are ranked the same, in whatever order they come
-pub ranked_any : (f : ℕ → ℤ) (xs ys : List ℕ) → AreDistinct xs → AreDistinct ys → ((n : ℕ) → is_in n xs ≡ is_in n ys) → ranked f xs ≡ ranked f ys
-ranked_any f xs ys d e h = ranked_unique f (ranked f xs) (ranked f ys) (ranked_list f xs d) (ranked_list f ys e) (λ n. in_ranked f n xs ∙ h n ∙ sym (in_ranked f n ys))
-
 take_over : (n k : ℕ) (ks : List ℕ) → take n (k ∷ take n ks) ≡ take n (k ∷ ks)
 take_over zero k ks = refl
 take_over (suc n) k ks = ap (λ (l : List ℕ). k ∷ l) (take-take n (suc n) ks (omega arith))

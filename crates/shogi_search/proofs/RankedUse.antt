@@ -55,9 +55,6 @@ pub record IsGoneThrough (p : Shogi) (f : ℕ → ℤ) (passed : Option Move) (r
   pub whole : seen ++ legal_above p passed ≡ legal_codes p
   pub top : IsTop f seen r
 
-pub gone_none : (p : Shogi) (f : ℕ → ℤ) (r : Ranking) → IsTop f [] r → IsGoneThrough p f None r
-gone_none p f r h = record { seen = []; whole = refl; top = h }
-
 not_seen : (p : Shogi) (seen : List ℕ) (m : ℕ) (rest above : List ℕ) → seen ++ above ≡ legal_codes p → above ≡ m ∷ rest → is_in m seen ≡ false
 not_seen p seen m rest above w e = rising_apart seen m rest (subst IsRising (sym w ∙ ap (λ (l : List ℕ). seen ++ l) e) (legal_rising p 0))
 

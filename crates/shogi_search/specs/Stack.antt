@@ -111,6 +111,10 @@ pub record IsWholeWith (s : Stack) (fact : Frame → Type 0) : Type 0 where
   pub whole : IsWhole s
   pub top : OnTop s fact
 
+-- a node waits for the answer of this move
+abbrev pub AwaitsMove : Move → Frame → Type 0
+AwaitsMove m f = f.state ≡ AwaitingChild m
+
 -- between two steps the node on top waits for no child
 abbrev pub IsReady : Stack → Type 0
 IsReady s = IsWholeWith s (λ top. IsFree top.state)

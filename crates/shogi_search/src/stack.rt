@@ -5,7 +5,7 @@ ghost use Rattle.minimax.specs.Entries.{IsConclusive, IsEnough, move_in};
 ghost use Rattle.search_nodes.specs.Visits.{IsAsked};
 ghost use Rattle.search_nodes.specs.Frames.{IsTrueOf, IsToBeLeft};
 ghost use Rattle.search_nodes.specs.Changes.{KeepsAsked};
-ghost use Rattle.shogi_search.specs.Stack.{AwaitsChild, CallsOnStack, CountsSteps, EntersChild, IsConclusiveEntry, IsEntryOf, IsNarrow, IsParentOf, IsReady, IsRootEntry, IsRunOf, IsStack, IsStackWith, IsStep, IsTrueAnywhere, IsWholeWith, KeepsGoal, LeavesStepsFor, LeavesTop, NotesRoot, OnTop, OnlyAsks, UsesSteps, steps_left};
+ghost use Rattle.shogi_search.specs.Stack.{AwaitsChild, AwaitsMove, CallsOnStack, CountsSteps, EntersChild, IsConclusiveEntry, IsEntryOf, IsNarrow, IsParentOf, IsReady, IsRootEntry, IsRunOf, IsStack, IsStackWith, IsStep, IsTrueAnywhere, IsWholeWith, KeepsGoal, LeavesStepsFor, LeavesTop, NotesRoot, OnTop, OnlyAsks, UsesSteps, steps_left};
 ghost use Rattle.shogi_search.specs.Calls.{probe_of, TellsOnce};
 ghost use Rattle.minimax.specs.declared.bounds.TheConstants.{SEARCH_DEPTH_MAX};
 
@@ -274,7 +274,7 @@ impl Stack {
     /// child, which is on top then.
     #[inline(never)]
     fn enter_child<M: Memo>(&mut self, current: &Move, counter_moves: &CounterMoves, memo: &mut M)
-        requires { IsWholeWith self.old (λ top. top.state ≡ NodeState.AwaitingChild current.now) }
+        requires { IsWholeWith self.old (AwaitsMove current.now) }
         ensures ready { IsReady self.new }
         ensures left { UsesSteps self.old self.new current.now 1 }
         ensures unchanged { KeepsGoal self.old self.new }

@@ -27,9 +27,6 @@ unit : (o : Option Cells) → o ≡ joined [] o
 unit None = refl
 unit (Some c) = refl
 
-pub ranks-none : (word : List ℕ) → HasRanks word word [] 0
-ranks-none word = record { parts = omega arith; ranks = unit (ranks_of (slice_split is_slash word)); len = refl }
-
 -- a text up to its first slash, and what follows it
 one_part : (rest : List ℕ) → length rest ≤ position_or_len is_slash rest → slice_split is_slash rest ≡ rest ∷ []
 one_part rest h = slice_split_none is_slash rest (λ k d below. fails_before_first is_slash rest k d (omega arith))

@@ -27,21 +27,6 @@ at_byte : (hands : HandCounts) (count : Option ℕ) (byte : ℕ) (bytes : List �
 at_byte hands None byte bytes = refl
 at_byte hands (Some n) byte bytes = refl
 
--- the bytes from i on begin with the one at i
-pub capped_from-next : (word : List ℕ) (i byte : ℕ) (hands : HandCounts) (count : Option ℕ) → i < length word → byte ≡ get_or word i 0
-    → capped_from hands count (drop i word) ≡ cond (is_ascii_digit byte)
-    (option_and_then (λ n. capped_from hands (Some n) (drop (i + 1) word)) (capped_digit count byte))
-    (option_and_then (λ more. capped_from more None (drop (i + 1) word)) (capped_piece hands (unwrap_or count 1) (piece_named false byte)))
-capped_from-next word i byte hands count h e =
-    ap (capped_from hands count) (drop-cons word i 0 h)
-    ∙ (at_byte hands count (get_or word i 0) (drop (suc i) word)
-    ∙ (ap (λ (b : ℕ). cond (is_ascii_digit b)
-    (option_and_then (λ n. capped_from hands (Some n) (drop (suc i) word)) (capped_digit count b))
-    (option_and_then (λ more. capped_from more None (drop (suc i) word)) (capped_piece hands (unwrap_or count 1) (piece_named false b)))) (sym e)
-    ∙ ap (λ (k : ℕ). cond (is_ascii_digit byte)
-    (option_and_then (λ n. capped_from hands (Some n) (drop k word)) (capped_digit count byte))
-    (option_and_then (λ more. capped_from more None (drop k word)) (capped_piece hands (unwrap_or count 1) (piece_named false byte)))) (sym (add-one i))))
-
 -- a number capped, and then a sum
 pub min-sum : (a n : ℕ) → min COUNTED_MAX (min COUNTED_MAX a + min COUNTED_MAX n) ≡ min COUNTED_MAX (a + n)
 min-sum a n = omega arith

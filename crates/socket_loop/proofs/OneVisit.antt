@@ -178,10 +178,10 @@ read_none x before after mid due «open» asked shut visit = record {
 }
 
 -- it gave bytes, which were fed
-pub read_bytes : (x y : Connection) (before mid after : Scene) (n : ℕ) (buf chunk : List ℕ) → is_to_read before.host x ≡ true → x.is_shut ≡ false → mid.bound ≡ before.bound → before.failed ≤ mid.failed
-    → Reads before.report mid.report x.link.number (Ok (Bytes n)) buf → Asks before.asked mid.asked (Read x.link.number CHUNK_MAX ∷ [])
-    → Visits IsInput x.link.id before.host after.host → FeedsOne chunk x y mid after → VisitsOne reads_of IsInput true x y before after
-read_bytes x y before mid after n buf chunk due «open» bound faults r asked steps fed = record {
+pub read_bytes : (x y : Connection) (before mid after : Scene) (lent : List ℕ) → 1 ≤ length lent → is_to_read before.host x ≡ true → x.is_shut ≡ false → mid.bound ≡ before.bound → before.failed ≤ mid.failed
+    → Reads before.report mid.report x.link.number (Ok Bytes) lent → Asks before.asked mid.asked (Read x.link.number CHUNK_MAX ∷ [])
+    → Visits IsInput x.link.id before.host after.host → FeedsOne lent x y mid after → VisitsOne reads_of IsInput true x y before after
+read_bytes x y before mid after lent some due «open» bound faults r asked steps fed = record {
   visit = record {
     steps = steps;
     link = fed.visit.link;
@@ -194,7 +194,7 @@ read_bytes x y before mid after n buf chunk due «open» bound faults r asked st
   };
   asked = asks_due before.asked mid.asked after.asked (is_to_read before.host x) (Read x.link.number CHUNK_MAX) (shuts_of x y) due asked (fed.asked «open»);
   quiet = λ q. absurd (cc);
-  stirs = λ e. inl (read_transfers before.report mid.report after.report x.link.number n buf r fed.unread fed.given);
+  stirs = λ e. inl (read_transfers before.report mid.report after.report x.link.number lent some r fed.unread fed.given);
 }
 
 -- ---- an end

@@ -61,8 +61,8 @@ gave_others a b h bytes x g apart = g.others x (λ e. apart (sym e))
 
 -- ---- reads
 
-pub gave : (a b : Report) (number n : ℕ) (buf : List ℕ) → Reads a b number (Ok (Bytes n)) buf → GaveBytes a b number (take n buf)
-gave a b number n buf r = record { consumed = r.consumed; given = r.given; written = r.written; shut = r.shut; failed = stays_rise _ _ r.failed; others = r.others }
+pub gave : (a b : Report) (number : ℕ) (lent : List ℕ) → Reads a b number (Ok Bytes) lent → GaveBytes a b number lent
+gave a b number lent r = record { consumed = r.consumed; given = r.given; written = r.written; shut = r.shut; failed = stays_rise _ _ r.failed; others = r.others }
 
 -- a read that failed gave nothing
 pub read_fault : (a b : Report) (number : ℕ) (e : WireFault) (buf : List ℕ) → Reads a b number (Err e) buf → GaveBytes a b number []

@@ -23,7 +23,6 @@ use std::alloc::{AllocError, Allocator};
 use std::hash::BuildHasher;
 use std::marker::Model;
 use transport::Wire;
-use usi_session::CHUNK_MAX;
 
 /// The most connections that are accepted in a turn.
 pub const ACCEPTS: usize = 16;
@@ -202,10 +201,9 @@ impl<A: Allocator + Copy> Loop<A> {
     {
         let mut moved = false;
         let mut shut = 0;
-        let mut chunk = [0u8; CHUNK_MAX];
         for connection in self.held.iter_mut() {
             let was_shut = connection.is_shut;
-            let has_moved = read_from(connection, host, wire, &mut chunk);
+            let has_moved = read_from(connection, host, wire);
             shut += newly_shut(was_shut, connection.is_shut);
             moved = moved | has_moved;
         }

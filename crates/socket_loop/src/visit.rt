@@ -40,16 +40,15 @@ fn feed_from<W: Wire, S: BuildHasher, A: Allocator + Copy>(
     held: &mut Connection,
     host: &mut Host<S, A>,
     wire: &mut W,
-    chunk: &[u8],
 )
     requires wants { WantsInput host.old held.old.link.id }
-    requires few { length chunk.now ≤ CHUNK_MAX }
-    requires some { 1 ≤ length chunk.now }
-    ensures fed { OverOne W.Wire (FeedsOne chunk.now)
+    requires few { length (W.lent wire.old) ≤ CHUNK_MAX }
+    requires some { 1 ≤ length (W.lent wire.old) }
+    ensures fed { OverOne W.Wire (FeedsOne (W.lent wire.old))
         held.old host.old wire.old held.new host.new wire.new }
     ensures ended { held.new.has_ended ≡ held.old.has_ended }
 {
-    if host.feed(held.link.id, chunk).is_ok() {
+    if host.feed(held.link.id, wire.bytes()).is_ok() {
         return;
     }
     shut_down(held.link, host, wire);
@@ -65,15 +64,13 @@ fn is_to_read<S: BuildHasher, A: Allocator + Copy>(held: &Connection, host: &Hos
     !held.has_ended && !held.is_shut && host.wants_input(held.link.id)
 }
 
-/// One read into the chunk for a connection whose session wants input, and what it gave is fed. What the
-/// chunk has before and afterwards is of no use. A read that fails, or a feed refused for memory, ends
-/// the connection and its session. True where something was read, or the reads ended, or the connection
-/// was shut.
+/// One read for a connection whose session wants input, and what it gave is fed. A read that fails, or a
+/// feed refused for memory, ends the connection and its session. True where something was read, or the
+/// reads ended, or the connection was shut.
 pub fn read_from<W: Wire, S: BuildHasher, A: Allocator + Copy>(
     held: &mut Connection,
     host: &mut Host<S, A>,
     wire: &mut W,
-    chunk: &mut [u8; CHUNK_MAX],
 ) -> bool
     ensures reads { OverOne W.Wire (CarriesOne reads_of IsInput result)
         held.old host.old wire.old held.new host.new wire.new }
@@ -84,10 +81,9 @@ pub fn read_from<W: Wire, S: BuildHasher, A: Allocator + Copy>(
     if !is_to_read(held, host) {
         return false;
     }
-    match wire.read(link.number, chunk) {
-        Ok(Got::Bytes(n)) => {
-            let (bytes, _) = chunk.split_at(n);
-            feed_from(held, host, wire, bytes);
+    match wire.read(link.number, CHUNK_MAX) {
+        Ok(Got::Bytes) => {
+            feed_from(held, host, wire);
             true
         }
         Ok(Got::Nothing) => false,

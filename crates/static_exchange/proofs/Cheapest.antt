@@ -31,7 +31,7 @@ use Rattle.shogi_moves.proofs.DestinationLaws.{alive, legal_board, unchecked_eit
 use Rattle.shogi_moves.proofs.LegalLaws.{board_code, drop_code, is_legal_code_of, legal_code_below, legal_in, legal_rising, legal_to_listed}
 use Rattle.shogi_eval.specs.Exchange.{cheaper, cheapest, price, price_with, least_valuable_attacker, takes_on}
 use Rattle.minimax.proofs.Settling.{taker_in}
-use Rattle.static_exchange.specs.Takers.{is_taker, promotes, rank_on, taking, IsFirstBefore}
+use Rattle.static_exchange.specs.Takers.{is_taker, promotes, rank_on, taking}
 
 -- ---- what a left fold finds
 
@@ -298,13 +298,6 @@ reaching p s n l = let t : IsLegalTaking p n s (promotes p s n) = legal_taking p
 pub none_out : (p : Shogi) (s pieces n : ℕ) → has_bit pieces n ≡ (is_own p n && reaches p.cells n s) → has_bit pieces n ≡ false → is_taker p s n ≡ false
 none_out p s pieces n bits out = false_from_ne_true (is_taker p s n) (λ l. both_ways (has_bit pieces n) out (bits ∙ reaching p s n l))
 
--- one more is gone through, which may not
-pub one_out : (p : Shogi) (s left next k : ℕ) → ((i : ℕ) → has_bit next i ≡ (has_bit left i && not (i == k))) → ((n : ℕ) → n < 81 → has_bit left n ≡ false → is_taker p s n ≡ false) → is_taker p s k ≡ false → (n : ℕ) → n < 81 → has_bit next n ≡ false → is_taker p s n ≡ false
-one_out p s left next k bits all here n h out = elim (cases_eq n k) [
-  | inl same ↦ subst (λ (x : ℕ). is_taker p s x ≡ false) (sym same) here
-  | inr other ↦ all n h (false_from_ne_true (has_bit left n) (λ still. both_ways (has_bit next n) out (bits n ∙ and_from _ _ still (ap not (ne_eqb n k other)))))
-]
-
 -- of those left the first is the first of all
 pub first_of_all : (p : Shogi) (s left from : ℕ) → ((n : ℕ) → n < 81 → has_bit left n ≡ false → is_taker p s n ≡ false) → ((n : ℕ) → n < 81 → has_bit left n ≡ true → rank_on p s from ≤ rank_on p s n)
     → (n : ℕ) → n < 81 → is_taker p s n ≡ true → rank_on p s from ≤ rank_on p s n
@@ -368,18 +361,4 @@ pub left_or_passed : (left next k n : ℕ) → ((i : ℕ) → has_bit next i ≡
 left_or_passed left next k n bits out = elim (cases_eq n k) [
   | inl same ↦ inl same
   | inr other ↦ inr (false_from_ne_true (has_bit left n) (λ still. both_ways (has_bit next n) out (bits n ∙ and_from _ _ still (ap not (ne_eqb n k other)))))
-]
-
--- at first
-pub first_begins : (p : Shogi) (s pieces rest k n : ℕ) → ((i : ℕ) → has_bit rest i ≡ (has_bit pieces i && not (i == k))) → has_bit pieces n ≡ true → has_bit rest n ≡ false → rank_on p s k ≤ rank_on p s n
-first_begins p s pieces rest k n bits on out = elim (left_or_passed pieces rest k n bits out) [
-  | inl same ↦ subst (λ (x : ℕ). rank_on p s k ≤ rank_on p s x) (sym same) (omega arith)
-  | inr off ↦ absurd (both_ways (has_bit pieces n) off on)
-]
-
--- and with one more
-pub first_of_more : (p : Shogi) (s pieces rest next k first new n : ℕ) → ((i : ℕ) → has_bit next i ≡ (has_bit rest i && not (i == k))) → IsFirstBefore p s pieces rest first → rank_on p s new ≤ rank_on p s first → rank_on p s new ≤ rank_on p s k → n < 81 → has_bit pieces n ≡ true → has_bit next n ≡ false → rank_on p s new ≤ rank_on p s n
-first_of_more p s pieces rest next k first new n bits before old here h on out = elim (left_or_passed rest next k n bits out) [
-  | inl same ↦ subst (λ (x : ℕ). rank_on p s new ≤ rank_on p s x) (sym same) here
-  | inr off ↦ at_most (rank_on p s new) (rank_on p s first) (rank_on p s n) old (before n h on off)
 ]

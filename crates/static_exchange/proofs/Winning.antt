@@ -5,15 +5,10 @@ use Rattle.shogi_core.specs.Codes.{move_of}
 use Rattle.shogi_core.specs.Position.{Shogi}
 use Rattle.shogi_moves.specs.After.{after_code}
 use Rattle.shogi_eval.specs.declared.eval.Eval.TheVariants.{Exchange}
-use Rattle.shogi_eval.specs.Exchange.{best_settled, is_quiet, leaf_after}
+use Rattle.shogi_eval.specs.Exchange.{is_quiet, leaf_after}
 use Rattle.shogi_eval.specs.Material.{material_of}
-use Rattle.minimax.proofs.Settling.{best_least, left_loud, left_quiet}
-use Rattle.shogi_eval.specs.Exchange.{captures_max}
+use Rattle.minimax.proofs.Settling.{left_loud, left_quiet}
 use Rattle.static_exchange.specs.Reprisals.{IsWon, IsWonAtLeast, IsReprisal, IsEnough}
-
--- a side that may stand wins nothing or more
-pub wins_least : (p : Shogi) → material_of p Exchange ≤ℤ best_settled p Exchange
-wins_least p = best_least p Exchange captures_max 80
 
 -- after a quiet move nothing is won
 pub reprisal_quiet : (p : Shogi) (code : ℕ) → is_quiet p (move_of code) ≡ true → IsReprisal p code 0

@@ -45,13 +45,6 @@ won_zero p s n h = let is : settled p Exchange s n ≡ material_of p Exchange = 
 larger : (has next after won : ℤ) (gain back : ℕ) → next ≡ (pos 0 -ℤ (has +ℤ pos gain)) → after ≡ (next +ℤ pos back) → won ≡ int_max has (pos 0 -ℤ after) → won ≡ (has +ℤ pos (gain - back))
 larger has next after won gain back n a w = omega (arith, ints, clamps, n, a, w)
 
--- and else what the capture gains, less what the other side wins back there
-pub won_takes : (p q : Shogi) (s n code gain back : ℕ) → 0 < n → Some code ≡ least_valuable_attacker p s → q ≡ after_code p code → IsGain p code gain → IsWonOn q s (n - 1) back → IsWonOn p s n (gain - back)
-won_takes p q s n code gain back h is at g b =
-    larger (material_of p Exchange) (material_of q Exchange) (settled q Exchange s (n - 1)) (settled p Exchange s n) gain back
-    (ap (λ (r : Shogi). material_of r Exchange) at ∙ g) b
-    (settled_takes p q Exchange s n code (settled q Exchange s (n - 1)) h is at refl)
-
 upper : (has next after won : ℤ) (gain back : ℕ) → next ≡ (pos 0 -ℤ (has +ℤ pos gain)) → (next +ℤ pos back) ≤ℤ after → won ≡ int_max has (pos 0 -ℤ after) → won ≤ℤ (has +ℤ pos (gain - back))
 upper has next after won gain back n a w = omega (arith, ints, clamps, n, a, w)
 

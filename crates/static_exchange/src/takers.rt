@@ -70,7 +70,7 @@ fn reachers(p: &Position, square: Square) -> Squares
     square.reveal_invariant();
     let board = p.as_board();
     let lined = board.sliders() & line_mask(square.index());
-    let near = near_squares(square.index()) | lined;
+    let near = near_squares(square) | lined;
     (board.own(p.side()) & near).sift(|from| board.reaches(from, square))
 }
 

@@ -1,9 +1,10 @@
 -- What a result says, and what a call failed of.
-use Rattle.std.proofs.Common.{◌≡◌, ℕ, Bool, true, ◌<◌, ◌≤◌, ◌+◌, [], Option, Some, None, Result, Ok, Err, refl, inl, inr, arith}
+use Rattle.std.proofs.Common.{◌≡◌, ℕ, Bool, true, ◌<◌, ◌≤◌, ◌+◌, [], Option, Some, None, Result, Ok, Err, refl, ap, ◌∙◌, inl, inr, arith}
 use Rattle.std.proofs.lemmas.Bool.{cases_lt}
 use Rattle.transport.specs.Report.{HasCause, HasRisen}
 use Rattle.transport.specs.declared.wire.WireFault.{WireFault}
 use Rattle.stream_transport.specs.declared.connection.TheConstants.{PLACES}
+use Rattle.std.specs.Result.{IsErrAnd}
 use Rattle.std.specs.Prelude.{◌-◌, ◌^◌, min, OnErr, OnOk}
 use Rattle.stream_transport.specs.Held.{counted}
 use Rattle.stream_transport.specs.declared.readiness.Readiness.{Readiness}
@@ -33,6 +34,11 @@ risen_then a b c le after (inr top) = elim (cases_lt a b) [
 -- a fault of the second call has its cause in both
 pub cause_then : {T : Type 0} (a b c : ℕ) (r : Result T WireFault) → a ≤ b → HasCause b c r → HasCause a c r
 cause_then a b c r le cause = (omega (arith, cause.0), λ e. risen_then a b c le cause.0 (cause.1 e))
+
+-- a fault that is passed on is what it was
+pub passed_on : {T : Type 0} (r : Result T WireFault) (e f : WireFault) → IsErrAnd r (λ x. x ≡ e) → e ≡ f → r ≡ Err f
+passed_on (Ok v) e f p q = absurd p
+passed_on (Err x) e f p q = ap (λ (y : WireFault). Err y) (p ∙ q)
 
 -- ---- what is noted of an accept
 

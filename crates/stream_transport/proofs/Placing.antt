@@ -58,6 +58,13 @@ module _ {S A : Type 0} where
   held_test places number place x p e is lt some =
       sym (test_is (p.number == number) p) ∙ (ap (λ y. is_some (of_number number y)) (sym some) ∙ ap (λ y. is_some y) (held_is places number place x e is lt))
 
+  pub held_none : (x : Option (BufferedStream S A)) → is_some x ≡ false → x ≡ None
+  held_none None e = refl
+  held_none (Some p) e = absurd (cc)
+
+  pub held_some : (number : ℕ) (p : BufferedStream S A) → is_some (of_number number (Some p)) ≡ true → of_number number (Some p) ≡ Some p
+  held_some number p e = ap (λ (b : Bool). cond b (Some p) None) (sym (test_is (p.number == number) p) ∙ e)
+
   -- what is held under a number was taken out of its place, and this is there now
   pub record IsTaken (places : List (Option (BufferedStream S A))) (number place : ℕ) (x y : Option (BufferedStream S A)) : Type 0 where
     pub out : x ≡ held places number
@@ -119,7 +126,7 @@ module _ {S A : Type 0} where
   of_none P a b d = subst (λ x. OfHeld P x b) (sym d) tt
 
   -- what is kept of one that is held
-  pub kept_held : (a : Option (BufferedStream S A)) (p : BufferedStream S A) → a ≡ Some p → kept_in a ≡ p.kept
+  pub kept_held : (a : Option (BufferedStream S A)) (p : BufferedStream S A) → a ≡ Some p → kept_in a ≡ p.buffer.kept
   kept_held a p d = ap (λ x. kept_in x) d
 
   pub none_kept : (a : Option (BufferedStream S A)) → a ≡ None → kept_in a ≡ []
@@ -141,7 +148,7 @@ module _ {S A : Type 0} where
 
   pub quiet_passes : (given : S → Option (List ℕ)) (a : Option (BufferedStream S A)) → IsQuiet a → OfHeld (λ old new. HasPassed given old new []) a a
   quiet_passes given None q = absurd q
-  quiet_passes given (Some p) q = record { came = []; gave = Appends-nil (given p.stream); passed = sym (append-nil p.kept) }
+  quiet_passes given (Some p) q = record { came = []; gave = Appends-nil (given p.stream); passed = sym (append-nil p.buffer.kept) }
 
   pub quiet_sleeps : (a : Option (BufferedStream S A)) → IsQuiet a → readable a ≡ false
   quiet_sleeps None q = absurd q

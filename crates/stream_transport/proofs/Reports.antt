@@ -4,14 +4,15 @@ use Rattle.std.proofs.lemmas.Bool.{cases_eq}
 use Rattle.std.specs.Prelude.{IfOk}
 use Rattle.std.specs.Io.KnownBytes.{Appends, Consumes, Keeps, prepend_known}
 use Rattle.std.proofs.KnownBytes.{Appends-nil, Consumes-nil, Keeps-refl}
-use Rattle.transport.specs.Report.{EndsAt, IsWithin, Report, KeepsAll, KeepsOthers, KeepsConnection, Reads, Shuts, Writes, bytes_read, bytes_written}
+use Rattle.transport.specs.Report.{EndsAt, Report, KeepsAll, KeepsOthers, KeepsConnection, Reads, Shuts, Writes, bytes_read, bytes_written}
 use Rattle.transport.specs.declared.wire.Got.{Got}
 use Rattle.transport.specs.declared.wire.Got.TheVariants.{Nothing}
 use Rattle.transport.specs.declared.wire.WireFault.{WireFault}
 use Rattle.transport.proofs.Reported.{Appends-none, Consumes-none, kept_same, kept_then, raised_rise, raised_rises, stays-refl, stays_rise, stays_then}
 use Rattle.stream_transport.specs.declared.connection.BufferedStream.{BufferedStream}
+use Rattle.byte_logs.specs.declared.log.Bytes.{Bytes}
 use Rattle.stream_transport.specs.Streams.{HasBack, IsToldShut, KeepsElse, Notes}
-use Rattle.stream_transport.specs.Held.{AreAlike, HasGiven, HasTaken, HoldsOthers, IsAlike, bytes_of, held, reported, unread_of, written_of}
+use Rattle.stream_transport.specs.Held.{AreAlike, HasGiven, HasTaken, HoldsOthers, IsAlike, bytes_of, given_under, held, none_given, reported, unread_of, written_of}
 
 keeps_nil : (a b : Option (List ℕ)) → Keeps a b → Keeps a (prepend_known [] b)
 keeps_nil None b k = tt
@@ -19,9 +20,8 @@ keeps_nil (Some x) None k = absurd k
 keeps_nil (Some x) (Some y) k = k
 
 -- nothing was read
-pub reads_none : (t : Report) (number : ℕ) (buf : List ℕ) → Reads t t number (Ok Nothing) buf
-reads_none t number buf = record {
-  within = tt;
+pub reads_none : (t : Report) (number : ℕ) (lent : List ℕ) → Reads t t number (Ok Nothing) lent
+reads_none t number lent = record {
   consumed = Consumes-nil (t.unread number);
   given = Appends-nil (t.given number);
   ended = tt;
@@ -50,8 +50,8 @@ module _ {S A : Type 0} where
   at_both : (P : Option (List ℕ) → Option (List ℕ) → Type 0) (f : BufferedStream S A → Option (List ℕ)) (t u : Option (List ℕ)) (a b : Option (BufferedStream S A)) (p q : BufferedStream S A) → a ≡ Some p → b ≡ Some q → P (f p) (f q) → P (bytes_of f t a) (bytes_of f u b)
   at_both P f t u a b p q d e h = subst (λ x. P (bytes_of f t x) (bytes_of f u b)) (sym d) (subst (λ x. P (f p) (bytes_of f u x)) (sym e) h)
 
-  same_unread : (r : S → Option (List ℕ)) (p q : BufferedStream S A) → q.stream ≡ p.stream → q.kept ≡ p.kept → Keeps (unread_of r p) (unread_of r q)
-  same_unread r p q s k = subst (λ x. Keeps (unread_of r p) x) (sym (ap (λ x. prepend_known q.kept (r x)) s ∙ ap (λ x. prepend_known x (r p.stream)) k)) (Keeps-refl (unread_of r p))
+  same_unread : (r : S → Option (List ℕ)) (p q : BufferedStream S A) → q.stream ≡ p.stream → q.buffer.kept ≡ p.buffer.kept → Keeps (unread_of r p) (unread_of r q)
+  same_unread r p q s k = subst (λ x. Keeps (unread_of r p) x) (sym (ap (λ x. prepend_known q.buffer.kept (r x)) s ∙ ap (λ x. prepend_known x (r p.stream)) k)) (Keeps-refl (unread_of r p))
 
   same_written : (c : S → Option (List ℕ)) (p q : BufferedStream S A) → q.stream ≡ p.stream → Keeps (written_of c p) (written_of c q)
   same_written c p q s = subst (λ x. Keeps (written_of c p) x) (sym (ap c s)) (Keeps-refl (written_of c p))
@@ -88,7 +88,7 @@ module _ {S A : Type 0} where
 
   -- a stream comes, under its number
   pub comes : (r c : S → Option (List ℕ)) (g : ℕ → List ℕ) (t u : Report) (old mid new : List (Option (BufferedStream S A))) (number : ℕ) (q : BufferedStream S A) → AreAlike old mid → held mid number ≡ None → held new number ≡ Some q → HoldsOthers mid new number
-      → Keeps (t.unread number) (r q.stream) × Keeps (t.written number) (c q.stream) → KeepsElse t u number → q.kept ≡ [] → KeepsAll (reported r c g t old) (reported r c g u new)
+      → Keeps (t.unread number) (r q.stream) × Keeps (t.written number) (c q.stream) → KeepsElse t u number → q.buffer.kept ≡ [] → KeepsAll (reported r c g t old) (reported r c g u new)
   comes r c g t u old mid new number q alike none some holds out rest nil n =
       kept_then (reported r c g t old) (reported r c g t mid) (reported r c g u new) n
       (alike_keeps r c g t t old mid alike (kept_same t) n)
@@ -103,8 +103,12 @@ module _ {S A : Type 0} where
         | inr apart ↦ others_kept r c g g t u mid new number holds rest.others (λ other apart. refl) n apart
       ])
 
+  -- nobody is held, and nothing was given
+  pub none_held : (r c : S → Option (List ℕ)) (noted : List (ℕ × Bytes)) (t : Report) (places : List (Option (BufferedStream S A))) → noted ≡ [] → places ≡ [] → KeepsAll (none_given t) (reported r c (given_under noted) t places)
+  none_held r c noted t places e f = rw (e, f) (λ n. record { unread = Keeps-refl (t.unread n); given = refl; written = Keeps-refl (t.written n); shut = stays-refl (t.is_shut n); failed = stays-refl (t.has_failed n) })
+
   -- a connection is shut
-  pub shuts_held : (r c : S → Option (List ℕ)) (g : ℕ → List ℕ) (t u v : Report) (old new : List (Option (BufferedStream S A))) (number bound : ℕ) (p : BufferedStream S A) → held old number ≡ Some p → held new number ≡ None → HoldsOthers old new number → IsToldShut t u number → HasBack r c v number p.kept p.stream → KeepsElse u v number → Shuts bound (reported r c g t old) (reported r c g v new) number
+  pub shuts_held : (r c : S → Option (List ℕ)) (g : ℕ → List ℕ) (t u v : Report) (old new : List (Option (BufferedStream S A))) (number bound : ℕ) (p : BufferedStream S A) → held old number ≡ Some p → held new number ≡ None → HoldsOthers old new number → IsToldShut t u number → HasBack r c v number p.buffer.kept p.stream → KeepsElse u v number → Shuts bound (reported r c g t old) (reported r c g v new) number
   shuts_held r c g t u v old new number bound p d e holds told back rest =
       let raised = raised_rises (t.is_shut number) (u.is_shut number) (v.is_shut number) told.shut (stays_rise (u.is_shut number) (v.is_shut number) rest.shut) in
       record {
@@ -120,9 +124,8 @@ module _ {S A : Type 0} where
   -- ---- reads and writes
 
   -- no connection is held under this number
-  pub reads_missing : (r c : S → Option (List ℕ)) (g : ℕ → List ℕ) (t u : Report) (old new : List (Option (BufferedStream S A))) (number : ℕ) (fault : WireFault) (buf : List ℕ) → held old number ≡ None → held new number ≡ None → HoldsOthers old new number → Notes {T = Got} t u number (Err fault) → Reads (reported r c g t old) (reported r c g u new) number (Err fault) buf
-  reads_missing r c g t u old new number fault buf d e holds n = record {
-    within = tt;
+  pub reads_missing : (r c : S → Option (List ℕ)) (g : ℕ → List ℕ) (t u : Report) (old new : List (Option (BufferedStream S A))) (number : ℕ) (fault : WireFault) (lent : List ℕ) → held old number ≡ None → held new number ≡ None → HoldsOthers old new number → Notes {T = Got} t u number (Err fault) → Reads (reported r c g t old) (reported r c g u new) number (Err fault) lent
+  reads_missing r c g t u old new number fault lent d e holds n = record {
     consumed = Consumes-none _ _ (keeps_is (unread_of r) (t.unread number) (u.unread number) (held old number) (held new number) (e ∙ sym d) n.unread);
     given = sym (append-nil (g number));
     ended = tt;
@@ -144,10 +147,9 @@ module _ {S A : Type 0} where
   }
 
   -- this connection was read from, and is held again
-  pub reads_held : (r c : S → Option (List ℕ)) (g h : ℕ → List ℕ) (t u : Report) (old new : List (Option (BufferedStream S A))) (number : ℕ) (p q : BufferedStream S A) (result : Result Got WireFault) (buf : List ℕ) → held old number ≡ Some p → held new number ≡ Some q → HoldsOthers old new number → IsWithin result (length buf) → HasGiven r p q (bytes_read result buf) → Keeps (written_of c p) (written_of c q) → EndsAt result (unread_of r q) → Notes t u number result → h number ≡ g number ++ bytes_read result buf → ((other : ℕ) → other ≢ number → h other ≡ g other) → Reads (reported r c g t old) (reported r c h u new) number result buf
-  reads_held r c g h t u old new number p q result buf d e holds within gave kept ended n more same = record {
-    within = within;
-    consumed = at_both (λ a b. Consumes a b (bytes_read result buf)) (unread_of r) (t.unread number) (u.unread number) (held old number) (held new number) p q d e gave;
+  pub reads_held : (r c : S → Option (List ℕ)) (g h : ℕ → List ℕ) (t u : Report) (old new : List (Option (BufferedStream S A))) (number : ℕ) (p q : BufferedStream S A) (result : Result Got WireFault) (lent : List ℕ) → held old number ≡ Some p → held new number ≡ Some q → HoldsOthers old new number → HasGiven r p q (bytes_read result lent) → Keeps (written_of c p) (written_of c q) → EndsAt result (unread_of r q) → Notes t u number result → h number ≡ g number ++ bytes_read result lent → ((other : ℕ) → other ≢ number → h other ≡ g other) → Reads (reported r c g t old) (reported r c h u new) number result lent
+  reads_held r c g h t u old new number p q result lent d e holds gave kept ended n more same = record {
+    consumed = at_both (λ a b. Consumes a b (bytes_read result lent)) (unread_of r) (t.unread number) (u.unread number) (held old number) (held new number) p q d e gave;
     given = more;
     ended = subst (λ x. EndsAt result (bytes_of (unread_of r) (u.unread number) x)) (sym e) ended;
     written = at_both (λ a b. Keeps a b) (written_of c) (t.written number) (u.written number) (held old number) (held new number) p q d e kept;

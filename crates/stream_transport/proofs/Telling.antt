@@ -1,8 +1,11 @@
 -- What was noted under a number, after one more.
-use Rattle.std.proofs.Common.{◌≡◌, ◌≢◌, ℕ, Bool, true, false, List, [], ◌∷◌, ◌++◌, Some, append-nil, append_assoc, refl, sym, ap, ◌∙◌}
+use Rattle.std.proofs.Common.{◌≡◌, ◌≢◌, ℕ, Bool, true, false, List, [], ◌∷◌, ◌++◌, Option, None, Some, append-nil, append_assoc, refl, sym, ap, ◌∙◌}
 use Rattle.std.specs.Prelude.{◌==◌, ◌||◌, cond}
 use borrow.Author.Tests.{eqb-false, ne_eqb}
-use Rattle.stream_transport.specs.Held.{given_under}
+use Rattle.std.specs.Io.KnownBytes.{Keeps}
+use Rattle.transport.specs.Report.{KeepsAll, Report}
+use Rattle.stream_transport.specs.Reporting.{AreBlank}
+use Rattle.stream_transport.specs.Held.{given_under, none_given}
 use Rattle.stream_transport.specs.Streams.{IsToldFailed, IsToldShut, KeepsElse}
 use Rattle.byte_logs.specs.Noted.{all_under, is_noted, last_after, last_under}
 use Rattle.stream_transport.specs.Told.{told_by}
@@ -108,3 +111,19 @@ module _ (back : List (ℕ × Bytes)) (shut failed : List (ℕ × Unit {0})) (nu
       failed = refl;
     };
   }
+
+-- ---- at the start
+
+keeps_some : (x : List ℕ) (b : Option (List ℕ)) → Keeps (Some x) b → b ≡ Some x
+keeps_some x None k = absurd k
+keeps_some x (Some y) k = ap (λ (l : List ℕ). Some l) k
+
+pub blank_start : (back : List (ℕ × Bytes)) (shut failed : List (ℕ × Unit {0})) (report : Report) → back ≡ [] → shut ≡ [] → failed ≡ [] → KeepsAll (none_given (told_by back shut failed)) report → AreBlank report
+blank_start back shut failed report e f h k n =
+    let start : KeepsAll (none_given (told_by [] [] [])) report = rw (e, f, h) at k in
+    record {
+      given = keeps_some [] (report.given n) (start n).given;
+      written = keeps_some [] (report.written n) (start n).written;
+      shut = (start n).shut;
+      failed = (start n).failed;
+    }

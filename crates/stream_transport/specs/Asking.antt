@@ -23,10 +23,10 @@ use Rattle.stream_transport.specs.declared.connection.TheConstants.{PLACES}
 use Rattle.stream_transport.specs.declared.readiness.Readiness.{Readiness}
 use Rattle.stream_transport.specs.declared.wire.StreamWire.{StreamWire}
 
--- where bytes are kept, a read gives the first line of them, or as much of it as there is room for
-abbrev pub GivesKept : List ℕ → Result Got WireFault → List ℕ → Type 0
-GivesKept kept result buf =
-    kept ≢ [] → IsOk result × (bytes_read result buf ≡ take (length buf) (one_line kept))
+-- where bytes are kept, a read gives the first line of them, or so many bytes of it
+abbrev pub GivesKept : List ℕ → ℕ → Result Got WireFault → List ℕ → Type 0
+GivesKept kept most result lent =
+    kept ≢ [] → IsOk result × (bytes_read result lent ≡ take most (one_line kept))
 
 -- a wait is made where it is to wait, and no read has left something
 abbrev pub is_made : (idle has_buffered : Bool) → Bool
@@ -108,7 +108,7 @@ pub record IsAskedToAccept (acceptable : Bool) (named : List Ready) (places next
 
 -- a read found nothing
 abbrev pub found_nothing : Result Got WireFault → Bool
-found_nothing (Ok (Bytes n)) = false
+found_nothing (Ok Bytes) = false
 found_nothing (Ok Nothing) = true
 found_nothing (Ok Ended) = false
 found_nothing (Err fault) = false
@@ -120,8 +120,7 @@ took_nothing (Err fault) = false
 
 -- a read that gave so many bytes answers that there were some, or that the end is there
 abbrev pub GivesSome : ℕ → Result Got WireFault → Type 0
-GivesSome n result =
-    ((n ≡ 0) × (result ≡ Ok Ended)) ⊎ ((n ≢ 0) × ((some : ℕ) × (result ≡ Ok (Bytes some))))
+GivesSome n result = ((n ≡ 0) × (result ≡ Ok Ended)) ⊎ ((n ≢ 0) × (result ≡ Ok Bytes))
 
 -- nobody was asked: somebody may wait to be accepted
 abbrev pub nothing_asked : Readiness
@@ -168,7 +167,7 @@ module _ {S A : Type 0} where
   -- nothing is kept of it, and its stream has said that it has nothing
   abbrev pub IsQuiet : Option (BufferedStream S A) → Type 0
   IsQuiet None = ⊥
-  IsQuiet (Some connection) = (connection.readable ≡ false) × (connection.kept ≡ [])
+  IsQuiet (Some connection) = (connection.readable ≡ false) × (connection.buffer.kept ≡ [])
 
   -- what a read answers, and whether its connection may give more, by what came of its call of the stream
   abbrev pub GivesAs : Result ℕ StreamFault → Result Got WireFault → BufferedStream S A → Type 0
@@ -186,11 +185,11 @@ module _ {S A : Type 0} where
       × (Asks (calls old.stream) (calls new.stream) (Receive room answer ∷ [])
       × GivesAs answer result new))
 
-  -- a read into so much room asked the stream so, where nothing was kept of one that may give bytes; it may give more where
+  -- a read of so many bytes asked the stream so, where nothing was kept of one that may give bytes; it may give more where
   -- the read found any, or failed, and may take what it might
   pub record AsksToGive (calls : S → Option (List StreamCall)) (room : ℕ)
       (result : Result Got WireFault) (old new : BufferedStream S A) : Type 0 where
-    pub called : old.readable ≡ true → old.kept ≡ [] → 0 < room → AsksStream calls room result old new
+    pub called : old.readable ≡ true → old.buffer.kept ≡ [] → 0 < room → AsksStream calls room result old new
     pub awake : old.readable ≡ true → result ≢ Ok Nothing → new.readable ≡ true
     pub takes : old.writable ≡ true → new.writable ≡ true
 
@@ -259,11 +258,11 @@ module _ {L A S : Type 0} where
   OfNumber number Relates old new =
       OfHeld Relates (held old.places.items number) (held new.places.items number)
 
-  -- the stream of this number was asked so by a read into this buffer
-  abbrev pub AsksByRead : (S → Option (List StreamCall)) → ℕ → List ℕ → Result Got WireFault
+  -- the stream of this number was asked so by a read of so many bytes
+  abbrev pub AsksByRead : (S → Option (List StreamCall)) → (number most : ℕ) → Result Got WireFault
       → (old new : StreamWire L A S) → Type 0
-  AsksByRead calls number buf result old new =
-      OfNumber number (AsksToGive calls (length buf) result) old new
+  AsksByRead calls number most result old new =
+      OfNumber number (AsksToGive calls most result) old new
 
   -- its listener was asked for the next one who waits, with this answer
   abbrev pub AsksNext : (L → Option (List ListenerCall)) → (old new : StreamWire L A S)

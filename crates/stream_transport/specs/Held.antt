@@ -1,7 +1,11 @@
 -- The connections that a wire holds, and what it reports of them and of all others (own choice).
-use Rattle.std.specs.Prelude.{◌≡◌, ◌≢◌, ◌==◌, ◌%◌, ◌+◌, ◌-◌, ◌^◌, ◌++◌, cond, length, min, nat_eq, not, ℕ, Bool, List, [], Option, None, Some, slice_index_or}
+use Rattle.std.specs.Prelude.{◌≡◌, ◌≢◌, ◌==◌, ◌%◌, ◌+◌, ◌-◌, ◌^◌, ◌++◌, cond, length, min, nat_eq, not, ℕ, Bool, List, [], Option, None, Some, Result, slice_index_or}
 use Rattle.std.specs.Io.KnownBytes.{Appends, Consumes, prepend_known}
-use Rattle.transport.specs.Report.{Report}
+use Rattle.transport.specs.Report.{Report, bytes_read}
+use Rattle.transport.specs.declared.wire.Got.{Got}
+use Rattle.transport.specs.declared.wire.WireFault.{WireFault}
+use Rattle.stream_transport.specs.ReadBuffer.{lent_by, lent_from}
+use Rattle.stream_transport.specs.declared.kept.Spare.{Spare}
 use Rattle.byte_logs.specs.Noted.{all_under}
 use Rattle.stream_transport.specs.declared.connection.BufferedStream.{BufferedStream}
 use Rattle.stream_transport.specs.declared.connection.TheConstants.{PLACES}
@@ -35,7 +39,7 @@ module _ {S A : Type 0} where
 
   -- the bytes that reads of it will give: those that are kept, and those that the stream has
   abbrev pub unread_of : (S → Option (List ℕ)) → BufferedStream S A → Option (List ℕ)
-  unread_of remaining connection = prepend_known connection.kept (remaining connection.stream)
+  unread_of remaining connection = prepend_known connection.buffer.kept (remaining connection.stream)
 
   -- the bytes that writes to it took
   abbrev pub written_of : (S → Option (List ℕ)) → BufferedStream S A → Option (List ℕ)
@@ -49,12 +53,21 @@ module _ {S A : Type 0} where
   abbrev pub HasTaken : (S → Option (List ℕ)) → BufferedStream S A → BufferedStream S A → List ℕ → Type 0
   HasTaken contents old new bytes = Appends (written_of contents old) (written_of contents new) bytes
 
+  -- what a read of it gave, where this is the spare room
+  abbrev pub given_by : Result Got WireFault → Spare A → BufferedStream S A → List ℕ
+  given_by result spare connection = bytes_read result (lent_from spare connection.buffer)
+
+  -- the bytes that the last read gave, where it was one of what has this place
+  abbrev pub lent_under : Spare A → Option (BufferedStream S A) → List ℕ
+  lent_under spare None = lent_by spare
+  lent_under spare (Some connection) = lent_from spare connection.buffer
+
   -- the stream gave some bytes more: these were given, behind what was kept and before what is
   pub record HasPassed (given : S → Option (List ℕ)) (old new : BufferedStream S A) (bytes : List ℕ)
       : Type 0 where
     pub came : List ℕ
     pub gave : Appends (given old.stream) (given new.stream) came
-    pub passed : bytes ++ new.kept ≡ old.kept ++ came
+    pub passed : bytes ++ new.buffer.kept ≡ old.buffer.kept ++ came
 
   -- of a connection that is held its bytes, and else what is told
   abbrev pub bytes_of : (BufferedStream S A → Option (List ℕ)) → Option (List ℕ)
@@ -76,7 +89,7 @@ module _ {S A : Type 0} where
   -- the bytes that were read under this number and are not given
   abbrev pub kept_in : Option (BufferedStream S A) → List ℕ
   kept_in None = []
-  kept_in (Some connection) = connection.kept
+  kept_in (Some connection) = connection.buffer.kept
 
   abbrev pub kept_of : List (Option (BufferedStream S A)) → ℕ → List ℕ
   kept_of places number = kept_in (held places number)
@@ -90,7 +103,7 @@ module _ {S A : Type 0} where
   abbrev pub IsAlike : Option (BufferedStream S A) → Option (BufferedStream S A) → Type 0
   IsAlike None new = new ≡ None
   IsAlike (Some connection) None = ⊥
-  IsAlike (Some old) (Some new) = (new.stream ≡ old.stream) × (new.kept ≡ old.kept)
+  IsAlike (Some old) (Some new) = (new.stream ≡ old.stream) × (new.buffer.kept ≡ old.buffer.kept)
 
   abbrev pub AreAlike : List (Option (BufferedStream S A)) → List (Option (BufferedStream S A)) → Type 0
   AreAlike old new = (number : ℕ) → IsAlike (held old number) (held new number)

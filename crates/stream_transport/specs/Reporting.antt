@@ -18,12 +18,17 @@ pub record IsBlank (report : Report) (number : ℕ) : Type 0 where
 abbrev pub AreBlank : Report → Type 0
 AreBlank report = (number : ℕ) → IsBlank report number
 
+-- what a read with this answer gave that left this wire
+abbrev pub given_last : {W : Type 0} → Ghosts W → W → Result Got WireFault → List ℕ
+given_last wires new result = bytes_read result (wires.lent new)
+
 module _ {W : Type 0} (wires : Ghosts W) (old new : W) where
   abbrev pub KeepsReport : Type 0
   KeepsReport = KeepsAll (wires.report old) (wires.report new)
 
-  abbrev pub ReportsRead : ℕ → Result Got WireFault → List ℕ → Type 0
-  ReportsRead number result buf = Reads (wires.report old) (wires.report new) number result buf
+  abbrev pub ReportsRead : ℕ → Result Got WireFault → Type 0
+  ReportsRead number result =
+      Reads (wires.report old) (wires.report new) number result (wires.lent new)
 
   abbrev pub ReportsWrite : ℕ → Result ℕ WireFault → List ℕ → Type 0
   ReportsWrite number result buf = Writes (wires.report old) (wires.report new) number result buf
@@ -37,9 +42,9 @@ no_traffic = record { received = 0; sent = 0 }
 
 module _ {L A S : Type 0} (old new : StreamWire L A S) where
   -- the bytes that a read gave were counted
-  abbrev pub CountsRead : Result Got WireFault → List ℕ → Type 0
-  CountsRead result buf =
-      new.traffic ≡ record old.traffic { received = counted old.traffic.received (bytes_read result buf) }
+  abbrev pub CountsRead : List ℕ → Type 0
+  CountsRead bytes =
+      new.traffic ≡ record old.traffic { received = counted old.traffic.received bytes }
 
   -- the bytes that a write took were counted
   abbrev pub CountsWrite : Result ℕ WireFault → List ℕ → Type 0

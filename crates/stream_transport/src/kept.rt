@@ -1,92 +1,161 @@
-//! What was read from a connection and is not given yet.
+//! What was read from a connection and is not given yet, and what is lent.
 
-ghost use Rattle.std.specs.Prelude.{◌≡◌, ◌≤◌, ◌+◌, [], ◌++◌, length, take, nat_eq, vec_capacity};
+ghost use Rattle.std.specs.Prelude.{◌≡◌, ◌≢◌, ◌<◌, ◌≤◌, [], ◌++◌, length, take, nat_eq, vec_len, OnOk};
 ghost use Rattle.usi_lines.specs.OneLine.{one_line, IsOneLine};
+ghost use Rattle.stream_transport.specs.ReadBuffer.{lent_by, lent_from};
 
-use std::alloc::Allocator;
+use std::alloc::{AllocError, Allocator};
 use std::marker::Model;
 use std::mem::swap;
 use usi_lines::cut_line;
 
-/// Bytes that were read and are not given yet. It has room only while there are some.
+/// Room for the next read, and the place in it of the bytes that the last one gave, if they lie here.
+#[derive(Drop)]
+pub struct Spare<A: Allocator> {
+    pub bytes: Vec<u8, A>,
+    pub start: usize,
+    pub end: usize,
+}
+
+impl<A: Allocator> Spare<A> {
+    /// No room.
+    pub fn new(alloc: A) -> Spare<A> {
+        Spare {
+            bytes: Vec::new(alloc),
+            start: 0,
+            end: 0,
+        }
+    }
+
+    /// Makes room for so many bytes.
+    pub fn reserve(&mut self, most: usize) -> Result<(), AllocError>
+        ensures { OnOk result (most ≤ vec_len self.new.bytes) }
+    {
+        if self.bytes.len() < most {
+            self.bytes.resize(most, 0)?;
+        }
+        Ok(())
+    }
+
+    /// The bytes that lie here.
+    pub fn lent(&self) -> &[u8]
+        ensures { result.now ≡ lent_by self.now }
+    {
+        let (front, _) = self
+            .bytes
+            .as_slice()
+            .split_at(self.end.min(self.bytes.len()));
+        front.split_at(self.start.min(front.len())).1
+    }
+}
+
+/// Bytes that were read and are not given yet. It has room only while there are some, and lends from it
+/// what was given last.
 #[derive(Drop)]
 pub struct ReadBuffer<A: Allocator> {
     bytes: Vec<u8, A>,
+    // What was given last begins here,
+    given: usize,
+    // and what is kept here.
     start: usize,
+    end: usize,
 }
 
 impl<A: Allocator> Model for ReadBuffer<A> {
-    ghost use Rattle.std.specs.Prelude.{ℕ, List, drop};
-    ghost use Rattle.stream_transport.specs.ReadBuffer.{HasRoomWhileKept};
+    ghost use Rattle.stream_transport.specs.ReadBuffer.{Buffered, IsReadBuffer, between};
 
-    ghost Value = { List ℕ };
+    ghost Value = { Buffered };
 
-    ghost view = { λ kept. drop kept.start kept.bytes.items };
+    ghost view = { λ buffer. record {
+      lent = between buffer.given buffer.start buffer.bytes.items;
+      kept = between buffer.start buffer.end buffer.bytes.items;
+    } };
 
-    ghost invariant = { λ kept. HasRoomWhileKept kept.start kept.bytes };
+    ghost invariant = { λ buffer. IsReadBuffer buffer.given buffer.start buffer.end buffer.bytes };
 }
 
 impl<A: Allocator> ReadBuffer<A> {
     /// Nothing, and no room.
     pub fn new(alloc: A) -> ReadBuffer<A>
-        ensures { result ≡ [] }
+        ensures { result ≡ record { lent = []; kept = [] } }
     {
         ReadBuffer {
             bytes: Vec::new(alloc),
+            given: 0,
             start: 0,
+            end: 0,
         }
     }
 
-    /// Keeps these bytes where none are kept. Where there are some, they take the room.
-    pub fn fill(&mut self, room: &mut Vec<u8, A>, bytes: &[u8])
-        requires none { self.old ≡ [] }
-        requires empty { room.old.items ≡ [] }
-        requires fits { length bytes.now ≤ vec_capacity room.old }
-        ensures { self.new ≡ bytes.now }
+    /// Keeps the first bytes of the spare room, which it takes, so many of them, where none are kept.
+    pub fn fill(&mut self, spare: &mut Spare<A>, n: usize)
+        requires some { 1 ≤ n }
+        requires fits { n ≤ vec_len spare.old.bytes }
+        ensures { self.new.kept ≡ take n spare.old.bytes.items }
     {
-        if bytes.is_empty() {
-            return;
-        }
-        let _fits = room.extend_from_slice(bytes);
-        swap(&mut self.bytes, room);
+        swap(&mut self.bytes, &mut spare.bytes);
+        self.given = 0;
         self.start = 0;
+        self.end = n;
     }
 
     /// All of them.
     pub fn as_slice(&self) -> &[u8]
-        ensures { result.now ≡ self.now }
+        ensures { result.now ≡ self.now.kept }
     {
-        self.bytes.as_slice().split_at(self.start).1
+        self.bytes
+            .as_slice()
+            .split_at(self.end)
+            .0
+            .split_at(self.start)
+            .1
     }
 
     /// Whether there are none.
     pub fn is_empty(&self) -> bool
-        ensures { result ≡ nat_eq (length self.now) 0 }
+        ensures { result ≡ nat_eq (length self.now.kept) 0 }
     {
-        self.start == self.bytes.len()
+        self.start == self.end
     }
 
-    /// Gives the first line with its LF, or all bytes where no line has ended, at the front of the
-    /// buffer; where the buffer is too short for it, as many as fit. Returns how many bytes were given.
-    /// With the last byte its room is the spare one.
-    pub fn give_line(&mut self, spare: &mut Vec<u8, A>, buf: &mut [u8]) -> usize
-        ensures given { take result buf.new ≡ take (length buf.old) (one_line self.old) }
-        ensures line { IsOneLine (take result buf.new) }
-        ensures kept { take result buf.new ++ self.new ≡ self.old }
-        ensures within { result ≤ length buf.new }
+    /// What was given last, where this is the spare room.
+    pub fn lent<'a>(&'a self, spare: &'a Spare<A>) -> &'a [u8]
+        ensures { result.now ≡ lent_from spare.now self.now }
     {
-        let (_, bytes) = self.bytes.as_slice().split_at(self.start);
-        let (line, _) = cut_line(bytes);
-        let n = line.len().min(buf.len());
-        let (given, _) = line.split_at(n);
-        buf.split_at_mut(n).0.copy_from_slice(given);
+        if self.is_empty() {
+            return spare.lent();
+        }
+        self.bytes
+            .as_slice()
+            .split_at(self.start)
+            .0
+            .split_at(self.given)
+            .1
+    }
+
+    /// Gives the first line with its LF, or all bytes where no line has ended; of what is longer, so many
+    /// bytes. With the last byte its room is the spare one.
+    pub fn give_line(&mut self, spare: &mut Spare<A>, most: usize)
+        ensures given { lent_from spare.new self.new ≡ take most (one_line self.old.kept) }
+        ensures line { IsOneLine (lent_from spare.new self.new) }
+        ensures kept { lent_from spare.new self.new ++ self.new.kept ≡ self.old.kept }
+        ensures most { length (lent_from spare.new self.new) ≤ most }
+        ensures some { self.old.kept ≢ [] → 1 ≤ most
+            → 1 ≤ length (lent_from spare.new self.new) }
+    {
+        let (line, _) = cut_line(self.as_slice());
+        let n = line.len().min(most);
+        self.given = self.start;
         self.start += n;
-        if self.start == self.bytes.len() {
-            swap(&mut self.bytes, spare);
+        if self.start == self.end {
+            swap(&mut self.bytes, &mut spare.bytes);
+            spare.start = self.given;
+            spare.end = self.start;
             self.bytes.clear();
             self.bytes.shrink_to(0);
+            self.given = 0;
             self.start = 0;
+            self.end = 0;
         }
-        n
     }
 }

@@ -3,10 +3,11 @@
 ghost use Rattle.std.specs.Prelude.{◌≡◌, ◌<◌, ◌≤◌, ◌%◌, ◌^◌, ◌+◌, ◌-◌, None, Some, IfErr, IfOk, IfSome, is_some, true, length, slice_index_or, vec_len};
 ghost use Rattle.transport.specs.declared.wire.WireFault.TheVariants.{OutOfMemory};
 ghost use Rattle.stream_transport.specs.Asking.{IsAwake, IsQuiet};
-ghost use Rattle.stream_transport.specs.Held.{AreAlike, HoldsAll, HoldsOthers, IsFree, held};
+ghost use Rattle.stream_transport.specs.Held.{AreAlike, HoldsAll, HoldsOthers, IsFree, held, lent_under};
 ghost use Rattle.stream_transport.specs.declared.connection.TheConstants.{PLACES};
 
 use crate::connection::{BufferedStream, PLACES};
+use crate::kept::Spare;
 use crate::listener::ByteStream;
 use std::alloc::Allocator;
 use transport::WireFault;
@@ -47,8 +48,27 @@ pub fn is_quiet<S: ByteStream, A: Allocator + Copy>(
     match places.get(place_of(number)) {
         Some(Some(connection)) => (connection.number == number)
             & !connection.readable
-            & connection.kept.is_empty(),
+            & connection.buffer.is_empty(),
         _ => false,
+    }
+}
+
+/// What the connection of this number gave last, where this is the spare room.
+pub fn lent_under<'a, S: ByteStream, A: Allocator + Copy>(
+    places: &'a [Option<BufferedStream<S, A>>],
+    spare: &'a Spare<A>,
+    number: u64,
+) -> &'a [u8]
+    ensures { result.now ≡ lent_under spare.now (held places.now number) }
+{
+    let lent = spare.lent();
+    if !is_held(places, number) {
+        return lent;
+    }
+    let place = place_of(number);
+    match &places[place] {
+        Some(connection) => connection.buffer.lent(spare),
+        None => lent,
     }
 }
 

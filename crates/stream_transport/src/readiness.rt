@@ -50,7 +50,7 @@ impl Readiness {
         ensures { self.new ≡ after_read self.old (Some connection.now) got.now }
     {
         let found_nothing = matches!(got, Ok(Got::Nothing));
-        self.has_buffered = self.has_buffered | !connection.kept.is_empty();
+        self.has_buffered = self.has_buffered | !connection.buffer.is_empty();
         self.needs_timeout = self.needs_timeout | (connection.readable & found_nothing);
     }
 

@@ -6,13 +6,14 @@ ghost use Rattle.transport.specs.Report.{GivesNumber, HasCause, HasRisen, IsWith
 ghost use Rattle.transport.specs.declared.wire.WireFault.TheVariants.{Device};
 ghost use Rattle.stream_transport.specs.Asking.{AnswersAs, AreAwakeStill, AsksByAccept, AsksByRead, AsksByWait, AsksNext, AsksToTake, GivesKept, HoldsAccepted, NotesByRead, NotesByWrite, OfNumber, StaysOpen, WakesByAccept, WakesByWait, is_made, nothing_asked};
 ghost use Rattle.stream_transport.specs.Held.{HasPassed, HoldsOthers, counted, given_under, held, kept_of, none_given};
-ghost use Rattle.stream_transport.specs.Reporting.{CountsRead, CountsWrite, KeepsReport, ReportsRead, ReportsShut, ReportsWrite, no_traffic};
+ghost use Rattle.stream_transport.specs.Reporting.{CountsRead, CountsWrite, KeepsReport, given_last, ReportsRead, ReportsShut, ReportsWrite, no_traffic};
 ghost use Rattle.stream_transport.specs.Streams.{Notes};
 ghost use Rattle.stream_transport.specs.declared.connection.TheConstants.{PLACES};
 
 use crate::connection::{BufferedStream, PLACES};
+use crate::kept::Spare;
 use crate::listener::{Listener, StreamFault};
-use crate::places::{free_place, insert, is_quiet, number_at, remove};
+use crate::places::{free_place, insert, is_quiet, lent_under, number_at, remove};
 use crate::readiness::{Readiness, mark_all_ready, patience_for};
 use byte_logs::Bytes;
 use http_server::Log;
@@ -44,8 +45,10 @@ pub struct StreamWire<L: Listener, A: Allocator> {
     pub listener: L,
     // By the place of each one's number.
     places: Vec<Option<BufferedStream<L::Stream, A>>, A>,
-    // Room for what the next read leaves, once a read has asked for it.
-    spare: Vec<u8, A>,
+    // Room for the next read, once a read has asked for it.
+    spare: Spare<A>,
+    // Under this number the last read gave what is lent.
+    lender: u64,
     readiness: Readiness,
     // The number of the next connection is this one or a greater one.
     next: u64,
@@ -56,14 +59,13 @@ pub struct StreamWire<L: Listener, A: Allocator> {
     given: Log<u64, Bytes>,
 }
 
-/// The bytes that a read gave.
-fn bytes_read<'a>(got: &Result<Got, WireFault>, buf: &'a [u8]) -> &'a [u8]
-    requires { IsWithin got.now (length buf.now) }
-    ensures { result.now ≡ bytes_read got.now buf.now }
+/// The bytes that a read gave, by what is lent after it.
+fn bytes_read<'a>(got: &Result<Got, WireFault>, lent: &'a [u8]) -> &'a [u8]
+    ensures { result.now ≡ bytes_read got.now lent.now }
 {
     match got {
-        Ok(Got::Bytes(n)) => buf.split_at(*n).0,
-        _ => buf.split_at(0).0,
+        Ok(Got::Bytes) => lent,
+        _ => lent.split_at(0).0,
     }
 }
 
@@ -150,7 +152,8 @@ impl<L: Listener, A: Allocator + Copy> StreamWire<L, A> {
             alloc,
             listener,
             places: Vec::new(alloc),
-            spare: Vec::new(alloc),
+            spare: Spare::new(alloc),
+            lender: 0,
             readiness: Readiness {
                 may_accept: true,
                 has_buffered: false,
@@ -202,7 +205,7 @@ impl<L: Listener, A: Allocator + Copy> StreamWire<L, A> {
 }
 
 impl<L: Listener, A: Allocator + Copy> Wire for StreamWire<L, A> {
-    ghost use Rattle.stream_transport.specs.Held.{given_under, reported};
+    ghost use Rattle.stream_transport.specs.Held.{given_under, held, lent_under, reported};
 
     ghost report = { λ wire. reported L.Stream.unread L.Stream.written
         (given_under wire.given.items) (L.told wire.listener) wire.places.items };
@@ -210,6 +213,8 @@ impl<L: Listener, A: Allocator + Copy> Wire for StreamWire<L, A> {
     ghost bound = { λ wire. wire.next };
 
     ghost failed = { λ wire. wire.failed };
+
+    ghost lent = { λ wire. lent_under wire.spare (held wire.places.items wire.lender) };
 
     fn accept(&mut self) -> Result<Option<u64>, WireFault>
         ensures number { GivesNumber self.old.next self.new.next result }
@@ -244,20 +249,23 @@ impl<L: Listener, A: Allocator + Copy> Wire for StreamWire<L, A> {
         accepted
     }
 
-    fn read(&mut self, number: u64, buf: &mut [u8]) -> Result<Got, WireFault>
+    fn read(&mut self, number: u64, most: usize) -> Result<Got, WireFault>
         ensures bound { self.new.next ≡ self.old.next }
-        ensures read { ReportsRead ⟦<Self as Wire>⟧ self.old self.new number result buf.new }
-        ensures line { IsOneLine (bytes_read result buf.new) }
+        ensures within { IsWithin result most (⟦<Self as Wire>⟧.lent self.new) }
+        ensures read { ReportsRead ⟦<Self as Wire>⟧ self.old self.new number result }
+        ensures line { IsOneLine (given_last ⟦<Self as Wire>⟧ self.new result) }
         ensures cause { HasCause self.old.failed self.new.failed result }
         ensures absent { held self.old.places.items number ≡ None → result ≡ Err Device }
-        ensures first { GivesKept (kept_of self.old.places.items number) result buf.new }
+        ensures first { GivesKept (kept_of self.old.places.items number) most result
+            (⟦<Self as Wire>⟧.lent self.new) }
         ensures asks { L.asked self.new.listener ≡ L.asked self.old.listener }
-        ensures gives { AsksByRead L.Stream.calls number buf.old result self.old self.new }
-        ensures came { OfNumber number (λ old new.
-            HasPassed L.Stream.given old new (bytes_read result buf.new)) self.old self.new }
+        ensures gives { AsksByRead L.Stream.calls number most result self.old self.new }
+        ensures came { OfNumber number (λ old new. HasPassed L.Stream.given old new
+            (given_last ⟦<Self as Wire>⟧ self.new result)) self.old self.new }
         ensures others { HoldsOthers self.old.places.items self.new.places.items number }
         ensures readiness { NotesByRead number result self.old self.new }
-        ensures traffic { CountsRead self.old self.new result buf.new }
+        ensures traffic { CountsRead self.old self.new
+            (given_last ⟦<Self as Wire>⟧ self.new result) }
     {
         let received = self.traffic.received;
         if is_quiet(self.places.as_slice(), number) {
@@ -268,14 +276,19 @@ impl<L: Listener, A: Allocator + Copy> Wire for StreamWire<L, A> {
             tell(&mut self.listener, &mut self.failed, number, &absent);
             return absent;
         };
-        let got = reader.read(&mut self.spare, buf);
-        let given = bytes_read(&got, buf);
+        let got = reader.read(&mut self.spare, most);
+        let given = bytes_read(&got, reader.buffer.lent(&self.spare));
         note_given(&mut self.given, number, given);
         self.traffic.received = counted(received, given);
         self.readiness.note_read(&reader, &got);
         insert(&mut self.places, reader);
+        self.lender = number;
         tell(&mut self.listener, &mut self.failed, number, &got);
         got
+    }
+
+    fn bytes(&self) -> &[u8] {
+        lent_under(self.places.as_slice(), &self.spare, self.lender)
     }
 
     fn write(&mut self, number: u64, buf: &[u8]) -> Result<usize, WireFault>
@@ -318,8 +331,8 @@ impl<L: Listener, A: Allocator + Copy> Wire for StreamWire<L, A> {
     {
         self.listener.shut(number);
         if let Some(connection) = remove(&mut self.places, number) {
-            let BufferedStream { stream, kept, .. } = connection;
-            self.listener.take_back(number, stream, kept.as_slice());
+            let BufferedStream { stream, buffer, .. } = connection;
+            self.listener.take_back(number, stream, buffer.as_slice());
         }
     }
 

@@ -6,11 +6,12 @@ use Rattle.std.specs.Option.{option_map}
 use Rattle.std.specs.Io.KnownBytes.{Keeps}
 use Rattle.std.proofs.KnownBytes.{Keeps-refl}
 use Rattle.transport.specs.declared.wire.Got.{Got}
+use Rattle.transport.specs.declared.wire.Got.TheVariants.{Bytes, Nothing, Ended}
 use Rattle.transport.specs.declared.wire.WireFault.{WireFault}
 use Rattle.transport.specs.declared.wire.WireFault.TheVariants.{Device, OutOfMemory}
 use Rattle.transport.specs.Report.{KeepsAll, KeepsOthers, IsRaised, Stays, Reads, Writes, IsWithin, EndsAt, bytes_read, bytes_written}
 use Rattle.transport.proofs.Reported.{Appends-none, Consumes-none, kept_same, stays-refl}
-use Rattle.test_wire.specs.Memory.{PeerState, WireState, HasGiven, IsKnown, MarksFailure, after_failing, after_read, after_write, bytes_left, called, change_at, changed, failed, failing, fails_for, giving, new_peer, peer_of, report_by, report_of, taking, unread_of}
+use Rattle.test_wire.specs.Memory.{PeerState, WireState, HasGiven, IsKnown, MarksFailure, after_failing, after_read, after_write, bytes_left, called, change_at, changed, failed, failing, fails_for, given_by, giving, new_peer, peer_of, report_by, report_of, taking, unread_of}
 
 -- ---- lists
 
@@ -63,10 +64,18 @@ second true x y e = absurd (cc)
 second false x y e = refl
 
 -- a read that does not fail
-pub read_is : (w v : WireState) (number room : ℕ) (p q : PeerState) → v ≡ called w → fails_for w number ≡ false → number < length v.peers → p ≡ get_or v.peers number p → q ≡ giving room p → record v { peers = set v.peers number q } ≡ after_read w number room
-read_is w v number room p q same passes known is change =
-    changed_is (called w) v (giving room) number p q same known is change
-    ∙ second (fails_for w number) (after_failing w number) (changed (giving room) number (called w)) passes
+pub read_is : (w v : WireState) (number room : ℕ) (p q : PeerState) (lent : List ℕ) → v ≡ called w → fails_for w number ≡ false → number < length v.peers → p ≡ get_or v.peers number p → q ≡ giving room p → lent ≡ given_by room p → record v { peers = set v.peers number q; lent = lent } ≡ after_read w number room
+read_is w v number room p q lent same passes known is change given =
+    ap (λ (x : WireState). record x { lent = lent }) (changed_is (called w) v (giving room) number p q same known is change)
+    ∙ (ap (λ (xs : List ℕ). record (changed (giving room) number (called w)) { lent = xs }) (given ∙ ap (λ (x : PeerState). given_by room x) (peer_same w v.peers number p (ap (λ (x : WireState). x.peers) same) known is))
+    ∙ second (fails_for w number) (after_failing w number) (record (changed (giving room) number (called w)) { lent = given_by room (peer_of w number) }) passes)
+
+-- what fits a smaller room fits a larger one
+pub within_more : (r : Result Got WireFault) (room most : ℕ) (lent : List ℕ) → room ≤ most → IsWithin r room lent → IsWithin r most lent
+within_more (Ok Bytes) room most lent le within = (within.0, omega (arith, within.1))
+within_more (Ok Nothing) room most lent le within = tt
+within_more (Ok Ended) room most lent le within = tt
+within_more (Err fault) room most lent le within = tt
 
 -- a write that does not fail
 pub write_is : (w v : WireState) (number : ℕ) (buf : List ℕ) (p q : PeerState) (result : Result ℕ WireFault) → v ≡ called w → number < length v.peers → p ≡ get_or v.peers number p
@@ -98,14 +107,13 @@ others_kept peers number q other apart =
     record { unread = rw e (Keeps-refl _); given = tt; written = rw e (Keeps-refl _); shut = rw e (stays-refl _); failed = rw e (stays-refl _) }
 
 -- a read that a peer answers
-pub reads : (old peers : List PeerState) (number room : ℕ) (p q : PeerState) (got : Got) (buf : List ℕ) → peers ≡ old → number < length peers → p ≡ get_or peers number p → q ≡ giving room p
-    → IsWithin (Ok got) (length buf) → HasGiven p q (bytes_read (Ok got) buf) → EndsAt (Ok got) (Some (unread_of q))
-    → Reads (report_of old) (report_of (set peers number q)) number (Ok got) buf
-reads old peers number room p q got buf same known is change within given ended =
+pub reads : (old peers : List PeerState) (number room : ℕ) (p q : PeerState) (got : Got) (lent : List ℕ) → peers ≡ old → number < length peers → p ≡ get_or peers number p → q ≡ giving room p
+    → HasGiven p q (bytes_read (Ok got) lent) → EndsAt (Ok got) (Some (unread_of q))
+    → Reads (report_of old) (report_of (set peers number q)) number (Ok got) lent
+reads old peers number room p q got lent same known is change given ended =
     let before : slice_get peers number ≡ Some p = slice_get_read peers (length peers) number p refl known is in
     let after : slice_get (set peers number q) number ≡ Some q = get_set peers number q known in
-    subst (λ (ps : List PeerState). Reads (report_of ps) (report_of (set peers number q)) number (Ok got) buf) same (record {
-      within = within;
+    subst (λ (ps : List PeerState). Reads (report_of ps) (report_of (set peers number q)) number (Ok got) lent) same (record {
       consumed = rw (before, after) given;
       given = tt;
       ended = rw after ended;
@@ -151,11 +159,10 @@ failing_failed None = tt
 failing_failed (Some p) = refl
 
 -- the read of a number fails
-pub reads_failing : (w v : WireState) (number : ℕ) (buf : List ℕ) → v ≡ after_failing w number → Reads (report_by w) (report_by v) number (Err Device) buf
-reads_failing w v number buf same =
+pub reads_failing : (w v : WireState) (number : ℕ) (lent : List ℕ) → v ≡ after_failing w number → Reads (report_by w) (report_by v) number (Err Device) lent
+reads_failing w v number lent same =
     let e : slice_get (change_at failing number w.peers) number ≡ option_map failing (slice_get w.peers number) = get_changed failing w.peers number in
-    subst (λ (x : WireState). Reads (report_by w) (report_by x) number (Err Device) buf) (sym same) (record {
-      within = tt;
+    subst (λ (x : WireState). Reads (report_by w) (report_by x) number (Err Device) lent) (sym same) (record {
       consumed = rw e (Consumes-none _ _ (failing_unread _));
       given = tt;
       ended = tt;

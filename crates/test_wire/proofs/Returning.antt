@@ -5,7 +5,6 @@ use Rattle.std.specs.Io.KnownBytes.{Keeps}
 use Rattle.std.proofs.KnownBytes.{Keeps-refl}
 use Rattle.std.proofs.lemmas.Bool.{cases_eq}
 use borrow.Author.Tests.{eqb-true, eq-eqb, lt-ltb, ltb-true, ne_eqb, both_ways, not-true}
-use Rattle.transport.specs.Report.{Report}
 use Rattle.stream_transport.specs.Streams.{IsToldFailed, IsToldShut, KeepsElse}
 use Rattle.byte_logs.specs.Noted.{is_noted, last_under}
 use Rattle.stream_transport.proofs.Telling.{last_else, last_now, noted_else, noted_now, told_failed, told_shut}

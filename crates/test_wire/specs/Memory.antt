@@ -17,13 +17,14 @@ pub record PeerState : Type 0 where
   pub is_shut : Bool
   pub has_failed : Bool
 
--- the peers, how many of them were accepted, how many calls have failed, and how many calls are left until the one that
--- is to fail: 1 where it is the next one, and 0 where there is none
+-- the peers, how many of them were accepted, how many calls have failed, how many calls are left until the one that
+-- is to fail: 1 where it is the next one, and 0 where there is none; and what the last read that did not fail gave
 pub record WireState : Type 0 where
   pub peers : List PeerState
   pub accepted : ℕ
   pub failed : ℕ
   pub fails_in : ℕ
+  pub lent : List ℕ
 
 -- ---- what it reports
 
@@ -100,7 +101,7 @@ past_empty ((byte ∷ bytes) ∷ rest) = (byte ∷ bytes) ∷ rest
 
 -- no byte is nothing
 abbrev pub got_bytes : ℕ → Got
-got_bytes n = cond (n == 0) Nothing (Bytes n)
+got_bytes n = cond (n == 0) Nothing Bytes
 
 -- what a read into so much room finds
 abbrev pub got_from : List (List ℕ) → ℕ → Got
@@ -121,9 +122,10 @@ left_from (chunk ∷ rest) room = drop room chunk ∷ rest
 abbrev pub given_by : ℕ → PeerState → List ℕ
 given_by room peer = given_from (past_empty peer.chunks) room
 
--- the buffer begins with what the peer gives to a read into it
-abbrev pub Gives : Result Got WireFault → List ℕ → List ℕ → PeerState → Type 0
-Gives result old new peer = bytes_read result new ≡ given_by (length old) peer
+-- these bytes are what the peer gives to a read into so much room, and there are some only where it answers so
+pub record Gives (got : Got) (bytes : List ℕ) (room : ℕ) (peer : PeerState) : Type 0 where
+  pub all : bytes ≡ given_by room peer
+  pub read : bytes_read (Ok got) bytes ≡ given_by room peer
 
 -- the peer has given what a read into so much room finds
 abbrev pub giving : ℕ → PeerState → PeerState
@@ -192,7 +194,7 @@ after_failing wire number = changed failing number (failed (called wire))
 abbrev pub after_read : WireState → ℕ → ℕ → WireState
 after_read wire number room =
     cond (fails_for wire number) (after_failing wire number)
-    (changed (giving room) number (called wire))
+    (record (changed (giving room) number (called wire)) { lent = given_by room (peer_of wire number) })
 
 -- by its answer; where memory runs out the peer is marked, and no call of the wire has failed
 abbrev pub after_write : WireState → ℕ → List ℕ → Result ℕ WireFault → WireState

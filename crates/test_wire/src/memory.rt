@@ -1,14 +1,19 @@
 //! A wire in memory.
 
 ghost use Rattle.std.specs.Prelude.{◌≡◌, ◌<◌, ◌≤◌, ◌↔◌, true, false, nat_lt, [], length, cond, min, Some, Ok, Err, IfOk, IfErr, OnErr, OnOk};
-ghost use Rattle.transport.specs.Report.{GivesNumber, KeepsAll, HasCause, HasRisen, Reads, Writes};
-ghost use Rattle.test_wire.specs.Memory.{Gives, IsKnown, contents_of, report_by, with_peer, changed, narrowing, failing, called, failed, is_open, fails_for, peer_of, width_of, accept_answer, after_accept, read_answer, after_failing, after_read, after_write, after_shut};
+ghost use Rattle.transport.specs.Report.{GivesNumber, KeepsAll, HasCause, HasRisen, IsWithin, Reads, Writes};
+ghost use Rattle.test_wire.specs.Memory.{IsKnown, contents_of, report_by, with_peer, changed, narrowing, failing, called, failed, is_open, fails_for, peer_of, width_of, accept_answer, after_accept, read_answer, after_failing, after_read, after_write, after_shut};
+ghost use Rattle.test_wire.specs.declared.memory.TheConstants.{LENT_MAX};
 ghost use Rattle.transport.specs.declared.wire.WireFault.TheVariants.{Device, OutOfMemory};
 
 use crate::peer::Peer;
+use arrayvec::ArrayVec;
 use std::alloc::Allocator;
 use std::marker::Model;
 use transport::{Got, Wire, WireFault};
+
+/// The most bytes that a read gives.
+pub const LENT_MAX: usize = 4096;
 
 /// A wire whose connections are peers that were made beforehand. It reports all that is read and
 /// written, which are shut, and of which a call has failed.
@@ -20,6 +25,8 @@ pub struct MemoryWire<A: Allocator + Copy> {
     failed: u64,
     // How many calls are left until the one that fails; 0 where none does.
     fails_in: u64,
+    // What the last read gave.
+    lent: ArrayVec<u8, LENT_MAX>,
 }
 
 impl<A: Allocator + Copy> Model for MemoryWire<A> {
@@ -33,6 +40,7 @@ impl<A: Allocator + Copy> Model for MemoryWire<A> {
       accepted = w.accepted;
       failed = w.failed;
       fails_in = w.fails_in;
+      lent = w.lent.items;
     } };
 
     ghost invariant = { λ w. w.accepted ≤ vec_len w.peers };
@@ -41,7 +49,7 @@ impl<A: Allocator + Copy> Model for MemoryWire<A> {
 impl<A: Allocator + Copy> MemoryWire<A> {
     /// A wire without connections.
     pub fn new(alloc: A) -> MemoryWire<A>
-        ensures { result ≡ record { peers = []; accepted = 0; failed = 0; fails_in = 0 } }
+        ensures { result ≡ record { peers = []; accepted = 0; failed = 0; fails_in = 0; lent = [] } }
     {
         MemoryWire {
             alloc,
@@ -49,12 +57,13 @@ impl<A: Allocator + Copy> MemoryWire<A> {
             accepted: 0,
             failed: 0,
             fails_in: 0,
+            lent: ArrayVec::new(),
         }
     }
 
-    /// Adds a peer whose reads give these chunks, cut to the buffer, and then the end; empty chunks
-    /// are passed over. Answers the number that `accept` will give it: peers are accepted in the
-    /// order of these calls. On `OutOfMemory` the chunks are dropped.
+    /// Adds a peer whose reads give these chunks, cut to what is asked for and to 4,096 bytes, and then
+    /// the end; empty chunks are passed over. Answers the number that `accept` will give it: peers are
+    /// accepted in the order of these calls. On `OutOfMemory` the chunks are dropped.
     pub fn connect(&mut self, chunks: Vec<Vec<u8, A>, A>) -> Result<u64, WireFault>
         ensures ok { IfOk result (λ number. number ≡ length self.old.peers) }
         ensures connected { OnOk result (self.new ≡ with_peer (contents_of chunks.items) self.old) }
@@ -180,6 +189,8 @@ impl<A: Allocator + Copy> Wire for MemoryWire<A> {
 
     ghost failed = { λ wire. wire.failed };
 
+    ghost lent = { λ wire. wire.lent };
+
     fn accept(&mut self) -> Result<Option<u64>, WireFault>
         ensures answer { result ≡ accept_answer self.old }
         ensures after { self.new ≡ after_accept self.old }
@@ -200,18 +211,27 @@ impl<A: Allocator + Copy> Wire for MemoryWire<A> {
         Ok(None)
     }
 
-    fn read(&mut self, number: u64, buf: &mut [u8]) -> Result<Got, WireFault>
-        ensures answer { result ≡ read_answer self.old number (length buf.old) }
-        ensures after { self.new ≡ after_read self.old number (length buf.old) }
-        ensures given { OnOk result (Gives result buf.old buf.new (peer_of self.old number)) }
+    fn read(&mut self, number: u64, most: usize) -> Result<Got, WireFault>
+        ensures answer { result ≡ read_answer self.old number (min most LENT_MAX) }
+        ensures after { self.new ≡ after_read self.old number (min most LENT_MAX) }
         ensures bound { self.new.accepted ≡ self.old.accepted }
-        ensures read { Reads (report_by self.old) (report_by self.new) number result buf.new }
+        ensures within { IsWithin result most self.new.lent }
+        ensures read { Reads (report_by self.old) (report_by self.new) number result self.new.lent }
         ensures cause { HasCause self.old.failed self.new.failed result }
     {
         if self.fails_for(number) {
             return Err(WireFault::Device);
         }
-        Ok(self.peers[number as usize].read(buf))
+        let mut room = [0u8; LENT_MAX];
+        let (front, _) = room.split_at_mut(most.min(LENT_MAX));
+        let (got, n) = self.peers[number as usize].read(front);
+        self.lent.clear();
+        let _fits = self.lent.try_extend_from_slice(front.split_at(n).0);
+        Ok(got)
+    }
+
+    fn bytes(&self) -> &[u8] {
+        self.lent.as_slice()
     }
 
     fn write(&mut self, number: u64, buf: &[u8]) -> Result<usize, WireFault>

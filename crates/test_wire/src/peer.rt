@@ -116,32 +116,39 @@ impl<A: Allocator + Copy> Peer<A> {
         self.has_failed
     }
 
-    // The next bytes, and what is left.
-    fn give(&mut self, buf: &mut [u8]) -> Got
-        ensures got { result ≡ got_from (past_empty self.old.chunks) (length buf.old) }
+    // The next bytes, how many there are, and what is left.
+    fn give(&mut self, buf: &mut [u8]) -> (Got, usize)
+        ensures got { result.0 ≡ got_from (past_empty self.old.chunks) (length buf.old) }
         ensures len { length buf.new ≡ length buf.old }
-        ensures given { Gives (Ok result) buf.old buf.new self.old }
+        ensures fits { result.1 ≤ length buf.old }
+        ensures given { Gives result.0 (take result.1 buf.new) (length buf.old) self.old }
         ensures left { self.new ≡ giving (length buf.old) self.old }
-        ensures within { IsWithin (Ok result) (length buf.new) }
-        ensures ended { EndsAt (Ok result) (Some (unread_of self.new)) }
+        ensures within { IsWithin (Ok result.0) (length buf.old) (take result.1 buf.new) }
+        ensures ended { EndsAt (Ok result.0) (Some (unread_of self.new)) }
     {
         skip_empty(&mut self.chunks);
         let Some(first) = self.chunks.first_mut() else {
-            return Got::Ended;
+            return (Got::Ended, 0);
         };
         let n = take_prefix(first, buf);
-        if n == 0 { Got::Nothing } else { Got::Bytes(n) }
+        if n == 0 {
+            (Got::Nothing, 0)
+        } else {
+            (Got::Bytes, n)
+        }
     }
 
-    /// The next bytes, as many as the buffer takes and the first chunk has.
-    pub fn read(&mut self, buf: &mut [u8]) -> Got
-        ensures got { result ≡ got_from (past_empty self.old.chunks) (length buf.old) }
+    /// The next bytes, as many as the buffer takes and the first chunk has, and how many they are.
+    pub fn read(&mut self, buf: &mut [u8]) -> (Got, usize)
+        ensures got { result.0 ≡ got_from (past_empty self.old.chunks) (length buf.old) }
         ensures len { length buf.new ≡ length buf.old }
-        ensures given { Gives (Ok result) buf.old buf.new self.old }
+        ensures fits { result.1 ≤ length buf.old }
+        ensures given { Gives result.0 (take result.1 buf.new) (length buf.old) self.old }
         ensures left { self.new ≡ giving (length buf.old) self.old }
-        ensures within { IsWithin (Ok result) (length buf.new) }
-        ensures consumed { HasGiven self.old self.new (bytes_read (Ok result) buf.new) }
-        ensures ended { EndsAt (Ok result) (Some (unread_of self.new)) }
+        ensures within { IsWithin (Ok result.0) (length buf.old) (take result.1 buf.new) }
+        ensures consumed { HasGiven self.old self.new
+            (bytes_read (Ok result.0) (take result.1 buf.new)) }
+        ensures ended { EndsAt (Ok result.0) (Some (unread_of self.new)) }
     {
         self.give(buf)
     }

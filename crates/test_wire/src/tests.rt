@@ -30,13 +30,8 @@ impl Client {
         let Some(number) = self.number else {
             return Ok(());
         };
-        let mut buf = [0u8; 5];
-        match self.wire.read(number, &mut buf) {
-            Ok(Got::Bytes(n)) => {
-                if let Some(front) = buf.get(..n) {
-                    self.read.extend_from_slice(front)?;
-                }
-            }
+        match self.wire.read(number, 5) {
+            Ok(Got::Bytes) => self.read.extend_from_slice(self.wire.bytes())?,
             Ok(Got::Ended) => self.has_ended = true,
             _ => {}
         }

@@ -29,15 +29,11 @@ longer_by (Some x) None bytes lt c = absurd c
 longer_by (Some x) (Some y) bytes lt c = (let e : length y ≡ length x + length bytes = ap length c ∙ length-append x bytes in omega arith)
 
 -- a read that gave bytes
-pub read_transfers : (a b c : Report) (number n : ℕ) (buf : List ℕ) → Reads a b number (Ok (Bytes n)) buf → Keeps (b.unread number) (c.unread number) → Keeps (b.given number) (c.given number) → Transfers a c number
-read_transfers a b c number n buf r k g =
-    let least : 1 ≤ n = r.within.0 in
-    let most : n ≤ length buf = r.within.1 in
-    let e : length (take n buf) ≡ n = length-take-le n buf most in
-    let some : 1 ≤ length (take n buf) = omega arith in
+pub read_transfers : (a b c : Report) (number : ℕ) (lent : List ℕ) → 1 ≤ length lent → Reads a b number (Ok Bytes) lent → Keeps (b.unread number) (c.unread number) → Keeps (b.given number) (c.given number) → Transfers a c number
+read_transfers a b c number lent some r k g =
     inl (
-      shorter_kept _ _ _ (shorter_by (a.unread number) (b.unread number) (take n buf) some r.consumed) k,
-      longer_kept _ _ _ (longer_by (a.given number) (b.given number) (take n buf) some r.given) g,
+      shorter_kept _ _ _ (shorter_by (a.unread number) (b.unread number) lent some r.consumed) k,
+      longer_kept _ _ _ (longer_by (a.given number) (b.given number) lent some r.given) g,
     )
 
 -- a write that took bytes

@@ -2,10 +2,10 @@
 use Rattle.std.specs.Prelude.{◌≡◌, ◌⊎◌, ⊤, ℕ, Bool, List, [], ◌∷◌, ◌++◌, Option, None, Some, Result}
 use Rattle.transport.specs.declared.wire.WireFault.{WireFault}
 
--- a call of a wire: an accept with its answer, a read of a connection into so much room, a write of these bytes to one, a shut of one, and a wait with its answer, until something may be ready or for no time
+-- a call of a wire: an accept with its answer, a read of a connection, of so many bytes at most, a write of these bytes to one, a shut of one, and a wait with its answer, until something may be ready or for no time
 pub data Call : Type 0 where
   Accept : (answer : Result (Option ℕ) WireFault) → Call
-  Read : (number room : ℕ) → Call
+  Read : (number most : ℕ) → Call
   Write : (number : ℕ) (bytes : List ℕ) → Call
   Shut : (number : ℕ) → Call
   Wait : (idle : Bool) (answer : Result (Unit {0}) WireFault) → Call

@@ -62,33 +62,32 @@ abbrev pub ReportsFailure : {T : Type 0} → Result T WireFault → Option Bool 
 ReportsFailure (Ok value) old new = Stays old new
 ReportsFailure (Err fault) old new = IsRaised old new
 
--- the bytes that a read gave
+-- the bytes that a read gave, by what is lent after it
 abbrev pub bytes_read : Result Got WireFault → List ℕ → List ℕ
-bytes_read (Ok (Bytes n)) buf = take n buf
-bytes_read (Ok Nothing) buf = []
-bytes_read (Ok Ended) buf = []
-bytes_read (Err fault) buf = []
+bytes_read (Ok Bytes) lent = lent
+bytes_read (Ok Nothing) lent = []
+bytes_read (Ok Ended) lent = []
+bytes_read (Err fault) lent = []
 
--- the number of bytes that a read gave is at least one and within the buffer
-abbrev pub IsWithin : Result Got WireFault → ℕ → Type 0
-IsWithin (Ok (Bytes n)) most = (1 ≤ n) × (n ≤ most)
-IsWithin (Ok Nothing) most = ⊤
-IsWithin (Ok Ended) most = ⊤
-IsWithin (Err fault) most = ⊤
+-- a read that gave bytes gave at least one, and at most so many
+abbrev pub IsWithin : Result Got WireFault → ℕ → List ℕ → Type 0
+IsWithin (Ok Bytes) most lent = (1 ≤ length lent) × (length lent ≤ most)
+IsWithin (Ok Nothing) most lent = ⊤
+IsWithin (Ok Ended) most lent = ⊤
+IsWithin (Err fault) most lent = ⊤
 
 -- at the end nothing is left
 abbrev pub EndsAt : Result Got WireFault → Option (List ℕ) → Type 0
 EndsAt (Ok Ended) left = IsAtEnd left
-EndsAt (Ok (Bytes n)) left = ⊤
+EndsAt (Ok Bytes) left = ⊤
 EndsAt (Ok Nothing) left = ⊤
 EndsAt (Err fault) left = ⊤
 
 -- a read gave the next bytes of its connection, or failed and moved none; nothing else changed
-pub record Reads (old new : Report) (number : ℕ) (result : Result Got WireFault) (buf : List ℕ)
+pub record Reads (old new : Report) (number : ℕ) (result : Result Got WireFault) (lent : List ℕ)
     : Type 0 where
-  pub within : IsWithin result (length buf)
-  pub consumed : Consumes (old.unread number) (new.unread number) (bytes_read result buf)
-  pub given : Appends (old.given number) (new.given number) (bytes_read result buf)
+  pub consumed : Consumes (old.unread number) (new.unread number) (bytes_read result lent)
+  pub given : Appends (old.given number) (new.given number) (bytes_read result lent)
   pub ended : EndsAt result (new.unread number)
   pub written : Keeps (old.written number) (new.written number)
   pub shut : Stays (old.is_shut number) (new.is_shut number)

@@ -1,8 +1,8 @@
 //! Connections under numbers, which are asked at each call and never waited for.
 
-ghost use Rattle.std.specs.Prelude.{◌≡◌, ◌≤◌, ℕ, List, [], ◌∷◌, length, Option, None};
+ghost use Rattle.std.specs.Prelude.{◌≡◌, ◌≤◌, ℕ, List, [], ◌∷◌, Option, None};
 ghost use Rattle.transport.specs.Asked.{Call, Accept, Read, Write, Shut, Wait, Asks};
-ghost use Rattle.transport.specs.Report.{GivesNumber, Report, nothing_reported, KeepsAll, Reads, Writes, Shuts, HasCause};
+ghost use Rattle.transport.specs.Report.{GivesNumber, Report, nothing_reported, KeepsAll, Reads, Writes, Shuts, HasCause, IsWithin};
 ghost use Rattle.transport.specs.declared.wire.WireFault.TheVariants.{OutOfMemory};
 
 use std::alloc::{AllocError, AllocFailed};
@@ -33,8 +33,8 @@ impl<T: Drop> From<AllocFailed<T>> for WireFault {
 /// What a read found.
 #[derive(Clone, Copy, Debug, PartialEq, Eq)]
 pub enum Got {
-    /// So many bytes, at least 1, at the start of the buffer.
-    Bytes(usize),
+    /// Bytes, at least one, which the wire lends.
+    Bytes,
     /// Nothing now.
     Nothing,
     /// Nothing from here on.
@@ -56,6 +56,9 @@ pub trait Wire {
     /// How many calls have failed; it stays at 18,446,744,073,709,551,615 once it is there.
     ghost failed: { Self → ℕ };
 
+    /// The bytes that it lends.
+    ghost lent: { Self → List ℕ };
+
     /// The number of a new connection, if one waits. Numbers differ. A call that fails takes nobody.
     fn accept(&mut self) -> Result<Option<u64>, WireFault>
         ensures number { GivesNumber (bound self.old) (bound self.new) result }
@@ -63,12 +66,18 @@ pub trait Wire {
         ensures unchanged { KeepsAll (report self.old) (report self.new) }
         ensures cause { HasCause (failed self.old) (failed self.new) result };
 
-    /// Reads what is there into the start of the buffer, which is not empty.
-    fn read(&mut self, number: u64, buf: &mut [u8]) -> Result<Got, WireFault>
+    /// Reads what is there, at most so many bytes, which are 1 or more. The bytes are lent until the next
+    /// call.
+    fn read(&mut self, number: u64, most: usize) -> Result<Got, WireFault>
         ensures bound { bound self.new ≡ bound self.old }
-        ensures read { Reads (report self.old) (report self.new) number result buf.new }
-        ensures asked { Asks (asked self.old) (asked self.new) (Read number (length buf.old) ∷ []) }
+        ensures within { IsWithin result most (lent self.new) }
+        ensures read { Reads (report self.old) (report self.new) number result (lent self.new) }
+        ensures asked { Asks (asked self.old) (asked self.new) (Read number most ∷ []) }
         ensures cause { HasCause (failed self.old) (failed self.new) result };
+
+    /// The bytes that it lends: those that the last call gave, where that was a read that gave some.
+    fn bytes(&self) -> &[u8]
+        ensures { result.now ≡ lent self.now };
 
     /// Writes what it takes, a prefix, and answers how many bytes; 0 where it takes none now.
     fn write(&mut self, number: u64, buf: &[u8]) -> Result<usize, WireFault>

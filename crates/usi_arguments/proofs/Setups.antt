@@ -58,9 +58,6 @@ no_depth options most max_is none setup range is =
 pub no_lines : (options : List Row) → HasNone (codes "lines") 8 options → HasNoSetup options
 no_lines options none setup range is = none setup.lines range.2 is.2
 
-pub no_evaluation : (options : List Row) → HasNoEvaluation options → HasNoSetup options
-no_evaluation options none setup range is = none setup.evaluation is.3
-
 -- a depth that is named is no number of the range
 no_named_depth : (options : List Row) (most : ℕ) (text : Text) → first_of (codes "depth") options ≡ Some text → HasNone (codes "depth") 16 options → HasNoDepth options most
 no_named_depth options most text is none depth range (inl named) = none depth range named

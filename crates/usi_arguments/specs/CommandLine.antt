@@ -2,8 +2,9 @@
 use Rattle.std.specs.Prelude.{◌≡◌, ◌∷◌, ◌≤◌, ◌-◌, ◌^◌, ℕ, Bool, true, false, IfOk, List, [], None, Option, Result, Some, String, codes, option_map, string_bytes}
 use Rattle.std.specs.Str.{bytes_eq}
 use Rattle.std.specs.Str.Parse.{IsNumeral, digits_value}
-use Rattle.clap.specs.Words.{App, Kinds, Row, Rule, Text, app_of, fault_of, first_of, found_of, new_app, new_rule, rows_of, subcommand_of, with_rule, with_subcommand}
+use Rattle.clap.specs.Words.{App, Kinds, Row, Rule, Text, app_of, fault_of, first_of, found_of, new_app, new_rule, rows_of, rule_of, subcommand_of, with_rule, with_subcommand}
 use Rattle.clap.specs.declared.builder.action.ArgAction.TheVariants.{SetTrue}
+use Rattle.clap.specs.declared.builder.arg.Arg.{Arg}
 use Rattle.clap.specs.declared.builder.command.Command.{Command}
 use Rattle.clap.specs.declared.builder.command.Command.TheViews.{out-Command as fields_of}
 use Rattle.clap.specs.declared.builder.value_parser.ValueParser.TheVariants as parser
@@ -60,10 +61,17 @@ lines_option = number_option (codes "lines") 8 (codes "1")
 abbrev pub eval_option : Rule
 eval_option = record (value_option (codes "eval")) { defaults = codes "plain" ∷ [] }
 
--- the command, where it could be made, is this one, with no option that its commands share
+-- the option has this rule, and is one of its own command alone
+abbrev pub IsOption : Rule → Arg → Type 0
+IsOption rule arg = (rule_of arg ≡ rule) × (arg.global ≡ false)
+
+-- the command is this one, with no option that its commands share
+abbrev pub IsCommand : App → Command → Type 0
+IsCommand app command = (app_of command ≡ app) × ((fields_of command).has_globals ≡ false)
+
+-- the command, where it could be made, is this one
 abbrev pub IsMade : {E : Type 0} → App → Result Command E → Type 0
-IsMade app made =
-    IfOk made (λ command. (app_of command ≡ app) × ((fields_of command).has_globals ≡ false))
+IsMade app made = IfOk made (IsCommand app)
 
 -- a command with the options of the setup
 abbrev pub with_setup_options : App → App

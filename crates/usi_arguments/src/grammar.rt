@@ -1,12 +1,13 @@
 //! The command line as `clap` is told it: the commands with their options.
-ghost use Rattle.std.specs.Prelude.{◌≡◌, codes, false, IfOk};
-ghost use Rattle.clap.specs.Words.{App, Rule, app_of, new_app, rule_of, with_rule, with_subcommand};
-ghost use Rattle.clap.specs.declared.builder.command.Command.TheViews.{out-Command as fields_of};
-ghost use Rattle.usi_arguments.specs.CommandLine.{IsMade, bare_line, command_line, depth_option, divide_option, entries_option, eval_option, lines_option, max_depth_option, moves_command, number_option, perft_command, plies_option, replay_command, serve_command, sfen_option, slice_option, slots_option, socket_command, socket_option, status_option, stdio_command, turns_option, value_option, with_host_options, with_setup_options};
+ghost use Rattle.std.specs.Prelude.{◌≡◌, IfOk};
+ghost use Rattle.clap.specs.Words.{App, Rule, app_of, new_app, with_rule, with_subcommand};
+ghost use Rattle.usi_arguments.specs.CommandLine.{IsCommand, IsMade, IsOption, bare_line, command_line, depth_option, divide_option, entries_option, eval_option, moves_command, number_option, perft_command, plies_option, replay_command, serve_command, sfen_option, socket_command, socket_option, stdio_command, turns_option, value_option, with_host_options, with_setup_options};
 
+use crate::help;
 use crate::help::{
-    ABOUT, AFTER_HELP, AFTER_LONG_HELP, MOVES_HELP, MOVES_LONG_HELP, PERFT_HELP, PERFT_LONG_HELP,
-    REPLAY_HELP, REPLAY_LONG_HELP, SERVE_HELP, SERVE_LONG_HELP, STDIO_HELP, STDIO_LONG_HELP,
+    ABOUT, AFTER_HELP, AFTER_LONG_HELP, MOVES_ABOUT, MOVES_HELP, MOVES_LONG_HELP, PERFT_ABOUT,
+    PERFT_HELP, PERFT_LONG_HELP, REPLAY_ABOUT, REPLAY_HELP, REPLAY_LONG_HELP, SERVE_ABOUT,
+    SERVE_HELP, SERVE_LONG_HELP, STDIO_ABOUT, STDIO_HELP, STDIO_LONG_HELP,
 };
 use crate::version::version_text;
 use clap::builder::ValueParser;
@@ -53,8 +54,7 @@ fn described<'a>(
     after_help: &'a str,
     after_long_help: &'a str,
 ) -> Command<'a>
-    ensures app { app_of result ≡ new_app name.entry.now }
-    ensures local { (fields_of result).has_globals ≡ false }
+    ensures { IsCommand (new_app name.entry.now) result }
 {
     Command::new(alloc, name)
         .about(about)
@@ -67,8 +67,7 @@ fn with_option<'a>(
     made: Result<Command<'a>, AllocError>,
     option: Arg<'a>,
 ) -> Result<Command<'a>, AllocError>
-    requires { option.global ≡ false }
-    ensures { (app : App) (rule : Rule) → rule_of option.entry ≡ rule → IsMade app made.entry
+    ensures { (app : App) (rule : Rule) → IsOption rule option.entry → IsMade app made.entry
         → IsMade (with_rule app rule) result }
 {
     made?.arg(option)
@@ -77,26 +76,14 @@ fn with_option<'a>(
 fn stdio_command<'a>(alloc: Global) -> Result<Command<'a>, AllocError>
     ensures { IsMade stdio_command result }
 {
-    let command = described(
-        alloc,
-        "stdio",
-        "Answers one front end over standard input and output",
-        STDIO_HELP,
-        STDIO_LONG_HELP,
-    );
+    let command = described(alloc, "stdio", STDIO_ABOUT, STDIO_HELP, STDIO_LONG_HELP);
     with_setup_options(alloc, with_option(Ok(command), entries_option(alloc)))
 }
 
 fn replay_command<'a>(alloc: Global) -> Result<Command<'a>, AllocError>
     ensures { IsMade replay_command result }
 {
-    let command = described(
-        alloc,
-        "replay",
-        "Runs many sessions from one script on standard input",
-        REPLAY_HELP,
-        REPLAY_LONG_HELP,
-    );
+    let command = described(alloc, "replay", REPLAY_ABOUT, REPLAY_HELP, REPLAY_LONG_HELP);
     with_setup_options(alloc, with_host_options(alloc, Ok(command)))
 }
 
@@ -107,9 +94,12 @@ fn with_host_options<'a>(
 ) -> Result<Command<'a>, AllocError>
     ensures { (app : App) → IsMade app made.entry → IsMade (with_host_options app) result }
 {
-    let made = with_option(made, slots_option(alloc));
+    let made = with_option(made, number_option(alloc, "slots", 1024, "64", help::SLOTS));
     let made = with_option(made, entries_option(alloc));
-    with_option(made, slice_option(alloc))
+    with_option(
+        made,
+        number_option(alloc, "slice", 1_000_000_000, "300", help::SLICE),
+    )
 }
 
 /// The command with the options of the setup, where it was made.
@@ -120,8 +110,11 @@ fn with_setup_options<'a>(
     ensures { (app : App) → IsMade app made.entry → IsMade (with_setup_options app) result }
 {
     let made = with_option(made, depth_option(alloc));
-    let made = with_option(made, max_depth_option(alloc));
-    let made = with_option(made, lines_option(alloc));
+    let made = with_option(
+        made,
+        number_option(alloc, "max-depth", 16, "16", help::MAX_DEPTH),
+    );
+    let made = with_option(made, number_option(alloc, "lines", 8, "1", help::LINES));
     with_option(made, eval_option(alloc))
 }
 
@@ -137,27 +130,15 @@ fn serve_command<'a>(alloc: Global) -> Result<Command<'a>, AllocError>
 fn socket_command<'a>(alloc: Global) -> Result<Command<'a>, AllocError>
     ensures { IsMade socket_command result }
 {
-    let command = described(
-        alloc,
-        "serve",
-        "Serves many front ends on a Unix socket, each with a session of its own",
-        SERVE_HELP,
-        SERVE_LONG_HELP,
-    );
+    let command = described(alloc, "serve", SERVE_ABOUT, SERVE_HELP, SERVE_LONG_HELP);
     let made = with_option(Ok(command), socket_option(alloc));
-    with_option(made, status_option(alloc))
+    with_option(made, value_option(alloc, "status", "PATH", help::STATUS))
 }
 
 fn perft_command<'a>(alloc: Global) -> Result<Command<'a>, AllocError>
     ensures { IsMade perft_command result }
 {
-    let command = described(
-        alloc,
-        "perft",
-        "Counts the sequences of legal moves from a position",
-        PERFT_HELP,
-        PERFT_LONG_HELP,
-    );
+    let command = described(alloc, "perft", PERFT_ABOUT, PERFT_HELP, PERFT_LONG_HELP);
     let made = with_option(Ok(command), plies_option(alloc));
     let made = with_option(made, sfen_option(alloc));
     with_option(made, divide_option(alloc))
@@ -166,181 +147,69 @@ fn perft_command<'a>(alloc: Global) -> Result<Command<'a>, AllocError>
 fn moves_command<'a>(alloc: Global) -> Result<Command<'a>, AllocError>
     ensures { IsMade moves_command result }
 {
-    let command = described(
-        alloc,
-        "moves",
-        "Lists the legal moves of a position",
-        MOVES_HELP,
-        MOVES_LONG_HELP,
-    );
+    let command = described(alloc, "moves", MOVES_ABOUT, MOVES_HELP, MOVES_LONG_HELP);
     with_option(Ok(command), sfen_option(alloc))
 }
 
 fn sfen_option<'a>(alloc: Global) -> Arg<'a>
-    ensures rule { rule_of result ≡ sfen_option }
-    ensures local { result.global ≡ false }
+    ensures { IsOption sfen_option result }
 {
-    value_option(
-        alloc,
-        "sfen",
-        "SFEN",
-        "The position, and after it `moves` and moves [default: the opening position]",
-    )
+    value_option(alloc, "sfen", "SFEN", help::SFEN)
 }
 
 fn plies_option<'a>(alloc: Global) -> Arg<'a>
-    ensures rule { rule_of result ≡ plies_option }
-    ensures local { result.global ≡ false }
+    ensures { IsOption plies_option result }
 {
-    value_option(
-        alloc,
-        "depth",
-        "N",
-        "How many moves long the sequences are, from 1 to 16",
-    )
-    .required(true)
-    .value_parser(ValueParser::unsigned(1, 16))
+    value_option(alloc, "depth", "N", help::PLIES)
+        .required(true)
+        .value_parser(ValueParser::unsigned(1, 16))
 }
 
 fn divide_option<'a>(alloc: Global) -> Arg<'a>
-    ensures rule { rule_of result ≡ divide_option }
-    ensures local { result.global ≡ false }
+    ensures { IsOption divide_option result }
 {
     Arg::new(alloc, "divide")
         .long("divide")
         .action(ArgAction::SetTrue)
-        .help("Tells the count of each first move, too")
+        .help(help::DIVIDE)
 }
 
 fn socket_option<'a>(alloc: Global) -> Arg<'a>
-    ensures rule { rule_of result ≡ socket_option }
-    ensures local { result.global ≡ false }
+    ensures { IsOption socket_option result }
 {
-    value_option(
-        alloc,
-        "socket",
-        "PATH",
-        "Where the socket is made: a path of 1 to 107 bytes, which must not exist",
-    )
-    .required(true)
-}
-
-fn status_option<'a>(alloc: Global) -> Arg<'a>
-    ensures rule { rule_of result ≡ status_option }
-    ensures local { result.global ≡ false }
-{
-    value_option(
-        alloc,
-        "status",
-        "PATH",
-        "Where a second socket is made, which tells the status: a path like that of --socket",
-    )
+    value_option(alloc, "socket", "PATH", help::SOCKET).required(true)
 }
 
 fn turns_option<'a>(alloc: Global) -> Arg<'a>
-    ensures rule { rule_of result ≡ turns_option }
-    ensures local { result.global ≡ false }
+    ensures { IsOption turns_option result }
 {
     number_option(
         alloc,
         "turns",
         u64::MAX,
         "18446744073709551615",
-        "After how many turns it ends, from 1 to 18446744073709551615 [default: no end]",
+        help::TURNS,
     )
     .hide_default_value(true)
 }
 
-fn slots_option<'a>(alloc: Global) -> Arg<'a>
-    ensures rule { rule_of result ≡ slots_option }
-    ensures local { result.global ≡ false }
-{
-    number_option(
-        alloc,
-        "slots",
-        1024,
-        "64",
-        "How many sessions may be open at a time, from 1 to 1024",
-    )
-}
-
 fn entries_option<'a>(alloc: Global) -> Arg<'a>
-    ensures rule { rule_of result ≡ entries_option }
-    ensures local { result.global ≡ false }
+    ensures { IsOption entries_option result }
 {
-    number_option(
-        alloc,
-        "entries",
-        1_000_000,
-        "4096",
-        "How many positions the transposition table keeps, from 1 to 1000000",
-    )
-}
-
-fn slice_option<'a>(alloc: Global) -> Arg<'a>
-    ensures rule { rule_of result ≡ slice_option }
-    ensures local { result.global ≡ false }
-{
-    number_option(
-        alloc,
-        "slice",
-        1_000_000_000,
-        "300",
-        "How many steps a session searches before the others' turn, from 1 to 1000000000",
-    )
+    number_option(alloc, "entries", 1_000_000, "4096", help::ENTRIES)
 }
 
 /// Without a default of `clap`: where it is left out, it depends on `--max-depth`.
 fn depth_option<'a>(alloc: Global) -> Arg<'a>
-    ensures rule { rule_of result ≡ depth_option }
-    ensures local { result.global ≡ false }
+    ensures { IsOption depth_option result }
 {
-    value_option(
-        alloc,
-        "depth",
-        "N",
-        "The option Depth as a session begins, from 1 to 16 [default: 3, or --max-depth if less]",
-    )
-    .value_parser(ValueParser::unsigned(1, 16))
-}
-
-fn max_depth_option<'a>(alloc: Global) -> Arg<'a>
-    ensures rule { rule_of result ≡ max_depth_option }
-    ensures local { result.global ≡ false }
-{
-    number_option(
-        alloc,
-        "max-depth",
-        16,
-        "16",
-        "The greatest depth of a search, from 1 to 16: Depth and `go depth` are held to it",
-    )
-}
-
-fn lines_option<'a>(alloc: Global) -> Arg<'a>
-    ensures rule { rule_of result ≡ lines_option }
-    ensures local { result.global ≡ false }
-{
-    number_option(
-        alloc,
-        "lines",
-        8,
-        "1",
-        "The option MultiPV as a session begins, from 1 to 8",
-    )
+    value_option(alloc, "depth", "N", help::DEPTH).value_parser(ValueParser::unsigned(1, 16))
 }
 
 fn eval_option<'a>(alloc: Global) -> Arg<'a>
-    ensures rule { rule_of result ≡ eval_option }
-    ensures local { result.global ≡ false }
+    ensures { IsOption eval_option result }
 {
-    value_option(
-        alloc,
-        "eval",
-        "NAME",
-        "The option Eval as a session begins: plain, hand or exchange; Exchange is offered only so",
-    )
-    .default_value("plain")
+    value_option(alloc, "eval", "NAME", help::EVAL).default_value("plain")
 }
 
 /// The option of a number from 1 to `most`, which is `usual` where it is left out.
@@ -351,8 +220,7 @@ fn number_option<'a>(
     usual: &'a str,
     help: &'a str,
 ) -> Arg<'a>
-    ensures rule { rule_of result ≡ number_option name.entry.now most usual.entry.now }
-    ensures local { result.global ≡ false }
+    ensures { IsOption (number_option name.entry.now most usual.entry.now) result }
 {
     value_option(alloc, name, "N", help)
         .value_parser(ValueParser::unsigned(1, most))
@@ -361,8 +229,7 @@ fn number_option<'a>(
 
 /// The option of a value, which help calls `value`.
 fn value_option<'a>(alloc: Global, name: &'a str, value: &'a str, help: &'a str) -> Arg<'a>
-    ensures rule { rule_of result ≡ value_option name.entry.now }
-    ensures local { result.global ≡ false }
+    ensures { IsOption (value_option name.entry.now) result }
 {
     Arg::new(alloc, name)
         .long(name)

@@ -111,3 +111,49 @@ Exit statuses:
 
 Example:
   usi_host serve --socket /tmp/shogi.socket --status /tmp/shogi.status --slots 256";
+
+pub(crate) const STDIO_ABOUT: &str = "Answers one front end over standard input and output";
+
+pub(crate) const REPLAY_ABOUT: &str = "Runs many sessions from one script on standard input";
+
+pub(crate) const SERVE_ABOUT: &str =
+    "Serves many front ends on a Unix socket, each with a session of its own";
+
+pub(crate) const PERFT_ABOUT: &str = "Counts the sequences of legal moves from a position";
+
+pub(crate) const MOVES_ABOUT: &str = "Lists the legal moves of a position";
+
+pub(crate) const SFEN: &str =
+    "The position, and after it `moves` and moves [default: the opening position]";
+
+pub(crate) const PLIES: &str = "How many moves long the sequences are, from 1 to 16";
+
+pub(crate) const DIVIDE: &str = "Tells the count of each first move, too";
+
+pub(crate) const SOCKET: &str =
+    "Where the socket is made: a path of 1 to 107 bytes, which must not exist";
+
+pub(crate) const STATUS: &str =
+    "Where a second socket is made, which tells the status: a path like that of --socket";
+
+pub(crate) const TURNS: &str =
+    "After how many turns it ends, from 1 to 18446744073709551615 [default: no end]";
+
+pub(crate) const SLOTS: &str = "How many sessions may be open at a time, from 1 to 1024";
+
+pub(crate) const ENTRIES: &str =
+    "How many positions the transposition table keeps, from 1 to 1000000";
+
+pub(crate) const SLICE: &str =
+    "How many steps a session searches before the others' turn, from 1 to 1000000000";
+
+pub(crate) const DEPTH: &str =
+    "The option Depth as a session begins, from 1 to 16 [default: 3, or --max-depth if less]";
+
+pub(crate) const MAX_DEPTH: &str =
+    "The greatest depth of a search, from 1 to 16: Depth and `go depth` are held to it";
+
+pub(crate) const LINES: &str = "The option MultiPV as a session begins, from 1 to 8";
+
+pub(crate) const EVAL: &str =
+    "The option Eval as a session begins: plain, hand or exchange; Exchange is offered only so";

@@ -25,6 +25,12 @@ pub struct UsiAnswer {
     pub count: u64,
 }
 
+/// What is answered for a closed session.
+const CLOSED: UsiAnswer = UsiAnswer {
+    status: USI_CLOSED,
+    count: 0,
+};
+
 /// What `usi_look` answers.
 #[repr(C)]
 #[derive(Clone, Copy)]
@@ -176,10 +182,7 @@ pub extern "C" fn usi_work(session: &mut UsiSession, steps: u64) -> UsiAnswer
     ensures err { result.status ≢ USI_OK → result.count ≡ 0 }
 {
     let Some(mut open) = session.take_out() else {
-        return UsiAnswer {
-            status: USI_CLOSED,
-            count: 0,
-        };
+        return CLOSED;
     };
     let worked = open.work(steps);
     session.put_in(open);
@@ -208,10 +211,7 @@ pub extern "C" fn usi_take(session: &mut UsiSession, buffer: &mut [u8]) -> UsiAn
     ensures table { KeepsTable session.old session.new }
 {
     let Some(mut open) = session.take_out() else {
-        return UsiAnswer {
-            status: USI_CLOSED,
-            count: 0,
-        };
+        return CLOSED;
     };
     let count = open.take(buffer);
     session.put_in(open);

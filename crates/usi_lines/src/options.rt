@@ -48,14 +48,11 @@ fn read_multi_pv(word: &[u8]) -> Option<u8>
 fn read_eval(word: &[u8]) -> Option<Eval>
     ensures { result ≡ eval_read word.now }
 {
-    if is(word, b"Plain") {
-        Some(Eval::Plain)
-    } else if is(word, b"Hand") {
-        Some(Eval::Hand)
-    } else if is(word, b"Exchange") {
-        Some(Eval::Exchange)
-    } else {
-        None
+    match word {
+        _ if is(word, b"Plain") => Some(Eval::Plain),
+        _ if is(word, b"Hand") => Some(Eval::Hand),
+        _ if is(word, b"Exchange") => Some(Eval::Exchange),
+        _ => None,
     }
 }
 

@@ -66,28 +66,18 @@ fn go(text: &[u8]) -> Command<'_>
 fn named<'a>(name: &[u8], text: &'a [u8]) -> Command<'a>
     ensures { meaning_of result ≡ named_by name.now (words text.now) (after_word text.now) }
 {
-    if is(name, b"usi") {
-        Command::Usi
-    } else if is(name, b"isready") {
-        Command::IsReady
-    } else if is(name, b"usinewgame") {
-        Command::NewGame
-    } else if is(name, b"stop") {
-        Command::Stop
-    } else if is(name, b"ponderhit") {
-        Command::PonderHit
-    } else if is(name, b"gameover") {
-        Command::GameOver
-    } else if is(name, b"quit") {
-        Command::Quit
-    } else if is(name, b"setoption") {
-        read_option(text)
-    } else if is(name, b"position") {
-        position(text)
-    } else if is(name, b"go") {
-        go(text)
-    } else {
-        Command::Other
+    match name {
+        _ if is(name, b"usi") => Command::Usi,
+        _ if is(name, b"isready") => Command::IsReady,
+        _ if is(name, b"usinewgame") => Command::NewGame,
+        _ if is(name, b"stop") => Command::Stop,
+        _ if is(name, b"ponderhit") => Command::PonderHit,
+        _ if is(name, b"gameover") => Command::GameOver,
+        _ if is(name, b"quit") => Command::Quit,
+        _ if is(name, b"setoption") => read_option(text),
+        _ if is(name, b"position") => position(text),
+        _ if is(name, b"go") => go(text),
+        _ => Command::Other,
     }
 }
 

@@ -264,9 +264,6 @@ fed_by setup None g made text chunk h o = absurd o
 fed_by setup (Some s) None made text chunk h o = absurd h
 fed_by setup (Some s) (Some t) made text chunk h o = λ x. ap (λ xs. made ++ xs) (h x) ∙ (o (chunk ++ x) ∙ ap (replies_under setup) (sym (append_assoc text chunk x)))
 
-held_same : (o p : Opening) → o.in_use ≡ p.in_use → o.refused ≡ p.refused → has_session o ≡ has_session p
-held_same o p e f = rw (e, f) refl
-
 pub fed_live : (old new : HostState) (id : SessionId) (es : List Transcript) (i : ℕ) (x : Transcript) (chunk : List ℕ) → i < length es → x ≡ get_or es i x → open_id x ≡ Some id → KeepsAllBut old new id → IsFed (find old.slots id) (find new.slots id) chunk → IsSent (play old es) (play new es) i chunk
 fed_live old new id es i x chunk lt e l others fed setup slots os p =
     let a : get_or es i no_transcript ≡ x = item_is es i x lt e in

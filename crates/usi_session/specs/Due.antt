@@ -90,6 +90,11 @@ pub record KeepsDue (old new : SessionView) : Type 0 where
   pub load_most : load new ≤ load old
   pub grown : GrowsByLines old.queued new.queued
 
+-- what is owed stays, and so do the searches that are still to end
+pub record KeepsAll (old new : SessionView) : Type 0 where
+  pub due : KeepsDue old new
+  pub roots : KeepsRoots old new
+
 -- the answer to a line was queued, and the state is the one after it; or its `go` was started
 pub record QueuesAnswer (old : State) (line : Line) (new : State) (before after : List ℕ)
     (go_task : Option GoTaskView) : Type 0 where

@@ -1,5 +1,5 @@
 -- Sessions that a memory has the answers for: no step is left to make (own choice).
-use Rattle.std.specs.Prelude.{◌≡◌, ℕ, List, [], ◌∷◌, true, false, IfOk, IfSome, Option, Some, Result}
+use Rattle.std.specs.Prelude.{◌≡◌, ◌<◌, ℕ, List, [], ◌∷◌, true, false, IfOk, IfSome, Option, Some, Result}
 use Rattle.std.specs.List.{AllByRecursion}
 use Rattle.shogi_core.specs.Position.{Shogi}
 use Rattle.shogi_eval.specs.declared.eval.Eval.{Eval}
@@ -8,7 +8,7 @@ use Rattle.minimax.specs.declared.entry.Entry.{Entry}
 use Rattle.shogi_search.specs.Calls.{Call, Probe}
 use Rattle.usi_lines.specs.Lines.{Line, ahead}
 use Rattle.usi_session.specs.declared.state.State.{State}
-use Rattle.usi_session.specs.Due.{SessionView, is_pending, roots_left}
+use Rattle.usi_session.specs.Due.{SessionView, is_pending, roots_left, turns}
 use Rattle.usi_session.specs.GoTaskView.{GoTaskView, is_searching, rest_of_go_if}
 use Rattle.usi_session.specs.Roots.{Root}
 use Rattle.usi_session.specs.WholeStream.{answer_line}
@@ -68,6 +68,11 @@ abbrev pub StaysKnown : SessionView → SessionView → Type 0
 StaysKnown before after =
     (answers : Shogi → Eval → ℕ → Option Entry)
     → IsAllKnown answers before → IsAllKnown answers after
+
+-- where all is known it stays so, and fewer turns are left
+pub record TurnsOn (old new : SessionView) : Type 0 where
+  pub known : StaysKnown old new
+  pub fewer : turns new < turns old
 
 -- where all is known to a memory, a turn that succeeds makes no step and leaves all known
 abbrev pub TurnsKnown : {M E : Type 0} → (M → Shogi → Eval → ℕ → Option Entry)

@@ -36,10 +36,6 @@ state_from state (line ∷ rest) = state_from (answer_line state line).state res
 abbrev pub is_over_after_under : Setup → List ℕ → Bool
 is_over_after_under setup bytes = (state_from (initial_state_under setup) (lines bytes)).is_over
 
--- the same where nobody decides otherwise
-abbrev pub is_over_after : List ℕ → Bool
-is_over_after bytes = is_over_after_under default_setup bytes
-
 -- the replies of a new session under a setup to a whole stream of bytes
 abbrev pub replies_under : Setup → List ℕ → List ℕ
 replies_under setup bytes = replies_from (initial_state_under setup) (lines bytes)

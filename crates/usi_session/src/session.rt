@@ -1,8 +1,8 @@
 //! One USI session.
 
 ghost use Rattle.std.specs.Prelude.{◌≡◌, ◌≤◌, ◌++◌, ℕ, List, true, false, OnOk, OnErr, IfOk, OnSome, IfSome, IfNone, None, length, take, drop, ◌<◌, ◌+◌};
-ghost use Rattle.usi_session.specs.Due.{due, state_due, load, roots_due, turns, is_pending, wants_input, new_session, new_session_under, EndsSearches, HasSpent, IsMidSearch, IsPvWhole, IsSameAfter, KeepsDue, KeepsRoots, QueuesAnswer, QueuesEnd, QueuesLine};
-ghost use Rattle.usi_session.specs.Known.{StaysKnown, TakesNoStep, TurnsKnown};
+ghost use Rattle.usi_session.specs.Due.{due, state_due, load, roots_due, turns, is_pending, wants_input, new_session, new_session_under, EndsSearches, HasSpent, IsMidSearch, IsPvWhole, IsSameAfter, KeepsAll, KeepsDue, QueuesAnswer, QueuesEnd, QueuesLine};
+ghost use Rattle.usi_session.specs.Known.{TakesNoStep, TurnsKnown, TurnsOn};
 ghost use Rattle.usi_session.specs.GoTaskView.{is_last, is_searching};
 ghost use Rattle.usi_session.specs.WholeStream.{replies, replies_under, state_from};
 ghost use Rattle.usi_session.specs.Answer.{initial_state, initial_state_under};
@@ -180,10 +180,8 @@ impl<A: Allocator + Copy> Session<A> {
     fn answer_next(&mut self) -> Result<(), SessionFault>
         requires idle { self.old.go_task ≡ None }
         requires pending { is_pending self.old ≡ true }
-        ensures kept { KeepsDue self.old self.new }
-        ensures roots { KeepsRoots self.old self.new }
-        ensures known { OnOk result (StaysKnown self.old self.new) }
-        ensures fewer { OnOk result (turns self.new < turns self.old) }
+        ensures kept { KeepsAll self.old self.new }
+        ensures ok { OnOk result (TurnsOn self.old self.new) }
         ensures err { OnErr result (self.new ≡ self.old) }
     {
         let Some(line) = self.input.next_line() else {
@@ -200,10 +198,8 @@ impl<A: Allocator + Copy> Session<A> {
     fn report_next(&mut self) -> Result<(), SessionFault>
         requires whole { IsPvWhole self.old.go_task }
         requires pending { is_pending self.old ≡ true }
-        ensures kept { KeepsDue self.old self.new }
-        ensures roots { KeepsRoots self.old self.new }
-        ensures known { OnOk result (StaysKnown self.old self.new) }
-        ensures fewer { OnOk result (turns self.new < turns self.old) }
+        ensures kept { KeepsAll self.old self.new }
+        ensures ok { OnOk result (TurnsOn self.old self.new) }
         ensures err { OnErr result (self.new ≡ self.old) }
     {
         let Some(go_task) = &mut self.go_task else {

@@ -3,9 +3,8 @@
 use std::alloc::Allocator;
 use transport::WireFault;
 
-/// A call of a wire: an accept with its answer, a read of a connection into so much room, a write of
-/// these bytes to one, a shut of one, and a wait with its
-/// answer.
+/// A call of a wire: an accept with its answer, a read of a connection, of so many bytes at most, a
+/// write of these bytes to one, a shut of one, and a wait with its answer.
 #[derive(Drop)]
 pub enum Call<A: Allocator> {
     Accept(Result<Option<u64>, WireFault>),

@@ -61,15 +61,21 @@ impl<'r, R: Abort> Wire for RecordingWire<'r, R> {
 
     ghost failed = { λ w. w.wire.failed };
 
+    ghost lent = { λ w. w.wire.lent };
+
     fn accept(&mut self) -> Result<Option<u64>, WireFault> {
         let answer = self.wire.accept();
         self.keep(Call::Accept(answer));
         answer
     }
 
-    fn read(&mut self, number: u64, buf: &mut [u8]) -> Result<Got, WireFault> {
-        self.keep(Call::Read(number, buf.len()));
-        self.wire.read(number, buf)
+    fn read(&mut self, number: u64, most: usize) -> Result<Got, WireFault> {
+        self.keep(Call::Read(number, most));
+        self.wire.read(number, most)
+    }
+
+    fn bytes(&self) -> &[u8] {
+        self.wire.bytes()
     }
 
     fn write(&mut self, number: u64, buf: &[u8]) -> Result<usize, WireFault> {
@@ -137,7 +143,7 @@ fn is_due(call: &Call<Global>, due: Due) -> bool {
     match due {
         Due::Accepted(number) => matches!(call, Call::Accept(Ok(Some(n))) if *n == number),
         Due::Nobody => matches!(call, Call::Accept(Ok(None))),
-        Due::Read(number) => matches!(call, Call::Read(n, room) if *n == number && *room == 4096),
+        Due::Read(number) => matches!(call, Call::Read(n, most) if *n == number && *most == 4096),
         Due::Write(number, bytes) => {
             matches!(call, Call::Write(n, all) if *n == number && all.as_slice() == bytes)
         }

@@ -26,7 +26,7 @@ impl Model for TestWire {
     ghost view = { λ _. tt };
 }
 
-/// What a read found, with its bytes as their number.
+/// What a read found.
 type Read = Result<Got, WireFault>;
 
 const REFUSED: WireFault = WireFault::Device;
@@ -38,18 +38,12 @@ impl TestWire {
 
     // A read of at most so many bytes, and whether these are the bytes that it gave.
     fn gives(&mut self, number: u64, most: usize, bytes: &[u8]) -> bool {
-        let mut buf = [0u8; 64];
-        let room = most.min(buf.len());
-        match self.wire.read(number, &mut buf[..room]) {
-            Ok(Got::Bytes(n)) => buf.split_at(n).0 == bytes,
-            _ => false,
-        }
+        matches!(self.wire.read(number, most), Ok(Got::Bytes)) && self.wire.bytes() == bytes
     }
 
     // A read of at most four bytes.
     fn read(&mut self, number: u64) -> Read {
-        let mut buf = [0u8; 4];
-        self.wire.read(number, &mut buf)
+        self.wire.read(number, 4)
     }
 
     fn write(&mut self, number: u64, bytes: &[u8]) -> Result<usize, WireFault> {
@@ -111,8 +105,8 @@ fn assert_calls(rt: &impl Abort, wire: &mut TestWire, client: &mut UnixStream) -
     same!(*rt; wire.read(0), Ok(Got::Nothing));
     client.write_all(b"012345")?;
     same!(*rt; wire.accept(), Ok(None));
-    same!(*rt; wire.read(0), Ok(Got::Bytes(4)));
-    same!(*rt; wire.read(0), Ok(Got::Bytes(2)));
+    holds!(*rt; wire.gives(0, 4, b"0123"));
+    holds!(*rt; wire.gives(0, 4, b"45"));
     same!(*rt; wire.read(0), Ok(Got::Nothing));
     holds!(*rt; matches!(wire.fill(0), Ok(n) if n > 0));
     same!(*rt; wire.fill(0), Ok(0));

@@ -7,7 +7,7 @@ use Rattle.shogi_core.proofs.attack.pinned_to.Given as goal
 
 abbrev pub invariant-directions : goal.invariant-directions
 invariant-directions l = record {
-  pins : PinsTo l.board l.fn.side l.square l.left l.pinned;
+  pins : PinsTo l.board l.fn.side l.square l.left l.pinned.bits;
   clear : some_below l.left (slider_attacks_along l.board (opponent_of l.fn.side) l.square) ≡ false;
 }
 

@@ -1,15 +1,6 @@
-use Rattle.std.proofs.Common.{rules, sym, ◌∙◌}
-use Rattle.std.proofs.lemmas.Bool.{or_from}
 use Rattle.shogi_core.specs.Attack.{slider_attacks_along}
-use Rattle.shogi_core.proofs.Below.{some_below_none, some_below_more, some_below_found}
+use Rattle.shogi_core.proofs.Below.{some_below_found}
 use Rattle.shogi_core.proofs.attack.slider_attacks.Goals as goal
 
-pub directions-init : goal.directions-init
-directions-init c = rw c.all-left.ensures (some_below_none (slider_attacks_along c.args.board.now c.args.by c.args.square))
-
-pub returns-then-slider_attacks_along : goal.returns-then-slider_attacks_along
-returns-then-slider_attacks_along c = some_below_found 8 (slider_attacks_along c.args.board.now c.args.by c.args.square) c.in-Some.direction c.in-Some.ensures.range (search rules)
-
-pub directions-preserved : goal.directions-preserved
-directions-preserved c =
-    rw c.in-Some.ensures.rest (some_below_more c.in-Some.direction (slider_attacks_along c.args.board.now c.args.by c.args.square) ∙ or_from _ _ (rw (sym c.in-Some.ensures.some) at c.directions.invariant) (search rules))
+pub returns-in-Some : goal.returns-in-Some
+returns-in-Some c = some_below_found 8 (slider_attacks_along c.args.board.now c.args.by c.args.square) _ c.in-Some.ensures.range c.in-Some.ensures.shot

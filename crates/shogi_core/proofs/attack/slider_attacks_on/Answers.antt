@@ -9,8 +9,8 @@ use Rattle.shogi_core.proofs.attack.slider_attacks_on.Goals as goal
 
 pub squares-init : goal.squares-init
 squares-init c = rw (c.iter-left.ensures, c.bitand.ensures) (record {
-  covers = shots_first c.args.board.now c.args.by c.args.square c.requires.square c.args.snipers.bits c.requires.snipers c.args.direction c.slide_squares.result.bits c.reveal_invariant.ensures c.slide_squares.ensures.squares;
-  clear = λ n h e. shots_open c.args.board.now c.args.by c.args.square c.requires.square c.args.snipers.bits c.requires.snipers c.args.direction c.slide_squares.result.bits n c.slide_squares.ensures.squares h e;
+  covers = shots_first c.args.board.now c.args.by c.args.square c.reveal_invariant-2.ensures c.args.snipers.bits c.requires.snipers c.args.direction c.slide_squares.result.bits c.reveal_invariant.ensures c.slide_squares.ensures.squares;
+  clear = λ n h e. shots_open c.args.board.now c.args.by c.args.square c.reveal_invariant-2.ensures c.args.snipers.bits c.requires.snipers c.args.direction c.slide_squares.result.bits n c.slide_squares.ensures.squares h e;
 })
 
 pub returns-then-slides_back : goal.returns-then-slides_back

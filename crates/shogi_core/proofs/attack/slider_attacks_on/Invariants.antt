@@ -9,8 +9,8 @@ use Rattle.shogi_core.proofs.attack.slider_attacks_on.Given as goal
 
 abbrev pub invariant-squares : goal.invariant-squares
 invariant-squares l = record {
-  covers : Covers l.left (slider_attacks_from l.board l.fn.by l.square (direction_at l.direction));
-  clear : (n : ℕ) → n < 81 → has_bit l.left n ≡ true → (is_piece_of l.fn.by (piece_at l.board n) ≡ true) × (slides l.board (direction_at l.direction) l.square n ≡ true);
+  covers : Covers l.left (slider_attacks_from l.board l.fn.by l.fn.square (direction_at l.direction));
+  clear : (n : ℕ) → n < 81 → has_bit l.left n ≡ true → (is_piece_of l.fn.by (piece_at l.board n) ≡ true) × (slides l.board (direction_at l.direction) l.fn.square n ≡ true);
 }
 
 abbrev pub decreases-squares : goal.decreases-squares

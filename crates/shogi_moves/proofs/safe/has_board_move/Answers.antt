@@ -12,7 +12,7 @@ pieces-init c = record {
 }
 
 pub returns-then-not-is_empty-clause-some : goal.returns-then-not-is_empty-clause-some
-returns-then-not-is_empty-clause-some c = λ _. piece_with c.args.known.now.position.now c.in-Some.from c.all_destinations-destinations.result c.all_destinations-destinations.ensures (rw c.bitor.ensures at (some_there _ _ c.is_empty.ensures c.if-not-is_empty.true))
+returns-then-not-is_empty-clause-some c = λ _. piece_with c.args.known.now.position.now c.in-Some.from c.all_destinations-destinations.result (rw c.markings-markings.ensures at c.all_destinations-destinations.ensures) (rw c.bitor.ensures at (some_there _ _ c.is_empty.ensures c.if-not-is_empty.true))
 
 pub pieces-preserved : goal.pieces-preserved
 pieces-preserved c =
@@ -21,7 +21,7 @@ pieces-preserved c =
     record {
       first = c.in-Some.from + 1;
       pieces = pieces_after c.args.known.now.position.now c.pieces.left c.next.new.self c.pieces.invariant.first c.in-Some.from c.pieces.invariant.pieces reached.0 taken.range taken.least taken.rest;
-      same = c.pieces.invariant.same ∙ (reached.2 ∙ piece_without c.args.known.now.position.now c.in-Some.from c.all_destinations-destinations.result taken.range c.all_destinations-destinations.ensures (sym c.bitor.ensures ∙ none_there _ _ c.is_empty.ensures c.if-not-is_empty.false));
+      same = c.pieces.invariant.same ∙ (reached.2 ∙ piece_without c.args.known.now.position.now c.in-Some.from c.all_destinations-destinations.result taken.range (rw c.markings-markings.ensures at c.all_destinations-destinations.ensures) (sym c.bitor.ensures ∙ none_there _ _ c.is_empty.ensures c.if-not-is_empty.false));
     }
 
 pub returns-clause-if_none : goal.returns-clause-if_none

@@ -3,8 +3,8 @@ use Rattle.shogi_moves.proofs.DestinationLaws.{matching_among, matching_ways}
 use Rattle.shogi_moves.proofs.SweepLaws.{no_destinations}
 use Rattle.shogi_moves.proofs.sweep.destinations_on.Goals as goal
 
-pub legal_destinations-requires-clause-among : goal.legal_destinations-requires-clause-among
-legal_destinations-requires-clause-among c = rw c.bitand-among.ensures (λ n h. matching_ways c.args.known.now.position.now.side c.args.capture _ c.targets.result.bits c.matching_destinations.result.bits n _ (rw c.as_board.ensures at c.targets.ensures.squares n h) (c.matching_destinations.ensures.squares n h))
+pub legal_destinations-requires : goal.legal_destinations-requires
+legal_destinations-requires c = rw c.bitand-among.ensures (λ n h. matching_ways c.args.known.now.position.now.side c.args.capture _ c.targets.result.bits c.matching_destinations.result.bits n _ (rw c.as_board.ensures at c.targets.ensures.squares n h) (c.matching_destinations.ensures.squares n h))
 
 pub returns-then-is_piece_of : goal.returns-then-is_piece_of
 returns-then-is_piece_of c = record {

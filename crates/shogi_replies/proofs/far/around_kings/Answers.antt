@@ -23,7 +23,7 @@ pub returns : goal.returns
 returns c = λ k n hk hn king near.
     let none : c.cleared.result ≡ 0 = omega (arith, c.if-cleared-ne0.false) in
     elim (cases_eq k c.lowest-king.result) [
-      | inl same ↦ c.squares_around.ensures.squares n hn ∙ subst (λ (x : ℕ). is_around x n ≡ true) same near
+      | inl same ↦ (rw c.of_index.ensures at c.squares_around.ensures.squares) n hn ∙ subst (λ (x : ℕ). is_around x n ≡ true) same near
       | inr other ↦ absurd (both_ways (is_king c.args.side (piece_at c.args.board.now k))
           (lone_king c.args.board.now c.args.side c.kings-kings.result.bits c.cleared.result c.lowest-king.result c.kings-kings.ensures.squares c.cleared.ensures.bits none k hk other)
           king)

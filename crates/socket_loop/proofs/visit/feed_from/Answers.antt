@@ -26,16 +26,17 @@ at_most_same n = omega arith
 pub returns-then-is_ok-clause-fed : goal.returns-then-is_ok-clause-fed
 returns-then-is_ok-clause-fed g c =
     let x : Connection = c.args.held.now in
+    let lent : g.W.Wire.lent c.args.wire.now ≡ c.bytes.result.now = sym c.bytes.ensures in
     let before : Scene = scene g.W.Wire (x ∷ []) c.args.wire.now c.args.host.now in
     let after : Scene = scene g.W.Wire (x ∷ []) c.args.wire.now c.feed.new.self in
     let o : Outcome = as_outcome (λ _. Done) c.feed.result in
-    let step : IsStep c.args.host.now (record { event = Feed x.link.id c.args.chunk.now; outcome = o }) c.feed.new.self = record { below = c.feed.ensures.below; stepped = c.feed.ensures.fed } in
-    let visits : Visits IsInput x.link.id c.args.host.now c.feed.new.self = visits_step IsInput x.link.id c.args.host.now c.feed.new.self (Feed x.link.id c.args.chunk.now) o tt refl step in
+    let step : IsStep c.args.host.now (record { event = Feed x.link.id c.bytes.result.now; outcome = o }) c.feed.new.self = record { below = c.feed.ensures.below; stepped = c.feed.ensures.fed } in
+    let visits : Visits IsInput x.link.id c.args.host.now c.feed.new.self = visits_step IsInput x.link.id c.args.host.now c.feed.new.self (Feed x.link.id c.bytes.result.now) o tt refl step in
     record {
       visit = visited_same IsInput x before after visits refl (at_most_same before.failed);
       asked = λ «open». asks_no_shut before.asked x;
       carries = λ marks earlier gave none.
-          carries_by_fed marks before.bound x.link earlier before.report c.args.host.now c.feed.new.self c.args.chunk.now o (done-is_ok c.feed.result ∙ (sym c.is_ok.ensures.value ∙ c.if-is_ok.true)) gave none step;
+          carries_by_fed marks before.bound x.link earlier before.report c.args.host.now c.feed.new.self c.bytes.result.now o (done-is_ok c.feed.result ∙ (sym c.is_ok.ensures.value ∙ c.if-is_ok.true)) (rw lent at gave) none step;
       unread = Keeps-refl (before.report.unread x.link.number);
       given = Keeps-refl (before.report.given x.link.number);
     }
@@ -43,17 +44,18 @@ returns-then-is_ok-clause-fed g c =
 pub returns-clause-fed : goal.returns-clause-fed
 returns-clause-fed g c =
     let x : Connection = c.args.held.now in
+    let lent : g.W.Wire.lent c.args.wire.now ≡ c.bytes.result.now = sym c.bytes.ensures in
     let before : Scene = scene g.W.Wire (x ∷ []) c.args.wire.now c.args.host.now in
     let after : Scene = scene g.W.Wire ((record x { is_shut = true }) ∷ []) c.shut_down.new.wire c.shut_down.new.host in
     let o : Outcome = as_outcome (λ _. Done) c.feed.result in
-    let step : IsStep c.args.host.now (record { event = Feed x.link.id c.args.chunk.now; outcome = o }) c.feed.new.self = record { below = c.feed.ensures.below; stepped = c.feed.ensures.fed } in
-    let visits : Visits IsInput x.link.id c.args.host.now c.shut_down.new.host = visits_two IsInput x.link.id c.args.host.now c.feed.new.self c.shut_down.new.host (Feed x.link.id c.args.chunk.now) o tt tt refl step c.shut_down.ensures.closed in
+    let step : IsStep c.args.host.now (record { event = Feed x.link.id c.bytes.result.now; outcome = o }) c.feed.new.self = record { below = c.feed.ensures.below; stepped = c.feed.ensures.fed } in
+    let visits : Visits IsInput x.link.id c.args.host.now c.shut_down.new.host = visits_two IsInput x.link.id c.args.host.now c.feed.new.self c.shut_down.new.host (Feed x.link.id c.bytes.result.now) o tt tt refl step c.shut_down.ensures.closed in
     record {
       visit = visited_shut IsInput x before after before.report (stays-refl (before.report.is_shut x.link.number)) c.shut_down.ensures.shuts visits c.shut_down.ensures.if_none c.shut_down.ensures.bound c.shut_down.ensures.faults;
       asked = λ «open». asks_shut before.asked after.asked x (record x { is_shut = true }) «open» refl c.shut_down.ensures.asked;
       carries = λ marks earlier gave none.
-          carries_by_starved marks before.bound x.link earlier before.report after.report c.args.host.now c.feed.new.self c.shut_down.new.host c.args.chunk.now o c.requires.wants c.requires.few c.requires.some (done-is_ok c.feed.result ∙ (sym c.is_ok.ensures.value ∙ c.if-is_ok.false)) gave c.shut_down.ensures.shuts step c.shut_down.ensures.closed
-          (c.shut_down.ensures.gone (wanted_below c.args.host.now c.feed.new.self x.link.id (Feed x.link.id c.args.chunk.now) o c.requires.wants c.feed.ensures.below c.feed.ensures.fed));
+          carries_by_starved marks before.bound x.link earlier before.report after.report c.args.host.now c.feed.new.self c.shut_down.new.host c.bytes.result.now o c.requires.wants (rw lent at c.requires.few) (rw lent at c.requires.some) (done-is_ok c.feed.result ∙ (sym c.is_ok.ensures.value ∙ c.if-is_ok.false)) (rw lent at gave) c.shut_down.ensures.shuts step c.shut_down.ensures.closed
+          (c.shut_down.ensures.gone (wanted_below c.args.host.now c.feed.new.self x.link.id (Feed x.link.id c.bytes.result.now) o c.requires.wants c.feed.ensures.below c.feed.ensures.fed));
       unread = c.shut_down.ensures.shuts.unread;
       given = c.shut_down.ensures.shuts.given;
     }

@@ -2,7 +2,7 @@ use Rattle.std.proofs.Common.{◌≡◌, ◌∙◌, [], ◌∷◌, true, inl, in
 use Rattle.std.proofs.lemmas.Bool.{both_ways}
 use Rattle.transport.proofs.Reported.{nothing_keeps, ended_keeps}
 use Rattle.transport.specs.Asked.{Asks, Read}
-use Rattle.transport.specs.Report.{Reads, Shuts}
+use Rattle.transport.specs.Report.{IsWithin, Reads, Shuts}
 use Rattle.transport.specs.declared.wire.Got.TheVariants.{Bytes, Nothing, Ended}
 use Rattle.usi_session.specs.declared.limits.TheConstants.{CHUNK_MAX}
 use Rattle.socket_loop.specs.declared.connection.Connection.{Connection}
@@ -31,11 +31,11 @@ returns-in-Ok-Nothing-clause-reads g c =
     let before : Scene = scene g.W.Wire (x ∷ []) c.args.wire.now c.args.host.now in
     let after : Scene = scene g.W.Wire (x ∷ []) c.read.new.self c.args.host.now in
     let due : is_to_read c.args.host.now x ≡ true = sym c.is_to_read.ensures.test ∙ c.if-not-is_to_read.false in
-    let asked : Asks before.asked (g.W.Wire.asked c.read.new.self) (Read x.link.number CHUNK_MAX ∷ []) = rw c.told-chunk at c.read.ensures.asked in
-    let read : Reads before.report after.report x.link.number (Ok Nothing) c.read.new.buf = rw c.in-Ok-Nothing.field-0-is at c.in-Ok-Nothing.ensures.read in
+    let asked : Asks before.asked (g.W.Wire.asked c.read.new.self) (Read x.link.number CHUNK_MAX ∷ []) = c.read.ensures.asked in
+    let read : Reads before.report after.report x.link.number (Ok Nothing) (g.W.Wire.lent c.read.new.self) = rw c.in-Ok-Nothing.field-0-is at c.in-Ok-Nothing.ensures.read in
     record {
-      visited = read_nothing x before after c.read.new.buf due read asked (visited_same IsInput x before after (visits_nothing IsInput x.link.id c.args.host.now) c.read.ensures.bound c.read.ensures.cause.0);
-      carries = λ marks. carries_by_wire IsInput marks before.bound (x.link ∷ []) before.report after.report c.args.host.now (nothing_keeps before.report after.report x.link.number c.read.new.buf read);
+      visited = read_nothing x before after (g.W.Wire.lent c.read.new.self) due read asked (visited_same IsInput x before after (visits_nothing IsInput x.link.id c.args.host.now) c.read.ensures.bound c.read.ensures.cause.0);
+      carries = λ marks. carries_by_wire IsInput marks before.bound (x.link ∷ []) before.report after.report c.args.host.now (nothing_keeps before.report after.report x.link.number (g.W.Wire.lent c.read.new.self) read);
     }
 
 pub returns-in-Ok-Ended-clause-reads : goal.returns-in-Ok-Ended-clause-reads
@@ -44,11 +44,11 @@ returns-in-Ok-Ended-clause-reads g c =
     let before : Scene = scene g.W.Wire (x ∷ []) c.args.wire.now c.args.host.now in
     let after : Scene = scene g.W.Wire ((record x { has_ended = true }) ∷ []) c.read.new.self c.args.host.now in
     let due : is_to_read c.args.host.now x ≡ true = sym c.is_to_read.ensures.test ∙ c.if-not-is_to_read.false in
-    let asked : Asks before.asked (g.W.Wire.asked c.read.new.self) (Read x.link.number CHUNK_MAX ∷ []) = rw c.told-chunk at c.read.ensures.asked in
-    let read : Reads before.report after.report x.link.number (Ok Ended) c.read.new.buf = rw c.in-Ok-Ended.field-0-is at c.in-Ok-Ended.ensures.read in
+    let asked : Asks before.asked (g.W.Wire.asked c.read.new.self) (Read x.link.number CHUNK_MAX ∷ []) = c.read.ensures.asked in
+    let read : Reads before.report after.report x.link.number (Ok Ended) (g.W.Wire.lent c.read.new.self) = rw c.in-Ok-Ended.field-0-is at c.in-Ok-Ended.ensures.read in
     record {
       visited = read_ended x before after due asked (visited_ended IsInput x before after (visits_nothing IsInput x.link.id c.args.host.now) c.read.ensures.bound c.read.ensures.cause.0);
-      carries = λ marks. carries_by_wire IsInput marks before.bound (x.link ∷ []) before.report after.report c.args.host.now (ended_keeps before.report after.report x.link.number c.read.new.buf read);
+      carries = λ marks. carries_by_wire IsInput marks before.bound (x.link ∷ []) before.report after.report c.args.host.now (ended_keeps before.report after.report x.link.number (g.W.Wire.lent c.read.new.self) read);
     }
 
 pub returns-in-Err-clause-reads : goal.returns-in-Err-clause-reads
@@ -57,13 +57,13 @@ returns-in-Err-clause-reads g c =
     let before : Scene = scene g.W.Wire (x ∷ []) c.args.wire.now c.args.host.now in
     let after : Scene = scene g.W.Wire ((record x { is_shut = true }) ∷ []) c.shut_down.new.wire c.shut_down.new.host in
     let due : is_to_read c.args.host.now x ≡ true = sym c.is_to_read.ensures.test ∙ c.if-not-is_to_read.false in
-    let asked : Asks before.asked (g.W.Wire.asked c.read.new.self) (Read x.link.number CHUNK_MAX ∷ []) = rw c.told-chunk at c.read.ensures.asked in
+    let asked : Asks before.asked (g.W.Wire.asked c.read.new.self) (Read x.link.number CHUNK_MAX ∷ []) = c.read.ensures.asked in
     let shuts : Shuts before.bound (g.W.Wire.report c.read.new.self) after.report x.link.number = rw c.read.ensures.bound at c.shut_down.ensures.shuts in
     let visits : Visits IsInput x.link.id c.args.host.now c.shut_down.new.host = visits_closing IsInput x.link.id c.args.host.now c.shut_down.new.host tt c.shut_down.ensures.closed in
     record {
       visited = read_none x before after (g.W.Wire.asked c.read.new.self) due (c.is_to_read.ensures.«open» c.if-not-is_to_read.false) asked c.shut_down.ensures.asked
           (visited_shut IsInput x before after (g.W.Wire.report c.read.new.self) c.in-Err.ensures.read.shut shuts visits c.shut_down.ensures.if_none (c.shut_down.ensures.bound ∙ c.read.ensures.bound) (at_most_then before.failed (g.W.Wire.failed c.read.new.self) after.failed c.read.ensures.cause.0 c.shut_down.ensures.faults));
-      carries = λ marks. carries_by_fault IsInput marks before.bound x.link before.report (g.W.Wire.report c.read.new.self) after.report c.args.host.now c.shut_down.new.host tt (read_fault before.report (g.W.Wire.report c.read.new.self) x.link.number c.in-Err.field-0 c.read.new.buf c.in-Err.ensures.read) c.in-Err.ensures.read.failed shuts c.shut_down.ensures.closed;
+      carries = λ marks. carries_by_fault IsInput marks before.bound x.link before.report (g.W.Wire.report c.read.new.self) after.report c.args.host.now c.shut_down.new.host tt (read_fault before.report (g.W.Wire.report c.read.new.self) x.link.number c.in-Err.field-0 (g.W.Wire.lent c.read.new.self) c.in-Err.ensures.read) c.in-Err.ensures.read.failed shuts c.shut_down.ensures.closed;
     }
 
 pub returns-in-Ok-Bytes-clause-reads : goal.returns-in-Ok-Bytes-clause-reads
@@ -73,10 +73,11 @@ returns-in-Ok-Bytes-clause-reads g c =
     let mid : Scene = scene g.W.Wire (x ∷ []) c.read.new.self c.args.host.now in
     let after : Scene = scene g.W.Wire (c.feed_from.new.held ∷ []) c.feed_from.new.wire c.feed_from.new.host in
     let due : is_to_read c.args.host.now x ≡ true = sym c.is_to_read.ensures.test ∙ c.if-not-is_to_read.false in
-    let asked : Asks before.asked (g.W.Wire.asked c.read.new.self) (Read x.link.number CHUNK_MAX ∷ []) = rw c.told-chunk at c.read.ensures.asked in
-    let read : Reads before.report mid.report x.link.number (Ok (Bytes c.in-Ok-Bytes.n)) c.read.new.buf = rw c.in-Ok-Bytes.field-0-is at c.in-Ok-Bytes.ensures.read in
+    let asked : Asks before.asked (g.W.Wire.asked c.read.new.self) (Read x.link.number CHUNK_MAX ∷ []) = c.read.ensures.asked in
+    let read : Reads before.report mid.report x.link.number (Ok Bytes) (g.W.Wire.lent c.read.new.self) = rw c.in-Ok-Bytes.field-0-is at c.in-Ok-Bytes.ensures.read in
+    let within : IsWithin (Ok Bytes) CHUNK_MAX (g.W.Wire.lent c.read.new.self) = rw c.in-Ok-Bytes.field-0-is at c.in-Ok-Bytes.ensures.within in
     record {
-      visited = read_bytes x c.feed_from.new.held before mid after c.in-Ok-Bytes.n c.read.new.buf c.split_at.result.0.now due (c.is_to_read.ensures.«open» c.if-not-is_to_read.false) c.read.ensures.bound c.read.ensures.cause.0 read asked c.feed_from.ensures.fed.visit.steps c.feed_from.ensures.fed;
+      visited = read_bytes x c.feed_from.new.held before mid after (g.W.Wire.lent c.read.new.self) within.0 due (c.is_to_read.ensures.«open» c.if-not-is_to_read.false) c.read.ensures.bound c.read.ensures.cause.0 read asked c.feed_from.ensures.fed.visit.steps c.feed_from.ensures.fed;
       carries = λ marks. rw c.read.ensures.bound at (c.feed_from.ensures.fed.carries marks before.report (search rules) (search rules));
     }
 
@@ -95,7 +96,7 @@ returns-in-Ok-Bytes-clause-ended g c = λ e. inl (sym c.feed_from.ensures.ended 
 pub returns-in-Ok-Ended-clause-ended : goal.returns-in-Ok-Ended-clause-ended
 returns-in-Ok-Ended-clause-ended g c =
     let x : Connection = c.args.held.now in
-    let read : Reads (g.W.Wire.report c.args.wire.now) (g.W.Wire.report c.read.new.self) x.link.number (Ok Ended) c.read.new.buf = rw c.in-Ok-Ended.field-0-is at c.in-Ok-Ended.ensures.read in
+    let read : Reads (g.W.Wire.report c.args.wire.now) (g.W.Wire.report c.read.new.self) x.link.number (Ok Ended) (g.W.Wire.lent c.read.new.self) = rw c.in-Ok-Ended.field-0-is at c.in-Ok-Ended.ensures.read in
     λ e. inr (emptied ((g.W.Wire.report c.args.wire.now).unread x.link.number) ((g.W.Wire.report c.read.new.self).unread x.link.number) read.consumed read.ended)
 
 pub returns-in-Ok-Bytes-clause-still : goal.returns-in-Ok-Bytes-clause-still

@@ -5,4 +5,4 @@ use Rattle.usi_arguments.proofs.grammar.moves_command.Goals as goal
 
 pub returns : goal.returns
 returns c =
-    c.with_option.ensures (new_app (codes "moves")) sfen_option c.sfen_option.ensures.rule (c.described-command.ensures.app, c.described-command.ensures.local)
+    c.with_option.ensures (new_app (codes "moves")) sfen_option c.sfen_option.ensures c.described-command.ensures

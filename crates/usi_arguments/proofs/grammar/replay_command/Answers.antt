@@ -6,4 +6,4 @@ use Rattle.usi_arguments.proofs.grammar.replay_command.Goals as goal
 pub returns : goal.returns
 returns c =
     c.with_setup_options.ensures (with_host_options (new_app (codes "replay")))
-    (c.with_host_options.ensures (new_app (codes "replay")) (c.described-command.ensures.app, c.described-command.ensures.local))
+    (c.with_host_options.ensures (new_app (codes "replay")) c.described-command.ensures)

@@ -5,6 +5,6 @@ use Rattle.usi_arguments.proofs.grammar.socket_command.Goals as goal
 
 pub returns : goal.returns
 returns c =
-    c.with_option.ensures (with_rule (new_app (codes "serve")) socket_option) status_option c.status_option.ensures.rule
-    (c.with_option-made.ensures (new_app (codes "serve")) socket_option c.socket_option.ensures.rule
-    (c.described-command.ensures.app, c.described-command.ensures.local))
+    c.with_option.ensures (with_rule (new_app (codes "serve")) socket_option) status_option c.value_option.ensures
+    (c.with_option-made.ensures (new_app (codes "serve")) socket_option c.socket_option.ensures
+    c.described-command.ensures)

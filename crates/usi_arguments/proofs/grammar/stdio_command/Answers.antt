@@ -6,4 +6,4 @@ use Rattle.usi_arguments.proofs.grammar.stdio_command.Goals as goal
 pub returns : goal.returns
 returns c =
     c.with_setup_options.ensures (with_rule (new_app (codes "stdio")) entries_option)
-    (c.with_option.ensures (new_app (codes "stdio")) entries_option c.entries_option.ensures.rule (c.described-command.ensures.app, c.described-command.ensures.local))
+    (c.with_option.ensures (new_app (codes "stdio")) entries_option c.entries_option.ensures c.described-command.ensures)

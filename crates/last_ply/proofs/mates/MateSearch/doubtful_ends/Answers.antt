@@ -55,9 +55,9 @@ returns-in_default-clause-promoting c =
 pub returns-then-is_unseen-clause-non_promoting : goal.returns-then-is_unseen-clause-non_promoting
 returns-then-is_unseen-clause-non_promoting c =
     rw c.none.ensures (none_doubtful c.args.self.now.frontier.node.now.position c.args.from false (unseen_from c.args.self.now.frontier.node.now.position c.args.from c.targets-ends.result.bits c.args.self.now.replies.info.king_view.bits c.args.self.now.replies.info.free_movers.bits c.args.self.now.frontier.valid (rw c.args.self.now.same at c.args.self.now.replies.right) c.reveal_invariant.ensures
-    (c.is_unseen.ensures.others c.if-is_unseen.true) (c.is_unseen.ensures.start c.if-is_unseen.true) (c.is_unseen.ensures.ends c.if-is_unseen.true) c.targets-ends.ensures))
+    (c.is_unseen.ensures.others c.if-is_unseen.true) (c.is_unseen.ensures.unseen c.if-is_unseen.true).start (c.is_unseen.ensures.unseen c.if-is_unseen.true).ends c.targets-ends.ensures))
 
 pub returns-then-is_unseen-clause-promoting : goal.returns-then-is_unseen-clause-promoting
 returns-then-is_unseen-clause-promoting c =
     rw c.none-then-is_unseen.ensures (none_doubtful c.args.self.now.frontier.node.now.position c.args.from true (unseen_from c.args.self.now.frontier.node.now.position c.args.from c.targets-ends.result.bits c.args.self.now.replies.info.king_view.bits c.args.self.now.replies.info.free_movers.bits c.args.self.now.frontier.valid (rw c.args.self.now.same at c.args.self.now.replies.right) c.reveal_invariant.ensures
-    (c.is_unseen.ensures.others c.if-is_unseen.true) (c.is_unseen.ensures.start c.if-is_unseen.true) (c.is_unseen.ensures.ends c.if-is_unseen.true) c.targets-ends.ensures))
+    (c.is_unseen.ensures.others c.if-is_unseen.true) (c.is_unseen.ensures.unseen c.if-is_unseen.true).start (c.is_unseen.ensures.unseen c.if-is_unseen.true).ends c.targets-ends.ensures))

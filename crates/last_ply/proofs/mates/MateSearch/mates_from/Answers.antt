@@ -5,8 +5,11 @@ use Rattle.shogi_core.proofs.BitLaws.{has_bit-none, has_bit-or}
 use Rattle.last_ply.proofs.MateLaws.{either_enterable, in_first, in_second, leave_doubtful, leave_from, legal_doubtful}
 use Rattle.last_ply.proofs.mates.MateSearch.mates_from.Goals as goal
 
-pub legal_destinations-ends-requires-clause-among : goal.legal_destinations-ends-requires-clause-among
-legal_destinations-ends-requires-clause-among c = rw (c.args.self.now.frontier.same, c.bitor-among.ensures) (either_enterable _ _ _ _ c.doubtful_ends-doubtful.ensures.non_promoting c.doubtful_ends-doubtful.ensures.promoting)
+pub invariant_of-piece : goal.invariant_of-piece
+invariant_of-piece c = record { own = rw c.args.self.now.frontier.same c.requires.own }
+
+pub legal_destinations-ends-requires : goal.legal_destinations-ends-requires
+legal_destinations-ends-requires c = rw (c.args.self.now.frontier.same, c.bitor-among.ensures) (either_enterable _ _ _ _ c.doubtful_ends-doubtful.ensures.non_promoting c.doubtful_ends-doubtful.ensures.promoting)
 
 pub mates_among-requires : goal.mates_among-requires
 mates_among-requires c = rw c.bitand.ensures (legal_doubtful c.args.self.now.frontier.node.now.position c.args.from false c.bitor-among.result.bits _ _ (rw c.args.self.now.frontier.same at c.legal_destinations-ends.ensures.non_promoting))

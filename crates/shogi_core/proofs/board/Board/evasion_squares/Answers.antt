@@ -12,5 +12,5 @@ returns-then-is_open_king c =
     let parts = and_parts (is_king c.args.side (piece_at c.args.self.now c.in-Some.king)) (is_attacked c.args.self.now (opponent_of c.args.side) c.in-Some.king) (sym c.if-is_open_king.ensures) in
     record {
       stays = λ _. check_stays_off c.evasion_squares_on.result.bits c.args.self.now c.args.side c.in-Some.king c.in-Some.ensures.some.range parts.0
-          ((rw (c.opponent.ensures, c.index.ensures.index) at c.evasion_squares_on.ensures.stays) parts.1);
+          ((rw c.opponent.ensures at c.evasion_squares_on.ensures.stays) parts.1);
     }

@@ -9,16 +9,16 @@ use Rattle.shogi_core.proofs.board.Board.set.Goals as goal
 pub invariant_of-self : goal.invariant_of-self
 invariant_of-self c =
     let cells = c.self.inside.cells in
-    let s = c.index-index.result in
-    let low = c.index-index.ensures.range in
-    let len = c.self.invariant.0 in (
+    let s = c.args.square in
+    let low = rw c.index-index.ensures.index at c.index-index.ensures.range in
+    let len = c.self.invariant.0 in rw c.index-index.ensures.index (
       length-set cells s c.args.piece ∙ len,
       places_put (is_piece_of Black) c.marked-self-inside.result s cells c.args.piece len low (search rules) (λ n. c.marked-self-inside.ensures n ∙ rw (c.is_piece_of.ensures, c.self.invariant.1) refl),
       places_put (is_piece_of White) c.marked-self-inside-2.result s cells c.args.piece len low (search rules) (λ n. c.marked-self-inside-2.ensures n ∙ rw (c.is_piece_of-2.ensures, c.self.invariant.2) refl),
       places_put is_any_king c.marked-self-inside-3.result s cells c.args.piece len low (search rules) (λ n. c.marked-self-inside-3.ensures n ∙ rw (c.is_any_king.ensures, c.self.invariant.3) refl),
       places_put is_slider c.marked-self-inside-4.result s cells c.args.piece len low (search rules) (λ n. c.marked-self-inside-4.ensures n ∙ rw (c.is_slider.ensures, c.self.invariant.4) refl),
       rw c.self.invariant.5 (words_put cells s c.args.piece c.with_digit.result len low
-          (rw (c.cell_number.ensures.number, c.cell_number-2.ensures.number, c.self.invariant.5) at c.with_digit.ensures)),
+          (rw (c.cell_number.ensures.number, c.cell_number-2.ensures.number, c.self.invariant.5, c.index-index.ensures.index) at c.with_digit.ensures)),
     )
 
 pub with_digit-requires-clause-word : goal.with_digit-requires-clause-word

@@ -21,8 +21,8 @@ squares-init c =
       mine = λ n h set. mine n h (c.matching_movers.ensures.within n set);
     })
 
-pub legal_destinations-destinations-requires-clause-among : goal.legal_destinations-destinations-requires-clause-among
-legal_destinations-destinations-requires-clause-among c = rw (c.at-known.ensures, c.bitand-among.ensures) (λ n h. matching_ways c.args.p.now.side c.args.capture _ c.targets.result.bits c.matching_destinations-matching.result.bits n _ (rw c.as_board-board.ensures at c.targets.ensures.squares n h) (c.matching_destinations-matching.ensures.squares n h))
+pub legal_destinations-destinations-requires : goal.legal_destinations-destinations-requires
+legal_destinations-destinations-requires c = rw (c.at-known.ensures, c.bitand-among.ensures) (λ n h. matching_ways c.args.p.now.side c.args.capture _ c.targets.result.bits c.matching_destinations-matching.result.bits n _ (rw c.as_board-board.ensures at c.targets.ensures.squares n h) (c.matching_destinations-matching.ensures.squares n h))
 
 pub returns-then-not-is_empty-2-clause-some : goal.returns-then-not-is_empty-2-clause-some
 returns-then-not-is_empty-2-clause-some c = rw c.index-then-not-is_empty-2.ensures.index (λ _. (

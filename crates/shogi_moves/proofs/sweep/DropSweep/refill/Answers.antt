@@ -22,8 +22,8 @@ returns-then-not-is_empty-clause-some c = λ _. (
 pub kinds-preserved : goal.kinds-preserved
 kinds-preserved c =
     let next : kind_number c.in-Some.next ≡ kind_number c.kinds.kind + 1 = c.in-Some.ensures in
-    let none : c.drop_destinations-destinations.result.bits ≡ 0 = none_there _ _ c.is_empty.ensures c.if-not-is_empty.false in
-    let here : KeepsDrop c.args.p.now c.in-Some.next (FIRST_DROP + kind_number c.in-Some.next * 81) c.drop_destinations-destinations.result.bits = keeps_kind c.args.p.now c.in-Some.next c.drop_destinations-destinations.result.bits c.drop_destinations-destinations.ensures.squares in
+    let none : c.legal-destinations.result.bits ≡ 0 = none_there _ _ c.is_empty.ensures c.if-not-is_empty.false in
+    let here : KeepsDrop c.args.p.now c.in-Some.next (FIRST_DROP + kind_number c.in-Some.next * 81) c.legal-destinations.result.bits = keeps_kind c.args.p.now c.in-Some.next c.legal-destinations.result.bits c.legal-destinations.ensures.squares in
     record {
       kept = c.kinds.invariant.kept;
       same = c.kinds.invariant.same;

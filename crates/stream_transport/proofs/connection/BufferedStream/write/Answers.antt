@@ -23,7 +23,7 @@ pub returns-in-Ok-clause-within : goal.returns-in-Ok-clause-within
 returns-in-Ok-clause-within g c = c.in-Ok.ensures.bound
 
 pub returns-in-Ok-clause-unread : goal.returns-in-Ok-clause-unread
-returns-in-Ok-clause-unread g c = unread_stays c.args.self.now.kept (g.S.ByteStream.unread c.args.self.now.stream) (g.S.ByteStream.unread c.send.new.self) c.send.ensures.unread
+returns-in-Ok-clause-unread g c = unread_stays c.args.self.now.buffer.kept (g.S.ByteStream.unread c.args.self.now.stream) (g.S.ByteStream.unread c.send.new.self) c.send.ensures.unread
 
 pub returns-in-Ok-clause-written : goal.returns-in-Ok-clause-written
 returns-in-Ok-clause-written g c = c.in-Ok.ensures.bytes
@@ -33,7 +33,7 @@ returns-in-Ok-clause-asked g c = record { called = λ may. (c.send.result, (c.se
 
 -- or none
 pub returns-in-Err-WouldBlock-clause-unread : goal.returns-in-Err-WouldBlock-clause-unread
-returns-in-Err-WouldBlock-clause-unread g c = unread_stays c.args.self.now.kept (g.S.ByteStream.unread c.args.self.now.stream) (g.S.ByteStream.unread c.send.new.self) c.send.ensures.unread
+returns-in-Err-WouldBlock-clause-unread g c = unread_stays c.args.self.now.buffer.kept (g.S.ByteStream.unread c.args.self.now.stream) (g.S.ByteStream.unread c.send.new.self) c.send.ensures.unread
 
 pub returns-in-Err-WouldBlock-clause-written : goal.returns-in-Err-WouldBlock-clause-written
 returns-in-Err-WouldBlock-clause-written g c = Appends-none (g.S.ByteStream.written c.args.self.now.stream) (g.S.ByteStream.written c.send.new.self) c.in-Err-WouldBlock.ensures.bytes
@@ -42,7 +42,7 @@ pub returns-in-Err-WouldBlock-clause-asked : goal.returns-in-Err-WouldBlock-clau
 returns-in-Err-WouldBlock-clause-asked g c = record { called = λ may. (c.send.result, (c.send.ensures.called, rw (c.in-Err-WouldBlock.is, c.in-Err-WouldBlock.field-0-is) (refl, refl))); gives = λ may. may }
 
 pub returns-in-Err-Interrupted-clause-unread : goal.returns-in-Err-Interrupted-clause-unread
-returns-in-Err-Interrupted-clause-unread g c = unread_stays c.args.self.now.kept (g.S.ByteStream.unread c.args.self.now.stream) (g.S.ByteStream.unread c.send.new.self) c.send.ensures.unread
+returns-in-Err-Interrupted-clause-unread g c = unread_stays c.args.self.now.buffer.kept (g.S.ByteStream.unread c.args.self.now.stream) (g.S.ByteStream.unread c.send.new.self) c.send.ensures.unread
 
 pub returns-in-Err-Interrupted-clause-written : goal.returns-in-Err-Interrupted-clause-written
 returns-in-Err-Interrupted-clause-written g c = Appends-none (g.S.ByteStream.written c.args.self.now.stream) (g.S.ByteStream.written c.send.new.self) c.in-Err-Interrupted.ensures.bytes
@@ -51,7 +51,7 @@ pub returns-in-Err-Interrupted-clause-asked : goal.returns-in-Err-Interrupted-cl
 returns-in-Err-Interrupted-clause-asked g c = record { called = λ may. (c.send.result, (c.send.ensures.called, rw (c.in-Err-Interrupted.is, c.in-Err-Interrupted.field-0-is) (refl, may))); gives = λ may. may }
 
 pub returns-in-Err-Failed-clause-unread : goal.returns-in-Err-Failed-clause-unread
-returns-in-Err-Failed-clause-unread g c = unread_stays c.args.self.now.kept (g.S.ByteStream.unread c.args.self.now.stream) (g.S.ByteStream.unread c.send.new.self) c.send.ensures.unread
+returns-in-Err-Failed-clause-unread g c = unread_stays c.args.self.now.buffer.kept (g.S.ByteStream.unread c.args.self.now.stream) (g.S.ByteStream.unread c.send.new.self) c.send.ensures.unread
 
 pub returns-in-Err-Failed-clause-written : goal.returns-in-Err-Failed-clause-written
 returns-in-Err-Failed-clause-written g c = Appends-none (g.S.ByteStream.written c.args.self.now.stream) (g.S.ByteStream.written c.send.new.self) c.in-Err-Failed.ensures.bytes

@@ -1,57 +1,40 @@
-use Rattle.std.proofs.Common.{arith, ◌≡◌, ◌≤◌, ◌++◌, length, take, drop, sym, ap, ◌∙◌}
-use Rattle.usi_lines.specs.OneLine.{one_line}
+use Rattle.std.proofs.Common.{◌≡◌, ◌≤◌, ◌+◌, ◌++◌, arith, length, take, sym, ap, subst, ◌∙◌}
+use Rattle.usi_lines.specs.OneLine.{IsOneLine, one_line}
 use Rattle.usi_lines.proofs.OneLines.{one_line_front}
-use Rattle.stream_transport.proofs.Giving.{given_fits, given_prefix, given_rest, line_cut}
+use Rattle.stream_transport.specs.ReadBuffer.{Buffered, between, lent_by}
+use Rattle.stream_transport.proofs.Giving.{front_and_back, front_line, line_fits, with_rest}
 use Rattle.stream_transport.proofs.kept.ReadBuffer.give_line.Goals as goal
 
--- a prefix of the first line
-pub returns-else-self-len-clause-line : goal.returns-else-self-len-clause-line
-returns-else-self-len-clause-line g c =
-    let copied : c.copy_from_slice.new.self ≡ take c.min-n.result c.cut_line.result.0.now = c.copy_from_slice.ensures.after ∙ c.split_at-2.ensures.front in
-    let within : c.min-n.result ≤ length c.cut_line.result.0.now = omega (arith, c.min-n.ensures) in
-    rw (given_prefix c.cut_line.result.0.now c.copy_from_slice.new.self c.split_at_mut.result.1.now c.min-n.result copied within, c.cut_line.ensures.line) (one_line_front c.split_at.result.1.now c.min-n.result)
+-- others are left
+pub returns-else-self-clause-given : goal.returns-else-self-clause-given
+returns-else-self-clause-given g c =
+    let within : c.self.inside.end ≤ length c.self.inside.bytes.items = omega (arith, c.self.invariant.within, c.self.inside.bytes.ok) in
+    let kept : between c.self.inside.start c.self.inside.end c.self.inside.bytes.items ≡ c.args.self.now.kept = ap (λ (b : Buffered). b.kept) c.self.view_is in
+    let split : between c.self.inside.start c.self.inside.end c.self.inside.bytes.items ≡ c.cut_line.result.0.now ++ c.cut_line.result.1.now = kept ∙ (sym c.as_slice.ensures ∙ c.cut_line.ensures.whole) in
+    let fits : c.self.inside.start + c.min-n.result ≤ c.self.inside.end = line_fits c.self.inside.start c.self.inside.end c.min-n.result c.args.most c.self.inside.bytes.items c.cut_line.result.0.now c.cut_line.result.1.now c.self.invariant.start_before within split c.min-n.ensures in
+    let line : c.cut_line.result.0.now ≡ one_line c.args.self.now.kept = c.cut_line.ensures.line ∙ ap (λ xs. one_line xs) c.as_slice.ensures in
+    with_rest (lent_by c.args.spare.now) c.self.inside.start c.self.inside.end c.min-n.result c.self.inside.bytes.items within fits c.if-self.false ∙ (front_line c.self.inside.start c.self.inside.end c.min-n.result c.args.most c.self.inside.bytes.items c.cut_line.result.0.now c.cut_line.result.1.now fits split c.min-n.ensures ∙ ap (λ xs. take c.args.most xs) line)
 
--- and the rest stays
-pub returns-else-self-len-clause-kept : goal.returns-else-self-len-clause-kept
-returns-else-self-len-clause-kept g c =
-    let copied : c.copy_from_slice.new.self ≡ take c.min-n.result c.cut_line.result.0.now = c.copy_from_slice.ensures.after ∙ c.split_at-2.ensures.front in
-    let within : c.min-n.result ≤ length c.cut_line.result.0.now = omega (arith, c.min-n.ensures) in
-    let split : drop c.self.inside.start c.self.inside.bytes.items ≡ c.cut_line.result.0.now ++ c.cut_line.result.1.now = ap (λ xs. drop c.self.inside.start xs) (sym c.as_slice.ensures.value) ∙ (sym c.split_at.ensures.back ∙ c.cut_line.ensures.whole) in
-    given_rest c.self.inside.bytes.items c.cut_line.result.0.now c.cut_line.result.1.now c.copy_from_slice.new.self c.split_at_mut.result.1.now c.self.inside.start c.min-n.result copied within split ∙ c.self.view_is
+pub returns-else-self-clause-line : goal.returns-else-self-clause-line
+returns-else-self-clause-line g c = subst (λ xs. IsOneLine xs) (sym (returns-else-self-clause-given g c)) (one_line_front c.args.self.now.kept c.args.most)
+
+pub returns-else-self-clause-kept : goal.returns-else-self-clause-kept
+returns-else-self-clause-kept g c =
+    let within : c.self.inside.end ≤ length c.self.inside.bytes.items = omega (arith, c.self.invariant.within, c.self.inside.bytes.ok) in
+    let kept : between c.self.inside.start c.self.inside.end c.self.inside.bytes.items ≡ c.args.self.now.kept = ap (λ (b : Buffered). b.kept) c.self.view_is in
+    let split : between c.self.inside.start c.self.inside.end c.self.inside.bytes.items ≡ c.cut_line.result.0.now ++ c.cut_line.result.1.now = kept ∙ (sym c.as_slice.ensures ∙ c.cut_line.ensures.whole) in
+    let fits : c.self.inside.start + c.min-n.result ≤ c.self.inside.end = line_fits c.self.inside.start c.self.inside.end c.min-n.result c.args.most c.self.inside.bytes.items c.cut_line.result.0.now c.cut_line.result.1.now c.self.invariant.start_before within split c.min-n.ensures in
+    ap (λ xs. xs ++ between (c.self.inside.start + c.min-n.result) c.self.inside.end c.self.inside.bytes.items) (with_rest (lent_by c.args.spare.now) c.self.inside.start c.self.inside.end c.min-n.result c.self.inside.bytes.items within fits c.if-self.false) ∙ (front_and_back c.self.inside.start c.self.inside.end c.min-n.result c.self.inside.bytes.items fits ∙ kept)
 
 -- all was given
-pub returns-then-self-len-clause-line : goal.returns-then-self-len-clause-line
-returns-then-self-len-clause-line g c =
-    let copied : c.copy_from_slice.new.self ≡ take c.min-n.result c.cut_line.result.0.now = c.copy_from_slice.ensures.after ∙ c.split_at-2.ensures.front in
-    let within : c.min-n.result ≤ length c.cut_line.result.0.now = omega (arith, c.min-n.ensures) in
-    rw (given_prefix c.cut_line.result.0.now c.copy_from_slice.new.self c.split_at_mut.result.1.now c.min-n.result copied within, c.cut_line.ensures.line) (one_line_front c.split_at.result.1.now c.min-n.result)
+pub returns-then-self-clause-given : goal.returns-then-self-clause-given
+returns-then-self-clause-given g c =
+    let within : c.self.inside.end ≤ length c.self.inside.bytes.items = omega (arith, c.self.invariant.within, c.self.inside.bytes.ok) in
+    let kept : between c.self.inside.start c.self.inside.end c.self.inside.bytes.items ≡ c.args.self.now.kept = ap (λ (b : Buffered). b.kept) c.self.view_is in
+    let split : between c.self.inside.start c.self.inside.end c.self.inside.bytes.items ≡ c.cut_line.result.0.now ++ c.cut_line.result.1.now = kept ∙ (sym c.as_slice.ensures ∙ c.cut_line.ensures.whole) in
+    let fits : c.self.inside.start + c.min-n.result ≤ c.self.inside.end = line_fits c.self.inside.start c.self.inside.end c.min-n.result c.args.most c.self.inside.bytes.items c.cut_line.result.0.now c.cut_line.result.1.now c.self.invariant.start_before within split c.min-n.ensures in
+    let line : c.cut_line.result.0.now ≡ one_line c.args.self.now.kept = c.cut_line.ensures.line ∙ ap (λ xs. one_line xs) c.as_slice.ensures in
+    ap (λ v. between c.self.inside.start (c.self.inside.start + c.min-n.result) v.items) c.swap.ensures.y_after ∙ (front_line c.self.inside.start c.self.inside.end c.min-n.result c.args.most c.self.inside.bytes.items c.cut_line.result.0.now c.cut_line.result.1.now fits split c.min-n.ensures ∙ ap (λ xs. take c.args.most xs) line)
 
-pub returns-then-self-len-clause-given : goal.returns-then-self-len-clause-given
-returns-then-self-len-clause-given g c =
-    let copied : c.copy_from_slice.new.self ≡ take c.min-n.result c.cut_line.result.0.now = c.copy_from_slice.ensures.after ∙ c.split_at-2.ensures.front in
-    let within : c.min-n.result ≤ length c.cut_line.result.0.now = omega (arith, c.min-n.ensures) in
-    let bytes : c.split_at.result.1.now ≡ c.args.self.now = c.split_at.ensures.back ∙ (ap (λ xs. drop c.self.inside.start xs) c.as_slice.ensures.value ∙ c.self.view_is) in
-    given_prefix c.cut_line.result.0.now c.copy_from_slice.new.self c.split_at_mut.result.1.now c.min-n.result copied within
-    ∙ (line_cut c.cut_line.result.0.now (length c.args.buf.now) c.min-n.result c.min-n.ensures
-    ∙ ap (λ xs. take (length c.args.buf.now) xs) (c.cut_line.ensures.line ∙ ap (λ xs. one_line xs) bytes))
-
-pub returns-then-self-len-clause-within : goal.returns-then-self-len-clause-within
-returns-then-self-len-clause-within g c =
-    let copied : c.copy_from_slice.new.self ≡ take c.min-n.result c.cut_line.result.0.now = c.copy_from_slice.ensures.after ∙ c.split_at-2.ensures.front in
-    let within : c.min-n.result ≤ length c.cut_line.result.0.now = omega (arith, c.min-n.ensures) in
-    given_fits c.cut_line.result.0.now c.copy_from_slice.new.self c.split_at_mut.result.1.now c.min-n.result copied within
-
-pub returns-else-self-len-clause-given : goal.returns-else-self-len-clause-given
-returns-else-self-len-clause-given g c =
-    let copied : c.copy_from_slice.new.self ≡ take c.min-n.result c.cut_line.result.0.now = c.copy_from_slice.ensures.after ∙ c.split_at-2.ensures.front in
-    let within : c.min-n.result ≤ length c.cut_line.result.0.now = omega (arith, c.min-n.ensures) in
-    let bytes : c.split_at.result.1.now ≡ c.args.self.now = c.split_at.ensures.back ∙ (ap (λ xs. drop c.self.inside.start xs) c.as_slice.ensures.value ∙ c.self.view_is) in
-    given_prefix c.cut_line.result.0.now c.copy_from_slice.new.self c.split_at_mut.result.1.now c.min-n.result copied within
-    ∙ (line_cut c.cut_line.result.0.now (length c.args.buf.now) c.min-n.result c.min-n.ensures
-    ∙ ap (λ xs. take (length c.args.buf.now) xs) (c.cut_line.ensures.line ∙ ap (λ xs. one_line xs) bytes))
-
-pub returns-else-self-len-clause-within : goal.returns-else-self-len-clause-within
-returns-else-self-len-clause-within g c =
-    let copied : c.copy_from_slice.new.self ≡ take c.min-n.result c.cut_line.result.0.now = c.copy_from_slice.ensures.after ∙ c.split_at-2.ensures.front in
-    let within : c.min-n.result ≤ length c.cut_line.result.0.now = omega (arith, c.min-n.ensures) in
-    given_fits c.cut_line.result.0.now c.copy_from_slice.new.self c.split_at_mut.result.1.now c.min-n.result copied within
+pub returns-then-self-clause-line : goal.returns-then-self-clause-line
+returns-then-self-clause-line g c = subst (λ xs. IsOneLine xs) (sym (returns-then-self-clause-given g c)) (one_line_front c.args.self.now.kept c.args.most)

@@ -7,7 +7,7 @@ use Rattle.stream_transport.specs.Held.{given_under}
 use Rattle.stream_transport.specs.Streams.{KeepsElse, answer_of}
 use Rattle.stream_transport.specs.declared.listener.ListenerCall.TheVariants.{Accept}
 use Rattle.stream_transport.proofs.Asked.{asked_no_next}
-use Rattle.stream_transport.proofs.Outcomes.{cause_of_ok, crowded, not_below}
+use Rattle.stream_transport.proofs.Outcomes.{passed_on, cause_of_ok, crowded, not_below}
 use Rattle.stream_transport.proofs.Reports.{alike_keeps, comes}
 use Rattle.stream_transport.proofs.Waking.{accepted_alike, accepted_one, same_alike, still_comes, still_same, still_then}
 use Rattle.stream_transport.proofs.wire.StreamWire.accept_next.Goals as goal
@@ -128,10 +128,10 @@ returns-in-Ok-clause-holds g c = accepted_alike (Ok (Some c.number_at-number.res
 
 pub returns-in_err-place-clause-holds : goal.returns-in_err-place-clause-holds
 returns-in_err-place-clause-holds g c =
-    let failed : c.from_residual.result ≡ Err OutOfMemory = search rules in
+    let failed : c.from_residual.result ≡ Err OutOfMemory = passed_on c.from_residual.result c.in_err-place.field-0.0 OutOfMemory c.from_residual.ensures.1 c.in_err-place.ensures.memory in
     rw failed (same_alike c.args.self.now.places.items c.free_place.new.places.items c.free_place.ensures.same)
 
 pub returns-in_err-place-clause-asks : goal.returns-in_err-place-clause-asks
 returns-in_err-place-clause-asks g c =
-    let failed : c.from_residual.result ≡ Err OutOfMemory = search rules in
+    let failed : c.from_residual.result ≡ Err OutOfMemory = passed_on c.from_residual.result c.in_err-place.field-0.0 OutOfMemory c.from_residual.ensures.1 c.in_err-place.ensures.memory in
     rw failed (asked_no_next (length c.free_place.new.places.items) (g.L.Listener.asked c.args.self.now.listener) (g.L.Listener.asked c.args.self.now.listener) OutOfMemory refl tt)

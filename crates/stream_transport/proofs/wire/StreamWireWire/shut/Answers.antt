@@ -6,7 +6,7 @@ use Rattle.stream_transport.proofs.wire.StreamWireWire.shut.Goals as goal
 -- the listener has the stream back, with what was kept
 pub returns-in-Some-clause-shut : goal.returns-in-Some-clause-shut
 returns-in-Some-clause-shut g c =
-    let kept : c.as_slice.result.now ≡ c.in-Some.connection.kept = search rules in
+    let kept : c.as_slice.result.now ≡ c.in-Some.connection.buffer.kept = search rules in
     shuts_held g.L.Stream.ByteStream.unread g.L.Stream.ByteStream.written (given_under c.args.self.now.given.items) _ (g.L.Listener.told c.shut.new.self) _ _ _ _ _ c.in-Some.connection (sym c.remove.ensures.out ∙ c.in-Some.is) c.remove.ensures.if_none c.remove.ensures.others c.shut.ensures.shut (rw kept at c.take_back.ensures.back) c.take_back.ensures.rest
 
 pub returns-in-Some-clause-others : goal.returns-in-Some-clause-others

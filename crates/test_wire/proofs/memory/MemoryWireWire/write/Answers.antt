@@ -1,4 +1,4 @@
-use Rattle.std.proofs.Common.{◌≡◌, ◌∙◌, ◌<◌, ◌≤◌, List, arith, min, ap, length, refl, subst, sym}
+use Rattle.std.proofs.Common.{◌≡◌, ◌∙◌, ◌<◌, arith, min, ap, length, refl, subst, sym}
 use Rattle.std.specs.Prelude.{IfOk}
 use Rattle.test_wire.specs.Memory.{PeerState, WireState, called, fails_for, peer_of}
 use Rattle.test_wire.proofs.Changes.{never_device, peer_same, write_is, writes, writes_failing}

@@ -12,16 +12,16 @@ returns-then-is_searching-clause-most g c = c.advance.ensures.most
 
 -- where no search is running none ends
 pub returns-in_err-answer_next-in-None-clause-told : goal.returns-in_err-answer_next-in-None-clause-told
-returns-in_err-answer_next-in-None-clause-told g c = rw (← c.self.view_is) (none_ended_for _ _ _ _ _ (none_called _ _) c.answer_next.ensures.roots)
+returns-in_err-answer_next-in-None-clause-told g c = rw (← c.self.view_is) (none_ended_for _ _ _ _ _ (none_called _ _) c.answer_next.ensures.kept.roots)
 
 pub returns-in_err-report_next-in-Some-clause-told : goal.returns-in_err-report_next-in-Some-clause-told
-returns-in_err-report_next-in-Some-clause-told g c = rw (← c.self.view_is, c.in-Some.is) (none_ended_for _ _ _ _ _ (none_called _ _) c.report_next.ensures.roots)
+returns-in_err-report_next-in-Some-clause-told g c = rw (← c.self.view_is, c.in-Some.is) (none_ended_for _ _ _ _ _ (none_called _ _) c.report_next.ensures.kept.roots)
 
 pub returns-in_ok-answer_next-in-None-clause-told : goal.returns-in_ok-answer_next-in-None-clause-told
-returns-in_ok-answer_next-in-None-clause-told g c = rw (← c.self.view_is) (none_ended_for _ _ _ _ _ (none_called _ _) c.answer_next.ensures.roots)
+returns-in_ok-answer_next-in-None-clause-told g c = rw (← c.self.view_is) (none_ended_for _ _ _ _ _ (none_called _ _) c.answer_next.ensures.kept.roots)
 
 pub returns-in_ok-report_next-in-Some-clause-told : goal.returns-in_ok-report_next-in-Some-clause-told
-returns-in_ok-report_next-in-Some-clause-told g c = rw (← c.self.view_is, c.in-Some.is) (none_ended_for _ _ _ _ _ (none_called _ _) c.report_next.ensures.roots)
+returns-in_ok-report_next-in-Some-clause-told g c = rw (← c.self.view_is, c.in-Some.is) (none_ended_for _ _ _ _ _ (none_called _ _) c.report_next.ensures.kept.roots)
 
 pub returns-then-is_searching-clause-kept : goal.returns-then-is_searching-clause-kept
 returns-then-is_searching-clause-kept g c =
@@ -59,28 +59,28 @@ none_made : (left most : ℕ) → left ≤ most → 0 + left ≤ most
 none_made left most less = omega arith
 
 pub returns-in_ok-answer_next-in-None-clause-kept : goal.returns-in_ok-answer_next-in-None-clause-kept
-returns-in_ok-answer_next-in-None-clause-kept g c = rw (← c.self.view_is) c.answer_next.ensures.kept
+returns-in_ok-answer_next-in-None-clause-kept g c = rw (← c.self.view_is) c.answer_next.ensures.kept.due
 
 pub returns-in_ok-answer_next-in-None-clause-made : goal.returns-in_ok-answer_next-in-None-clause-made
-returns-in_ok-answer_next-in-None-clause-made g c = rw (← c.self.view_is) (none_made _ _ c.answer_next.ensures.kept.load_most)
+returns-in_ok-answer_next-in-None-clause-made g c = rw (← c.self.view_is) (none_made _ _ c.answer_next.ensures.kept.due.load_most)
 
 pub returns-in_ok-answer_next-in-None-clause-fewer : goal.returns-in_ok-answer_next-in-None-clause-fewer
-returns-in_ok-answer_next-in-None-clause-fewer g c = rw (← c.self.view_is) c.in_ok-answer_next-in-None.ensures.fewer
+returns-in_ok-answer_next-in-None-clause-fewer g c = rw (← c.self.view_is) c.in_ok-answer_next-in-None.ensures.ok.fewer
 
 pub returns-in_ok-report_next-in-Some-clause-kept : goal.returns-in_ok-report_next-in-Some-clause-kept
-returns-in_ok-report_next-in-Some-clause-kept g c = rw (← c.self.view_is, c.in-Some.is) c.report_next.ensures.kept
+returns-in_ok-report_next-in-Some-clause-kept g c = rw (← c.self.view_is, c.in-Some.is) c.report_next.ensures.kept.due
 
 pub returns-in_ok-report_next-in-Some-clause-made : goal.returns-in_ok-report_next-in-Some-clause-made
-returns-in_ok-report_next-in-Some-clause-made g c = rw (← c.self.view_is, c.in-Some.is) (none_made _ _ c.report_next.ensures.kept.load_most)
+returns-in_ok-report_next-in-Some-clause-made g c = rw (← c.self.view_is, c.in-Some.is) (none_made _ _ c.report_next.ensures.kept.due.load_most)
 
 pub returns-in_ok-report_next-in-Some-clause-fewer : goal.returns-in_ok-report_next-in-Some-clause-fewer
-returns-in_ok-report_next-in-Some-clause-fewer g c = rw (← c.self.view_is, c.in-Some.is) c.in_ok-report_next-in-Some.ensures.fewer
+returns-in_ok-report_next-in-Some-clause-fewer g c = rw (← c.self.view_is, c.in-Some.is) c.in_ok-report_next-in-Some.ensures.ok.fewer
 
 pub returns-in_err-answer_next-in-None-clause-kept : goal.returns-in_err-answer_next-in-None-clause-kept
-returns-in_err-answer_next-in-None-clause-kept g c = rw (← c.self.view_is) c.answer_next.ensures.kept
+returns-in_err-answer_next-in-None-clause-kept g c = rw (← c.self.view_is) c.answer_next.ensures.kept.due
 
 pub returns-in_err-report_next-in-Some-clause-kept : goal.returns-in_err-report_next-in-Some-clause-kept
-returns-in_err-report_next-in-Some-clause-kept g c = rw (← c.self.view_is, c.in-Some.is) c.report_next.ensures.kept
+returns-in_err-report_next-in-Some-clause-kept g c = rw (← c.self.view_is, c.in-Some.is) c.report_next.ensures.kept.due
 
 -- where all is known the search took no step
 pub returns-then-is_searching-clause-known : goal.returns-then-is_searching-clause-known
@@ -96,7 +96,7 @@ returns-then-is_searching-clause-known g c =
     ))
 
 pub returns-in_ok-answer_next-in-None-clause-known : goal.returns-in_ok-answer_next-in-None-clause-known
-returns-in_ok-answer_next-in-None-clause-known g c = rw (← c.self.view_is) (λ keeps known. (refl, c.in_ok-answer_next-in-None.ensures.known (g.M.Memo.answers c.args.memo.now) known))
+returns-in_ok-answer_next-in-None-clause-known g c = rw (← c.self.view_is) (λ keeps known. (refl, c.in_ok-answer_next-in-None.ensures.ok.known (g.M.Memo.answers c.args.memo.now) known))
 
 pub returns-in_ok-report_next-in-Some-clause-known : goal.returns-in_ok-report_next-in-Some-clause-known
-returns-in_ok-report_next-in-Some-clause-known g c = rw (← c.self.view_is, c.in-Some.is) (λ keeps known. (refl, c.in_ok-report_next-in-Some.ensures.known (g.M.Memo.answers c.args.memo.now) known))
+returns-in_ok-report_next-in-Some-clause-known g c = rw (← c.self.view_is, c.in-Some.is) (λ keeps known. (refl, c.in_ok-report_next-in-Some.ensures.ok.known (g.M.Memo.answers c.args.memo.now) known))

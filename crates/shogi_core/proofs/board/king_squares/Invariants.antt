@@ -1,7 +1,0 @@
-use Rattle.std.proofs.Common.{◌≡◌}
-use Rattle.shogi_core.specs.Bits.{mask_below}
-use Rattle.shogi_core.specs.Masks.{passes, is_any_king}
-use Rattle.shogi_core.proofs.board.king_squares.Given as goal
-
-abbrev pub invariant-loop-square : goal.invariant-loop-square
-invariant-loop-square l = l.mask ≡ mask_below l.square (passes is_any_king l.cells)
