@@ -2,6 +2,7 @@
 and counted."""
 
 import os
+import signal
 import subprocess
 import sys
 import time
@@ -32,6 +33,9 @@ DEPTH_THREE = (
 
 # Whether the program is not the proved one: it takes more time and memory, so that checks that measure these are left out.
 IS_UNPROVED = bool(os.environ.get("CHECK_UNPROVED"))
+
+# A shell has what it starts with `&` ignore SIGINT, and a child inherits that: the checks send it one.
+signal.signal(signal.SIGINT, signal.default_int_handler)
 
 
 class Wrong(Exception):
