@@ -23,9 +23,7 @@ pub fn squares_touched(reply: &Move) -> Squares
         Move::Board { from, to, .. } => {
             from.reveal_invariant();
             to.reveal_invariant();
-            squares_between(from.index(), to.index())
-                .with(*from)
-                .with(*to)
+            squares_between(*from, *to).with(*from).with(*to)
         }
         Move::Drop { to, .. } => {
             to.reveal_invariant();
@@ -203,7 +201,7 @@ impl Scene {
         from.reveal_invariant();
         let piece = self.standing.at(from)?;
         let targets = self.board.targets_of(piece, from);
-        let squares = self.squares.without(line_mask(from.index()));
+        let squares = self.squares.without(line_mask(from));
         let ends = targets & promoting_squares(Some(piece), from);
         let forbidden = self
             .forbidden_squares(piece, squares, !ends.is_empty())

@@ -38,8 +38,7 @@ fn free_step(p: &Position, pieces: Squares, taken: Squares) -> Option<FreeStep>
 fn has_spare_moves(p: &Position, king: Square) -> bool
     ensures { result ≡ true → HasSpareMoves p.now king }
 {
-    king.reveal_invariant();
-    let lines = line_mask(king.index()).with(king);
+    let lines = line_mask(king).with(king);
     let pieces = p.as_board().own(p.side().opponent()).without(lines);
     let Some(one) = free_step(p, pieces, Squares::none()) else {
         return false

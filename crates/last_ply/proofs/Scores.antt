@@ -9,8 +9,7 @@ use Rattle.shogi_core.specs.declared.moves.Move.TheVariants.{Board, Drop}
 use Rattle.shogi_core.specs.declared.piece.Color.{Color}
 use Rattle.shogi_core.specs.declared.piece.Color.TheVariants.{Black, White}
 use Rattle.shogi_core.specs.declared.piece.Piece.{Piece}
-use Rattle.shogi_core.specs.declared.piece.Role.{Role}
-use Rattle.shogi_core.specs.declared.piece.Role.TheVariants.{King, Pawn, Lance, Knight, Silver, Gold, Bishop, Rook, PromotedPawn, PromotedLance, PromotedKnight, PromotedSilver, Horse, Dragon}
+use Rattle.shogi_core.specs.declared.piece.Role.TheVariants.{Pawn, Lance, Knight, Silver, Gold, Bishop, Rook}
 use Rattle.shogi_core.specs.declared.piece.Kind.{Kind}
 use Rattle.shogi_core.specs.declared.piece.Kind.TheVariants as kinds
 use Rattle.shogi_core.specs.Bits.{has_bit}
@@ -18,7 +17,7 @@ use Rattle.shogi_core.specs.Cell.{is_piece_of, is_slider}
 use Rattle.shogi_core.specs.Codes.{code_of, move_of, kind_at}
 use Rattle.shogi_core.specs.Lines.{are_aligned, is_near}
 use Rattle.shogi_core.specs.Movement.{Cells, piece_at, reaches}
-use Rattle.shogi_core.specs.Pieces.{opponent_of, is_same_color, promoted}
+use Rattle.shogi_core.specs.Pieces.{opponent_of, is_same_color}
 use Rattle.shogi_core.specs.Position.{Shogi}
 use Rattle.shogi_core.specs.Validity.{IsValid}
 use Rattle.shogi_core.proofs.BitLaws.{has_bit-and, has_bit-none, has_bit-or}
@@ -39,8 +38,9 @@ use Rattle.shogi_eval.specs.declared.eval.Eval.{Eval}
 use Rattle.shogi_eval.specs.declared.eval.Eval.TheVariants.{Plain, Hand, Exchange}
 use Rattle.shogi_eval.specs.declared.gain.TheConstants.{PROMOTION_GAIN_MAX}
 use Rattle.shogi_eval.specs.Exchange.{is_quiet, leaf_after}
-use Rattle.shogi_eval.specs.Material.{material_of, taken_gain, promotion_gain, drop_gain, value_of}
+use Rattle.shogi_eval.specs.Material.{material_of, taken_gain, promotion_gain, drop_gain}
 use Rattle.shogi_eval.proofs.Gains.{material_after_board, material_after_drop}
+use Rattle.shogi_eval.proofs.RoleGains as roles
 use Rattle.minimax.proofs.Settling.{left_least, left_quiet}
 use Rattle.last_ply.proofs.Squares.{left_clear}
 use Rattle.last_ply.specs.LastPly.{is_legal_board_move, score_at, raw_score, HasScore, IsReach, ScoresAtMost, ScoresFromAtMost, ScoresAmongAtMost, OnOwn}
@@ -237,23 +237,7 @@ quiet_others p e own takes zone sliders n v h ob m zb sb set out =
 pub promotion_most : (promote : Bool) (cell : Option Piece) → promotion_gain promote cell ≤ PROMOTION_GAIN_MAX
 promotion_most promote None = omega arith
 promotion_most false (Some piece) = omega arith
-promotion_most true (Some piece) = go piece.role
-  where
-    go : (role : Role) → (value_of (promoted role) - value_of role) ≤ PROMOTION_GAIN_MAX
-    go King = omega arith
-    go Pawn = omega arith
-    go Lance = omega arith
-    go Knight = omega arith
-    go Silver = omega arith
-    go Gold = omega arith
-    go Bishop = omega arith
-    go Rook = omega arith
-    go PromotedPawn = omega arith
-    go PromotedLance = omega arith
-    go PromotedKnight = omega arith
-    go PromotedSilver = omega arith
-    go Horse = omega arith
-    go Dragon = omega arith
+promotion_most true (Some piece) = omega (arith, roles.promotion_gain piece.role, roles.promotion_range piece.role)
 
 -- a piece of which no capture is dear enough scores no more than a bound with room for any promotion
 pub poor_piece : (p : Shogi) (e : Eval) (from : ℕ) (v : ℤ) → IsValid p → from < 81 → (material_of p e +ℤ pos PROMOTION_GAIN_MAX) ≤ℤ v

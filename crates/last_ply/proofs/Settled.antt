@@ -1,21 +1,20 @@
 -- What a move scores once it is settled, by what the other side wins.
-use Rattle.std.proofs.Common.{◌≡◌, ◌<◌, ℕ, ℤ, pos, negsuc, ◌-ℤ◌, ◌≤ℤ◌, Bool, true, Some, FitsSigned, w32, to_z, of_z, sym, ap, ◌∙◌, arith}
+use Rattle.std.proofs.Common.{◌≡◌, ◌<◌, ℕ, ℤ, pos, negsuc, ◌-ℤ◌, ◌≤ℤ◌, Bool, true, FitsSigned, w32, to_z, of_z, sym, ap, ◌∙◌, arith}
 use Rattle.std.specs.Prelude.{unsigned_abs}
 use Rattle.std.proofs.lemmas.Int.{ints, to_z-of_z}
-use Rattle.shogi_core.specs.declared.moves.Move.{Move}
 use Rattle.shogi_core.specs.declared.moves.Move.TheVariants.{Board}
-use Rattle.shogi_core.specs.Codes.{code_of, move_of}
+use Rattle.shogi_core.specs.Codes.{code_of}
 use Rattle.shogi_core.specs.Position.{Shogi}
-use Rattle.shogi_core.specs.Validity.{IsValid}
 use Rattle.shogi_core.proofs.CodesBack.{move_of-board}
 use Rattle.shogi_moves.specs.Legal.{is_legal}
-use Rattle.shogi_moves.proofs.LegalLaws.{is_legal_code_of, legal_to_listed}
+use Rattle.shogi_moves.proofs.LegalLaws.{is_legal_code_of}
 use Rattle.shogi_eval.specs.declared.eval.Eval.{Eval}
 use Rattle.shogi_eval.specs.declared.eval.Eval.TheVariants.{Plain, Hand, Exchange}
 use Rattle.shogi_eval.specs.declared.points.TheConstants.{POINTS_MAX}
 use Rattle.shogi_eval.specs.Exchange.{resolves_captures}
 use Rattle.static_exchange.specs.Reprisals.{IsReprisal, IsEnough}
-use Rattle.last_ply.specs.LastPly.{is_legal_board_move, score_at, raw_score}
+use Rattle.last_ply.specs.declared.scored_move.ScoredMove.{ScoredMove}
+use Rattle.last_ply.specs.LastPly.{is_legal_board_move, score_at, raw_score, score_of, raw_of}
 use Rattle.last_ply.proofs.Composing.{score_bounds, raw_bounds}
 
 -- how far a number is above another one
@@ -45,13 +44,15 @@ score_enough p Exchange code won s w = omega (arith, ints, w)
 pub legal_to : (p : Shogi) (from to : ℕ) (promote : Bool) → from < 81 → to < 81 → is_legal_board_move p from to promote ≡ true → is_legal p (Board from to promote) ≡ true
 legal_to p from to promote hf ht l = sym (is_legal_code_of p (code_of (Board from to promote)) (Board from to promote) (move_of-board from to promote hf ht)) ∙ l
 
--- what a legal move scores lies within the bounds of material, settled or not
-pub record IsWithin (p : Shogi) (e : Eval) (m : Move) : Type 0 where
-  pub least : (pos 0 -ℤ pos POINTS_MAX) ≤ℤ score_at p e (code_of m)
-  pub most : raw_score p e (code_of m) ≤ℤ pos POINTS_MAX
+-- what a legal move scores that loses this much once it is settled
+pub record IsSettled (m : ScoredMove) (lost : ℕ) : Type 0 where
+  pub is : score_of m.node.now (code_of m.current) ≡ m.raw -ℤ pos lost
+  pub least : (pos 0 -ℤ pos POINTS_MAX) ≤ℤ (m.raw -ℤ pos lost)
+  pub most : m.raw ≤ℤ pos POINTS_MAX
 
-pub within : (p : Shogi) (e : Eval) (m : Move) → IsValid p → move_of (code_of m) ≡ Some m → is_legal p m ≡ true → IsWithin p e m
-within p e m v back legal = record {
-  least = (score_bounds p e (code_of m) v (legal_to_listed p m back legal)).0;
-  most = (raw_bounds p e (code_of m) v (legal_to_listed p m back legal)).1;
-}
+pub settled : (m : ScoredMove) (lost : ℕ) → resolves_captures m.node.now.eval ≡ true → IsReprisal m.node.now.position (code_of m.current) lost → IsSettled m lost
+settled m lost resolves reprisal =
+    let won : score_of m.node.now (code_of m.current) ≡ raw_of m.node.now (code_of m.current) -ℤ pos lost = score_won m.node.now.position m.node.now.eval (code_of m.current) lost resolves reprisal in
+    let least : _ = score_bounds m.node.now.position m.node.now.eval (code_of m.current) m.valid m.listed in
+    let most : _ = raw_bounds m.node.now.position m.node.now.eval (code_of m.current) m.valid m.listed in
+    record { is = omega (arith, ints, won, m.value); least = omega (arith, ints, won, least.0, m.value); most = omega (arith, ints, most.1, m.value) }

@@ -10,7 +10,6 @@ ghost use Rattle.last_ply.specs.FrontierNodes.{OthersScoreElse};
 use crate::frontier::FrontierNode;
 use crate::mates::MateSearch;
 use crate::moving_piece::MovingPiece;
-use crate::scored_move::ScoredMove;
 use minimax::{Entry, INFINITY, MATE};
 use shogi_core::zones::promoting_squares;
 use shogi_core::{Move, Square, Squares};
@@ -26,9 +25,6 @@ impl MovingPiece<'_> {
         ensures other { result ≡ false
             → ScoresElse self.now.frontier.now.node.now score self.now.from to promote }
     {
-        let from = self.from;
-        from.reveal_invariant();
-        to.reveal_invariant();
         let raw = self.raw_to(to, promote);
         if raw < score {
             return false;
@@ -36,12 +32,7 @@ impl MovingPiece<'_> {
         if !self.is_end(to, promote) {
             return false;
         }
-        let legal_move = ScoredMove {
-            node: self.frontier.node,
-            current: Move::Board { from, to, promote },
-            raw,
-        };
-        legal_move.scores(score)
+        self.scored_to(to, promote, raw).scores(score)
     }
 
     /// The squares at which a legal move of it may score this: where it is more than the node has,

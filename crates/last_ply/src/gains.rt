@@ -9,9 +9,8 @@ ghost use Rattle.last_ply.specs.FrontierNodes.{OthersCannotMove, OthersScoreAtMo
 
 use crate::frontier::FrontierNode;
 use crate::moving_piece::MovingPiece;
-use crate::scored_move::ScoredMove;
 use shogi_core::zones::{promoting_squares, squares_near_zone};
-use shogi_core::{Color, Move, Piece, Role, Square, Squares, line_mask, near_squares};
+use shogi_core::{Color, Piece, Role, Square, Squares, line_mask, near_squares};
 use shogi_eval::{Eval, PROMOTION_GAIN_MAX, promotion_gain, taken_gain};
 use shogi_moves::takers;
 
@@ -36,9 +35,6 @@ impl MovingPiece<'_> {
             result self.now.from to promote }
         ensures some { floor <ℤ result → NodeHasScore self.now.frontier.now.node.now result }
     {
-        let from = self.from;
-        from.reveal_invariant();
-        to.reveal_invariant();
         let raw = self.raw_to(to, promote);
         if raw <= floor {
             return floor;
@@ -46,12 +42,7 @@ impl MovingPiece<'_> {
         if !self.is_end(to, promote) {
             return floor;
         }
-        let legal_move = ScoredMove {
-            node: self.frontier.node,
-            current: Move::Board { from, to, promote },
-            raw,
-        };
-        legal_move.score_above(floor)
+        self.scored_to(to, promote, raw).score_above(floor)
     }
 
     /// The most that its legal moves to these squares score, promoting or not, or the floor where
@@ -96,8 +87,9 @@ impl FrontierNode<'_> {
     fn squares_reaching(&self, square: Square) -> Squares
         ensures { HasReachers self.now.node.now.position.cells result.bits square }
     {
+        square.reveal_invariant();
         let board = self.node.as_position().as_board();
-        near_squares(square) | board.sliders() & line_mask(square.index())
+        near_squares(square) | board.sliders() & line_mask(square)
     }
 
     /// Squares outside which nothing takes on the square; none where that scores no more than the

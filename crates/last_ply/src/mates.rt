@@ -34,7 +34,6 @@ pub struct MateSearch<'a> {
 
 /// The pieces of the side to move, but its king, next to the square or a knight's jump away.
 fn pieces_near(p: &Position, to: Square) -> Squares {
-    to.reveal_invariant();
     let side = p.side();
     let king = Piece {
         color: side,
@@ -44,7 +43,7 @@ fn pieces_near(p: &Position, to: Square) -> Squares {
         color: side.opponent(),
         role: Role::Knight,
     };
-    let near = step_squares(king, to.index()) | step_squares(knight, to.index());
+    let near = step_squares(king, to) | step_squares(knight, to);
     let board = p.as_board();
     (board.own(side) & near).without(board.kings(side))
 }
@@ -56,14 +55,12 @@ fn takes_legally(p: &Position, from: Square, to: Square) -> bool
     let Some(piece) = p.at(from) else {
         return false
     };
-    from.reveal_invariant();
-    to.reveal_invariant();
     let m = Move::Board {
         from,
         to,
         promote: false,
     };
-    step_squares(piece, from.index()).has(to) && is_legal(p, m)
+    step_squares(piece, from).has(to) && is_legal(p, m)
 }
 
 /// Whether such a piece surely may legally take what the move put on its end.
@@ -88,10 +85,9 @@ fn closing_squares(piece: Piece, square: Square) -> Squares
         color: piece.color.opponent(),
         role: piece.role,
     };
-    let index = square.index();
-    let steps = step_squares(back, index);
+    let steps = step_squares(back, square);
     if piece.role.is_sliding() {
-        steps | line_mask(index)
+        steps | line_mask(square)
     } else {
         steps
     }
@@ -220,7 +216,7 @@ impl MateSearch<'_> {
             return ends;
         }
         let mut kept = ends;
-        let mut left = self.replies.escapes.without(line_mask(from.index())).iter();
+        let mut left = self.replies.escapes.without(line_mask(from)).iter();
         'escapes: while let Some(escape) = left.next() {
             if kept.is_empty() {
                 break;

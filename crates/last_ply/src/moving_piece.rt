@@ -2,10 +2,11 @@
 
 ghost use Rattle.std.specs.Prelude.{◌≡◌, true};
 ghost use Rattle.shogi_moves.specs.Destinations.{is_own, AreAllDestinations};
-ghost use Rattle.last_ply.specs.LastPly.{is_legal_board_move, IsReach, RawScoresTo};
+ghost use Rattle.last_ply.specs.LastPly.{is_legal_board_move, IsLegalTo, IsReach, RawScoresTo};
 
 use crate::frontier::FrontierNode;
-use shogi_core::{Square, Squares};
+use crate::scored_move::ScoredMove;
+use shogi_core::{Move, Square, Squares};
 use shogi_eval::{promotion_gain, taken_gain};
 use shogi_moves::{Destinations, OwnPiece};
 
@@ -81,6 +82,24 @@ impl MovingPiece<'_> {
             ends.promoting.has(to)
         } else {
             ends.non_promoting.has(to)
+        }
+    }
+
+    /// Its legal move to the square, with what it scores with nothing settled.
+    #[inline(always)]
+    pub fn scored_to(&self, to: Square, promote: bool, raw: i32) -> ScoredMove<'_>
+        requires legal { IsLegalTo self.now.frontier.now.node.now.position self.now.from to promote }
+        requires raw { RawScoresTo self.now.frontier.now.node.now raw self.now.from to promote }
+        ensures node { result.node.now ≡ self.now.frontier.now.node.now }
+        ensures current { result.current ≡ Move.Board self.now.from to promote }
+    {
+        let from = self.from;
+        from.reveal_invariant();
+        to.reveal_invariant();
+        ScoredMove {
+            node: self.frontier.node,
+            current: Move::Board { from, to, promote },
+            raw,
         }
     }
 }

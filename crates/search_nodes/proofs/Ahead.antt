@@ -30,15 +30,13 @@ use Rattle.shogi_moves.proofs.LegalLaws.{legal_in, legal_code_below, is_legal_co
 use Rattle.shogi_eval.specs.declared.eval.Eval.{Eval}
 use Rattle.shogi_eval.specs.Material.{material_of, drop_gain, taken_gain, promotion_gain}
 use Rattle.shogi_eval.proofs.Gains.{material_after_board, material_after_drop}
-use Rattle.shogi_eval.proofs.Bounds.{material_bounds}
 use Rattle.shogi_eval.specs.Exchange.{resolves_captures, leaf_after, is_quiet}
-use Rattle.minimax.proofs.Settling.{IsBounded, left_bounded, left_quiet}
+use Rattle.minimax.proofs.Settling.{IsBounded, left_bounded, left_plain, left_quiet}
 use Rattle.shogi_eval.specs.Losses.{LosesAtMost}
 use Rattle.search_nodes.specs.Frames.{standing_codes}
 use Rattle.search_nodes.specs.Threats.{IsAttacked, TakesAfter}
-use Rattle.minimax.specs.Minimax.{value, worth, ended, negated, if_no_move_else, lost_value, greatest_or}
-use Rattle.minimax.proofs.Greatest.{greatest_or-above}
-use Rattle.minimax.proofs.MinimaxLaws.{value-leaf, value-suc, worth_plain}
+use Rattle.minimax.specs.Minimax.{value, worth, ended, negated, if_no_move_else, lost_value}
+use Rattle.minimax.proofs.MinimaxLaws.{cut}
 use Rattle.minimax.proofs.Valid.{after_valid, board_of, drop_of}
 
 -- a move changes nothing in the other side's hand, so after it no drop loses more
@@ -73,26 +71,11 @@ leaf_most : (moves : List ℕ) (v : ℤ) → negated (pos 30000) ≤ℤ v → if
 leaf_most [] v h = omega (arith, ints)
 leaf_most (m ∷ ms) v h = omega (arith, ints)
 
-pub value_leaf_most : (r : Shogi) (e : Eval) → IsValid r → value r e 0 ≤ℤ material_of r e
-value_leaf_most r e v = rw value-leaf (leaf_most (legal_codes r) (material_of r e) (let b : _ = material_bounds r e v in omega (arith, ints, b.0)))
-
--- a side is worth at depth 1 what a legal move leaves it, or more
-value_reply : (q : Shogi) (e : Eval) (plain : resolves_captures e ≡ false) (code : ℕ) → IsValid q → is_in code (legal_codes q) ≡ true → negated (material_of (after_code q code) e) ≤ℤ value q e 1
-value_reply q e plain code v i =
-    let leaf : value (after_code q code) e 0 ≤ℤ material_of (after_code q code) e = value_leaf_most (after_code q code) e (after_valid q code v i) in
-    let above : worth q e 0 code ≤ℤ greatest_or (lost_value 1) (worth q e 0) (legal_codes q) = greatest_or-above (lost_value 1) (worth q e 0) (legal_codes q) code i in
-    let is_value : value q e 1 ≡ greatest_or (lost_value 1) (worth q e 0) (legal_codes q) = value-suc q e 0 in
-    let counted : worth q e 0 code ≡ negated (value (after_code q code) e 0) = worth_plain q e 0 code plain in
-    omega (arith, ints, leaf, above, is_value, counted)
-
--- so where it has a legal move it is worth its material without that loss, or more
-value_least : (q : Shogi) (e : Eval) (plain : resolves_captures e ≡ false) (loss : ℤ) (codes : List ℕ) → codes ≡ legal_codes q → IsValid q → pos 0 ≤ℤ loss → LosesAtMost q.hands q.side e loss → codes ≢ [] → (material_of q e -ℤ loss) ≤ℤ value q e 1
-value_least q e plain loss [] is v h l some = absurd (some refl)
-value_least q e plain loss (c ∷ cs) is v h l some =
-    let i : is_in c (legal_codes q) ≡ true = subst (λ (xs : List ℕ). is_in c xs ≡ true) is (or_left _ _ (eq-eqb c c refl)) in
-    let left : material_of (after_code q c) e ≤ℤ negated (material_of q e -ℤ loss) = reply_left q e loss c v h l i in
-    let worth_so : negated (material_of (after_code q c) e) ≤ℤ value q e 1 = value_reply q e plain c v i in
-    omega (arith, ints, left, worth_so)
+-- a side is worth at depth 1 what a legal move leaves it after which nothing is settled, or more
+value_reply : (q : Shogi) (e : Eval) (code : ℕ) → IsValid q → is_in code (legal_codes q) ≡ true → leaf_after q e code ≡ material_of (after_code q code) e → negated (material_of (after_code q code) e) ≤ℤ value q e 1
+value_reply q e code v i left =
+    let leaf : ended q e code ≤ℤ leaf_after q e code = leaf_most (legal_codes (after_code q code)) (leaf_after q e code) (let b : IsBounded (leaf_after q e code) = left_bounded q e code (after_valid q code v i) in omega (arith, ints, b.least)) in
+    cut q e 1 code (negated (material_of (after_code q code) e)) (omega arith) i (omega (arith, ints, left, leaf))
 
 -- and where it may take a piece, its material and what that gains, or more
 value_taking : (q : Shogi) (e : Eval) (plain : resolves_captures e ≡ false) (a t : ℕ) (promote : Bool) (cell : Option Piece) → IsValid q → a < 81 → t < 81 → MayTake q a t promote cell → (material_of q e +ℤ pos (taken_gain e cell + promotion_gain promote (piece_at q.cells a))) ≤ℤ value q e 1
@@ -101,7 +84,7 @@ value_taking q e plain a t promote cell v ha ht may =
     let law : material_of (after q (Board a t promote)) e ≡ pos 0 -ℤ (material_of q e +ℤ pos (taken_gain e (piece_at q.cells t) + promotion_gain promote (piece_at q.cells a))) = material_after_board q e a t promote v ha ht may.legal in
     let gain : taken_gain e (piece_at q.cells t) ≡ taken_gain e cell = ap (taken_gain e) may.stands in
     let made : material_of (after_code q (code_of (Board a t promote))) e ≡ material_of (after q (Board a t promote)) e = ap (λ (r : Shogi). material_of r e) (after_code_of q (Board a t promote) back) in
-    let worth_so : negated (material_of (after_code q (code_of (Board a t promote))) e) ≤ℤ value q e 1 = value_reply q e plain (code_of (Board a t promote)) v (legal_to_listed q (Board a t promote) back may.legal) in
+    let worth_so : negated (material_of (after_code q (code_of (Board a t promote))) e) ≤ℤ value q e 1 = value_reply q e (code_of (Board a t promote)) v (legal_to_listed q (Board a t promote) back may.legal) (left_plain q e (code_of (Board a t promote)) plain) in
     omega (arith, ints, law, gain, made, worth_so)
 
 -- a legal move leaves a valid position
@@ -128,7 +111,7 @@ threat_gain p e plain m a t gain promote v back legal threat is leaves = λ keep
     let same : promotion_gain promote (piece_at (after p m).cells a) ≡ promotion_gain promote (piece_at p.cells a) = ap (promotion_gain promote) (kept_at p m a legal threat.attack.attacker.theirs (attacker_off p m a t leaves)) in
     omega (arith, ints, least, same, is)
 
-unpromoted : (cell : Option Piece) → promotion_gain false cell ≡ 0
+pub unpromoted : (cell : Option Piece) → promotion_gain false cell ≡ 0
 unpromoted None = refl
 unpromoted (Some piece) = refl
 
@@ -149,23 +132,7 @@ retaken p m to ends retakes attacked =
 pub retake_gain : (p : Shogi) (e : Eval) (plain : resolves_captures e ≡ false) (m : Move) (to gain : ℕ) → IsValid p → move_of (code_of m) ≡ Some m → is_legal p m ≡ true → end_of m ≡ to → IsAttacked p to → gain ≡ taken_gain e (put_by p m) → TakesAfter p e m gain
 retake_gain p e plain m to gain v back legal ends attacked is = λ keeps retakes. omega (arith, ints, taken_left p e plain m v back legal (retaken p m to ends retakes attacked), is)
 
--- ---- a quiet reply, whatever the evaluation settles
-
--- a side is worth at depth 1 what a quiet legal move leaves it, or more
-pub value_quiet : (q : Shogi) (e : Eval) (code : ℕ) → IsValid q → is_in code (legal_codes q) ≡ true → is_quiet q (move_of code) ≡ true → negated (material_of (after_code q code) e) ≤ℤ value q e 1
-value_quiet q e code v i quiet =
-    let held : leaf_after q e code ≡ material_of (after_code q code) e = left_quiet q e code quiet in
-    let leaf : ended q e code ≤ℤ leaf_after q e code = leaf_most (legal_codes (after_code q code)) (leaf_after q e code) (let b : IsBounded (leaf_after q e code) = left_bounded q e code (after_valid q code v i) in omega (arith, ints, b.least)) in
-    let above : worth q e 0 code ≤ℤ greatest_or (lost_value 1) (worth q e 0) (legal_codes q) = greatest_or-above (lost_value 1) (worth q e 0) (legal_codes q) code i in
-    let is_value : value q e 1 ≡ greatest_or (lost_value 1) (worth q e 0) (legal_codes q) = value-suc q e 0 in
-    omega (arith, ints, held, leaf, above, is_value)
-
--- so where a quiet move is legal it is worth its material without what a drop loses, or more
-pub value_least_quiet : (q : Shogi) (e : Eval) (loss : ℤ) (code : ℕ) → IsValid q → pos 0 ≤ℤ loss → LosesAtMost q.hands q.side e loss → is_in code (legal_codes q) ≡ true → is_quiet q (move_of code) ≡ true → (material_of q e -ℤ loss) ≤ℤ value q e 1
-value_least_quiet q e loss code v h l i quiet =
-    let left : material_of (after_code q code) e ≤ℤ negated (material_of q e -ℤ loss) = reply_left q e loss code v h l i in
-    let worth_so : negated (material_of (after_code q code) e) ≤ℤ value q e 1 = value_quiet q e code v i quiet in
-    omega (arith, ints, left, worth_so)
+-- ---- replies that stand
 
 -- what is quiet is so for the evaluation
 same_quiet : (q : Shogi) (m : Option Move) → replies.is_quiet q m ≡ is_quiet q m
@@ -182,12 +149,13 @@ first_kept t (x ∷ xs) c cs e =
     (λ fails is. let rest : _ = first_kept t xs c cs is in (or_right (c == x) (is_in c xs) rest.0, rest.1))
     e
 
--- a side that has a quiet legal move is worth its material without that loss, or more
-value_least_still : (q : Shogi) (e : Eval) (loss : ℤ) (codes : List ℕ) → quiet_codes q ≡ codes → IsValid q → pos 0 ≤ℤ loss → LosesAtMost q.hands q.side e loss → codes ≢ [] → (material_of q e -ℤ loss) ≤ℤ value q e 1
-value_least_still q e loss [] is v h l some = absurd (some refl)
-value_least_still q e loss (c ∷ cs) is v h l some =
-    let first : (is_in c (legal_codes q) ≡ true) × (is_quiet_code q c ≡ true) = first_kept (is_quiet_code q) (legal_codes q) c cs is in
-    value_least_quiet q e loss c v h l first.0 (sym (same_quiet q (move_of c)) ∙ first.1)
+-- nothing is settled after a move that stands
+first_standing : (q : Shogi) (e : Eval) (c : ℕ) (cs : List ℕ) → standing_codes q e ≡ c ∷ cs → (is_in c (legal_codes q) ≡ true) × (leaf_after q e c ≡ material_of (after_code q c) e)
+first_standing q e c cs is =
+    cond_both (resolves_captures e) (quiet_codes q) (legal_codes q) (λ (xs : List ℕ). xs ≡ c ∷ cs → (is_in c (legal_codes q) ≡ true) × (leaf_after q e c ≡ material_of (after_code q c) e))
+    (λ _ first. let kept : _ = first_kept (is_quiet_code q) (legal_codes q) c cs first in (kept.0, left_quiet q e c (sym (same_quiet q (move_of c)) ∙ kept.1)))
+    (λ plain first. (subst (λ (xs : List ℕ). is_in c xs ≡ true) (sym first) (or_left _ _ (eq-eqb c c refl)), left_plain q e c plain))
+    is
 
 -- some move stands if it is quiet, and any does where nothing is settled
 pub standing_quiet : (q : Shogi) (e : Eval) → quiet_codes q ≢ [] → standing_codes q e ≢ []
@@ -196,42 +164,25 @@ standing_quiet q e some = cond_both (resolves_captures e) (quiet_codes q) (legal
 pub standing_plain : (q : Shogi) (e : Eval) → resolves_captures e ≡ false → legal_codes q ≢ [] → standing_codes q e ≢ []
 standing_plain q e plain some = subst (λ (b : Bool). cond b (quiet_codes q) (legal_codes q) ≢ []) (sym plain) some
 
--- so where such a move is legal
-value_least_standing : (q : Shogi) (e : Eval) (loss : ℤ) → IsValid q → pos 0 ≤ℤ loss → LosesAtMost q.hands q.side e loss → standing_codes q e ≢ [] → (material_of q e -ℤ loss) ≤ℤ value q e 1
-value_least_standing q e loss v h l some =
-    cond_both (resolves_captures e) (quiet_codes q) (legal_codes q) (λ (xs : List ℕ). xs ≢ [] → (material_of q e -ℤ loss) ≤ℤ value q e 1)
-    (λ settling one. value_least_still q e loss (quiet_codes q) refl v h l one)
-    (λ plain one. value_least q e plain loss (legal_codes q) refl v h l one)
-    some
+-- a side that has such a move is worth its material without what a drop loses, or more
+value_least : (q : Shogi) (e : Eval) (loss : ℤ) (codes : List ℕ) → standing_codes q e ≡ codes → IsValid q → pos 0 ≤ℤ loss → LosesAtMost q.hands q.side e loss → codes ≢ [] → (material_of q e -ℤ loss) ≤ℤ value q e 1
+value_least q e loss [] is v h l some = absurd (some refl)
+value_least q e loss (c ∷ cs) is v h l some =
+    let first : (is_in c (legal_codes q) ≡ true) × (leaf_after q e c ≡ material_of (after_code q c) e) = first_standing q e c cs is in
+    omega (arith, ints, reply_left q e loss c v h l first.0, value_reply q e c v first.0 first.1)
 
 -- ---- what a move is worth at most two plies before the leaves
 
 -- no more than what the other side is worth at least after it, as its mover sees that
-worth_below : (p : Shogi) (e : Eval) (m : Move) (least : ℤ) → move_of (code_of m) ≡ Some m → least ≤ℤ value (after p m) e 1 → worth p e 1 (code_of m) ≤ℤ negated least
-worth_below p e m least back h =
+pub worth_below : (p : Shogi) (e : Eval) (d : ℕ) (m : Move) (least : ℤ) → move_of (code_of m) ≡ Some m → d ≡ 2 → least ≤ℤ value (after p m) e 1 → worth p e (d - 1) (code_of m) ≤ℤ negated least
+worth_below p e d m least back last h =
     let same : value (after_code p (code_of m)) e 1 ≡ value (after p m) e 1 = ap (λ (q : Shogi). value q e 1) (after_code_of p m back) in
-    omega (arith, ints, h, same)
+    rw last (omega (arith, ints, h, same))
 
 -- by its material, less what a reply may lose
 pub material_left : (p : Shogi) (e : Eval) (loss : ℤ) (m : Move) → IsValid p → move_of (code_of m) ≡ Some m → is_legal p m ≡ true → pos 0 ≤ℤ loss → LosesAtMost p.hands (opponent_of p.side) e loss → standing_codes (after p m) e ≢ [] → (material_of (after p m) e -ℤ loss) ≤ℤ value (after p m) e 1
-material_left p e loss m v back legal h l some = value_least_standing (after p m) e loss (valid_after p m v back (legal_to_listed p m back legal)) h (loses_after p e loss m l) some
+material_left p e loss m v back legal h l some = value_least (after p m) e loss (standing_codes (after p m) e) refl (valid_after p m v back (legal_to_listed p m back legal)) h (loses_after p e loss m l) some
 
 -- by a threat that stands
 pub threat_left : (p : Shogi) (e : Eval) (m : Move) (gain : ℕ) → KeepsThreats p m → MayRetake p m → TakesAfter p e m gain → (material_of (after p m) e -ℤ negated (pos gain)) ≤ℤ value (after p m) e 1
 threat_left p e m gain keeps retakes takes = omega (arith, ints, takes keeps retakes)
-
--- so the move is worth no more than that leaves
-pub worth_leaving : (p : Shogi) (e : Eval) (d : ℕ) (loss : ℤ) (m : Move) → move_of (code_of m) ≡ Some m → d ≡ 2 → (material_of (after p m) e -ℤ loss) ≤ℤ value (after p m) e 1 → worth p e (d - 1) (code_of m) ≤ℤ negated (material_of (after p m) e -ℤ loss)
-worth_leaving p e d loss m back last least =
-    let one : d - 1 ≡ 1 = omega arith in
-    subst (λ (n : ℕ). worth p e n (code_of m) ≤ℤ negated (material_of (after p m) e -ℤ loss)) (sym one) (worth_below p e m (material_of (after p m) e -ℤ loss) back least)
-
--- the same at a node of depth 2
-pub worth_ahead : (p : Shogi) (e : Eval) (d : ℕ) (loss : ℤ) (m : Move) → IsValid p → move_of (code_of m) ≡ Some m → is_legal p m ≡ true → d ≡ 2 → pos 0 ≤ℤ loss → LosesAtMost p.hands (opponent_of p.side) e loss → standing_codes (after p m) e ≢ [] → worth p e (d - 1) (code_of m) ≤ℤ negated (material_of (after p m) e -ℤ loss)
-worth_ahead p e d loss m v back legal last h l some = worth_leaving p e d loss m back last (material_left p e loss m v back legal h l some)
-
--- the same where it takes so much then
-pub worth_under_threat : (p : Shogi) (e : Eval) (d gain : ℕ) (m : Move) → move_of (code_of m) ≡ Some m → d ≡ 2 → (material_of (after p m) e +ℤ pos gain) ≤ℤ value (after p m) e 1 → worth p e (d - 1) (code_of m) ≤ℤ negated (material_of (after p m) e +ℤ pos gain)
-worth_under_threat p e d gain m back last least =
-    let one : d - 1 ≡ 1 = omega arith in
-    subst (λ (n : ℕ). worth p e n (code_of m) ≤ℤ negated (material_of (after p m) e +ℤ pos gain)) (sym one) (worth_below p e m (material_of (after p m) e +ℤ pos gain) back least)

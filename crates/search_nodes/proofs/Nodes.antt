@@ -119,10 +119,15 @@ threshold_falls_one : (best_value : ℤ) (b m : ℕ) → negated INFINITY <ℤ b
 threshold_falls_one best_value b m t = grind (arith, ints, nat_tests)
 
 -- the threshold of a node is no less than what no position reaches
-pub threshold_least : (p : Shogi) (eval : Eval) (d : ℕ) (alpha best_value : ℤ) (rest : List ℕ) (b : Option ℕ) (m : ℕ) → IsValid p → d ≤ SEARCH_DEPTH_MAX → negated INFINITY ≤ℤ alpha → IsCovered (worth p eval (d - 1)) (legal_codes p) rest alpha best_value b → (negated INFINITY ≤ℤ best_value) × (negated INFINITY ≤ℤ move_alpha best_value b m)
+threshold_least : (p : Shogi) (eval : Eval) (d : ℕ) (alpha best_value : ℤ) (rest : List ℕ) (b : Option ℕ) (m : ℕ) → IsValid p → d ≤ SEARCH_DEPTH_MAX → negated INFINITY ≤ℤ alpha → IsCovered (worth p eval (d - 1)) (legal_codes p) rest alpha best_value b → (negated INFINITY ≤ℤ best_value) × (negated INFINITY ≤ℤ move_alpha best_value b m)
 threshold_least p eval d alpha best_value rest None m ok h l c = let e : best_value ≡ alpha = c.reached in (omega (arith, ints), omega (arith, ints))
 threshold_least p eval d alpha best_value rest (Some b) m ok h l c =
     let w : WorthWithin (d - 1) (worth p eval (d - 1) b) = worth_bounds (d - 1) p eval b ok c.reached.0 in
     let e : worth p eval (d - 1) b ≡ best_value = c.reached.1 in
     let t : negated INFINITY <ℤ best_value = omega (arith, ints) in
     (omega (arith, ints), threshold_falls_one best_value b m t)
+
+pub threshold_within : (p : Shogi) (eval : Eval) (d : ℕ) (alpha beta best_value : ℤ) (b : Option ℕ) (ms : List ℕ) (w : NodeState) (m : ℕ) → ((v : ℤ) → w ≡ CutOff v → ⊥) → IsValid p → d ≤ SEARCH_DEPTH_MAX → negated INFINITY ≤ℤ alpha → 0 < d → IsKnownWhile p eval d alpha beta best_value b ms w → (negated INFINITY ≤ℤ best_value) × (negated INFINITY ≤ℤ move_alpha best_value b m)
+threshold_within p eval d alpha beta best_value b ms Expanding m o ok h l deep c = threshold_least p eval d alpha best_value ms b m ok h l (gone_through (worth p eval (d - 1)) p d ms alpha best_value b deep c)
+threshold_within p eval d alpha beta best_value b ms (AwaitingChild k) m o ok h l deep c = threshold_least p eval d alpha best_value (code_of k ∷ ms) b m ok h l (gone_through (worth p eval (d - 1)) p d (code_of k ∷ ms) alpha best_value b deep c)
+threshold_within p eval d alpha beta best_value b ms (CutOff v) m o ok h l deep c = absurd (o v refl)

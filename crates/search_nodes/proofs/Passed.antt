@@ -1,5 +1,5 @@
 -- Moves that are passed in a row.
-use Rattle.std.proofs.Common.{◌≡◌, ◌≢◌, ◌<◌, ◌≤◌, ◌+◌, ◌-◌, ◌*◌, ℕ, ℤ, ◌≤ℤ◌, ◌<ℤ◌, List, [], ◌∷◌, true, inl, inr, Bool, Option, Some, None, refl, sym, ap, ◌∙◌, arith, subst, ◌/◌, ◌%◌, ◌+ℤ◌, false, pos, ◌-ℤ◌}
+use Rattle.std.proofs.Common.{◌≡◌, ◌≢◌, ◌<◌, ◌≤◌, ◌+◌, ◌-◌, ◌*◌, ℕ, ℤ, ◌≤ℤ◌, List, [], ◌∷◌, true, inl, inr, Bool, Option, Some, None, refl, sym, ap, ◌∙◌, arith, subst, ◌/◌, ◌%◌, ◌+ℤ◌, false, pos, ◌-ℤ◌}
 use Rattle.std.specs.Prelude.{not, is_some}
 use Rattle.std.proofs.lemmas.Bool.{and_parts, cases_eq}
 use Rattle.std.proofs.lemmas.Int.{ints}
@@ -12,10 +12,8 @@ use Rattle.shogi_core.specs.Movement.{piece_at}
 use Rattle.shogi_core.specs.declared.moves.Move.{Move}
 use Rattle.shogi_core.specs.declared.moves.Move.TheVariants.{Board, Drop}
 use Rattle.shogi_core.specs.declared.piece.Kind.{Kind}
-use Rattle.shogi_core.specs.declared.piece.Role.{Role}
-use Rattle.shogi_core.specs.declared.piece.Role.TheVariants.{King, Pawn, Lance, Knight, Silver, Gold, Bishop, Rook, PromotedPawn, PromotedLance, PromotedKnight, PromotedSilver, Horse, Dragon}
 use Rattle.shogi_core.specs.Codes.{move_of, code_of}
-use Rattle.shogi_core.specs.Pieces.{kind_number, opponent_of, promoted}
+use Rattle.shogi_core.specs.Pieces.{kind_number, opponent_of}
 use Rattle.shogi_core.specs.Position.{Shogi}
 use Rattle.shogi_core.specs.Validity.{IsValid}
 use Rattle.shogi_core.proofs.CodesBack.{move_of-board, move_of-drop}
@@ -28,23 +26,21 @@ use Rattle.shogi_replies.specs.ReplyInfo.{GuaranteesReply, quiet_codes}
 use Rattle.shogi_moves.proofs.DestinationLaws.{matching_move}
 use Rattle.shogi_moves.proofs.LegalLaws.{is_legal_code_of, after_code_of}
 use Rattle.shogi_eval.specs.declared.eval.Eval.{Eval}
-use Rattle.shogi_eval.specs.Material.{material_of, taken_gain, promotion_gain, value_of}
+use Rattle.shogi_eval.specs.Material.{material_of, taken_gain, promotion_gain}
 use Rattle.shogi_eval.proofs.Gains.{material_at_board}
+use Rattle.shogi_eval.proofs.RoleGains as roles
 use Rattle.search_nodes.specs.Frames.{DropFailsLow, LeavesAtLeast, MovesLeave}
 use Rattle.minimax.specs.Minimax.{value, worth, negated, sum_of_tree_sizes}
 use Rattle.minimax.specs.Window.{move_alpha, code_at, IsCovered}
 use Rattle.search_nodes.specs.Order.{todo}
 use Rattle.search_nodes.specs.Visits.{moves_at, IsKnownWhile}
 use Rattle.search_nodes.specs.Changes.{left_of_frame}
-use Rattle.minimax.specs.declared.bounds.TheConstants.{SEARCH_DEPTH_MAX, INFINITY}
 use Rattle.shogi_eval.specs.declared.gain.TheConstants.{PROMOTION_GAIN_MAX}
 use Rattle.search_nodes.specs.declared.frame.Frame.{Frame}
 use Rattle.search_nodes.specs.declared.move_picker.MovePicker.{MovePicker}
-use Rattle.search_nodes.specs.declared.frame.NodeState.{NodeState}
 use Rattle.search_nodes.specs.declared.frame.NodeState.TheVariants.{Expanding}
-use Rattle.minimax.proofs.Cover.{IsCovered-skip, move_alpha-best_value}
-use Rattle.search_nodes.proofs.Nodes.{threshold_least, gone_through}
-use Rattle.search_nodes.proofs.Ahead.{worth_leaving}
+use Rattle.minimax.proofs.Cover.{IsCovered-skip}
+use Rattle.search_nodes.proofs.Ahead.{unpromoted, worth_below}
 use Rattle.minimax.proofs.MinimaxLaws.{sum_of_tree_sizes-next}
 
 -- moves that are all worth no more than their threshold
@@ -101,42 +97,22 @@ drop_at p kind squares escapes first c k =
 pub drop_worth : (f : Frame) (kind : Kind) (squares escapes first c to : ℕ) (loss : ℤ) → f.depth ≡ 2 → DropFailsLow f kind first loss → first ≤ c → IsDropAt f.node.position kind squares escapes c to → LeavesAtLeast f loss (Drop kind to)
     → worth f.node.position f.node.eval (f.depth - 1) c ≤ℤ move_alpha f.best_value (code_at f.best_move) c
 drop_worth f kind squares escapes first c to loss last short above at leaves =
-    let most : worth f.node.position f.node.eval (f.depth - 1) (code_of (Drop kind to)) ≤ℤ negated (material_of (after f.node.position (Drop kind to)) f.node.eval -ℤ loss) = worth_leaving f.node.position f.node.eval f.depth loss (Drop kind to) (move_of-drop kind to at.fits) last leaves in
+    let most : worth f.node.position f.node.eval (f.depth - 1) (code_of (Drop kind to)) ≤ℤ negated (material_of (after f.node.position (Drop kind to)) f.node.eval -ℤ loss) = worth_below f.node.position f.node.eval f.depth (Drop kind to) _ (move_of-drop kind to at.fits) last leaves in
     let same : worth f.node.position f.node.eval (f.depth - 1) c ≡ worth f.node.position f.node.eval (f.depth - 1) (code_of (Drop kind to)) = ap (worth f.node.position f.node.eval (f.depth - 1)) at.is in
     let up : move_alpha f.best_value (code_at f.best_move) first ≤ℤ move_alpha f.best_value (code_at f.best_move) c = threshold_rises f.best_value (code_at f.best_move) first c above in
     omega (arith, ints, most, same, up, short to at.fits at.legal)
 
 -- no promotion gains more than that of a pawn
-most_of_role : (role : Role) → value_of (promoted role) - value_of role ≤ PROMOTION_GAIN_MAX
-most_of_role King = omega arith
-most_of_role Pawn = omega arith
-most_of_role Lance = omega arith
-most_of_role Knight = omega arith
-most_of_role Silver = omega arith
-most_of_role Gold = omega arith
-most_of_role Bishop = omega arith
-most_of_role Rook = omega arith
-most_of_role PromotedPawn = omega arith
-most_of_role PromotedLance = omega arith
-most_of_role PromotedKnight = omega arith
-most_of_role PromotedSilver = omega arith
-most_of_role Horse = omega arith
-most_of_role Dragon = omega arith
-
 promotion_within : (cell : Option Piece) → promotion_gain true cell ≤ PROMOTION_GAIN_MAX
 promotion_within None = omega arith
-promotion_within (Some piece) = omega (arith, most_of_role piece.role)
-
-no_promotion : (cell : Option Piece) → promotion_gain false cell ≡ 0
-no_promotion None = refl
-no_promotion (Some piece) = refl
+promotion_within (Some piece) = omega (arith, roles.promotion_gain piece.role, roles.promotion_range piece.role)
 
 -- a move on the board gains what it takes and what its promotion adds
 gain_worth : (p : Shogi) (e : Eval) (d c from to : ℕ) (promote : Bool) (loss : ℤ) → IsValid p → d ≡ 2 → from < 81 → to < 81 → c ≡ code_of (Board from to promote) → is_legal p (Board from to promote) ≡ true → (material_of (after p (Board from to promote)) e -ℤ loss) ≤ℤ value (after p (Board from to promote)) e 1
     → worth p e (d - 1) c ≤ℤ (material_of p e +ℤ pos (taken_gain e (piece_at p.cells to) + promotion_gain promote (piece_at p.cells from)) +ℤ loss)
 gain_worth p e d c from to promote loss valid last from_fits to_fits is legal leaves =
     let law : material_of (after p (Board from to promote)) e ≡ pos 0 -ℤ (material_of p e +ℤ pos (taken_gain e (piece_at p.cells to) + promotion_gain promote (piece_at p.cells from))) = material_at_board p e (Board from to promote) from to promote refl valid from_fits to_fits legal in
-    let most : worth p e (d - 1) (code_of (Board from to promote)) ≤ℤ negated (material_of (after p (Board from to promote)) e -ℤ loss) = worth_leaving p e d loss (Board from to promote) (move_of-board from to promote from_fits to_fits) last leaves in
+    let most : worth p e (d - 1) (code_of (Board from to promote)) ≤ℤ negated (material_of (after p (Board from to promote)) e -ℤ loss) = worth_below p e d (Board from to promote) _ (move_of-board from to promote from_fits to_fits) last leaves in
     let at : worth p e (d - 1) c ≡ worth p e (d - 1) (code_of (Board from to promote)) = ap (worth p e (d - 1)) is in
     omega (arith, ints, most, at, law)
 
@@ -163,17 +139,14 @@ quiet_worth f move_filter escapes first c most loss last leave within k =
     let to_fits : to < 81 = omega arith in
     elim (cases_eq (c % 2) 0) [
       | inl even ↦ (
-          let none : promotion_gain false (piece_at f.node.position.cells from) ≡ 0 = no_promotion (piece_at f.node.position.cells from) in
+          let none : promotion_gain false (piece_at f.node.position.cells from) ≡ 0 = unpromoted (piece_at f.node.position.cells from) in
           quiet_at f move_filter escapes first c most from to false loss last leave k from_fits to_fits (omega (arith, even)) k.piece k.end (omega (arith, none)))
       | inr odd ↦ quiet_at f move_filter escapes first c most from to true loss last leave k from_fits to_fits (omega (arith, odd)) k.piece k.end (omega (arith, within (k.promotes (omega (arith, odd))), promotion_within (piece_at f.node.position.cells from)))
     ]
 
 -- what is known of a node that waits for nothing
-pub known_next : (p : Shogi) (e : Eval) (d : ℕ) (alpha beta best_value : ℤ) (b : Option ℕ) (codes : List ℕ) (w : NodeState) → w ≡ Expanding → IsKnownWhile p e d alpha beta best_value b codes w → IsCovered (worth p e (d - 1)) (moves_at p d) codes alpha best_value b
-known_next p e d alpha beta best_value b codes w next k = subst (λ (x : NodeState). IsKnownWhile p e d alpha beta best_value b codes x) next k
-
-pub next_known : (p : Shogi) (e : Eval) (d : ℕ) (alpha beta best_value : ℤ) (b : Option ℕ) (codes : List ℕ) (w : NodeState) → w ≡ Expanding → IsCovered (worth p e (d - 1)) (moves_at p d) codes alpha best_value b → IsKnownWhile p e d alpha beta best_value b codes w
-next_known p e d alpha beta best_value b codes w next k = subst (λ (x : NodeState). IsKnownWhile p e d alpha beta best_value b codes x) (sym next) k
+pub known_next : (f : Frame) → f.state ≡ Expanding → IsCovered (worth f.node.position f.node.eval (f.depth - 1)) (moves_at f.node.position f.depth) (todo f.node.position f.picker) f.alpha f.best_value (code_at f.best_move)
+known_next f next = rw next at f.known
 
 -- moves on the board that take nothing are lost by what they leave
 pub quiets_lost : (f : Frame) (move_filter : MoveFilter) (escapes first most : ℕ) (loss : ℤ) → f.depth ≡ 2 → MovesLeave f loss move_filter.pieces.bits move_filter.squares.bits escapes → (move_filter.promotes ≡ true → PROMOTION_GAIN_MAX ≤ most) → (material_of f.node.position f.node.eval +ℤ pos most +ℤ loss) ≤ℤ move_alpha f.best_value (code_at f.best_move) first
@@ -186,20 +159,9 @@ quiets_lost f move_filter escapes first most loss last leave within low = λ c i
 -- where moves are skipped that are lost, what is known stays
 pub skipped_known : (f : Frame) (fact : ℕ → Type 0) (picker : MovePicker) → f.state ≡ Expanding → ((c : ℕ) → fact c → worth f.node.position f.node.eval (f.depth - 1) c ≤ℤ move_alpha f.best_value (code_at f.best_move) c) → IsSkipped fact (todo f.node.position f.picker) (todo f.node.position picker)
     → IsKnownWhile f.node.position f.node.eval f.depth f.alpha f.beta f.best_value (code_at f.best_move) (todo f.node.position picker) f.state
-skipped_known f fact picker next lost passed = next_known _ _ _ _ _ _ _ _ _ next (covered_passed (worth f.node.position f.node.eval (f.depth - 1)) fact (moves_at f.node.position f.depth) _ _ f.alpha f.best_value (code_at f.best_move) passed lost (known_next _ _ _ _ _ _ _ _ _ next f.known))
+skipped_known f fact picker next lost passed = rw next (covered_passed (worth f.node.position f.node.eval (f.depth - 1)) fact (moves_at f.node.position f.depth) _ _ f.alpha f.best_value (code_at f.best_move) passed lost (known_next f next))
 
 -- so what is left does not grow
 pub left_passed : (f : Frame) (picker : MovePicker) (fact : ℕ → Type 0) → IsSkipped fact (todo f.node.position f.picker) (todo f.node.position picker)
     → 1 + 2 * sum_of_tree_sizes f.node.position (f.depth - 1) (todo f.node.position picker) ≤ left_of_frame f
 left_passed f picker fact passed = omega (arith, sum_passed f.node.position (f.depth - 1) fact _ _ passed)
-
--- what is known of the threshold of a node that waits for nothing
-pub record IsWithin (v : ℤ) : Type 0 where
-  pub least : negated INFINITY ≤ℤ v
-  pub most : v ≤ℤ INFINITY
-
-pub threshold_within : (p : Shogi) (e : Eval) (d : ℕ) (alpha beta best_value : ℤ) (codes : List ℕ) (b : Option ℕ) (first : ℕ) → IsValid p → d ≤ SEARCH_DEPTH_MAX → 0 < d → negated INFINITY ≤ℤ alpha → best_value <ℤ beta → beta ≤ℤ INFINITY → IsCovered (worth p e (d - 1)) (moves_at p d) codes alpha best_value b → IsWithin best_value × IsWithin (move_alpha best_value b first)
-threshold_within p e d alpha beta best_value codes b first valid shallow last least less most h =
-    let l : (negated INFINITY ≤ℤ best_value) × (negated INFINITY ≤ℤ move_alpha best_value b first) = threshold_least p e d alpha best_value codes b first valid shallow least (gone_through (worth p e (d - 1)) p d codes alpha best_value b last h) in
-    let u : move_alpha best_value b first ≤ℤ best_value = move_alpha-best_value best_value b first in
-    (record { least = l.0; most = omega (arith, ints, less, most) }, record { least = l.1; most = omega (arith, ints, less, most, u) })

@@ -1,5 +1,5 @@
 -- Moves that are passed in a row since a threat stands after them.
-use Rattle.std.proofs.Common.{◌≡◌, ◌≢◌, ◌≤◌, ◌+◌, ◌-◌, ◌*◌, ℕ, ℤ, pos, ◌-ℤ◌, ◌≤ℤ◌, List, ◌∷◌, Option, Bool, true, false, refl, sym, ap, ◌∙◌, arith, subst, inl, inr, bit_or}
+use Rattle.std.proofs.Common.{◌≡◌, ◌≢◌, ◌≤◌, ◌+◌, ◌-◌, ◌*◌, ℕ, ℤ, pos, ◌-ℤ◌, ◌≤ℤ◌, ◌∷◌, Option, Bool, true, false, refl, sym, ap, ◌∙◌, arith, subst, inl, inr, bit_or}
 use Rattle.std.proofs.lemmas.Bool.{both_ways, or_cases}
 use Rattle.std.proofs.Props.{props}
 use Rattle.std.proofs.Math.Logic.{∥∥₁_elim}
@@ -21,7 +21,7 @@ use Rattle.shogi_replies.proofs.ThreatLaws.{retake_drop, retake_unchecked, threa
 use Rattle.shogi_eval.specs.Evaluated.{Evaluated}
 use Rattle.shogi_eval.specs.Material.{taken_gain}
 use Rattle.minimax.specs.Minimax.{sum_of_tree_sizes, worth}
-use Rattle.minimax.specs.Window.{IsCovered, code_at, move_alpha}
+use Rattle.minimax.specs.Window.{code_at, move_alpha}
 use Rattle.search_nodes.specs.declared.frame.Frame.{Frame}
 use Rattle.search_nodes.specs.declared.frame.NodeState.TheVariants.{AwaitingChild, Expanding}
 use Rattle.search_nodes.specs.declared.move_picker.MovePicker.{MovePicker}
@@ -33,15 +33,11 @@ use Rattle.search_nodes.specs.Frames.{DropsFailLow, DropFailsLow, IsLost, Leaves
 use Rattle.search_nodes.specs.Order.{todo}
 use Rattle.search_nodes.specs.Changes.{IsSame, KeepsMoves, PrunesFiltered, left_of_frame, steps_after}
 use Rattle.search_nodes.specs.Threats.{AreNonInterfering, AreThreatsIn, IsAttacked, IsThreatIn, TakesAfter}
-use Rattle.search_nodes.specs.Visits.{IsKnownWhile, moves_at}
+use Rattle.search_nodes.specs.Visits.{IsKnownWhile}
 use Rattle.minimax.proofs.MinimaxLaws.{sum_of_tree_sizes-next}
 use Rattle.shogi_eval.specs.Exchange.{resolves_captures}
 use Rattle.search_nodes.proofs.Ahead.{material_left, retake_gain, standing_quiet, threat_gain, threat_left}
-use Rattle.search_nodes.proofs.Passed.{IsDropAt, IsWithin, drop_at, drop_worth, known_next, threshold_within}
-
--- what is known of the threshold of a node of depth 2 that waits for nothing
-pub within_of : (f : Frame) (first : ℕ) → f.state ≡ Expanding → f.depth ≡ 2 → IsWithin f.best_value × IsWithin (move_alpha f.best_value (code_at f.best_move) first)
-within_of f first next last = threshold_within _ _ _ _ _ _ _ _ first f.valid f.shallow (omega (arith, last)) f.least f.open f.most (known_next _ _ _ _ _ _ _ _ _ next f.known)
+use Rattle.search_nodes.proofs.Passed.{IsDropAt, drop_at, drop_worth, known_next}
 
 -- moves that leave a reply leave the other side its material, less what a reply may lose
 pub material_leaves : (f : Frame) (loss : ℤ) (pieces squares escapes : ℕ) → pos 0 ≤ℤ loss → RepliesLoseAtMost f loss → MovesLeave f loss pieces squares escapes
@@ -130,15 +126,12 @@ lost_kept f g m k lost =
 pub asked_known : (f : Frame) (m : Move) (picker : MovePicker) → f.state ≡ Expanding
     → todo f.node.position f.picker ≡ code_of m ∷ todo f.node.position picker
     → IsKnownWhile f.node.position f.node.eval f.depth f.alpha f.beta f.best_value (code_at f.best_move) (todo f.node.position picker) (AwaitingChild m)
-asked_known f m picker next codes =
-    subst (λ (xs : List ℕ). IsCovered (worth f.node.position f.node.eval (f.depth - 1)) (moves_at f.node.position f.depth) xs f.alpha f.best_value (code_at f.best_move))
-    codes (known_next _ _ _ _ _ _ _ _ _ next f.known)
+asked_known f m picker next codes = rw (← codes) (known_next f next)
 
 -- the same moves are still to be visited
 pub turned_known : (f : Frame) (picker : MovePicker) → todo f.node.position picker ≡ todo f.node.position f.picker
     → IsKnownWhile f.node.position f.node.eval f.depth f.alpha f.beta f.best_value (code_at f.best_move) (todo f.node.position picker) f.state
-turned_known f picker codes =
-    subst (λ (xs : List ℕ). IsKnownWhile f.node.position f.node.eval f.depth f.alpha f.beta f.best_value (code_at f.best_move) xs f.state) (sym codes) f.known
+turned_known f picker codes = rw codes f.known
 
 -- and as much is left
 pub turned_left : (f : Frame) (picker : MovePicker) → todo f.node.position picker ≡ todo f.node.position f.picker

@@ -33,6 +33,7 @@ impl<'a> AskedMove<'a> {
 
     /// What was found of replies, with no squares to which the other side's king may go.
     #[inline(always)]
+    #[tactic(auto, using(shogi_core::proofs::TargetLaws::no_bits))]
     fn known(&self) -> KnownReplies<'_>
         ensures { result.position.now ≡ self.now.frame.now.node.position }
     {

@@ -1,6 +1,6 @@
 //! A node of the tree while the search goes through its moves.
 
-ghost use Rattle.std.specs.Prelude.{◌≡◌, ◌≤◌, ◌<◌, ◌≤ℤ◌, ◌<ℤ◌, pos, [], true, false, IsTrue, ◌↔◌, ◌≢◌};
+ghost use Rattle.std.specs.Prelude.{◌≡◌, ◌≤◌, ◌<◌, ◌≤ℤ◌, ◌<ℤ◌, ℤ, pos, [], true, false, IsTrue, ◌↔◌, ◌≢◌};
 ghost use Rattle.std.specs.Option.{ForSome};
 ghost use Rattle.std.proofs.Props.{props};
 ghost use Rattle.shogi_core.specs.Validity.{IsValid};
@@ -8,6 +8,7 @@ ghost use Rattle.shogi_moves.specs.LegalMoves.{legal_codes};
 ghost use Rattle.shogi_eval.specs.declared.points.TheConstants.{POINTS_MAX};
 ghost use Rattle.minimax.specs.Minimax.{value, negated};
 ghost use Rattle.minimax.specs.Entries.{IsConclusive};
+ghost use Rattle.minimax.specs.Window.{code_at, move_alpha};
 ghost use Rattle.dull_moves.specs.Dull.{AreDull};
 ghost use Rattle.search_nodes.specs.Order.{codes_of, IsWithinTree, IsKept, IsKept-prop};
 ghost use Rattle.search_nodes.specs.Visits.{IsKnownSoFar, known_props, IsCurrent};
@@ -194,6 +195,18 @@ impl Frame {
         }
     }
 
+    /// What a move with the code has to be worth more than.
+    pub(crate) fn move_alpha_at(&self, code: u16) -> i32
+        requires deep { 0 < self.now.depth }
+        requires open { (v : ℤ) → self.now.state ≡ NodeState.CutOff v → ⊥ }
+        ensures move_alpha { result
+            ≡ move_alpha self.now.best_value (code_at self.now.best_move) code }
+        ensures least { negated INFINITY ≤ℤ result }
+        ensures open { result <ℤ self.now.beta }
+    {
+        move_alpha_at(self.best_value, &self.best_move, code)
+    }
+
     /// What the current move has to be worth more than.
     pub(crate) fn move_alpha(&self, current: &Move) -> i32
         requires current { IsCurrent self.now.state current.now }
@@ -201,7 +214,7 @@ impl Frame {
         ensures least { negated INFINITY ≤ℤ result }
         ensures open { result <ℤ self.now.beta }
     {
-        move_alpha_at(self.best_value, &self.best_move, current.code())
+        self.move_alpha_at(current.code())
     }
 
     /// The window of the child after the current move.

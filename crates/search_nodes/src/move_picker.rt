@@ -3,8 +3,7 @@
 ghost use Rattle.std.specs.Prelude.{◌≡◌, ◌<◌, Some, None, IfSome, true, false};
 ghost use Rattle.shogi_core.specs.Attack.{in_check};
 ghost use Rattle.shogi_core.specs.Codes.{code_of};
-ghost use Rattle.shogi_moves.specs.Sweeps.{IsBoardSweep, IsDropSweep};
-ghost use Rattle.shogi_moves.specs.Sweeps.{board_left, drops_left};
+ghost use Rattle.shogi_moves.specs.Sweeps.{IsBoardSweep, IsDropSweep, board_left, drops_left};
 ghost use Rattle.shogi_replies.specs.Passes.{IsSkipped};
 ghost use Rattle.search_nodes.specs.Order.{codes_of, others_to_come, todo, todo_after, todo_from, IsAtCode, IsAtDrops, IsAtQuiets, IsDullFrom, IsKept, SkipsDull, SkipsDrops, SkipsQuiets, TakesBoardPick, TakesDropPick, TakesPriorityMove, TakesFirstDrop, TakesFirstQuiet, TakesFromSweep};
 
@@ -227,39 +226,30 @@ impl MovePicker {
         }
     }
 
-    /// Turns to the quiet moves where the captures are under way and none is left, before the first
-    /// of them is looked for.
+    /// Turns to the quiet moves where the captures are under way and none is left, or to the drops
+    /// where the quiet moves on the board are, before the first of them is looked for.
+    #[inline(always)]
     #[tactic(auto, using(crate::proofs::MatchingOthers::matching_others, crate::proofs::MatchingOthers::no_capture_left))]
-    pub(crate) fn turn_to_quiets(&mut self, p: &Position)
+    pub(crate) fn turn_from(&mut self, p: &Position, capture: bool)
         requires consistent { IsKept p.now self.old }
         ensures consistent { IsKept p.now self.new }
         ensures unchanged { todo p.now self.new ≡ todo p.now self.old }
     {
-        let MovePicker::Captures(priority_moves, sweep) = self else {
-            return;
-        };
-        if sweep.fill(p, true) {
-            return;
+        match self {
+            MovePicker::Captures(priority_moves, sweep) if capture => {
+                if !sweep.fill(p, true) {
+                    let (priority_moves, known) = (*priority_moves, sweep.info.at(p));
+                    *self = MovePicker::Quiets(priority_moves, BoardSweep::new(&known, false));
+                }
+            }
+            MovePicker::Quiets(priority_moves, sweep) if !capture => {
+                if !sweep.fill(p, false) {
+                    let (priority_moves, known) = (*priority_moves, sweep.info.at(p));
+                    *self = MovePicker::Drops(priority_moves, DropSweep::new(&known));
+                }
+            }
+            _ => {}
         }
-        let (priority_moves, known) = (*priority_moves, sweep.info.at(p));
-        *self = MovePicker::Quiets(priority_moves, BoardSweep::new(&known, false));
-    }
-
-    /// Turns to the drops in the same way, where the quiet moves on the board are under way.
-    #[tactic(auto, using(crate::proofs::MatchingOthers::matching_others))]
-    pub(crate) fn turn_to_drops(&mut self, p: &Position)
-        requires consistent { IsKept p.now self.old }
-        ensures consistent { IsKept p.now self.new }
-        ensures unchanged { todo p.now self.new ≡ todo p.now self.old }
-    {
-        let MovePicker::Quiets(priority_moves, sweep) = self else {
-            return;
-        };
-        if sweep.fill(p, false) {
-            return;
-        }
-        let (priority_moves, known) = (*priority_moves, sweep.info.at(p));
-        *self = MovePicker::Drops(priority_moves, DropSweep::new(&known));
     }
 
     /// Turns to the next kind of drops where those of a kind are under way and none is left;

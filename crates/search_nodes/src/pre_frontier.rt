@@ -13,7 +13,6 @@ use crate::frame::Frame;
 use crate::move_picker::MovePicker;
 use crate::reply_cache::ReplyCache;
 use crate::threat::slides;
-use crate::window::move_alpha_at;
 use shogi_core::{Kind, Squares};
 use shogi_eval::{PROMOTION_GAIN_MAX, taken_gain};
 use shogi_moves::dropped;
@@ -59,8 +58,7 @@ impl<'a> PreFrontier<'a> {
             → IfSome result (λ f. AreFutileQuiets self.now.frame.now f.0 f.1.bits code) }
     {
         let frame = &*self.frame;
-        let move_alpha = move_alpha_at(frame.best_value, &frame.best_move, code);
-        let room = move_alpha - loss - frame.node.score();
+        let room = frame.move_alpha_at(code) - loss - frame.node.score();
         if room < 0 {
             return None;
         }
@@ -87,6 +85,7 @@ impl<'a> PreFrontier<'a> {
     /// The next moves on the board that take nothing, where it is certain without making them that
     /// the greatest threat stands and makes no such move worth enough.
     #[inline(always)]
+    #[tactic(auto, using(shogi_core::proofs::TargetLaws::no_bits))]
     fn quiets_under_threat(&self, code: u16) -> Option<(MoveFilter, Squares)>
         ensures { IfSome result (λ f. AreFutileQuiets self.now.frame.now f.0 f.1.bits code) }
     {
@@ -143,13 +142,14 @@ impl<'a> PreFrontier<'a> {
         ensures { result ≡ true → DropFailsLow self.now.frame.now kind code loss }
     {
         let frame = &*self.frame;
-        let move_alpha = move_alpha_at(frame.best_value, &frame.best_move, code);
+        let move_alpha = frame.move_alpha_at(code);
         frame.node.score_after_drop(kind) >= loss - move_alpha
     }
 
     /// Squares on which a drop of the kind that gives no check is not worth enough, since it is taken
     /// there.
     #[inline(always)]
+    #[tactic(auto, using(shogi_core::proofs::TargetLaws::no_bits))]
     fn futile_squares_if_taken(&self, kind: Kind, code: u16) -> Squares
         ensures { DropsFailLow self.now.frame.now kind result.bits 0 code }
     {
@@ -166,6 +166,7 @@ impl<'a> PreFrontier<'a> {
 
     /// Squares on which it is not, since the greatest threat stands.
     #[inline(always)]
+    #[tactic(auto, using(shogi_core::proofs::TargetLaws::no_bits))]
     fn futile_squares_under_threat(&self, kind: Kind, code: u16) -> Squares
         ensures { DropsFailLow self.now.frame.now kind result.bits 0 code }
     {
@@ -184,6 +185,7 @@ impl<'a> PreFrontier<'a> {
 
     /// Squares on which the drops of the kind are not worth enough after which the other side surely
     /// has a legal move, with the steps of its king that show that after some of them.
+    #[tactic(auto, using(shogi_core::proofs::TargetLaws::no_bits))]
     fn futile_drops(&mut self, kind: Kind, code: u16) -> (Squares, Squares)
         ensures lost { DropsFailLow self.old.frame.now kind result.0.bits result.1.bits code }
         ensures escapes { AreEscapes self.old.frame.now.node.position result.1.bits }
@@ -244,12 +246,12 @@ impl<'a> PreFrontier<'a> {
         if !self.frame.has_move || self.frame.is_checked() {
             return;
         }
-        self.frame.turn_to_quiets();
+        self.frame.turn_from(true);
         if let MovePicker::Captures(_, _) = self.frame.picker {
             return;
         }
         self.prune_quiets();
-        self.frame.turn_to_drops();
+        self.frame.turn_from(false);
         self.prune_drops();
     }
 }

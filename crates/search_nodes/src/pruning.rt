@@ -8,7 +8,6 @@ use crate::asked_move::AskedMove;
 use crate::frame::{Frame, NodeState};
 use crate::pre_frontier::PreFrontier;
 use crate::reply_cache::ReplyCache;
-use crate::window::move_alpha_at;
 use dull_moves::DullMoves;
 use shogi_core::Move;
 use shogi_eval::loss_of_drops;
@@ -33,18 +32,13 @@ impl Frame {
         loss_of_drops(p, p.side().opponent(), self.node.eval())
     }
 
-    /// Turns to the quiet moves where no capture is left.
-    pub(crate) fn turn_to_quiets(&mut self)
+    /// Turns to the quiet moves where no capture is left, or to the drops where no quiet move on the
+    /// board is.
+    #[inline(always)]
+    pub(crate) fn turn_from(&mut self, capture: bool)
         ensures { PrunesFiltered self.old self.new }
     {
-        self.picker.turn_to_quiets(self.node.as_position());
-    }
-
-    /// Turns to the drops where no quiet move on the board is left.
-    pub(crate) fn turn_to_drops(&mut self)
-        ensures { PrunesFiltered self.old self.new }
-    {
-        self.picker.turn_to_drops(self.node.as_position());
+        self.picker.turn_from(self.node.as_position(), capture);
     }
 
     /// Whether it is known that the side to move is in check.
@@ -183,13 +177,14 @@ impl Frame {
         let Some(code) = self.picker.quiet_code() else {
             return;
         };
-        if !self.prunes_dull() {
+        if !self.prunes_dull() || self.dull.is_none() {
             return;
         }
+        let move_alpha = self.move_alpha_at(code);
         let Some(dull) = &self.dull else {
             return;
         };
-        if dull.most <= move_alpha_at(self.best_value, &self.best_move, code) {
+        if dull.most <= move_alpha {
             self.picker.skip_dull(self.node.as_position(), dull);
         }
     }

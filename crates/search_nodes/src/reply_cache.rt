@@ -65,6 +65,7 @@ impl ReplyCache {
     /// The squares to which the other side's king may go, where they were looked for, and else
     /// none.
     #[inline(always)]
+    #[tactic(auto, using(shogi_core::proofs::TargetLaws::no_bits))]
     pub(crate) fn known_escapes(&self) -> Squares
         ensures { (node : Evaluated) → IsReplyCacheOf node self.now
             → AreEscapes node.position result.bits }

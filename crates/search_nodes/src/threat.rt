@@ -101,7 +101,7 @@ fn pinning_squares(p: &Position, from: Square) -> Squares
     let lines = king_line_mask(p, p.side().opponent());
     from.reveal_invariant();
     if lines.has(from) {
-        lines & line_mask(from.index())
+        lines & line_mask(from)
     } else {
         Squares::none()
     }
@@ -118,7 +118,7 @@ fn threat_by(p: &Position, e: Eval, candidate: ThreatCandidate) -> Option<Threat
         return None;
     }
     let (from, target) = (candidate.from, candidate.target);
-    let between = squares_between(from.index(), target.index());
+    let between = squares_between(from, target);
     Some(Threat {
         way: between.with(from).with(target),
         line: pinning_squares(p, from),

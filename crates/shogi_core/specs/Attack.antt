@@ -1,5 +1,5 @@
 -- Attacks and checks (JSA playing rules, check).
-use Rattle.std.specs.Prelude.{ℕ, ◌≡◌, ◌≢◌, ◌<◌, ◌⊎◌, ◌&&◌, Bool, true, false, not, Option, Some, None, MatchOption, is_none, slice_set}
+use Rattle.std.specs.Prelude.{ℕ, ◌≡◌, ◌≢◌, ◌<◌, ◌⊎◌, ◌&&◌, Bool, true, false, not, Option, Some, None, MatchOption, is_none, slice_set, bit_and}
 use Rattle.std.specs.List.{list_any}
 use Rattle.shogi_core.specs.declared.offset.Offset.{Offset}
 use Rattle.shogi_core.specs.declared.piece.Color.{Color}
@@ -10,7 +10,7 @@ use Rattle.shogi_core.specs.Cell.{is_piece_of, is_king, is_slider}
 use Rattle.shogi_core.specs.Lines.{are_aligned, back, is_same_offset}
 use Rattle.shogi_core.specs.Movement.{Cells, piece_at, reaches, has_step, slides, slides_of, for_side}
 use Rattle.shogi_core.specs.Pieces.{opponent_of}
-use Rattle.shogi_core.specs.Rays.{direction_at, is_on_ray}
+use Rattle.shogi_core.specs.Rays.{direction_at, ray_of, is_on_ray}
 
 -- the piece on `from` is of the side and reaches the square
 abbrev pub is_attacked_from : Cells → Color → ℕ → ℕ → Bool
@@ -35,6 +35,10 @@ abbrev pub is_sniper : Cells → Color → ℕ → ℕ → Bool
 is_sniper cells color square from =
     is_piece_of color (piece_at cells from) && is_slider (piece_at cells from)
     && are_aligned square from
+
+-- none of the snipers stands on the line from the square in the direction of that number
+abbrev pub HasNoSniper : ℕ → ℕ → ℕ → Type 0
+HasNoSniper direction square snipers = bit_and (ray_of (direction_at direction) square) snipers ≡ 0
 
 -- on the square stands the king of the side, and the piece on `from` is a sniper of the other side's
 abbrev pub is_sniper_of_king : Cells → Color → ℕ → ℕ → Bool

@@ -24,6 +24,10 @@ pub record IsUnion (post : ℕ → Squares → Type 0) (squares found : ℕ) : T
 abbrev pub HasNone : ℕ → Type 0
 HasNone squares = (n : ℕ) → has_bit squares n ≡ false
 
+-- no square of a set is lost
+abbrev pub KeepsSquares : ℕ → ℕ → Type 0
+KeepsSquares old new = (n : ℕ) → has_bit old n ≡ true → has_bit new n ≡ true
+
 -- the lowest square of a set is taken out of it
 pub record TakesLowest (n old new : ℕ) : Type 0 where
   pub range : n < 81

@@ -1,14 +1,15 @@
 //! Attacks and checks, seen from the square that is attacked.
 
-ghost use Rattle.std.specs.Prelude.{◌≡◌, ◌≢◌, ◌↔◌, ◌<◌, ◌≤◌, ◌^◌, ℕ, true, false, not, None, IfSome, IsNone, bit_and};
-ghost use Rattle.shogi_core.specs.Attack.{is_attacked, is_open_king, in_check, is_sniper, is_sniping, cell_steps, cell_slides_back, is_step_from, is_step_among, slider_attacks_along, slider_attacks, FindsOccupied, FindsPiece, TellsAttack, TellsSliderAttack, TellsSliderAttackAlong, HasPinned, HasPinnedAlong, OthersAreUnpinned, HasNoStep, StaysIfAttacked, StaysInCheck};
+ghost use Rattle.std.specs.Prelude.{◌≡◌, ◌≢◌, ◌↔◌, ◌<◌, ◌≤◌, ◌^◌, ℕ, true, false, not, None, IfSome, IsNone};
+ghost use Rattle.shogi_core.specs.Attack.{HasNoSniper, is_attacked, is_open_king, in_check, is_sniper, is_sniping, cell_steps, cell_slides_back, is_step_from, is_step_among, slider_attacks_along, slider_attacks, FindsOccupied, FindsPiece, TellsAttack, TellsSliderAttack, TellsSliderAttackAlong, HasPinned, HasPinnedAlong, OthersAreUnpinned, HasNoStep, StaysIfAttacked, StaysInCheck};
 ghost use Rattle.shogi_core.specs.Below.{some_below};
 ghost use Rattle.shogi_core.specs.Bits.{HasBits, has_bit};
+ghost use Rattle.shogi_core.specs.Sets.{KeepsSquares};
 ghost use Rattle.shogi_core.specs.Cell.{is_king};
 ghost use Rattle.shogi_core.specs.Lines.{are_lined, is_seen};
 ghost use Rattle.shogi_core.specs.Pieces.{opponent_of};
 ghost use Rattle.shogi_core.specs.declared.piece.Color.{Color};
-ghost use Rattle.shogi_core.specs.Rays.{direction_at, ray_of};
+ghost use Rattle.shogi_core.specs.Rays.{direction_at};
 
 use crate::bits::{highest, lowest};
 use crate::board::Board;
@@ -34,7 +35,7 @@ fn is_open_king(board: &Board, color: Color, square: Square) -> bool
 fn sniper_squares(board: &Board, by: Color, from: Square) -> Squares
     ensures squares { HasBits result.bits (is_sniper board.now by from) }
 {
-    board.own(by) & board.sliders() & line_mask(from.index())
+    board.own(by) & board.sliders() & line_mask(from)
 }
 
 /// Whether a step or a jump of what stands on the one square leads to the other.
@@ -43,7 +44,7 @@ fn steps_to(cell: Option<Piece>, from: Square, to: Square) -> bool
 {
     match cell {
         None => false,
-        Some(piece) => step_squares(piece, from.index()).has(to),
+        Some(piece) => step_squares(piece, from).has(to),
     }
 }
 
@@ -124,9 +125,9 @@ fn slider_attacks_on(
 
 /// Whether one of the snipers stands in the direction, whatever is between.
 fn has_sniper(direction: Direction, square: Square, snipers: Squares) -> bool
-    ensures { result ≡ false ↔ bit_and (ray_of (direction_at direction) square) snipers.bits ≡ 0 }
+    ensures { result ≡ false ↔ HasNoSniper direction square snipers.bits }
 {
-    ray(direction, square.index()).bits & snipers.bits != 0
+    ray(direction, square).bits & snipers.bits != 0
 }
 
 /// A direction against which one of the snipers of the square slides to it, if there is one.
@@ -188,7 +189,7 @@ fn first_occupied(occupied: Squares, direction: Direction, from: Square) -> Opti
     ensures first { FindsOccupied occupied.bits direction from result }
 {
     direction.reveal_invariant();
-    let pieces = ray(direction, from.index()).bits & occupied.bits;
+    let pieces = ray(direction, from).bits & occupied.bits;
     if pieces == 0 {
         return None;
     }
@@ -256,7 +257,7 @@ fn slider_check_or_pin(
 ) -> bool
     requires snipers { HasBits snipers.bits (is_sniper board.now (opponent_of side) square) }
     ensures shot { result ≡ slider_attacks_along board.now (opponent_of side) square direction }
-    ensures kept { (n : ℕ) → has_bit pinned.old.bits n ≡ true → has_bit pinned.new.bits n ≡ true }
+    ensures kept { KeepsSquares pinned.old.bits pinned.new.bits }
     ensures all { result ≡ false → HasPinnedAlong pinned.new.bits board.now side square direction }
 {
     direction.reveal_invariant();
@@ -379,7 +380,7 @@ impl Board {
         if is_stepped_on_among(self, among, square) {
             return true;
         }
-        let snipers = among & self.sliders() & line_mask(square.index());
+        let snipers = among & self.sliders() & line_mask(square);
         if snipers.bits == 0 {
             return false;
         }

@@ -15,12 +15,11 @@ use crate::square::Square;
 use crate::squares::Squares;
 
 /// The squares on lines with the square, whatever stands between.
-pub fn line_mask(from: usize) -> Squares
-    requires { from < 81 }
+pub fn line_mask(from: Square) -> Squares
     ensures squares { HasBits result.bits (are_aligned from) }
 {
     Squares {
-        bits: ALIGNED[from],
+        bits: ALIGNED[from.index()],
     }
 }
 
@@ -30,7 +29,7 @@ pub fn rising_squares(board: &Board, direction: Direction, from: Square) -> Squa
     requires direction { direction < 4 }
     ensures squares { HasBits result.bits (slides board.now (direction_at direction) from) }
 {
-    let line = ray(direction, from.index()).bits;
+    let line = ray(direction, from).bits;
     Squares {
         bits: line & up_to_lowest(line & board.occupied().bits),
     }
@@ -43,11 +42,11 @@ pub fn falling_squares(board: &Board, direction: Direction, from: Square) -> Squ
     ensures squares { HasBits result.bits (slides board.now (direction_at direction) from) }
 {
     direction.reveal_invariant();
-    let line = ray(direction, from.index()).bits;
+    let line = ray(direction, from).bits;
     // No such line leads on from the square of index 0.
     let first = highest(line & board.occupied().bits | 1);
     Squares {
-        bits: line & !ray(direction, first).bits,
+        bits: line & !ray(direction, Square::of_index(first)).bits,
     }
 }
 

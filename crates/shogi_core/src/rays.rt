@@ -1,18 +1,18 @@
 //! Where the lines from each square lead.
 
-ghost use Rattle.std.specs.Prelude.{◌≡◌, ◌<◌};
+ghost use Rattle.std.specs.Prelude.{◌≡◌};
 ghost use Rattle.shogi_core.specs.Rays.{ray_of, direction_at};
 
 use crate::direction::Direction;
 use crate::ray_table::RAYS;
+use crate::square::Square;
 use crate::squares::Squares;
 
 /// The squares that the line leads to from the square.
-pub fn ray(direction: Direction, from: usize) -> Squares
-    requires { from < 81 }
+pub fn ray(direction: Direction, from: Square) -> Squares
     ensures ray { result.bits ≡ ray_of (direction_at direction) from }
 {
     Squares {
-        bits: RAYS[direction.number() * 81 + from],
+        bits: RAYS[direction.number() * 81 + from.index()],
     }
 }

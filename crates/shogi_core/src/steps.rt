@@ -34,13 +34,19 @@ fn color_number(color: Color) -> usize
 }
 
 /// The squares to which a step or a jump of the piece leads.
-pub fn step_squares(piece: Piece, from: usize) -> Squares
-    requires { from < 81 }
+pub fn step_squares(piece: Piece, from: Square) -> Squares
     ensures squares { HasBits result.bits (has_step piece from) }
 {
     Squares {
-        bits: STEPS[(steps_kind(piece.role) * 2 + color_number(piece.color)) * 81 + from],
+        bits: STEPS[(steps_kind(piece.role) * 2 + color_number(piece.color)) * 81 + from.index()],
     }
+}
+
+/// The squares to which a step or a jump of a piece of this colour and role leads.
+fn squares_of(color: Color, role: Role, from: Square) -> Squares
+    ensures squares { HasBits result.bits (has_step (record { color = color; role = role }) from) }
+{
+    step_squares(Piece { color, role }, from)
 }
 
 /// The squares to which a knight of either side would jump.
@@ -48,15 +54,7 @@ pub fn step_squares(piece: Piece, from: usize) -> Squares
 pub fn jump_squares(from: Square) -> Squares
     ensures squares { HasBits result.bits (is_jump from) }
 {
-    let black = Piece {
-        color: Color::Black,
-        role: Role::Knight,
-    };
-    let white = Piece {
-        color: Color::White,
-        role: Role::Knight,
-    };
-    step_squares(black, from.index()) | step_squares(white, from.index())
+    squares_of(Color::Black, Role::Knight, from) | squares_of(Color::White, Role::Knight, from)
 }
 
 /// The squares next to the square, and a knight's jump away.
@@ -64,9 +62,5 @@ pub fn jump_squares(from: Square) -> Squares
 pub fn near_squares(from: Square) -> Squares
     ensures squares { HasBits result.bits (is_near from) }
 {
-    let king = Piece {
-        color: Color::Black,
-        role: Role::King,
-    };
-    step_squares(king, from.index()) | jump_squares(from)
+    squares_of(Color::Black, Role::King, from) | jump_squares(from)
 }

@@ -89,7 +89,7 @@ impl Board {
     pub fn targets_of(&self, piece: Piece, from: Square) -> Squares
         ensures squares { HasBits result.bits (cell_reaches self.now (Some piece) from) }
     {
-        step_squares(piece, from.index()) | piece_slides(self, piece, from)
+        step_squares(piece, from) | piece_slides(self, piece, from)
     }
 
     /// The squares that the piece on the square reaches; none where it is empty.

@@ -1,7 +1,7 @@
 -- Laws of runs of codes without a legal move of a kind.
-use Rattle.std.proofs.Common.{◌≡◌, ℕ, ◌+◌, ◌-◌, ◌*◌, ◌<◌, ◌≤◌, Bool, true, false, [], ◌∷◌, Some, filter, refl, sym, ◌∙◌, ap, arith, subst, inl, inr}
+use Rattle.std.proofs.Common.{◌≡◌, ℕ, ◌+◌, ◌-◌, ◌*◌, ◌<◌, ◌≤◌, Bool, true, false, [], ◌∷◌, Some, filter, sym, ◌∙◌, ap, arith, subst, inl, inr}
 use Rattle.std.specs.Prelude.{zero, suc, ◌&&◌, ◌/◌}
-use Rattle.std.proofs.lemmas.Bool.{cond-true, cond-false, cases_Bool, cases_lt, and_right, and_parts}
+use Rattle.std.proofs.lemmas.Bool.{cond-true, cases_lt, and_right, and_parts}
 use Rattle.shogi_core.specs.declared.moves.TheConstants.{MOVE_CODE_COUNT, FIRST_DROP, SQUARE_CODES}
 use Rattle.shogi_core.specs.declared.moves.Move.{Move}
 use Rattle.shogi_core.specs.Bits.{has_bit}
@@ -25,7 +25,7 @@ pub record HasNoneMatching (p : Shogi) (capture : Bool) (first end : ℕ) : Type
 
 -- one test that fails, of two
 left_fails : (a b : Bool) → a ≡ false → (a && b) ≡ false
-left_fails a b e = rw e refl
+left_fails a b e = grind arith
 
 -- the kind of a code is that of its move
 pub matches_kind_of : (p : Shogi) (code : ℕ) (m : Move) → move_of code ≡ Some m → is_capture p code ≡ captures p (Some m)
@@ -48,10 +48,7 @@ none_join p capture first middle end h k = record { none = λ code low high. eli
 
 -- a step over a code
 pub skip_one : (p : Shogi) (capture : Bool) (code : ℕ) → code < MOVE_CODE_COUNT → is_matching p capture code ≡ false → filter (matches_kind p capture) (legal_from p code) ≡ filter (matches_kind p capture) (legal_from p (code + 1))
-skip_one p capture code h e = elim (cases_Bool (is_legal_code p code)) [
-  | inl legal ↦ ap (filter (matches_kind p capture)) (legal_from_found p code h legal) ∙ cond-false (matches_kind p capture code) _ _ (sym (ap (λ (b : Bool). b && matches_kind p capture code) legal) ∙ e)
-  | inr other ↦ ap (filter (matches_kind p capture)) (legal_from_skips p code h other)
-]
+skip_one p capture code h e = grind (arith, legal_from_found p code h, legal_from_skips p code h)
 
 jump : (p : Shogi) (capture : Bool) (n first : ℕ) → first + n ≤ MOVE_CODE_COUNT → HasNoneMatching p capture first (first + n) → filter (matches_kind p capture) (legal_from p first) ≡ filter (matches_kind p capture) (legal_from p (first + n))
 jump p capture zero first h none = ap (λ (k : ℕ). filter (matches_kind p capture) (legal_from p k)) (omega arith)

@@ -1,19 +1,17 @@
 -- Moves that cannot leave the mover's king attacked.
-use Rattle.std.proofs.Common.{◌≡◌, ◌≢◌, ℕ, ◌<◌, ◌⊎◌, Bool, true, false, refl, sym, ap, subst, ◌∙◌, arith, inl, inr, Option, Some, None, set, length, get_or-set_same, get_or-set_other, length-set, bit_or}
-use Rattle.std.specs.Prelude.{◌&&◌, not, is_none}
-use Rattle.std.proofs.lemmas.Bool.{cases_eq, false_from_ne_true, both_ways, and_parts, or_parts, not-true}
+use Rattle.std.proofs.Common.{◌≡◌, ◌≢◌, ℕ, ◌<◌, ◌⊎◌, Bool, true, false, refl, sym, subst, ◌∙◌, arith, inl, inr, Option, None, set, length, get_or-set_same, get_or-set_other, length-set, bit_or}
+use Rattle.std.specs.Prelude.{is_none}
+use Rattle.std.proofs.lemmas.Bool.{cases_eq, false_from_ne_true, both_ways, and_parts, or_parts}
 use Rattle.shogi_core.specs.declared.piece.Color.{Color}
-use Rattle.shogi_core.specs.declared.piece.Color.TheVariants.{Black, White}
 use Rattle.shogi_core.specs.declared.piece.Kind.{Kind}
-use Rattle.shogi_core.specs.declared.piece.Kind.TheVariants as kinds
 use Rattle.shogi_core.specs.declared.piece.Piece.{Piece}
 use Rattle.shogi_core.specs.declared.moves.Move.TheVariants.{Board, Drop}
 use Rattle.shogi_core.specs.Attack.{in_check, is_attacked, is_open_king, StaysInCheck}
 use Rattle.shogi_core.specs.Bits.{has_bit}
-use Rattle.shogi_core.specs.Cell.{is_piece_of, is_king, is_king_role}
+use Rattle.shogi_core.specs.Cell.{is_piece_of, is_king}
 use Rattle.shogi_core.specs.Lines.{is_lined_with_king}
 use Rattle.shogi_core.specs.Movement.{Cells, piece_at}
-use Rattle.shogi_core.specs.Pieces.{opponent_of, is_same_color, role_of}
+use Rattle.shogi_core.specs.Pieces.{opponent_of}
 use Rattle.shogi_core.specs.Position.{Shogi}
 use Rattle.shogi_core.proofs.Below.{some_below_no}
 use Rattle.shogi_core.proofs.BitLaws.{has_bit-or}
@@ -25,67 +23,44 @@ use Rattle.shogi_moves.proofs.MovedPieces.{is_king-piece_moved}
 -- ---- a piece that moves
 
 pub other_side : (side : Color) (cell : Option Piece) → is_piece_of side cell ≡ true → is_piece_of (opponent_of side) cell ≡ false
-other_side side None e = refl
-other_side side (Some piece) e = go side piece.color e
-  where
-    go : (a b : Color) → is_same_color a b ≡ true → is_same_color (opponent_of a) b ≡ false
-    go Black Black e = refl
-    go White White e = refl
-    go Black White e = absurd (cc)
-    go White Black e = absurd (cc)
+other_side side cell e = grind arith
 
 pub is_piece_of-piece_moved : (side : Color) (promote : Bool) (cell : Option Piece) → is_piece_of side (piece_moved promote cell) ≡ is_piece_of side cell
-is_piece_of-piece_moved side promote None = refl
-is_piece_of-piece_moved side promote (Some piece) = refl
+is_piece_of-piece_moved side promote cell = grind arith
 
 pub own_some : (side : Color) (cell : Option Piece) → is_piece_of side cell ≡ true → is_none cell ≡ false
-own_some side None e = absurd (cc)
-own_some side (Some piece) e = refl
+own_some side cell e = grind arith
 
 -- ---- a piece more on the board
 
--- a piece of the side on a square more opens no line
-pub filled : (cells : Cells) (side : Color) (to : ℕ) (v : Option Piece) → length cells ≡ 81 → to < 81 → is_piece_of side v ≡ true → is_king side v ≡ false → in_check cells side ≡ false → in_check (set cells to v) side ≡ false
-filled cells side to v len ht own non_promoting safe =
-    check_was cells (set cells to v) (λ x. ⊥)
-    (λ x e. elim (look x) [
-      | inl there ↦ absurd (both_ways (is_none v) (own_some side v own) (ap is_none (sym there) ∙ e))
-      | inr same ↦ inl (ap is_none (sym same) ∙ e)
-    ])
+-- a piece of the side on a square opens no line, beside a board that is the same but for that square
+pub filled : (old cells : Cells) (side : Color) (to : ℕ) (v : Option Piece) → length cells ≡ 81 → to < 81 → ((x : ℕ) → x ≢ to → piece_at cells x ≡ piece_at old x) → is_piece_of side v ≡ true → is_king side v ≡ false → in_check old side ≡ false → in_check (set cells to v) side ≡ false
+filled old cells side to v len ht beside own non_promoting safe =
+    check_was old (set cells to v) (λ x. ⊥)
+    (λ x e. grind (arith, look x, own_some side v own))
     side
-    (λ x e. elim (look x) [
-      | inl there ↦ absurd (both_ways (is_piece_of (opponent_of side) v) (other_side side v own) (ap (is_piece_of (opponent_of side)) (sym there) ∙ e))
-      | inr same ↦ sym same
-    ])
-    (λ x e. elim (look x) [
-      | inl there ↦ absurd (both_ways (is_king side v) non_promoting (ap (is_king side) (sym there) ∙ e))
-      | inr same ↦ sym same
-    ])
+    (λ x e. grind (arith, look x, other_side side v own))
+    (λ x e. grind (arith, look x))
     (λ x left. absurd left)
     safe
   where
-    look : (x : ℕ) → (piece_at (set cells to v) x ≡ v) ⊎ (piece_at (set cells to v) x ≡ piece_at cells x)
-    look x = elim (cases_eq x to) [
-      | inl there ↦ inl (rw there (get_or-set_same cells to v None (omega arith)))
-      | inr other ↦ inr (get_or-set_other cells to x v None other)
-    ]
+    look : (x : ℕ) → (piece_at (set cells to v) x ≡ v) ⊎ (piece_at (set cells to v) x ≡ piece_at old x)
+    look x = grind (arith, cases_eq x to, beside x, get_or-set_same, get_or-set_other)
 
 -- ---- where there is a check
+
+apart : (both some more n : ℕ) → both ≡ bit_or some more → has_bit both n ≡ false → (has_bit some n ≡ false) × (has_bit more n ≡ false)
+apart both some more n is out = or_parts _ _ (sym (has_bit-or some more n) ∙ rw is at out)
 
 -- the kings, and the squares of answers
 pub check_info_answers : (p : Shogi) (kings answers both : ℕ) → in_check p.cells p.side ≡ true → both ≡ bit_or kings answers → ((n : ℕ) → n < 81 → has_bit kings n ≡ is_king p.side (piece_at p.cells n)) → StaysInCheck answers p.cells p.side
     → IsCheckInfo p true both
 check_info_answers p kings answers both e is k stays = record {
   check = sym e;
-  kings = λ n h out. sym (k n h) ∙ (apart n out).0;
-  stays = λ _ new to h out. stays new to h (apart to out).1;
+  kings = λ n h out. sym (k n h) ∙ (apart both kings answers n is out).0;
+  stays = λ _ new to h out. stays new to h (apart both kings answers to is out).1;
   free = λ c. absurd (cc);
 }
-  where
-    apart : (n : ℕ) → has_bit both n ≡ false → (has_bit kings n ≡ false) × (has_bit answers n ≡ false)
-    apart n out = or_parts (has_bit kings n) (has_bit answers n) (sym (ap (λ m. has_bit m n) is ∙ has_bit-or kings answers n) ∙ out)
-
-pub ruleset with_check = (check_info_answers)
 
 -- ---- where there is no check
 
@@ -95,42 +70,22 @@ pub check_info_unpinned : (p : Shogi) (kings pinned both : ℕ) → in_check p.c
     → IsCheckInfo p false both
 check_info_unpinned p kings pinned both safe is k free = record {
   check = sym safe;
-  kings = λ n h out. sym (k n h) ∙ (apart n out).0;
+  kings = λ n h out. sym (k n h) ∙ (apart both kings pinned n is out).0;
   stays = λ c. absurd (cc);
-  free = λ c n h out own. free n h (apart n out).1 own;
+  free = λ c n h out own. free n h (apart both kings pinned n is out).1 own;
 }
-  where
-    apart : (n : ℕ) → has_bit both n ≡ false → (has_bit kings n ≡ false) × (has_bit pinned n ≡ false)
-    apart n out = or_parts (has_bit kings n) (has_bit pinned n) (sym (ap (λ m. has_bit m n) is ∙ has_bit-or kings pinned n) ∙ out)
-
-pub ruleset without_check = (check_info_unpinned)
 
 module _ (cells : Cells) (side : Color) (from to : ℕ) (v : Option Piece) (len : length cells ≡ 81) (hf : from < 81) (ht : to < 81) where
   pub look : (x : ℕ) → ((x ≡ to) × (piece_at (set (set cells from None) to v) x ≡ v)) ⊎ (((x ≡ from) × (piece_at (set (set cells from None) to v) x ≡ None)) ⊎ (piece_at (set (set cells from None) to v) x ≡ piece_at cells x))
-  look x = elim (cases_eq x to) [
-    | inl there ↦ inl (there, rw there (get_or-set_same (set cells from None) to v None (omega (arith, length-set cells from None))))
-    | inr other ↦ elim (cases_eq x from) [
-      | inl here ↦ inr (inl (here, get_or-set_other (set cells from None) to x v None other ∙ rw here (get_or-set_same cells from None None (omega arith))))
-      | inr off ↦ inr (inr (get_or-set_other (set cells from None) to x v None other ∙ get_or-set_other cells from x None None off))
-    ]
-  ]
+  look x = grind (arith, cases_eq x to, cases_eq x from, get_or-set_same, get_or-set_other, length-set)
 
   pub quiet_set : is_piece_of side v ≡ true → is_king side v ≡ false → is_lined_with_king cells side from ≡ false → in_check cells side ≡ false → in_check (set (set cells from None) to v) side ≡ false
   quiet_set own non_promoting free safe =
       check_was cells (set (set cells from None) to v) (λ x. x ≡ from)
-      (λ x e. elim (look x) [
-        | inl there ↦ absurd (both_ways (is_none v) (own_some side v own) (ap is_none (sym there.1) ∙ e))
-        | inr rest ↦ elim rest [ inl here ↦ inr here.0 | inr same ↦ inl (ap is_none (sym same) ∙ e) ]
-      ])
+      (λ x e. grind (arith, look x, own_some side v own))
       side
-      (λ a e. elim (look a) [
-        | inl there ↦ absurd (both_ways (is_piece_of (opponent_of side) v) (other_side side v own) (ap (is_piece_of (opponent_of side)) (sym there.1) ∙ e))
-        | inr rest ↦ elim rest [ inl here ↦ absurd (let clash : false ≡ true = ap (is_piece_of (opponent_of side)) (sym here.1) ∙ e in cc) | inr same ↦ sym same ]
-      ])
-      (λ k e. elim (look k) [
-        | inl there ↦ absurd (both_ways (is_king side v) non_promoting (ap (is_king side) (sym there.1) ∙ e))
-        | inr rest ↦ elim rest [ inl here ↦ absurd (let clash : false ≡ true = ap (is_king side) (sym here.1) ∙ e in cc) | inr same ↦ sym same ]
-      ])
+      (λ a e. grind (arith, look a, other_side side v own))
+      (λ k e. grind (arith, look k))
       (λ x left. subst (λ (y : ℕ). is_lined_with_king cells side y ≡ false) (sym left) free)
       safe
 
@@ -139,25 +94,10 @@ module _ (cells : Cells) (side : Color) (from to : ℕ) (v : Option Piece) (len 
   stays_set m stays out own non_promoting bare =
       stays (set (set cells from None) to v) to ht out
       (record {
-        empty = λ x e. elim (look x) [
-          | inl there ↦ inr there.0
-          | inr rest ↦ elim rest [ inl here ↦ inl (ap is_none here.1) | inr same ↦ inl (ap is_none same ∙ e) ]
-        ];
-        kept = λ a off e. elim (look a) [
-          | inl there ↦ absurd (off there.0)
-          | inr rest ↦ elim rest [
-            | inl here ↦ absurd (both_ways (is_piece_of (opponent_of side) (piece_at cells from)) (other_side side (piece_at cells from) own) (subst (λ (y : ℕ). is_piece_of (opponent_of side) (piece_at cells y) ≡ true) here.0 e))
-            | inr same ↦ same
-          ]
-        ];
+        empty = λ x e. grind (arith, look x);
+        kept = λ a off e. grind (arith, look a, other_side side (piece_at cells from) own);
       })
-      (λ k e. elim (look k) [
-        | inl there ↦ absurd (both_ways (is_king side (piece_at cells to)) bare (subst (λ (y : ℕ). is_king side (piece_at cells y) ≡ true) there.0 e))
-        | inr rest ↦ elim rest [
-          | inl here ↦ absurd (both_ways (is_king side (piece_at cells from)) non_promoting (subst (λ (y : ℕ). is_king side (piece_at cells y) ≡ true) here.0 e))
-          | inr same ↦ same
-        ]
-      ])
+      (λ k e. grind (arith, look k))
 
   -- a king that is the only one is attacked after its move only where it would be with its square left empty
   pub king_set : is_piece_of side v ≡ true → ((x : ℕ) → x < 81 → x ≢ from → is_king side (piece_at cells x) ≡ false) → is_attacked (set cells from None) (opponent_of side) to ≡ false → in_check (set (set cells from None) to v) side ≡ false
@@ -167,28 +107,13 @@ module _ (cells : Cells) (side : Color) (from to : ℕ) (v : Option Piece) (len 
       elim (cases_eq k to) [
         | inl there ↦ both_ways (is_attacked (set (set cells from None) to v) (opponent_of side) to)
             (attacked_was (set cells from None) (set (set cells from None) to v) (λ x. ⊥)
-            (λ x f. elim (cases_eq x to) [
-              | inl at ↦ absurd (both_ways (is_none v) (own_some side v own) (ap is_none (sym (filled_at x at)) ∙ f))
-              | inr other ↦ inl (ap is_none (sym (get_or-set_other (set cells from None) to x v None other)) ∙ f)
-            ])
+            (λ x f. grind (arith, cases_eq x to, filled_at x, own_some side v own, get_or-set_other (set cells from None) to x v None))
             (opponent_of side) to
-            (λ a f. elim (cases_eq a to) [
-              | inl at ↦ absurd (both_ways (is_piece_of (opponent_of side) v) (other_side side v own) (ap (is_piece_of (opponent_of side)) (sym (filled_at a at)) ∙ f))
-              | inr other ↦ sym (get_or-set_other (set cells from None) to a v None other)
-            ])
+            (λ a f. grind (arith, cases_eq a to, filled_at a, other_side side v own, get_or-set_other (set cells from None) to a v None))
             (λ x left. absurd left)
             safe)
             (subst (λ (y : ℕ). is_attacked (set (set cells from None) to v) (opponent_of side) y ≡ true) there parts.1)
-        | inr other ↦ elim (look k) [
-          | inl there ↦ other there.0
-          | inr rest ↦ elim rest [
-            | inl here ↦ (let clash : false ≡ true = ap (is_king side) (sym here.1) ∙ parts.0 in cc)
-            | inr same ↦ elim (cases_eq k from) [
-              | inl left ↦ (let gone : piece_at (set (set cells from None) to v) k ≡ None = get_or-set_other (set cells from None) to k v None other ∙ rw left (get_or-set_same cells from None None (omega arith)) in let clash : false ≡ true = ap (is_king side) (sym gone) ∙ parts.0 in cc)
-              | inr off ↦ both_ways (is_king side (piece_at cells k)) (lone k l off) (ap (is_king side) (sym same) ∙ parts.0)
-            ]
-          ]
-        ]
+        | inr other ↦ grind (arith, parts.0, cases_eq k from, lone k l, get_or-set_other (set cells from None) to k v None other, get_or-set_same cells from None None, get_or-set_other cells from k None None)
       ]))
     where
       filled_at : (x : ℕ) → x ≡ to → piece_at (set (set cells from None) to v) x ≡ v
@@ -202,81 +127,30 @@ quiet_board cells side from to promote len hf ht own non_promoting free safe =
 -- ---- a piece that is dropped
 
 pub dropped_of : (side : Color) (kind : Kind) → is_piece_of side (dropped side kind) ≡ true
-dropped_of Black kind = refl
-dropped_of White kind = refl
+dropped_of side kind = grind arith
 
 pub dropped_plain : (side : Color) (kind : Kind) → is_king side (dropped side kind) ≡ false
-dropped_plain side kind = go (is_same_color side side) (role_plain kind)
-  where
-    role_plain : (kind : Kind) → is_king_role (role_of kind) ≡ false
-    role_plain kinds.Pawn = refl
-    role_plain _ = refl
-
-    go : (a : Bool) {b : Bool} → b ≡ false → (a && b) ≡ false
-    go true e = e
-    go false e = refl
-
--- from a board that is the same but for the square of the drop
-dropped_over : (old cells : Cells) (side : Color) (kind : Kind) (to : ℕ) → length cells ≡ 81 → to < 81 → ((x : ℕ) → x ≢ to → piece_at cells x ≡ piece_at old x) → in_check old side ≡ false → in_check (cells_after cells side (Drop kind to)) side ≡ false
-dropped_over old cells side kind to len ht beside safe =
-    check_was old (set cells to (dropped side kind)) (λ x. ⊥)
-    (λ x e. elim (look x) [
-      | inl there ↦ absurd (let clash : false ≡ true = ap is_none (sym there) ∙ e in cc)
-      | inr same ↦ inl (ap is_none (sym same) ∙ e)
-    ])
-    side
-    (λ a e. elim (look a) [
-      | inl there ↦ absurd (both_ways (is_piece_of (opponent_of side) (dropped side kind)) (other_side side (dropped side kind) (dropped_of side kind)) (ap (is_piece_of (opponent_of side)) (sym there) ∙ e))
-      | inr same ↦ sym same
-    ])
-    (λ k e. elim (look k) [
-      | inl there ↦ absurd (both_ways (is_king side (dropped side kind)) (dropped_plain side kind) (ap (is_king side) (sym there) ∙ e))
-      | inr same ↦ sym same
-    ])
-    (λ x left. absurd left)
-    safe
-  where
-    look : (x : ℕ) → (piece_at (set cells to (dropped side kind)) x ≡ dropped side kind) ⊎ (piece_at (set cells to (dropped side kind)) x ≡ piece_at old x)
-    look x = elim (cases_eq x to) [
-      | inl there ↦ inl (rw there (get_or-set_same cells to (dropped side kind) None (omega arith)))
-      | inr other ↦ inr (get_or-set_other cells to x (dropped side kind) None other ∙ beside x other)
-    ]
+dropped_plain side kind = grind arith
 
 pub quiet_drop : (cells : Cells) (side : Color) (kind : Kind) (to : ℕ) → length cells ≡ 81 → to < 81 → in_check cells side ≡ false → in_check (cells_after cells side (Drop kind to)) side ≡ false
-quiet_drop cells side kind to len ht safe = dropped_over cells cells side kind to len ht (λ x other. refl) safe
+quiet_drop cells side kind to len ht safe = filled cells cells side to (dropped side kind) len ht (λ x other. refl) (dropped_of side kind) (dropped_plain side kind) safe
 
 -- whether a drop leaves a check does not depend on its kind
 pub same_drop : (cells : Cells) (side : Color) (a b : Kind) (to : ℕ) → length cells ≡ 81 → to < 81 → in_check (cells_after cells side (Drop a to)) side ≡ in_check (cells_after cells side (Drop b to)) side
-same_drop cells side a b to len ht = agree _ _ (over a b) (over b a)
+same_drop cells side a b to len ht = grind (arith, over a b, over b a)
   where
     over : (a b : Kind) → in_check (cells_after cells side (Drop a to)) side ≡ false → in_check (cells_after cells side (Drop b to)) side ≡ false
-    over a b safe = dropped_over (set cells to (dropped side a)) cells side b to len ht (λ x other. sym (get_or-set_other cells to x (dropped side a) None other)) safe
-
-    agree : (x y : Bool) → (x ≡ false → y ≡ false) → (y ≡ false → x ≡ false) → x ≡ y
-    agree true true f g = refl
-    agree false false f g = refl
-    agree true false f g = g refl
-    agree false true f g = sym (f refl)
+    over a b safe = filled (set cells to (dropped side a)) cells side to (dropped side b) len ht (λ x other. sym (get_or-set_other cells to x (dropped side a) None other)) (dropped_of side b) (dropped_plain side b) safe
 
 -- nor does a drop that ends on none answer it
 pub stays_drop : (m : ℕ) (cells : Cells) (side : Color) (kind : Kind) (to : ℕ) → StaysInCheck m cells side → has_bit m to ≡ false → to < 81 → is_none (piece_at cells to) ≡ true → in_check (cells_after cells side (Drop kind to)) side ≡ true
 stays_drop m cells side kind to stays out ht free =
     stays (set cells to (dropped side kind)) to ht out
     (record {
-      empty = λ x e. elim (cases_eq x to) [
-        | inl there ↦ inr there
-        | inr other ↦ inl (ap is_none (get_or-set_other cells to x (dropped side kind) None other) ∙ e)
-      ];
+      empty = λ x e. grind (arith, cases_eq x to, get_or-set_other cells to x (dropped side kind) None);
       kept = λ a off e. get_or-set_other cells to a (dropped side kind) None off;
     })
-    (λ k e. elim (cases_eq k to) [
-      | inl there ↦ absurd (both_ways (is_king side (piece_at cells to)) (no_crown (piece_at cells to) free) (subst (λ (y : ℕ). is_king side (piece_at cells y) ≡ true) there e))
-      | inr other ↦ get_or-set_other cells to k (dropped side kind) None other
-    ])
-  where
-    no_crown : (cell : Option Piece) → is_none cell ≡ true → is_king side cell ≡ false
-    no_crown None e = refl
-    no_crown (Some piece) e = absurd (cc)
+    (λ k e. grind (arith, cases_eq k to, get_or-set_other cells to k (dropped side kind) None))
 
 -- ---- what follows from check info for a move
 
@@ -284,7 +158,4 @@ stays_drop m cells side kind to stays out ht free =
 pub unpinned_safe : (p : Shogi) (checked : Bool) (pinned_or_king from to : ℕ) (promote : Bool) → IsCheckInfo p checked pinned_or_king → length p.cells ≡ 81 → from < 81 → to < 81 → is_piece_of p.side (piece_at p.cells from) ≡ true → checked ≡ false → has_bit pinned_or_king from ≡ false
     → in_check (cells_after p.cells p.side (Board from to promote)) p.side ≡ false
 unpinned_safe p checked pinned_or_king from to promote g len hf ht own unpinned off =
-    filled (set p.cells from None) p.side to (piece_moved promote (piece_at p.cells from)) (length-set p.cells from None ∙ len) ht (is_piece_of-piece_moved p.side promote (piece_at p.cells from) ∙ own) (is_king-piece_moved p.side promote (piece_at p.cells from) ∙ g.kings from hf off) (g.free unpinned from hf off own)
-
-pub unpinned_parts : (a b : Bool) → (not a && not b) ≡ true → (a ≡ false) × (b ≡ false)
-unpinned_parts a b e = let parts : (not a ≡ true) × (not b ≡ true) = and_parts (not a) (not b) e in (not-true a parts.0, not-true b parts.1)
+    filled (set p.cells from None) (set p.cells from None) p.side to (piece_moved promote (piece_at p.cells from)) (length-set p.cells from None ∙ len) ht (λ x other. refl) (is_piece_of-piece_moved p.side promote (piece_at p.cells from) ∙ own) (is_king-piece_moved p.side promote (piece_at p.cells from) ∙ g.kings from hf off) (g.free unpinned from hf off own)

@@ -18,13 +18,7 @@ count_by-set p xs i y d h = sum_by-set (λ x. cond (p x) 1 0) xs i y d h
 -- what a count is after a move from a to b
 pub count_moved : {X : Type 0} (p : Option X → Bool) (xs : List (Option X)) (a b : ℕ) (v : Option X) → p None ≡ false → a < length xs → b < length xs → b ≢ a
     → count_by p (set (set xs a None) b v) + tally (p (get_or xs a None)) + tally (p (get_or xs b None)) ≡ count_by p xs + tally (p v)
-count_moved {X} p xs a b v none ha hb other =
-    let first : count_by p (set xs a None) + tally (p (get_or xs a None)) ≡ count_by p xs + tally (p None) = count_by-set p xs a None None ha in
-    let second : count_by p (set (set xs a None) b v) + tally (p (get_or (set xs a None) b None)) ≡ count_by p (set xs a None) + tally (p v) = count_by-set p (set xs a None) b v None (rw length-set hb) in
-    let same : get_or (set xs a None) b None ≡ get_or xs b None = get_or-set_other xs a b None None other in
-    let second' : count_by p (set (set xs a None) b v) + tally (p (get_or xs b None)) ≡ count_by p (set xs a None) + tally (p v) = rw same at second in
-    let zero : tally (p None) ≡ 0 = ap tally none in
-    omega arith
+count_moved p xs a b v none ha hb other = grind (arith, count_by-set p xs a None None ha, count_by-set p (set xs a None) b v None (rw length-set hb), get_or-set_other xs a b None None other)
 
 -- the nine places of a file
 abbrev pub on_file' : {X : Type 0} → ℕ → List X → List X
@@ -66,7 +60,7 @@ pub here_off : (f i : ℕ) (b : Bool) → i / 9 ≢ f → here f i b ≡ 0
 here_off f i b e = rw (ne_eqb (i / 9) f e) refl
 
 pub nothing_here : (f i : ℕ) (b : Bool) → b ≡ false → here f i b ≡ 0
-nothing_here f i b e = elim (cases_eq (i / 9) f) [ inl same ↦ here_on f i b same ∙ ap tally e | inr other ↦ here_off f i b other ]
+nothing_here f i b e = grind arith
 
 not_there : (f i : ℕ) → i / 9 ≢ f → (i < 9 * f) ⊎ (9 * f + 9 ≤ i)
 not_there f i e = elim (cases_lt i (9 * f)) [ inl low ↦ inl low | inr high ↦ inr (omega arith) ]
@@ -89,13 +83,7 @@ count_on_file-set {X} p f i xs y d h = elim (cases_eq (i / 9) f) [
 -- what a file's count is after a move from a to b
 pub count_on_file_moved : {X : Type 0} (p : Option X → Bool) (f : ℕ) (xs : List (Option X)) (a b : ℕ) (v : Option X) → p None ≡ false → a < length xs → b < length xs → b ≢ a
     → count_by p (on_file' f (set (set xs a None) b v)) + here f a (p (get_or xs a None)) + here f b (p (get_or xs b None)) ≡ count_by p (on_file' f xs) + here f b (p v)
-count_on_file_moved {X} p f xs a b v none ha hb other =
-    let first : count_by p (on_file' f (set xs a None)) + here f a (p (get_or xs a None)) ≡ count_by p (on_file' f xs) + here f a (p None) = count_on_file-set p f a xs None None ha in
-    let second : count_by p (on_file' f (set (set xs a None) b v)) + here f b (p (get_or (set xs a None) b None)) ≡ count_by p (on_file' f (set xs a None)) + here f b (p v) = count_on_file-set p f b (set xs a None) v None (rw length-set hb) in
-    let same : get_or (set xs a None) b None ≡ get_or xs b None = get_or-set_other xs a b None None other in
-    let second' : count_by p (on_file' f (set (set xs a None) b v)) + here f b (p (get_or xs b None)) ≡ count_by p (on_file' f (set xs a None)) + here f b (p v) = rw same at second in
-    let zero : here f a (p None) ≡ 0 = nothing_here f a (p None) none in
-    omega arith
+count_on_file_moved p f xs a b v none ha hb other = grind (arith, count_on_file-set p f a xs None None ha, count_on_file-set p f b (set xs a None) v None (rw length-set hb), get_or-set_other xs a b None None other, nothing_here f a (p None) none)
 
 -- one more of a kind in one of the two hands
 pub hand_added : (hands : List ℕ) (at n m : ℕ) → length hands ≡ 14 → n < 7 → m < 7 → (at ≡ n) ⊎ (at ≡ n + 7)

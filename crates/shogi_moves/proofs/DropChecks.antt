@@ -1,6 +1,6 @@
 -- A drop discovers nothing: the other king is attacked after it by the dropped piece or not at all.
-use Rattle.std.proofs.Common.{◌≡◌, ℕ, ◌<◌, ◌⊎◌, Bool, true, false, None, refl, sym, ap, ◌∙◌, arith, inl, inr, length, subst, get_or-set_same, get_or-set_other}
-use Rattle.std.specs.Prelude.{is_none, ◌||◌}
+use Rattle.std.proofs.Common.{◌≡◌, ℕ, ◌<◌, ◌⊎◌, Bool, true, false, None, refl, sym, ◌∙◌, arith, inl, inr, length, subst, get_or-set_same, get_or-set_other}
+use Rattle.std.specs.Prelude.{◌||◌}
 use Rattle.std.proofs.lemmas.Bool.{cases_eq, both_ways, false_from_ne_true}
 use Rattle.shogi_core.specs.declared.piece.Color.{Color}
 use Rattle.shogi_core.specs.declared.piece.Color.TheVariants.{Black, White}
@@ -24,33 +24,20 @@ use Rattle.shogi_moves.specs.After.{cells_after, dropped}
 use Rattle.shogi_moves.specs.Legal.{is_pawn_drop_mate}
 
 pub no_king : (side : Color) (kind : Kind) → is_king (opponent_of side) (dropped side kind) ≡ false
-no_king Black kind = refl
-no_king White kind = refl
+no_king side kind = grind arith
 
 module _ (cells : Cells) (side : Color) (kind : Kind) (to : ℕ) (len : length cells ≡ 81) (ht : to < 81) where
   pub look : (x : ℕ) → ((x ≡ to) × (piece_at (cells_after cells side (Drop kind to)) x ≡ dropped side kind)) ⊎ (piece_at (cells_after cells side (Drop kind to)) x ≡ piece_at cells x)
-  look x = elim (cases_eq x to) [
-    | inl there ↦ inl (there, rw there (get_or-set_same cells to (dropped side kind) None (omega arith)))
-    | inr other ↦ inr (get_or-set_other cells to x (dropped side kind) None other)
-  ]
+  look x = grind (arith, cases_eq x to, get_or-set_same, get_or-set_other)
 
   pub drop_shut : in_check cells (opponent_of side) ≡ false → ((k : ℕ) → k < 81 → is_king (opponent_of side) (piece_at (cells_after cells side (Drop kind to)) k) ≡ true → reaches (cells_after cells side (Drop kind to)) to k ≡ false)
       → in_check (cells_after cells side (Drop kind to)) (opponent_of side) ≡ false
   drop_shut safe short =
       check_was_but cells (cells_after cells side (Drop kind to)) (λ x. ⊥)
-      (λ x e. elim (look x) [
-        | inl there ↦ absurd (let clash : false ≡ true = ap is_none (sym there.1) ∙ e in cc)
-        | inr same ↦ inl (ap is_none (sym same) ∙ e)
-      ])
+      (λ x e. grind (arith, look x))
       (opponent_of side)
-      (λ a e. elim (look a) [
-        | inl there ↦ inr (λ k h king. rw there.0 (short k h king))
-        | inr same ↦ inl (sym same)
-      ])
-      (λ k e. elim (look k) [
-        | inl there ↦ absurd (both_ways (is_king (opponent_of side) (dropped side kind)) (no_king side kind) (ap (is_king (opponent_of side)) (sym there.1) ∙ e))
-        | inr same ↦ sym same
-      ])
+      (λ a e. elim (look a) [ inl there ↦ inr (λ k h king. rw there.0 (short k h king)) | inr same ↦ inl (sym same) ])
+      (λ k e. grind (arith, look k, no_king side kind))
       (λ x left. absurd left)
       safe
 
@@ -61,8 +48,7 @@ pub non_mating_pawn : (p : Shogi) (to : ℕ) → length p.cells ≡ 81 → to < 
 non_mating_pawn p to len ht safe short = rw (drop_shut p.cells p.side kinds.Pawn to len ht safe short) refl
 
 step_alone : (a : Bool) → (a || false) ≡ a
-step_alone true = refl
-step_alone false = refl
+step_alone a = grind arith
 
 pawn_reaches : (cells : Cells) (side : Color) (to k : ℕ) → length cells ≡ 81 → to < 81 → reaches (cells_after cells side (Drop kinds.Pawn to)) to k ≡ has_step (record { color = side; role = Pawn }) to k
 unfolding reaches
@@ -78,10 +64,7 @@ pawn_back White n k h e = step_back down n k h e
 
 -- a king of the other side after the drop was one before it
 old_king : (p : Shogi) (to : ℕ) → length p.cells ≡ 81 → to < 81 → (k : ℕ) → is_king (opponent_of p.side) (piece_at (cells_after p.cells p.side (Drop kinds.Pawn to)) k) ≡ true → is_king (opponent_of p.side) (piece_at p.cells k) ≡ true
-old_king p to len ht k e = elim (look p.cells p.side kinds.Pawn to len ht k) [
-  | inl there ↦ absurd (both_ways (is_king (opponent_of p.side) (dropped p.side kinds.Pawn)) (no_king p.side kinds.Pawn) (ap (is_king (opponent_of p.side)) (sym there.1) ∙ e))
-  | inr same ↦ ap (is_king (opponent_of p.side)) (sym same) ∙ e
-]
+old_king p to len ht k e = grind (arith, look p.cells p.side kinds.Pawn to len ht k, no_king p.side kinds.Pawn)
 
 -- a pawn mates the king alone from the square to which a pawn on the king's square would step
 pub far_pawn : (p : Shogi) (to king faces : ℕ) → IsValid p → to < 81 → HasNoOtherKing p.cells (opponent_of p.side) king → ((n : ℕ) → n < 81 → has_bit faces n ≡ has_step (record { color = opponent_of p.side; role = Pawn }) king n) → has_bit faces to ≡ false → is_pawn_drop_mate p (Drop kinds.Pawn to) ≡ false

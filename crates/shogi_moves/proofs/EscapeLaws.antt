@@ -1,9 +1,9 @@
 -- A king that is given check may go to a square that stays out of reach.
-use Rattle.std.proofs.Common.{◌≡◌, ◌≢◌, ◌⊎◌, ℕ, ◌-◌, ◌^◌, ◌<◌, Bool, true, false, not, Option, Some, None, [], refl, sym, ap, subst, ◌∙◌, arith, inl, inr, set, length, length-set, get_or-set_same, get_or-set_other, bit_and}
+use Rattle.std.proofs.Common.{◌≡◌, ◌≢◌, ◌⊎◌, ℕ, ◌-◌, ◌^◌, ◌<◌, Bool, true, false, not, Option, None, [], refl, sym, ap, subst, ◌∙◌, arith, inl, inr, set, length, length-set, get_or-set_same, get_or-set_other, bit_and}
 use Rattle.std.specs.Prelude.{◌&&◌, ◌||◌, ◌==◌, is_none}
 use Rattle.std.specs.List.{list_any}
 use Rattle.std.specs.Int.{trailing_zeros, w128}
-use Rattle.std.proofs.lemmas.Bool.{cases_eq, false_from_ne_true, both_ways, and_parts, or_cases, or_left, not-true, eqb-true, eq-eqb}
+use Rattle.std.proofs.lemmas.Bool.{cases_eq, false_from_ne_true, both_ways, and_parts, not-true, eq-eqb}
 use Rattle.shogi_core.specs.declared.moves.Move.TheVariants.{Drop}
 use Rattle.shogi_core.specs.declared.piece.Color.{Color}
 use Rattle.shogi_core.specs.declared.piece.Kind.{Kind}
@@ -15,7 +15,7 @@ use Rattle.shogi_core.specs.Attack.{is_attacked, in_check}
 use Rattle.shogi_core.specs.Bits.{has_bit}
 use Rattle.shogi_core.specs.Cell.{is_piece_of, is_king, is_king_role}
 use Rattle.shogi_core.specs.Lines.{are_lined}
-use Rattle.shogi_core.specs.Movement.{Cells, piece_at, reaches, cell_reaches, has_step, has_slide, slides, slides_of, for_side}
+use Rattle.shogi_core.specs.Movement.{Cells, piece_at, reaches, cell_reaches, has_step, slides, slides_of, for_side}
 use Rattle.shogi_core.specs.Pieces.{opponent_of}
 use Rattle.shogi_core.specs.Position.{Shogi, HandCounts}
 use Rattle.shogi_core.specs.Validity.{IsValid}
@@ -25,7 +25,7 @@ use Rattle.shogi_core.proofs.Discovered.{attacked_was_but, reach_was}
 use Rattle.shogi_core.proofs.LineBits.{lowest_set, has_bit-not}
 use Rattle.shogi_moves.specs.After.{after, cells_after, piece_moved, dropped}
 use Rattle.shogi_moves.specs.Destinations.{is_mating_square}
-use Rattle.shogi_moves.specs.Escapes.{IsEscape, IsKingStep, AreKingSteps, AreEscapes, HasOpenEscape}
+use Rattle.shogi_moves.specs.Escapes.{IsEscape, AreKingSteps, AreEscapes, HasOpenEscape}
 use Rattle.shogi_moves.specs.LegalMoves.{legal_codes}
 use Rattle.shogi_moves.proofs.DropChecks as drops
 use Rattle.shogi_moves.proofs.ExistenceLaws.{king_move, safe_from_legal}
@@ -34,21 +34,15 @@ use Rattle.shogi_moves.proofs.KingLaws.{king_own, in_no_way}
 use Rattle.shogi_moves.proofs.MovedPieces.{opponent_twice}
 
 pub crowned : (color : Color) (cell : Option Piece) → is_piece_of color cell ≡ false → is_king color cell ≡ false
-crowned color None e = refl
-crowned color (Some piece) e = rw e refl
+crowned color cell e = grind arith
 
 -- ---- a king reaches the same squares on every board
 
 no_slide : (cells : Cells) (color : Color) (role : Role) (a b : ℕ) → is_king_role role ≡ true → list_any (λ o. slides cells (for_side color o) a b) (slides_of role) ≡ false
-no_slide cells color roles.King a b k = refl
-no_slide cells color _ a b k = absurd (cc)
+no_slide cells color role a b k = grind arith
 
 pub king_reach : (old new : Cells) (side : Color) (cell : Option Piece) (a b : ℕ) → is_king side cell ≡ true → cell_reaches old cell a b ≡ true → cell_reaches new cell a b ≡ true
-king_reach old new side None a b k e = e
-king_reach old new side (Some piece) a b k e = elim (or_cases (has_step piece a b) (has_slide old piece a b) e) [
-  | inl step ↦ or_left (has_step piece a b) (has_slide new piece a b) step
-  | inr slide ↦ absurd (both_ways (has_slide old piece a b) (no_slide old piece.color piece.role a b (and_parts _ _ k).1) slide)
-]
+king_reach old new side cell a b k e = grind (arith, no_slide)
 
 -- ---- the king steps out of the check
 
@@ -62,22 +56,10 @@ module _ (p : Shogi) (new : Cells) (hands : HandCounts) (Left : ℕ → Type 0) 
     (see : (x : ℕ) → ((x ≡ to) × (piece_at new x ≡ cell)) ⊎ ((Left x × (piece_at new x ≡ None)) ⊎ (piece_at new x ≡ piece_at p.cells x)))
     (k e : ℕ) (hk : k < 81) (he : e < 81) (crown : is_king (opponent_of p.side) (piece_at p.cells k) ≡ true) (stays : Left k → ⊥) (elsewhere : (k ≢ to) × (e ≢ to)) (escape : IsEscape p.cells (opponent_of p.side) k e) where
   there : piece_at new k ≡ piece_at p.cells k
-  there = elim (see k) [
-    | inl at ↦ absurd (elsewhere.0 at.0)
-    | inr rest ↦ elim rest [ inl gone ↦ absurd (stays gone.0) | inr same ↦ same ]
-  ]
+  there = grind (arith, see k)
 
   pub opened : (x : ℕ) → is_none (piece_at (set new k None) x) ≡ true → (is_none (piece_at (set p.cells k None) x) ≡ true) ⊎ Left x
-  opened x n = elim (cases_eq x k) [
-    | inl here ↦ inl (ap (λ (y : ℕ). is_none (piece_at (set p.cells k None) y)) here ∙ ap is_none (get_or-set_same p.cells k None None (omega (arith, old_len))))
-    | inr off ↦ elim (see x) [
-      | inl at ↦ absurd (both_ways (is_none cell) (own_some p.side cell mine) (ap is_none (sym at.1) ∙ (ap is_none (sym (get_or-set_other new k x None None off)) ∙ n)))
-      | inr rest ↦ elim rest [
-        | inl gone ↦ inr gone.0
-        | inr same ↦ inl (ap is_none (get_or-set_other p.cells k x None None off) ∙ (ap is_none (sym same) ∙ (ap is_none (sym (get_or-set_other new k x None None off)) ∙ n)))
-      ]
-    ]
-  ]
+  opened x n = grind (arith, see x, cases_eq x k, own_some p.side cell mine, get_or-set_same p.cells k None None, get_or-set_other p.cells k x None None, get_or-set_other new k x None None)
 
   -- nothing stands where the king stood
   lifted : (a : ℕ) → a ≡ k → piece_at (set new k None) a ≡ None
@@ -86,27 +68,18 @@ module _ (p : Shogi) (new : Cells) (hands : HandCounts) (Left : ℕ → Type 0) 
   pub kept : cell_reaches (set new k None) cell to e ≡ false → (a : ℕ) → is_piece_of (opponent_of (opponent_of p.side)) (piece_at (set new k None) a) ≡ true → (piece_at (set p.cells k None) a ≡ piece_at (set new k None) a) ⊎ (reaches (set new k None) a e ≡ false)
   unfolding reaches
   kept short a own = elim (cases_eq a k) [
-    | inl here ↦ absurd (both_ways (is_piece_of (opponent_of (opponent_of p.side)) None) refl (ap (is_piece_of (opponent_of (opponent_of p.side))) (sym (lifted a here)) ∙ own))
+    | inl here ↦ grind (arith, lifted a here)
     | inr off ↦ elim (see a) [
       | inl at ↦ inr (ap (λ (x : Option Piece). cell_reaches (set new k None) x a e) (get_or-set_other new k a None None off ∙ at.1) ∙ subst (λ (y : ℕ). cell_reaches (set new k None) cell y e ≡ false) (sym at.0) short)
-      | inr rest ↦ elim rest [
-        | inl gone ↦ absurd (both_ways (is_piece_of (opponent_of (opponent_of p.side)) None) refl (ap (is_piece_of (opponent_of (opponent_of p.side))) (sym (get_or-set_other new k a None None off ∙ gone.1)) ∙ own))
-        | inr same ↦ inl (get_or-set_other p.cells k a None None off ∙ (sym same ∙ sym (get_or-set_other new k a None None off)))
-      ]
+      | inr rest ↦ grind (arith, rest, get_or-set_other new k a None None off, get_or-set_other p.cells k a None None off)
     ]
   ]
 
   still_lone : (x : ℕ) → x < 81 → x ≢ k → is_king (opponent_of p.side) (piece_at new x) ≡ false
-  still_lone x h other = elim (see x) [
-    | inl at ↦ ap (is_king (opponent_of p.side)) at.1 ∙ crowned (opponent_of p.side) cell (other_side p.side cell mine)
-    | inr rest ↦ elim rest [ inl gone ↦ ap (is_king (opponent_of p.side)) gone.1 | inr same ↦ ap (is_king (opponent_of p.side)) same ∙ escape.step.lone x h other ]
-  ]
+  still_lone x h other = grind (arith, see x, crowned (opponent_of p.side) cell (other_side p.side cell mine), escape.step.lone x h other)
 
   still_open : is_piece_of (opponent_of p.side) (piece_at new e) ≡ false
-  still_open = elim (see e) [
-    | inl at ↦ absurd (elsewhere.1 at.0)
-    | inr rest ↦ elim rest [ inl gone ↦ ap (is_piece_of (opponent_of p.side)) gone.1 | inr same ↦ ap (is_piece_of (opponent_of p.side)) same ∙ escape.step.open_end ]
-  ]
+  still_open = grind (arith, see e, escape.step.open_end)
 
   still_reached : reaches new k e ≡ true
   unfolding reaches
@@ -162,16 +135,9 @@ found_open p escapes closed kings free to h fits kings_fit free_fits bits some o
 -- the squares to which the only king steps, and where none of its side stands
 pub found_steps : (p : Shogi) (king squares : ℕ) → ((x : ℕ) → x < 81 → x ≢ king → is_king (opponent_of p.side) (piece_at p.cells x) ≡ false)
     → ((n : ℕ) → n < 81 → has_bit squares n ≡ true → (reaches p.cells king n ≡ true) × (is_piece_of (opponent_of p.side) (piece_at p.cells n) ≡ false)) → AreKingSteps p squares
-found_steps p king squares lone ways = λ k e hk crown he set. elim (cases_eq k king) [
-  | inl same ↦ subst (λ (x : ℕ). IsKingStep p.cells (opponent_of p.side) x e) (sym same) (
-      let way = ways e he set in
-      record { lone = lone; reached = way.0; open_end = way.1 })
-  | inr other ↦ absurd (both_ways (is_king (opponent_of p.side) (piece_at p.cells k)) (lone k hk other) crown)
-]
-
--- no squares
-pub no_steps : (p : Shogi) → AreKingSteps p 0
-no_steps p = λ k e hk crown he set. absurd (both_ways (has_bit 0 e) (has_bit-none e) set)
+found_steps p king squares lone ways = λ k e hk crown he set.
+    let same : k ≡ king = grind (arith, cases_eq k king, lone k hk) in
+    record { lone = rw same lone; reached = rw same (ways e he set).0; open_end = (ways e he set).1 }
 
 -- those of them that are not attacked: the king is in no check, and so stands in no piece's way
 pub found_escapes : (p : Shogi) (steps squares : ℕ) → IsValid p → AreKingSteps p steps → ((n : ℕ) → n < 81 → has_bit squares n ≡ true → (has_bit steps n ≡ true) × (is_attacked p.cells p.side n ≡ false)) → AreEscapes p squares
@@ -184,10 +150,7 @@ found_escapes p steps squares v s found = λ k e hk crown he set.
 
 -- the only square of a set
 pub one_square : (bit square n : ℕ) → ((i : ℕ) → has_bit bit i ≡ (has_bit 0 i || (i == square))) → has_bit bit n ≡ true → n ≡ square
-one_square bit square n bits e = elim (or_cases (has_bit 0 n) (n == square) (sym (bits n) ∙ e)) [
-  | inl none ↦ absurd (both_ways (has_bit 0 n) (has_bit-none n) none)
-  | inr same ↦ eqb-true n square same
-]
+one_square bit square n bits e = grind (arith, bits n, has_bit-none n)
 
 -- a pawn after whose drop such a square is left does not mate
 pub escaped_pawn : (p : Shogi) (to steps : ℕ) → IsValid p → to < 81 → HasOpenEscape p steps to → ((n : ℕ) → n < 81 → has_bit steps n ≡ has_step (record { color = p.side; role = roles.Pawn }) to n) → is_mating_square p to ≡ false
@@ -200,5 +163,4 @@ escaped_pawn p to steps v ht h bits =
     stepping none = rw none refl
 
     unmated : (check some : Bool) → some ≡ true → (check && not some) ≡ false
-    unmated true some e = rw e refl
-    unmated false some e = refl
+    unmated check some e = grind arith

@@ -1,23 +1,20 @@
 -- Some move is legal, or none.
-use Rattle.std.proofs.Common.{◌≡◌, ◌≢◌, ℕ, ◌+◌, ◌-◌, ◌*◌, ◌/◌, ◌%◌, ◌^◌, ◌<◌, ◌≤◌, Bool, true, false, List, [], ◌∷◌, Option, Some, None, cond, refl, sym, ap, ◌∙◌, arith, inl, inr, subst, bit_and, bit_or}
+use Rattle.std.proofs.Common.{◌≡◌, ◌≢◌, ℕ, ◌+◌, ◌-◌, ◌*◌, ◌/◌, ◌%◌, ◌^◌, ◌<◌, ◌≤◌, Bool, true, false, List, [], ◌∷◌, Option, refl, sym, ap, ◌∙◌, arith, inl, inr, subst, bit_and, bit_or}
 use Rattle.std.specs.Prelude.{◌==◌}
 use Rattle.std.specs.Int.{trailing_zeros, w128}
-use Rattle.std.proofs.lemmas.Bool.{or_cases, or_left, and_from, and_parts, both_ways, ne_eqb, eq-eqb, cases_lt, true_from_ne_false, false_from_ne_true}
+use Rattle.std.proofs.lemmas.Bool.{or_cases, or_left, and_from, both_ways, eq-eqb, cases_lt, true_from_ne_false, false_from_ne_true}
 use Rattle.shogi_core.specs.declared.moves.TheConstants.{MOVE_CODE_COUNT, FIRST_DROP, SQUARE_CODES}
 use Rattle.shogi_core.specs.declared.bits.TheConstants.{ALL_SQUARES}
 use Rattle.shogi_core.specs.declared.moves.Move.TheVariants.{Board, Drop}
 use Rattle.shogi_core.specs.declared.piece.Color.{Color}
-use Rattle.shogi_core.specs.declared.piece.Color.TheVariants.{Black, White}
 use Rattle.shogi_core.specs.declared.piece.Kind.{Kind}
 use Rattle.shogi_core.specs.declared.piece.Kind.TheVariants as kinds
 use Rattle.shogi_core.specs.declared.piece.Piece.{Piece}
-use Rattle.shogi_core.specs.declared.piece.Role.{Role}
-use Rattle.shogi_core.specs.declared.piece.Role.TheVariants as roles
 use Rattle.shogi_core.specs.Attack.{in_check}
 use Rattle.shogi_core.specs.Below.{some_below}
 use Rattle.shogi_core.specs.Bits.{has_bit}
-use Rattle.shogi_core.specs.Pieces.{is_same_color, kind_number}
-use Rattle.shogi_core.specs.Cell.{is_piece_of, is_king, is_king_role, is_immobile, is_immobile_role}
+use Rattle.shogi_core.specs.Pieces.{kind_number}
+use Rattle.shogi_core.specs.Cell.{is_piece_of, is_king, is_immobile}
 use Rattle.shogi_core.specs.Codes.{code_of, kind_at}
 use Rattle.shogi_core.specs.Movement.{piece_at, reaches}
 use Rattle.shogi_core.specs.Position.{Shogi}
@@ -90,14 +87,8 @@ kind_with p kind destinations fits bits some =
     some_legal p (code_of (Drop kind (trailing_zeros w128 destinations))) (sym (drop_matching p kind (trailing_zeros w128 destinations) low.0) ∙ (sym (bits (trailing_zeros w128 destinations) low.0) ∙ low.1))
 
 -- a king moves on from everywhere
-king_lives : (side : Color) (cell : Option Piece) (t : ℕ) → is_king side cell ≡ true → is_immobile t cell ≡ false
-king_lives side None t e = refl
-king_lives side (Some piece) t e = go piece.color piece.role (and_parts (is_same_color side piece.color) (is_king_role piece.role) e).1
-  where
-    go : (color : Color) (role : Role) → is_king_role role ≡ true → is_immobile_role color role (t % 9) ≡ false
-    go Black roles.King h = refl
-    go White roles.King h = refl
-    go color _ h = absurd (cc)
+pub king_lives : (side : Color) (cell : Option Piece) (t : ℕ) → is_king side cell ≡ true → is_immobile t cell ≡ false
+king_lives side cell t e = grind arith
 
 -- a king that is not attacked on the square to which it goes has a legal move
 pub king_move : (p : Shogi) (from to : ℕ) → from < 81 → to < 81 → is_king p.side (piece_at p.cells from) ≡ true → (reaches p.cells from to ≡ true) × (is_piece_of p.side (piece_at p.cells to) ≡ false) → leaves_king_safe p (Board from to false) ≡ true → legal_codes p ≢ []
@@ -116,19 +107,10 @@ king_ways p from targets own fits t o n h e = all_ways targets (2 ^ 128 - 1 - ow
 
 -- another kind than the pawn
 pub not_pawn : (kind : Kind) → 1 ≤ kind_number kind → is_pawn_kind kind ≡ false
-not_pawn kinds.Pawn h = absurd (omega arith)
-not_pawn _ h = refl
+not_pawn kind h = grind arith
 
 not_pawn_at : (n : ℕ) → 1 ≤ n → is_pawn_kind (kind_at n) ≡ false
-not_pawn_at n h = rw (ne_eqb n 0 (omega arith)) (go (n == 1) (n == 2) (n == 3) (n == 4) (n == 5))
-  where
-    go : (a b c d e : Bool) → is_pawn_kind (cond a kinds.Lance (cond b kinds.Knight (cond c kinds.Silver (cond d kinds.Gold (cond e kinds.Bishop kinds.Rook))))) ≡ false
-    go true b c d e = refl
-    go false true c d e = refl
-    go false false true d e = refl
-    go false false false true e = refl
-    go false false false false true = refl
-    go false false false false false = refl
+not_pawn_at n h = grind arith
 
 safe_board : (p : Shogi) (from to : ℕ) (promote : Bool) → is_safe p (Board from to promote) ≡ true → is_legal p (Board from to promote) ≡ true
 unfolding is_legal

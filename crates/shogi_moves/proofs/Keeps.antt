@@ -7,9 +7,7 @@ use Rattle.shogi_core.specs.Position.{Shogi, count_in_hand}
 use Rattle.shogi_core.proofs.Faults.{faultless_from, faultless_to}
 use Rattle.shogi_moves.specs.Legal.{is_safe, is_legal}
 use Rattle.shogi_core.specs.declared.piece.Color.{Color}
-use Rattle.shogi_core.specs.declared.piece.Color.TheVariants.{Black, White}
 use Rattle.shogi_core.specs.declared.piece.Kind.{Kind}
-use Rattle.shogi_core.specs.declared.piece.Kind.TheVariants as kinds
 use Rattle.shogi_core.specs.Pieces.{set_size}
 use Rattle.shogi_core.specs.Validity.{IsValid, fault_of}
 use Rattle.shogi_moves.specs.After.{after}
@@ -18,13 +16,11 @@ use Rattle.shogi_moves.proofs.KeepsDrop.{faultless_after_drop, safe_drop}
 use Rattle.shogi_moves.proofs.LegalLaws.{after_code_of}
 
 set_size_fits : (kind : Kind) → set_size kind ≤ 18
-set_size_fits kinds.Pawn = omega arith
-set_size_fits _ = omega arith
+set_size_fits kind = grind arith
 
 -- a count in hand is at most a set
 pub held_fits : (p : Shogi) (side : Color) (kind : Kind) → IsValid p → count_in_hand p.hands side kind < 255
-held_fits p Black kind valid = omega (arith, (faultless_from p valid.no_fault).counts kind, set_size_fits kind)
-held_fits p White kind valid = omega (arith, (faultless_from p valid.no_fault).counts kind, set_size_fits kind)
+held_fits p side kind valid = grind (arith, (faultless_from p valid.no_fault).counts kind, set_size_fits kind)
 
 -- a dropped piece was held
 pub held_some : (p : Shogi) (kind : Kind) (to : ℕ) → is_safe p (Drop kind to) ≡ true → 1 ≤ count_in_hand p.hands p.side kind

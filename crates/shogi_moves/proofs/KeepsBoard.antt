@@ -1,13 +1,13 @@
 -- A safe move on the board leaves a position without a fault.
-use Rattle.std.proofs.Common.{◌≡◌, ◌≢◌, ℕ, ◌/◌, ◌<◌, ◌≤◌, Bool, true, false, length, get_or, set, refl, sym, ◌∙◌, ap, subst, arith, inl, inr, Option, None, length-set, get_or-set_same, get_or-set_other, le_trans}
-use Rattle.std.specs.Prelude.{count_by, not}
-use Rattle.std.proofs.lemmas.Bool.{and_parts, both_ways, cases_Bool, cases_eq, not-true}
+use Rattle.std.proofs.Common.{◌≡◌, ◌≢◌, ℕ, ◌/◌, ◌<◌, ◌≤◌, Bool, true, false, length, set, refl, sym, subst, arith, inl, inr, Option, None, length-set, get_or-set_same, get_or-set_other, le_trans}
+use Rattle.std.specs.Prelude.{count_by}
+use Rattle.std.proofs.lemmas.Bool.{cases_Bool, cases_eq}
 use Rattle.shogi_core.specs.declared.moves.Move.TheVariants.{Board}
 use Rattle.shogi_core.specs.Movement.{Cells, piece_at, reaches}
 use Rattle.shogi_core.specs.Position.{Shogi, HandCounts}
 use Rattle.shogi_core.proofs.Faultless.{IsFaultless}
 use Rattle.shogi_core.proofs.Faults.{faultless_from}
-use Rattle.shogi_moves.specs.Legal.{is_safe, is_pseudo_legal_board_move}
+use Rattle.shogi_moves.specs.Legal.{is_safe}
 use Rattle.shogi_core.specs.declared.piece.Color.{Color}
 use Rattle.shogi_core.specs.declared.piece.Kind.{Kind}
 use Rattle.shogi_core.specs.declared.piece.Piece.{Piece}
@@ -30,17 +30,11 @@ pub record IsSafeBoardMove (p : Shogi) (from to : ℕ) (promote : Bool) : Type 0
 -- its parts, from the one test
 pub safe_board_move : (p : Shogi) (from to : ℕ) (promote : Bool) → is_safe p (Board from to promote) ≡ true → IsSafeBoardMove p from to promote
 unfolding is_safe
-safe_board_move p from to promote e =
-    let destinations = and_parts (is_pseudo_legal_board_move p.cells p.side from to promote) (not (in_check (after p (Board from to promote)).cells p.side)) e in
-    let four = and_parts _ _ (destinations.0) in
-    let three = and_parts _ _ (four.0) in
-    let two = and_parts _ _ (three.0) in
-    let one = and_parts _ _ (two.0) in
-    record { own = one.0; free = not-true _ (one.1); reached = two.1; alive = not-true _ (four.1); shut = not-true _ (destinations.1) }
+safe_board_move p from to promote e = grind arith
 
 -- the new square is another one
 apart : (cells : Cells) (side : Color) (from to : ℕ) → is_piece_of side (piece_at cells from) ≡ true → is_piece_of side (piece_at cells to) ≡ false → to ≢ from
-apart cells side from to own free same = both_ways (is_piece_of side (piece_at cells from)) (subst (λ (k : ℕ). is_piece_of side (piece_at cells k) ≡ false) same free) own
+apart cells side from to own free same = grind arith
 
 -- no piece comes or goes
 counts_after_board : (cells : Cells) (hands : HandCounts) (side : Color) (from to : ℕ) (promote : Bool) (kind : Kind) → length cells ≡ 81 → length hands ≡ 14 → from < 81 → to < 81 → to ≢ from
@@ -78,15 +72,7 @@ pawns_after_board cells from to promote color file lc hf ht other reached =
 -- no piece stands where it could never move again
 alive_after_board : (cells : Cells) (from to : ℕ) (v : Option Piece) (square : ℕ) → length cells ≡ 81 → from < 81 → to < 81 → is_immobile to v ≡ false → is_immobile_on cells square ≡ false
     → is_immobile_on (set (set cells from None) to v) square ≡ false
-alive_after_board cells from to v square lc hf ht alive before =
-    let lt : to < length (set cells from None) = rw length-set (omega arith) in
-    elim (cases_eq square to) [
-      | inl there ↦ subst (λ (k : ℕ). is_immobile_on (set (set cells from None) to v) k ≡ false) (sym there) (ap (is_immobile to) (get_or-set_same (set cells from None) to v None lt) ∙ alive)
-      | inr other ↦ elim (cases_eq square from) [
-        | inl left ↦ ap (is_immobile square) (get_or-set_other (set cells from None) to square v None other ∙ subst (λ (k : ℕ). get_or (set cells from None) k None ≡ None) (sym left) (get_or-set_same cells from None None (omega arith)))
-        | inr elsewhere ↦ ap (is_immobile square) (get_or-set_other (set cells from None) to square v None other ∙ get_or-set_other cells from square None None elsewhere) ∙ before
-      ]
-    ]
+alive_after_board cells from to v square lc hf ht alive before = grind (arith, cases_eq square to, cases_eq square from, length-set cells from None, get_or-set_same (set cells from None) to v None, get_or-set_same cells from None None, get_or-set_other (set cells from None) to square v None, get_or-set_other cells from square None None)
 
 -- so there is no fault
 pub faultless_after_board : (p : Shogi) (from to : ℕ) (promote : Bool) → IsValid p → from < 81 → to < 81 → is_safe p (Board from to promote) ≡ true → IsFaultless (after p (Board from to promote))

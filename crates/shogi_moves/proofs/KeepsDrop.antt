@@ -1,49 +1,41 @@
 -- A safe drop leaves a position without a fault.
-use Rattle.std.proofs.Common.{◌≡◌, ℕ, ◌+◌, ◌-◌, ◌/◌, ◌<◌, ◌≤◌, Bool, true, false, length, set, refl, sym, ◌∙◌, ap, subst, arith, inl, inr, Option, Some, None, get_or-set_same, get_or-set_other, le_trans}
-use Rattle.std.specs.Prelude.{count_by, ◌==◌, ◌&&◌, nat_lt, not, is_none}
-use Rattle.std.proofs.lemmas.Bool.{and_right, and_parts, both_ways, cases_Bool, cases_eq, ltb-true, not-true, and_cases, ltb-false}
+use Rattle.std.proofs.Common.{◌≡◌, ℕ, ◌+◌, ◌-◌, ◌/◌, ◌<◌, ◌≤◌, true, false, length, set, refl, sym, ap, subst, arith, inl, inr, Option, Some, None, get_or-set_same, get_or-set_other, le_trans}
+use Rattle.std.specs.Prelude.{count_by, ◌==◌, is_none}
+use Rattle.std.proofs.lemmas.Bool.{and_right, cases_eq}
 use Rattle.shogi_core.specs.declared.moves.Move.TheVariants.{Drop}
 use Rattle.shogi_core.specs.Movement.{Cells, piece_at}
 use Rattle.shogi_core.specs.Position.{Shogi, HandCounts, count_in_hand, place_of}
 use Rattle.shogi_core.proofs.Faultless.{IsFaultless}
 use Rattle.shogi_core.proofs.Faults.{number_below, faultless_from}
-use Rattle.shogi_moves.specs.Legal.{is_safe, is_pseudo_legal_drop, is_pawn_kind}
+use Rattle.shogi_moves.specs.Legal.{is_safe, is_pawn_kind}
 use Rattle.shogi_core.specs.declared.piece.Color.{Color}
 use Rattle.shogi_core.specs.declared.piece.Color.TheVariants.{Black, White}
 use Rattle.shogi_core.specs.declared.piece.Kind.{Kind}
-use Rattle.shogi_core.specs.declared.piece.Kind.TheVariants as kinds
 use Rattle.shogi_core.specs.declared.piece.Piece.{Piece}
 use Rattle.shogi_core.specs.Pieces.{kind_of, is_of_kind, is_same_color, kind_number, set_size, role_of}
 use Rattle.shogi_core.specs.Attack.{in_check}
 use Rattle.shogi_core.specs.Cell.{is_king_role, is_pawn_role, is_king, is_pawn, is_immobile, is_immobile_on}
 use Rattle.shogi_core.specs.Validity.{pawns_on_file, count_of, IsValid}
 use Rattle.shogi_moves.specs.After.{after, dropped}
-use Rattle.shogi_moves.proofs.Counts.{count_by-set, count_on_file-set, here_on, here_off, hand_less, nothing_here, here, tally}
+use Rattle.shogi_moves.proofs.Counts.{count_by-set, count_on_file-set, here_on, here_off, hand_less, tally}
 use Rattle.shogi_moves.proofs.MovedPieces.{opponent_twice}
 
 -- a dropped piece is of its kind, no king, and a pawn where the kind is
 kind_of-role_of : (kind : Kind) → kind_of (role_of kind) ≡ Some kind
-kind_of-role_of kinds.Pawn = refl
-kind_of-role_of _ = refl
+kind_of-role_of kind = grind arith
 
 is_king_role-role_of : (kind : Kind) → is_king_role (role_of kind) ≡ false
-is_king_role-role_of kinds.Pawn = refl
-is_king_role-role_of _ = refl
+is_king_role-role_of kind = grind arith
 
 is_pawn_role-role_of : (kind : Kind) → is_pawn_role (role_of kind) ≡ is_pawn_kind kind
-is_pawn_role-role_of kinds.Pawn = refl
-is_pawn_role-role_of _ = refl
+is_pawn_role-role_of kind = grind arith
 
 -- colours that compare as the same are one
 same_color : (a b : Color) → is_same_color a b ≡ true → a ≡ b
-same_color Black Black e = refl
-same_color Black White e = cc
-same_color White Black e = cc
-same_color White White e = refl
+same_color a b e = grind arith
 
 is_none-true : {X : Type 0} (cell : Option X) → is_none cell ≡ true → cell ≡ None
-is_none-true None e = refl
-is_none-true (Some x) e = cc
+is_none-true cell e = grind arith
 
 -- what a safe drop keeps to
 pub record IsSafeDrop (p : Shogi) (kind : Kind) (to : ℕ) : Type 0 where
@@ -53,25 +45,16 @@ pub record IsSafeDrop (p : Shogi) (kind : Kind) (to : ℕ) : Type 0 where
   pub pawns : is_pawn_kind kind ≡ true → pawns_on_file p.side (to / 9) p.cells ≤ 0
   pub shut : in_check (after p (Drop kind to)).cells p.side ≡ false
 
--- the test of two pawns, where the piece is a pawn
-pawn_ban : (x : Bool) (n : ℕ) → not (x && nat_lt 0 n) ≡ true → x ≡ true → n ≤ 0
-pawn_ban x n e h = elim (and_cases x (nat_lt 0 n) (not-true _ e)) [ inl off ↦ absurd (both_ways x off h) | inr zero_there ↦ ltb-false 0 n zero_there ]
-
 -- its parts, from the one test
 pub safe_drop : (p : Shogi) (kind : Kind) (to : ℕ) → is_safe p (Drop kind to) ≡ true → IsSafeDrop p kind to
 unfolding is_safe
-safe_drop p kind to e =
-    let destinations = and_parts (is_pseudo_legal_drop p.cells p.hands p.side kind to) (not (in_check (after p (Drop kind to)).cells p.side)) e in
-    let three = and_parts _ _ (destinations.0) in
-    let two = and_parts _ _ (three.0) in
-    let one = and_parts _ _ (two.0) in
-    record {
-      held_one = ltb-true 0 (count_in_hand p.hands p.side kind) (one.0);
-      free = is_none-true (piece_at p.cells to) (one.1);
-      alive = not-true _ (two.1);
-      pawns = pawn_ban (is_pawn_kind kind) (pawns_on_file p.side (to / 9) p.cells) (three.1);
-      shut = not-true _ (destinations.1);
-    }
+safe_drop p kind to e = record {
+  held_one = grind arith;
+  free = is_none-true (piece_at p.cells to) (grind arith);
+  alive = grind arith;
+  pawns = λ h. grind arith;
+  shut = grind arith;
+}
 
 -- the hand has one less
 hands_after_drop : (hands : HandCounts) (side : Color) (kind other : Kind) → length hands ≡ 14 → 0 < count_in_hand hands side kind
@@ -99,33 +82,11 @@ kings_after_drop cells side kind to color lc ht =
 -- no file gets a second pawn
 pawns_after_drop : (cells : Cells) (side : Color) (kind : Kind) (to : ℕ) (color : Color) (file : ℕ) → length cells ≡ 81 → to < 81 → (is_pawn_kind kind ≡ true → pawns_on_file side (to / 9) cells ≤ 0) → pawns_on_file color file cells ≤ 1
     → pawns_on_file color file (set cells to (dropped side kind)) ≤ 1
-pawns_after_drop cells side kind to color file lc ht ban before =
-    let board = count_on_file-set (is_pawn color) file to cells (dropped side kind) None (omega arith) in
-    elim (cases_Bool (is_pawn color (dropped side kind))) [
-      | inl pawn ↦
-          (let parts : (is_same_color color side ≡ true) × (is_pawn_role (role_of kind) ≡ true) = and_parts (is_same_color color side) (is_pawn_role (role_of kind)) pawn in
-          let side_is : color ≡ side = same_color color side (parts.0) in
-          let none : pawns_on_file side (to / 9) cells ≤ 0 = ban (sym (is_pawn_role-role_of kind) ∙ parts.1) in
-          elim (cases_eq (to / 9) file) [
-            | inl there ↦
-                (let none' : pawns_on_file color file cells ≤ 0 = rw (side_is, ← there) none in
-                let one : here file to (is_pawn color (dropped side kind)) ≡ 1 = here_on file to _ there ∙ ap tally pawn in
-                omega arith)
-            | inr elsewhere ↦
-                (let none' : here file to (is_pawn color (dropped side kind)) ≡ 0 = here_off file to _ elsewhere in
-                omega arith)
-          ])
-      | inr other_piece ↦
-          (let none : here file to (is_pawn color (dropped side kind)) ≡ 0 = nothing_here file to _ other_piece in
-          omega arith)
-    ]
+pawns_after_drop cells side kind to color file lc ht ban before = grind (arith, count_on_file-set (is_pawn color) file to cells (dropped side kind) None, same_color color side, is_pawn_role-role_of kind, here_on file to, here_off file to, cases_eq (to / 9) file)
 
 -- no piece stands where it could never move again
 alive_after_drop : (cells : Cells) (to : ℕ) (v : Option Piece) (square : ℕ) → length cells ≡ 81 → to < 81 → is_immobile to v ≡ false → is_immobile_on cells square ≡ false → is_immobile_on (set cells to v) square ≡ false
-alive_after_drop cells to v square lc ht alive before = elim (cases_eq square to) [
-  | inl there ↦ subst (λ (k : ℕ). is_immobile_on (set cells to v) k ≡ false) (sym there) (ap (is_immobile to) (get_or-set_same cells to v None (omega arith)) ∙ alive)
-  | inr other ↦ ap (is_immobile square) (get_or-set_other cells to square v None other) ∙ before
-]
+alive_after_drop cells to v square lc ht alive before = grind (arith, cases_eq square to, get_or-set_same cells to v None, get_or-set_other cells to square v None)
 
 -- so there is no fault
 pub faultless_after_drop : (p : Shogi) (kind : Kind) (to : ℕ) → IsValid p → to < 81 → is_safe p (Drop kind to) ≡ true → IsFaultless (after p (Drop kind to))

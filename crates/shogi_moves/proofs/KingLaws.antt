@@ -1,5 +1,5 @@
 -- The only king of a side goes to a square: it is attacked there exactly where it would be with its square left empty.
-use Rattle.std.proofs.Common.{rules, ◌≡◌, ◌≢◌, ◌⊎◌, ℕ, ◌<◌, Bool, true, false, refl, sym, ap, subst, ◌∙◌, arith, inl, inr, Option, Some, None, set, length, get_or-set_same, get_or-set_other, length-set}
+use Rattle.std.proofs.Common.{◌≡◌, ◌≢◌, ◌⊎◌, ℕ, ◌<◌, Bool, true, false, refl, sym, ap, subst, ◌∙◌, arith, inl, inr, Option, Some, None, set, length, get_or-set_same, get_or-set_other, length-set}
 use Rattle.std.specs.Prelude.{◌&&◌, not, is_none}
 use Rattle.std.proofs.lemmas.Bool.{agree_below_at, cases_Bool, cases_eq, or_cases, or_left, or_right, false_from_ne_true, true_from_ne_false, both_ways, and_parts, and_from, not-true}
 use Rattle.shogi_core.specs.declared.piece.Color.{Color}
@@ -51,10 +51,7 @@ module _ (cells : Cells) (side : Color) (from to : ℕ) (v : Option Piece) (len 
   still_attacked e = true_from_ne_false (is_attacked (set (set cells from None) to v) (opponent_of side) to) (λ safe.
       both_ways (is_attacked (set cells from None) (opponent_of side) to)
       (attacked_was_but (set (set cells from None) to v) (set cells from None) (λ x. x ≡ to)
-      (λ x f. elim (cases_eq x to) [
-        | inl at ↦ inr at
-        | inr other ↦ inl (ap is_none (get_or-set_other (set cells from None) to x v None other) ∙ f)
-      ])
+      (λ x f. grind (arith, cases_eq x to, get_or-set_other (set cells from None) to x v None))
       (opponent_of side) to
       (λ a own. elim (cases_eq a to) [
         | inl at ↦ inr (subst (λ (y : ℕ). reaches (set cells from None) y to ≡ false) (sym at) (unreached (set cells from None) to ht))
@@ -70,22 +67,13 @@ module _ (cells : Cells) (side : Color) (from to : ℕ) (v : Option Piece) (len 
 
 -- a king is a piece of its side
 pub king_own : (side : Color) (cell : Option Piece) → is_king side cell ≡ true → is_piece_of side cell ≡ true
-king_own side None e = e
-king_own side (Some piece) e = search rules
+king_own side cell e = grind arith
 
 pub king_steps : (p : Shogi) (from to : ℕ) (found : Bool) → length p.cells ≡ 81 → from < 81 → to < 81 → is_king p.side (piece_at p.cells from) ≡ true → ((x : ℕ) → x < 81 → x ≢ from → is_king p.side (piece_at p.cells x) ≡ false)
     → found ≡ is_attacked (set p.cells from None) (opponent_of p.side) to → not found ≡ leaves_king_safe p (Board from to false)
-king_steps p from to found len hf ht king lone is = ap not (which found is)
-  where
-    v : Option Piece
-    v = piece_moved false (piece_at p.cells from)
-
-    moved : is_king p.side v ≡ true
-    moved = is_king-piece_moved p.side false (piece_at p.cells from) ∙ king
-
-    which : (b : Bool) → b ≡ is_attacked (set p.cells from None) (opponent_of p.side) to → b ≡ in_check (set (set p.cells from None) to v) p.side
-    which true e = sym (king_lost p.cells p.side from to v len ht moved (sym e))
-    which false e = sym (king_set p.cells p.side from to v len hf ht (king_own p.side v moved) lone (sym e))
+king_steps p from to found len hf ht king lone is =
+    let moved : is_king p.side (piece_moved false (piece_at p.cells from)) ≡ true = is_king-piece_moved p.side false (piece_at p.cells from) ∙ king in
+    grind (arith, king_lost p.cells p.side from to (piece_moved false (piece_at p.cells from)) len ht moved, king_set p.cells p.side from to (piece_moved false (piece_at p.cells from)) len hf ht (king_own p.side _ moved) lone)
 
 -- ---- a king out of check stands in no piece's way
 
@@ -95,25 +83,16 @@ module _ (cells : Cells) (side : Color) (from : ℕ) (len : length cells ≡ 81)
 
   -- a piece of the other side stands where it stood
   foe_there : (a : ℕ) → is_piece_of (opponent_of side) (piece_at (set cells from None) a) ≡ true → piece_at (set cells from None) a ≡ piece_at cells a
-  foe_there a own = elim (cases_eq a from) [
-    | inl here ↦ absurd (both_ways (is_piece_of (opponent_of side) None) refl (ap (is_piece_of (opponent_of side)) (sym (ap (piece_at (set cells from None)) here ∙ lifted_at)) ∙ own))
-    | inr other ↦ get_or-set_other cells from a None None other
-  ]
+  foe_there a own = grind (arith, cases_eq a from, lifted_at, get_or-set_other cells from a None None)
 
   foe_kept : (a : ℕ) → is_piece_of (opponent_of side) (piece_at cells a) ≡ true → piece_at (set cells from None) a ≡ piece_at cells a
-  foe_kept a own = elim (cases_eq a from) [
-    | inl here ↦ absurd (both_ways (is_piece_of (opponent_of side) (piece_at cells from)) (other_side side (piece_at cells from) (king_own side (piece_at cells from) king)) (ap (λ (x : ℕ). is_piece_of (opponent_of side) (piece_at cells x)) (sym here) ∙ own))
-    | inr other ↦ get_or-set_other cells from a None None other
-  ]
+  foe_kept a own = grind (arith, cases_eq a from, other_side side (piece_at cells from) (king_own side (piece_at cells from) king), get_or-set_other cells from a None None)
 
   opened : (x : ℕ) → is_none (piece_at (set cells from None) x) ≡ true → (is_none (piece_at cells x) ≡ true) ⊎ (x ≡ from)
   opened x e = elim (cases_eq x from) [ inl here ↦ inr here | inr other ↦ inl (ap is_none (sym (get_or-set_other cells from x None None other)) ∙ e) ]
 
   closed : (x : ℕ) → is_none (piece_at cells x) ≡ true → (is_none (piece_at (set cells from None) x) ≡ true) ⊎ ⊥
-  closed x e = elim (cases_eq x from) [
-    | inl here ↦ inl (ap (λ (y : ℕ). is_none (piece_at (set cells from None) y)) here ∙ ap is_none lifted_at)
-    | inr other ↦ inl (ap is_none (get_or-set_other cells from x None None other) ∙ e)
-  ]
+  closed x e = grind (arith, cases_eq x from, lifted_at, get_or-set_other cells from x None None)
 
   unattacked : is_attacked cells (opponent_of side) from ≡ false
   unfolding in_check

@@ -1,7 +1,7 @@
 -- Laws of the legal moves.
 use Rattle.std.proofs.Common.{◌≡◌, ℕ, ◌+◌, ◌-◌, ◌*◌, ◌/◌, ◌%◌, ◌<◌, ◌≤◌, Bool, true, false, not, [], ◌∷◌, Option, Some, None, refl, sym, ◌∙◌, ap, subst, arith, inl, inr}
 use Rattle.std.specs.Prelude.{zero, suc, nat_lt, ◌==◌, ◌&&◌}
-use Rattle.std.proofs.lemmas.Bool.{cond-true, cond-false, cases_lt, lt-ltb, le-ltb, both_ways, and_parts, eq-eqb, ne_eqb, not-true, false_from_ne_true}
+use Rattle.std.proofs.lemmas.Bool.{cond-true, cond-false, cases_lt, lt-ltb, le-ltb, both_ways, false_from_ne_true}
 use Rattle.shogi_core.specs.declared.moves.TheConstants.{MOVE_CODE_COUNT, FIRST_DROP, SQUARE_CODES}
 use Rattle.shogi_core.specs.declared.moves.Move.{Move}
 use Rattle.shogi_core.specs.declared.moves.Move.TheVariants.{Board, Drop}
@@ -67,10 +67,7 @@ none_beyond code h = cond-false (nat_lt code FIRST_DROP) _ _ (le-ltb code FIRST_
 -- a legal code is one of a move
 pub legal_code_below : (p : Shogi) (code : ℕ) → is_legal_code p code ≡ true → code < MOVE_CODE_COUNT
 unfolding is_legal_code
-legal_code_below p code e = elim (cases_lt code MOVE_CODE_COUNT) [
-  | inl below ↦ below
-  | inr above ↦ absurd (both_ways (is_some_and_legal p (move_of code)) (ap (is_some_and_legal p) (none_beyond code above)) e)
-]
+legal_code_below p code e = grind (arith, cases_lt code MOVE_CODE_COUNT, none_beyond code)
 
 -- what a code is the code of
 pub board_code : (code : ℕ) → code < FIRST_DROP → move_of code ≡ Some (Board (code / 2 / 81) (code / 2 % 81) (code % 2 == 1))
@@ -82,8 +79,7 @@ drop_code code low high = cond-false (nat_lt code FIRST_DROP) _ _ (le-ltb code F
 -- what is not safe is not legal
 legal_unsafe : (p : Shogi) (m : Option Move) → is_some_and_safe p m ≡ false → is_some_and_legal p m ≡ false
 unfolding is_legal
-legal_unsafe p None e = refl
-legal_unsafe p (Some m) e = rw e refl
+legal_unsafe p m e = grind arith
 
 pub legal_code_unsafe : (p : Shogi) (code : ℕ) → is_safe_code p code ≡ false → is_legal_code p code ≡ false
 unfolding is_legal_code
@@ -122,17 +118,9 @@ next_piece p left first square h range on least =
 pub pieces_after : (p : Shogi) (left next first square : ℕ) → HasPiecesFrom p left first → first ≤ square → square < 81 → ((n : ℕ) → has_bit left n ≡ true → square ≤ n) → ((i : ℕ) → has_bit next i ≡ (has_bit left i && not (i == square))) → HasPiecesFrom p next (square + 1)
 pieces_after p left next first square h up range least less = record {
   within = omega arith;
-  below = λ n low. false_from_ne_true (has_bit next n) (λ there. (
-      let both = and_parts (has_bit left n) (not (n == square)) (sym (less n) ∙ there) in
-      let late : square ≤ n = least n both.0 in
-      let here : n ≡ square = omega arith in
-      both_ways (n == square) (not-true _ both.1) (eq-eqb n square here)));
-  above = λ n low high. less n ∙ (rw (ne_eqb n square (λ same. omega arith)) (and_true (has_bit left n) ∙ h.above n (omega arith) high));
+  below = λ n low. grind (arith, less n, least n);
+  above = λ n low high. grind (arith, less n, h.above n);
 }
-  where
-    and_true : (b : Bool) → (b && true) ≡ b
-    and_true true = refl
-    and_true false = refl
 
 pub no_piece_left : (p : Shogi) (left first : ℕ) → HasPiecesFrom p left first → HasNone left → legal_from p (first * SQUARE_CODES) ≡ legal_from p FIRST_DROP
 no_piece_left p left first h none = run_squares p first 81 h.within (omega arith) (λ n low high. sym (h.above n low high) ∙ none n)

@@ -1,7 +1,7 @@
 -- Pieces that move, promote or are captured.
-use Rattle.std.proofs.Common.{◌≡◌, ℕ, ◌+◌, ◌*◌, ◌/◌, ◌<◌, Bool, true, false, length, refl, arith, inl, inr, Option, Some, None}
-use Rattle.std.specs.Prelude.{◌&&◌, nat_lt, ◌||◌, ℤ, pos, negsuc, ◌+ℤ◌, ◌%◌}
-use Rattle.std.proofs.lemmas.Bool.{and_right, and_parts, both_ways, cases_Bool, ltb-true, eqb-true}
+use Rattle.std.proofs.Common.{◌≡◌, ℕ, ◌+◌, ◌/◌, Bool, true, false, length, refl, arith, inl, inr, Option, Some, None}
+use Rattle.std.specs.Prelude.{◌||◌, ℤ, pos, negsuc, ◌+ℤ◌, ◌%◌}
+use Rattle.std.proofs.lemmas.Bool.{and_parts}
 use Rattle.shogi_core.specs.Movement.{Cells, piece_at, reaches, cell_reaches, is_same_square, square_at, away}
 use Rattle.shogi_core.specs.Position.{HandCounts, count_in_hand}
 use Rattle.shogi_core.proofs.Faults.{number_below}
@@ -9,7 +9,7 @@ use Rattle.shogi_core.specs.declared.piece.Color.{Color}
 use Rattle.shogi_core.specs.declared.piece.Color.TheVariants.{Black, White}
 use Rattle.shogi_core.specs.declared.piece.Kind.{Kind}
 use Rattle.shogi_core.specs.declared.piece.Role.{Role}
-use Rattle.shogi_core.specs.declared.piece.Role.TheVariants.{King, Pawn, Lance, Knight, Silver, Gold, Bishop, Rook, PromotedPawn, PromotedLance, PromotedKnight, PromotedSilver, Horse, Dragon}
+use Rattle.shogi_core.specs.declared.piece.Role.TheVariants.{Pawn}
 use Rattle.shogi_core.specs.declared.piece.Piece.{Piece}
 use Rattle.shogi_core.specs.Pieces.{kind_of, is_of_kind, is_role_of_kind, is_same_color, kind_number, opponent_of, promoted}
 use Rattle.shogi_core.specs.Cell.{is_king_role, is_pawn_role, is_king, is_pawn}
@@ -18,55 +18,28 @@ use Rattle.shogi_moves.proofs.Counts.{tally, hand_added}
 
 -- promotion keeps the kind and the kingship, and ends a pawn
 pub kind_of-promoted : (role : Role) → kind_of (promoted role) ≡ kind_of role
-kind_of-promoted King = refl
-kind_of-promoted Pawn = refl
-kind_of-promoted Lance = refl
-kind_of-promoted Knight = refl
-kind_of-promoted Silver = refl
-kind_of-promoted Gold = refl
-kind_of-promoted Bishop = refl
-kind_of-promoted Rook = refl
-kind_of-promoted PromotedPawn = refl
-kind_of-promoted PromotedLance = refl
-kind_of-promoted PromotedKnight = refl
-kind_of-promoted PromotedSilver = refl
-kind_of-promoted Horse = refl
-kind_of-promoted Dragon = refl
+kind_of-promoted role = grind arith
 
 pub is_king_role-promoted : (role : Role) → is_king_role (promoted role) ≡ is_king_role role
-is_king_role-promoted King = refl
-is_king_role-promoted Pawn = refl
-is_king_role-promoted Lance = refl
-is_king_role-promoted _ = refl
+is_king_role-promoted role = grind arith
 
 pub is_pawn_role-promoted : (role : Role) → is_pawn_role (promoted role) ≡ false
-is_pawn_role-promoted King = refl
-is_pawn_role-promoted _ = refl
+is_pawn_role-promoted role = grind arith
 
 -- a move keeps the kind and the kingship of a piece
 pub is_of_kind-piece_moved : (kind : Kind) (promote : Bool) (cell : Option Piece) → is_of_kind kind (piece_moved promote cell) ≡ is_of_kind kind cell
-is_of_kind-piece_moved kind promote None = refl
-is_of_kind-piece_moved kind false (Some piece) = refl
-is_of_kind-piece_moved kind true (Some piece) = rw (kind_of-promoted piece.role) refl
+is_of_kind-piece_moved kind promote cell = grind (arith, kind_of-promoted)
 
 pub is_king-piece_moved : (color : Color) (promote : Bool) (cell : Option Piece) → is_king color (piece_moved promote cell) ≡ is_king color cell
-is_king-piece_moved color promote None = refl
-is_king-piece_moved color false (Some piece) = refl
-is_king-piece_moved color true (Some piece) = rw (is_king_role-promoted piece.role) refl
-
-and-false_right : (b : Bool) → (b && false) ≡ false
-and-false_right b = and_right b false refl
+is_king-piece_moved color promote cell = grind (arith, is_king_role-promoted)
 
 -- what has promoted is no pawn
 pub is_pawn-promoted : (color : Color) (cell : Option Piece) → is_pawn color (piece_moved true cell) ≡ false
-is_pawn-promoted color None = refl
-is_pawn-promoted color (Some piece) = rw (is_pawn_role-promoted piece.role) (and-false_right (is_same_color color piece.color))
+is_pawn-promoted color cell = grind (arith, is_pawn_role-promoted)
 
 -- a pawn after its move was one before
 pub is_pawn-piece_moved : (color : Color) (promote : Bool) (cell : Option Piece) → is_pawn color (piece_moved promote cell) ≡ true → is_pawn color cell ≡ true
-is_pawn-piece_moved color false None e = e
-is_pawn-piece_moved color false (Some piece) e = e
-is_pawn-piece_moved color true cell e = absurd (both_ways (is_pawn color (piece_moved true cell)) (is_pawn-promoted color cell) e)
+is_pawn-piece_moved color promote cell e = grind (arith, is_pawn-promoted)
 
 -- one more in either hand is one more in both
 one_more : (hands : HandCounts) (side : Color) (taken : Option Kind) (kind : Kind) → length hands ≡ 14
@@ -83,21 +56,10 @@ hands-with_captured hands side (Some piece) kind len = one_more hands side (kind
 
 -- where the file stays, so does the square's
 square_at_file : (m : ℕ) (r : ℤ) (b : ℕ) → is_same_square (square_at (pos m) r) b ≡ true → b / 9 ≡ m
-square_at_file m (pos rank) b e =
-    elim (cases_Bool (nat_lt m 9 && nat_lt rank 9)) [
-      | inl both ↦
-          (let parts : (nat_lt m 9 ≡ true) × (nat_lt rank 9 ≡ true) = and_parts (nat_lt m 9) (nat_lt rank 9) both in
-          let below : rank < 9 = ltb-true rank 9 (parts.1) in
-          let there : is_same_square (Some (m * 9 + rank)) b ≡ true = rw both at e in
-          let same : m * 9 + rank ≡ b = eqb-true (m * 9 + rank) b there in
-          omega arith)
-      | inr out ↦ let there : is_same_square None b ≡ true = rw out at e in cc
-    ]
-square_at_file m (negsuc rank) b e = cc
+square_at_file m r b e = grind arith
 
 only : (x : Bool) → (x || false) ≡ true → x ≡ true
-only false e = e
-only true e = e
+only x e = grind arith
 
 -- one square forward is on the same file
 pawn_step : (cells : Cells) (side : Color) (role : Role) (a b : ℕ) → is_pawn_role role ≡ true → cell_reaches cells (Some (record { color = side; role = role })) a b ≡ true → a / 9 ≡ b / 9
@@ -117,5 +79,4 @@ pawn_stays_on_file cells color a b pawn e = cell_stays cells color (piece_at cel
 
 -- the other side of the other side
 pub opponent_twice : (side : Color) → opponent_of (opponent_of side) ≡ side
-opponent_twice Black = refl
-opponent_twice White = refl
+opponent_twice side = grind arith

@@ -4,7 +4,7 @@ use Rattle.std.specs.Prelude.{◌&&◌, ◌||◌, ◌==◌}
 use Rattle.std.specs.Int.{bit_at}
 use Rattle.std.proofs.Math.Nat.{mul-le-mul_left}
 use Rattle.std.proofs.Math.Pow.{pow_mono}
-use Rattle.std.proofs.lemmas.Bool.{cases_lt, agree_below_at, and_parts, and_from, both_ways, false_from_ne_true, true_from_ne_false, or_cases, or_left, or_right, eqb-true}
+use Rattle.std.proofs.lemmas.Bool.{agree_below_at, and_parts, and_from, both_ways, false_from_ne_true, true_from_ne_false, or_cases, or_left, or_right, eqb-true, cases_eq}
 use Rattle.std.proofs.lemmas.Nat.Bits.{bit_at_cat_high}
 use Rattle.shogi_core.specs.declared.moves.TheConstants.{SQUARE_CODES}
 use Rattle.shogi_core.specs.declared.moves.Move.TheVariants.{Board}
@@ -56,7 +56,7 @@ moved_up mask places a b low few at set =
     ap (λ (m : ℕ). bit_at m a == 1) small ∙ (ap (λ (x : ℕ). x == 1) (bit_at_cat_high mask places 0 a some (omega (arith, at))) ∙ (ap (λ (x : ℕ). bit_at mask x == 1) (let back : a - places ≡ b = omega (arith, at) in back) ∙ set))
 
 pub moved_either : (down up a : ℕ) → (has_bit down a ≡ true) ⊎ (has_bit up a ≡ true) → has_bit (bit_or down up) a ≡ true
-moved_either down up a e = has_bit-or down up a ∙ elim e [ inl x ↦ or_left _ _ x | inr x ↦ or_right (has_bit down a) _ x ]
+moved_either down up a e = grind (arith, has_bit-or down up a)
 
 -- ---- the squares near some
 
@@ -97,19 +97,8 @@ near_bits a b next behind before ha hb near one up down =
 -- some bits, raised by up to four places in three turns
 pub five_bits : (mask one two four n k : ℕ) → k ≤ 4 → ((i : ℕ) → has_bit mask i ≡ true → has_bit one (i + 1) ≡ true) → ((i : ℕ) → has_bit (bit_or mask one) i ≡ true → has_bit two (i + 2) ≡ true) → ((i : ℕ) → has_bit mask i ≡ true → has_bit four (i + 4) ≡ true)
     → has_bit mask n ≡ true → has_bit (bit_or (bit_or (bit_or mask one) two) four) (n + k) ≡ true
-five_bits mask one two four n k few by_one by_two by_four set = elim (cases_lt k 4) [
-  | inl less ↦ has_bit-or _ four (n + k) ∙ or_left _ _ (has_bit-or (bit_or mask one) two (n + k) ∙ elim (cases_lt k 2) [
-    | inl low ↦ or_left _ _ (pair k low)
-    | inr high ↦ or_right (has_bit (bit_or mask one) (n + k)) _ (subst (λ (x : ℕ). has_bit two x ≡ true) (omega arith) (by_two (n + (k - 2)) (pair (k - 2) (omega arith))))
-  ])
-  | inr last ↦ has_bit-or _ four (n + k) ∙ or_right (has_bit (bit_or (bit_or mask one) two) (n + k)) _ (subst (λ (x : ℕ). has_bit four x ≡ true) (omega arith) (by_four n set))
-]
-  where
-    pair : (j : ℕ) → j < 2 → has_bit (bit_or mask one) (n + j) ≡ true
-    pair j low = has_bit-or mask one (n + j) ∙ elim (cases_lt j 1) [
-      | inl none ↦ or_left _ _ (subst (λ (x : ℕ). has_bit mask x ≡ true) (omega arith) set)
-      | inr one_up ↦ or_right (has_bit mask (n + j)) _ (subst (λ (x : ℕ). has_bit one x ≡ true) (omega arith) (by_one n set))
-    ]
+five_bits mask one two four n k few by_one by_two by_four set =
+    grind (arith, has_bit-or (bit_or (bit_or mask one) two) four (n + k), has_bit-or (bit_or mask one) two (n + k), has_bit-or mask one (n + k), has_bit-or mask one n, has_bit-or mask one (n + 1), by_one n, by_two n, by_two (n + 1), by_four n, cases_eq k 0, cases_eq k 1, cases_eq k 2, cases_eq k 3)
 
 -- ---- pieces that reach nothing to capture
 

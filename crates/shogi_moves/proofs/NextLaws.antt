@@ -1,11 +1,10 @@
 -- The least legal move from a code on, by the destinations of a piece or of a held kind.
-use Rattle.std.proofs.Common.{◌≡◌, ℕ, ◌+◌, ◌*◌, ◌<◌, ◌≤◌, Bool, true, false, not, List, [], ◌∷◌, Option, None, Some, refl, sym, ◌∙◌, arith, inl, inr, bit_or, ap}
+use Rattle.std.proofs.Common.{◌≡◌, ℕ, ◌+◌, ◌*◌, ◌<◌, ◌≤◌, Bool, true, false, not, List, [], ◌∷◌, Option, None, Some, sym, ◌∙◌, arith, inl, inr, bit_or, ap}
 use Rattle.std.specs.Prelude.{IsNone, IfSome}
-use Rattle.std.proofs.lemmas.Bool.{cases_Bool, cases_lt, or_cases, both_ways}
+use Rattle.std.proofs.lemmas.Bool.{cases_Bool, or_cases, both_ways}
 use Rattle.shogi_core.specs.declared.moves.TheConstants.{MOVE_CODE_COUNT, FIRST_DROP, SQUARE_CODES}
 use Rattle.shogi_core.specs.declared.moves.Move.{Move}
-use Rattle.shogi_core.specs.declared.moves.Move.TheVariants.{Board, Drop}
-use Rattle.shogi_core.specs.declared.piece.Kind.{Kind}
+use Rattle.shogi_core.specs.declared.moves.Move.TheVariants.{Board}
 use Rattle.shogi_core.specs.Bits.{has_bit}
 use Rattle.shogi_core.specs.Cell.{is_piece_of}
 use Rattle.shogi_core.specs.Codes.{move_of, code_of}
@@ -13,10 +12,9 @@ use Rattle.shogi_core.specs.Movement.{piece_at}
 use Rattle.shogi_core.specs.Position.{Shogi}
 use Rattle.shogi_core.proofs.BitLaws.{has_bit-none, has_bit-or}
 use Rattle.shogi_core.proofs.CodesBack.{move_of-board}
-use Rattle.shogi_moves.specs.Captures.{is_matching}
 use Rattle.shogi_moves.specs.Legal.{is_legal, is_legal_code}
 use Rattle.shogi_moves.specs.LegalMoves.{legal_from}
-use Rattle.shogi_moves.specs.Sweeps.{Keeps, KeepsDrop, matching_from}
+use Rattle.shogi_moves.specs.Sweeps.{Keeps, matching_from}
 use Rattle.shogi_moves.specs.Walks.{IsNextOf, TakesNext}
 use Rattle.shogi_moves.proofs.LegalLaws.{is_legal_code_of, legal_from_found, no_piece, run_without}
 use Rattle.shogi_moves.proofs.SweepLaws.{keeps_first, keeps_from, fails_all, fails_to_plain, fails_to_promoting, all_drops}
@@ -38,8 +36,7 @@ nobody p from code hf low high e = run_without p code (from * SQUARE_CODES + SQU
 
 -- it has no destination
 pub nowhere : (p : Shogi) (promote : Bool) (from n : ℕ) → from < 81 → n < 81 → is_piece_of p.side (piece_at p.cells from) ≡ false → has_bit 0 n ≡ is_legal_code p (code_of (Board from n promote))
-nowhere p true from n hf h e = has_bit-none n ∙ sym (no_piece p from (code_of (Board from n true)) hf e (omega arith) (omega arith))
-nowhere p false from n hf h e = has_bit-none n ∙ sym (no_piece p from (code_of (Board from n false)) hf e (omega arith) (omega arith))
+nowhere p promote from n hf h e = grind (arith, has_bit-none n, no_piece p from (code_of (Board from n promote)) hf e)
 
 -- the destinations from a code on, of all destinations
 pub destinations_from : (p : Shogi) (promote : Bool) (from code destinations less to : ℕ) → ((n : ℕ) → n < 81 → has_bit destinations n ≡ is_legal_code p (code_of (Board from n promote))) → from * SQUARE_CODES ≤ code
@@ -50,8 +47,7 @@ destinations_from p promote from code destinations less to bits low falls rises 
     (keeps_first (is_legal_code p) (λ n. code_of (Board from n promote)) (from * SQUARE_CODES) destinations bits (λ n. first n promote)) low falls rises same none
   where
     first : (n : ℕ) (b : Bool) → from * SQUARE_CODES ≤ code_of (Board from n b)
-    first n true = omega arith
-    first n false = omega arith
+    first n b = grind arith
 
 module _ (p : Shogi) (from code non_promoting promoting : ℕ) (hf : from < 81) (low : from * SQUARE_CODES ≤ code) (a : Keeps (is_legal_code p) (λ n. code_of (Board from n false)) code non_promoting) (b : Keeps (is_legal_code p) (λ n. code_of (Board from n true)) code promoting) where
   pub no_destination : code ≤ from * SQUARE_CODES + SQUARE_CODES → bit_or non_promoting promoting ≡ 0 → legal_from p code ≡ legal_from p (from * SQUARE_CODES + SQUARE_CODES)
@@ -69,28 +65,11 @@ module _ (p : Shogi) (from code non_promoting promoting : ℕ) (hf : from < 81) 
   ]
 
 pub on_board : (from to : ℕ) (promote : Bool) → from < 81 → to < 81 → code_of (Board from to promote) < FIRST_DROP
-on_board from to true hf ht = omega arith
-on_board from to false hf ht = omega arith
-
--- what is left of a kind above a drop
-pub drops_above : (p : Shogi) (kind : Kind) (destinations less to : ℕ) → to < 81 → ((n : ℕ) → n < 81 → has_bit destinations n ≡ is_matching p false (code_of (Drop kind n))) → ((i : ℕ) → i < 81 → to < i → has_bit less i ≡ has_bit destinations i) → ((i : ℕ) → i < 81 → i ≤ to → has_bit less i ≡ false)
-    → KeepsDrop p kind (code_of (Drop kind to) + 1) less
-drops_above p kind destinations less to ht bits same none = record {
-  low = omega arith;
-  high = omega arith;
-  drops = record {
-    set = λ n h e. elim (cases_lt to n) [
-      | inl up ↦ (omega arith, sym (bits n h) ∙ (sym (same n h up) ∙ e))
-      | inr down ↦ absurd (both_ways (has_bit less n) (none n h down) e)
-    ];
-    clear = λ n h e l. sym (bits n h) ∙ (sym (same n h (omega arith)) ∙ e);
-  };
-}
+on_board from to promote hf ht = grind arith
 
 -- the next of the drops is the next of a walk
 pub takes_drop : (codes old new : List ℕ) (found : Option Move) → codes ≡ old → IsNextOf found old new [] → (IsNone found → new ≡ []) → TakesNext found codes new
-takes_drop codes old new None same next end = (same ∙ next, end refl)
-takes_drop codes old new (Some m) same next end = same ∙ next
+takes_drop codes old new found same next end = grind arith
 
 -- and the moves above it are left
 pub above_drop : (p : Shogi) (new : ℕ) (found : Option Move) → FIRST_DROP ≤ new → IfSome found (λ m. new ≡ code_of m + 1) → IfSome found (λ m. matching_from p false new ≡ legal_from p (code_of m + 1))

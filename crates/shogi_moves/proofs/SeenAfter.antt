@@ -1,7 +1,7 @@
 -- The board after a move, by sets of squares of the board before it.
-use Rattle.std.proofs.Common.{◌≡◌, ◌≢◌, ℕ, ◌<◌, ◌⊎◌, Bool, true, false, refl, sym, ap, subst, ◌∙◌, arith, inl, inr, Option, Some, None, set, length, get_or-set_same, get_or-set_other, length-set}
+use Rattle.std.proofs.Common.{◌≡◌, ◌≢◌, ℕ, ◌<◌, ◌⊎◌, Bool, true, false, refl, sym, ap, ◌∙◌, arith, Option, None, set, length, get_or-set_same, get_or-set_other, length-set}
 use Rattle.std.specs.Prelude.{◌==◌, ◌&&◌, ◌||◌, not, is_none}
-use Rattle.std.proofs.lemmas.Bool.{cases_Bool, cases_eq, false_from_ne_true, both_ways, and_parts, and_from, and_right, or_right, ne_eqb, eq-eqb}
+use Rattle.std.proofs.lemmas.Bool.{cases_eq, both_ways, ne_eqb, eq-eqb}
 use Rattle.shogi_core.specs.declared.piece.Color.{Color}
 use Rattle.shogi_core.specs.declared.piece.Kind.{Kind}
 use Rattle.shogi_core.specs.declared.piece.Piece.{Piece}
@@ -12,33 +12,18 @@ use Rattle.shogi_core.specs.Cell.{is_piece_of, is_king, HasNoOtherKing}
 use Rattle.shogi_core.specs.Movement.{Cells, piece_at}
 use Rattle.shogi_core.specs.Pieces.{opponent_of}
 use Rattle.shogi_core.specs.Position.{Shogi}
-use Rattle.shogi_core.proofs.Below.{some_below_at, some_below_no}
+use Rattle.shogi_core.proofs.Below.{some_below_at}
 use Rattle.shogi_moves.specs.After.{piece_moved, dropped}
 use Rattle.shogi_moves.specs.Destinations.{leaves_king_safe}
 use Rattle.shogi_moves.proofs.CheckInfoLaws.{other_side, own_some, is_piece_of-piece_moved, dropped_of, dropped_plain}
 use Rattle.shogi_moves.proofs.KingLaws.{king_own}
 use Rattle.shogi_moves.proofs.MovedPieces.{is_king-piece_moved}
-
-and_true : (b : Bool) → (b && true) ≡ b
-and_true true = refl
-and_true false = refl
-
-or_false : (b : Bool) → (b || false) ≡ b
-or_false true = refl
-or_false false = refl
+use Rattle.shogi_core.proofs.Discovered.{some_below_which}
 
 -- a side is in check where its only king is attacked
 pub lone_attacked : (cells : Cells) (side : Color) (k : ℕ) → k < 81 → is_king side (piece_at cells k) ≡ true → HasNoOtherKing cells side k → is_attacked cells (opponent_of side) k ≡ in_check cells side
 unfolding in_check
-lone_attacked cells side k h king lone = elim (cases_Bool (is_attacked cells (opponent_of side) k)) [
-  | inl hit ↦ hit ∙ sym (some_below_at 81 (is_open_king cells side) k h (and_from _ _ king hit))
-  | inr safe ↦ safe ∙ sym (some_below_no 81 (is_open_king cells side) (λ x l. false_from_ne_true (is_open_king cells side x) (λ e. (
-      let parts : (is_king side (piece_at cells x) ≡ true) × (is_attacked cells (opponent_of side) x ≡ true) = and_parts _ _ e in
-      elim (cases_eq x k) [
-        | inl here ↦ both_ways (is_attacked cells (opponent_of side) k) safe (subst (λ (y : ℕ). is_attacked cells (opponent_of side) y ≡ true) here parts.1)
-        | inr other ↦ both_ways (is_king side (piece_at cells x)) (lone x l other) parts.0
-      ]))))
-]
+lone_attacked cells side k h king lone = grind (arith, some_below_at 81 (is_open_king cells side) k h, some_below_which 81 (is_open_king cells side), lone)
 
 -- this stands on `to`, nothing on the squares that are left, and all else as before
 abbrev Stands : Cells → Cells → ℕ → Option Piece → (ℕ → Bool) → ℕ → Type 0
@@ -49,57 +34,27 @@ module _ (cells new : Cells) (side : Color) (to : ℕ) (v : Option Piece) (gone 
   module _ (theirs among occ lifted occupied : ℕ) (t : (n : ℕ) → n < 81 → has_bit theirs n ≡ is_piece_of (opponent_of side) (piece_at cells n)) (a : (n : ℕ) → n < 81 → has_bit among n ≡ (has_bit theirs n && not (n == to)))
       (o : (n : ℕ) → n < 81 → has_bit occ n ≡ not (is_none (piece_at cells n))) (l : (n : ℕ) → n < 81 → has_bit lifted n ≡ (has_bit occ n && not (gone n))) (f : (n : ℕ) → n < 81 → has_bit occupied n ≡ (has_bit lifted n || n == to)) where
     attackers_after : (n : ℕ) → n < 81 → has_bit among n ≡ is_piece_of (opponent_of side) (piece_at new n)
-    attackers_after n h = elim (stands n) [
-      | inl there ↦ a n h ∙ (and_right (has_bit theirs n) _ (ap not (eq-eqb n to there.0)) ∙ sym (ap (is_piece_of (opponent_of side)) there.1 ∙ other_side side v own))
-      | inr off ↦ elim off.1 [
-        | inl out ↦ a n h ∙ (ap (λ b. b && not (n == to)) (t n h ∙ left n out.0) ∙ sym (ap (is_piece_of (opponent_of side)) out.1))
-        | inr same ↦ a n h ∙ (ap (λ b. has_bit theirs n && not b) (ne_eqb n to off.0) ∙ (and_true (has_bit theirs n) ∙ (t n h ∙ sym (ap (is_piece_of (opponent_of side)) same.1))))
-      ]
-    ]
+    attackers_after n h = grind (arith, stands n, a n h, t n h, left n, other_side side v own)
 
     pieces_after : (n : ℕ) → n < 81 → has_bit occupied n ≡ not (is_none (piece_at new n))
-    pieces_after n h = elim (stands n) [
-      | inl there ↦ f n h ∙ (or_right (has_bit lifted n) _ (eq-eqb n to there.0) ∙ sym (ap not (ap is_none there.1 ∙ own_some side v own)))
-      | inr off ↦ f n h ∙ (ap (λ b. has_bit lifted n || b) (ne_eqb n to off.0) ∙ (or_false (has_bit lifted n) ∙ (l n h ∙ elim off.1 [
-        | inl out ↦ and_right (has_bit occ n) _ (ap not out.0) ∙ sym (ap not (ap is_none out.1))
-        | inr same ↦ ap (λ b. has_bit occ n && not b) same.0 ∙ (and_true (has_bit occ n) ∙ (o n h ∙ sym (ap not (ap is_none same.1))))
-      ])))
-    ]
+    pieces_after n h = grind (arith, stands n, f n h, l n h, o n h, own_some side v own)
 
     same_after : (n : ℕ) → n < 81 → has_bit among n ≡ true → piece_at new n ≡ piece_at cells n
-    same_after n h e = elim (stands n) [
-      | inl there ↦ absurd (both_ways (is_piece_of (opponent_of side) v) (other_side side v own) (ap (is_piece_of (opponent_of side)) (sym there.1) ∙ (sym (attackers_after n h) ∙ e)))
-      | inr off ↦ elim off.1 [
-        | inl out ↦ absurd (let clash : false ≡ true = ap (is_piece_of (opponent_of side)) (sym out.1) ∙ (sym (attackers_after n h) ∙ e) in cc)
-        | inr same ↦ same.1
-      ]
-    ]
+    same_after n h e = grind (arith, stands n, attackers_after n h, other_side side v own)
 
     seen_after : IsSeenAs cells among occupied (opponent_of side) new
     seen_after = record { attackers = attackers_after; pieces = pieces_after; same = same_after }
 
   -- the only king has gone to the square
   lone_moved : (k : ℕ) → gone k ≡ true → HasNoOtherKing cells side k → HasNoOtherKing new side to
-  lone_moved k away lone x h other = elim (stands x) [
-    | inl there ↦ absurd (other there.0)
-    | inr off ↦ elim off.1 [
-      | inl out ↦ ap (is_king side) out.1
-      | inr same ↦ ap (is_king side) same.1 ∙ lone x h (λ at. both_ways (gone x) same.0 (ap gone at ∙ away))
-    ]
-  ]
+  lone_moved k away lone x h other = grind (arith, stands x, lone x h)
 
   -- another piece moved or was dropped
   king_kept : (k : ℕ) → gone k ≡ false → k ≢ to → piece_at new k ≡ piece_at cells k
-  king_kept k stays off = elim (stands k) [
-    | inl there ↦ absurd (off there.0)
-    | inr rest ↦ elim rest.1 [ inl out ↦ absurd (both_ways (gone k) stays out.0) | inr same ↦ same.1 ]
-  ]
+  king_kept k stays off = grind (arith, stands k)
 
   lone_kept : (k : ℕ) → is_king side v ≡ false → HasNoOtherKing cells side k → HasNoOtherKing new side k
-  lone_kept k non_promoting lone x h other = elim (stands x) [
-    | inl there ↦ ap (is_king side) there.1 ∙ non_promoting
-    | inr off ↦ elim off.1 [ inl out ↦ ap (is_king side) out.1 | inr same ↦ ap (is_king side) same.1 ∙ lone x h other ]
-  ]
+  lone_kept k non_promoting lone x h other = grind (arith, stands x, lone x h)
 
 -- ---- a piece on the board moves
 
@@ -118,22 +73,10 @@ module _ (p : Shogi) (from to : ℕ) (promote : Bool) (len : length p.cells ≡ 
   v_there = get_or-set_same (set p.cells from None) to (mover p from promote) None (omega (arith, length-set p.cells from None))
 
   board_left : (x : ℕ) → (x == from) ≡ true → is_piece_of (opponent_of p.side) (piece_at p.cells x) ≡ false
-  board_left x e = elim (cases_eq x from) [
-    | inl here ↦ ap (λ (y : ℕ). is_piece_of (opponent_of p.side) (piece_at p.cells y)) here ∙ other_side p.side (piece_at p.cells from) own
-    | inr off ↦ absurd (both_ways (x == from) (ne_eqb x from off) e)
-  ]
+  board_left x e = grind (arith, other_side p.side (piece_at p.cells from) own)
 
   board_stands : (x : ℕ) → Stands p.cells (moved p from to promote) to (mover p from promote) (λ x. x == from) x
-  board_stands x = elim (cases_eq x to) [
-    | inl there ↦ inl (there, ap (piece_at (moved p from to promote)) there ∙ v_there)
-    | inr other ↦ inr (
-      other,
-      elim (cases_eq x from) [
-        | inl here ↦ inl (eq-eqb x from here, get_or-set_other (set p.cells from None) to x _ None other ∙ (ap (piece_at (set p.cells from None)) here ∙ get_or-set_same p.cells from None None (omega arith)))
-        | inr off ↦ inr (ne_eqb x from off, get_or-set_other (set p.cells from None) to x _ None other ∙ get_or-set_other p.cells from x None None off)
-      ],
-    )
-  ]
+  board_stands x = grind (arith, cases_eq x to, cases_eq x from, v_there, get_or-set_other (set p.cells from None) to x (mover p from promote) None, get_or-set_same p.cells from None None, get_or-set_other p.cells from x None None)
 
   module _ (theirs among occ lifted occupied : ℕ) (t : (n : ℕ) → n < 81 → has_bit theirs n ≡ is_piece_of (opponent_of p.side) (piece_at p.cells n)) (a : (n : ℕ) → n < 81 → has_bit among n ≡ (has_bit theirs n && not (n == to)))
       (o : (n : ℕ) → n < 81 → has_bit occ n ≡ not (is_none (piece_at p.cells n))) (l : (n : ℕ) → n < 81 → has_bit lifted n ≡ (has_bit occ n && not (n == from))) (f : (n : ℕ) → n < 81 → has_bit occupied n ≡ (has_bit lifted n || n == to)) where
@@ -163,24 +106,17 @@ with_drop p kind to = set p.cells to (dropped p.side kind)
 
 module _ (p : Shogi) (kind : Kind) (to : ℕ) (len : length p.cells ≡ 81) (ht : to < 81) (bare : is_none (piece_at p.cells to) ≡ true) where
   drop_stands : (x : ℕ) → Stands p.cells (with_drop p kind to) to (dropped p.side kind) (λ x. false) x
-  drop_stands x = elim (cases_eq x to) [
-    | inl there ↦ inl (there, ap (piece_at (with_drop p kind to)) there ∙ get_or-set_same p.cells to (dropped p.side kind) None (omega arith))
-    | inr other ↦ inr (other, inr (refl, get_or-set_other p.cells to x (dropped p.side kind) None other))
-  ]
+  drop_stands x = grind (arith, cases_eq x to, get_or-set_same p.cells to (dropped p.side kind) None, get_or-set_other p.cells to x (dropped p.side kind) None)
 
   no_piece : (color : Color) (cell : Option Piece) → is_none cell ≡ true → is_piece_of color cell ≡ false
-  no_piece color None e = refl
-  no_piece color (Some piece) e = absurd (cc)
+  no_piece color cell e = grind arith
 
   pub drop_seen : (theirs occ occupied : ℕ) → ((n : ℕ) → n < 81 → has_bit theirs n ≡ is_piece_of (opponent_of p.side) (piece_at p.cells n)) → ((n : ℕ) → n < 81 → has_bit occ n ≡ not (is_none (piece_at p.cells n)))
       → ((n : ℕ) → n < 81 → has_bit occupied n ≡ (has_bit occ n || n == to)) → IsSeenAs p.cells theirs occupied (opponent_of p.side) (with_drop p kind to)
   drop_seen theirs occ occupied t o f =
       seen_after p.cells (with_drop p kind to) p.side to (dropped p.side kind) (λ x. false) (dropped_of p.side kind) (λ x e. absurd (let clash : false ≡ true = e in cc)) drop_stands theirs theirs occ occ occupied t
-      (λ n h. elim (cases_eq n to) [
-        | inl there ↦ t n h ∙ (ap (λ (y : ℕ). is_piece_of (opponent_of p.side) (piece_at p.cells y)) there ∙ (no_piece (opponent_of p.side) (piece_at p.cells to) bare ∙ sym (and_right (has_bit theirs n) _ (ap not (eq-eqb n to there)))))
-        | inr other ↦ sym (and_true (has_bit theirs n)) ∙ ap (λ b. has_bit theirs n && not b) (sym (ne_eqb n to other))
-      ])
-      o (λ n h. sym (and_true (has_bit occ n))) f
+      (λ n h. grind (arith, t n h, no_piece (opponent_of p.side) (piece_at p.cells to) bare))
+      o (λ n h. grind arith) f
 
   pub king_left_by_drop : (k : ℕ) (found : Bool) → k < 81 → is_king p.side (piece_at p.cells k) ≡ true → HasNoOtherKing p.cells p.side k → found ≡ is_attacked (with_drop p kind to) (opponent_of p.side) k → not found ≡ leaves_king_safe p (Drop kind to)
   king_left_by_drop k found h king lone e =

@@ -1,7 +1,7 @@
 -- Ways through the legal moves of a kind.
 use Rattle.std.proofs.Common.{◌≡◌, ◌≢◌, ℕ, ◌+◌, ◌-◌, ◌*◌, ◌/◌, ◌%◌, ◌<◌, ◌≤◌, ◌⊎◌, Bool, true, false, not, Some, List, [], filter, bit_and, ◌∷◌, refl, sym, ap, ◌∙◌, arith, inl, inr, subst, bit_or}
 use Rattle.std.specs.Prelude.{◌&&◌, ◌==◌}
-use Rattle.std.proofs.lemmas.Bool.{cases_Bool, cases_eq, ne_eqb, eq-eqb, and_parts, both_ways, and_from, cases_lt, or_left, or_right, or_parts, or_cases, false_from_ne_true, true_from_ne_false, cond-true}
+use Rattle.std.proofs.lemmas.Bool.{cases_Bool, cases_eq, eq-eqb, and_parts, both_ways, cases_lt, or_left, or_right, or_parts, false_from_ne_true, true_from_ne_false, cond-true}
 use Rattle.shogi_core.specs.declared.moves.TheConstants.{MOVE_CODE_COUNT, FIRST_DROP, SQUARE_CODES}
 use Rattle.shogi_core.specs.declared.moves.Move.{Move}
 use Rattle.shogi_core.specs.declared.moves.Move.TheVariants.{Board, Drop}
@@ -12,7 +12,6 @@ use Rattle.shogi_core.specs.Codes.{move_of, code_of}
 use Rattle.shogi_core.specs.Movement.{piece_at, reaches}
 use Rattle.shogi_core.specs.Pieces.{kind_number}
 use Rattle.shogi_core.specs.Position.{Shogi}
-use Rattle.shogi_core.specs.Sets.{HasNone}
 use Rattle.shogi_core.proofs.BitLaws.{has_bit-or, has_bit-none}
 use Rattle.shogi_core.proofs.CodesBack.{move_of-board, move_of-drop}
 use Rattle.shogi_core.proofs.Faults.{number_below}
@@ -29,16 +28,7 @@ use Rattle.shogi_moves.proofs.LegalLaws.{drop_code, legal_in, legal_in_above, le
 -- ---- no piece of the side stands on the square
 
 pub no_destinations : (p : Shogi) (capture promote : Bool) (from n : ℕ) → from < 81 → n < 81 → is_piece_of p.side (piece_at p.cells from) ≡ false → has_bit 0 n ≡ is_matching p capture (code_of (Board from n promote))
-no_destinations p capture promote from n hf hn e =
-    has_bit-none n ∙ sym ((none_square p capture from (from * SQUARE_CODES) (from * SQUARE_CODES + SQUARE_CODES) hf (omega arith) (omega arith) e).none (code_of (Board from n promote)) (low promote) (high promote))
-  where
-    low : (b : Bool) → from * SQUARE_CODES ≤ code_of (Board from n b)
-    low true = omega arith
-    low false = omega arith
-
-    high : (b : Bool) → code_of (Board from n b) < from * SQUARE_CODES + SQUARE_CODES
-    high true = omega arith
-    high false = omega arith
+no_destinations p capture promote from n hf hn e = grind (arith, has_bit-none n, (none_square p capture from (from * SQUARE_CODES) (from * SQUARE_CODES + SQUARE_CODES) hf (omega arith) (omega arith) e).none (code_of (Board from n promote)))
 
 pub ruleset no_piece = (no_destinations)
 
@@ -68,30 +58,15 @@ keeps_later test place code next mask k up above = record {
 keeps_less : (test : ℕ → Bool) (place : ℕ → ℕ) (code next mask less to : ℕ) → Keeps test place code mask → code ≤ next → ((i : ℕ) → has_bit less i ≡ (has_bit mask i && not (i == to)))
     → ((n : ℕ) → n < 81 → has_bit mask n ≡ true → n ≢ to → next ≤ place n) → place to < next → Keeps test place next less
 keeps_less test place code next mask less to k up bits above gone = record {
-  set = λ n h e. (
-      let parts : (has_bit mask n ≡ true) × (not (n == to) ≡ true) = and_parts (has_bit mask n) (not (n == to)) (sym (bits n) ∙ e) in
-      (above n h parts.0 (λ same. both_ways (not (n == to)) (ap not (eq-eqb n to same)) parts.1), (k.set n h parts.0).1));
-  clear = λ n h e l. elim (cases_eq n to) [
-    | inl same ↦ absurd (let there : next ≤ place to = subst (λ (x : ℕ). next ≤ place x) same l in omega arith)
-    | inr other ↦ k.clear n h (sym (more (has_bit mask n) (n == to) (ne_eqb n to other)) ∙ (sym (bits n) ∙ e)) (omega arith)
-  ];
+  set = λ n h e. grind (arith, bits n, above n h, k.set n h);
+  clear = λ n h e l. grind (arith, cases_eq n to, bits n, k.clear n h);
 }
-  where
-    more : (a b : Bool) → b ≡ false → (a && not b) ≡ a
-    more true b e = rw e refl
-    more false b e = refl
 
 -- what is left from a square on
 pub keeps_from : (test : ℕ → Bool) (place : ℕ → ℕ) (code next mask less to : ℕ) → Keeps test place code mask → code ≤ next → ((n : ℕ) → n < to → place n < next) → ((n : ℕ) → to ≤ n → next ≤ place n) → ((i : ℕ) → i < 81 → to ≤ i → has_bit less i ≡ has_bit mask i) → ((i : ℕ) → i < to → has_bit less i ≡ false) → Keeps test place next less
 keeps_from test place code next mask less to k up falls rises same none = record {
-  set = λ n h e. elim (cases_lt n to) [
-    | inl down ↦ absurd (both_ways (has_bit less n) (none n down) e)
-    | inr on ↦ (rises n on, (k.set n h (sym (same n h on) ∙ e)).1)
-  ];
-  clear = λ n h e l. elim (cases_lt n to) [
-    | inl down ↦ absurd (let under : place n < next = falls n down in omega arith)
-    | inr on ↦ k.clear n h (sym (same n h on) ∙ e) (omega (arith, rises n on))
-  ];
+  set = λ n h e. grind (arith, cases_lt n to, none n, rises n, same n h, k.set n h);
+  clear = λ n h e l. grind (arith, cases_lt n to, falls n, rises n, same n h, k.clear n h);
 }
 
 -- ---- the destinations of a piece
@@ -110,10 +85,7 @@ at_code from c low high = elim (cases_eq (c % 2) 0) [ inl even ↦ inl (omega ar
 -- the destinations of a piece from a code on, whose codes pass a test
 module _ (test : ℕ → Bool) (from code non_promoting promoting : ℕ) (low : from * SQUARE_CODES ≤ code) (a : Keeps test (λ n. code_of (Board from n false)) code non_promoting) (b : Keeps test (λ n. code_of (Board from n true)) code promoting) where
   fails_at : (c : ℕ) → code ≤ c → c < from * SQUARE_CODES + SQUARE_CODES → (c ≡ code_of (Board from (c / 2 % 81) false) → has_bit non_promoting (c / 2 % 81) ≡ false) → (c ≡ code_of (Board from (c / 2 % 81) true) → has_bit promoting (c / 2 % 81) ≡ false) → test c ≡ false
-  fails_at c above under x y = elim (at_code from c (omega arith) under) [
-    | inl at ↦ ap test at ∙ a.clear (c / 2 % 81) (omega arith) (x at) (omega arith)
-    | inr at ↦ ap test at ∙ b.clear (c / 2 % 81) (omega arith) (y at) (omega arith)
-  ]
+  fails_at c above under x y = grind (arith, at_code from c, a.clear (c / 2 % 81), b.clear (c / 2 % 81))
 
   -- there is none
   pub fails_all : bit_or non_promoting promoting ≡ 0 → (c : ℕ) → code ≤ c → c < from * SQUARE_CODES + SQUARE_CODES → test c ≡ false
@@ -130,10 +102,7 @@ module _ (test : ℕ → Bool) (from code non_promoting promoting : ℕ) (low : 
   pub fails_to_promoting : (to : ℕ) → to < 81 → ((n : ℕ) → has_bit (bit_or non_promoting promoting) n ≡ true → to ≤ n) → has_bit non_promoting to ≡ false → (c : ℕ) → code ≤ c → c < code_of (Board from to true) → test c ≡ false
   fails_to_promoting to ht least out c above under =
       fails_at c above (omega arith)
-      (λ at. elim (cases_eq (c / 2 % 81) to) [
-        | inl same ↦ subst (λ (x : ℕ). has_bit non_promoting x ≡ false) (sym same) out
-        | inr other ↦ (below non_promoting promoting to least (c / 2 % 81) (omega arith)).0
-      ])
+      (λ at. grind (arith, cases_eq (c / 2 % 81) to, below non_promoting promoting to least (c / 2 % 81)))
       (λ at. (below non_promoting promoting to least (c / 2 % 81) (omega arith)).1)
 
 pub none_left : (p : Shogi) (capture : Bool) (from code non_promoting promoting : ℕ) → KeepsBoard p capture from code non_promoting promoting → bit_or non_promoting promoting ≡ 0 → HasNoneMatching p capture code (from * SQUARE_CODES + SQUARE_CODES)
@@ -188,7 +157,7 @@ module _ (p : Shogi) (capture : Bool) (from code non_promoting promoting to : �
       }
 
   pub promoting_set : has_bit (bit_or non_promoting promoting) to ≡ true → has_bit non_promoting to ≡ false → has_bit promoting to ≡ true
-  promoting_set e out = elim (or_cases (has_bit non_promoting to) (has_bit promoting to) (sym (has_bit-or non_promoting promoting to) ∙ e)) [ inl one ↦ absurd (both_ways (has_bit non_promoting to) out one) | inr other ↦ other ]
+  promoting_set e out = grind (arith, has_bit-or non_promoting promoting to)
 
   pub promoting_taken : has_bit non_promoting to ≡ false → has_bit promoting to ≡ true → IsTaken p capture code (Board from to true)
   promoting_taken out e =
@@ -210,10 +179,7 @@ module _ (p : Shogi) (capture : Bool) (from code non_promoting promoting to : �
       record {
         low = omega arith;
         high = omega arith;
-        plains = keeps_later (is_matching p capture) (λ n. code_of (Board from n false)) code (code_of (Board from to true) + 1) non_promoting k.plains (omega arith) (λ n h set. (
-            let le : to ≤ n = plain_above n set in
-            let ne : n ≢ to = λ same. both_ways (has_bit non_promoting to) out (ap (has_bit non_promoting) (sym same) ∙ set) in
-            omega arith));
+        plains = keeps_later (is_matching p capture) (λ n. code_of (Board from n false)) code (code_of (Board from to true) + 1) non_promoting k.plains (omega arith) (λ n h set. grind (arith, plain_above n set, cases_eq n to));
         promotings = keeps_less (is_matching p capture) (λ n. code_of (Board from n true)) code (code_of (Board from to true) + 1) promoting next to k.promotings (omega arith) bits (λ n h set other. (let le : to ≤ n = promoting_above n set in omega arith)) (omega arith);
       }
 
@@ -233,30 +199,19 @@ on_first p capture own left from code non_promoting promoting hf k none bits abo
 
 pub mine_first : (p : Shogi) (own left from : ℕ) → ((n : ℕ) → n < 81 → has_bit own n ≡ is_piece_of p.side (piece_at p.cells n)) → ((n : ℕ) → n < 81 → from < n → has_bit left n ≡ has_bit own n) → ((n : ℕ) → n < 81 → n ≤ from → has_bit left n ≡ false)
     → (n : ℕ) → n < 81 → has_bit left n ≡ true → (from < n) × (is_piece_of p.side (piece_at p.cells n) ≡ true)
-mine_first p own left from bits above below n h set = elim (cases_lt from n) [
-  | inl up ↦ (up, sym (bits n h) ∙ (sym (above n h up) ∙ set))
-  | inr down ↦ absurd (both_ways (has_bit left n) (below n h down) set)
-]
+mine_first p own left from bits above below n h set = grind (arith, cases_lt from n, bits n h, above n h, below n h)
 
 -- one more piece that has none
 pub on_less : (p : Shogi) (capture : Bool) (left less from code non_promoting promoting : ℕ) → HasMatchingOn p capture code left → KeepsBoard p capture from (from * SQUARE_CODES) non_promoting promoting → bit_or non_promoting promoting ≡ 0
     → ((i : ℕ) → has_bit less i ≡ (has_bit left i && not (i == from))) → HasMatchingOn p capture code less
 on_less p capture left less from code non_promoting promoting w k none bits = record {
-  on = λ c low high matching. elim (cases_eq (c / SQUARE_CODES) from) [
-    | inl same ↦ absurd (both_ways (is_matching p capture c) ((none_left p capture from (from * SQUARE_CODES) non_promoting promoting k none).none c (omega arith) (omega arith)) matching)
-    | inr other ↦ bits (c / SQUARE_CODES) ∙ and_from (has_bit left (c / SQUARE_CODES)) (not (c / SQUARE_CODES == from)) (w.on c low high matching) (ap not (ne_eqb (c / SQUARE_CODES) from other))
-  ];
+  on = λ c low high matching. grind (arith, (none_left p capture from (from * SQUARE_CODES) non_promoting promoting k none).none c, bits (c / SQUARE_CODES), w.on c low high matching);
 }
 
 -- up to the next piece, and to the end of the board
 pub on_none : (p : Shogi) (capture : Bool) (left next code : ℕ) → HasMatchingOn p capture code left → next < 81 → ((n : ℕ) → has_bit left n ≡ true → next ≤ n) → HasNoneMatching p capture code (next * SQUARE_CODES)
 on_none p capture left next code w h least = record {
   none = λ c low high. false_from_ne_true (is_matching p capture c) (λ matching. (let le : next ≤ c / SQUARE_CODES = least (c / SQUARE_CODES) (w.on c low (omega arith) matching) in omega arith));
-}
-
-pub on_end : (p : Shogi) (capture : Bool) (left code : ℕ) → HasMatchingOn p capture code left → HasNone left → HasNoneMatching p capture code FIRST_DROP
-on_end p capture left code w none = record {
-  none = λ c low high. false_from_ne_true (is_matching p capture c) (λ matching. both_ways (has_bit left (c / SQUARE_CODES)) (none (c / SQUARE_CODES)) (w.on c low high matching));
 }
 
 -- ---- drops
@@ -313,16 +268,6 @@ module _ (p : Shogi) (kind : Kind) (code destinations to : ℕ) (k : KeepsDrop p
       let here : (code ≤ code_of (Drop kind to)) × (is_matching p false (code_of (Drop kind to)) ≡ true) = k.drops.set to ht set in
       taken_from p false code (Drop kind to) (move_of-drop kind to ht) (omega arith) here.0 here.1 (record { none = fails_to_drop (is_matching p false) kind code destinations low k.drops to ht least })
 
-  pub drop_kept : (next : ℕ) → ((i : ℕ) → has_bit next i ≡ (has_bit destinations i && not (i == to))) → KeepsDrop p kind (code_of (Drop kind to) + 1) next
-  drop_kept next bits =
-      let low : FIRST_DROP + kind_number kind * 81 ≤ code = k.low in
-      let here : code ≤ code_of (Drop kind to) = (k.drops.set to ht set).0 in
-      record {
-        low = omega arith;
-        high = omega arith;
-        drops = keeps_less (is_matching p false) (λ n. code_of (Drop kind n)) code (code_of (Drop kind to) + 1) destinations next to k.drops (omega arith) bits (λ n h e other. (let le : to ≤ n = least n e in omega arith)) (omega arith);
-      }
-
 -- drops take nothing
 pub no_captures : (p : Shogi) → matching_from p true FIRST_DROP ≡ []
 no_captures p = matching_jumps p true FIRST_DROP MOVE_CODE_COUNT (omega arith) (omega arith) (none_drop p true FIRST_DROP MOVE_CODE_COUNT (omega arith) (omega arith) refl) ∙ matching_end p true MOVE_CODE_COUNT (omega arith)
@@ -345,31 +290,12 @@ keeps_nothing test place code squares none over = record {
   clear = λ n h e l. absurd (let less : place n < code = over n h in omega arith);
 }
 
-pub ends_passed : (p : Shogi) (capture : Bool) (from code non_promoting promoting less least to : ℕ) → KeepsBoard p capture from code non_promoting promoting → to ≤ 81 → code ≤ from * SQUARE_CODES + 2 * to
-    → ((i : ℕ) → i < 81 → to ≤ i → has_bit less i ≡ has_bit non_promoting i) → ((i : ℕ) → i < to → has_bit less i ≡ false)
-    → ((i : ℕ) → i < 81 → to ≤ i → has_bit least i ≡ has_bit promoting i) → ((i : ℕ) → i < to → has_bit least i ≡ false)
-    → KeepsBoard p capture from (from * SQUARE_CODES + 2 * to) less least
-ends_passed p capture from code non_promoting promoting less least to k ht up same none same_promoting none_promoting = record {
-  low = omega arith;
-  high = omega arith;
-  plains = keeps_from (is_matching p capture) (λ n. code_of (Board from n false)) code (from * SQUARE_CODES + 2 * to) non_promoting less to k.plains up (λ n h. omega arith) (λ n h. omega arith) same none;
-  promotings = keeps_from (is_matching p capture) (λ n. code_of (Board from n true)) code (from * SQUARE_CODES + 2 * to) promoting least to k.promotings up (λ n h. omega arith) (λ n h. omega arith) same_promoting none_promoting;
-}
-
 pub no_destinations_kept : (p : Shogi) (capture : Bool) (from non_promoting promoting : ℕ) → non_promoting ≡ 0 → promoting ≡ 0 → KeepsBoard p capture from (from * SQUARE_CODES + SQUARE_CODES) non_promoting promoting
 no_destinations_kept p capture from non_promoting promoting none none_promoting = record {
   low = omega arith;
   high = omega arith;
   plains = keeps_nothing (is_matching p capture) (λ n. code_of (Board from n false)) (from * SQUARE_CODES + SQUARE_CODES) non_promoting none (λ n h. omega arith);
   promotings = keeps_nothing (is_matching p capture) (λ n. code_of (Board from n true)) (from * SQUARE_CODES + SQUARE_CODES) promoting none_promoting (λ n h. omega arith);
-}
-
-pub drop_ends_passed : (p : Shogi) (kind : Kind) (code destinations less to : ℕ) → KeepsDrop p kind code destinations → to ≤ 81 → code ≤ FIRST_DROP + kind_number kind * 81 + to → ((i : ℕ) → i < 81 → to ≤ i → has_bit less i ≡ has_bit destinations i) → ((i : ℕ) → i < to → has_bit less i ≡ false)
-    → KeepsDrop p kind (FIRST_DROP + kind_number kind * 81 + to) less
-drop_ends_passed p kind code destinations less to k ht up same none = record {
-  low = omega arith;
-  high = omega arith;
-  drops = keeps_from (is_matching p false) (λ n. code_of (Drop kind n)) code (FIRST_DROP + kind_number kind * 81 + to) destinations less to k.drops up (λ n h. omega arith) (λ n h. omega arith) same none;
 }
 
 pub ruleset sweeping = (keeps_square, matching_jumps)

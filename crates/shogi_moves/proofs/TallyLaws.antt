@@ -1,10 +1,9 @@
 -- The legal moves are counted by the bits of their destinations.
-use Rattle.std.proofs.Common.{◌≡◌, ℕ, ◌+◌, ◌*◌, ◌/◌, ◌%◌, ◌^◌, ◌<◌, ◌≤◌, Bool, true, false, not, cond, refl, sym, ap, ◌∙◌, arith, inl, inr, length, ◌∷◌}
-use Rattle.std.specs.Prelude.{zero, suc, ◌==◌, ◌&&◌, ◌||◌, bit_or, count_ones}
+use Rattle.std.proofs.Common.{◌≡◌, ℕ, ◌+◌, ◌*◌, ◌/◌, ◌%◌, ◌^◌, ◌<◌, ◌≤◌, Bool, true, false, not, cond, refl, sym, ap, ◌∙◌, arith, length}
+use Rattle.std.specs.Prelude.{zero, suc, ◌==◌, ◌&&◌, bit_or, count_ones}
 use Rattle.std.specs.Int.{bit_at}
 use Rattle.std.specs.Int.Count.{ones_step}
-use Rattle.std.proofs.Math.Bool.{or-false}
-use Rattle.std.proofs.lemmas.Bool.{both_ways, cases_Bool, cases_eq, cases_lt, eq-eqb, ne_eqb, or_cases}
+use Rattle.std.proofs.lemmas.Bool.{cases_lt}
 use Rattle.std.proofs.lemmas.Nat.Bits.{bit_at-suc, bit_at_lowest, bit_at-lt}
 use Rattle.std.proofs.lemmas.Nat.{ones_le_self}
 use native.Mathlib.Nat.{pow-suc}
@@ -12,7 +11,7 @@ use Rattle.shogi_core.specs.declared.moves.TheConstants.{MOVE_CODE_COUNT, FIRST_
 use Rattle.shogi_core.specs.declared.moves.Move.TheVariants.{Board, Drop}
 use Rattle.shogi_core.specs.declared.piece.Kind.{Kind}
 use Rattle.shogi_core.specs.Pieces.{kind_number}
-use Rattle.shogi_core.proofs.BitLaws.{has_bit-above, has_bit-none, has_bit-or}
+use Rattle.shogi_core.proofs.BitLaws.{has_bit-above, has_bit-or}
 use Rattle.shogi_core.proofs.Faults.{number_below}
 use Rattle.shogi_core.specs.Bits.{has_bit}
 use Rattle.shogi_core.specs.Cell.{is_piece_of}
@@ -41,20 +40,11 @@ tally_same (suc k) s t h = rw (h 0 (omega arith), tally_same k (λ i. s (i + 1))
 pub tally_most : (k : ℕ) (test : ℕ → Bool) → tally k test ≤ k
 unfolding tally
 tally_most zero test = omega arith
-tally_most (suc k) test = let rest : tally k (λ i. test (i + 1)) ≤ k = tally_most k (λ i. test (i + 1)) in go (test 0) rest
-  where
-    go : (b : Bool) → tally k (λ i. test (i + 1)) ≤ k → cond b 1 0 + tally k (λ i. test (i + 1)) ≤ suc k
-    go true h = omega arith
-    go false h = omega arith
+tally_most (suc k) test = grind (arith, tally_most k (λ i. test (i + 1)))
 
 lowest_digit : (m : ℕ) → m % 2 ≡ cond (has_bit m 0) 1 0
 unfolding has_bit
-lowest_digit m = sym (bit_at_lowest m) ∙ go (bit_at m 0) (bit_at-lt m 0)
-  where
-    go : (x : ℕ) → x < 2 → x ≡ cond (x == 1) 1 0
-    go zero h = refl
-    go (suc zero) h = refl
-    go (suc (suc x)) h = absurd (omega arith)
+lowest_digit m = grind (arith, bit_at_lowest m, bit_at-lt m 0)
 
 higher_digit : (m i : ℕ) → has_bit (m / 2) i ≡ has_bit m (i + 1)
 unfolding has_bit
@@ -71,10 +61,7 @@ ones_tally (suc k) m h =
 -- ---- a code more
 
 code_more : (p : Shogi) (code : ℕ) → code < MOVE_CODE_COUNT → length (legal_from p code) ≡ cond (is_legal_code p code) 1 0 + length (legal_from p (code + 1))
-code_more p code h = elim (cases_Bool (is_legal_code p code)) [
-  | inl yes_it ↦ (let e : length (legal_from p code) ≡ length (code ∷ legal_from p (code + 1)) = ap length (legal_from_found p code h yes_it) in rw yes_it (omega arith))
-  | inr not_it ↦ (let e : length (legal_from p code) ≡ length (legal_from p (code + 1)) = ap length (legal_from_skips p code h not_it) in rw not_it (omega arith))
-]
+code_more p code h = grind (arith, legal_from_found p code h, legal_from_skips p code h)
 
 -- the codes of a piece, two for each square
 pairs : (p : Shogi) (from k s : ℕ) → from < 81 → s + k ≤ 81
@@ -192,10 +179,7 @@ pub all_left : (p : Shogi) (own low high : ℕ) → low < 2 ^ 64 → ((n : ℕ) 
     → IsCounted p (bit_or low high) 0
 all_left p own low high fits bits lows above highs = record {
   first = 0;
-  pieces = pieces_first p (bit_or low high) (λ n h. has_bit-or low high n ∙ elim (cases_lt n 64) [
-    | inl under ↦ rw (lows n under, above n under, or-false (has_bit own n)) (bits n h)
-    | inr over ↦ rw (has_bit-above low 64 n fits over, highs n h over) (bits n h)
-  ]);
+  pieces = pieces_first p (bit_or low high) (λ n h. grind (arith, has_bit-or low high n, cases_lt n 64, lows n, above n, has_bit-above low 64 n fits, highs n h, bits n h));
   whole = omega arith;
   range = omega arith;
 }
@@ -203,32 +187,14 @@ all_left p own low high fits bits lows above highs = record {
 -- the bits of both once the lowest of the lower ones is gone
 both_less : (low high next square i : ℕ) → square < 64 → IsAbove high → has_bit next i ≡ (has_bit low i && not (i == square))
     → has_bit (bit_or next high) i ≡ (has_bit (bit_or low high) i && not (i == square))
-both_less low high next square i h above less = has_bit-or next high i ∙ (rw (less, has_bit-or low high i) (elim (cases_eq i square) [
-  | inl same ↦ rw (eq-eqb i square same) (gone (has_bit low i) (has_bit high i) (above i (omega (arith, same))))
-  | inr other ↦ rw (ne_eqb i square other) (kept (has_bit low i) (has_bit high i))
-]))
-  where
-    gone : (a b : Bool) → b ≡ false → ((a && not true) || b) ≡ ((a || b) && not true)
-    gone true b e = rw e refl
-    gone false b e = rw e refl
-
-    kept : (a b : Bool) → ((a && not false) || b) ≡ ((a || b) && not false)
-    kept true b = refl
-    kept false true = refl
-    kept false false = refl
+both_less low high next square i h above less = grind (arith, has_bit-or next high i, has_bit-or low high i, above i)
 
 -- the lowest of the lower ones is the lowest of both
 low_next : (low high square : ℕ) → low < 2 ^ 64 → IsAbove high → has_bit low square ≡ true → ((n : ℕ) → has_bit low n ≡ true → square ≤ n)
     → (square < 64) × (has_bit (bit_or low high) square ≡ true) × ((n : ℕ) → has_bit (bit_or low high) n ≡ true → square ≤ n)
 low_next low high square fits above on least =
-    let under : square < 64 = elim (cases_lt square 64) [ inl lower ↦ lower | inr over ↦ absurd (both_ways (has_bit low square) (has_bit-above low 64 square fits over) on) ] in (
-      under,
-      has_bit-or low high square ∙ rw on refl,
-      λ n there. elim (or_cases (has_bit low n) (has_bit high n) (sym (has_bit-or low high n) ∙ there)) [
-        | inl in_low ↦ least n in_low
-        | inr in_high ↦ elim (cases_lt n 64) [ inl low_n ↦ absurd (both_ways (has_bit high n) (above n low_n) in_high) | inr over ↦ omega (arith, under, over) ]
-      ],
-    )
+    let under : square < 64 = grind (arith, cases_lt square 64, has_bit-above low 64 square fits) in
+    (under, grind (arith, has_bit-or low high square), λ n there. grind (arith, has_bit-or low high n, least n, cases_lt n 64, above n))
 
 -- it is a piece of the side to move
 pub low_own : (p : Shogi) (low high total square : ℕ) → low < 2 ^ 64 → IsAbove high → IsCounted p (bit_or low high) total → square < 81 → has_bit low square ≡ true → ((n : ℕ) → has_bit low n ≡ true → square ≤ n)
@@ -244,22 +210,6 @@ pub low_counted : (p : Shogi) (low high next total square non_promoting promotin
 low_counted p low high next total square non_promoting promoting fits above h range on least less pf qf pb qb =
     let lowest = low_next low high square fits above on least in
     piece_counted p (bit_or low high) (bit_or next high) total square non_promoting promoting h range lowest.1 lowest.2 (λ i. both_less low high next square i lowest.0 above (less i)) pf qf pb qb
-
--- those above are left
-pub high_left : (p : Shogi) (low high total : ℕ) → low ≡ 0 → IsCounted p (bit_or low high) total → IsCounted p high total
-high_left p low high total none h = record {
-  first = h.first;
-  pieces = record {
-    within = h.pieces.within;
-    below = λ n under. sym (same n) ∙ h.pieces.below n under;
-    above = λ n from over. sym (same n) ∙ h.pieces.above n from over;
-  };
-  whole = h.whole;
-  range = h.range;
-}
-  where
-    same : (n : ℕ) → has_bit (bit_or low high) n ≡ has_bit high n
-    same n = has_bit-or low high n ∙ rw (none, has_bit-none n) refl
 
 -- all pieces are counted
 pub board_counted : (p : Shogi) (left total : ℕ) → IsCounted p left total → HasNone left → (total + length (legal_from p FIRST_DROP) ≡ length (legal_codes p)) × (total ≤ FIRST_DROP)

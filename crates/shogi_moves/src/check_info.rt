@@ -25,7 +25,7 @@ pub struct KnownPosition<'a> {
 }
 
 /// What is kept where there is a check.
-#[tactic(auto, using(crate::proofs::CheckInfoLaws::with_check))]
+#[tactic(auto, using(crate::proofs::CheckInfoLaws::check_info_answers))]
 pub fn checked_info(p: &Position) -> CheckInfo
     requires { in_check p.now.cells p.now.side ≡ true }
     ensures { IsCheckInfoOf result p.now }
@@ -39,7 +39,7 @@ pub fn checked_info(p: &Position) -> CheckInfo
 
 /// What is kept of the position: where there is no check, of the pieces of the side to move, the king
 /// and those that may be pinned.
-#[tactic(auto, using(crate::proofs::CheckInfoLaws::without_check))]
+#[tactic(auto, using(crate::proofs::CheckInfoLaws::check_info_unpinned))]
 pub fn check_info_of(p: &Position) -> CheckInfo
     ensures { IsCheckInfoOf result p.now }
 {

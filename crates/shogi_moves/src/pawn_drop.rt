@@ -60,7 +60,7 @@ fn facing_squares(p: &Position) -> Squares
         color: opponent,
         role: Role::Pawn,
     };
-    step_squares(pawn, king.index())
+    step_squares(pawn, king)
 }
 
 impl SafePawnDrops<'_> {

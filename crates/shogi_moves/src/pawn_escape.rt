@@ -79,6 +79,6 @@ pub fn leaves_pawn_escape(p: &Position, to: Square) -> bool
         color: p.side(),
         role: Role::Pawn,
     };
-    let reach = step_squares(pawn, to.index());
+    let reach = step_squares(pawn, to);
     first_escape(p, reach.with(to)).has_open(reach, to)
 }

@@ -1,20 +1,17 @@
 -- From where a piece attacks a king: where it would go from there, were it of the other colour.
-use Rattle.std.proofs.Common.{◌≡◌, ℕ, ◌<◌, Bool, true, false, not, refl, sym, ap, subst, ◌∙◌, inl, inr, Option, Some, List, [], ◌∷◌, bit_and, bit_or}
+use Rattle.std.proofs.Common.{◌≡◌, ℕ, ◌<◌, Bool, true, false, not, sym, ap, subst, ◌∙◌, inl, inr, Option, Some, List, [], ◌∷◌, bit_and, bit_or, arith}
 use Rattle.std.specs.Prelude.{◌&&◌, ◌==◌}
 use Rattle.std.specs.List.{list_any, list_all}
-use Rattle.std.proofs.lemmas.Bool.{cases_Bool, cases_eq, false_from_ne_true, both_ways, and_parts, and_from, or_parts, or_cases, or_left, or_right, not_from_false, ne_eqb}
+use Rattle.std.proofs.lemmas.Bool.{cases_Bool, cases_eq, false_from_ne_true, both_ways, and_parts, and_from, or_parts, or_cases, or_left, or_right}
 use Rattle.shogi_core.specs.declared.offset.Offset.{Offset}
 use Rattle.shogi_core.specs.declared.piece.Color.{Color}
-use Rattle.shogi_core.specs.declared.piece.Color.TheVariants.{Black, White}
 use Rattle.shogi_core.specs.declared.piece.Piece.{Piece}
 use Rattle.shogi_core.specs.declared.piece.Role.{Role}
-use Rattle.shogi_core.specs.declared.piece.Role.TheVariants.{King}
 use Rattle.shogi_core.specs.Bits.{has_bit}
 use Rattle.shogi_core.specs.Cell.{is_king}
 use Rattle.shogi_core.specs.Lines.{back}
 use Rattle.shogi_core.specs.Movement.{Cells, piece_at, cell_reaches, has_step, has_slide, leads, slides, for_side, steps_of, slides_of}
 use Rattle.shogi_core.specs.Pieces.{opponent_of}
-use Rattle.shogi_core.specs.Sets.{HasNone}
 use Rattle.shogi_core.proofs.BitLaws.{has_bit-and, has_bit-or}
 use Rattle.shogi_core.proofs.Discovered.{same_way, same_way_is, list_any_kept}
 use Rattle.shogi_core.proofs.SeenLaws.{leads_back, slides_back}
@@ -40,16 +37,10 @@ among_ways test g h (o ∷ os) ds each e =
     ]
 
 steps_both_ways : (color : Color) (role : Role) → list_all (λ o. list_any (λ d. same_way (back (for_side color o)) (for_side (opponent_of color) d)) (steps_of role)) (steps_of role) ≡ true
-steps_both_ways Black King = refl
-steps_both_ways Black _ = refl
-steps_both_ways White King = refl
-steps_both_ways White _ = refl
+steps_both_ways color role = grind arith
 
 slides_both_ways : (color : Color) (role : Role) → list_all (λ o. list_any (λ d. same_way (back (for_side color o)) (for_side (opponent_of color) d)) (slides_of role)) (slides_of role) ≡ true
-slides_both_ways Black King = refl
-slides_both_ways Black _ = refl
-slides_both_ways White King = refl
-slides_both_ways White _ = refl
+slides_both_ways color role = grind arith
 
 pub step_both_ways : (piece : Piece) (a b : ℕ) → a < 81 → has_step piece a b ≡ true → has_step (record { color = opponent_of piece.color; role = piece.role }) b a ≡ true
 step_both_ways piece a b h e =
@@ -69,23 +60,17 @@ reach_both_ways cells piece a b h e = elim (or_cases (has_step piece a b) (has_s
 
 -- ---- the kings one by one
 
-pub checks_first : (cells : Cells) (side : Color) (cell : Option Piece) (kings : ℕ) → ((k : ℕ) → k < 81 → has_bit kings k ≡ is_king side (piece_at cells k)) → ChecksWithin cells side cell kings 0
-checks_first cells side cell kings bits = record { harmless = λ k n h l king gone out. absurd (both_ways (has_bit kings k) gone (bits k h ∙ king)) }
-
 pub checks_more : (cells : Cells) (side : Color) (piece : Piece) (left next checks king squares : ℕ) → ChecksWithin cells side (Some piece) left checks → ((i : ℕ) → has_bit next i ≡ (has_bit left i && not (i == king)))
     → ((n : ℕ) → n < 81 → has_bit squares n ≡ cell_reaches cells (Some (record { color = opponent_of piece.color; role = piece.role })) king n) → ChecksWithin cells side (Some piece) next (bit_or checks squares)
 checks_more cells side piece left next checks king squares c bits s = record {
-  harmless = λ k n h l crown gone out. (
+  harmless = λ k n h l crown gone out.
       let off : (has_bit checks n ≡ false) × (has_bit squares n ≡ false) = or_parts (has_bit checks n) (has_bit squares n) (sym (has_bit-or checks squares n) ∙ out) in
       elim (cases_eq k king) [
         | inl same ↦ false_from_ne_true (cell_reaches cells (Some piece) n k) (λ r. both_ways (has_bit squares n) off.1
             (s n l ∙ subst (λ (j : ℕ). cell_reaches cells (Some (record { color = opponent_of piece.color; role = piece.role })) j n ≡ true) same (reach_both_ways cells piece n k l r)))
-        | inr other ↦ c.harmless k n h l crown (false_from_ne_true (has_bit left k) (λ set. both_ways (has_bit next k) gone (bits k ∙ and_from _ _ set (not_from_false _ (ne_eqb k king other))))) off.0
-      ]);
+        | inr other ↦ c.harmless k n h l crown (grind (arith, bits k, cases_eq k king)) off.0
+      ];
 }
-
-pub checks_done : (cells : Cells) (side : Color) (cell : Option Piece) (left checks : ℕ) → HasNone left → ChecksWithin cells side cell left checks → (n : ℕ) → n < 81 → has_bit checks n ≡ false → IsHarmless cells side cell n
-checks_done cells side cell left checks none c n h out = λ k l king. c.harmless k n l h king (none k) out
 
 -- ---- squares on which a piece may give check
 
@@ -96,6 +81,6 @@ unseen_squares destinations king_view n set out = false_from_ne_true (has_bit ki
 -- seen or not, there it gives none
 pub not_checking : (cells : Cells) (side : Color) (cell : Option Piece) (destinations king_view checks n : ℕ) → Sees cells side 0 king_view → ((i : ℕ) → i < 81 → has_bit checks i ≡ false → IsHarmless cells side cell i) → n < 81 → has_bit destinations n ≡ true → has_bit (bit_and (bit_and destinations king_view) checks) n ≡ false → IsHarmless cells side cell n
 not_checking cells side cell destinations king_view checks n s c h set out = elim (cases_Bool (has_bit king_view n)) [
-  | inl seen ↦ c n h (false_from_ne_true (has_bit checks n) (λ check. both_ways (has_bit (bit_and (bit_and destinations king_view) checks) n) out (has_bit-and (bit_and destinations king_view) checks n ∙ and_from _ _ (has_bit-and destinations king_view n ∙ and_from _ _ set seen) check)))
+  | inl seen ↦ c n h (grind (arith, has_bit-and (bit_and destinations king_view) checks n, has_bit-and destinations king_view n))
   | inr unseen ↦ harmless_far cells side king_view cell n s h unseen
 ]

@@ -1,15 +1,14 @@
 -- A move that discovers no check and attacks no king from where it ends gives no check.
-use Rattle.std.proofs.Common.{◌≡◌, ◌≢◌, ◌⊎◌, ℕ, ◌<◌, Bool, true, false, not, refl, sym, ap, subst, ◌∙◌, arith, inl, inr, Option, Some, None, List, [], ◌∷◌, set, length, length-set, get_or-set_same, get_or-set_other}
+use Rattle.std.proofs.Common.{◌≡◌, ◌≢◌, ◌⊎◌, ℕ, ◌<◌, Bool, true, false, not, sym, ap, subst, ◌∙◌, arith, inl, inr, Option, Some, None, List, [], ◌∷◌, set, length, length-set, get_or-set_same, get_or-set_other}
 use Rattle.std.specs.Prelude.{◌==◌, ◌&&◌, ◌||◌, is_none}
 use Rattle.std.specs.List.{list_any}
-use Rattle.std.proofs.lemmas.Bool.{cases_eq, false_from_ne_true, both_ways, and_parts, and_from, and_right, or_cases, or_left, or_right, ne_eqb, eq-eqb, not-true}
+use Rattle.std.proofs.lemmas.Bool.{cases_eq, false_from_ne_true, both_ways, and_parts, and_from, or_cases, or_left, or_right}
 use Rattle.shogi_core.specs.declared.moves.Move.TheVariants.{Board}
 use Rattle.shogi_core.specs.declared.offset.Offset.{Offset}
 use Rattle.shogi_core.specs.declared.piece.Color.{Color}
-use Rattle.shogi_core.specs.declared.piece.Color.TheVariants.{Black, White}
 use Rattle.shogi_core.specs.declared.piece.Piece.{Piece}
 use Rattle.shogi_core.specs.declared.piece.Role.{Role}
-use Rattle.shogi_core.specs.declared.piece.Role.TheVariants.{King, Pawn, Lance, Knight, Silver, Gold, Bishop, Rook, PromotedPawn, PromotedLance, PromotedKnight, PromotedSilver, Horse, Dragon}
+use Rattle.shogi_core.specs.declared.piece.Role.TheVariants.{Pawn}
 use Rattle.shogi_core.specs.Attack.{in_check, is_attacked, is_attacked_from, is_open_king, IsSeenAs, TellsAttack}
 use Rattle.shogi_core.specs.Below.{some_below}
 use Rattle.shogi_core.specs.Bits.{has_bit}
@@ -27,32 +26,17 @@ use Rattle.shogi_moves.proofs.CheckInfoLaws.{own_some}
 use Rattle.shogi_moves.proofs.DestinationLaws.{legal_board}
 use Rattle.shogi_replies.specs.ReplyInfo.{IsHarmless, IsReplyInfo, DiscoversNoCheck, DiscoversWithin}
 use Rattle.shogi_replies.proofs.ReplyLaws.{crown_board, lands_board, legal_own, moved_own, opened_board, see_board, shut_board}
+use Rattle.shogi_moves.proofs.MovedPieces.{opponent_twice}
 
 -- ---- what slides after it moved
 
 either : (f g h : Offset → Bool) (os : List Offset) → ((o : Offset) → f o ≡ true → (g o ≡ true) ⊎ (h o ≡ true)) → list_any f os ≡ true → (list_any g os ≡ true) ⊎ (list_any h os ≡ true)
 either f g h [] k e = absurd (cc)
-either f g h (o ∷ os) k e = elim (or_cases (f o) (list_any f os) e) [
-  | inl here ↦ elim (k o here) [ inl one ↦ inl (or_left (g o) _ one) | inr other ↦ inr (or_left (h o) _ other) ]
-  | inr later ↦ elim (either f g h os k later) [ inl one ↦ inl (or_right (g o) _ one) | inr other ↦ inr (or_right (h o) _ other) ]
-]
+either f g h (o ∷ os) k e = grind (arith, k o, either f g h os k)
 
 -- what slides once it is promoted slid so before
 slid_before : (role : Role) (test : Offset → Bool) → list_any test (slides_of (promoted role)) ≡ true → list_any test (slides_of role) ≡ true
-slid_before King test e = e
-slid_before Pawn test e = e
-slid_before Lance test e = absurd (cc)
-slid_before Knight test e = e
-slid_before Silver test e = e
-slid_before Gold test e = e
-slid_before Bishop test e = e
-slid_before Rook test e = e
-slid_before PromotedPawn test e = e
-slid_before PromotedLance test e = e
-slid_before PromotedKnight test e = e
-slid_before PromotedSilver test e = e
-slid_before Horse test e = e
-slid_before Dragon test e = e
+slid_before role test e = grind arith
 
 module _ (old new : Cells) (from : ℕ) (opened : (x : ℕ) → is_none (piece_at new x) ≡ true → (is_none (piece_at old x) ≡ true) ⊎ (x ≡ from)) where
   slide_from : (o : Offset) (to k : ℕ) → slides new o to k ≡ true → (slides old o to k ≡ true) ⊎ (slides old o from k ≡ true)
@@ -83,25 +67,12 @@ module _ (old new : Cells) (from : ℕ) (opened : (x : ℕ) → is_none (piece_a
 
 -- ---- a board that shows the others
 
-twice : (color : Color) → opponent_of (opponent_of color) ≡ color
-twice Black = refl
-twice White = refl
-
-and_true : (b : Bool) → (b && true) ≡ b
-and_true true = refl
-and_true false = refl
-
-or_false : (b : Bool) → (b || false) ≡ b
-or_false true = refl
-or_false false = refl
-
 -- what stands there is one of the other side
 abbrev foe : Color → Option Piece
 foe side = Some (record { color = opponent_of side; role = Pawn })
 
 foe_of : (side : Color) → is_piece_of side (foe side) ≡ false
-foe_of Black = refl
-foe_of White = refl
+foe_of side = grind arith
 
 abbrev shown : Shogi → ℕ → ℕ → Cells
 shown p from to = set (set p.cells from None) to (foe p.side)
@@ -119,27 +90,13 @@ module _ (p : Shogi) (from to : ℕ) (len : length p.cells ≡ 81) (hf : from < 
   module _ (apart : from ≢ to) (own others occ lifted occupied : ℕ) (o : (n : ℕ) → n < 81 → has_bit own n ≡ is_piece_of p.side (piece_at p.cells n)) (a : (n : ℕ) → has_bit others n ≡ (has_bit own n && not (n == from)))
       (t : (n : ℕ) → n < 81 → has_bit occ n ≡ not (is_none (piece_at p.cells n))) (l : (n : ℕ) → has_bit lifted n ≡ (has_bit occ n && not (n == from))) (f : (n : ℕ) → has_bit occupied n ≡ (has_bit lifted n || n == to)) where
     others_shown : (n : ℕ) → n < 81 → has_bit others n ≡ is_piece_of p.side (piece_at (shown p from to) n)
-    others_shown n h = a n ∙ elim (cases_eq n to) [
-      | inl there ↦ ap (λ b. b && not (n == from)) (o n h ∙ (ap (λ (x : ℕ). is_piece_of p.side (piece_at p.cells x)) there ∙ bare)) ∙ sym (ap (λ (x : ℕ). is_piece_of p.side (piece_at (shown p from to) x)) there ∙ (ap (is_piece_of p.side) shown_to ∙ foe_of p.side))
-      | inr off ↦ elim (cases_eq n from) [
-        | inl here ↦ and_right (has_bit own n) _ (ap not (eq-eqb n from here)) ∙ sym (ap (λ (x : ℕ). is_piece_of p.side (piece_at (shown p from to) x)) here ∙ ap (is_piece_of p.side) (shown_from apart))
-        | inr other ↦ ap (λ b. has_bit own n && not b) (ne_eqb n from other) ∙ (and_true (has_bit own n) ∙ (o n h ∙ sym (ap (is_piece_of p.side) (shown_other n other off))))
-      ]
-    ]
+    others_shown n h = grind (arith, a n, o n h, cases_eq n to, cases_eq n from, shown_to, shown_from apart, shown_other n, foe_of p.side)
 
     occupied_shown : (n : ℕ) → n < 81 → has_bit occupied n ≡ not (is_none (piece_at (shown p from to) n))
-    occupied_shown n h = f n ∙ elim (cases_eq n to) [
-      | inl there ↦ or_right (has_bit lifted n) _ (eq-eqb n to there) ∙ sym (ap (λ (x : ℕ). not (is_none (piece_at (shown p from to) x))) there ∙ ap (λ cell. not (is_none cell)) shown_to)
-      | inr off ↦ ap (λ b. has_bit lifted n || b) (ne_eqb n to off) ∙ (or_false (has_bit lifted n) ∙ (l n ∙ elim (cases_eq n from) [
-        | inl here ↦ and_right (has_bit occ n) _ (ap not (eq-eqb n from here)) ∙ sym (ap (λ (x : ℕ). not (is_none (piece_at (shown p from to) x))) here ∙ ap (λ cell. not (is_none cell)) (shown_from apart))
-        | inr other ↦ ap (λ b. has_bit occ n && not b) (ne_eqb n from other) ∙ (and_true (has_bit occ n) ∙ (t n h ∙ sym (ap (λ cell. not (is_none cell)) (shown_other n other off))))
-      ]))
-    ]
+    occupied_shown n h = grind (arith, f n, l n, t n h, cases_eq n to, cases_eq n from, shown_to, shown_from apart, shown_other n)
 
     same_shown : (n : ℕ) → n < 81 → has_bit others n ≡ true → piece_at (shown p from to) n ≡ piece_at p.cells n
-    same_shown n h e = shown_other n
-        (λ here. both_ways (has_bit others n) (a n ∙ and_right (has_bit own n) _ (ap not (eq-eqb n from here))) e)
-        (λ there. both_ways (has_bit others n) (others_shown n h ∙ (ap (λ (x : ℕ). is_piece_of p.side (piece_at (shown p from to) x)) there ∙ (ap (is_piece_of p.side) shown_to ∙ foe_of p.side))) e)
+    same_shown n h e = grind (arith, cases_eq n to, cases_eq n from, shown_other n, a n, others_shown n h, shown_to, foe_of p.side)
 
     pub seen_shown : IsSeenAs p.cells others occupied p.side (shown p from to)
     seen_shown = record { attackers = others_shown; pieces = occupied_shown; same = same_shown }
@@ -148,12 +105,7 @@ module _ (p : Shogi) (from to : ℕ) (len : length p.cells ≡ 81) (hf : from < 
 
 -- where the move ends none of the side's own stands
 legal_bare : (p : Shogi) (from to : ℕ) (promote : Bool) → is_legal p (Board from to promote) ≡ true → is_piece_of p.side (piece_at p.cells to) ≡ false
-legal_bare p from to promote e =
-    let parts = and_parts _ _ (sym (legal_board p from to promote) ∙ e) in
-    let four = and_parts _ _ parts.0 in
-    let three = and_parts _ _ four.0 in
-    let two = and_parts _ _ three.0 in
-    not-true _ (and_parts _ _ two.0).1
+legal_bare p from to promote e = grind (arith, legal_board p from to promote)
 
 -- without a king there is none
 pub no_king_checked : (p : Shogi) (from to : ℕ) → IsValid p → from < 81 → to < 81 → HasNoKing p.cells (opponent_of p.side) → DiscoversNoCheck p from to
@@ -176,16 +128,7 @@ module _ (p : Shogi) (from to : ℕ) (v : IsValid p) (hf : from < 81) (ht : to <
 
   -- the squares that are empty after the move are so on the board that shows the others
   shown_bare : (x : ℕ) → is_none (piece_at (after p (Board from to promote)).cells x) ≡ true → (is_none (piece_at (shown p from to) x) ≡ true) ⊎ ⊥
-  shown_bare x e = elim (see_board p from to promote v hf ht own_from x) [
-    | inl there ↦ absurd (both_ways (is_none (piece_moved promote (piece_at p.cells from))) (own_some p.side _ (moved_own p from to promote v hf ht own_from)) (ap is_none (sym there.1) ∙ e))
-    | inr rest ↦ elim (cases_eq x to) [
-      | inl there ↦ absurd (both_ways (is_none (piece_moved promote (piece_at p.cells from))) (own_some p.side _ (moved_own p from to promote v hf ht own_from)) (ap is_none (sym (ap (piece_at (after p (Board from to promote)).cells) there ∙ lands_board p from to promote v hf ht own_from)) ∙ e))
-      | inr off ↦ elim (cases_eq x from) [
-        | inl here ↦ inl (ap (λ (y : ℕ). is_none (piece_at (shown p from to) y)) here ∙ ap is_none (shown_from p from to v.cells_fit hf ht bare_to apart_from))
-        | inr other ↦ inl (ap is_none (shown_other p from to v.cells_fit hf ht bare_to x other off) ∙ (ap is_none (sym (get_or-set_other (set p.cells from None) to x _ None off ∙ get_or-set_other p.cells from x None None other)) ∙ e))
-      ]
-    ]
-  ]
+  shown_bare x e = grind (arith, see_board p from to promote v hf ht own_from x, own_some p.side _ (moved_own p from to promote v hf ht own_from), cases_eq x to, cases_eq x from, lands_board p from to promote v hf ht own_from, shown_from p from to v.cells_fit hf ht bare_to apart_from, shown_other p from to v.cells_fit hf ht bare_to x)
 
   -- the piece that moved gives no check where it attacks no king from where it ends
   moved_safe : IsHarmless p.cells (opponent_of p.side) (piece_moved promote (piece_at p.cells from)) to → (k : ℕ) → k < 81 → is_king (opponent_of p.side) (piece_at p.cells k) ≡ true → cell_reaches (after p (Board from to promote)).cells (piece_moved promote (piece_at p.cells from)) to k ≡ false
@@ -193,7 +136,7 @@ module _ (p : Shogi) (from to : ℕ) (v : IsValid p) (hf : from < 81) (ht : to <
   moved_safe off k h king = false_from_ne_true _ (λ e. elim (reach_from p.cells (after p (Board from to promote)).cells from (opened_board p from to promote v hf ht own_from) promote (piece_at p.cells from) to k e) [
     | inl was ↦ both_ways (cell_reaches p.cells (piece_moved promote (piece_at p.cells from)) to k) (off k h king) was
     | inr before ↦ both_ways (some_below 81 (is_open_king p.cells (opponent_of p.side))) (faultless_from p v.no_fault).shut
-        (some_below_at 81 (is_open_king p.cells (opponent_of p.side)) k h (and_from _ _ king (some_below_at 81 (is_attacked_from p.cells (opponent_of (opponent_of p.side)) k) from hf (and_from _ _ (ap (λ color. is_piece_of color (piece_at p.cells from)) (twice p.side) ∙ own_from) before))))
+        (some_below_at 81 (is_open_king p.cells (opponent_of p.side)) k h (and_from _ _ king (some_below_at 81 (is_attacked_from p.cells (opponent_of (opponent_of p.side)) k) from hf (and_from _ _ (ap (λ color. is_piece_of color (piece_at p.cells from)) (opponent_twice p.side) ∙ own_from) before))))
   ])
 
   -- nor do the others where they do not reach the only king
@@ -219,7 +162,7 @@ module _ (p : Shogi) (from to : ℕ) (v : IsValid p) (hf : from < 81) (ht : to <
             | inr off_from ↦ (
                 let stays : piece_at (after p (Board from to promote)).cells who.0 ≡ piece_at p.cells who.0 = get_or-set_other (set p.cells from None) to who.0 _ None elsewhere ∙ get_or-set_other p.cells from who.0 None None off_from in
                 let seen : piece_at (after p (Board from to promote)).cells who.0 ≡ piece_at (shown p from to) who.0 = stays ∙ sym (shown_other p from to v.cells_fit hf ht bare_to who.0 off_from elsewhere) in
-                let mine : is_piece_of p.side (piece_at (shown p from to) who.0) ≡ true = ap (is_piece_of p.side) (sym seen) ∙ (ap (λ color. is_piece_of color (piece_at (after p (Board from to promote)).cells who.0)) (sym (twice p.side)) ∙ hit.0) in
+                let mine : is_piece_of p.side (piece_at (shown p from to) who.0) ≡ true = ap (is_piece_of p.side) (sym seen) ∙ (ap (λ color. is_piece_of color (piece_at (after p (Board from to promote)).cells who.0)) (sym (opponent_twice p.side)) ∙ hit.0) in
                 let reach : cell_reaches (shown p from to) (piece_at (after p (Board from to promote)).cells who.0) who.0 k ≡ true = reach_was (shown p from to) (after p (Board from to promote)).cells (λ x. ⊥) shown_bare (piece_at (after p (Board from to promote)).cells who.0) who.0 k (λ x left. absurd left) hit.1 in
                 both_ways (is_attacked (shown p from to) p.side king) safe
                 (subst (λ (j : ℕ). is_attacked (shown p from to) p.side j ≡ true) same

@@ -186,22 +186,13 @@ beyond_lines piece to steps lines ht s l cells n hn out =
 
 -- the only king stands where one of them does
 pub only_king : (p : Shogi) (kings king k : ℕ) → ((n : ℕ) → n < 81 → has_bit kings n ≡ is_king (opponent_of p.side) (piece_at p.cells n)) → king < 81 → has_bit kings king ≡ true → HasNoOtherKing p.cells (opponent_of p.side) k → king ≡ k
-only_king p kings king k bits h set lone = elim (cases_eq king k) [
-  | inl same ↦ same
-  | inr other ↦ absurd (both_ways (is_king (opponent_of p.side) (piece_at p.cells king)) (lone king h other) (sym (bits king h) ∙ set))
-]
+only_king p kings king k bits h set lone = grind (arith, cases_eq king k, lone king h, bits king h)
 
 -- what the directions up to one lead to from both squares
 pub more_rays : (from over limit behind : ℕ) → ((d : ℕ) → d < limit → HasRaysBehind d from over behind)
     → (d : ℕ) → d < limit + 1 → HasRaysBehind d from over (bit_or behind (bit_and (ray_of (direction_at limit) from) (ray_of (direction_at limit) over)))
 more_rays from over limit behind before d h n hn one other =
-    let more : ℕ = bit_and (ray_of (direction_at limit) from) (ray_of (direction_at limit) over) in
-    has_bit-or behind more n ∙ elim (cases_eq d limit) [
-      | inl same ↦ or_right (has_bit behind n) _ (has_bit-and (ray_of (direction_at limit) from) (ray_of (direction_at limit) over) n ∙ and_from _ _
-          (has_bit-ray (direction_at limit) from n hn ∙ subst (λ (x : ℕ). is_on_ray (direction_at x) from n ≡ true) same one)
-          (has_bit-ray (direction_at limit) over n hn ∙ subst (λ (x : ℕ). is_on_ray (direction_at x) over n ≡ true) same other))
-      | inr earlier ↦ or_left _ (has_bit more n) (before d (omega (arith, h, earlier)) n hn one other)
-    ]
+    grind (arith, has_bit-or behind (bit_and (ray_of (direction_at limit) from) (ray_of (direction_at limit) over)) n, has_bit-and (ray_of (direction_at limit) from) (ray_of (direction_at limit) over) n, has_bit-ray (direction_at limit) from n hn, has_bit-ray (direction_at limit) over n hn, cases_eq d limit, before d)
 
 -- ---- squares are gathered one by one
 
@@ -230,14 +221,8 @@ gathers_less squares left next found to fact g took = record {
 pub gathers_more : (squares left next found more to : ℕ) (fact : ℕ → Type 0) → Gathers squares left found fact → TakesLowest to left next → ((n : ℕ) → has_bit more n ≡ (has_bit found n || n == to)) → fact to → Gathers squares next more fact
 gathers_more squares left next found more to fact g took bits holds = record {
   within = (gathers_less squares left next found to fact g took).within;
-  among = λ n e. elim (or_cases (has_bit found n) (n == to) (sym (bits n) ∙ e)) [
-    | inl before ↦ g.among n before
-    | inr now ↦ subst (λ (x : ℕ). has_bit squares x ≡ true) (sym (eqb-true n to now)) (g.within to took.set)
-  ];
-  facts = λ n h e. elim (or_cases (has_bit found n) (n == to) (sym (bits n) ∙ e)) [
-    | inl before ↦ g.facts n h before
-    | inr now ↦ subst fact (sym (eqb-true n to now)) holds
-  ];
+  among = λ n e. grind (arith, bits n, g.among n, g.within to took.set);
+  facts = λ n h e. elim (or_cases (has_bit found n) (n == to) (sym (bits n) ∙ e)) [ inl before ↦ g.facts n h before | inr now ↦ subst fact (sym (eqb-true n to now)) holds ];
 }
 
 pub ruleset gathering = (gathers_first, gathers_less, gathers_more)

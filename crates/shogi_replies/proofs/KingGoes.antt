@@ -1,5 +1,5 @@
 -- A king goes to a square that was its escape, also where it takes what has just come there.
-use Rattle.std.proofs.Common.{◌≡◌, ◌≢◌, ◌⊎◌, ℕ, zero, suc, ◌<◌, true, false, not, [], ◌∷◌, Option, None, refl, sym, ap, subst, ◌∙◌, inl, inr, set, length, get_or-set_other}
+use Rattle.std.proofs.Common.{◌≡◌, ◌≢◌, ◌⊎◌, ℕ, zero, suc, ◌<◌, true, false, not, [], ◌∷◌, Option, None, refl, sym, ap, subst, ◌∙◌, inl, inr, set, length, get_or-set_other, arith}
 use Rattle.std.specs.Prelude.{is_none}
 use Rattle.std.proofs.lemmas.Bool.{and_from, both_ways, cases_eq, false_from_ne_true}
 use Rattle.shogi_core.specs.declared.moves.Move.TheVariants.{Board}
@@ -19,7 +19,8 @@ use Rattle.shogi_moves.proofs.CheckInfoLaws.{is_piece_of-piece_moved, king_set, 
 use Rattle.shogi_moves.proofs.DestinationLaws.{legal_board}
 use Rattle.shogi_moves.proofs.EscapeLaws.{crowned, king_reach}
 use Rattle.shogi_moves.proofs.KingLaws.{king_own}
-use Rattle.shogi_replies.proofs.ReplyLaws.{king_lives, right_step}
+use Rattle.shogi_replies.proofs.ReplyLaws.{right_step}
+use Rattle.shogi_moves.proofs.ExistenceLaws.{king_lives}
 
 -- nothing stands on a square that is cleared
 pub cleared_none : (cells : Cells) (a : ℕ) → piece_at (set cells a None) a ≡ None
@@ -33,10 +34,7 @@ module _ (old new : Cells) (hands : HandCounts) (side : Color) (Left : ℕ → T
     (k e : ℕ) (hk : k < 81) (he : e < 81) (crown : is_king (opponent_of side) (piece_at old k) ≡ true) (stays : Left k → ⊥) (apart : k ≢ to) (escape : IsEscape old (opponent_of side) k e)
     (short : cell_reaches (set old k None) cell to e ≡ false) (free : (x : ℕ) → Left x → are_lined (set old k None) x e ≡ false) where
   king_there : piece_at new k ≡ piece_at old k
-  king_there = elim (see k) [
-    | inl at ↦ absurd (apart at.0)
-    | inr rest ↦ elim rest [ inl gone ↦ absurd (stays gone.0) | inr same ↦ same ]
-  ]
+  king_there = grind (arith, see k)
 
   crown_there : is_king (opponent_of side) (piece_at new k) ≡ true
   crown_there = ap (is_king (opponent_of side)) king_there ∙ crown
@@ -45,32 +43,17 @@ module _ (old new : Cells) (hands : HandCounts) (side : Color) (Left : ℕ → T
   own_there = king_own (opponent_of side) (piece_at new k) crown_there
 
   lone_there : (x : ℕ) → x < 81 → x ≢ k → is_king (opponent_of side) (piece_at new x) ≡ false
-  lone_there x h other = elim (see x) [
-    | inl at ↦ ap (is_king (opponent_of side)) at.1 ∙ crowned (opponent_of side) cell (other_side side cell mine)
-    | inr rest ↦ elim rest [ inl gone ↦ ap (is_king (opponent_of side)) gone.1 | inr same ↦ ap (is_king (opponent_of side)) same ∙ escape.step.lone x h other ]
-  ]
+  lone_there x h other = grind (arith, see x, crowned (opponent_of side) cell (other_side side cell mine), escape.step.lone x h other)
 
   open_there : is_piece_of (opponent_of side) (piece_at new e) ≡ false
-  open_there = elim (see e) [
-    | inl at ↦ ap (is_piece_of (opponent_of side)) at.1 ∙ other_side side cell mine
-    | inr rest ↦ elim rest [ inl gone ↦ ap (is_piece_of (opponent_of side)) gone.1 | inr same ↦ ap (is_piece_of (opponent_of side)) same ∙ escape.step.open_end ]
-  ]
+  open_there = grind (arith, see e, other_side side cell mine, escape.step.open_end)
 
   reached_there : reaches new k e ≡ true
   unfolding reaches
   reached_there = ap (λ (x : Option Piece). cell_reaches new x k e) king_there ∙ king_reach old new (opponent_of side) (piece_at old k) k e crown escape.step.reached
 
   opened : (x : ℕ) → is_none (piece_at (set new k None) x) ≡ true → (is_none (piece_at (set old k None) x) ≡ true) ⊎ Left x
-  opened x n = elim (cases_eq x k) [
-    | inl here ↦ inl (subst (λ (y : ℕ). is_none (piece_at (set old k None) y) ≡ true) (sym here) (ap is_none (cleared_none old k)))
-    | inr off ↦ elim (see x) [
-      | inl at ↦ absurd (both_ways (is_none cell) (own_some side cell mine) (ap is_none (sym at.1) ∙ (ap is_none (sym (get_or-set_other new k x None None off)) ∙ n)))
-      | inr rest ↦ elim rest [
-        | inl gone ↦ inr gone.0
-        | inr same ↦ inl (ap is_none (get_or-set_other old k x None None off) ∙ (ap is_none (sym same) ∙ (ap is_none (sym (get_or-set_other new k x None None off)) ∙ n)))
-      ]
-    ]
-  ]
+  opened x n = grind (arith, see x, cases_eq x k, own_some side cell mine, cleared_none old k, get_or-set_other old k x None None, get_or-set_other new k x None None)
 
   short_there : cell_reaches (set new k None) cell to e ≡ false
   short_there = false_from_ne_true _ (λ r. both_ways (cell_reaches (set old k None) cell to e) short (reach_was (set old k None) (set new k None) Left opened cell to e free r))
@@ -82,10 +65,7 @@ module _ (old new : Cells) (hands : HandCounts) (side : Color) (Left : ℕ → T
     | inl here ↦ inl (subst (λ (y : ℕ). piece_at (set old k None) y ≡ piece_at (set new k None) y) (sym here) (cleared_none old k ∙ sym (cleared_none new k)))
     | inr off ↦ elim (see a) [
       | inl at ↦ inr (ap (λ (x : Option Piece). cell_reaches (set new k None) x a e) (get_or-set_other new k a None None off ∙ at.1) ∙ subst (λ (y : ℕ). cell_reaches (set new k None) cell y e ≡ false) (sym at.0) short_there)
-      | inr rest ↦ elim rest [
-        | inl gone ↦ absurd (both_ways (is_piece_of color None) refl (ap (is_piece_of color) (sym (get_or-set_other new k a None None off ∙ gone.1)) ∙ own))
-        | inr same ↦ inl (get_or-set_other old k a None None off ∙ (sym same ∙ sym (get_or-set_other new k a None None off)))
-      ]
+      | inr rest ↦ grind (arith, rest, get_or-set_other new k a None None off, get_or-set_other old k a None None off)
     ]
   ]
 

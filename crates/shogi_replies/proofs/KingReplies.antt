@@ -1,8 +1,7 @@
 -- A king that is given check goes away where what moves discovers nothing, or takes what moved.
 use Rattle.std.proofs.Common.{◌≡◌, ◌≢◌, ◌^◌, ℕ, ◌<◌, Bool, true, false, not, Option, Some, None, [], sym, ap, subst, ◌∙◌, arith, inl, inr, set, length, length-set, get_or-set_same, get_or-set_other, bit_and}
-use Rattle.std.specs.Prelude.{is_none}
 use Rattle.std.specs.Int.{trailing_zeros, w128}
-use Rattle.std.proofs.lemmas.Bool.{cases_eq, false_from_ne_true, both_ways, or_cases, and_from}
+use Rattle.std.proofs.lemmas.Bool.{cases_eq, both_ways, and_from}
 use Rattle.std.proofs.lemmas.List.{set-set}
 use Rattle.shogi_core.specs.declared.moves.Move.{Move}
 use Rattle.shogi_core.specs.declared.moves.Move.TheVariants.{Board, Drop}
@@ -13,7 +12,7 @@ use Rattle.shogi_core.specs.Attack.{is_attacked, is_sniper}
 use Rattle.shogi_core.specs.Bits.{has_bit}
 use Rattle.shogi_core.specs.Cell.{is_piece_of, is_king, is_slider, is_sliding_role, HasNoOtherKing}
 use Rattle.shogi_core.specs.Lines.{are_aligned}
-use Rattle.shogi_core.specs.Movement.{Cells, piece_at, reaches, cell_reaches, has_step, has_slide, slides, for_side}
+use Rattle.shogi_core.specs.Movement.{Cells, piece_at, reaches, cell_reaches, has_step, slides, for_side}
 use Rattle.shogi_core.specs.Pieces.{opponent_of}
 use Rattle.shogi_core.specs.Position.{Shogi, HandCounts}
 use Rattle.shogi_core.specs.Validity.{IsValid}
@@ -34,7 +33,8 @@ use Rattle.shogi_moves.proofs.EscapeLaws.{king_reach, crowned}
 use Rattle.shogi_replies.proofs.EscapeLaws.{escaped_covered}
 use Rattle.shogi_moves.proofs.KingLaws.{king_own, unreached}
 use Rattle.shogi_moves.proofs.MovedPieces.{opponent_twice}
-use Rattle.shogi_replies.proofs.ReplyLaws.{king_lives, legal_own, reply_by, right_step}
+use Rattle.shogi_replies.proofs.ReplyLaws.{legal_own, reply_by, right_step}
+use Rattle.shogi_moves.proofs.ExistenceLaws.{king_lives}
 
 -- ---- the king goes away
 
@@ -51,10 +51,7 @@ king_off p from k own crown at =
 
 -- a piece that does not slide reaches by its steps alone
 stepping : (piece : Piece) (to n : ℕ) → is_sliding_role piece.role ≡ false → has_step piece to n ≡ false → (cells : Cells) → cell_reaches cells (Some piece) to n ≡ false
-stepping piece to n still short cells = false_from_ne_true (cell_reaches cells (Some piece) to n) (λ r. elim (or_cases (has_step piece to n) (has_slide cells piece to n) r) [
-  | inl step ↦ both_ways (has_step piece to n) short step
-  | inr slide ↦ both_ways (is_sliding_role piece.role) still (slides_role piece.role (λ o. slides cells (for_side piece.color o) to n) slide)
-])
+stepping piece to n still short cells = grind (arith, slides_role piece.role (λ o. slides cells (for_side piece.color o) to n))
 
 -- what moves does not slide on, and no piece of its side slides from the lines of the square that it leaves
 pub covered_board : (p : Shogi) (from to steps : ℕ) (promote : Bool) (piece : Piece) → IsValid p → from < 81 → to < 81 → is_legal p (Board from to promote) ≡ true
@@ -102,10 +99,7 @@ module _ (cells : Cells) (side : Color) (k to : ℕ) (v : Option Piece) (len : l
   there = get_or-set_other cells to k v None apart
 
   same_lifted : (x : ℕ) → x ≢ to → piece_at (set (set cells to v) k None) x ≡ piece_at (set cells k None) x
-  same_lifted x off = elim (cases_eq x k) [
-    | inl here ↦ (ap (piece_at (set (set cells to v) k None)) here ∙ get_or-set_same (set cells to v) k None None (omega (arith, length-set cells to v, len))) ∙ sym (ap (piece_at (set cells k None)) here ∙ get_or-set_same cells k None None (omega (arith, len)))
-    | inr other ↦ get_or-set_other (set cells to v) k x None None other ∙ (get_or-set_other cells to x v None off ∙ sym (get_or-set_other cells k x None None other))
-  ]
+  same_lifted x off = grind (arith, cases_eq x k, length-set cells to v, get_or-set_same (set cells to v) k None None, get_or-set_same cells k None None, get_or-set_other (set cells to v) k x None None, get_or-set_other cells to x v None off, get_or-set_other cells k x None None)
 
   not_own : is_piece_of side v ≡ false
   not_own = ap (λ (color : Color). is_piece_of color v) (sym (opponent_twice side)) ∙ other_side (opponent_of side) v foe
@@ -114,10 +108,7 @@ module _ (cells : Cells) (side : Color) (k to : ℕ) (v : Option Piece) (len : l
   safe_there : is_attacked (set (set cells to v) k None) (opponent_of side) to ≡ false
   safe_there =
       attacked_was_but (set cells k None) (set (set cells to v) k None) (λ x. ⊥)
-      (λ x f. elim (cases_eq x to) [
-        | inl at ↦ absurd (both_ways (is_none v) (own_some (opponent_of side) v foe) (ap is_none (sym (ap (piece_at (set (set cells to v) k None)) at ∙ at_end_lifted)) ∙ f))
-        | inr off ↦ inl (ap is_none (sym (same_lifted x off)) ∙ f)
-      ])
+      (λ x f. grind (arith, cases_eq x to, own_some (opponent_of side) v foe, at_end_lifted, same_lifted x))
       (opponent_of side) to
       (λ a own. elim (cases_eq a to) [
         | inl at ↦ inr (subst (λ (y : ℕ). reaches (set (set cells to v) k None) y to ≡ false) (sym at) (unreached (set (set cells to v) k None) to ht))
@@ -127,10 +118,7 @@ module _ (cells : Cells) (side : Color) (k to : ℕ) (v : Option Piece) (len : l
       safe
 
   still_lone : (x : ℕ) → x < 81 → x ≢ k → is_king side (piece_at (set cells to v) x) ≡ false
-  still_lone x h other = elim (cases_eq x to) [
-    | inl at ↦ ap (is_king side) (ap (piece_at (set cells to v)) at ∙ at_end) ∙ crowned side v not_own
-    | inr off ↦ ap (is_king side) (get_or-set_other cells to x v None off) ∙ lone x h other
-  ]
+  still_lone x h other = grind (arith, cases_eq x to, at_end, crowned side v not_own, get_or-set_other cells to x v None, lone x h)
 
   still_reached : reaches (set cells to v) k to ≡ true
   unfolding reaches
@@ -166,10 +154,7 @@ module _ (p : Shogi) (from k to : ℕ) (put : Option Piece) (v : IsValid p) (hk 
   king_stays = get_or-set_other p.cells from k None None off
 
   alone : HasNoOtherKing (set p.cells from None) (opponent_of p.side) k
-  alone x h other = elim (cases_eq x from) [
-    | inl at ↦ ap (is_king (opponent_of p.side)) (ap (piece_at (set p.cells from None)) at ∙ get_or-set_same p.cells from None None (omega (arith, at, h, v.cells_fit)))
-    | inr apart ↦ ap (is_king (opponent_of p.side)) (get_or-set_other p.cells from x None None apart) ∙ lone x h other
-  ]
+  alone x h other = grind (arith, cases_eq x from, v.cells_fit, get_or-set_same p.cells from None None, get_or-set_other p.cells from x None None, lone x h)
 
   reached_still : reaches (set p.cells from None) k to ≡ true
   unfolding reaches

@@ -1,8 +1,7 @@
 -- Moves that are passed in a row.
 use Rattle.std.proofs.Common.{◌≡◌, ◌≢◌, ℕ, zero, suc, ◌+◌, ◌-◌, ◌*◌, ◌/◌, ◌%◌, ◌^◌, ◌<◌, ◌≤◌, List, [], ◌∷◌, ◌⊎◌, Bool, true, false, bit_and, bit_or, length, inl, inr, sym, ap, ◌∙◌, arith, subst, not, Some}
-use Rattle.std.specs.Prelude.{◌&&◌, ◌==◌}
 use Rattle.std.proofs.lemmas.Nat.{and_le_l}
-use Rattle.std.proofs.lemmas.Bool.{cases_Bool, both_ways, and_parts, and_from, ne_eqb, or_parts, true_from_ne_false, false_from_ne_true}
+use Rattle.std.proofs.lemmas.Bool.{cases_Bool, both_ways, and_parts, and_from, or_parts, true_from_ne_false, false_from_ne_true}
 use Rattle.shogi_core.specs.declared.moves.TheConstants.{MOVE_CODE_COUNT, FIRST_DROP, SQUARE_CODES}
 use Rattle.shogi_core.specs.declared.moves.Move.{Move}
 use Rattle.shogi_core.specs.declared.moves.Move.TheVariants.{Board, Drop}
@@ -86,27 +85,16 @@ leaves_reply p escapes c m at back listed guaranteed =
       unchecked = λ none. ap (λ (q : Shogi). in_check q.cells (opponent_of p.side)) made ∙ guaranteed.1 none legal;
     }
 
--- a matching move on the board that is certain, without promotion and with it
-guaranteed_move : (p : Shogi) (capture : Bool) (move_filter : MoveFilter) (escapes first c from n : ℕ) → from < 81 → n < 81 → first ≤ c → c ≡ code_of (Board from n false) → is_matching p capture c ≡ true → has_bit move_filter.pieces.bits from ≡ true → has_bit move_filter.squares.bits n ≡ true → GuaranteesReply p escapes (Board from n false) → IsGuaranteedMove p capture move_filter escapes first c
-guaranteed_move p capture move_filter escapes first c from n hf hn above at matching piece set guaranteed = record {
+-- a matching move on the board that is certain
+guaranteed_move : (p : Shogi) (capture promote : Bool) (move_filter : MoveFilter) (escapes first c from n : ℕ) → from < 81 → n < 81 → first ≤ c → c ≡ code_of (Board from n promote) → is_matching p capture c ≡ true → has_bit move_filter.pieces.bits from ≡ true → has_bit move_filter.squares.bits n ≡ true → (promote ≡ true → move_filter.promotes ≡ true) → GuaranteesReply p escapes (Board from n promote) → IsGuaranteedMove p capture move_filter escapes first c
+guaranteed_move p capture promote move_filter escapes first c from n hf hn above at matching piece set lets guaranteed = record {
   above = above;
-  on_board = omega (arith, at);
-  piece = subst (λ (k : ℕ). has_bit move_filter.pieces.bits k ≡ true) (omega (arith, at)) piece;
-  end = subst (λ (k : ℕ). has_bit move_filter.squares.bits k ≡ true) (omega (arith, at)) set;
-  promotes = λ odd. absurd (omega (arith, at, odd));
+  on_board = grind arith;
+  piece = subst (λ (k : ℕ). has_bit move_filter.pieces.bits k ≡ true) (grind arith) piece;
+  end = subst (λ (k : ℕ). has_bit move_filter.squares.bits k ≡ true) (grind arith) set;
+  promotes = λ odd. lets (grind arith);
   matching = matching;
-  leaves = leaves_reply p escapes c (Board from n false) at (move_of-board from n false hf hn) (and_parts _ _ matching).0 guaranteed;
-}
-
-guaranteed_promotion : (p : Shogi) (capture : Bool) (move_filter : MoveFilter) (escapes first c from n : ℕ) → from < 81 → n < 81 → first ≤ c → c ≡ code_of (Board from n true) → is_matching p capture c ≡ true → has_bit move_filter.pieces.bits from ≡ true → has_bit move_filter.squares.bits n ≡ true → move_filter.promotes ≡ true → GuaranteesReply p escapes (Board from n true) → IsGuaranteedMove p capture move_filter escapes first c
-guaranteed_promotion p capture move_filter escapes first c from n hf hn above at matching piece set lets guaranteed = record {
-  above = above;
-  on_board = omega (arith, at);
-  piece = subst (λ (k : ℕ). has_bit move_filter.pieces.bits k ≡ true) (omega (arith, at)) piece;
-  end = subst (λ (k : ℕ). has_bit move_filter.squares.bits k ≡ true) (omega (arith, at)) set;
-  promotes = λ odd. lets;
-  matching = matching;
-  leaves = leaves_reply p escapes c (Board from n true) at (move_of-board from n true hf hn) (and_parts _ _ matching).0 guaranteed;
+  leaves = leaves_reply p escapes c (Board from n promote) at (move_of-board from n promote hf hn) (and_parts _ _ matching).0 guaranteed;
 }
 
 -- those below another code are passed, where each of them is certain
@@ -118,8 +106,8 @@ destinations_passed p capture move_filter escapes from code next non_promoting p
     passed_to p capture (IsGuaranteedMove p capture move_filter escapes first) code next up (omega arith) (λ c above below matching.
     let hn : c / 2 % 81 < 81 = omega arith in
     elim (destination_of p capture from code non_promoting promoting c k above (omega arith) matching) [
-      | inl at ↦ (let it : _ = plainly (c / 2 % 81) hn at.1 (omega (arith, at.0)) in guaranteed_move p capture move_filter escapes first c from (c / 2 % 81) hf hn (omega arith) at.0 matching piece it.0 it.1)
-      | inr at ↦ (let it : _ = by_promotion (c / 2 % 81) hn at.1 (omega (arith, at.0)) in guaranteed_promotion p capture move_filter escapes first c from (c / 2 % 81) hf hn (omega arith) at.0 matching piece it.0 it.1 it.2)
+      | inl at ↦ (let it : _ = plainly (c / 2 % 81) hn at.1 (omega (arith, at.0)) in guaranteed_move p capture false move_filter escapes first c from (c / 2 % 81) hf hn (omega arith) at.0 matching piece it.0 (λ no. absurd (cc)) it.1)
+      | inr at ↦ (let it : _ = by_promotion (c / 2 % 81) hn at.1 (omega (arith, at.0)) in guaranteed_move p capture true move_filter escapes first c from (c / 2 % 81) hf hn (omega arith) at.0 matching piece it.0 (λ _. it.1) it.2)
     ])
 
 -- what is not uncertain is certain
@@ -152,13 +140,11 @@ of_both non_promoting among guaranteed promoting among_promoting promoted n f g 
 
 -- a matching move ends where the piece reaches, and by promotion only where it may promote
 plain_among : (p : Shogi) (capture : Bool) (from n : ℕ) → length p.cells ≡ 81 → from < 81 → n < 81 → is_piece_of p.side (piece_at p.cells from) ≡ true → is_matching p capture (code_of (Board from n false)) ≡ true → is_reached p capture from n ≡ true
-plain_among p capture from n len hf hn own matching = (and_parts _ _ (and_parts _ _ (sym (matching_board p capture false from n len hf hn own) ∙ matching)).0).0
+plain_among p capture from n len hf hn own matching = grind (arith, matching_board p capture false from n len hf hn own)
 
 promoting_among : (p : Shogi) (capture : Bool) (from n : ℕ) → length p.cells ≡ 81 → from < 81 → n < 81 → is_piece_of p.side (piece_at p.cells from) ≡ true → is_matching p capture (code_of (Board from n true)) ≡ true
     → (is_reached p capture from n ≡ true) × (may_promote (piece_at p.cells from) from n ≡ true)
-promoting_among p capture from n len hf hn own matching =
-    let parts = and_parts _ _ (sym (matching_board p capture true from n len hf hn own) ∙ matching) in
-    ((and_parts _ _ parts.0).0, (and_parts _ _ parts.1).0)
+promoting_among p capture from n len hf hn own matching = grind (arith, matching_board p capture true from n len hf hn own)
 
 -- no move of a piece but certain ones
 pub guaranteed_moves : (p : Shogi) (capture : Bool) (move_filter : MoveFilter) (escapes from ends zone guaranteed promotions promoted : ℕ) → ((n : ℕ) → n < 81 → has_bit ends n ≡ is_reached p capture from n) → ((n : ℕ) → n < 81 → has_bit zone n ≡ may_promote (piece_at p.cells from) from n)
@@ -186,11 +172,11 @@ row_passed p capture move_filter escapes first code moving end len he on mine gu
     elim (at_code (c / SQUARE_CODES) c (omega arith) (omega arith)) [
       | inl at ↦ (
           let it : _ = moves.non_promoting (c / 2 % 81) hn (plain_among p capture (c / SQUARE_CODES) (c / 2 % 81) len hf hn own (ap (is_matching p capture) (sym at) ∙ matching)) in
-          guaranteed_move p capture move_filter escapes first c (c / SQUARE_CODES) (c / 2 % 81) hf hn (omega arith) at matching moves.piece it.0 it.1)
+          guaranteed_move p capture false move_filter escapes first c (c / SQUARE_CODES) (c / 2 % 81) hf hn (omega arith) at matching moves.piece it.0 (λ no. absurd (cc)) it.1)
       | inr at ↦ (
           let there : (is_reached p capture (c / SQUARE_CODES) (c / 2 % 81) ≡ true) × (may_promote (piece_at p.cells (c / SQUARE_CODES)) (c / SQUARE_CODES) (c / 2 % 81) ≡ true) = promoting_among p capture (c / SQUARE_CODES) (c / 2 % 81) len hf hn own (ap (is_matching p capture) (sym at) ∙ matching) in
           let it : _ = moves.promoting (c / 2 % 81) hn there.0 there.1 in
-          guaranteed_promotion p capture move_filter escapes first c (c / SQUARE_CODES) (c / 2 % 81) hf hn (omega arith) at matching moves.piece (moves.non_promoting (c / 2 % 81) hn there.0).0 it.0 it.1)
+          guaranteed_move p capture true move_filter escapes first c (c / SQUARE_CODES) (c / 2 % 81) hf hn (omega arith) at matching moves.piece (moves.non_promoting (c / 2 % 81) hn there.0).0 (λ _. it.0) it.1)
     ])
 
 pub row_passed_to : (p : Shogi) (capture : Bool) (move_filter : MoveFilter) (escapes code moving end : ℕ) → length p.cells ≡ 81 → end ≤ 81 → HasMatchingOn p capture code moving
@@ -200,10 +186,6 @@ row_passed_to p capture move_filter escapes code moving end len he on mine guara
   up = up;
   passed = λ first low. row_passed p capture move_filter escapes first code moving end len he on mine guaranteed low up;
 }
-
--- one that is no longer left and is not the one that went was not left before
-pub out_before : (left less from n : ℕ) → ((i : ℕ) → has_bit less i ≡ (has_bit left i && not (i == from))) → has_bit less n ≡ false → n ≢ from → has_bit left n ≡ false
-out_before left less from n bits out other = false_from_ne_true (has_bit left n) (λ set. both_ways (has_bit less n) out (bits n ∙ and_from _ _ set (ap not (ne_eqb n from other))))
 
 -- ---- the drops of a kind
 

@@ -1,7 +1,7 @@
 -- A piece is pinned only where it lies between its king and one of the other side that slides.
-use Rattle.std.proofs.Common.{◌≡◌, ◌⊎◌, ℕ, zero, suc, ◌+◌, ◌%◌, ◌<◌, true, false, not, refl, sym, ap, subst, ◌∙◌, arith, inl, inr, Option, Some, None, bit_and, bit_or, []}
+use Rattle.std.proofs.Common.{◌≡◌, ◌⊎◌, ℕ, ◌+◌, ◌%◌, ◌<◌, true, false, not, sym, ap, subst, ◌∙◌, arith, inl, inr, Option, Some, None, bit_and, bit_or, []}
 use Rattle.std.specs.Prelude.{◌==◌, ◌&&◌, is_none}
-use Rattle.std.proofs.lemmas.Bool.{cases_eq, false_from_ne_true, both_ways, and_parts, and_from, or_cases, or_left, or_right, not_from_false, ne_eqb}
+use Rattle.std.proofs.lemmas.Bool.{cases_eq, false_from_ne_true, both_ways, and_parts, and_from, or_cases, or_left, or_right}
 use Rattle.shogi_core.specs.declared.piece.Color.{Color}
 use Rattle.shogi_core.specs.declared.piece.Piece.{Piece}
 use Rattle.shogi_core.specs.Attack.{is_attacked_from, is_attacked, is_open_king, in_check, is_sniper, is_sniper_of_king}
@@ -26,15 +26,7 @@ use Rattle.shogi_replies.specs.Threats.{HasBetween, HasBeforeSnipers, IsOffPins}
 -- ---- the squares between two
 
 opposite : (d : ℕ) → d < 8 → direction_at ((d + 4) % 8) ≡ back (direction_at d)
-opposite zero h = refl
-opposite (suc zero) h = refl
-opposite (suc (suc zero)) h = refl
-opposite (suc (suc (suc zero))) h = refl
-opposite (suc (suc (suc (suc zero)))) h = refl
-opposite (suc (suc (suc (suc (suc zero))))) h = refl
-opposite (suc (suc (suc (suc (suc (suc zero)))))) h = refl
-opposite (suc (suc (suc (suc (suc (suc (suc zero))))))) h = refl
-opposite (suc (suc (suc (suc (suc (suc (suc (suc d)))))))) h = absurd (omega arith)
+opposite d h = grind (arith, cases_eq d 0, cases_eq d 1, cases_eq d 2, cases_eq d 3, cases_eq d 4, cases_eq d 5, cases_eq d 6, cases_eq d 7)
 
 -- the set has those of the first directions
 abbrev pub HasBetweenBelow : ℕ → ℕ → ℕ → ℕ → Type 0
@@ -58,17 +50,15 @@ before_first cells side king snipers bits = λ x hx sniper out. absurd (both_way
 
 pub before_more : (cells : Cells) (side : Color) (king left next squares sniper between : ℕ) → HasBeforeSnipers cells side king left squares → ((i : ℕ) → has_bit next i ≡ (has_bit left i && not (i == sniper))) → HasBetween king sniper between
     → HasBeforeSnipers cells side king next (bit_or squares between)
-before_more cells side king left next squares sniper between h bits new = λ x hx is out d n hd hn on beyond. has_bit-or squares between n ∙ elim (cases_eq x sniper) [
-  | inl same ↦ or_right (has_bit squares n) _ (new d n hd hn on (subst (λ (y : ℕ). is_on_ray (direction_at d) n y ≡ true) same beyond))
-  | inr other ↦ or_left _ _ (h x hx is (false_from_ne_true (has_bit left x) (λ set. both_ways (has_bit next x) out (bits x ∙ and_from _ _ set (not_from_false _ (ne_eqb x sniper other))))) d n hd hn on beyond)
-]
+before_more cells side king left next squares sniper between h bits new = λ x hx is out d n hd hn on beyond.
+    grind (arith, has_bit-or squares between n, cases_eq x sniper, new d n hd hn on, bits x, h x hx is)
 
 -- off those of the only king no piece of the side can be pinned
-pub off_pins : (cells : Cells) (side : Color) (king index squares : ℕ) → index ≡ king → HasNoOtherKing cells side king → HasBeforeSnipers cells side index 0 squares → (a : ℕ) → a < 81 → has_bit squares a ≡ false → IsOffPins cells side a
-off_pins cells side king index squares at lone h = λ a ha out k x d hk hx hd e on. false_from_ne_true (is_on_ray (direction_at d) a x) (λ beyond. (
+pub off_pins : (cells : Cells) (side : Color) (king squares : ℕ) → HasNoOtherKing cells side king → HasBeforeSnipers cells side king 0 squares → (a : ℕ) → a < 81 → has_bit squares a ≡ false → IsOffPins cells side a
+off_pins cells side king squares lone h = λ a ha out k x d hk hx hd e on. false_from_ne_true (is_on_ray (direction_at d) a x) (λ beyond. (
     let parts : (is_king side (piece_at cells k) ≡ true) × (is_sniper cells (opponent_of side) k x ≡ true) = and_parts _ _ e in
-    elim (cases_eq k index) [
-      | inr other ↦ both_ways (is_king side (piece_at cells k)) (lone k hk (λ same. other (same ∙ sym at))) parts.0
+    elim (cases_eq k king) [
+      | inr other ↦ both_ways (is_king side (piece_at cells k)) (lone k hk other) parts.0
       | inl same ↦ both_ways (has_bit squares a) out (h x hx (subst (λ (j : ℕ). is_sniper cells (opponent_of side) j x ≡ true) same parts.1) (has_bit-none x) d a hd ha (subst (λ (j : ℕ). is_on_ray (direction_at d) j a ≡ true) same on) beyond)
     ]))
 
@@ -105,12 +95,9 @@ module _ (old new : Cells) (n : ℕ) (low : n < 81) (opened : (x : ℕ) → is_n
     | inl step ↦ inl (or_left _ _ step)
     | inr slide ↦ elim (slide_over piece a k ha hk slide) [
       | inl was ↦ inl (or_right (has_step piece a k) _ was)
-      | inr over ↦ inr (slider piece slide, lined_aligned new k a (slide_seen new piece a k ha slide), over)
+      | inr over ↦ inr (slides_role piece.role (λ o. slides new (for_side piece.color o) a k) slide, lined_aligned new k a (slide_seen new piece a k ha slide), over)
     ]
   ]
-    where
-      slider : (piece : Piece) → has_slide new piece a k ≡ true → is_slider (Some piece) ≡ true
-      slider piece slide = slides_role piece.role (λ o. slides new (for_side piece.color o) a k) slide
 
   -- that gives no check where the square lies between no king and a sniper
   pub left_off_pins : (color : Color) → ((x : ℕ) → is_piece_of (opponent_of color) (piece_at new x) ≡ true → piece_at old x ≡ piece_at new x)

@@ -1,25 +1,22 @@
 -- After most moves the other side has a legal move.
-use Rattle.std.proofs.Common.{◌≡◌, ◌≢◌, ℕ, ◌+◌, ◌-◌, ◌%◌, ◌^◌, ◌<◌, ◌⊎◌, Bool, true, false, not, Option, Some, None, List, [], ◌∷◌, refl, sym, ap, subst, ◌∙◌, arith, inl, inr, filter, set, length, length-set, get_or-set_same, get_or-set_other, bit_and, bit_or}
+use Rattle.std.proofs.Common.{◌≡◌, ◌≢◌, ℕ, ◌-◌, ◌^◌, ◌<◌, ◌⊎◌, Bool, true, false, not, Option, Some, None, List, [], ◌∷◌, refl, sym, ap, subst, ◌∙◌, arith, inl, inr, filter, set, length, length-set, get_or-set_same, get_or-set_other, bit_and, bit_or}
 use Rattle.std.specs.Prelude.{◌==◌, ◌&&◌, ◌||◌, nat_lt, is_none}
 use Rattle.std.specs.Int.{trailing_zeros, w128}
-use Rattle.std.proofs.lemmas.Bool.{cases_eq, false_from_ne_true, both_ways, and_parts, and_from, or_left, or_right, or_cases, or_parts, not-true, not_from_false, ne_eqb, eq-eqb, eqb-true, cond_both}
+use Rattle.std.proofs.lemmas.Bool.{cases_eq, false_from_ne_true, both_ways, and_parts, and_from, or_left, or_right, or_cases, or_parts, not-true, not_from_false, ne_eqb, eq-eqb, eqb-true}
 use Rattle.shogi_core.specs.declared.moves.Move.{Move}
 use Rattle.shogi_core.specs.declared.moves.Move.TheVariants.{Board, Drop}
 use Rattle.shogi_core.specs.declared.piece.Color.{Color}
-use Rattle.shogi_core.specs.declared.piece.Color.TheVariants.{Black, White}
 use Rattle.shogi_core.specs.declared.piece.Kind.{Kind}
 use Rattle.shogi_core.specs.declared.piece.Kind.TheVariants as kinds
 use Rattle.shogi_core.specs.declared.piece.Piece.{Piece}
-use Rattle.shogi_core.specs.declared.piece.Role.{Role}
-use Rattle.shogi_core.specs.declared.piece.Role.TheVariants.{King}
 use Rattle.shogi_core.specs.Attack.{in_check, is_sniping, cell_steps}
 use Rattle.shogi_core.specs.Below.{some_below}
 use Rattle.shogi_core.specs.Bits.{has_bit}
-use Rattle.shogi_core.specs.Cell.{is_piece_of, is_king, is_king_role, is_immobile, is_immobile_role}
+use Rattle.shogi_core.specs.Cell.{is_piece_of, is_king, is_immobile}
 use Rattle.shogi_core.specs.Codes.{code_of, move_of}
 use Rattle.shogi_core.specs.Lines.{are_aligned, are_lined, is_jump, is_line_to_king, is_lined_with_king, is_seen}
 use Rattle.shogi_core.specs.Movement.{Cells, piece_at, reaches, cell_reaches, has_step, has_slide}
-use Rattle.shogi_core.specs.Pieces.{is_same_color, opponent_of, kind_of, kind_number}
+use Rattle.shogi_core.specs.Pieces.{opponent_of}
 use Rattle.shogi_core.specs.Position.{Shogi, HandCounts, count_in_hand, place_of}
 use Rattle.shogi_core.specs.Sets.{HasNone, TakesLowest}
 use Rattle.shogi_core.specs.Validity.{IsValid}
@@ -32,7 +29,7 @@ use Rattle.shogi_core.proofs.LineBits.{lowest_set, has_bit-not}
 use Rattle.shogi_core.proofs.Replies.{no_check}
 use Rattle.shogi_core.proofs.SeenLaws.{lined_back, lined_aligned, cell_seen, slide_seen}
 use Rattle.shogi_core.proofs.Snipers.{left_unpinned}
-use Rattle.shogi_moves.specs.After.{after, cells_after, piece_moved, dropped, with_captured, with_one_more}
+use Rattle.shogi_moves.specs.After.{after, cells_after, piece_moved, dropped, with_captured}
 use Rattle.shogi_moves.specs.Legal.{is_legal, is_safe, is_pseudo_legal_board_move, is_pseudo_legal_drop, is_pawn_kind, is_mated_by_drop}
 use Rattle.shogi_moves.specs.LegalMoves.{legal_codes}
 use Rattle.shogi_moves.specs.Rising.{is_in}
@@ -59,16 +56,7 @@ is_free_kind _ = false
 
 kept_in : (t : ℕ → Bool) (c : ℕ) (codes : List ℕ) → is_in c codes ≡ true → t c ≡ true → is_in c (filter t codes) ≡ true
 kept_in t c [] i skips = absurd (cc)
-kept_in t c (code ∷ codes) i skips =
-    cond_both (t code) (code ∷ filter t codes) (filter t codes) (λ (xs : List ℕ). is_in c xs ≡ true)
-    (λ _. elim (or_cases (c == code) (is_in c codes) i) [
-      | inl same ↦ or_left (c == code) (is_in c (filter t codes)) same
-      | inr later ↦ or_right (c == code) (is_in c (filter t codes)) (kept_in t c codes later skips)
-    ])
-    (λ fails. elim (or_cases (c == code) (is_in c codes) i) [
-      | inl same ↦ absurd (both_ways (t code) fails (subst (λ (n : ℕ). t n ≡ true) (eqb-true c code same) skips))
-      | inr later ↦ kept_in t c codes later skips
-    ])
+kept_in t c (code ∷ codes) i skips = grind (arith, kept_in t c codes)
 
 -- a legal one is among them
 pub some_quiet : (q : Shogi) (m : Move) → move_of (code_of m) ≡ Some m → is_legal q m ≡ true → is_quiet q (Some m) ≡ true → quiet_codes q ≢ []
@@ -87,8 +75,7 @@ reply_by q k to hk ht legal = some_legal q (code_of (Board k to false)) (is_lega
 
 -- where nothing stands, no piece of a side does
 pub unowned : (color : Color) (cell : Option Piece) → is_none cell ≡ true → is_piece_of color cell ≡ false
-unowned color None bare = refl
-unowned color (Some piece) bare = absurd (cc)
+unowned color cell bare = grind arith
 
 -- ---- what a king sees
 
@@ -101,11 +88,8 @@ sees_first cells side m bits = record {
 pub sees_more : (cells : Cells) (side : Color) (left next king_view king squares : ℕ) → Sees cells side left king_view → ((i : ℕ) → has_bit next i ≡ (has_bit left i && not (i == king)))
     → ((n : ℕ) → n < 81 → has_bit squares n ≡ is_seen cells king n) → Sees cells side next (bit_or king_view squares)
 sees_more cells side left next king_view king squares h bits seen = record {
-  kings = λ n l e. has_bit-or king_view squares n ∙ or_left _ _ (h.kings n l e);
-  squares = λ k n l r e out on. has_bit-or king_view squares n ∙ elim (cases_eq k king) [
-    | inl same ↦ or_right (has_bit king_view n) (has_bit squares n) (seen n r ∙ subst (λ (j : ℕ). is_seen cells j n ≡ true) same on)
-    | inr other ↦ or_left _ _ (h.squares k n l r e (false_from_ne_true (has_bit left k) (λ set. both_ways (has_bit next k) out (bits k ∙ and_from _ _ set (not_from_false _ (ne_eqb k king other))))) on)
-  ];
+  kings = λ n l e. grind (arith, has_bit-or king_view squares n, h.kings n l e);
+  squares = λ k n l r e out on. grind (arith, has_bit-or king_view squares n, cases_eq k king, seen n r, bits k, h.squares k n l r e);
 }
 
 pub sees_done : (cells : Cells) (side : Color) (left king_view : ℕ) → HasNone left → Sees cells side left king_view → Sees cells side 0 king_view
@@ -124,11 +108,8 @@ aligns_first cells side m bits = record {
 pub aligns_more : (cells : Cells) (side : Color) (left next lines king squares : ℕ) → Aligns cells side left lines → ((i : ℕ) → has_bit next i ≡ (has_bit left i && not (i == king)))
     → ((n : ℕ) → n < 81 → has_bit squares n ≡ are_aligned king n) → Aligns cells side next (bit_or lines squares)
 aligns_more cells side left next lines king squares h bits on_line = record {
-  kings = λ n l e. has_bit-or lines squares n ∙ or_left _ _ (h.kings n l e);
-  squares = λ k n l r e out on. has_bit-or lines squares n ∙ elim (cases_eq k king) [
-    | inl same ↦ or_right (has_bit lines n) (has_bit squares n) (on_line n r ∙ subst (λ (j : ℕ). are_aligned j n ≡ true) same on)
-    | inr other ↦ or_left _ _ (h.squares k n l r e (false_from_ne_true (has_bit left k) (λ set. both_ways (has_bit next k) out (bits k ∙ and_from _ _ set (not_from_false _ (ne_eqb k king other))))) on)
-  ];
+  kings = λ n l e. grind (arith, has_bit-or lines squares n, h.kings n l e);
+  squares = λ k n l r e out on. grind (arith, has_bit-or lines squares n, cases_eq k king, on_line n r, bits k, h.squares k n l r e);
 }
 
 pub aligns_done : (cells : Cells) (side : Color) (left lines : ℕ) → HasNone left → Aligns cells side left lines → Aligns cells side 0 lines
@@ -154,8 +135,8 @@ stays_unlined old new color a h kings off = some_below_no 81 (is_line_to_king ne
 -- ---- snipers on open lines with a square
 
 pub covered : (cells : Cells) (side : Color) (n open_lines snipers lines : ℕ) → ((a : ℕ) → a < 81 → has_bit open_lines a ≡ are_lined cells n a) → ((a : ℕ) → a < 81 → has_bit snipers a ≡ is_sniping cells side a) → ((a : ℕ) → a < 81 → has_bit lines a ≡ are_aligned n a) → bit_and open_lines (bit_and snipers lines) ≡ 0 → StaysCovered cells side n
-covered cells side n open_lines snipers lines o s l none a h sniping = false_from_ne_true (are_lined cells n a) (λ lined. both_ways (has_bit (bit_and open_lines (bit_and snipers lines)) a) (ap (λ m. has_bit m a) none ∙ has_bit-none a)
-    (has_bit-and open_lines (bit_and snipers lines) a ∙ and_from _ _ (o a h ∙ lined) (has_bit-and snipers lines a ∙ and_from _ _ (s a h ∙ sniping) (l a h ∙ lined_aligned cells n a lined))))
+covered cells side n open_lines snipers lines o s l none a h sniping =
+    grind (arith, has_bit-and open_lines (bit_and snipers lines) a, has_bit-and snipers lines a, o a h, s a h, l a h, lined_aligned cells n a, ap (λ m. has_bit m a) none, has_bit-none a)
 
 -- the snipers that are on a line with the square, whatever stands between
 pub covered_by_none : (cells : Cells) (side : Color) (n snipers lines : ℕ) → ((a : ℕ) → a < 81 → has_bit snipers a ≡ is_sniping cells side a) → ((a : ℕ) → a < 81 → has_bit lines a ≡ are_aligned n a) → bit_and snipers lines ≡ 0 → StaysCovered cells side n
@@ -183,15 +164,6 @@ harmless_here cells side piece to squares kings s b none k l king =
 
 -- ---- a king moves on from everywhere
 
-pub king_lives : (side : Color) (cell : Option Piece) (t : ℕ) → is_king side cell ≡ true → is_immobile t cell ≡ false
-king_lives side None t e = refl
-king_lives side (Some piece) t e = go piece.color piece.role (and_parts (is_same_color side piece.color) (is_king_role piece.role) e).1
-  where
-    go : (color : Color) (role : Role) → is_king_role role ≡ true → is_immobile_role color role (t % 9) ≡ false
-    go Black King h = refl
-    go White King h = refl
-    go color _ h = absurd (cc)
-
 -- ---- a piece that may be dropped on any empty square
 
 held_kind : (hands : HandCounts) (side : Color) → holds_free hands side ≡ true → (kind : Kind) × (is_free_kind kind ≡ true) × (nat_lt 0 (count_in_hand hands side kind) ≡ true)
@@ -207,17 +179,10 @@ held_kind hands side e = elim (or_cases (nat_lt 0 (count_in_hand hands side kind
 ]
 
 free_plain : (kind : Kind) → is_free_kind kind ≡ true → is_pawn_kind kind ≡ false
-free_plain kinds.Pawn e = absurd (cc)
-free_plain kinds.Lance e = absurd (cc)
-free_plain kinds.Knight e = absurd (cc)
-free_plain _ e = refl
+free_plain kind e = grind arith
 
 free_lands : (color : Color) (kind : Kind) (a : ℕ) → is_free_kind kind ≡ true → is_immobile a (dropped color kind) ≡ false
-free_lands color kinds.Pawn a e = absurd (cc)
-free_lands color kinds.Lance a e = absurd (cc)
-free_lands color kinds.Knight a e = absurd (cc)
-free_lands Black _ a e = refl
-free_lands White _ a e = refl
+free_lands color kind a e = grind arith
 
 free_drop : (cells : Cells) (hands : HandCounts) (color : Color) (kind : Kind) (a : ℕ) → length cells ≡ 81 → a < 81 → is_free_kind kind ≡ true → nat_lt 0 (count_in_hand hands color kind) ≡ true → is_none (piece_at cells a) ≡ true → in_check cells color ≡ false → quiet_codes (record { cells = cells; hands = hands; side = color }) ≢ []
 unfolding is_safe
@@ -233,19 +198,13 @@ free_drop cells hands color kind a len ha kin held empty shut =
 
 -- a move changes nothing in the other side's hand
 other_place : (side : Color) (kind other : Kind) → place_of (opponent_of side) other ≢ place_of side kind
-other_place Black kind other e = let low : kind_number kind < 7 = number_below kind in absurd (omega (arith, low, e))
-other_place White kind other e = let low : kind_number other < 7 = number_below other in absurd (omega (arith, low, e))
+other_place side kind other e = grind (arith, number_below kind, number_below other)
 
 other_hand : (hands : HandCounts) (side : Color) (kind other : Kind) (n : ℕ) → count_in_hand (set hands (place_of side kind) n) (opponent_of side) other ≡ count_in_hand hands (opponent_of side) other
 other_hand hands side kind other n = get_or-set_other hands (place_of side kind) (place_of (opponent_of side) other) n 0 (other_place side kind other)
 
 other_captured : (hands : HandCounts) (side : Color) (cell : Option Piece) (other : Kind) → count_in_hand (with_captured hands side cell) (opponent_of side) other ≡ count_in_hand hands (opponent_of side) other
-other_captured hands side None other = refl
-other_captured hands side (Some piece) other = go (kind_of piece.role)
-  where
-    go : (kind : Option Kind) → count_in_hand (with_one_more hands side kind) (opponent_of side) other ≡ count_in_hand hands (opponent_of side) other
-    go None = refl
-    go (Some kind) = other_hand hands side kind other (count_in_hand hands side kind + 1)
+other_captured hands side cell other = grind (arith, other_hand hands side)
 
 pub other_counts : (p : Shogi) (m : Move) (other : Kind) → count_in_hand (after p m).hands (opponent_of p.side) other ≡ count_in_hand p.hands (opponent_of p.side) other
 other_counts p (Board from to promote) other = other_captured p.hands p.side (piece_at p.cells to) other
@@ -255,19 +214,12 @@ still_holds : (p : Shogi) (m : Move) → holds_free p.hands (opponent_of p.side)
 still_holds p m e = rw (other_counts p m kinds.Silver, other_counts p m kinds.Gold, other_counts p m kinds.Bishop, other_counts p m kinds.Rook) e
 
 way_after : (p : Shogi) (m : Move) (to a : ℕ) → is_way p (opponent_of p.side) to a ≡ true → (is_spare p.cells (opponent_of p.side) to a ≡ true) ⊎ ((a ≢ to) × (is_none (piece_at p.cells a) ≡ true) × (holds_free (after p m).hands (opponent_of p.side) ≡ true))
-way_after p m to a e = elim (or_cases (is_spare p.cells (opponent_of p.side) to a) (not (a == to) && is_none (piece_at p.cells a) && holds_free p.hands (opponent_of p.side)) e) [
-  | inl free_movers ↦ inl free_movers
-  | inr held ↦ (
-      let parts = and_parts (not (a == to) && is_none (piece_at p.cells a)) (holds_free p.hands (opponent_of p.side)) held in
-      let two : (not (a == to) ≡ true) × (is_none (piece_at p.cells a) ≡ true) = and_parts (not (a == to)) (is_none (piece_at p.cells a)) parts.0 in
-      inr (λ same. both_ways _ (ap not (eq-eqb a to same)) two.0, two.1, still_holds p m parts.1))
-]
+way_after p m to a e = grind (arith, still_holds p m)
 
 -- ---- a spare piece has a legal move
 
 steps_reach : (cells : Cells) (cell : Option Piece) (a t : ℕ) → cell_steps cell a t ≡ true → cell_reaches cells cell a t ≡ true
-steps_reach cells None a t e = absurd (cc)
-steps_reach cells (Some piece) a t e = or_left (has_step piece a t) (has_slide cells piece a t) e
+steps_reach cells cell a t e = grind arith
 
 pub right_step : (new : Cells) (color : Color) (a t : ℕ) → is_piece_of color (piece_at new a) ≡ true → is_piece_of color (piece_at new t) ≡ false → reaches new a t ≡ true → is_immobile t (piece_at new a) ≡ false → is_pseudo_legal_board_move new color a t false ≡ true
 right_step new color a t own free reach alive = rw (own, free, reach, still t (piece_at new a), alive) refl
@@ -356,28 +308,16 @@ module _ (p : Shogi) (from to : ℕ) (promote : Bool) (v : IsValid p) (hf : from
   lands_board = get_or-set_same (set p.cells from None) to what_moved None (omega (arith, length-set p.cells from None, v.cells_fit))
 
   pub opened_board : (x : ℕ) → is_none (piece_at (set (set p.cells from None) to (piece_moved promote (piece_at p.cells from))) x) ≡ true → (is_none (piece_at p.cells x) ≡ true) ⊎ (x ≡ from)
-  opened_board x e = elim (see_board x) [
-    | inl there ↦ absurd (both_ways (is_none what_moved) (own_some p.side what_moved moved_own) (ap is_none (sym there.1) ∙ e))
-    | inr rest ↦ elim rest [ inl here ↦ inr here.0 | inr same ↦ inl (ap is_none (sym same) ∙ e) ]
-  ]
+  opened_board x e = grind (arith, see_board x, own_some p.side what_moved moved_own)
 
   theirs_board : (x : ℕ) → is_piece_of (opponent_of (opponent_of p.side)) (piece_at (set (set p.cells from None) to (piece_moved promote (piece_at p.cells from))) x) ≡ true → (piece_at p.cells x ≡ piece_at (set (set p.cells from None) to (piece_moved promote (piece_at p.cells from))) x) ⊎ (x ≡ to)
-  theirs_board x e = elim (see_board x) [
-    | inl there ↦ inr there.0
-    | inr rest ↦ elim rest [ inl here ↦ absurd (let clash : false ≡ true = ap (is_piece_of (opponent_of (opponent_of p.side))) (sym here.1) ∙ e in cc) | inr same ↦ inl (sym same) ]
-  ]
+  theirs_board x e = grind (arith, see_board x)
 
   pub crown_board : (k : ℕ) → is_king (opponent_of p.side) (piece_at (set (set p.cells from None) to (piece_moved promote (piece_at p.cells from))) k) ≡ true → piece_at p.cells k ≡ piece_at (set (set p.cells from None) to (piece_moved promote (piece_at p.cells from))) k
-  crown_board k e = elim (see_board k) [
-    | inl there ↦ absurd (both_ways (is_king (opponent_of p.side) what_moved) (crowned (opponent_of p.side) what_moved (other_side p.side what_moved moved_own)) (ap (is_king (opponent_of p.side)) (sym there.1) ∙ e))
-    | inr rest ↦ elim rest [ inl here ↦ absurd (let clash : false ≡ true = ap (is_king (opponent_of p.side)) (sym here.1) ∙ e in cc) | inr same ↦ sym same ]
-  ]
+  crown_board k e = grind (arith, see_board k, crowned (opponent_of p.side) what_moved (other_side p.side what_moved moved_own))
 
   pub stays_bare : (x : ℕ) → is_none (piece_at (set (set p.cells from None) to (piece_moved promote (piece_at p.cells from))) x) ≡ true → (is_none (piece_at (set p.cells from None) x) ≡ true) ⊎ ⊥
-  stays_bare x e = elim (cases_eq x to) [
-    | inl there ↦ absurd (both_ways (is_none what_moved) (own_some p.side what_moved moved_own) (ap is_none (sym (ap (piece_at (set (set p.cells from None) to (piece_moved promote (piece_at p.cells from)))) there ∙ lands_board)) ∙ e))
-    | inr other ↦ inl (ap is_none (sym (get_or-set_other (set p.cells from None) to x what_moved None other)) ∙ e)
-  ]
+  stays_bare x e = grind (arith, cases_eq x to, lands_board, own_some p.side what_moved moved_own, get_or-set_other (set p.cells from None) to x what_moved None)
 
   -- a move that discovers nothing and attacks no king from where it ends gives no check
   pub shut_board : (king_view free_movers : ℕ) → IsReplyInfo p king_view free_movers → DiscoversNothing p.cells (opponent_of p.side) king_view from (piece_moved promote (piece_at p.cells from)) to → IsHarmless p.cells (opponent_of p.side) (piece_moved promote (piece_at p.cells from)) to
@@ -398,21 +338,9 @@ module _ (p : Shogi) (from to : ℕ) (promote : Bool) (v : IsValid p) (hf : from
   left_board = record {
     len = length-set (set p.cells from None) to what_moved ∙ (length-set p.cells from None ∙ v.cells_fit);
     kings = crown_board;
-    stays = λ x e ne. elim (see_board x) [
-      | inl there ↦ absurd (ne there.0)
-      | inr rest ↦ elim rest [
-        | inl here ↦ absurd (both_ways (is_piece_of (opponent_of p.side) (piece_at p.cells from)) (other_side p.side (piece_at p.cells from) own) (subst (λ (y : ℕ). is_piece_of (opponent_of p.side) (piece_at p.cells y) ≡ true) here.0 e))
-        | inr same ↦ same
-      ]
-    ];
-    clear = λ t e. elim (see_board t) [
-      | inl there ↦ ap (is_piece_of (opponent_of p.side)) there.1 ∙ other_side p.side what_moved moved_own
-      | inr rest ↦ elim rest [ inl here ↦ ap (is_piece_of (opponent_of p.side)) here.1 | inr same ↦ ap (is_piece_of (opponent_of p.side)) same ∙ e ]
-    ];
-    empty = λ x e ne. elim (see_board x) [
-      | inl there ↦ absurd (ne there.0)
-      | inr rest ↦ elim rest [ inl here ↦ ap is_none here.1 | inr same ↦ ap is_none same ∙ e ]
-    ];
+    stays = λ x e ne. grind (arith, see_board x, other_side p.side (piece_at p.cells from) own);
+    clear = λ t e. grind (arith, see_board t, other_side p.side what_moved moved_own);
+    empty = λ x e ne. grind (arith, see_board x);
   }
 
 -- ---- the board without what moves
@@ -422,19 +350,13 @@ module _ (p : Shogi) (from to : ℕ) (v : IsValid p) (hf : from < 81) (own : is_
   bare = get_or-set_same p.cells from None None (omega (arith, v.cells_fit))
 
   pub see_lifted : (x : ℕ) → ((x ≡ from) × (piece_at (set p.cells from None) x ≡ None)) ⊎ (piece_at (set p.cells from None) x ≡ piece_at p.cells x)
-  see_lifted x = elim (cases_eq x from) [
-    | inl here ↦ inl (here, ap (piece_at (set p.cells from None)) here ∙ bare)
-    | inr off ↦ inr (get_or-set_other p.cells from x None None off)
-  ]
+  see_lifted x = grind (arith, cases_eq x from, bare, get_or-set_other p.cells from x None None)
 
   opened_lifted : (x : ℕ) → is_none (piece_at (set p.cells from None) x) ≡ true → (is_none (piece_at p.cells x) ≡ true) ⊎ (x ≡ from)
   opened_lifted x e = elim (see_lifted x) [ inl here ↦ inr here.0 | inr same ↦ inl (ap is_none (sym same) ∙ e) ]
 
   crown_lifted : (k : ℕ) → is_king (opponent_of p.side) (piece_at (set p.cells from None) k) ≡ true → piece_at p.cells k ≡ piece_at (set p.cells from None) k
-  crown_lifted k e = elim (see_lifted k) [
-    | inl here ↦ absurd (let clash : false ≡ true = ap (is_king (opponent_of p.side)) (sym here.1) ∙ e in cc)
-    | inr same ↦ sym same
-  ]
+  crown_lifted k e = grind (arith, see_lifted k)
 
   theirs_lifted : (x : ℕ) → is_piece_of (opponent_of (opponent_of p.side)) (piece_at (set p.cells from None) x) ≡ true → (piece_at p.cells x ≡ piece_at (set p.cells from None) x) ⊎ (x ≡ from)
   theirs_lifted x e = elim (see_lifted x) [ inl here ↦ inr here.0 | inr same ↦ inl (sym same) ]
@@ -443,10 +365,7 @@ module _ (p : Shogi) (from to : ℕ) (v : IsValid p) (hf : from < 81) (own : is_
   left_lifted = record {
     len = length-set p.cells from None ∙ v.cells_fit;
     kings = crown_lifted;
-    stays = λ x e ne. elim (see_lifted x) [
-      | inl here ↦ absurd (both_ways (is_piece_of (opponent_of p.side) (piece_at p.cells from)) (other_side p.side (piece_at p.cells from) own) (subst (λ (y : ℕ). is_piece_of (opponent_of p.side) (piece_at p.cells y) ≡ true) here.0 e))
-      | inr same ↦ same
-    ];
+    stays = λ x e ne. grind (arith, see_lifted x, other_side p.side (piece_at p.cells from) own);
     clear = λ t e. elim (see_lifted t) [ inl here ↦ ap (is_piece_of (opponent_of p.side)) here.1 | inr same ↦ ap (is_piece_of (opponent_of p.side)) same ∙ e ];
     empty = λ x e ne. elim (see_lifted x) [ inl here ↦ ap is_none here.1 | inr same ↦ ap is_none same ∙ e ];
   }
@@ -479,17 +398,11 @@ module _ (p : Shogi) (kind : Kind) (to : ℕ) (v : IsValid p) (ht : to < 81) whe
   see_drop x = drops.look p.cells p.side kind to v.cells_fit ht x
 
   crown_drop : (k : ℕ) → is_king (opponent_of p.side) (piece_at (set p.cells to (dropped p.side kind)) k) ≡ true → piece_at p.cells k ≡ piece_at (set p.cells to (dropped p.side kind)) k
-  crown_drop k e = elim (see_drop k) [
-    | inl there ↦ absurd (both_ways (is_king (opponent_of p.side) (dropped p.side kind)) (drops.no_king p.side kind) (ap (is_king (opponent_of p.side)) (sym there.1) ∙ e))
-    | inr same ↦ sym same
-  ]
+  crown_drop k e = grind (arith, see_drop k, drops.no_king p.side kind)
 
   pub shut_drop : IsHarmless p.cells (opponent_of p.side) (dropped p.side kind) to → in_check (cells_after p.cells p.side (Drop kind to)) (opponent_of p.side) ≡ false
   shut_drop off = no_check p.cells (set p.cells to (dropped p.side kind)) (λ x. ⊥)
-      (λ x e. elim (see_drop x) [
-        | inl there ↦ absurd (let clash : false ≡ true = ap is_none (sym there.1) ∙ e in cc)
-        | inr same ↦ inl (ap is_none (sym same) ∙ e)
-      ])
+      (λ x e. grind (arith, see_drop x))
       (opponent_of p.side) to ht
       (λ x e. elim (see_drop x) [ inl there ↦ inr there.0 | inr same ↦ inl (sym same) ])
       crown_drop
@@ -502,10 +415,7 @@ module _ (p : Shogi) (kind : Kind) (to : ℕ) (v : IsValid p) (ht : to < 81) whe
     len = length-set p.cells to (dropped p.side kind) ∙ v.cells_fit;
     kings = crown_drop;
     stays = λ x e ne. elim (see_drop x) [ inl there ↦ absurd (ne there.0) | inr same ↦ same ];
-    clear = λ t e. elim (see_drop t) [
-      | inl there ↦ ap (is_piece_of (opponent_of p.side)) there.1 ∙ other_side p.side (dropped p.side kind) (dropped_of p.side kind)
-      | inr same ↦ ap (is_piece_of (opponent_of p.side)) same ∙ e
-    ];
+    clear = λ t e. grind (arith, see_drop t, other_side p.side (dropped p.side kind) (dropped_of p.side kind));
     empty = λ x e ne. elim (see_drop x) [ inl there ↦ absurd (ne there.0) | inr same ↦ ap is_none same ∙ e ];
   }
 
@@ -531,16 +441,13 @@ pub record IsSifted (cells : Cells) (side : Color) (lines left kept ends : ℕ) 
 
 pub sifted_first : (cells : Cells) (side : Color) (lines own : ℕ) → lines < 2 ^ 128 → ((n : ℕ) → n < 81 → has_bit own n ≡ is_piece_of side (piece_at cells n)) → IsSifted cells side lines (bit_and own (2 ^ 128 - 1 - lines)) 0 0
 sifted_first cells side lines own fits bits = record {
-  own = λ a h e. (
-      let parts : (has_bit own a ≡ true) × (has_bit (2 ^ 128 - 1 - lines) a ≡ true) = and_parts _ _ (sym (has_bit-and own (2 ^ 128 - 1 - lines) a) ∙ e) in
-      (sym (bits a h) ∙ parts.0, not-true _ (sym (has_bit-not lines a fits (omega arith)) ∙ parts.1)));
+  own = λ a h e. grind (arith, has_bit-and own (2 ^ 128 - 1 - lines) a, bits a h, has_bit-not lines a fits (omega arith));
   free_movers = λ a h e. absurd (both_ways (has_bit 0 a) (has_bit-none a) e);
   end = λ t h e. absurd (both_ways (has_bit 0 t) (has_bit-none t) e);
 }
 
 unbound_if : (cells : Cells) (side : Color) (lines a : ℕ) → Aligns cells side 0 lines → a < 81 → is_piece_of side (piece_at cells a) ≡ true → has_bit lines a ≡ false → is_unbound cells side a ≡ true
-unbound_if cells side lines a s h own off =
-    rw (own, unaligned cells side lines a s h off, false_from_ne_true (is_king side (piece_at cells a)) (λ king. both_ways (has_bit lines a) off (s.kings a h king))) refl
+unbound_if cells side lines a s h own off = grind (arith, unaligned cells side lines a s h off, s.kings a h)
 
 -- a piece without such a step is passed
 pub sifted_passed : (cells : Cells) (side : Color) (lines left kept ends next from : ℕ) → IsSifted cells side lines left kept ends → TakesLowest from left next → IsSifted cells side lines next kept ends
@@ -606,10 +513,7 @@ sifted_done cells side lines left kept ends two f a to h set stays =
 pub steps_found : (cells : Cells) (piece : Piece) (a steps free dead : ℕ) → piece_at cells a ≡ Some piece → dead < 2 ^ 81 → ((n : ℕ) → n < 81 → has_bit steps n ≡ has_step piece a n) → ((n : ℕ) → n < 81 → has_bit free n ≡ is_none (piece_at cells n)) → ((n : ℕ) → n < 81 → has_bit dead n ≡ is_immobile n (piece_at cells a))
     → AreQuietSteps cells a (bit_and (bit_and steps free) (2 ^ 128 - 1 - dead))
 steps_found cells piece a steps free dead stands fits s f d t h e =
-    let two : (has_bit (bit_and steps free) t ≡ true) × (has_bit (2 ^ 128 - 1 - dead) t ≡ true) = and_parts _ _ (sym (has_bit-and (bit_and steps free) (2 ^ 128 - 1 - dead) t) ∙ e) in
-    let one : (has_bit steps t ≡ true) × (has_bit free t ≡ true) = and_parts _ _ (sym (has_bit-and steps free t) ∙ two.0) in
-    and_from _ _ (and_from _ _ (ap (λ cell. cell_steps cell a t) stands ∙ (sym (s t h) ∙ one.0)) (sym (f t h) ∙ one.1))
-    (ap not (sym (d t h)) ∙ (sym (has_bit-not dead t (omega (arith, fits)) (omega arith)) ∙ two.1))
+    grind (arith, has_bit-and (bit_and steps free) (2 ^ 128 - 1 - dead) t, has_bit-and steps free t, s t h, f t h, d t h, has_bit-not dead t (omega (arith, fits)) (omega arith))
 
 -- an empty square is one on which a held piece may be dropped, and of a spare piece there is a way
 pub ways_free : (p : Shogi) (side : Color) (free : ℕ) → holds_free p.hands side ≡ true → ((n : ℕ) → n < 81 → has_bit free n ≡ is_none (piece_at p.cells n)) → (a to : ℕ) → a < 81 → has_bit free a ≡ true → a ≢ to → some_below 81 (is_way p side to) ≡ true
@@ -626,12 +530,7 @@ unknown_sees cells side all every = record { kings = λ n h e. every n h; square
 
 -- the legal board move is one of one's own piece
 pub legal_own : (p : Shogi) (from to : ℕ) (promote : Bool) → is_legal p (Board from to promote) ≡ true → is_piece_of p.side (piece_at p.cells from) ≡ true
-legal_own p from to promote e =
-    let parts = and_parts _ _ (sym (legal_board p from to promote) ∙ e) in
-    let four = and_parts _ _ parts.0 in
-    let three = and_parts _ _ four.0 in
-    let two = and_parts _ _ three.0 in
-    (and_parts _ _ two.0).0
+legal_own p from to promote e = grind (arith, legal_board p from to promote)
 
 -- one of the squares that give a move is another than that where the move ends
 another_than : (free_movers free to : ℕ) → free < 2 ^ 81 → ((i : ℕ) → has_bit free i ≡ (has_bit free_movers i && not (i == to))) → free ≢ 0 → (a : ℕ) × (a < 81) × (has_bit free_movers a ≡ true) × (a ≢ to)
@@ -685,8 +584,7 @@ not_closed all closed n fits h e = unseen_bit closed n fits h (and_parts _ _ (sy
 
 -- a piece that does not promote stays what it is
 pub unmoved : (cell : Option Piece) → piece_moved false cell ≡ cell
-unmoved None = refl
-unmoved (Some piece) = refl
+unmoved cell = grind arith
 
 -- what moves to an open square without a check, or is dropped there, is answered
 pub open_far : (p : Shogi) (escapes from n : ℕ) (promote : Bool) (king_view closed free_movers : ℕ) → IsValid p → IsReplyInfo p king_view free_movers → from < 81 → n < 81 → has_bit king_view from ≡ false → IsHarmless p.cells (opponent_of p.side) (piece_moved promote (piece_at p.cells from)) n → IsOpen closed free_movers n → GuaranteesReply p escapes (Board from n promote)

@@ -98,8 +98,7 @@ unbroken n f = elim (cases_Bool (some_below n (λ i. not (f i)))) [
 ]
   where
     true_from_not : (b : Bool) → not b ≡ false → b ≡ true
-    true_from_not true e = refl
-    true_from_not false e = absurd (cc)
+    true_from_not b e = grind arith
 
 step_to : (old new : Cells) (to : ℕ) → ((x : ℕ) → is_none (piece_at old x) ≡ true → x ≢ to → is_none (piece_at new x) ≡ true) → (o : Offset) (a n : ℕ) → n < 8 → ((i : ℕ) → i < n → slides_across old o a to i ≡ true → slides new o a to ≡ true) → slides_across old o a to n ≡ true → slides new o a to ≡ true
 step_to old new to clear o a n small sooner e =
@@ -111,11 +110,7 @@ step_to old new to clear o a n small sooner e =
     ]
   where
     ends_there : (i : ℕ) (x : Option ℕ) → away (i + 1) o a ≡ x → is_empty old (away (i + 1) o a) ≡ true → is_empty new (away (i + 1) o a) ≡ false → is_same_square (away (i + 1) o a) to ≡ true
-    ends_there i None at e shut = absurd (let clash : false ≡ true = ap (is_empty old) (sym at) ∙ e in cc)
-    ends_there i (Some x) at e shut = elim (cases_eq x to) [
-      | inl there ↦ ap (λ (y : Option ℕ). is_same_square y to) at ∙ eq-eqb x to there
-      | inr other ↦ absurd (both_ways (is_empty new (away (i + 1) o a)) shut (ap (is_empty new) at ∙ clear x (ap (is_empty old) (sym at) ∙ e) other))
-    ]
+    ends_there i x at e shut = grind (arith, clear)
 
 slide_to : (old new : Cells) (to : ℕ) → ((x : ℕ) → is_none (piece_at old x) ≡ true → x ≢ to → is_none (piece_at new x) ≡ true) → (o : Offset) (a d n : ℕ) → n ≤ d → n < 8 → slides_across old o a to n ≡ true → slides new o a to ≡ true
 slide_to old new to clear o a zero n deep small e = step_to old new to clear o a n small (λ i l f. absurd (omega (arith, l, deep))) e
@@ -137,7 +132,7 @@ reach_to old new to clear (Some piece) a e = elim (or_cases (has_step piece a to
 unpinned_take : (cells : Cells) (side : Color) (a t : ℕ) (v : Option Piece) → length cells ≡ 81 → a < 81 → t < 81 → a ≢ t → is_piece_of side v ≡ true → is_king side v ≡ false → is_king side (piece_at cells a) ≡ false → is_piece_of side (piece_at cells a) ≡ true → in_check cells side ≡ false
     → ((k x d : ℕ) → k < 81 → x < 81 → d < 8 → x ≢ t → is_sniper_of_king cells side x k ≡ true → is_on_ray (direction_at d) k a ≡ true → is_on_ray (direction_at d) a x ≡ false) → in_check (set (set cells a None) t v) side ≡ false
 unpinned_take cells side a t v len ha ht other own non_promoting bare mine safe apart =
-    left_off_pins (set cells t v) (set (set cells a None) t v) a ha opened side theirs crown (filled cells side t v len ht own non_promoting safe) off_pins
+    left_off_pins (set cells t v) (set (set cells a None) t v) a ha opened side theirs crown (filled cells cells side t v len ht (λ x other. refl) own non_promoting safe) off_pins
   where
     placed : piece_at (set cells t v) t ≡ v
     placed = get_or-set_same cells t v None (omega (arith, len))
@@ -146,31 +141,19 @@ unpinned_take cells side a t v len ha ht other own non_promoting bare mine safe 
     before x off = get_or-set_other cells t x v None off
 
     same_unless : (x : ℕ) → x ≢ a → piece_at (set cells t v) x ≡ piece_at (set (set cells a None) t v) x
-    same_unless x off = elim (cases_eq x t) [
-      | inl there ↦ rw there (placed ∙ sym (get_or-set_same (set cells a None) t v None (omega (arith, length-set cells a None, len))))
-      | inr elsewhere ↦ before x elsewhere ∙ sym (get_or-set_other (set cells a None) t x v None elsewhere ∙ get_or-set_other cells a x None None off)
-    ]
+    same_unless x off = grind (arith, cases_eq x t, placed, before x, length-set cells a None, get_or-set_same (set cells a None) t v None, get_or-set_other (set cells a None) t x v None, get_or-set_other cells a x None None off)
 
     left_bare : piece_at (set (set cells a None) t v) a ≡ None
     left_bare = get_or-set_other (set cells a None) t a v None other ∙ get_or-set_same cells a None None (omega (arith, len))
 
     opened : (x : ℕ) → is_none (piece_at (set (set cells a None) t v) x) ≡ true → (is_none (piece_at (set cells t v) x) ≡ true) ⊎ (x ≡ a)
-    opened x e = elim (cases_eq x a) [
-      | inl here ↦ inr here
-      | inr off ↦ inl (ap is_none (same_unless x off) ∙ e)
-    ]
+    opened x e = grind (arith, cases_eq x a, same_unless x)
 
     theirs : (x : ℕ) → is_piece_of (opponent_of side) (piece_at (set (set cells a None) t v) x) ≡ true → piece_at (set cells t v) x ≡ piece_at (set (set cells a None) t v) x
-    theirs x e = elim (cases_eq x a) [
-      | inl here ↦ absurd (let clash : false ≡ true = ap (is_piece_of (opponent_of side)) (sym (ap (piece_at (set (set cells a None) t v)) here ∙ left_bare)) ∙ e in cc)
-      | inr off ↦ same_unless x off
-    ]
+    theirs x e = grind (arith, cases_eq x a, left_bare, same_unless x)
 
     crown : (k : ℕ) → is_king side (piece_at (set (set cells a None) t v) k) ≡ true → piece_at (set cells t v) k ≡ piece_at (set (set cells a None) t v) k
-    crown k e = elim (cases_eq k a) [
-      | inl here ↦ absurd (let clash : false ≡ true = ap (is_king side) (sym (ap (piece_at (set (set cells a None) t v)) here ∙ left_bare)) ∙ e in cc)
-      | inr off ↦ same_unless k off
-    ]
+    crown k e = grind (arith, cases_eq k a, left_bare, same_unless k)
 
     off_pins : (k x d : ℕ) → k < 81 → x < 81 → d < 8 → is_sniper_of_king (set cells t v) side x k ≡ true → is_on_ray (direction_at d) k a ≡ true → is_on_ray (direction_at d) a x ≡ false
     off_pins k x d hk hx hd e on =
@@ -246,8 +229,7 @@ takes_legally p new hands a t to promote k attack away open_end reach safe =
     ∙ and_from _ _ (pseudo own open_end arrives promotes mobile) (ap not safe)
   where
     either : (promote : Bool) → (promote ≡ true → may_promote (piece_at p.cells a) a t ≡ true) → (not promote || may_promote (piece_at p.cells a) a t) ≡ true
-    either true h = h refl
-    either false h = refl
+    either promote h = grind arith
 
     pseudo : is_piece_of (opponent_of p.side) (piece_at new a) ≡ true → is_piece_of (opponent_of p.side) (piece_at new t) ≡ false → reaches new a t ≡ true → (not promote || may_promote (piece_at new a) a t) ≡ true → is_immobile t (piece_moved promote (piece_at new a)) ≡ false → is_pseudo_legal_board_move new (opponent_of p.side) a t promote ≡ true
     pseudo own free reach promotes mobile = rw (own, free, reach, promotes, mobile) refl
@@ -289,13 +271,7 @@ module _ (p : Shogi) (from to : ℕ) (promote : Bool) (v : IsValid p) (hf : from
   standing = left_board p from to promote v hf ht (legal_own p from to promote legal)
 
   adds_board : AddsOne p.cells (after p (Board from to promote)).cells (opponent_of p.side) to
-  adds_board x e ne = elim (look p.cells p.side from to (piece_moved promote (piece_at p.cells from)) v.cells_fit hf ht x) [
-    | inl there ↦ absurd (ne there.0)
-    | inr rest ↦ elim rest [
-      | inl here ↦ absurd (let clash : false ≡ true = ap (is_piece_of (opponent_of (opponent_of p.side))) (sym here.1) ∙ e in cc)
-      | inr same ↦ sym same
-    ]
-  ]
+  adds_board x e ne = grind (arith, look p.cells p.side from to (piece_moved promote (piece_at p.cells from)) v.cells_fit hf ht x)
 
   put_board : piece_at (after p (Board from to promote)).cells to ≡ piece_moved promote (piece_at p.cells from)
   put_board = get_or-set_same (set p.cells from None) to (piece_moved promote (piece_at p.cells from)) None (omega (arith, length-set p.cells from None, v.cells_fit))
@@ -303,17 +279,11 @@ module _ (p : Shogi) (from to : ℕ) (promote : Bool) (v : IsValid p) (hf : from
   pub threat_board : in_check (after p (Board from to promote)).cells (opponent_of p.side) ≡ false → (a t : ℕ) (promoted : Bool) → IsThreat p a t promoted → LeavesThreat p a t (Board from to promote) → MayTake (after p (Board from to promote)) a t promoted (piece_at p.cells t)
   threat_board shut a t promoted threat leaves = record {
     legal = still_takes p (Board from to promote) a t promoted standing shut adds_board put_board threat leaves.1;
-    stands = elim (look p.cells p.side from to (piece_moved promote (piece_at p.cells from)) v.cells_fit hf ht t) [
-      | inl there ↦ absurd (leaves.1.target_stays (sym there.0))
-      | inr rest ↦ elim rest [ inl here ↦ absurd (leaves.0 (sym here.0)) | inr same ↦ same ]
-    ];
+    stands = grind (arith, look p.cells p.side from to (piece_moved promote (piece_at p.cells from)) v.cells_fit hf ht t, leaves.0, leaves.1.target_stays);
   }
 
   adds_lifted : AddsOne p.cells (set p.cells from None) (opponent_of p.side) to
-  adds_lifted x e ne = elim (see_lifted p from to v hf (legal_own p from to promote legal) x) [
-    | inl here ↦ absurd (let clash : false ≡ true = ap (is_piece_of (opponent_of (opponent_of p.side))) (sym here.1) ∙ e in cc)
-    | inr same ↦ sym same
-  ]
+  adds_lifted x e ne = grind (arith, see_lifted p from to v hf (legal_own p from to promote legal) x)
 
   pub retake_board : in_check (set p.cells from None) (opponent_of p.side) ≡ false → (a : ℕ) (promoted : Bool) → IsAttack p a to promoted → MayTake (after p (Board from to promote)) a to promoted (piece_moved promote (piece_at p.cells from))
   retake_board shut a promoted attack = record {
@@ -347,10 +317,7 @@ module _ (p : Shogi) (kind : Kind) (to : ℕ) (v : IsValid p) (ht : to < 81) whe
   pub threat_drop : in_check (after p (Drop kind to)).cells (opponent_of p.side) ≡ false → (a t : ℕ) (promoted : Bool) → IsThreat p a t promoted → LeavesThreat p a t (Drop kind to) → MayTake (after p (Drop kind to)) a t promoted (piece_at p.cells t)
   threat_drop shut a t promoted threat leaves = record {
     legal = still_takes p (Drop kind to) a t promoted standing_drop shut adds_drop put_drop threat leaves;
-    stands = elim (drops.look p.cells p.side kind to v.cells_fit ht t) [
-      | inl there ↦ absurd (leaves.target_stays (sym there.0))
-      | inr same ↦ same
-    ];
+    stands = grind (arith, drops.look p.cells p.side kind to v.cells_fit ht t, leaves.target_stays);
   }
 
   standing_before : LeavesStanding p.cells p.cells (opponent_of p.side) to

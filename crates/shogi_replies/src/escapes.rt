@@ -62,9 +62,7 @@ pub fn some_escapes(p: &Position) -> Squares
 }
 
 /// The squares that one direction leads to from both squares, whatever stands between.
-fn squares_behind(over: usize, from: usize) -> Squares
-    requires over { over < 81 }
-    requires from { from < 81 }
+fn squares_behind(over: Square, from: Square) -> Squares
     ensures { (d : ℕ) → d < 8 → HasRaysBehind d from over result.bits }
 {
     let mut behind = Squares::none();
@@ -77,15 +75,14 @@ fn squares_behind(over: usize, from: usize) -> Squares
 
 /// The squares behind the king of the side that is not to move, where it has just one, as seen from
 /// the square.
-fn behind_king(p: &Position, from: usize) -> Squares
-    requires { from < 81 }
+fn behind_king(p: &Position, from: Square) -> Squares
     ensures { HasKingsRays p.now from result.bits }
 {
     let kings = p.as_board().kings(p.side().opponent());
     if kings.is_empty() {
         return Squares::none();
     }
-    squares_behind(lowest(kings.bits), from)
+    squares_behind(Square::of_index(lowest(kings.bits)), from)
 }
 
 /// The squares that the piece, which slides, reaches from the square, should the only king of the
@@ -95,14 +92,13 @@ fn slider_reach(p: &Position, piece: Piece, to: Square, among: Squares) -> Squar
     ensures { ReachesWithin p.now (Some piece) to result.bits }
 {
     to.reveal_invariant();
-    let index = to.index();
     let left = among.except(to);
-    let steps = step_squares(piece, index);
-    let wide = steps | line_mask(index);
+    let steps = step_squares(piece, to);
+    let wide = steps | line_mask(to);
     if left.without(steps).is_empty() || !left.without(wide).is_empty() {
         return wide;
     }
-    p.as_board().targets_of(piece, to) | behind_king(p, index)
+    p.as_board().targets_of(piece, to) | behind_king(p, to)
 }
 
 /// The squares that the piece reaches from the square, should the only king of the side that is not
@@ -114,11 +110,10 @@ fn within_reach(p: &Position, cell: Option<Piece>, to: Square, among: Squares) -
     let Some(piece) = cell else {
         return Squares::none()
     };
-    to.reveal_invariant();
     if piece.role.is_sliding() {
         slider_reach(p, piece, to, among)
     } else {
-        step_squares(piece, to.index())
+        step_squares(piece, to)
     }
 }
 
@@ -127,9 +122,8 @@ fn within_reach(p: &Position, cell: Option<Piece>, to: Square, among: Squares) -
 fn has_no_sniper(p: &Position, square: Square) -> bool
     ensures { result ≡ true → HasNoSniper p.now.cells p.now.side square }
 {
-    square.reveal_invariant();
     let board = p.as_board();
-    let snipers = board.own(p.side()) & board.sliders() & line_mask(square.index());
+    let snipers = board.own(p.side()) & board.sliders() & line_mask(square);
     snipers.is_empty()
 }
 
@@ -181,7 +175,7 @@ fn opened_lines(origin: &Origin) -> Squares
     match origin {
         Origin::Board { from, .. } => {
             from.reveal_invariant();
-            line_mask(from.index())
+            line_mask(*from)
         }
         Origin::Drop { .. } => Squares::none(),
     }
@@ -238,7 +232,7 @@ impl KnownReplies<'_> {
                     position: p,
                     squares: escapes,
                 }
-                .has_open(step_squares(piece, to.index()), *to)
+                .has_open(step_squares(piece, *to), *to)
             }
             Move::Drop { to, .. } => {
                 to.reveal_invariant();

@@ -65,8 +65,7 @@ pub fn king_line_mask(p: &Position, side: Color) -> Squares
     let mut lines = kings;
     let mut left = kings.iter();
     'kings: while let Some(king) = left.next() {
-        king.reveal_invariant();
-        lines = lines | line_mask(king.index());
+        lines = lines | line_mask(king);
     }
     lines
 }
@@ -76,8 +75,7 @@ pub fn king_line_mask(p: &Position, side: Color) -> Squares
 fn may_discover_check(p: &Position, side: Color, from: Square) -> bool
     ensures { result ≡ false → StaysCovered p.now.cells side from }
 {
-    from.reveal_invariant();
-    let snipers = p.as_board().snipers(side) & line_mask(from.index());
+    let snipers = p.as_board().snipers(side) & line_mask(from);
     !snipers.is_empty() && !(p.as_board().open_lines(from) & snipers).is_empty()
 }
 
@@ -111,8 +109,7 @@ pub fn quiet_steps(p: &Position, from: Square) -> Squares
     match cell {
         None => Squares::none(),
         Some(piece) => {
-            from.reveal_invariant();
-            let steps = step_squares(piece, from.index()) & p.as_board().free();
+            let steps = step_squares(piece, from) & p.as_board().free();
             steps.without(dead_squares(cell))
         }
     }

@@ -10,9 +10,7 @@ use shogi_core::{Color, Direction, Position, Square, Squares, line_mask, ray};
 use shogi_moves::Destinations;
 
 /// The squares between the two on a line, whatever stands there.
-pub fn squares_between(from: usize, to: usize) -> Squares
-    requires from { from < 81 }
-    requires to { to < 81 }
+pub fn squares_between(from: Square, to: Square) -> Squares
     ensures { HasBetween from to result.bits }
 {
     let mut between = Squares::none();
@@ -26,8 +24,7 @@ pub fn squares_between(from: usize, to: usize) -> Squares
 /// The squares between the king of the side and the pieces of the other one that slide and are on a
 /// line with it, whatever stands there.
 #[tactic(auto, using(crate::proofs::PinLaws::before_snipers, shogi_core::proofs::SeenLaws::snipers))]
-fn squares_before_king(p: &Position, side: Color, king: usize) -> Squares
-    requires { king < 81 }
+fn squares_before_king(p: &Position, side: Color, king: Square) -> Squares
     ensures { HasBeforeSnipers p.now.cells side king 0 result.bits }
 {
     let board = p.as_board();
@@ -35,8 +32,7 @@ fn squares_before_king(p: &Position, side: Color, king: usize) -> Squares
     let mut left = snipers.iter();
     let mut squares = Squares::none();
     'snipers: while let Some(sniper) = left.next() {
-        sniper.reveal_invariant();
-        squares = squares | squares_between(king, sniper.index());
+        squares = squares | squares_between(king, sniper);
     }
     squares
 }
@@ -48,10 +44,7 @@ fn pinnable_squares(p: &Position, side: Color) -> Squares
 {
     match p.king(side) {
         None => Squares::none(),
-        Some(king) => {
-            king.reveal_invariant();
-            squares_before_king(p, side, king.index())
-        }
+        Some(king) => squares_before_king(p, side, king),
     }
 }
 

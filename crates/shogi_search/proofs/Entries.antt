@@ -15,7 +15,7 @@ use Rattle.minimax.proofs.MinimaxLaws.{value_within, Within}
 use Rattle.minimax.specs.declared.bounds.TheConstants.{SEARCH_DEPTH_MAX, INFINITY}
 
 pub same_window : (alpha alpha' beta beta' : ℤ) (e : Entry) → alpha ≡ alpha' → beta ≡ beta' → IsConclusive alpha beta e → IsConclusive alpha' beta' e
-same_window alpha alpha' beta beta' e p q s = subst (λ (x : ℤ). IsConclusive alpha' x e) q (subst (λ (x : ℤ). IsConclusive x beta e) p s)
+same_window alpha alpha' beta beta' e p q s = rw (← p, ← q) s
 
 -- a true value at or below the whole window there is not
 pub not_at_most : (p : Shogi) (eval : Eval) (d : ℕ) (e : Entry) (v beta : ℤ) → IsValid p → d ≤ SEARCH_DEPTH_MAX → IsTrueEntry p eval d e → IsConclusive (negated INFINITY) beta e → e ≡ AtMost v → ⊥
@@ -57,13 +57,8 @@ pub whole_best : (p : Shogi) (eval : Eval) (d : ℕ) (beta : ℤ) (f : Found) �
 whole_best p eval d beta f h e = h.best_is (let m : f.value <ℤ INFINITY = h.most in omega (arith, ints))
 
 pub same_truth : (p p' : Shogi) (eval eval' : Eval) (d d' : ℕ) (e : Entry) → p ≡ p' → eval ≡ eval' → d ≡ d' → IsTrueEntry p eval d e → IsTrueEntry p' eval' d' e
-same_truth p p' eval eval' d d' e a k b t =
-    subst (λ (x : ℕ). IsTrueEntry p' eval' x e) b (subst (λ (x : Eval). IsTrueEntry p' x d e) k (subst (λ (x : Shogi). IsTrueEntry x eval d e) a t))
+same_truth p p' eval eval' d d' e a k b t = rw (← a, ← k, ← b) t
 
 -- what is found of the same position, below the same bound
 pub same_found : (p p' : Shogi) (eval eval' : Eval) (d d' : ℕ) (beta beta' : ℤ) (f : Found) → p ≡ p' → eval ≡ eval' → d ≡ d' → beta ≡ beta' → IsFoundBelow p eval d beta f → IsFoundBelow p' eval' d' beta' f
-same_found p p' eval eval' d d' beta beta' f a e h b k =
-    subst (λ (x : Shogi). IsFoundBelow x eval' d' beta' f) a
-    (subst (λ (x : Eval). IsFoundBelow p x d' beta' f) e
-    (subst (λ (x : ℕ). IsFoundBelow p eval x beta' f) h
-    (subst (λ (x : ℤ). IsFoundBelow p eval d x f) b k)))
+same_found p p' eval eval' d d' beta beta' f a e h b k = rw (← a, ← e, ← h, ← b) k

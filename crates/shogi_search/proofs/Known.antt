@@ -1,5 +1,5 @@
 -- What is known of the nodes of a stack, as a caller sees it.
-use Rattle.std.proofs.Common.{◌≡◌, ◌<◌, ◌-◌, ◌≤ℤ◌, ℕ, ℤ, Bool, true, false, List, [], ◌∷◌, ◌++◌, map, Option, None, Some, sym, subst, arith, rules}
+use Rattle.std.proofs.Common.{◌≡◌, ◌<◌, ◌-◌, ◌≤ℤ◌, ℕ, ℤ, Bool, true, false, List, [], ◌∷◌, ◌++◌, map, Option, None, Some, arith, rules}
 use Rattle.std.specs.List.{All}
 use Rattle.std.specs.Prelude.{MatchOption, IsSomeAnd, slice_index_or}
 use Rattle.std.proofs.lemmas.List.Elements.{All-map}
@@ -37,16 +37,13 @@ known_while p e d alpha beta best_value best_move codes (CutOff v) k = (k.1, k.0
 node_known : (f : Frame) → IsKnownNode (entered_of f)
 node_known f = known_while _ _ _ _ _ _ _ _ f.state f.known
 
-all_known : (fs : List Frame) → All IsKnownNode (map entered_of fs)
-all_known fs = All-map IsKnownNode entered_of fs (λ k d h. node_known (slice_index_or fs k d))
-
 pub nodes_known : (found : Option Found) (started : Bool) (fs : List Frame) → All IsKnownNode (entered_in found started (map entered_of fs))
 nodes_known (Some f) started fs = λ k d h. absurd (omega arith)
 nodes_known None false fs = λ k d h. absurd (omega arith)
-nodes_known None true fs = all_known fs
+nodes_known None true fs = All-map IsKnownNode entered_of fs (λ k d h. node_known (slice_index_or fs k d))
 
 node_at : (p : Shogi) (e : Eval) (d : ℕ) (alpha beta : ℤ) (f : Frame) → IsAt p e d alpha beta f → IsNodeAt p e d alpha beta (entered_of f)
-node_at p e d alpha beta f a = record { position_is = a.position; eval_is = a.eval; depth_is = a.depth; alpha_is = a.alpha_is; beta_is = a.beta_is }
+node_at p e d alpha beta f a = assumption
 
 head_in : (code : ℕ) (codes : List ℕ) → is_in code (code ∷ codes) ≡ true
 head_in code codes = search rules
@@ -77,12 +74,7 @@ chain_path p e d low high (f ∷ fs) top c =
 stack_path : (s : Stack) → IsStack s → IsPath s.root s.eval s.depth (negated INFINITY) s.bound (map entered_of (frames_of s))
 stack_path s k =
     let t : HasTop s (IsChain s.root s.eval s.depth (negated INFINITY) s.bound (parents_of s)) = has_top s _ k.chain in
-    subst (λ (fs : List Frame). IsPath s.root s.eval s.depth (negated INFINITY) s.bound (map entered_of fs)) (sym (frames_are s t.top t.is)) (chain_path _ _ _ _ _ (parents_of s) t.top t.has)
-
-path_in : (found : Option Found) (started : Bool) (p : Shogi) (e : Eval) (d : ℕ) (low high : ℤ) (ns : List Entered) → started ≡ true → found ≡ None → IsPath p e d low high ns → IsPath p e d low high (entered_in found started ns)
-path_in (Some f) started p e d low high ns b o h = absurd (cc)
-path_in None false p e d low high ns b o h = absurd (cc)
-path_in None true p e d low high ns b o h = h
+    rw (frames_are s t.top t.is) (chain_path _ _ _ _ _ (parents_of s) t.top t.has)
 
 -- where a search is under way, the nodes that it has entered and not left are a way down from its root
 pub nodes_path : (s : Inside) → IsSearch s → s.started ≡ true → s.found ≡ None → HasPath (progress_of s)
@@ -90,5 +82,5 @@ nodes_path s i b o = record {
   high = s.stack.bound;
   within = (i.ready o b).stack.within;
   whole = λ one. (i.ready o b).whole (omega (arith, one, entered_count s.found s.started s.stack o b (i.ready o b).stack));
-  path = path_in s.found s.started _ _ _ _ _ _ b o (stack_path s.stack (i.ready o b).stack);
+  path = rw (o, b) (stack_path s.stack (i.ready o b).stack);
 }

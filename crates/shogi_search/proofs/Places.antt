@@ -1,36 +1,26 @@
 -- The node on top of a stack, among its frames.
 use Rattle.std.proofs.Common.{◌≡◌, ◌<◌, ◌≤◌, ◌+◌, ◌-◌, ◌*◌, ◌≤ℤ◌, ℤ, ℕ, zero, suc, List, [], ◌∷◌, ◌++◌, length, take, set, get_or, Option, Some, None, refl, sym, ap, ◌∙◌, arith, subst}
 use Rattle.std.specs.Prelude.{sum_by, slice_get, IsSomeAnd}
-use Rattle.std.proofs.lemmas.List.{take-set, length-take-le}
+use Rattle.std.proofs.lemmas.List.{take-set, take_more, length-take-le}
 use Rattle.std.proofs.lemmas.Option.{slice_get_within, slice_get-get_or, get_or_from_slice_get}
-use Rattle.std.proofs.Math.Seq.{take-suc}
 use Rattle.shogi_core.specs.declared.moves.Move.{Move}
-use Rattle.shogi_core.specs.Codes.{code_of}
-use Rattle.shogi_moves.specs.After.{after_code}
 use Rattle.search_nodes.specs.declared.frame.Frame.{Frame}
-use Rattle.search_nodes.specs.declared.frame.NodeState.{NodeState}
 use Rattle.search_nodes.specs.declared.reply_cache.ReplyCache.{ReplyCache}
 use Rattle.search_nodes.specs.ReplyCache.{IsFoundAt, IsReplyCacheOf}
-use Rattle.shogi_eval.specs.Evaluated.{Evaluated}
-use Rattle.search_nodes.specs.declared.frame.NodeState.TheVariants.{AwaitingChild, Expanding, CutOff}
+use Rattle.search_nodes.specs.declared.frame.NodeState.TheVariants.{AwaitingChild}
 use Rattle.minimax.specs.declared.entry.Entry.{Entry}
 use Rattle.shogi_search.specs.declared.stack.Stack.{Stack}
-use Rattle.minimax.specs.Minimax.{negated, IsTrueEntry, tree_size, sum_of_tree_sizes}
-use Rattle.minimax.specs.Entries.{IsConclusive}
-use Rattle.minimax.specs.Window.{move_alpha, code_at}
+use Rattle.minimax.specs.Minimax.{negated, tree_size}
 use Rattle.search_nodes.specs.Frames.{position_after, move_alpha_of}
 use Rattle.search_nodes.specs.Changes.{IsAt, IsSame, left_of_frame, steps_after}
-use Rattle.shogi_search.specs.Stack.{IsChain, IsStack, OnTop, UsesSteps, frames_of, parents_of, left_at, steps_left, steps_for}
+use Rattle.shogi_search.specs.Stack.{IsChain, IsConclusiveEntry, IsEntryOf, IsStack, OnTop, UsesSteps, frames_of, parents_of, left_at, steps_left, steps_for}
 use Rattle.shogi_search.proofs.Again.{left_root, left_pushed, left_stays, left_taken, left_whole}
 use Rattle.shogi_core.specs.Position.{Shogi}
 use Rattle.minimax.proofs.MinimaxLaws.{tree_size-positive}
 use Rattle.shogi_eval.specs.declared.eval.Eval.{Eval}
-use Rattle.search_nodes.specs.Order.{todo, IsWithinTree}
-use Rattle.search_nodes.specs.Visits.{IsOver, IsFree}
-use Rattle.search_nodes.proofs.Nodes.{waits}
-use Rattle.shogi_search.proofs.Entries.{same_window, same_truth}
+use Rattle.search_nodes.specs.Order.{IsWithinTree}
 use Rattle.search_nodes.proofs.Passing.{left_kept}
-use Rattle.shogi_search.proofs.Chains.{chain_deep, IsChild, IsPopped, popped, chain_same, chain_height, same_asked, left_above, pushed}
+use Rattle.shogi_search.proofs.Chains.{chain_deep, IsChild, IsPopped, chain_pop, chain_push, chain_same, chain_height, same_asked, left_above}
 use Rattle.minimax.specs.declared.bounds.TheConstants.{SEARCH_DEPTH_MAX, INFINITY}
 
 -- this frame is on top of the stack
@@ -39,10 +29,7 @@ IsTop s f = slice_get s.frames s.height ≡ Some f
 
 -- one frame is on top
 pub one_top : (s : Stack) (f h : Frame) → IsTop s f → IsTop s h → f ≡ h
-one_top s f h a b = one f h (sym a ∙ b)
-  where
-    one : (f h : Frame) → Some f ≡ Some h → f ≡ h
-    one f h e = cc
+one_top s f h a b = cc
 
 -- what holds of the node on top holds of that frame, and back
 pub on_top : (s : Stack) (f : Frame) (fact : Frame → Type 0) → IsTop s f → OnTop s fact → fact f
@@ -51,31 +38,25 @@ on_top s f fact e h = subst (λ (o : Option Frame). IsSomeAnd o fact) e h
 pub of_top : (s : Stack) (f : Frame) (fact : Frame → Type 0) → IsTop s f → fact f → OnTop s fact
 of_top s f fact e h = subst (λ (o : Option Frame). IsSomeAnd o fact) (sym e) h
 
--- what holds of the node on top may be exchanged for what follows from it
-pub on_map : (s : Stack) (P Q : Frame → Type 0) → ((f : Frame) → P f → Q f) → OnTop s P → OnTop s Q
-on_map s P Q g h = map_some (slice_get s.frames s.height) h
-  where
-    map_some : (o : Option Frame) → IsSomeAnd o P → IsSomeAnd o Q
-    map_some None h = h
-    map_some (Some f) h = g f h
-
 -- some frame is on top, where something holds of it
 pub record HasTop (s : Stack) (fact : Frame → Type 0) : Type 0 where
   pub top : Frame
   pub is : IsTop s top
   pub has : fact top
 
-has_some : (o : Option Frame) (fact : Frame → Type 0) → IsSomeAnd o fact → (f : Frame) × ((o ≡ Some f) × fact f)
-has_some None fact h = absurd h
-has_some (Some f) fact h = (f, (refl, h))
-
 pub has_top : (s : Stack) (fact : Frame → Type 0) → OnTop s fact → HasTop s fact
-has_top s fact h = let k : _ = has_some (slice_get s.frames s.height) fact h in record { top = k.0; is = k.1.0; has = k.1.1 }
+has_top s fact h = has (slice_get s.frames s.height) refl h
+  where
+    has : (o : Option Frame) → slice_get s.frames s.height ≡ o → IsSomeAnd o fact → HasTop s fact
+    has None e h = absurd h
+    has (Some f) e h = record { top = f; is = e; has = h }
+
+-- what holds of the node on top may be exchanged for what follows from it
+pub on_map : (s : Stack) (P Q : Frame → Type 0) → ((f : Frame) → P f → Q f) → OnTop s P → OnTop s Q
+on_map s P Q g h = let t : HasTop s P = has_top s P h in of_top s t.top Q t.is (g t.top t.has)
 
 take_next : (xs : List Frame) (i : ℕ) (f : Frame) → slice_get xs i ≡ Some f → take (i + 1) xs ≡ take i xs ++ f ∷ []
-take_next xs i f e =
-    let one : i + 1 ≡ suc i = omega arith in
-    ap (λ (n : ℕ). take n xs) one ∙ (take-suc xs i f (slice_get_within xs i f e) ∙ ap (λ (x : Frame). take i xs ++ x ∷ []) (get_or_from_slice_get xs i f f e))
+take_next xs i f e = grind (arith, take_more xs i f, slice_get_within xs i f e, get_or_from_slice_get xs i f f e)
 
 -- the frames are those that wait for a child, and the one on top
 pub frames_are : (s : Stack) (f : Frame) → IsTop s f → frames_of s ≡ parents_of s ++ f ∷ []
@@ -88,21 +69,19 @@ set_there (x ∷ xs) (suc i) f h = set_there xs i f (omega arith)
 
 -- a stack whose top is this frame, at this place among its frames
 abbrev pub with_frame : Stack → ℕ → Frame → Stack
-with_frame s i f = record { root = s.root; eval = s.eval; depth = s.depth; beta = s.beta; bound = s.bound; frames = set s.frames i f; height = i; reply_cache = s.reply_cache }
+with_frame s i f = record s { frames = set s.frames i f; height = i }
 
 -- a stack with what was found of replies
 abbrev pub with_cache : Stack → ReplyCache → Stack
-with_cache s cache = record { root = s.root; eval = s.eval; depth = s.depth; beta = s.beta; bound = s.bound; frames = s.frames; height = s.height; reply_cache = cache }
+with_cache s cache = record s { reply_cache = cache }
 
 -- what was found of a position is true of a frame that stands for it
 pub found_at : (f : Frame) (p : Shogi) (e : Eval) (cache : ReplyCache) → f.node.position ≡ p → f.node.eval ≡ e → IsReplyCacheOf (record { position = p; eval = e }) cache → IsFoundAt f cache
-found_at f p e cache here under of = λ two.
-    subst (λ (q : Shogi). IsReplyCacheOf (record { position = q; eval = f.node.eval }) cache) (sym here)
-    (subst (λ (x : Eval). IsReplyCacheOf (record { position = p; eval = x }) cache) (sym under) of)
+found_at f p e cache here under of = λ two. rw (here, under) of
 
 -- and of one in the same place
 pub found_same : (f g : Frame) (cache : ReplyCache) → g.node ≡ f.node → g.depth ≡ f.depth → IsFoundAt f cache → IsFoundAt g cache
-found_same f g cache node depth found = λ two. subst (λ (n : Evaluated). IsReplyCacheOf n cache) (sym node) (found (sym depth ∙ two))
+found_same f g cache node depth found = λ two. rw node (found (sym depth ∙ two))
 
 pub top_with : (s : Stack) (i : ℕ) (f : Frame) → i < length s.frames → IsTop (with_frame s i f) f
 top_with s i f h = set_there s.frames i f h
@@ -161,9 +140,6 @@ room s f e k deep =
     let fits : s.height < length s.frames = slice_get_within s.frames s.height f e in
     omega (arith, chain_height s.root s.eval s.depth (negated INFINITY) s.bound (parents_of s) f c, length-take-le s.height s.frames (omega arith), k.shallow)
 
-parents_are : (s : Stack) (f : Frame) → 0 < s.height → slice_get s.frames (s.height - 1) ≡ Some f → parents_of s ≡ take (s.height - 1) s.frames ++ f ∷ []
-parents_are s f h e = let k : s.height ≡ s.height - 1 + 1 = omega arith in ap (λ (n : ℕ). take n s.frames) k ∙ take_next s.frames (s.height - 1) f e
-
 -- the node below the top, as it is read there
 pub record IsBelow (s : Stack) (f : Frame) : Type 0 where
   pub top : Frame
@@ -175,8 +151,8 @@ pub below : (s : Stack) (d : Frame) → IsStack s → 0 < s.height → s.height 
 below s d k h fits =
     let t : HasTop s (IsChain s.root s.eval s.depth (negated INFINITY) s.bound (parents_of s)) = has_top s _ k.chain in
     let f : Frame = get_or s.frames (s.height - 1) d in
-    let e : parents_of s ≡ take (s.height - 1) s.frames ++ f ∷ [] = parents_are s f h (slice_get-get_or s.frames (s.height - 1) d (omega arith)) in
-    record { top = t.top; is = t.is; parents = e; popped = popped _ _ _ _ _ (parents_of s) (take (s.height - 1) s.frames) f t.top e t.has }
+    let e : parents_of s ≡ take (s.height - 1) s.frames ++ f ∷ [] = grind (arith, take_next s.frames (s.height - 1) f (slice_get-get_or s.frames (s.height - 1) d (omega arith))) in
+    record { top = t.top; is = t.is; parents = e; popped = chain_pop _ _ _ _ _ (take (s.height - 1) s.frames) f t.top (subst (λ (fs : List Frame). IsChain s.root s.eval s.depth (negated INFINITY) s.bound fs t.top) e t.has) }
 
 pub asked_below : (s : Stack) (d : Frame) → IsStack s → 0 < s.height → s.height < length s.frames → ((m : Move) → (get_or s.frames (s.height - 1) d).state ≡ AwaitingChild m → ⊥) → ⊥
 asked_below s d k h fits none = let r : IsBelow s (get_or s.frames (s.height - 1) d) = below s d k h fits in none r.popped.by r.popped.child.asks
@@ -189,17 +165,12 @@ pub below_deep : (s : Stack) (d : Frame) → IsStack s → 0 < s.height → s.he
 below_deep s d k h fits = chain_deep _ _ _ _ _ _ _ (below s d k h fits).popped.chain
 
 -- what is known of the node on top is known of the child that the one below it has asked for
-pub truth_below : (s : Stack) (d : Frame) (m : Move) (entry : Entry) → IsStack s → 0 < s.height → s.height < length s.frames → (get_or s.frames (s.height - 1) d).state ≡ AwaitingChild m → OnTop s (λ top. IsTrueEntry top.node.position top.node.eval top.depth entry) → IsTrueEntry (after_code (get_or s.frames (s.height - 1) d).node.position (code_of m)) (get_or s.frames (s.height - 1) d).node.eval ((get_or s.frames (s.height - 1) d).depth - 1) entry
-truth_below s d m entry k h fits asks truth =
+pub entry_below : (s : Stack) (d : Frame) (m : Move) (entry : Entry) → IsStack s → 0 < s.height → s.height < length s.frames → (get_or s.frames (s.height - 1) d).state ≡ AwaitingChild m → OnTop s (λ top. IsEntryOf top entry)
+    → IsConclusiveEntry (position_after (get_or s.frames (s.height - 1) d) m) (get_or s.frames (s.height - 1) d).node.eval ((get_or s.frames (s.height - 1) d).depth - 1) (negated (get_or s.frames (s.height - 1) d).beta) (negated (move_alpha_of (get_or s.frames (s.height - 1) d) m)) entry
+entry_below s d m entry k h fits asks known =
     let r : IsBelow s (get_or s.frames (s.height - 1) d) = below s d k h fits in
     let q : IsChild (get_or s.frames (s.height - 1) d) r.top m = same_asked _ _ _ _ r.popped.child asks in
-    same_truth _ _ _ _ _ _ _ q.at_child.position q.at_child.eval q.at_child.depth (on_top s r.top (λ (top : Frame). IsTrueEntry top.node.position top.node.eval top.depth entry) r.is truth)
-
-pub conclusive_below : (s : Stack) (d : Frame) (m : Move) (entry : Entry) → IsStack s → 0 < s.height → s.height < length s.frames → (get_or s.frames (s.height - 1) d).state ≡ AwaitingChild m → OnTop s (λ top. IsConclusive top.alpha top.beta entry) → IsConclusive (negated (get_or s.frames (s.height - 1) d).beta) (negated (move_alpha (get_or s.frames (s.height - 1) d).best_value (code_at (get_or s.frames (s.height - 1) d).best_move) (code_of m))) entry
-conclusive_below s d m entry k h fits asks conclusive =
-    let r : IsBelow s (get_or s.frames (s.height - 1) d) = below s d k h fits in
-    let q : IsChild (get_or s.frames (s.height - 1) d) r.top m = same_asked _ _ _ _ r.popped.child asks in
-    same_window _ _ _ _ _ q.at_child.alpha_is q.at_child.beta_is (on_top s r.top (λ (top : Frame). IsConclusive top.alpha top.beta entry) r.is conclusive)
+    rw (← q.at_child.position, ← q.at_child.eval, ← q.at_child.depth, ← q.at_child.alpha_is, ← q.at_child.beta_is) (on_top s r.top (λ (top : Frame). IsEntryOf top entry) r.is known)
 
 -- the node below takes in what is known, and is on top
 pub stack_popped : (s : Stack) (d g : Frame) → IsStack s → 0 < s.height → s.height < length s.frames → IsSame (get_or s.frames (s.height - 1) d) g → IsStack (with_frame s (s.height - 1) g)
@@ -207,7 +178,7 @@ stack_popped s d g k h fits same =
     let r : IsBelow s (get_or s.frames (s.height - 1) d) = below s d k h fits in
     let low : s.height < SEARCH_DEPTH_MAX = k.height_fits in
     stack_with s (s.height - 1) g (omega arith) (omega arith) k.shallow k.within k.most (chain_same _ _ _ _ _ _ (get_or s.frames (s.height - 1) d) g r.popped.chain same)
-    (λ two. absurd (let low : 1 < r.top.depth = top_deep s r.top r.is k in let above : r.top.depth ≡ (get_or s.frames (s.height - 1) d).depth - 1 = r.popped.child.at_child.depth in let stays : g.depth ≡ (get_or s.frames (s.height - 1) d).depth = same.1.0 in omega (arith, low, above, stays, two)))
+    (λ two. absurd (omega (arith, r.popped.child.at_child.deep, r.popped.child.at_child.depth, same.1.0, two)))
 
 pub left_popped : (s : Stack) (d g : Frame) → IsStack s → 0 < s.height → s.height < length s.frames → IsSame (get_or s.frames (s.height - 1) d) g → g.picker ≡ (get_or s.frames (s.height - 1) d).picker → steps_left (with_frame s (s.height - 1) g) < steps_left s
 left_popped s d g k h fits same picker =
@@ -226,13 +197,11 @@ left_positive s k =
 pub stack_entered : (s : Stack) (f g : Frame) (m : Move) (cache : ReplyCache) → IsTop s f → IsStack s → f.state ≡ AwaitingChild m → 0 < f.depth → s.height + 1 < SEARCH_DEPTH_MAX → s.height + 1 < length s.frames → IsAt (position_after f m) f.node.eval (f.depth - 1) (negated f.beta) (negated (move_alpha_of f m)) g → IsFoundAt g cache → IsStack (with_frame (with_cache s cache) (s.height + 1) g)
 stack_entered s f g m cache is k asks more low fits place found =
     stack_with (with_cache s cache) (s.height + 1) g fits low k.shallow k.within k.most
-    (pushed _ _ _ _ _ (frames_of s) (parents_of s) f g m (frames_are s f is) (on_top s f _ is k.chain) (record { deep = omega (arith, more); asks = asks; at_child = place })) found
+    (rw (frames_are s f is) (chain_push _ _ _ _ _ (parents_of s) f g m (on_top s f _ is k.chain) (record { deep = omega (arith, more); asks = asks; at_child = place }))) found
 
 -- a node is entered, and none of its moves is gone through
 pub frame_entered : (f : Frame) (p : Shogi) (e : Eval) (d : ℕ) (alpha beta : ℤ) → IsAt p e d alpha beta f → IsWithinTree p d f.picker → left_of_frame f < 2 * tree_size p d
-frame_entered f p e d alpha beta place counted =
-    let moves : sum_of_tree_sizes f.node.position (f.depth - 1) (todo f.node.position f.picker) ≡ sum_of_tree_sizes p (d - 1) (todo p f.picker) = ap (λ (x : Shogi). sum_of_tree_sizes x (f.depth - 1) (todo x f.picker)) place.position ∙ ap (λ (x : ℕ). sum_of_tree_sizes p (x - 1) (todo p f.picker)) place.depth in
-    omega (arith, moves, counted)
+frame_entered f p e d alpha beta place counted = rw (place.position, place.depth) counted
 
 -- the root is entered, and each of its moves may be asked twice
 pub left_begun : (s : Stack) (f : Frame) (p : Shogi) (e : Eval) (alpha beta : ℤ) → 0 < length s.frames → IsAt p e s.depth alpha beta f → IsWithinTree p s.depth f.picker → steps_left (with_frame s 0 f) + 1 < 4 * tree_size p s.depth
@@ -270,16 +239,3 @@ left_descended s t m f g n is same less l =
 pub left_passed : (s : Stack) (f g : Frame) → IsTop s f → IsSame f g → left_of_frame g ≤ left_of_frame f → steps_left (with_frame s s.height g) ≤ steps_left s
 left_passed s f g is same less =
     omega (arith, left_changed s f g is, left_taken s.depth s.bound s.beta f g 0 same (omega (arith, less)))
-
--- no move is left to ask for
-pub over_next : (g : Frame) → g.state ≡ Expanding → todo g.node.position g.picker ≡ [] → IsOver g.state (todo g.node.position g.picker)
-over_next g next none = subst (λ (w : NodeState). IsOver w (todo g.node.position g.picker)) (sym next) none
-
--- what waits neither for its next move nor for an answer is cut off
-pub over_cut : (w : NodeState) (codes : List ℕ) → (w ≡ Expanding → ⊥) → IsFree w → IsOver w codes
-over_cut Expanding codes waits free = absurd (waits refl)
-over_cut (AwaitingChild m) codes waits free = absurd free
-over_cut (CutOff v) codes waits free = tt
-
-pub free_next : (w : NodeState) → w ≡ Expanding → IsFree w
-free_next w e = subst IsFree (sym e) tt

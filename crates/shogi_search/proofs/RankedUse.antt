@@ -1,8 +1,8 @@
 -- For callers that offer each legal move once, in the order of codes: the list ends as the first of the ranked moves.
-use Rattle.std.proofs.Common.{◌≡◌, ◌<◌, ◌≤◌, ◌≤ℤ◌, ◌<ℤ◌, ◌-◌, ℕ, zero, suc, ℤ, List, [], ◌∷◌, ◌++◌, ◌==◌, Option, Some, None, true, false, refl, ap, ◌∙◌, sym, inl, inr, arith, map, take, subst, append-nil}
+use Rattle.std.proofs.Common.{◌≡◌, ◌<◌, ◌≤◌, ◌≤ℤ◌, ◌<ℤ◌, ◌-◌, ℕ, zero, suc, ℤ, List, [], ◌∷◌, ◌++◌, Option, Some, None, true, false, refl, ap, ◌∙◌, sym, arith, map, take, subst, append-nil}
 use Rattle.std.specs.List.{slice_get}
 use Rattle.std.proofs.lemmas.Int.{ints}
-use Rattle.std.proofs.lemmas.Bool.{or_from, or_parts, or_cases, eqb-true, false_from_ne_true}
+use Rattle.std.proofs.lemmas.Bool.Decides.{nat_tests}
 use Rattle.std.proofs.lemmas.List.{append_assoc}
 use Rattle.shogi_core.specs.declared.moves.Move.{Move}
 use Rattle.shogi_core.specs.Codes.{code_of}
@@ -15,39 +15,40 @@ use Rattle.shogi_moves.proofs.LegalLaws.{legal_rising}
 use Rattle.shogi_eval.specs.declared.eval.Eval.{Eval}
 use Rattle.minimax.proofs.MinimaxLaws.{worth_bounds, WorthWithin}
 use Rattle.search_nodes.proofs.MatchingOthers.{is_in-append_left, is_in-append_right}
-use Rattle.shogi_search.proofs.RankedLaws.{in_ranked, first_in, at_place_in, rank_past, not_before, ranked_last, ranked_list, AreDistinct}
+use Rattle.shogi_search.proofs.RankedLaws.{in_ranked, first_in, rank_past, not_before, ranked_last, ranked_list, AreDistinct}
 use Rattle.shogi_search.specs.declared.found.Found.{Found}
 use Rattle.shogi_search.specs.Progress.{IsFoundBelow}
 use Rattle.minimax.specs.Minimax.{value, worth, negated}
 use Rattle.shogi_search.specs.Ranked.{ranked, insert_code, is_better, codes_in, coded, with_worth, Ranking, IsTop, value_in, value_to_pass, beta_above, child_beta}
 use Rattle.minimax.specs.declared.bounds.TheConstants.{SEARCH_DEPTH_MAX, INFINITY}
 
-codes_of_coded : (xs : List (Move × ℤ)) → map (λ (q : ℕ × ℤ). q.0) (map coded xs) ≡ codes_in xs
-codes_of_coded [] = refl
-codes_of_coded (x ∷ xs) = ap (λ (l : List ℕ). code_of x.0 ∷ l) (codes_of_coded xs)
-
-codes_of_worth : (f : ℕ → ℤ) (ks : List ℕ) → map (λ (q : ℕ × ℤ). q.0) (map (with_worth f) ks) ≡ ks
-codes_of_worth f [] = refl
-codes_of_worth f (k ∷ ks) = ap (λ (l : List ℕ). k ∷ l) (codes_of_worth f ks)
+codes_are : (f : ℕ → ℤ) (xs : List (Move × ℤ)) (ks : List ℕ) → map coded xs ≡ map (with_worth f) ks → codes_in xs ≡ ks
+codes_are f [] [] h = refl
+codes_are f [] (k ∷ ks) h = absurd (cc)
+codes_are f (x ∷ xs) [] h = absurd (cc)
+codes_are f (x ∷ xs) (k ∷ ks) h = grind (arith, codes_are f xs ks)
 
 not_in_front : (c n : ℕ) (ks : List ℕ) → is_in c ks ≡ false → is_in c (take n ks) ≡ false
 not_in_front c zero ks h = refl
 not_in_front c (suc n) [] h = refl
-not_in_front c (suc n) (k ∷ ks) h =
-    let parts : ((c == k) ≡ false) × (is_in c ks ≡ false) = or_parts (c == k) (is_in c ks) h in
-    or_from (c == k) (is_in c (take n ks)) parts.0 (not_in_front c n ks parts.1)
+not_in_front c (suc n) (k ∷ ks) h = grind (arith, not_in_front c n ks)
 
 -- what was not offered is not listed
-pub top_not_listed : (f : ℕ → ℤ) (codes : List ℕ) (n c : ℕ) (xs : List (Move × ℤ)) → map coded xs ≡ map (with_worth f) (take n (ranked f codes)) → is_in c codes ≡ false → is_in c (codes_in xs) ≡ false
-top_not_listed f codes n c xs h i =
-    ap (is_in c) (sym (codes_of_coded xs) ∙ ap (map (λ (q : ℕ × ℤ). q.0)) h ∙ codes_of_worth f (take n (ranked f codes))) ∙ not_in_front c n (ranked f codes) (in_ranked f c codes ∙ i)
+top_not_listed : (f : ℕ → ℤ) (codes : List ℕ) (n c : ℕ) (xs : List (Move × ℤ)) → map coded xs ≡ map (with_worth f) (take n (ranked f codes)) → is_in c codes ≡ false → is_in c (codes_in xs) ≡ false
+top_not_listed f codes n c xs h i = grind (arith, codes_are f xs (take n (ranked f codes)), not_in_front c n (ranked f codes), in_ranked f c codes)
+
+-- the codes of a prefix of a rising list are less than the next one
+rising_front : (xs : List ℕ) (m : ℕ) (ys : List ℕ) → IsRising (xs ++ m ∷ ys) → (n : ℕ) → is_in n xs ≡ true → n < m
+rising_front [] m ys r n i = absurd (cc)
+rising_front (x ∷ xs) m ys r n i = grind (arith, nat_tests, r.0 m (is_in-append_right m xs (m ∷ ys) (first_in m ys)), rising_front xs m ys r.1 n)
 
 -- in a rising list no code stands among those before it
-pub rising_apart : (xs : List ℕ) (m : ℕ) (ys : List ℕ) → IsRising (xs ++ m ∷ ys) → is_in m xs ≡ false
-rising_apart [] m ys r = refl
-rising_apart (x ∷ xs) m ys r =
-    let less : x < m = r.0 m (is_in-append_right m xs (m ∷ ys) (first_in m ys)) in
-    or_from (m == x) (is_in m xs) (false_from_ne_true (m == x) (λ t. (let e : m ≡ x = eqb-true m x t in omega arith))) (rising_apart xs m ys r.1)
+rising_apart : (xs : List ℕ) (m : ℕ) (ys : List ℕ) → IsRising (xs ++ m ∷ ys) → is_in m xs ≡ false
+rising_apart xs m ys r = grind (arith, rising_front xs m ys r m)
+
+front_distinct : (xs ys : List ℕ) → IsRising (xs ++ ys) → AreDistinct xs
+front_distinct [] ys r = tt
+front_distinct (x ∷ xs) ys r = (grind (arith, r.0 x, is_in-append_left x xs ys), front_distinct xs ys r.1)
 
 -- the legal moves up to the one that was passed last were offered
 pub record IsGoneThrough (p : Shogi) (f : ℕ → ℤ) (passed : Option Move) (r : Ranking) : Type 0 where
@@ -76,79 +77,30 @@ pub gone_all : (p : Shogi) (f : ℕ → ℤ) (passed : Option Move) (r : Ranking
 gone_all p f passed r g e = subst (λ (l : List ℕ). IsTop f l r) (sym (append-nil g.seen) ∙ ap (λ (l : List ℕ). g.seen ++ l) (sym e) ∙ g.whole) g.top
 
 -- what stands on a line of the first of the codes
-record IsLineOf (f : ℕ → ℤ) (codes : List ℕ) (n i : ℕ) (x : Move × ℤ) : Type 0 where
-  pub short : i < n
-  pub code_is : slice_get codes i ≡ Some (code_of x.0)
-  pub worth_is : f (code_of x.0) ≡ x.1
-
-line_of : (f : ℕ → ℤ) (xs : List (Move × ℤ)) (codes : List ℕ) (n i : ℕ) (x : Move × ℤ) → map coded xs ≡ map (with_worth f) (take n codes) → slice_get xs i ≡ Some x → IsLineOf f codes n i x
-line_of f [] codes n i x h e = absurd (cc)
-line_of f (y ∷ ys) codes zero i x h e = absurd (cc)
-line_of f (y ∷ ys) [] (suc n) i x h e = absurd (cc)
-line_of f (y ∷ ys) (k ∷ ks) (suc n) zero x h e =
-    let q : coded y ≡ with_worth f k = cc in
-    let same : y ≡ x = cc in
-    let c : code_of y.0 ≡ k = ap (λ (p : ℕ × ℤ). p.0) q in
-    let w : y.1 ≡ f k = ap (λ (p : ℕ × ℤ). p.1) q in
-    let k_is : code_of x.0 ≡ k = sym (ap (λ (z : Move × ℤ). code_of z.0) same) ∙ c in
-    record { short = omega arith; code_is = ap (λ (j : ℕ). Some j) (sym k_is); worth_is = ap f k_is ∙ sym w ∙ ap (λ (z : Move × ℤ). z.1) same }
-line_of f (y ∷ ys) (k ∷ ks) (suc n) (suc i) x h e =
-    let rest : map coded ys ≡ map (with_worth f) (take n ks) = cc in
-    let r : IsLineOf f ks n i x = line_of f ys ks n i x rest e in
-    record { short = (let s : i < n = r.short in omega arith); code_is = r.code_is; worth_is = r.worth_is }
-
--- the codes of a prefix of a rising list are less than the next one
-rising_front : (xs : List ℕ) (m : ℕ) (ys : List ℕ) → IsRising (xs ++ m ∷ ys) → (n : ℕ) → is_in n xs ≡ true → n < m
-rising_front [] m ys r n i = absurd (cc)
-rising_front (x ∷ xs) m ys r n i = elim (or_cases (n == x) (is_in n xs) i) [
-  | inl e ↦ (let q : n ≡ x = eqb-true n x e in let l : x < m = r.0 m (is_in-append_right m xs (m ∷ ys) (first_in m ys)) in omega arith)
-  | inr l ↦ rising_front xs m ys r.1 n l
-]
-
-front_distinct : (xs ys : List ℕ) → IsRising (xs ++ ys) → AreDistinct xs
-front_distinct [] ys r = tt
-front_distinct (x ∷ xs) ys r = (false_from_ne_true _ (λ t. (let l : x < x = r.0 x (is_in-append_left x xs ys t) in omega arith)), front_distinct xs ys r.1)
-
-record IsPairOf (o : Option (Move × ℤ)) (w : ℤ) : Type 0 where
-  pub pair : Move × ℤ
-  pub is : o ≡ Some pair
-  pub value_is : pair.1 ≡ w
-
-some_value : (o : Option (Move × ℤ)) (w : ℤ) → value_in o ≡ Some w → IsPairOf o w
-some_value None w h = absurd (cc)
-some_value (Some x) w h = record { pair = x; is = refl; value_is = cc }
-
--- the code on the last line
-record IsOnLastLine (f : ℕ → ℤ) (codes : List ℕ) (r : Ranking) (w : ℤ) : Type 0 where
+record IsLineOf (f : ℕ → ℤ) (codes : List ℕ) (n i : ℕ) (w : ℤ) : Type 0 where
   pub code : ℕ
-  pub full : r.lines - 1 < r.lines
-  pub code_is : slice_get (ranked f codes) (r.lines - 1) ≡ Some code
+  pub short : i < n
+  pub code_is : slice_get codes i ≡ Some code
   pub worth_is : f code ≡ w
-  pub offered : is_in code codes ≡ true
+  pub listed : is_in code codes ≡ true
 
-last_line : (f : ℕ → ℤ) (codes : List ℕ) (r : Ranking) (w : ℤ) → IsTop f codes r → value_to_pass r ≡ Some w → IsOnLastLine f codes r w
-last_line f codes r w t e =
-    let o : IsPairOf (slice_get r.pairs (r.lines - 1)) w = some_value (slice_get r.pairs (r.lines - 1)) w e in
-    let l : IsLineOf f (ranked f codes) r.lines (r.lines - 1) o.pair = line_of f r.pairs (ranked f codes) r.lines (r.lines - 1) o.pair t o.is in
-    record {
-      code = code_of o.pair.0;
-      full = l.short;
-      code_is = l.code_is;
-      worth_is = l.worth_is ∙ o.value_is;
-      offered = sym (in_ranked f (code_of o.pair.0) codes) ∙ at_place_in (ranked f codes) (r.lines - 1) (code_of o.pair.0) l.code_is;
-    }
+line_of : (f : ℕ → ℤ) (xs : List (Move × ℤ)) (codes : List ℕ) (n i : ℕ) (w : ℤ) → map coded xs ≡ map (with_worth f) (take n codes) → value_in (slice_get xs i) ≡ Some w → IsLineOf f codes n i w
+line_of f [] codes n i w h e = absurd (cc)
+line_of f (y ∷ ys) codes zero i w h e = absurd (cc)
+line_of f (y ∷ ys) [] (suc n) i w h e = absurd (cc)
+line_of f (y ∷ ys) (k ∷ ks) (suc n) zero w h e = record { code = k; short = omega arith; code_is = refl; worth_is = grind arith; listed = first_in k ks }
+line_of f (y ∷ ys) (k ∷ ks) (suc n) (suc i) w h e =
+    let r : IsLineOf f ks n i w = line_of f ys ks n i w (grind arith) e in
+    record { code = r.code; short = omega (arith, r.short); code_is = r.code_is; worth_is = r.worth_is; listed = grind (arith, r.listed) }
 
 -- the first of some codes stay so where one behind the last line comes
 top_past : (f : ℕ → ℤ) (codes : List ℕ) (r : Ranking) (w : ℤ) (m : ℕ) → IsTop f codes r → value_to_pass r ≡ Some w → AreDistinct codes → ((n : ℕ) → is_in n codes ≡ true → n < m) → is_in m codes ≡ false → f m ≤ℤ w → IsTop f (codes ++ m ∷ []) r
 top_past f codes r w m t e distinct less i low =
-    let l : IsOnLastLine f codes r w = last_line f codes r w t e in
-    let at : f l.code ≡ w = l.worth_is in
-    let behind : is_better (f m) m (f l.code) l.code ≡ false = not_before f m l.code (less l.code l.offered) (omega (arith, ints)) in
-    let same : take (suc (r.lines - 1)) (insert_code f m (ranked f codes)) ≡ take (suc (r.lines - 1)) (ranked f codes) = rank_past f m (ranked f codes) (r.lines - 1) l.code (ranked_list f codes distinct) l.code_is behind in
-    let full : r.lines - 1 < r.lines = l.full in
-    let n : suc (r.lines - 1) ≡ r.lines = omega arith in
-    let whole : take r.lines (insert_code f m (ranked f codes)) ≡ take r.lines (ranked f codes) = subst (λ (k : ℕ). take k (insert_code f m (ranked f codes)) ≡ take k (ranked f codes)) n same in
-    t ∙ ap (map (with_worth f)) (sym (ap (take r.lines) (ranked_last f codes m i) ∙ whole))
+    let l : IsLineOf f (ranked f codes) r.lines (r.lines - 1) w = line_of f r.pairs (ranked f codes) r.lines (r.lines - 1) w t e in
+    let behind : is_better (f m) m (f l.code) l.code ≡ false = not_before f m l.code (less l.code (sym (in_ranked f l.code codes) ∙ l.listed)) (omega (arith, ints, l.worth_is)) in
+    let n : suc (r.lines - 1) ≡ r.lines = omega (arith, l.short) in
+    let same : take r.lines (insert_code f m (ranked f codes)) ≡ take r.lines (ranked f codes) = rw n at (rank_past f m (ranked f codes) (r.lines - 1) l.code (ranked_list f codes distinct) l.code_is behind) in
+    t ∙ ap (map (with_worth f)) (sym (ap (take r.lines) (ranked_last f codes m i) ∙ same))
 
 -- where the list is full, the next move is gone through without an offer if it is worth no more than the last line
 pub gone_past : (p : Shogi) (f : ℕ → ℤ) (passed : Option Move) (r : Ranking) (m : Move) (w : ℤ) → IsGoneThrough p f passed r → legal_above p passed ≡ code_of m ∷ legal_above p (Some m) → value_to_pass r ≡ Some w → f (code_of m) ≤ℤ w → IsGoneThrough p f (Some m) r
@@ -164,27 +116,23 @@ gone_past p f passed r m w g e v low =
 -- the value on the last line is that of a position
 gone_within : (p : Shogi) (eval : Eval) (d : ℕ) (passed : Option Move) (r : Ranking) (w : ℤ) → IsValid p → d ≤ SEARCH_DEPTH_MAX → IsGoneThrough p (worth p eval d) passed r → value_to_pass r ≡ Some w → (negated INFINITY <ℤ w) × (w <ℤ INFINITY)
 gone_within p eval d passed r w ok h g v =
-    let l : IsOnLastLine (worth p eval d) g.seen r w = last_line (worth p eval d) g.seen r w g.top v in
-    let legal : is_in l.code (legal_codes p) ≡ true = subst (λ (xs : List ℕ). is_in l.code xs ≡ true) g.whole (is_in-append_left l.code g.seen (legal_above p passed) l.offered) in
+    let l : IsLineOf (worth p eval d) (ranked (worth p eval d) g.seen) r.lines (r.lines - 1) w = line_of (worth p eval d) r.pairs (ranked (worth p eval d) g.seen) r.lines (r.lines - 1) w g.top v in
+    let legal : is_in l.code (legal_codes p) ≡ true = subst (λ (xs : List ℕ). is_in l.code xs ≡ true) g.whole (is_in-append_left l.code g.seen (legal_above p passed) (sym (in_ranked (worth p eval d) l.code g.seen) ∙ l.listed)) in
     let k : WorthWithin d (worth p eval d l.code) = worth_bounds d p eval l.code ok legal in
     let at : worth p eval d l.code ≡ w = l.worth_is in
     (omega (arith, ints), omega (arith, ints))
 
 -- the window of the next child is one that a search may be given
 window_within : (o : Option ℤ) → ((w : ℤ) → o ≡ Some w → (negated INFINITY <ℤ w) × (w <ℤ INFINITY)) → (negated INFINITY <ℤ beta_above o) × (beta_above o ≤ℤ INFINITY)
-window_within None h = (omega (arith, ints), omega (arith, ints))
-window_within (Some w) h =
-    let b : (negated INFINITY <ℤ w) × (w <ℤ INFINITY) = h w refl in
-    let low : negated INFINITY <ℤ w = b.0 in
-    let high : w <ℤ INFINITY = b.1 in
-    (omega (arith, ints), omega (arith, ints))
+window_within None h = grind (arith, ints)
+window_within (Some w) h = grind (arith, ints, h w refl)
 
 pub gone_window : (p : Shogi) (eval : Eval) (d : ℕ) (passed : Option Move) (r : Ranking) → IsValid p → d ≤ SEARCH_DEPTH_MAX → IsGoneThrough p (worth p eval d) passed r → (negated INFINITY <ℤ child_beta r) × (child_beta r ≤ℤ INFINITY)
 gone_window p eval d passed r ok h g = window_within (value_to_pass r) (λ w e. gone_within p eval d passed r w ok h g e)
 
-past_window : (o : Option ℤ) (v x : ℤ) (P : Type 0) → x <ℤ INFINITY → x ≤ℤ v → beta_above o ≤ℤ x → ((w : ℤ) → o ≡ Some w → negated v ≤ℤ w → P) → P
-past_window None v x P most lower at f = absurd (omega (arith, ints))
-past_window (Some w) v x P most lower at f = f w refl (omega (arith, ints))
+past_window : (o : Option ℤ) (v x : ℤ) → x <ℤ INFINITY → x ≤ℤ v → beta_above o ≤ℤ x → (w : ℤ) × (o ≡ Some w) × (negated v ≤ℤ w)
+past_window None v x most lower at = absurd (omega (arith, ints))
+past_window (Some w) v x most lower at = (w, refl, omega (arith, ints))
 
 -- a move that is worth what its child is, and whose child is found to be worth no less than the end of its window, is gone through without an offer
 pub gone_unlisted : (p : Shogi) (eval : Eval) (d : ℕ) (passed : Option Move) (r : Ranking) (m : Move) (q : Shogi) (beta : ℤ) (found : Found) → worth p eval d (code_of m) ≡ negated (value (after_code p (code_of m)) eval d) → IsGoneThrough p (worth p eval d) passed r → legal_above p passed ≡ code_of m ∷ legal_above p (Some m) → q ≡ after_code p (code_of m)
@@ -192,5 +140,5 @@ pub gone_unlisted : (p : Shogi) (eval : Eval) (d : ℕ) (passed : Option Move) (
 gone_unlisted p eval d passed r m q beta found is g e at b same h =
     let lower : found.value ≤ℤ value q eval d = b.lower in
     let v : value q eval d ≡ value (after_code p (code_of m)) eval d = ap (λ (x : Shogi). value x eval d) at in
-    past_window (value_to_pass r) (value (after_code p (code_of m)) eval d) found.value (IsGoneThrough p (worth p eval d) (Some m) r) b.most (omega (arith, ints)) (omega (arith, ints))
-    (λ w at_last low. gone_past p (worth p eval d) passed r m w g e at_last (omega (arith, ints, is, low)))
+    let last : _ = past_window (value_to_pass r) (value (after_code p (code_of m)) eval d) found.value b.most (omega (arith, ints)) (omega (arith, ints)) in
+    gone_past p (worth p eval d) passed r m last.0 g e last.1 (omega (arith, ints, is, last.2))

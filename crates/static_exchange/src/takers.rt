@@ -67,9 +67,8 @@ pub fn taking(p: &Position, square: Square, from: Square) -> Move
 fn reachers(p: &Position, square: Square) -> Squares
     ensures squares { HasBits result.bits (λ n. is_own p.now n && reaches p.now.cells n square) }
 {
-    square.reveal_invariant();
     let board = p.as_board();
-    let lined = board.sliders() & line_mask(square.index());
+    let lined = board.sliders() & line_mask(square);
     let near = near_squares(square) | lined;
     (board.own(p.side()) & near).sift(|from| board.reaches(from, square))
 }

@@ -58,7 +58,7 @@ fn directions_one_by_one(rt: HostRuntime) -> Result<(), Fail> {
         same!(rt; direction.number(), number);
         same!(rt; direction.opposite().number(), opposite);
         same!(rt; direction.quarter_turn().number(), turned);
-        holds!(rt; ray(direction, 40) == squares_of(squares)?, number);
+        holds!(rt; ray(direction, Square::of_index(40)) == squares_of(squares)?, number);
     }
     holds!(rt; left.next().is_none());
     holds!(rt; left.next().is_none());
@@ -72,9 +72,10 @@ fn directions_one_by_one(rt: HostRuntime) -> Result<(), Fail> {
 #[test]
 fn squares_on_lines(rt: HostRuntime) {
     for from in 0..81 {
-        let lines = line_mask(from);
+        let a = Square::of_index(from);
+        let lines = line_mask(a);
         for to in 0..81 {
-            let (a, b) = (Square::of_index(from), Square::of_index(to));
+            let b = Square::of_index(to);
             let files = file_of(a).abs_diff(file_of(b));
             let ranks = a.rank().abs_diff(b.rank());
             let aligned = from != to && (files == 0 || ranks == 0 || files == ranks);

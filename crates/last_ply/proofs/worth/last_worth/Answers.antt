@@ -3,32 +3,16 @@ use Rattle.std.proofs.lemmas.Int.{ints}
 use Rattle.shogi_core.specs.Codes.{code_of}
 use Rattle.shogi_moves.proofs.LegalLaws.{legal_to_listed}
 use Rattle.minimax.specs.Minimax.{worth}
-use Rattle.last_ply.specs.LastPly.{score_at, LeavesSome}
+use Rattle.last_ply.specs.LastPly.{score_at}
 use Rattle.last_ply.proofs.Composing.{worth_some, score_bounds}
 use Rattle.last_ply.proofs.worth.last_worth.Goals as goal
 
-pub returns-clause-value : goal.returns-clause-value
-returns-clause-value c =
+pub returns : goal.returns
+returns c =
     let p = c.args.p.now in
     let code = code_of c.args.m in
-    let some : LeavesSome p code = rw c.apply.ensures.by_code at (c.has_legal.ensures.0 c.if-not-has_legal.false) in
-    let worth_is : worth p c.args.e 0 code ≡ score_at p c.args.e code = worth_some p c.args.e code some in
+    let worth_is : worth p c.args.e 0 code ≡ score_at p c.args.e code = worth_some p c.args.e code (rw c.apply.ensures.by_code at (c.has_legal.ensures.0 c.if-not-has_legal.false)) in
     let at : score_at p c.args.e code ≤ℤ c.score_above.result = rw (c.scored.ensures.node, c.scored.ensures.current, c.of-frontier.ensures, c.of-node.ensures.position, c.of-node.ensures.eval) at c.score_above.ensures.at in
     let bounds = score_bounds p c.args.e code c.reveal_invariant.ensures (legal_to_listed _ _ c.reveal_invariant-2.ensures.back c.requires) in
     let is : c.score_above.result ≡ score_at p c.args.e code = rw (c.scored.ensures.node, c.scored.ensures.current, c.of-frontier.ensures, c.of-node.ensures.position, c.of-node.ensures.eval) at (c.score_above.ensures.exact (omega (arith, ints, at, bounds.0))) in
-    omega (arith, ints, is, worth_is)
-
-pub returns-clause-least : goal.returns-clause-least
-returns-clause-least c =
-    let at : score_at c.args.p.now c.args.e (code_of c.args.m) ≤ℤ c.score_above.result = rw (c.scored.ensures.node, c.scored.ensures.current, c.of-frontier.ensures, c.of-node.ensures.position, c.of-node.ensures.eval) at c.score_above.ensures.at in
-    let bounds = score_bounds c.args.p.now c.args.e (code_of c.args.m) c.reveal_invariant.ensures (legal_to_listed _ _ c.reveal_invariant-2.ensures.back c.requires) in
-    omega (arith, ints, at, bounds.0)
-
-pub returns-clause-most : goal.returns-clause-most
-returns-clause-most c =
-    let p = c.args.p.now in
-    let code = code_of c.args.m in
-    let at : score_at p c.args.e code ≤ℤ c.score_above.result = rw (c.scored.ensures.node, c.scored.ensures.current, c.of-frontier.ensures, c.of-node.ensures.position, c.of-node.ensures.eval) at c.score_above.ensures.at in
-    let bounds = score_bounds p c.args.e code c.reveal_invariant.ensures (legal_to_listed _ _ c.reveal_invariant-2.ensures.back c.requires) in
-    let is : c.score_above.result ≡ score_at p c.args.e code = rw (c.scored.ensures.node, c.scored.ensures.current, c.of-frontier.ensures, c.of-node.ensures.position, c.of-node.ensures.eval) at (c.score_above.ensures.exact (omega (arith, ints, at, bounds.0))) in
-    omega (arith, ints, bounds.1, is)
+    record { value = omega (arith, ints, is, worth_is); least = omega (arith, ints, at, bounds.0); most = omega (arith, ints, bounds.1, is) }

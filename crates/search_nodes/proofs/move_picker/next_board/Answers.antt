@@ -1,4 +1,4 @@
-use Rattle.std.proofs.Common.{◌∙◌, refl, sym}
+use Rattle.std.proofs.Common.{◌∙◌, sym}
 use Rattle.shogi_core.specs.Codes.{code_of}
 use Rattle.shogi_core.specs.declared.moves.TheConstants.{FIRST_DROP}
 use Rattle.shogi_moves.specs.LegalMoves.{legal_from}
@@ -6,15 +6,6 @@ use Rattle.shogi_moves.specs.Sweeps.{matching_from}
 use Rattle.search_nodes.specs.Order.{codes_of}
 use Rattle.search_nodes.proofs.MatchingOthers.{fewer_left, other-found, other-passed, other-same}
 use Rattle.search_nodes.proofs.move_picker.next_board.Goals as goal
-
-pub moves-init : goal.moves-init
-moves-init c = record { kept = c.requires.consistent; same = refl }
-
-pub next-requires : goal.next-requires
-next-requires c = record { consistent = c.moves.invariant.kept }
-
-pub returns-then-not-has_move-clause-consistent : goal.returns-then-not-has_move-clause-consistent
-returns-then-not-has_move-clause-consistent c = c.next.ensures.consistent
 
 pub returns-then-not-has_move-clause-next : goal.returns-then-not-has_move-clause-next
 returns-then-not-has_move-clause-next c = c.moves.invariant.same ∙ other-found c.args.p.now (codes_of c.args.priority_moves.now) c.args.capture (code_of c.in-Some.m) (legal_from c.args.p.now c.moves.sweep.code) (legal_from c.args.p.now c.next.new.self.code) c.in-Some.ensures.next (sym c.has_move.ensures ∙ c.if-not-has_move.true)
@@ -27,9 +18,6 @@ moves-preserved c = record {
   kept = c.next.ensures.consistent;
   same = c.moves.invariant.same ∙ other-passed c.args.p.now (codes_of c.args.priority_moves.now) c.args.capture (code_of c.in-Some.m) (legal_from c.args.p.now c.moves.sweep.code) (legal_from c.args.p.now c.next.new.self.code) c.in-Some.ensures.next (sym c.has_move.ensures ∙ c.if-not-has_move.false);
 }
-
-pub returns-clause-consistent : goal.returns-clause-consistent
-returns-clause-consistent c = c.next.ensures.consistent
 
 pub returns-clause-next : goal.returns-clause-next
 returns-clause-next c = c.moves.invariant.same ∙ other-same c.args.p.now (codes_of c.args.priority_moves.now) c.args.capture (legal_from c.args.p.now c.moves.sweep.code) (legal_from c.args.p.now FIRST_DROP) c.in_default.ensures.next

@@ -6,12 +6,12 @@ use Rattle.shogi_core.proofs.steps.step_squares.Goals as goal
 
 pub invariant_of-result : goal.invariant_of-result
 invariant_of-result c =
-    let e = steps_right c.steps_kind.result c.args.from c.args.piece.color (steps_of c.args.piece.role) c.steps_kind.ensures.steps c.steps_kind.ensures.range c.requires in
-    record { fits = rw c.color_number.ensures.number (subst (λ (m : ℕ). m < 2 ^ 81) (sym e) (steps_fit c.args.piece.color (steps_of c.args.piece.role) c.args.from)) }
+    let e = steps_right c.steps_kind.result c.index.result c.args.piece.color (steps_of c.args.piece.role) c.steps_kind.ensures.steps c.steps_kind.ensures.range c.index.ensures.range in
+    record { fits = rw c.color_number.ensures.number (subst (λ (m : ℕ). m < 2 ^ 81) (sym e) (steps_fit c.args.piece.color (steps_of c.args.piece.role) c.index.result)) }
 
 pub returns : goal.returns
 returns c =
-    let e = steps_right c.steps_kind.result c.args.from c.args.piece.color (steps_of c.args.piece.role) c.steps_kind.ensures.steps c.steps_kind.ensures.range c.requires in
+    let e = steps_right c.steps_kind.result c.index.result c.args.piece.color (steps_of c.args.piece.role) c.steps_kind.ensures.steps c.steps_kind.ensures.range c.index.ensures.range in
     record {
-      squares = λ b h. rw c.color_number.ensures.number (ap (λ (m : ℕ). has_bit m b) e ∙ has_bit-steps c.args.piece.color (steps_of c.args.piece.role) c.args.from b h);
+      squares = λ b h. rw (c.color_number.ensures.number, sym c.index.ensures.index) (ap (λ (m : ℕ). has_bit m b) e ∙ has_bit-steps c.args.piece.color (steps_of c.args.piece.role) c.index.result b h);
     }

@@ -1,5 +1,5 @@
 use Rattle.std.proofs.Common.{arith, refl}
-use Rattle.shogi_moves.proofs.TallyLaws.{all_left, board_counted, high_left, low_counted, low_own, piece_counted}
+use Rattle.shogi_moves.proofs.TallyLaws.{all_left, board_counted, low_counted, low_own, piece_counted}
 use Rattle.shogi_moves.proofs.count.count_board.Goals as goal
 
 pub low-init : goal.low-init
@@ -12,9 +12,6 @@ pub low-preserved : goal.low-preserved
 low-preserved c = rw c.count_of-total.ensures (low_counted c.args.known.now.position.now c.low.low c.bits_from-high.result c.without_lowest-low.result c.low.total c.lowest-square.result c.all_destinations.result.non_promoting.bits c.all_destinations.result.promoting.bits (omega arith) c.bits_from-high.ensures.below c.low.invariant c.lowest-square.ensures.range c.lowest-square.ensures.set c.lowest-square.ensures.least c.without_lowest-low.ensures.bits
     c.all_destinations.result.non_promoting.fits c.all_destinations.result.promoting.fits (rw (c.of_index-from.ensures, c.markings-markings.ensures) at c.all_destinations.ensures.non_promoting) (rw (c.of_index-from.ensures, c.markings-markings.ensures) at c.all_destinations.ensures.promoting))
 
-pub high-init : goal.high-init
-high-init c = rw c.iter-left.ensures (high_left c.args.known.now.position.now c.low.low c.bits_from-high.result c.low.total (omega (arith, c.low-test.false)) c.low.invariant)
-
 pub high-preserved : goal.high-preserved
 high-preserved c =
     let taken = c.in-Some.ensures.some in
@@ -23,6 +20,3 @@ high-preserved c =
 
 pub returns-clause-count : goal.returns-clause-count
 returns-clause-count c = (board_counted c.args.known.now.position.now c.high.left c.high.total c.high.invariant (c.in_default.ensures.none refl)).0
-
-pub returns-clause-range : goal.returns-clause-range
-returns-clause-range c = (board_counted c.args.known.now.position.now c.high.left c.high.total c.high.invariant (c.in_default.ensures.none refl)).1

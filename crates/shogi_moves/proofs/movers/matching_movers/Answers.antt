@@ -1,22 +1,11 @@
-use Rattle.std.proofs.Common.{◌≡◌, ◌∙◌, sym, subst, false, Bool, bit_or}
+use Rattle.std.proofs.Common.{◌≡◌, ◌∙◌, sym, subst, false, Bool}
 use Rattle.std.specs.Prelude.{◌&&◌}
-use Rattle.std.proofs.lemmas.Bool.{and_parts, both_ways}
+use Rattle.std.proofs.lemmas.Bool.{and_parts}
 use Rattle.shogi_core.specs.Movement.{piece_at, reaches}
-use Rattle.shogi_core.specs.Bits.{has_bit}
 use Rattle.shogi_core.proofs.BitLaws.{has_bit-and}
-use Rattle.shogi_core.proofs.LineBits.{and_fits}
 use Rattle.shogi_moves.specs.Destinations.{is_destination}
 use Rattle.shogi_moves.proofs.MoverLaws.{reaches_none}
 use Rattle.shogi_moves.proofs.movers.matching_movers.Goals as goal
-
-pub returns-then-not-capture-clause-within : goal.returns-then-not-capture-clause-within
-returns-then-not-capture-clause-within c = λ n e. e
-
-pub returns-then-not-capture-clause-if_none : goal.returns-then-not-capture-clause-if_none
-returns-then-not-capture-clause-if_none c = λ n t hn ht set out. absurd (both_ways (has_bit c.args.pieces.bits n) out set)
-
-pub invariant_of-result : goal.invariant_of-result
-invariant_of-result c = record { fits = and_fits c.args.pieces.bits (bit_or c.sliders.result.bits c.squares_near-near.result) c.args.pieces.fits }
 
 pub returns-clause-within : goal.returns-clause-within
 returns-clause-within c = λ n e. (and_parts _ _ (sym (has_bit-and _ _ n) ∙ e)).0

@@ -7,6 +7,3 @@ returns-then-not-is_piece_of-clause-consistent c = record {
   non_promoting = rw c.none.ensures (λ n h. nowhere c.args.known.now.position.now false c.args.from n (omega arith) h (search rules));
   promoting = rw c.none-then-not-is_piece_of.ensures (λ n h. nowhere c.args.known.now.position.now true c.args.from n (omega arith) h (search rules));
 }
-
-pub returns-clause-consistent : goal.returns-clause-consistent
-returns-clause-consistent c = rw c.markings.ensures at c.all_destinations.ensures

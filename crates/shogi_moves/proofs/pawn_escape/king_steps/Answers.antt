@@ -1,11 +1,8 @@
 use Rattle.std.proofs.Common.{◌≡◌, ◌-◌, ◌^◌, ◌∙◌, ap, bit_and}
 use Rattle.shogi_core.specs.Pieces.{opponent_of}
-use Rattle.shogi_moves.proofs.EscapeLaws.{found_steps, no_steps}
+use Rattle.shogi_moves.proofs.EscapeLaws.{found_steps}
 use Rattle.shogi_moves.proofs.ExistenceLaws.{king_ways}
 use Rattle.shogi_moves.proofs.pawn_escape.king_steps.Goals as goal
-
-pub returns-in_default : goal.returns-in_default
-returns-in_default c = rw c.none.ensures (no_steps c.args.p.now)
 
 pub returns : goal.returns
 returns c =

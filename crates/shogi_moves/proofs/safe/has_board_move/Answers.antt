@@ -1,15 +1,8 @@
 use Rattle.std.proofs.Common.{◌+◌, ◌∙◌, refl, sym}
 use Rattle.shogi_moves.proofs.DestinationLaws.{none_there, some_there}
 use Rattle.shogi_moves.proofs.ExistenceLaws.{piece_with, piece_without}
-use Rattle.shogi_moves.proofs.LegalLaws.{pieces_first, next_piece, pieces_after, no_piece_left}
+use Rattle.shogi_moves.proofs.LegalLaws.{next_piece, pieces_after, no_piece_left}
 use Rattle.shogi_moves.proofs.safe.has_board_move.Goals as goal
-
-pub pieces-init : goal.pieces-init
-pieces-init c = record {
-  first = 0;
-  pieces = rw c.iter-left.ensures (pieces_first c.args.known.now.position.now c.own.result.bits (rw (c.side.ensures, c.as_board.ensures) at c.own.ensures.squares));
-  same = refl;
-}
 
 pub returns-then-not-is_empty-clause-some : goal.returns-then-not-is_empty-clause-some
 returns-then-not-is_empty-clause-some c = λ _. piece_with c.args.known.now.position.now c.in-Some.from c.all_destinations-destinations.result (rw c.markings-markings.ensures at c.all_destinations-destinations.ensures) (rw c.bitor.ensures at (some_there _ _ c.is_empty.ensures c.if-not-is_empty.true))

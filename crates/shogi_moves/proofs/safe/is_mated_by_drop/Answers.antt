@@ -4,9 +4,6 @@ use Rattle.shogi_core.specs.Attack.{in_check}
 use Rattle.shogi_moves.proofs.ExistenceLaws.{safe_from_legal, pawn_safe, none_safe}
 use Rattle.shogi_moves.proofs.safe.is_mated_by_drop.Goals as goal
 
-pub returns-then-not-in_check : goal.returns-then-not-in_check
-returns-then-not-in_check c = rw (sym c.in_check.ensures ∙ c.if-not-in_check.true) refl
-
 pub returns-then-has_king_move : goal.returns-then-has_king_move
 returns-then-has_king_move c = rw (sym c.in_check.ensures ∙ c.if-not-in_check.false, safe_from_legal c.args.p.now (c.has_king_move.ensures c.if-has_king_move.true)) refl
 

@@ -17,4 +17,4 @@ pub returns : goal.returns
 returns c = λ k d hk hd crown lone.
     let side : c.opponent.result ≡ opponent_of c.args.p.now.side = c.opponent.ensures ∙ ap opponent_of c.side.ensures in
     let here : c.lowest.result ≡ k = only_king c.args.p.now c.kings-kings.result.bits c.lowest.result k (rw (side, c.as_board.ensures) at c.kings-kings.ensures.squares) c.lowest.ensures.range c.lowest.ensures.set lone in
-    subst (λ (x : ℕ). HasRaysBehind d c.args.from x c.squares_behind.result.bits) here (c.squares_behind.ensures d hd)
+    subst (λ (x : ℕ). HasRaysBehind d c.args.from x c.squares_behind.result.bits) here (rw c.of_index.ensures at (c.squares_behind.ensures d hd))

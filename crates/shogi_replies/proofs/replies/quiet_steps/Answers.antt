@@ -13,4 +13,4 @@ pub returns-in-Some : goal.returns-in-Some
 returns-in-Some c =
     let stands : _ = sym c.at-cell.ensures ∙ c.in-Some.is in
     rw (c.without.ensures, c.bitand-steps.ensures) (steps_found c.args.p.now.cells c.in-Some.piece c.args.from c.step_squares.result.bits c.free.result.bits c.dead_squares.result.bits stands c.dead_squares.result.fits
-    (rw c.index.ensures.index at c.step_squares.ensures.squares) (rw c.as_board.ensures at c.free.ensures.squares) (λ n h. c.dead_squares.ensures.squares n h ∙ ap (is_immobile n) (sym stands)))
+    c.step_squares.ensures.squares (rw c.as_board.ensures at c.free.ensures.squares) (λ n h. c.dead_squares.ensures.squares n h ∙ ap (is_immobile n) (sym stands)))

@@ -5,7 +5,8 @@ use Rattle.minimax.specs.Minimax.{value}
 use Rattle.minimax.proofs.Best.{none_iff, legal_best}
 use Rattle.minimax.proofs.MinimaxLaws.{value_within, Within}
 use Rattle.shogi_search.specs.Progress.{KeepsQuestion, Progress, untouched}
-use Rattle.shogi_search.proofs.SearchCallLaws.{from_start, goes_on, whole_calls, told_after}
+use Rattle.shogi_search.proofs.SearchCallLaws.{told_after}
+use Rattle.shogi_search.proofs.CallLaws.{as_counted, steps_and_steps}
 use Rattle.shogi_search.proofs.full_search.search.Goals as goal
 
 pub slices-init : goal.slices-init
@@ -16,11 +17,10 @@ slices-init g c =
       eval = same.1.0;
       depth = same.1.1.0;
       beta = same.1.1.1;
-      calls = from_start g.M.Memo.called _ _ c.start-search.result c.advance.new.self _ _ _ _ c.advance.ensures.calls c.start-search.ensures;
+      calls = rw c.start-search.ensures at c.advance.ensures.calls;
       begun = c.in_default.ensures.begun (omega arith);
       none_found = c.advance.ensures.slice.found ∙ c.in_default.is;
       capacity = search rules;
-      enough = first_of (search rules, grind (arith, common_steps));
       unknown = first_of (search rules, grind (arith, common_steps));
     }
 
@@ -32,19 +32,18 @@ slices-preserved g c =
       eval = same.1.0 ∙ c.slices.invariant.eval;
       depth = same.1.1.0 ∙ c.slices.invariant.depth;
       beta = same.1.1.1 ∙ c.slices.invariant.beta;
-      calls = goes_on g.M.Memo.called _ _ _ c.slices.search c.advance-in-slices.new.self c.slices.invariant.calls c.slices.invariant.begun c.advance-in-slices.ensures.calls;
+      calls = steps_and_steps c.slices.invariant.calls (rw c.slices.invariant.begun at c.advance-in-slices.ensures.calls);
       begun = c.in_default-advance.ensures.begun (omega arith);
       none_found = c.advance-in-slices.ensures.slice.found ∙ c.in_default-advance.is;
       capacity = search rules;
-      enough = c.slices.invariant.enough;
       unknown = c.slices.invariant.unknown;
     }
 
 pub returns-in-Some-advance-clause-calls : goal.returns-in-Some-advance-clause-calls
 returns-in-Some-advance-clause-calls g c =
-    whole_calls g.M.Memo.called _ _ c.advance-in-slices.new.self c.in-Some-advance.found
-    (goes_on g.M.Memo.called _ _ _ c.slices.search c.advance-in-slices.new.self c.slices.invariant.calls c.slices.invariant.begun c.advance-in-slices.ensures.calls)
-    c.in-Some-advance.ensures.finds.counted c.in-Some-advance.ensures.slice.left_all
+    as_counted
+    (steps_and_steps c.slices.invariant.calls (rw c.slices.invariant.begun at c.advance-in-slices.ensures.calls))
+    refl c.in-Some-advance.ensures.finds.counted refl (rw c.in-Some-advance.ensures.slice.left_all refl) (omega arith)
 
 pub returns-in-Some-advance-clause-told : goal.returns-in-Some-advance-clause-told
 returns-in-Some-advance-clause-told g c =

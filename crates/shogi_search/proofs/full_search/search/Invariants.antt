@@ -1,7 +1,6 @@
 use Rattle.std.proofs.Common.{◌≡◌, true, None, length}
 use Rattle.shogi_search.specs.Calls.{CallsInSteps}
-use Rattle.minimax.specs.Entries.{IsExactly, IsEnough}
-use Rattle.minimax.specs.Minimax.{negated}
+use Rattle.minimax.specs.Entries.{IsExactly}
 use Rattle.minimax.specs.declared.bounds.TheConstants.{INFINITY}
 use Rattle.shogi_search.specs.Progress.{left_of}
 use Rattle.shogi_search.proofs.full_search.search.Given as goal
@@ -16,7 +15,6 @@ invariant-slices g l = record {
   begun : l.search.started ≡ true;
   none_found : l.search.found ≡ None;
   capacity : g.M.Memo.capacity l.memo ≡ g.M.Memo.capacity l.fn.memo;
-  enough : IsEnough (negated INFINITY) INFINITY (g.M.Memo.answers l.fn.memo l.fn.p l.fn.e l.fn.d) → ⊥;
   unknown : IsExactly (g.M.Memo.answers l.fn.memo l.fn.p l.fn.e l.fn.d) → ⊥;
 }
 

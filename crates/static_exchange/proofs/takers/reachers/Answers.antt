@@ -20,5 +20,5 @@ returns c = record {
       ∙ reacher_bits (is_own c.args.p.now n) (has_bit c.bitor-near.result.bits n) (reaches c.args.p.now.cells n c.args.square)
       (λ r. ap (λ (m : ℕ). has_bit m n) (c.bitor-near.ensures ∙ ap (λ (m : ℕ). bit_or c.near_squares.result.bits m) c.bitand-lined.ensures)
       ∙ near_or_lined c.args.p.now.cells c.near_squares.result.bits c.sliders.result.bits c.line_mask.result.bits n c.args.square h
-      c.near_squares.ensures.squares (rw c.as_board-board.ensures at c.sliders.ensures.squares) (rw c.index.ensures.index at c.line_mask.ensures.squares) r));
+      c.near_squares.ensures.squares (rw c.as_board-board.ensures at c.sliders.ensures.squares) c.line_mask.ensures.squares r));
 }

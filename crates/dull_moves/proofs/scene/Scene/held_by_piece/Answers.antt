@@ -7,26 +7,26 @@ pub returns-then-is_sliding-clause-calm : goal.returns-then-is_sliding-clause-ca
 returns-then-is_sliding-clause-calm c =
     piece_calm (place_in c.args.self.now) c.args.self.now.node.eval c.args.self.now.gains c.args.self.now.king c.args.self.now.board c.in_ok-piece.piece c.args.from c.targets_of-targets.result.bits c.own.result.bits c.line_mask.result.bits c.without-squares.result.bits c.args.self.now.squares.bits c.among-forbidden.result.bits c.forbidden_squares.result
     c.args.self.now.kingless (sym c.at.ensures ∙ c.in_ok-piece.was) c.targets_of-targets.ensures.squares
-    (rw c.index.ensures.index at c.line_mask.ensures.squares) c.line_mask.result.fits c.without-squares.ensures c.forbidden_squares.ensures (record { non_promoting = c.among-forbidden.ensures.non_promoting; promoting = c.among-forbidden.ensures.promoting })
+    c.line_mask.ensures.squares c.line_mask.result.fits c.without-squares.ensures c.forbidden_squares.ensures (record { non_promoting = c.among-forbidden.ensures.non_promoting; promoting = c.among-forbidden.ensures.promoting })
     c.without.result.bits c.in_ok-shut.shut.bits (rw c.side.ensures at c.own.ensures.squares) c.own.result.fits c.without.ensures c.in_ok-shut.ensures
 
 pub returns-then-is_sliding-clause-held : goal.returns-then-is_sliding-clause-held
 returns-then-is_sliding-clause-held c = λ a h out own.
     slider_lets (place_in c.args.self.now) c.args.self.now.node.eval c.args.self.now.gains c.args.self.now.king c.args.self.now.board c.in_ok-piece.piece c.args.from c.targets_of-targets.result.bits c.own.result.bits c.line_mask.result.bits c.without-squares.result.bits c.args.self.now.squares.bits c.among-forbidden.result.bits c.forbidden_squares.result
     c.args.self.now.kingless (sym c.at.ensures ∙ c.in_ok-piece.was) c.targets_of-targets.ensures.squares
-    (rw c.index.ensures.index at c.line_mask.ensures.squares) c.line_mask.result.fits c.without-squares.ensures c.forbidden_squares.ensures (record { non_promoting = c.among-forbidden.ensures.non_promoting; promoting = c.among-forbidden.ensures.promoting })
+    c.line_mask.ensures.squares c.line_mask.result.fits c.without-squares.ensures c.forbidden_squares.ensures (record { non_promoting = c.among-forbidden.ensures.non_promoting; promoting = c.among-forbidden.ensures.promoting })
     a h out
 
 pub returns-else-is_sliding-clause-calm : goal.returns-else-is_sliding-clause-calm
 returns-else-is_sliding-clause-calm c =
     piece_calm (place_in c.args.self.now) c.args.self.now.node.eval c.args.self.now.gains c.args.self.now.king c.args.self.now.board c.in_ok-piece.piece c.args.from c.targets_of-targets.result.bits c.own.result.bits c.line_mask.result.bits c.without-squares.result.bits c.args.self.now.squares.bits c.among-forbidden.result.bits c.forbidden_squares.result
     c.args.self.now.kingless (sym c.at.ensures ∙ c.in_ok-piece.was) c.targets_of-targets.ensures.squares
-    (rw c.index.ensures.index at c.line_mask.ensures.squares) c.line_mask.result.fits c.without-squares.ensures c.forbidden_squares.ensures (record { non_promoting = c.among-forbidden.ensures.non_promoting; promoting = c.among-forbidden.ensures.promoting })
+    c.line_mask.ensures.squares c.line_mask.result.fits c.without-squares.ensures c.forbidden_squares.ensures (record { non_promoting = c.among-forbidden.ensures.non_promoting; promoting = c.among-forbidden.ensures.promoting })
     c.without.result.bits c.in_ok-shut.shut.bits (rw c.side.ensures at c.own.ensures.squares) c.own.result.fits c.without.ensures c.in_ok-shut.ensures
 
 pub returns-else-is_sliding-clause-held : goal.returns-else-is_sliding-clause-held
 returns-else-is_sliding-clause-held c = λ a h out own.
     stepper_lets (place_in c.args.self.now) c.args.self.now.node.eval c.args.self.now.gains c.args.self.now.king c.args.self.now.board c.in_ok-piece.piece c.args.from c.targets_of-targets.result.bits c.own.result.bits c.line_mask.result.bits c.without-squares.result.bits c.args.self.now.squares.bits c.among-forbidden.result.bits c.forbidden_squares.result
     c.args.self.now.kingless (sym c.at.ensures ∙ c.in_ok-piece.was) c.targets_of-targets.ensures.squares
-    (rw c.index.ensures.index at c.line_mask.ensures.squares) c.line_mask.result.fits c.without-squares.ensures c.forbidden_squares.ensures (record { non_promoting = c.among-forbidden.ensures.non_promoting; promoting = c.among-forbidden.ensures.promoting })
+    c.line_mask.ensures.squares c.line_mask.result.fits c.without-squares.ensures c.forbidden_squares.ensures (record { non_promoting = c.among-forbidden.ensures.non_promoting; promoting = c.among-forbidden.ensures.promoting })
     (sym c.is_sliding.ensures ∙ c.if-is_sliding.false) a h out

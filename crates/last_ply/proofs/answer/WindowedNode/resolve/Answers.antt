@@ -11,9 +11,6 @@ returns-then-most-self-clause-truth c =
     let h : c.args.most ≤ℤ value node.position node.eval 1 = at_least node.position node.eval c.args.most c.args.self.now.frontier.now.valid (c.requires.some (omega (arith, ints, c.args.self.now.wide, c.if-most-self.true))) in
     omega (arith, ints, h)
 
-pub returns-then-most-self-clause-conclusive : goal.returns-then-most-self-clause-conclusive
-returns-then-most-self-clause-conclusive c = omega (arith, ints, c.if-most-self.true)
-
 pub returns-then-most-self-2-clause-truth : goal.returns-then-most-self-2-clause-truth
 returns-then-most-self-2-clause-truth c =
     let node = c.args.self.now.frontier.now.node.now in

@@ -1,17 +1,9 @@
-use Rattle.std.proofs.Common.{arith, ◌∙◌, sym, refl}
+use Rattle.std.proofs.Common.{arith, refl}
 use Rattle.std.proofs.lemmas.Int.{ints, clamps}
 use Rattle.last_ply.specs.LastPly.{NodeHasScore}
 use Rattle.last_ply.proofs.Squares.{carried, left_set}
 use Rattle.last_ply.proofs.Scores.{all_most, one_more_piece}
 use Rattle.last_ply.proofs.frontier.FrontierNode.best_score.Goals as goal
-
-pub pieces-init : goal.pieces-init
-pieces-init c = rw c.iter-left.ensures (record {
-  least = omega (arith, ints);
-  all = λ n h own out m promote hm legal. omega (arith, ints, c.gainers.ensures.others (omega (arith, ints, clamps, c.max-floor.ensures, c.score.ensures.value)) n h (c.args.self.now.owns n h ∙ own) out m promote hm legal);
-  some = λ above. absurd (omega (arith, ints, above));
-  within = λ n h e. sym (c.args.self.now.owns n h) ∙ c.gainers.ensures.within n e;
-})
 
 pub pieces-preserved : goal.pieces-preserved
 pieces-preserved c =
@@ -30,6 +22,3 @@ returns-then-best-beta-clause-some c = λ above base. carried (NodeHasScore c.ar
 
 pub returns-clause-all : goal.returns-clause-all
 returns-clause-all c = λ _. all_most c.args.self.now.node.now.position c.args.self.now.node.now.eval _ c.args.self.now.valid (omega (arith, ints, clamps, c.pieces.invariant.least, c.max-floor.ensures, c.score.ensures.value)) (λ from h own. c.pieces.invariant.all from h own (c.in_default.ensures.none refl from))
-
-pub returns-clause-some : goal.returns-clause-some
-returns-clause-some c = λ above base. c.pieces.invariant.some (omega (arith, ints, clamps, above, base, c.max-floor.ensures, c.score.ensures.value))

@@ -1,12 +1,10 @@
-use Rattle.std.proofs.Common.{ap, ◌∙◌, arith, ℕ, ◌≡◌, subst, true}
+use Rattle.std.proofs.Common.{ap, ◌∙◌, arith, ℕ}
 use Rattle.std.proofs.lemmas.Int.{ints}
 use Rattle.shogi_core.specs.Codes.{code_of}
 use Rattle.shogi_moves.specs.LegalMoves.{legal_codes}
 use Rattle.last_ply.specs.LastPly.{score_at, NodeHasScore}
 use Rattle.last_ply.proofs.Squares.{carried}
 use Rattle.last_ply.proofs.Passing.{passed_none, passed_one, raised}
-use Rattle.shogi_core.specs.Position.{Shogi}
-use Rattle.shogi_moves.specs.Legal.{is_legal}
 use Rattle.last_ply.proofs.Held.{bounds_all, fewer_left}
 use Rattle.last_ply.proofs.frontier.FrontierNode.best_score_of_all.Goals as goal
 
@@ -33,17 +31,8 @@ moves-preserved c =
           (λ above. absurd (omega (arith, ints, above, at)));
     }
 
-pub scored-requires : goal.scored-requires
-scored-requires c = subst (λ (q : Shogi). is_legal q c.in-Some.m ≡ true) c.moves.invariant.position c.in-Some.ensures.legal
-
 pub moves-smaller : goal.moves-smaller
 moves-smaller c = fewer_left c.moves.walk.codes c.next.new.self.codes (code_of c.in-Some.m) c.in-Some.ensures.next
 
-pub returns-clause-least : goal.returns-clause-least
-returns-clause-least c = omega (arith, ints, c.moves.invariant.least)
-
 pub returns-clause-all : goal.returns-clause-all
 returns-clause-all c = bounds_all c.args.self.now.node.now.position (λ (n : ℕ). score_at c.args.self.now.node.now.position c.args.self.now.node.now.eval n) _ c.moves.walk.codes c.in_default.ensures.next.0 c.moves.invariant.passed
-
-pub returns-clause-some : goal.returns-clause-some
-returns-clause-some c = λ above. c.moves.invariant.some (omega (arith, ints, above))

@@ -1,12 +1,8 @@
-use Rattle.std.proofs.Common.{ap, ◌∙◌, refl, ◌≡◌, sym, subst, true}
+use Rattle.std.proofs.Common.{ap, ◌∙◌, refl}
 use Rattle.shogi_core.specs.Codes.{code_of}
 use Rattle.shogi_moves.specs.LegalMoves.{legal_codes}
 use Rattle.last_ply.specs.LastPly.{LeavesNone}
 use Rattle.last_ply.proofs.Passing.{passed_none, found_least, none_met, passed_one}
-use Rattle.std.proofs.lemmas.Bool.{both_ways}
-use Rattle.shogi_core.specs.Position.{Shogi}
-use Rattle.shogi_moves.specs.Legal.{is_legal}
-use Rattle.shogi_eval.specs.Evaluated.{Evaluated}
 use Rattle.last_ply.proofs.Held.{fewer_left}
 use Rattle.last_ply.proofs.frontier.FrontierNode.first_mate.Goals as goal
 
@@ -19,12 +15,6 @@ moves-init c = record {
 pub returns-then-mates_past-clause-some : goal.returns-then-mates_past-clause-some
 returns-then-mates_past-clause-some c = found_least c.args.self.now.node.now.position (LeavesNone c.args.self.now.node.now.position) c.moves.walk.codes c.next.new.self.codes (code_of c.in-Some.m) c.in-Some.ensures.next c.moves.invariant.passed (rw c.of-mate_search.ensures at (c.if-mates_past.ensures.mated refl))
 
-pub mates_past-requires : goal.mates_past-requires
-mates_past-requires c = subst (λ (q : Shogi). is_legal q c.in-Some.m ≡ true) (c.moves.invariant.position ∙ sym (ap (λ (n : Evaluated). n.position) c.of-mate_search.ensures)) c.in-Some.ensures.legal
-
-pub returns-then-mates_past-clause-if_none : goal.returns-then-mates_past-clause-if_none
-returns-then-mates_past-clause-if_none c = λ e. absurd (both_ways true e refl)
-
 pub moves-smaller : goal.moves-smaller
 moves-smaller c = fewer_left c.moves.walk.codes c.next.new.self.codes (code_of c.in-Some.m) c.in-Some.ensures.next
 
@@ -33,9 +23,6 @@ moves-preserved c = record {
   position = c.in-Some.ensures.position ∙ c.moves.invariant.position;
   passed = passed_one c.args.self.now.node.now.position (LeavesNone c.args.self.now.node.now.position) c.moves.walk.codes c.next.new.self.codes (code_of c.in-Some.m) c.in-Some.ensures.next c.moves.invariant.passed (rw c.of-mate_search.ensures at (c.if-mates_past.ensures.if_none refl));
 }
-
-pub returns-clause-some : goal.returns-clause-some
-returns-clause-some c = tt
 
 pub returns-clause-if_none : goal.returns-clause-if_none
 returns-clause-if_none c = λ _. none_met c.args.self.now.node.now.position (LeavesNone c.args.self.now.node.now.position) c.moves.walk.codes c.in_default.ensures.next.0 c.moves.invariant.passed

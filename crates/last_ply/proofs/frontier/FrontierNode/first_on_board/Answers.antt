@@ -1,4 +1,4 @@
-use Rattle.std.proofs.Common.{◌≡◌, ℤ, to_z, of_z, arith, sym, ◌∙◌, subst, w32, refl}
+use Rattle.std.proofs.Common.{◌≡◌, ℤ, to_z, of_z, arith, subst, w32, refl}
 use Rattle.std.proofs.lemmas.Int.{ints, to_z-of_z}
 use Rattle.std.proofs.lemmas.Bool.{false_from_ne_true}
 use Rattle.shogi_core.specs.Bits.{has_bit}
@@ -6,12 +6,6 @@ use Rattle.shogi_core.specs.Codes.{code_of}
 use Rattle.last_ply.specs.LastPly.{IsFirstFrom}
 use Rattle.last_ply.proofs.PriorityMoves.{first_of_all, none_of_all}
 use Rattle.last_ply.proofs.frontier.FrontierNode.first_on_board.Goals as goal
-
-pub pieces-init : goal.pieces-init
-pieces-init c = rw c.iter-left.ensures (record {
-  passed = λ n h own out m promote hm legal same. c.pieces_scoring.ensures.others n h (c.args.self.now.owns n h ∙ own) out m promote hm legal (omega (arith, ints, same));
-  within = λ n h set. sym (c.args.self.now.owns n h) ∙ c.pieces_scoring.ensures.within n set;
-})
 
 pub returns-in-Some-first_to_score-clause-some : goal.returns-in-Some-first_to_score-clause-some
 returns-in-Some-first_to_score-clause-some c =

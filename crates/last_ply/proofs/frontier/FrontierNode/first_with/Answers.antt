@@ -1,12 +1,9 @@
-use Rattle.std.proofs.Common.{ap, ◌∙◌, arith, ◌≡◌, refl, subst, to_z, of_z, true, w32}
+use Rattle.std.proofs.Common.{ap, ◌∙◌, arith, to_z, of_z, true, w32}
 use Rattle.std.proofs.lemmas.Int.{ints}
 use Rattle.shogi_core.specs.Codes.{code_of}
 use Rattle.shogi_moves.specs.LegalMoves.{legal_codes}
 use Rattle.last_ply.specs.LastPly.{Scores, NoneScores}
 use Rattle.last_ply.proofs.Passing.{passed_none, passed_one, found_least, none_met}
-use Rattle.std.proofs.lemmas.Bool.{both_ways}
-use Rattle.shogi_core.specs.Position.{Shogi}
-use Rattle.shogi_moves.specs.Legal.{is_legal}
 use Rattle.last_ply.proofs.Held.{fewer_left, from_held}
 use Rattle.last_ply.proofs.frontier.FrontierNode.first_with.Goals as goal
 
@@ -28,17 +25,8 @@ returns-then-scores-clause-some c =
     found_least c.args.self.now.node.now.position (Scores c.args.self.now.node.now c.args.score) c.moves.walk.codes c.next.new.self.codes (code_of c.in-Some.m) c.in-Some.ensures.next
     (record { among = h.among; rising = h.rising; passed = λ n i o q. h.passed n i o (omega (arith, ints, q)) }) (omega (arith, ints, rw (c.scored.ensures.node, c.scored.ensures.current) at (c.scores.ensures.scores c.if-scores.true)))
 
-pub scored-requires : goal.scored-requires
-scored-requires c = subst (λ (q : Shogi). is_legal q c.in-Some.m ≡ true) c.moves.invariant.position c.in-Some.ensures.legal
-
-pub returns-then-scores-clause-if_none : goal.returns-then-scores-clause-if_none
-returns-then-scores-clause-if_none c = λ e. absurd (both_ways true e refl)
-
 pub moves-smaller : goal.moves-smaller
 moves-smaller c = fewer_left c.moves.walk.codes c.next.new.self.codes (code_of c.in-Some.m) c.in-Some.ensures.next
-
-pub returns-clause-some : goal.returns-clause-some
-returns-clause-some c = tt
 
 pub returns-clause-if_none : goal.returns-clause-if_none
 returns-clause-if_none c = λ _.

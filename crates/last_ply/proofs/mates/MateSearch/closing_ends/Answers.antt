@@ -11,7 +11,7 @@ pub escapes-init : goal.escapes-init
 escapes-init c = record {
   all = λ n h e out. absurd (both_ways _ out e);
   within = λ n e. (and_parts _ _ (sym (has_bit-and c.args.self.now.replies.escapes.bits _ n) ∙ rw (c.iter-left.ensures, c.without.ensures) at e)).0;
-  apart = λ n h e. sym ((rw c.index.ensures.index at c.line_mask.ensures.squares) n h) ∙ not-true _ (sym (has_bit-not c.line_mask.result.bits n (omega (arith, c.line_mask.result.fits)) (omega arith)) ∙ (and_parts _ _ (sym (has_bit-and c.args.self.now.replies.escapes.bits _ n) ∙ rw (c.iter-left.ensures, c.without.ensures) at e)).1);
+  apart = λ n h e. sym (c.line_mask.ensures.squares n h) ∙ not-true _ (sym (has_bit-not c.line_mask.result.bits n (omega (arith, c.line_mask.result.fits)) (omega arith)) ∙ (and_parts _ _ (sym (has_bit-and c.args.self.now.replies.escapes.bits _ n) ∙ rw (c.iter-left.ensures, c.without.ensures) at e)).1);
   among = λ n e. e;
 }
 

@@ -2,16 +2,9 @@ use Rattle.std.proofs.Common.{◌∙◌, ap, bit_and, sym, true, false}
 use Rattle.std.proofs.lemmas.Bool.{both_ways, eqb-true}
 use Rattle.shogi_core.specs.Bits.{has_bit}
 use Rattle.shogi_core.proofs.BitLaws.{has_bit-none}
-use Rattle.shogi_moves.specs.After.{piece_moved}
 use Rattle.last_ply.proofs.MateLaws.{doubtful_within, none_doubtful, unseen_from}
 use Rattle.last_ply.proofs.Scores.{enters, enters_some, legal_end, legal_promotion}
 use Rattle.last_ply.proofs.mates.MateSearch.doubtful_ends.Goals as goal
-
-pub doubtful_among-non_promoting-requires : goal.doubtful_among-non_promoting-requires
-doubtful_among-non_promoting-requires c = rw c.as_position-p.ensures at (ap (piece_moved false) (sym c.at-cell.ensures ∙ c.in-Some.is))
-
-pub doubtful_among-promoting-requires : goal.doubtful_among-promoting-requires
-doubtful_among-promoting-requires c = rw c.promoted.ensures (rw c.as_position-p.ensures at (ap (piece_moved true) (sym c.at-cell.ensures ∙ c.in-Some.is)))
 
 pub returns-then-is_empty-clause-non_promoting : goal.returns-then-is_empty-clause-non_promoting
 returns-then-is_empty-clause-non_promoting c =

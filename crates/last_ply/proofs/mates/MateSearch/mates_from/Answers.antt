@@ -5,9 +5,6 @@ use Rattle.shogi_core.proofs.BitLaws.{has_bit-none, has_bit-or}
 use Rattle.last_ply.proofs.MateLaws.{either_enterable, in_first, in_second, leave_doubtful, leave_from, legal_doubtful}
 use Rattle.last_ply.proofs.mates.MateSearch.mates_from.Goals as goal
 
-pub invariant_of-piece : goal.invariant_of-piece
-invariant_of-piece c = record { own = rw c.args.self.now.frontier.same c.requires.own }
-
 pub legal_destinations-ends-requires : goal.legal_destinations-ends-requires
 legal_destinations-ends-requires c = rw (c.args.self.now.frontier.same, c.bitor-among.ensures) (either_enterable _ _ _ _ c.doubtful_ends-doubtful.ensures.non_promoting c.doubtful_ends-doubtful.ensures.promoting)
 

@@ -1,18 +1,10 @@
 use Rattle.std.proofs.Common.{◌≡◌, ℕ, true, bit_and, arith}
-use Rattle.std.proofs.lemmas.Bool.{both_ways}
 use Rattle.std.proofs.lemmas.Int.{ints}
 use Rattle.shogi_core.specs.declared.moves.Move.TheVariants.{Board}
 use Rattle.shogi_core.specs.Codes.{code_of}
 use Rattle.last_ply.specs.LastPly.{is_legal_board_move, score_at, NodeHasScore}
 use Rattle.last_ply.proofs.Squares.{one_more, carried}
 use Rattle.last_ply.proofs.moving_piece.MovingPiece.best_score_among.Goals as goal
-
-pub ends-init : goal.ends-init
-ends-init c = rw (c.iter-left.ensures, c.bitand.ensures) (record {
-  least = omega (arith, ints);
-  all = λ n h set out. absurd (both_ways _ out set);
-  some = λ above. absurd (omega (arith, ints, above));
-})
 
 pub ends-preserved : goal.ends-preserved
 ends-preserved c =

@@ -2,9 +2,6 @@ use Rattle.std.proofs.Common.{false, true}
 use Rattle.last_ply.proofs.Scores.{all_legal, enters}
 use Rattle.last_ply.proofs.moving_piece.MovingPiece.destinations.Goals as goal
 
-pub invariant_of-piece : goal.invariant_of-piece
-invariant_of-piece c = record { own = rw c.args.self.now.frontier.now.same c.args.self.now.own }
-
 pub legal_destinations-requires : goal.legal_destinations-requires
 legal_destinations-requires c = rw c.args.self.now.frontier.now.same (enters c.args.self.now.frontier.now.node.now.position c.args.self.now.from c.args.self.now.targets.bits c.args.self.now.reach)
 

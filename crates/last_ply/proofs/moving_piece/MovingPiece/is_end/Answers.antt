@@ -2,9 +2,6 @@ use Rattle.std.proofs.Common.{◌∙◌, true, false}
 use Rattle.last_ply.proofs.Scores.{enters_some, legal_at}
 use Rattle.last_ply.proofs.moving_piece.MovingPiece.is_end.Goals as goal
 
-pub invariant_of-piece : goal.invariant_of-piece
-invariant_of-piece c = record { own = rw c.args.self.now.frontier.now.same c.args.self.now.own }
-
 pub legal_destinations-ends-requires : goal.legal_destinations-ends-requires
 legal_destinations-ends-requires c = rw (c.args.self.now.frontier.now.same, c.bitand-square.ensures) (enters_some c.args.self.now.frontier.now.node.now.position c.args.self.now.from c.args.self.now.targets.bits c.with.result.bits c.args.self.now.reach)
 

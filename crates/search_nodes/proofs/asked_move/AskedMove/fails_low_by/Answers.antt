@@ -6,7 +6,7 @@ use Rattle.shogi_moves.specs.After.{after}
 use Rattle.shogi_eval.specs.Material.{material_of}
 use Rattle.minimax.specs.Minimax.{worth, negated}
 use Rattle.search_nodes.specs.declared.frame.Frame.{Frame}
-use Rattle.search_nodes.proofs.Ahead.{worth_under_threat}
+use Rattle.search_nodes.proofs.Ahead.{worth_below}
 use Rattle.search_nodes.proofs.AskedMoves.{IsMove, asked_move}
 use Rattle.search_nodes.proofs.asked_move.AskedMove.fails_low_by.Goals as goal
 
@@ -28,6 +28,6 @@ returns c = λ low least.
     let f : Frame = c.args.self.now.frame.now in
     let m : Move = c.args.self.now.current.now in
     let k : IsMove f m = asked_move f m c.args.self.now.asked c.reveal_invariant.ensures.back in
-    let most : worth f.node.position f.node.eval (f.depth - 1) (code_of m) ≤ℤ negated (material_of (after f.node.position m) f.node.eval +ℤ pos c.args.gain) = worth_under_threat f.node.position f.node.eval f.depth c.args.gain m c.reveal_invariant.ensures.back c.args.self.now.last least in
+    let most : worth f.node.position f.node.eval (f.depth - 1) (code_of m) ≤ℤ negated (material_of (after f.node.position m) f.node.eval +ℤ pos c.args.gain) = worth_below f.node.position f.node.eval f.depth m _ c.reveal_invariant.ensures.back c.args.self.now.last least in
     let fits : FitsSigned w32 c.move_alpha.result = search rules in
     omega (arith, ints, most, k.least, k.most, c.score_after.ensures, c.requires, c.move_alpha.ensures.move_alpha, low)

@@ -17,14 +17,8 @@ returns-then-discovers_no_check-clause-taken c = λ _.
     ∥∥₁_map ((c.args.self.now.found.1.1 c.in-Some.threats c.in-Some.is).takes c.to.result (omega arith) (sym c.has.ensures ∙ c.if-has.true))
     (λ attacked. retaken c.args.self.now.frame.now.node.position c.args.self.now.current.now c.to.result (sym c.to.ensures) (rw c.known.ensures at (c.discovers_no_check.ensures c.if-discovers_no_check.true)) attacked)
 
-pub returns-then-discovers_no_check-clause-plain : goal.returns-then-discovers_no_check-clause-plain
-returns-then-discovers_no_check-clause-plain c = λ _. (c.args.self.now.found.1.1 c.in-Some.threats c.in-Some.is).plain
-
 pub returns-clause-taken : goal.returns-clause-taken
 returns-clause-taken c = λ e.
     let legal : is_legal c.as_position.result.now c.args.self.now.current.now ≡ true = subst (λ (q : Shogi). is_legal q c.args.self.now.current.now ≡ true) (sym c.as_position.ensures) (asked_move c.args.self.now.frame.now c.args.self.now.current.now c.args.self.now.asked c.reveal_invariant.ensures.back).legal in
     let taken : IsTaken c.as_position.result.now c.args.self.now.current.now = c.king_takes.ensures.taken e legal in
     subst (λ (q : Shogi). ∥ IsTaken q c.args.self.now.current.now ∥₁) c.as_position.ensures ∣ taken ∣₁
-
-pub returns-clause-plain : goal.returns-clause-plain
-returns-clause-plain c = λ _. (c.args.self.now.found.1.1 c.in-Some.threats c.in-Some.is).plain

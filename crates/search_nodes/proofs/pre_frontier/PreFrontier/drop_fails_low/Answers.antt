@@ -1,27 +1,6 @@
-use Rattle.std.proofs.Common.{◌≡◌, arith, rules, FitsSigned, w32}
-use Rattle.std.proofs.lemmas.Int.{ints, to_z-of_z}
-use Rattle.minimax.specs.Window.{move_alpha, code_at}
-use Rattle.search_nodes.specs.declared.frame.Frame.{Frame}
-use Rattle.search_nodes.proofs.Rows.{within_of}
+use Rattle.std.proofs.Common.{arith}
+use Rattle.std.proofs.lemmas.Int.{ints}
 use Rattle.search_nodes.proofs.pre_frontier.PreFrontier.drop_fails_low.Goals as goal
 
-pub move_alpha_at-move_alpha-requires : goal.move_alpha_at-move_alpha-requires
-move_alpha_at-move_alpha-requires c =
-    let w : _ = within_of c.args.self.now.frame.now c.args.code c.args.self.now.next c.args.self.now.last in
-    omega (arith, ints, w.0.least)
-
-pub overflow_sub-result : goal.overflow_sub-result
-overflow_sub-result c =
-    let g : Frame = c.args.self.now.frame.now in
-    let w : _ = within_of g c.args.code c.args.self.now.next c.args.self.now.last in
-    let f : FitsSigned w32 g.best_value = search rules in
-    let e : c.move_alpha_at-move_alpha.result ≡ move_alpha g.best_value (code_at g.best_move) c.args.code = simp to_z-of_z at c.move_alpha_at-move_alpha.ensures in
-    omega (arith, ints, w.1.least, w.1.most, e, c.requires.0, c.requires.1)
-
 pub returns : goal.returns
-returns c = λ short to h legal.
-    let g : Frame = c.args.self.now.frame.now in
-    let w : _ = within_of g c.args.code c.args.self.now.next c.args.self.now.last in
-    let f : FitsSigned w32 g.best_value = search rules in
-    let e : c.move_alpha_at-move_alpha.result ≡ move_alpha g.best_value (code_at g.best_move) c.args.code = simp to_z-of_z at c.move_alpha_at-move_alpha.ensures in
-    omega (arith, ints, w.1.least, w.1.most, e, c.requires.0, c.requires.1, c.score_after_drop.ensures to h legal, short)
+returns c = λ short to h legal. omega (arith, ints, c.requires.0, c.requires.1, c.score_after_drop.ensures to h legal, short)

@@ -1,9 +1,8 @@
-use Rattle.std.proofs.Common.{FitsSigned, bit_or, rules, subst, sym, w32}
+use Rattle.std.proofs.Common.{FitsSigned, bit_or, rules, subst, w32}
 use Rattle.std.proofs.lemmas.Int.{to_z-of_z}
-use Rattle.shogi_moves.specs.Escapes.{AreEscapes}
 use Rattle.search_nodes.specs.declared.frame.Frame.{Frame}
 use Rattle.search_nodes.specs.Frames.{DropsFailLow, DropFailsLow}
-use Rattle.search_nodes.proofs.Rows.{drops_of_either, material_drops, no_escapes}
+use Rattle.search_nodes.proofs.Rows.{drops_of_either, material_drops}
 use Rattle.search_nodes.proofs.pre_frontier.PreFrontier.futile_drops.Goals as goal
 
 pub returns-then-drop_fails_low-clause-lost : goal.returns-then-drop_fails_low-clause-lost
@@ -21,6 +20,3 @@ returns-clause-lost c =
     let g : Frame = c.look_for_threats.new.self.frame.now in
     let either : DropsFailLow g c.args.kind (bit_or c.futile_squares_if_taken-taken.result.bits c.futile_squares_under_threat.result.bits) 0 c.args.code = drops_of_either g c.args.kind c.futile_squares_if_taken-taken.result.bits c.futile_squares_under_threat.result.bits 0 c.args.code c.futile_squares_if_taken-taken.ensures c.futile_squares_under_threat.ensures in
     subst (λ (x : Frame). DropsFailLow x c.args.kind c.bitor.result.bits c.none.result.bits c.args.code) c.look_for_threats.ensures.1 (rw c.bitor.ensures (rw c.none.ensures either))
-
-pub returns-clause-escapes : goal.returns-clause-escapes
-returns-clause-escapes c = subst (AreEscapes c.args.self.now.frame.now.node.position) (sym c.none.ensures) (no_escapes c.args.self.now.frame.now.node.position)

@@ -3,7 +3,7 @@ use Rattle.std.proofs.lemmas.Int.{ints}
 use Rattle.shogi_core.specs.Cell.{is_slider}
 use Rattle.search_nodes.specs.Threats.{AreThreatsIn, IsThreatIn}
 use Rattle.search_nodes.specs.declared.frame.Frame.{Frame}
-use Rattle.search_nodes.proofs.Rows.{no_drops, surviving_drops}
+use Rattle.search_nodes.proofs.Rows.{surviving_drops}
 use Rattle.search_nodes.proofs.pre_frontier.PreFrontier.futile_squares_under_threat.Goals as goal
 
 pub overflow_cast-threat : goal.overflow_cast-threat
@@ -30,12 +30,3 @@ returns-then-drop_fails_low c =
     let is : IsThreatIn f.node.position f.node.eval c.in-Some-greatest.threat = are.greatest c.in-Some-greatest.threat c.in-Some-greatest.is in
     surviving_drops f are.plain c.in-Some-greatest.threat _ c.args.kind c.slides.result c.non_interfering_squares.result.bits c.args.code c.args.self.now.last is (omega (arith, ints, is.gains.gain_fits)) c.non_interfering_squares.ensures
     (λ e. c.slides.ensures ∙ (ap is_slider c.dropped-put.ensures ∙ e)) (c.drop_fails_low.ensures c.if-drop_fails_low.true)
-
-pub returns-in_default : goal.returns-in_default
-returns-in_default c = no_drops c.args.self.now.frame.now c.args.kind c.none.result.bits 0 c.args.code c.none.ensures
-
-pub returns-in_default-greatest : goal.returns-in_default-greatest
-returns-in_default-greatest c = no_drops c.args.self.now.frame.now c.args.kind c.none-in_default-greatest.result.bits 0 c.args.code c.none-in_default-greatest.ensures
-
-pub returns : goal.returns
-returns c = no_drops c.args.self.now.frame.now c.args.kind c.none-2.result.bits 0 c.args.code c.none-2.ensures

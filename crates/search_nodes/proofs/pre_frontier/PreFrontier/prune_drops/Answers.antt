@@ -1,9 +1,5 @@
-use Rattle.std.proofs.Common.{◌∙◌}
 use Rattle.search_nodes.proofs.Rows.{prunes_again}
 use Rattle.search_nodes.proofs.pre_frontier.PreFrontier.prune_drops.Goals as goal
 
 pub returns-then-not-prune_kind-clause-pruned : goal.returns-then-not-prune_kind-clause-pruned
 returns-then-not-prune_kind-clause-pruned c = prunes_again c.args.self.now.frame.now c.kinds.self.frame.now c.prune_kind.new.self.frame.now c.kinds.invariant.pruned c.prune_kind.ensures.pruned
-
-pub returns-then-not-prune_kind-clause-unchanged : goal.returns-then-not-prune_kind-clause-unchanged
-returns-then-not-prune_kind-clause-unchanged c = (c.prune_kind.ensures.unchanged.0 ∙ c.kinds.invariant.stays.0, c.prune_kind.ensures.unchanged.1 ∙ c.kinds.invariant.stays.1)

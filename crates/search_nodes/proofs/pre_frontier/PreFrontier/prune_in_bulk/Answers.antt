@@ -5,14 +5,14 @@ use Rattle.search_nodes.proofs.pre_frontier.PreFrontier.prune_in_bulk.Goals as g
 
 pub invariant_of-self-2 : goal.invariant_of-self-2
 invariant_of-self-2 c = record {
-  last = c.turn_to_quiets.ensures.0.1.0 ∙ c.args.self.now.last;
-  next = c.turn_to_quiets.ensures.1.0 ∙ c.args.self.now.next;
-  found = subst (λ (n : Evaluated). IsReplyCacheOf n c.args.self.now.cache.now) (sym c.turn_to_quiets.ensures.0.0) c.args.self.now.found;
+  last = c.turn_from.ensures.0.1.0 ∙ c.args.self.now.last;
+  next = c.turn_from.ensures.1.0 ∙ c.args.self.now.next;
+  found = subst (λ (n : Evaluated). IsReplyCacheOf n c.args.self.now.cache.now) (sym c.turn_from.ensures.0.0) c.args.self.now.found;
 }
 
 pub invariant_of-self-3 : goal.invariant_of-self-3
 invariant_of-self-3 c = record {
-  last = c.turn_to_drops.ensures.0.1.0 ∙ c.prune_quiets.new.self.last;
-  next = c.turn_to_drops.ensures.1.0 ∙ c.prune_quiets.new.self.next;
-  found = subst (λ (n : Evaluated). IsReplyCacheOf n c.prune_quiets.new.self.cache.now) (sym c.turn_to_drops.ensures.0.0) c.prune_quiets.new.self.found;
+  last = c.turn_from-2.ensures.0.1.0 ∙ c.prune_quiets.new.self.last;
+  next = c.turn_from-2.ensures.1.0 ∙ c.prune_quiets.new.self.next;
+  found = subst (λ (n : Evaluated). IsReplyCacheOf n c.prune_quiets.new.self.cache.now) (sym c.turn_from-2.ensures.0.0) c.prune_quiets.new.self.found;
 }

@@ -17,7 +17,7 @@ returns-then-snipers-eq0 c = λ color seen shows.
     let low : c.args.square < 81 = search rules in
     let none : some_below 81 (is_step_among c.args.self.now c.args.among.bits c.args.square) ≡ false = search rules in
     no_sniper seen color c.args.square low _
-    (λ n l. rw (c.bitand-snipers.ensures, c.bitand.ensures) (snipers_alike c.args.self.now seen color c.args.among.bits shows.attackers shows.same c.args.square c.sliders.result.bits c.line_mask.result.bits n l (c.sliders.ensures.squares n l) (rw c.index.ensures.index at (c.line_mask.ensures.squares n l))))
+    (λ n l. rw (c.bitand-snipers.ensures, c.bitand.ensures) (snipers_alike c.args.self.now seen color c.args.among.bits shows.attackers shows.same c.args.square c.sliders.result.bits c.line_mask.result.bits n l (c.sliders.ensures.squares n l) (c.line_mask.ensures.squares n l)))
     c.if-snipers-eq0.true
     (sym (steps_alike c.args.self.now seen color c.args.among.bits shows.attackers shows.same c.args.square) ∙ none)
 
@@ -25,7 +25,7 @@ pub returns : goal.returns
 returns c = λ color seen shows.
     let low : c.args.square < 81 = search rules in
     let none : some_below 81 (is_step_among c.args.self.now c.args.among.bits c.args.square) ≡ false = search rules in
-    let snipers : HasBits c.bitand-snipers.result.bits (is_sniper seen color c.args.square) = λ n l. rw (c.bitand-snipers.ensures, c.bitand.ensures) (snipers_alike c.args.self.now seen color c.args.among.bits shows.attackers shows.same c.args.square c.sliders.result.bits c.line_mask.result.bits n l (c.sliders.ensures.squares n l) (rw c.index.ensures.index at (c.line_mask.ensures.squares n l))) in
+    let snipers : HasBits c.bitand-snipers.result.bits (is_sniper seen color c.args.square) = λ n l. rw (c.bitand-snipers.ensures, c.bitand.ensures) (snipers_alike c.args.self.now seen color c.args.among.bits shows.attackers shows.same c.args.square c.sliders.result.bits c.line_mask.result.bits n l (c.sliders.ensures.squares n l) (c.line_mask.ensures.squares n l)) in
     attacked_by_slide seen color c.args.square low c.slider_attacks_among.result
     (sym (steps_alike c.args.self.now seen color c.args.among.bits shows.attackers shows.same c.args.square) ∙ none)
     (c.slider_attacks_among.ensures color seen (record {

@@ -1,11 +1,11 @@
 use Rattle.std.proofs.Common.{◌≡◌, ◌<◌, ◌*◌, ◌∙◌, refl, sym, arith, bit_and}
 use Rattle.std.proofs.lemmas.Bool.{and_parts}
-use Rattle.shogi_core.specs.declared.moves.TheConstants.{FIRST_DROP, SQUARE_CODES}
+use Rattle.shogi_core.specs.declared.moves.TheConstants.{SQUARE_CODES}
 use Rattle.shogi_core.specs.Bits.{has_bit}
 use Rattle.shogi_moves.proofs.CaptureLaws.{matching_jumps}
 use Rattle.shogi_moves.proofs.DestinationLaws.{none_there, some_there, nowhere, matching_ways}
 use Rattle.shogi_moves.proofs.MoverLaws.{on_movers}
-use Rattle.shogi_moves.proofs.SweepLaws.{keeps_matching, on_first, mine_first, on_less, on_none, on_end}
+use Rattle.shogi_moves.proofs.SweepLaws.{keeps_matching, on_first, mine_first, on_less, on_none}
 use Rattle.shogi_moves.proofs.sweep.BoardSweep.refill.Goals as goal
 
 pub squares-init : goal.squares-init
@@ -61,7 +61,3 @@ squares-preserved c =
           refl c.in-Some.ensures.some.rest;
       mine = λ n h set. c.squares.invariant.mine n h ((and_parts (has_bit c.squares.left n) _ (sym (c.in-Some.ensures.some.rest n) ∙ set)).0);
     }
-
-pub returns-clause-end : goal.returns-clause-end
-returns-clause-end c = λ _. matching_jumps c.args.p.now c.args.capture c.args.self.now.code FIRST_DROP (omega (arith, c.requires.consistent.destinations.high, c.index.ensures.range, c.index.ensures.index)) (omega arith)
-    (on_end c.args.p.now c.args.capture c.squares.left c.args.self.now.code c.squares.invariant.matching (c.in_default.ensures.none refl))

@@ -2,16 +2,8 @@ use Rattle.std.proofs.Common.{◌≡◌, ◌∙◌, ◌∷◌, false}
 use Rattle.shogi_core.specs.declared.moves.Move.TheVariants.{Drop}
 use Rattle.shogi_core.specs.Codes.{code_of}
 use Rattle.shogi_moves.specs.Sweeps.{drops_left, matching_from}
-use Rattle.shogi_moves.proofs.SweepLaws.{drop_taken, drop_kept}
+use Rattle.shogi_moves.proofs.SweepLaws.{drop_taken}
 use Rattle.shogi_moves.proofs.sweep.DropSweep.next.Goals as goal
-
-pub returns-clause-consistent : goal.returns-clause-consistent
-returns-clause-consistent c =
-    rw (c.code_above-self.ensures.code, c.of_index-to.ensures)
-    (record {
-      squares = c.fill.ensures.consistent.squares;
-      destinations = drop_kept c.args.p.now c.fill.new.self.kind c.fill.new.self.code c.fill.new.self.destinations.bits c.lowest-lowest.result c.fill.ensures.consistent.destinations c.lowest-lowest.ensures.range c.lowest-lowest.ensures.set c.lowest-lowest.ensures.least c.without_lowest.result c.without_lowest.ensures.bits;
-    })
 
 pub returns-clause-next : goal.returns-clause-next
 returns-clause-next c =

@@ -4,10 +4,6 @@ use Rattle.shogi_core.proofs.BitLaws.{has_bit-and, has_bit-or}
 use Rattle.shogi_moves.proofs.DestinationLaws.{some_there}
 use Rattle.shogi_replies.proofs.replies.KnownReplies.guaranteed_destinations.Goals as goal
 
-pub returns-then-open-destinations-clause-guaranteed : goal.returns-then-open-destinations-clause-guaranteed
-returns-then-open-destinations-clause-guaranteed c = λ n h e. (
-    let sure : _ = c.non_checking_destinations-open.ensures.guaranteed n h e in (sure.0, λ none. sure.1 refl))
-
 pub returns-clause-among : goal.returns-clause-among
 returns-clause-among c = rw c.bitor.ensures (λ n e. elim (or_cases _ _ (sym (has_bit-or c.non_checking_destinations-open.result.bits c.escaped_destinations.result.bits n) ∙ e)) [
   | inl sure ↦ c.non_checking_destinations-open.ensures.among n sure

@@ -1,5 +1,5 @@
-use Rattle.std.proofs.Common.{◌∙◌, ap, arith, false, sym, true, refl}
-use Rattle.std.proofs.lemmas.Bool.{and_parts, both_ways}
+use Rattle.std.proofs.Common.{◌∙◌, ap, arith, false, sym, true}
+use Rattle.std.proofs.lemmas.Bool.{and_parts}
 use Rattle.shogi_core.specs.Bits.{has_bit}
 use Rattle.shogi_core.proofs.BitLaws.{has_bit-and}
 use Rattle.shogi_moves.proofs.DestinationLaws.{among_bits, none_there}
@@ -24,12 +24,3 @@ returns-then-is_unseen c = λ e. record {
       let both : _ = and_parts _ _ (sym (has_bit-and c.promotions-promotions.result.bits c.unseen_destinations-guaranteed.result.bits n) ∙ (ap (λ m. has_bit m n) (sym c.bitand-then-is_unseen.ensures) ∙ c.are_among.ensures.promoting e n h (ends ∙ reached) may)) in
       (c.promotions-promotions.ensures.promotes n both.0, c.unseen_destinations-guaranteed.ensures.guaranteed c.args.self.now.escapes.bits true n h both.1));
 }
-
-pub returns-then-not-has : goal.returns-then-not-has
-returns-then-not-has c = λ e. absurd (both_ways false refl e)
-
-pub returns-then-not-is_empty : goal.returns-then-not-is_empty
-returns-then-not-is_empty c = λ e. absurd (both_ways false refl e)
-
-pub returns-then-not-is_empty-2 : goal.returns-then-not-is_empty-2
-returns-then-not-is_empty-2 c = λ e. absurd (both_ways false refl e)

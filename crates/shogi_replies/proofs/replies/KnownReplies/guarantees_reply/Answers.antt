@@ -1,5 +1,5 @@
-use Rattle.std.proofs.Common.{◌≡◌, ◌≢◌, ◌∙◌, [], true, arith, sym, subst, ap, refl, false}
-use Rattle.std.proofs.lemmas.Bool.{not-true, both_ways}
+use Rattle.std.proofs.Common.{◌≡◌, ◌≢◌, ◌∙◌, [], true, arith, sym, subst, ap}
+use Rattle.std.proofs.lemmas.Bool.{not-true}
 use Rattle.shogi_core.specs.declared.moves.Move.{Move}
 use Rattle.shogi_core.specs.Pieces.{opponent_of}
 use Rattle.shogi_moves.specs.After.{after, dropped}
@@ -38,30 +38,3 @@ returns-else-discovers-clause-retakes c = λ e. subst (MayRetake c.args.self.now
 pub returns-else-not-is_harmless-2-clause-retakes : goal.returns-else-not-is_harmless-2-clause-retakes
 returns-else-not-is_harmless-2-clause-retakes c = λ e. subst (MayRetake c.args.self.now.position.now) (sym c.in-Drop.is)
     (retake_drop c.args.self.now.position.now c.in-Drop.kind c.in-Drop.to c.reveal_invariant.ensures (omega arith))
-
-pub returns-then-not-is_harmless-clause-replied : goal.returns-then-not-is_harmless-clause-replied
-returns-then-not-is_harmless-clause-replied c = λ e. absurd (both_ways false refl e)
-
-pub returns-then-not-is_harmless-clause-threats : goal.returns-then-not-is_harmless-clause-threats
-returns-then-not-is_harmless-clause-threats c = λ e. absurd (both_ways false refl e)
-
-pub returns-then-not-is_harmless-clause-retakes : goal.returns-then-not-is_harmless-clause-retakes
-returns-then-not-is_harmless-clause-retakes c = λ e. absurd (both_ways false refl e)
-
-pub returns-then-discovers-clause-replied : goal.returns-then-discovers-clause-replied
-returns-then-discovers-clause-replied c = λ e. absurd (both_ways false refl e)
-
-pub returns-then-discovers-clause-threats : goal.returns-then-discovers-clause-threats
-returns-then-discovers-clause-threats c = λ e. absurd (both_ways false refl e)
-
-pub returns-then-discovers-clause-retakes : goal.returns-then-discovers-clause-retakes
-returns-then-discovers-clause-retakes c = λ e. absurd (both_ways false refl e)
-
-pub returns-then-not-is_harmless-2-clause-replied : goal.returns-then-not-is_harmless-2-clause-replied
-returns-then-not-is_harmless-2-clause-replied c = λ e. absurd (both_ways false refl e)
-
-pub returns-then-not-is_harmless-2-clause-threats : goal.returns-then-not-is_harmless-2-clause-threats
-returns-then-not-is_harmless-2-clause-threats c = λ e. absurd (both_ways false refl e)
-
-pub returns-then-not-is_harmless-2-clause-retakes : goal.returns-then-not-is_harmless-2-clause-retakes
-returns-then-not-is_harmless-2-clause-retakes c = λ e. absurd (both_ways false refl e)

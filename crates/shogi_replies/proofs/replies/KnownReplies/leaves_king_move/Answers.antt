@@ -16,7 +16,7 @@ returns-else-not-has_no_sniper c = λ e legal. subst (λ (m : Move). legal_codes
     ((rw c.at.ensures at (sym c.piece_moved.ensures)) ∙ c.in-Some.is)
     (sym c.is_sliding.ensures ∙ c.if-is_sliding.false)
     (c.has_no_sniper.ensures c.if-not-has_no_sniper.false)
-    (rw c.index.ensures.index at c.step_squares.ensures.squares) (c.has_open.ensures e))
+    c.step_squares.ensures.squares (c.has_open.ensures e))
 
 pub returns-then-has : goal.returns-then-has
 returns-then-has c = λ e legal.

@@ -5,9 +5,6 @@ use Rattle.shogi_core.proofs.BitLaws.{has_bit-and, has_bit-none}
 use Rattle.shogi_replies.proofs.ReplyLaws.{open_either}
 use Rattle.shogi_replies.proofs.replies.KnownReplies.non_checking_destinations.Goals as goal
 
-pub returns-then-is_empty-clause-among : goal.returns-then-is_empty-clause-among
-returns-then-is_empty-clause-among c = rw c.none.ensures (λ n e. absurd (both_ways _ (has_bit-none n) e))
-
 pub returns-then-is_empty-clause-guaranteed : goal.returns-then-is_empty-clause-guaranteed
 returns-then-is_empty-clause-guaranteed c = rw c.none.ensures (λ n h e. absurd (both_ways _ (has_bit-none n) e))
 

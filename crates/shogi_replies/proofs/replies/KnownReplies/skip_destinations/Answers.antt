@@ -34,24 +34,3 @@ returns-else-index-to-clause-passed c = record { up = omega arith; passed = λ f
 
 pub returns-then-not-has-clause-passed : goal.returns-then-not-has-clause-passed
 returns-then-not-has-clause-passed c = record { up = omega arith; passed = λ first low. passed_none _ _ _ refl }
-
-pub returns-then-not-has-clause-consistent : goal.returns-then-not-has-clause-consistent
-returns-then-not-has-clause-consistent c = c.requires.consistent
-
-pub skip_destinations-requires-clause-consistent : goal.skip_destinations-requires-clause-consistent
-skip_destinations-requires-clause-consistent c = c.requires.consistent
-
-pub skip_destinations-requires-then-index-to-clause-consistent : goal.skip_destinations-requires-then-index-to-clause-consistent
-skip_destinations-requires-then-index-to-clause-consistent c = c.requires.consistent
-
-pub returns-then-is_empty-clause-consistent : goal.returns-then-is_empty-clause-consistent
-returns-then-is_empty-clause-consistent c = c.skip_destinations.ensures.consistent
-
-pub returns-then-index-to-clause-consistent : goal.returns-then-index-to-clause-consistent
-returns-then-index-to-clause-consistent c = c.skip_destinations-then-index-to.ensures.consistent
-
-pub returns-else-index-to-clause-consistent : goal.returns-else-index-to-clause-consistent
-returns-else-index-to-clause-consistent c = c.requires.consistent
-
-pub lowest-to-requires-clause-fits : goal.lowest-to-requires-clause-fits
-lowest-to-requires-clause-fits c = c.bitor-uncertain.result.fits

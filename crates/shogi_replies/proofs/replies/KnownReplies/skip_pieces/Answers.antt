@@ -1,12 +1,10 @@
-use Rattle.std.proofs.Common.{◌<◌, ◌-◌, ◌^◌, ◌∙◌, ℕ, refl, sym, subst, arith, inl, inr}
-use Rattle.std.proofs.lemmas.Bool.{and_parts, cases_eq, false_from_ne_true}
+use Rattle.std.proofs.Common.{◌<◌, ◌-◌, ◌^◌, ◌∙◌, refl, sym, arith}
+use Rattle.std.proofs.lemmas.Bool.{and_parts, false_from_ne_true}
 use Rattle.shogi_core.specs.Bits.{has_bit}
 use Rattle.shogi_core.proofs.BitLaws.{has_bit-and}
-use Rattle.shogi_replies.specs.ReplyInfo.{GuaranteesReplies}
-use Rattle.shogi_replies.proofs.PassLaws.{row_passed_to, not_uncertain, out_before}
+use Rattle.shogi_replies.proofs.PassLaws.{row_passed_to, not_uncertain}
 use Rattle.shogi_moves.proofs.SweepLaws.{on_first, mine_first}
 use Rattle.shogi_moves.proofs.MoverLaws.{on_movers}
-use Rattle.shogi_moves.specs.Sweeps.{IsBoardSweep}
 use Rattle.shogi_replies.proofs.replies.KnownReplies.skip_pieces.Goals as goal
 
 pub squares-init : goal.squares-init
@@ -24,22 +22,6 @@ squares-init c =
       within = λ n set. (and_parts _ _ (sym (has_bit-and c.matching_movers-moving.result.bits (2 ^ 128 - 1 - c.non_checking_pieces-far.result.bits) n) ∙ (rw (c.iter-left.ensures, c.without.ensures) at set))).0;
     }
 
-pub squares-preserved : goal.squares-preserved
-squares-preserved c = record {
-  moving = c.squares.invariant.moving;
-  same = c.squares.invariant.same;
-  matching = c.squares.invariant.matching;
-  mine = c.squares.invariant.mine;
-  guaranteed = λ n h set out. elim (cases_eq n c.in-Some.from) [
-    | inl here ↦ subst (λ (x : ℕ). GuaranteesReplies c.args.self.now.position.now c.args.capture c.args.move_filter.now c.args.self.now.escapes.bits x) (sym here) (c.guarantees_replies.ensures c.if-not-guarantees_replies.false)
-    | inr other ↦ c.squares.invariant.guaranteed n h set (out_before c.squares.left c.next.new.self c.in-Some.from n c.in-Some.ensures.some.rest out other)
-  ];
-  within = λ n set. c.squares.invariant.within n (and_parts _ _ (sym (c.in-Some.ensures.some.rest n) ∙ set)).0;
-}
-
-pub skip_pieces-requires-clause-ahead : goal.skip_pieces-requires-clause-ahead
-skip_pieces-requires-clause-ahead c = rw (c.squares.invariant.same, c.index-then-not-guarantees_replies.ensures.index) ((c.squares.invariant.mine c.in-Some.from c.in-Some.ensures.some.range (c.squares.invariant.within c.in-Some.from c.in-Some.ensures.some.set)).0)
-
 pub returns-then-not-guarantees_replies-clause-passed : goal.returns-then-not-guarantees_replies-clause-passed
 returns-then-not-guarantees_replies-clause-passed c =
     let above : c.args.sweep.now.from < c.in-Some.from = (c.squares.invariant.mine c.in-Some.from c.in-Some.ensures.some.range (c.squares.invariant.within c.in-Some.from c.in-Some.ensures.some.set)).0 in
@@ -53,18 +35,3 @@ returns-clause-passed c = rw c.skip_pieces-2.ensures.code (row_passed_to c.args.
     (λ n h set. (c.squares.invariant.mine n h set).1)
     (λ n h below set. c.squares.invariant.guaranteed n h set (c.in_default.ensures.none refl n))
     (omega (arith, c.index.ensures.range, c.index.ensures.index, c.requires.consistent.destinations.high)))
-
-pub bits_above-requires-clause-fits : goal.bits_above-requires-clause-fits
-bits_above-requires-clause-fits c = c.own.result.fits
-
-pub skip_pieces-requires-clause-consistent : goal.skip_pieces-requires-clause-consistent
-skip_pieces-requires-clause-consistent c = subst (IsBoardSweep c.args.self.now.position.now c.args.capture) (sym c.squares.invariant.same) c.requires.consistent
-
-pub skip_pieces-requires-2-clause-consistent : goal.skip_pieces-requires-2-clause-consistent
-skip_pieces-requires-2-clause-consistent c = subst (IsBoardSweep c.args.self.now.position.now c.args.capture) (sym c.squares.invariant.same) c.requires.consistent
-
-pub returns-then-not-guarantees_replies-clause-consistent : goal.returns-then-not-guarantees_replies-clause-consistent
-returns-then-not-guarantees_replies-clause-consistent c = c.skip_pieces.ensures.consistent
-
-pub returns-clause-consistent : goal.returns-clause-consistent
-returns-clause-consistent c = c.skip_pieces-2.ensures.consistent

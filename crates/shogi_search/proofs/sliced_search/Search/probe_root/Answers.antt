@@ -1,11 +1,9 @@
-use Rattle.std.proofs.Common.{arith, Option, inr, subst, sym}
+use Rattle.std.proofs.Common.{arith, inr}
 use Rattle.std.proofs.lemmas.Int.{ints}
 use Rattle.minimax.specs.Minimax.{negated}
 use Rattle.minimax.specs.declared.bounds.TheConstants.{INFINITY}
-use Rattle.minimax.specs.declared.entry.Entry.{Entry}
-use Rattle.shogi_search.specs.Calls.{Probe}
 use Rattle.shogi_search.proofs.CallLaws.{only_asks_one, ends_at_once}
-use Rattle.shogi_search.proofs.SearchCallLaws.{conclusive_as}
+use Rattle.shogi_search.proofs.Entries.{same_window}
 use Rattle.shogi_search.proofs.sliced_search.Search.probe_root.Goals as goal
 
 pub returns-in_err-entry-clause-asks : goal.returns-in_err-entry-clause-asks
@@ -18,10 +16,8 @@ pub returns-clause-told : goal.returns-clause-told
 returns-clause-told g c = rw (← c.self.view_is) (record {
   entry = c.in_ok-entry.entry;
   says = c.found_of.ensures.says;
-  enough = conclusive_as _ _ (negated INFINITY) c.self.inside.stack.beta c.in_ok-entry.entry c.in_ok-entry.ensures.known.conclusive (omega (arith, ints)) (omega (arith, ints));
-  last = inr (ends_at_once g.M.Memo.called _ _ _
-      (subst (λ (o : Option Entry). g.M.Memo.called c.args.memo.now (Probe c.self.inside.stack.root c.self.inside.stack.eval c.self.inside.stack.depth o) c.probe.new.memo)
-      (sym c.in_ok-entry.ensures.answer) c.probe.ensures.asked));
+  enough = same_window _ (negated INFINITY) _ c.self.inside.stack.beta c.in_ok-entry.entry (omega (arith, ints)) (omega (arith, ints)) c.in_ok-entry.ensures.known.conclusive;
+  last = inr (ends_at_once (rw c.in_ok-entry.ensures.answer c.probe.ensures.asked));
 })
 
 pub returns-in_err-entry-clause-first : goal.returns-in_err-entry-clause-first

@@ -1,48 +1,29 @@
-use Rattle.std.proofs.Common.{◌≡◌, ◌≤◌, ◌+◌, ◌*◌, ◌∙◌, ℕ, true, None, refl, rules, ap, arith, inl, length, subst, sym}
+use Rattle.std.proofs.Common.{◌≡◌, ◌≤◌, None, refl, rules, arith, inl, subst, sym}
 use Rattle.shogi_search.proofs.CallLaws.{as_counted}
 use Rattle.shogi_search.proofs.SearchCallLaws.{entered_count}
 use Rattle.std.proofs.lemmas.Int.{ints}
-use Rattle.shogi_search.proofs.Searches.{found_seen, known_found, rest_left, started_seen}
-use Rattle.shogi_search.specs.SlicedSearch.{IsSearch, left_in, progress_of, steps_of_tree}
-use Rattle.minimax.specs.Minimax.{tree_size}
-use Rattle.minimax.specs.declared.bounds.TheConstants.{SEARCH_DEPTH_MAX}
-use Rattle.shogi_search.specs.declared.stack.Stack.{Stack}
+use Rattle.shogi_search.proofs.Searches.{known_found}
+use Rattle.shogi_search.specs.SlicedSearch.{left_in, progress_of, steps_of_tree}
 use Rattle.shogi_search.proofs.Entries.{same_found, same_truth, same_window}
-use Rattle.shogi_core.specs.Position.{Shogi}
-use Rattle.shogi_search.specs.Progress.{IsBeta, Progress}
-use Rattle.shogi_search.specs.Calls.{Call, CallsInSteps}
+use Rattle.shogi_search.specs.Progress.{IsUnderWay}
 use Rattle.shogi_search.specs.Stack.{IsStack, steps_left}
 use Rattle.shogi_search.specs.declared.sliced_search.Search.TheInside.{Inside}
 use Rattle.shogi_search.proofs.Places.{left_positive}
-use Rattle.shogi_search.proofs.SliceLaws.{finds_by}
+use Rattle.shogi_search.proofs.SliceLaws.{ended_by, finds_by}
 use Rattle.shogi_search.proofs.sliced_search.Search.resume.Goals as goal
-
-same_tree : (s t : Stack) → t.root ≡ s.root → t.depth ≡ s.depth → steps_of_tree t ≡ steps_of_tree s
-same_tree s t p d = ap (λ (x : Shogi). 4 * tree_size x t.depth) p ∙ ap (λ (x : ℕ). 4 * tree_size s.root x) d
 
 pub invariant_of-self-2 : goal.invariant_of-self-2
 invariant_of-self-2 g c =
-    let i : IsSearch c.self.inside = c.self.invariant in
-    let none : c.self.inside.found ≡ None = found_seen c.self.inside c.args.self.now c.self.view_is ∙ c.requires.none in
-    let begun : c.self.inside.started ≡ true = started_seen c.self.inside c.args.self.now c.self.view_is ∙ c.requires.begun in
-    let rest : left_in c.self.inside.found c.self.inside.started (steps_of_tree c.self.inside.stack) (steps_left c.self.inside.stack) ≡ steps_left c.self.inside.stack = rest_left _ _ _ _ none begun in
+    let under : IsUnderWay (progress_of c.self.inside) = subst IsUnderWay (sym c.self.view_is) c.requires in
+    let rest : left_in c.self.inside.found c.self.inside.started (steps_of_tree c.self.inside.stack) (steps_left c.self.inside.stack) ≡ steps_left c.self.inside.stack = rw (under.none, under.begun) refl in
+    let same = c.in_ok-entry.ensures.run.unchanged in
     record {
-      shallow = subst (λ (d : ℕ). d ≤ SEARCH_DEPTH_MAX) (sym c.in_ok-entry.ensures.run.unchanged.1.0) i.shallow;
-      beta = subst IsBeta (sym c.in_ok-entry.ensures.run.unchanged.1.1.1) i.beta;
+      shallow = rw same.1.0 c.self.invariant.shallow;
+      beta = rw same.1.1.1 c.self.invariant.beta;
       known = known_found _ c.found_of.result _ refl (omega (arith, ints)) c.found_of.ensures.below c.found_of.ensures.steps;
       ready = λ e. absurd (cc);
-      counted = subst (λ (whole : ℕ). c.run.new.steps + 0 ≤ whole) (sym (same_tree c.self.inside.stack c.run.new.self c.in_ok-entry.ensures.run.unchanged.0 c.in_ok-entry.ensures.run.unchanged.1.0)) (omega (arith, rest, i.counted, c.in_ok-entry.ensures.fell));
+      counted = rw (same.0, same.1.0) (omega (arith, rest, c.self.invariant.counted, c.in_ok-entry.ensures.fell));
     }
-
--- the calls of a search are those below its root
-run_calls : {M : Type 0} (called : M → Call → M → Type 0) (a b : M) (inside : Inside) (search : Progress) (t y y' : ℕ)
-    → progress_of inside ≡ search → inside.found ≡ None → inside.started ≡ true → IsStack inside.stack → y' ≡ y
-    → CallsInSteps called a b inside.steps t (inside.stack.height + 1) y 0
-    → CallsInSteps called a b search.steps t (length search.entered) y' 0
-run_calls called a b inside search t y y' e none begun chain ends k =
-    subst (λ (p : Progress). CallsInSteps called a b p.steps t (length p.entered) y' 0) e
-    (as_counted called a b inside.steps inside.steps t t (inside.stack.height + 1) _ y y' 0 k refl refl
-    (entered_count inside.found inside.started inside.stack none begun chain) ends)
 
 pub found_of-requires-clause-shallow : goal.found_of-requires-clause-shallow
 found_of-requires-clause-shallow g c = omega (arith, c.self.invariant.shallow, c.in_ok-entry.ensures.run.unchanged.1.0)
@@ -60,70 +41,53 @@ found_of-requires-clause-known g c =
 
 pub returns-in_err-entry : goal.returns-in_err-entry
 returns-in_err-entry g c =
-    let none : c.self.inside.found ≡ None = found_seen c.self.inside c.args.self.now c.self.view_is ∙ c.requires.none in
-    let begun : c.self.inside.started ≡ true = started_seen c.self.inside c.args.self.now c.self.view_is ∙ c.requires.begun in
-    let before : left_in c.self.inside.found c.self.inside.started (steps_of_tree c.self.inside.stack) (steps_left c.self.inside.stack) ≡ steps_left c.self.inside.stack = rest_left _ _ _ _ none begun in
-    let after : left_in c.self.inside.found c.self.inside.started (steps_of_tree c.run.new.self) (steps_left c.run.new.self) ≡ steps_left c.run.new.self = rest_left _ _ _ _ none begun in
+    let s : Inside = c.self.inside in
+    let under : IsUnderWay (progress_of c.self.inside) = subst IsUnderWay (sym c.self.view_is) c.requires in
+    let chain : IsStack s.stack = (c.self.invariant.ready under.none under.begun).stack in
+    let before : left_in s.found s.started (steps_of_tree s.stack) (steps_left s.stack) ≡ steps_left s.stack = rw (under.none, under.begun) refl in
+    let after : left_in s.found s.started (steps_of_tree c.run.new.self) (steps_left c.run.new.self) ≡ steps_left c.run.new.self = rw (under.none, under.begun) refl in
     let nothing : c.from_residual.result ≡ None = search rules in
     let run = c.in_err-entry.ensures.run in
-    rw nothing (record {
+    let counts = c.in_err-entry.ensures.counts in
+    rw (nothing, ← c.self.view_is) (record {
       finds = record { below = tt; value = tt; best = tt; counted = tt; range = tt };
-      slice = rw (← c.self.view_is) (record {
+      slice = record {
         unchanged = (run.unchanged.0, (run.unchanged.1.1.0, (run.unchanged.1.0, run.unchanged.1.1.1)));
-        counts = record { all = c.in_err-entry.ensures.counts.all; rises = c.in_err-entry.ensures.counts.rises; most = c.in_err-entry.ensures.counts.most };
+        counts = record { all = counts.all; rises = counts.rises; most = counts.most };
         left = omega (arith, before, after, run.fewer);
-        fell = omega (arith, before, after, run.fewer, c.in_err-entry.ensures.counts.most);
-        found = none;
+        fell = omega (arith, before, after, run.fewer, counts.most);
+        found = under.none;
         over = tt;
         left_all = tt;
         unfinished = omega (arith, after, left_positive c.run.new.self run.ready.stack);
-      });
+      };
       calls = record {
-        calls = run_calls g.M.Memo.called c.args.memo.now c.run.new.memo c.self.inside c.args.self.now c.run.new.steps (c.run.new.self.height + 1) _ c.self.view_is none begun (c.self.invariant.ready none begun).stack
-            (entered_count c.self.inside.found c.self.inside.started c.run.new.self none begun run.ready.stack) run.calls;
+        calls = as_counted run.calls refl refl (entered_count s.found s.started s.stack under.none under.begun chain) (entered_count s.found s.started c.run.new.self under.none under.begun run.ready.stack) (omega arith);
         told = tt;
         capacity = run.capacity;
       };
-      begun = begun;
+      begun = under.begun;
     })
 
 pub returns : goal.returns
 returns g c =
-    let none : c.self.inside.found ≡ None = found_seen c.self.inside c.args.self.now c.self.view_is ∙ c.requires.none in
-    let begun : c.self.inside.started ≡ true = started_seen c.self.inside c.args.self.now c.self.view_is ∙ c.requires.begun in
-    let same = c.in_ok-entry.ensures.run.unchanged in
-    let rest : left_in c.self.inside.found c.self.inside.started (steps_of_tree c.self.inside.stack) (steps_left c.self.inside.stack) ≡ steps_left c.self.inside.stack = rest_left _ _ _ _ none begun in
+    let under : IsUnderWay (progress_of c.self.inside) = subst IsUnderWay (sym c.self.view_is) c.requires in
+    let rest : left_in c.self.inside.found c.self.inside.started (steps_of_tree c.self.inside.stack) (steps_left c.self.inside.stack) ≡ steps_left c.self.inside.stack = rw (under.none, under.begun) refl in
+    let run = c.in_ok-entry.ensures.run in
+    let counts = c.in_ok-entry.ensures.counts in
+    let same = run.unchanged in
     let all : c.run.new.steps ≤ steps_of_tree c.self.inside.stack = omega (arith, rest, c.self.invariant.counted, c.in_ok-entry.ensures.fell) in
-    record {
-      finds = rw (← c.self.view_is)
-          (finds_by _ _ _
-          (same_found _ _ _ _ _ _ _ _ c.found_of.result same.0 same.1.1.0 same.1.0 (omega (arith, ints, c.self.invariant.beta.above, c.self.invariant.beta.most, same.1.1.1)) c.found_of.ensures.below)
-          c.found_of.ensures.steps (omega (arith, all, c.found_of.ensures.steps)));
-      slice = rw (← c.self.view_is) (record {
-        unchanged = (same.0, (same.1.1.0, (same.1.0, same.1.1.1)));
-        counts = record { all = tt; rises = c.in_ok-entry.ensures.counts.rises; most = c.in_ok-entry.ensures.counts.most };
-        left = tt;
-        fell = omega (arith, rest, c.in_ok-entry.ensures.fell);
-        found = refl;
-        over = refl;
-        left_all = refl;
-        unfinished = tt;
-      });
+    rw (← c.self.view_is) (record {
+      finds = finds_by _ _ _ (same_found _ _ _ _ _ _ _ _ c.found_of.result same.0 same.1.1.0 same.1.0 (omega (arith, ints, c.self.invariant.beta.above, c.self.invariant.beta.most, same.1.1.1)) c.found_of.ensures.below)
+          c.found_of.ensures.steps (omega (arith, all, c.found_of.ensures.steps));
+      slice = ended_by _ _ _ _ (same.0, (same.1.1.0, (same.1.0, same.1.1.1))) counts.rises counts.most (omega (arith, rest, c.in_ok-entry.ensures.fell)) refl refl refl;
       calls = record {
-        calls = run_calls g.M.Memo.called c.args.memo.now c.run.new.memo c.self.inside c.args.self.now c.run.new.steps 0 0 c.self.view_is none begun (c.self.invariant.ready none begun).stack refl
-            c.in_ok-entry.ensures.run.calls;
-        told = rw (← c.self.view_is) (record {
-          entry = c.in_ok-entry.entry;
-          says = c.found_of.ensures.says;
-          enough = c.in_ok-entry.ensures.run.known.conclusive;
-          last = inl c.in_ok-entry.ensures.run.told;
-        });
-        capacity = c.in_ok-entry.ensures.run.capacity;
+        calls = as_counted run.calls refl refl (entered_count c.self.inside.found c.self.inside.started c.self.inside.stack under.none under.begun (c.self.invariant.ready under.none under.begun).stack) refl (omega arith);
+        told = record { entry = c.in_ok-entry.entry; says = c.found_of.ensures.says; enough = run.known.conclusive; last = inl run.told };
+        capacity = run.capacity;
       };
-      begun = begun;
-    }
+      begun = under.begun;
+    })
 
 pub run-requires : goal.run-requires
-run-requires g c =
-    c.self.invariant.ready (found_seen c.self.inside c.args.self.now c.self.view_is ∙ c.requires.none)
-    (started_seen c.self.inside c.args.self.now c.self.view_is ∙ c.requires.begun)
+run-requires g c = let under : IsUnderWay (progress_of c.self.inside) = subst IsUnderWay (sym c.self.view_is) c.requires in c.self.invariant.ready under.none under.begun

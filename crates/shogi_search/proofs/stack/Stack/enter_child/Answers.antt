@@ -19,7 +19,7 @@ use Rattle.shogi_search.specs.declared.stack.Stack.{Stack}
 use Rattle.search_nodes.proofs.Nodes.{asked, is_asked, waits}
 use Rattle.shogi_search.proofs.Places.{top_deep, IsTop, one_top, read_on, read_top, on_map, on_top, on_with, with_frame, changed, left_visited}
 use Rattle.shogi_search.proofs.NarrowRoots.{uses_after}
-use Rattle.shogi_search.proofs.CallLaws.{asks_in_step, asks_none, steps_and_steps}
+use Rattle.shogi_search.proofs.CallLaws.{asks_in_step, stays, steps_and_steps}
 use Rattle.shogi_search.proofs.stack.Stack.enter_child.Goals as goal
 
 -- the node on top waits for the answer of this move
@@ -112,16 +112,14 @@ returns-clause-left g c =
     c.narrow.ensures.top (search rules) c.narrow.ensures.left c.push.ensures.left
 
 pub returns-in-Some-clause-calls : goal.returns-in-Some-clause-calls
-returns-in-Some-clause-calls g c = asks_in_step g.M.Memo.called _ _ 0 1 _ _ 0 (asks_none g.M.Memo.called _ 0) refl (omega arith) (omega arith)
+returns-in-Some-clause-calls g c = asks_in_step (stays g.M.Memo.called _ 0 0 0 0 refl) refl (omega arith) (omega arith)
 
 pub returns-in-Some-answer_of-clause-calls : goal.returns-in-Some-answer_of-clause-calls
-returns-in-Some-answer_of-clause-calls g c = asks_in_step g.M.Memo.called _ _ 0 1 _ _ 1 c.answer_of.ensures.asks.asked refl (omega arith) (omega arith)
+returns-in-Some-answer_of-clause-calls g c = asks_in_step c.answer_of.ensures.asks.asked refl (omega arith) (omega arith)
 
 pub returns-clause-calls : goal.returns-clause-calls
 returns-clause-calls g c =
-    asks_in_step g.M.Memo.called _ _ 0 1 _ _ 2
-    (steps_and_steps g.M.Memo.called _ _ _ 0 0 0 0 0 0 1 1 c.answer_of.ensures.asks.asked c.push.ensures.asks.asked)
-    refl (omega (arith, c.push.ensures.height, c.narrow.ensures.height)) (omega (arith, c.push.ensures.height, c.narrow.ensures.height))
+    asks_in_step (steps_and_steps c.answer_of.ensures.asks.asked c.push.ensures.asks.asked) refl (omega (arith, c.push.ensures.height, c.narrow.ensures.height)) (omega (arith, c.push.ensures.height, c.narrow.ensures.height))
 
 pub window-alpha-requires : goal.window-alpha-requires
 window-alpha-requires g c = record { current = asks_there c.args.self.now c.args.current.now c.index-self-self.result (omega (arith, c.requires.stack.height_fits)) c.requires.top }

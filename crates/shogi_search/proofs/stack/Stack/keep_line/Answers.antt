@@ -1,4 +1,4 @@
-use Rattle.std.proofs.Common.{arith, get_or, ◌≤◌}
+use Rattle.std.proofs.Common.{arith, get_or}
 use Rattle.search_nodes.specs.declared.frame.Frame.{Frame}
 use Rattle.shogi_search.proofs.CallLaws.{asks_further, only_asks_none, only_at_most}
 use Rattle.shogi_search.proofs.stack.Stack.keep_line.Goals as goal
@@ -13,11 +13,10 @@ pub line-preserved : goal.line-preserved
 line-preserved g c = record {
   fewer = omega (arith, c.line.invariant.fewer);
   above = omega arith;
-  asks = asks_further g.M.Memo _ _ _ _ 1 _ c.line.invariant.asks c.child_hash_move_of-next.ensures (omega (arith, c.line.invariant.fewer));
+  asks = asks_further c.line.invariant.asks c.child_hash_move_of-next.ensures (omega (arith, c.line.invariant.fewer));
 }
 
 pub returns : goal.returns
 returns g c =
     let f : Frame = get_or c.args.self.now.frames 0 c.index-self-0.result in
-    let most : f.depth ≤ 16 = f.shallow in
-    only_at_most g.M.Memo _ _ _ 14 c.line.invariant.asks (omega (arith, c.line.invariant.fewer, c.line.invariant.above, most))
+    only_at_most c.line.invariant.asks (omega (arith, c.line.invariant.fewer, c.line.invariant.above, f.shallow))

@@ -1,12 +1,10 @@
-use Rattle.std.proofs.Common.{ap, arith, get_or, refl, subst, sym, ◌∙◌}
+use Rattle.std.proofs.Common.{ap, arith, get_or, refl, ◌∙◌}
 use Rattle.search_nodes.specs.Frames.{IsToBeLeft, IsTrueOf}
 use Rattle.search_nodes.specs.declared.frame.Frame.{Frame}
 use Rattle.shogi_search.specs.declared.stack.Stack.{Stack}
-use Rattle.shogi_search.specs.Calls.{EndsWith}
-use Rattle.shogi_search.specs.Stack.{IsEntryOf, note_of_root}
+use Rattle.shogi_search.specs.Stack.{IsEntryOf}
 use Rattle.shogi_search.proofs.Places.{IsTop, of_top, read_on, read_top}
-use Rattle.shogi_search.proofs.CallLaws.{asks_further, asks_nothing, leaves, ends_at_once}
-use Rattle.shogi_search.proofs.Runs.{one_fewer}
+use Rattle.shogi_search.proofs.CallLaws.{asks_further, ends_at_once, stays, told_in_step}
 use Rattle.shogi_search.proofs.stack.Stack.leave.Goals as goal
 
 pub to_entry-entry-requires : goal.to_entry-entry-requires
@@ -45,9 +43,8 @@ returns-then-not-pop g c =
       fewer = tt;
       known = root.1;
       unchanged = kept.1;
-      calls = leaves g.M.Memo.called _ _ _ 0 1 _ _ 0 0 c.store_top.ensures.told (asks_nothing g.M.Memo.called _ _ 0 kept.0) refl (omega (arith, root.0)) (omega arith);
-      told = subst (λ m. EndsWith g.M.Memo.called c.args.memo.now m (note_of_root c.args.self.now c.to_entry-entry.result)) (sym kept.0)
-          (ends_at_once g.M.Memo.called _ _ _ (c.store_top.ensures.root root.0));
+      calls = told_in_step {most = 0} 0 c.store_top.ensures.told (rw kept.0 (stays g.M.Memo.called _ 0 0 0 0 refl)) refl (omega (arith, root.0)) (omega arith);
+      told = rw kept.0 (ends_at_once (c.store_top.ensures.root root.0));
       capacity = ap g.M.Memo.capacity kept.0 ∙ c.store_top.ensures.capacity;
     }
 
@@ -56,10 +53,10 @@ returns-then-self-eq0 g c =
     let left = c.pop.ensures.left c.if-not-pop.false in
     record {
       ready = left.ready;
-      fewer = one_fewer _ _ left.fewer;
+      fewer = omega (arith, left.fewer);
       known = tt;
       unchanged = left.unchanged;
-      calls = leaves g.M.Memo.called _ _ _ 0 1 _ _ 14 1 c.store_top.ensures.told (asks_further g.M.Memo _ _ _ _ 14 14 left.asks c.keep_line.ensures (omega (arith, left.below, left.some))).asked refl (omega (arith, left.below, left.some)) (omega (arith, left.below, left.some));
+      calls = told_in_step 1 c.store_top.ensures.told (asks_further {r = 14} left.asks c.keep_line.ensures (omega (arith, left.below, left.some))).asked refl (omega (arith, left.below, left.some)) (omega (arith, left.below, left.some));
       told = tt;
       capacity = c.keep_line.ensures.capacity ∙ (left.asks.capacity ∙ c.store_top.ensures.capacity);
     }
@@ -69,10 +66,10 @@ returns g c =
     let left = c.pop.ensures.left c.if-not-pop.false in
     record {
       ready = left.ready;
-      fewer = one_fewer _ _ left.fewer;
+      fewer = omega (arith, left.fewer);
       known = tt;
       unchanged = left.unchanged;
-      calls = leaves g.M.Memo.called _ _ _ 0 1 _ _ _ 0 c.store_top.ensures.told left.asks.asked refl (omega (arith, left.below, left.above)) (omega (arith, left.below, left.above));
+      calls = told_in_step 0 c.store_top.ensures.told left.asks.asked refl (omega (arith, left.below, left.above)) (omega (arith, left.below, left.above));
       told = tt;
       capacity = left.asks.capacity ∙ c.store_top.ensures.capacity;
     }

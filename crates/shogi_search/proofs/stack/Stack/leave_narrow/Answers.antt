@@ -103,5 +103,5 @@ returns g c =
       above = omega (arith, c.push.ensures.height, c.widen-current.ensures.root, c.requires.narrow.child);
       below = omega (arith, c.requires.narrow.child);
       unchanged = kept_on s n c.push.new.self c.widen-current.ensures.unchanged c.push.ensures.unchanged;
-      asks = only_at_most g.M.Memo _ _ 1 _ c.push.ensures.asks (omega (arith, c.push.ensures.height, c.requires.narrow.child));
+      asks = only_at_most c.push.ensures.asks (omega (arith, c.push.ensures.height, c.requires.narrow.child));
     }

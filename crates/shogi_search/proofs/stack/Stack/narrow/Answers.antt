@@ -1,4 +1,4 @@
-use Rattle.std.proofs.Common.{FitsSigned, w32, ap, arith, get_or, length, rules, ◌≡◌, ◌<◌}
+use Rattle.std.proofs.Common.{refl, FitsSigned, w32, ap, arith, get_or, length, rules, ◌≡◌, ◌<◌}
 use Rattle.std.proofs.lemmas.Int.{ints, to_z-of_z}
 use lib.IntN.{◌+ℤ◌, pos}
 use mir.Val.{to_z, of_z}
@@ -37,26 +37,19 @@ end_at-requires-clause-most c =
     let same = to_z-of_z w32 c.args.self.now.beta fits in
     omega (arith, ints, same, c.if-bound-self.false, c.requires.stack.most)
 
-pub returns-clause-stack : goal.returns-clause-stack
-returns-clause-stack c =
+pub returns : goal.returns
+returns c =
     let s : Stack = c.args.self.now in
     let f : Frame = get_or s.frames s.height c.index-self-self-2.result in
     let is : IsTop s f = read_top s c.index-self-self-2.result (omega (arith, c.requires.stack.height_fits)) in
     let fits : FitsSigned w32 s.beta = search rules in
     let same = to_z-of_z w32 s.beta fits in
-    narrowed s f c.end_at.new.self _ is c.requires.stack (omega (arith, c.if-self-gt0.false)) c.end_at.ensures.unchanged c.end_at.ensures.beta (omega (arith, ints, same, c.if-bound-self.false))
-
-pub returns-clause-top : goal.returns-clause-top
-returns-clause-top c =
-    let s : Stack = c.args.self.now in
-    let f : Frame = get_or s.frames s.height c.index-self-self-2.result in
-    let is : IsTop s f = read_top s c.index-self-self-2.result (omega (arith, c.requires.stack.height_fits)) in
+    let root : s.height ≡ 0 = omega (arith, c.if-self-gt0.false) in
     let best : Frame = get_or s.frames s.height c.index-self-self.result in
-    top_narrowed s f c.end_at.new.self (to_z w32 (of_z w32 (to_z w32 (of_z w32 best.best_value) +ℤ pos 1))) is c.end_at.ensures.unchanged
-
-pub returns-clause-left : goal.returns-clause-left
-returns-clause-left c =
-    let s : Stack = c.args.self.now in
-    let f : Frame = get_or s.frames s.height c.index-self-self-2.result in
-    let is : IsTop s f = read_top s c.index-self-self-2.result (omega (arith, c.requires.stack.height_fits)) in
-    left_narrowed s f c.end_at.new.self _ is c.requires.stack (omega (arith, c.if-self-gt0.false)) c.end_at.ensures.unchanged
+    record {
+      stack = narrowed s f c.end_at.new.self _ is c.requires.stack root c.end_at.ensures.unchanged c.end_at.ensures.beta (omega (arith, ints, same, c.if-bound-self.false));
+      height = refl;
+      top = top_narrowed s f c.end_at.new.self (to_z w32 (of_z w32 (to_z w32 (of_z w32 best.best_value) +ℤ pos 1))) is c.end_at.ensures.unchanged;
+      left = left_narrowed s f c.end_at.new.self _ is c.requires.stack root c.end_at.ensures.unchanged;
+      unchanged = (refl, (refl, (refl, refl)));
+    }

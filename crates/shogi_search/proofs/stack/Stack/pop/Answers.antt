@@ -4,40 +4,31 @@ use Rattle.search_nodes.specs.Visits.{IsFree}
 use Rattle.search_nodes.specs.Changes.{IsAt}
 use Rattle.search_nodes.specs.Frames.{IsTrueOf}
 use Rattle.search_nodes.proofs.Nodes.{asked}
-use Rattle.minimax.specs.Entries.{IsConclusive}
-use Rattle.minimax.specs.declared.entry.Entry.{Entry}
 use Rattle.minimax.specs.Minimax.{negated}
 use Rattle.minimax.specs.declared.bounds.TheConstants.{INFINITY}
-use Rattle.shogi_search.specs.Stack.{IsChain, IsEntryOf, OnTop, parents_of}
+use Rattle.shogi_search.specs.Stack.{IsChain, IsEntryOf, parents_of}
 use Rattle.shogi_search.specs.declared.stack.Stack.{Stack}
 use Rattle.shogi_search.proofs.Entries.{same_truth, same_window}
 use Rattle.shogi_search.proofs.NarrowRoots.{first_at}
 use Rattle.search_nodes.specs.declared.frame.Frame.{Frame}
-use Rattle.shogi_search.proofs.Places.{below_deep, HasTop, has_top, on_map, on_top, asked_below, truth_below, conclusive_below, stack_popped, left_popped, on_with}
+use Rattle.shogi_search.proofs.Places.{below_deep, HasTop, has_top, on_map, on_top, asked_below, entry_below, stack_popped, left_popped, on_with}
 use Rattle.shogi_search.proofs.CallLaws.{only_asks_none}
 use Rattle.shogi_search.proofs.stack.Stack.pop.Goals as goal
 use Rattle.shogi_search.proofs.stack.Stack.pop.Goals.{else-self-eq1-via-then-self-eq1+else-self, else-self-eq1-via-else-self-eq1}
 
-truth_on : (s : Stack) (entry : Entry) → OnTop s (λ top. IsEntryOf top entry) → OnTop s (λ top. IsTrueOf top entry)
-truth_on s entry k = on_map s (λ top. IsEntryOf top entry) (λ top. IsTrueOf top entry) (λ f known. known.truth) k
-
-conclusive_on : (s : Stack) (entry : Entry) → OnTop s (λ top. IsEntryOf top entry) → OnTop s (λ top. IsConclusive top.alpha top.beta entry)
-conclusive_on s entry k = on_map s (λ top. IsEntryOf top entry) (λ top. IsConclusive top.alpha top.beta entry) (λ f known. known.conclusive) k
-
 pub unreachable-requires : goal.unreachable-requires
 unreachable-requires g c = asked_below c.args.self.now _ c.requires.stack (omega (arith, c.if-self-eq0.false)) (omega (arith, c.requires.stack.height_fits)) c.in_default.not-AwaitingChild
 
-pub back_up-requires-clause-truth : goal.back_up-requires-clause-truth
-back_up-requires-clause-truth g c = truth_below c.args.self.now _ _ _ c.requires.stack (omega (arith, c.if-self-eq0.false)) (omega (arith, c.requires.stack.height_fits)) c.in-AwaitingChild.is (truth_on c.args.self.now c.args.entry.now c.requires.top)
-
-pub back_up-requires-clause-conclusive : goal.back_up-requires-clause-conclusive
-back_up-requires-clause-conclusive g c = conclusive_below c.args.self.now _ _ _ c.requires.stack (omega (arith, c.if-self-eq0.false)) (omega (arith, c.requires.stack.height_fits)) c.in-AwaitingChild.is (conclusive_on c.args.self.now c.args.entry.now c.requires.top)
+pub back_up-requires : goal.back_up-requires
+back_up-requires g c =
+    let s : Stack = c.args.self.now in
+    let some : 0 < s.height = omega (arith, c.if-self-eq0.false) in
+    let fits : s.height < length s.frames = omega (arith, c.requires.stack.height_fits) in
+    let known = entry_below s _ _ _ c.requires.stack some fits c.in-AwaitingChild.is c.requires.top in
+    record { deep = below_deep s _ c.requires.stack some fits; current = asked _ _ c.in-AwaitingChild.is; truth = known.truth; conclusive = known.conclusive }
 
 pub leave_narrow-requires-clause-truth : goal.leave_narrow-requires-clause-truth
-leave_narrow-requires-clause-truth g c = truth_on c.args.self.now c.args.entry.now c.requires.top
-
-pub back_up-requires-clause-current : goal.back_up-requires-clause-current
-back_up-requires-clause-current g c = asked _ _ c.in-AwaitingChild.is
+leave_narrow-requires-clause-truth g c = on_map c.args.self.now (λ top. IsEntryOf top c.args.entry.now) (λ top. IsTrueOf top c.args.entry.now) (λ f known. known.truth) c.requires.top
 
 pub leave_narrow-requires-clause-narrow : goal.leave_narrow-requires-clause-narrow
 leave_narrow-requires-clause-narrow g c =
@@ -49,9 +40,6 @@ leave_narrow-requires-clause-narrow g c =
       child = c.if-self-eq1.true;
       less = omega (arith, ints, to_z-of_z w32 s.bound low, to_z-of_z w32 s.beta high, c.if-self.true);
     }
-
-pub back_up-requires-clause-deep : goal.back_up-requires-clause-deep
-back_up-requires-clause-deep g c = below_deep c.args.self.now _ c.requires.stack (omega (arith, c.if-self-eq0.false)) (omega (arith, c.requires.stack.height_fits))
 
 pub returns-then-self-eq0-clause-root : goal.returns-then-self-eq0-clause-root
 returns-then-self-eq0-clause-root g c = λ _.

@@ -12,7 +12,7 @@ use Rattle.search_nodes.specs.declared.frame.Frame.{Frame}
 use Rattle.search_nodes.proofs.Nodes.{asked}
 use Rattle.shogi_search.specs.Stack.{AwaitsChild, IsStackWith}
 use Rattle.shogi_search.specs.declared.stack.Stack.{Stack}
-use Rattle.shogi_search.proofs.Places.{IsTop, read_on, read_top, on_with, stack_entered, left_child, left_once, free_next, found_at, room}
+use Rattle.shogi_search.proofs.Places.{IsTop, read_on, read_top, on_with, stack_entered, left_child, left_once, found_at, room}
 use Rattle.shogi_search.proofs.stack.Stack.push.Goals as goal
 
 -- there is room above the node on top
@@ -80,7 +80,7 @@ returns g c =
         stack = stack_entered s f c.enter.new.self m c.unknown-self.result is c.requires.stack waits.asked deep low above window
             (found_at c.enter.new.self _ _ c.unknown-self.result (c.enter.ensures.place.position ∙ sym c.as_position-3.ensures) refl (c.unknown-self.ensures c.enter.new.self.node.eval));
         whole = λ root. absurd (omega (arith, root));
-        top = on_with s (s.height + 1) c.enter.new.self (λ (top : Frame). IsFree top.state) above (free_next _ c.enter.ensures.state);
+        top = on_with s (s.height + 1) c.enter.new.self (λ (top : Frame). IsFree top.state) above (rw c.enter.ensures.state tt);
       };
       height = refl;
       left = left_child s f c.enter.new.self m _ _ _ is c.requires.stack deep above window counted;

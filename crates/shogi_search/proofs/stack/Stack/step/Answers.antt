@@ -1,12 +1,11 @@
 use Rattle.std.proofs.Common.{arith, get_or, refl, ◌≡◌}
 use Rattle.shogi_search.specs.declared.stack.Stack.{Stack}
-use Rattle.std.proofs.lemmas.Bool.{both_ways}
 use Rattle.search_nodes.specs.Order.{todo}
 use Rattle.search_nodes.specs.Visits.{IsFree, IsOver}
 use Rattle.search_nodes.specs.declared.frame.Frame.{Frame}
 use Rattle.search_nodes.specs.ReplyCache.{IsFoundAt}
 use Rattle.search_nodes.specs.declared.frame.NodeState.TheVariants.{AwaitingChild}
-use Rattle.shogi_search.proofs.Places.{IsTop, left_passed, read_on, read_top, on_with, changed, looked, over_next, over_cut, left_descended}
+use Rattle.shogi_search.proofs.Places.{IsTop, left_passed, read_on, read_top, on_with, changed, looked, left_descended}
 use Rattle.shogi_search.proofs.Runs.{step_from}
 use Rattle.shogi_search.proofs.stack.Stack.step.Goals as goal
 
@@ -24,7 +23,7 @@ pub leave-requires : goal.leave-requires
 leave-requires g c = record {
   stack = looked c.args.self.now _ c.next_move.new.self c.next_move.new.cache (read_top c.args.self.now c.index-self-self.result (omega (arith, c.requires.stack.height_fits))) c.requires.stack c.next_move.ensures.asks.0 c.next_move.ensures.found;
   whole = c.requires.whole;
-  top = on_with c.args.self.now c.args.self.now.height c.next_move.new.self (λ (top : Frame). IsOver top.state (todo top.node.position top.picker)) (omega (arith, c.requires.stack.height_fits)) (over_next c.next_move.new.self c.in_default.ensures.asks.1.0 c.in_default.ensures.asks.1.1.1);
+  top = on_with c.args.self.now c.args.self.now.height c.next_move.new.self (λ (top : Frame). IsOver top.state (todo top.node.position top.picker)) (omega (arith, c.requires.stack.height_fits)) (rw c.in_default.ensures.asks.1.0 c.in_default.ensures.asks.1.1.1);
 }
 
 pub leave-requires-2 : goal.leave-requires-2
@@ -35,7 +34,7 @@ leave-requires-2 g c =
     record {
       stack = changed s f f (read_top s c.index-self-self.result (omega (arith, c.requires.stack.height_fits))) c.requires.stack (refl, (refl, (refl, refl)));
       whole = c.requires.whole;
-      top = on_with s s.height f (λ (top : Frame). IsOver top.state (todo top.node.position top.picker)) (omega (arith, c.requires.stack.height_fits)) (over_cut f.state (todo f.node.position f.picker) (λ next. both_ways c.is_next.result c.if-is_next.false (c.is_next.ensures.1 next)) free);
+      top = on_with s s.height f (λ (top : Frame). IsOver top.state (todo top.node.position top.picker)) (omega (arith, c.requires.stack.height_fits)) (grind (arith, free, c.is_next.ensures.1, c.if-is_next.false));
     }
 
 pub returns-then-is_next : goal.returns-then-is_next
