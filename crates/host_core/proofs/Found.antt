@@ -1,11 +1,13 @@
 -- What a call does to the session of an id, where it is found and where it is not.
-use Rattle.std.proofs.Common.{◌≡◌, ℕ, List, [], Option, Some, None, refl}
+use Rattle.std.proofs.Common.{◌≡◌, ℕ, List, [], Option, Some, None, refl, sym}
 use Rattle.std.specs.Borrow.{Bor}
 use Rattle.std.specs.Prelude.{IsSome, OnSome}
 use Rattle.session_slots.specs.declared.id.SessionId.{SessionId}
 use Rattle.session_slots.specs.Slots.{find, with_session}
+use Rattle.session_slots.proofs.Finds.{with_session-same}
 use Rattle.shared_table.specs.Recent.{Table}
 use Rattle.usi_session.specs.Due.{SessionView}
+use Rattle.host_core.specs.declared.event.HostFault.{HostFault}
 use Rattle.host_core.specs.declared.event.HostFault.TheVariants.{UnknownSession}
 use Rattle.host_core.specs.ById.{IsQueue, queued_of}
 use Rattle.host_core.specs.Events.{Outcome, Refused}
@@ -21,6 +23,12 @@ on_found goes old table id s after o e w = rw e (record { after = after; went = 
 pub on_none : (goes : SessionView → Outcome → SessionView → Type 0) (old : HostState) (id : SessionId)
     → find old.slots id ≡ None → OnSession goes old id (find old.slots id) (Refused UnknownSession) old
 on_none goes old id e = rw e (record { refused = refl; same = refl })
+
+-- the session that has these bytes queued refused, and nothing changed
+pub on_refused : (goes : SessionView → Outcome → SessionView → Type 0) (old : HostState) (id : SessionId) (fault : HostFault) (found : Option SessionView) (bytes : Bor (List ℕ))
+    → find old.slots id ≡ found → IsQueue found (Some bytes) → ((s : SessionView) → bytes.now ≡ s.queued → goes s (Refused fault) s) → OnSession goes old id found (Refused fault) old
+on_refused goes old id fault None bytes e queue goes_so = absurd queue
+on_refused goes old id fault (Some s) bytes e queue goes_so = record { after = s; went = goes_so s queue; slots_are = sym (with_session-same old.slots id s e); setup_is = refl }
 
 -- what holds where one is there
 pub on_some : {T : Type 0} (o : Option T) (P : Type 0) → IsSome o → OnSome o P → P
@@ -44,6 +52,10 @@ queue_some None bytes q = absurd q
 queue_some (Some t) bytes q = q
 
 -- where none are, no session is open
+pub none_queued : (found : Option SessionView) → IsQueue found None → found ≡ None
+none_queued None q = refl
+none_queued (Some t) q = absurd q
+
 pub queue_none : (found : Option SessionView) → IsQueue found None → [] ≡ queued_of found
 queue_none None q = refl
 queue_none (Some t) q = absurd q

@@ -162,7 +162,7 @@ impl<S: BuildHasher, A: Allocator + Copy> Host<S, A> {
         ensures err { OnErr result (self.new ≡ self.old) }
         ensures below { IsBelow self.old.slots }
     {
-        self.slots.reveal_invariant();
+        self.reveal_invariant();
         let session = Session::with_setup(self.alloc, self.setup);
         let activity = Activity::of(&session);
         match self.slots.open(session) {
@@ -183,7 +183,7 @@ impl<S: BuildHasher, A: Allocator + Copy> Host<S, A> {
         ensures err { OnErr result (self.new ≡ self.old) }
         ensures below { IsBelow self.old.slots }
     {
-        self.slots.reveal_invariant();
+        self.reveal_invariant();
         let Some(session) = self.slots.get_mut(id) else {
             return Err(HostFault::UnknownSession);
         };
@@ -202,9 +202,8 @@ impl<S: BuildHasher, A: Allocator + Copy> Host<S, A> {
         ensures fits { length self.new.table.pairs ≤ self.new.table.capacity }
         ensures below { IsBelow self.old.slots }
     {
-        self.slots.reveal_invariant();
+        self.reveal_invariant();
         let Some(session) = self.slots.get_mut(id) else {
-            self.table.reveal_invariant();
             return Err(HostFault::UnknownSession);
         };
         let worked = on_session::work(session, &mut self.table, budget);
@@ -220,13 +219,16 @@ impl<S: BuildHasher, A: Allocator + Copy> Host<S, A> {
         ensures err { OnErr result (self.new ≡ self.old) }
         ensures below { IsBelow self.old.slots }
     {
-        self.slots.reveal_invariant();
-        let Some(session) = self.slots.get_mut(id) else {
+        self.reveal_invariant();
+        let Some(queued) = self.output(id) else {
             return Err(HostFault::UnknownSession);
         };
-        let taken = on_session::take(self.alloc, session, n);
-        notes::set(&mut self.notes, id, Activity::of(session));
-        taken
+        if n > queued.len() {
+            return Err(HostFault::NotReady);
+        }
+        let bytes = Bytes::copy_of(self.alloc, queued.split_at(n).0)?;
+        self.pass(id, n)?;
+        Ok(bytes)
     }
 
     /// Drops the first n queued bytes of a session: `Take`, without handing the bytes out, so that it
@@ -238,7 +240,7 @@ impl<S: BuildHasher, A: Allocator + Copy> Host<S, A> {
         ensures err { OnErr result (self.new ≡ self.old) }
         ensures below { IsBelow self.old.slots }
     {
-        self.slots.reveal_invariant();
+        self.reveal_invariant();
         let Some(session) = self.slots.get_mut(id) else {
             return Err(HostFault::UnknownSession);
         };
@@ -254,7 +256,7 @@ impl<S: BuildHasher, A: Allocator + Copy> Host<S, A> {
         ensures err { OnErr result (self.new ≡ self.old) }
         ensures below { IsBelow self.old.slots }
     {
-        self.slots.reveal_invariant();
+        self.reveal_invariant();
         match dropped(self.slots.close(id)) {
             Some(()) => {
                 notes::set(&mut self.notes, id, Activity::NONE);

@@ -3,12 +3,11 @@
 ghost use Rattle.std.specs.Prelude.{◌≡◌, false, take, IsErrOf};
 ghost use Rattle.usi_session.specs.Due.{is_pending, EndsSearches};
 ghost use Rattle.usi_session.specs.Known.{TakesNoStep};
-ghost use Rattle.host_core.specs.Events.{Gave, Worked};
+ghost use Rattle.host_core.specs.Events.{Worked};
 ghost use Rattle.host_core.specs.Seen.{as_outcome, done_of, passed_of};
 ghost use Rattle.host_core.specs.Sessions.{Feeds, Works, Takes};
 ghost use Rattle.host_core.specs.declared.event.HostFault.TheVariants.{OutOfMemory};
 
-use crate::bytes::Bytes;
 use crate::event::HostFault;
 use shogi_search::Memo;
 use std::alloc::Allocator;
@@ -46,23 +45,6 @@ pub fn work<A: Allocator + Copy, M: Memo>(
         Ok(steps) => Ok(steps),
         Err(_) => Err(HostFault::OutOfMemory),
     }
-}
-
-/// Hands out the first n bytes of the queue.
-pub fn take<A: Allocator + Copy>(
-    alloc: A,
-    session: &mut Session<A>,
-    n: usize,
-) -> Result<Bytes<A>, HostFault>
-    ensures { Takes n session.old (as_outcome Gave result) session.new }
-{
-    let output = session.output();
-    if n > output.len() {
-        return Err(HostFault::NotReady);
-    }
-    let bytes = Bytes::copy_of(alloc, output.split_at(n).0)?;
-    session.take(n);
-    Ok(bytes)
 }
 
 /// Drops the first n bytes of the queue.

@@ -23,4 +23,3 @@ pub mod WholeLives
 pub mod Ends
 pub mod Waits
 pub mod Alone
-pub mod StatusTexts

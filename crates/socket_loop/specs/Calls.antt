@@ -18,6 +18,8 @@ use Rattle.transport.specs.Asked.{Call, Accept, Read, Write, Shut, Asks, IsCalle
 use Rattle.socket_loop.specs.Links.{links_of, unshut_of, IsRising, Each, IsAmong}
 use Rattle.socket_loop.specs.Scenes.{Scene}
 use Rattle.socket_loop.specs.declared.tally.Tally.{Tally}
+use Rattle.socket_loop.specs.declared.visit.Part.{Part}
+use Rattle.socket_loop.specs.declared.visit.Part.TheVariants.{Input, Output, End}
 use Rattle.socket_loop.specs.Tallies.{IsTally}
 use Rattle.socket_loop.specs.Parts.{Grows, IsInput, IsOutput, IsEnd, is_finished}
 use Rattle.socket_loop.specs.Turns.{host_full, HasSession, HaveSessions, IsTurn, KeepsMade, ServesNew, Served, StirsHeld, any_pending}
@@ -60,6 +62,18 @@ writes_of host old new =
 -- it is shut where it is finished with
 abbrev pub ends_of : HostState → Connection → Connection → List Call
 ends_of host old new = cond (is_to_shut host old) (Shut old.link.number ∷ []) []
+
+-- the calls for a connection in a part of a turn
+abbrev pub calls_of : Part → HostState → Connection → Connection → List Call
+calls_of Input = reads_of
+calls_of Output = writes_of
+calls_of End = ends_of
+
+-- the steps of a host in a part of a turn
+abbrev pub steps_of : Part → Event → Type 0
+steps_of Input = IsInput
+steps_of Output = IsOutput
+steps_of End = IsEnd
 
 -- an event of the session of this id
 abbrev pub IsOf : SessionId → Event → Type 0

@@ -2,26 +2,7 @@
 use Rattle.std.specs.Prelude.{ℕ, ◌-◌, ◌++◌, List, codes, decimal}
 use Rattle.shogi_eval.specs.declared.eval.Eval.{Eval}
 use Rattle.shogi_eval.specs.declared.eval.Eval.TheVariants.{Plain, Hand, Exchange}
-use Rattle.usi_texts.specs.declared.setup.Setup.{Setup}
-use Rattle.socket_loop.specs.declared.status.Process.{Process}
-use Rattle.socket_loop.specs.declared.status.Limits.{Limits}
-use Rattle.socket_loop.specs.declared.status.Totals.{Totals}
 use Rattle.socket_loop.specs.declared.status.Status.{Status}
-
--- which process it is, and since when
-abbrev pub with_process : Process → List ℕ → List ℕ
-with_process process before =
-    before
-    ++ codes ",\"pid\":" ++ decimal process.pid
-    ++ codes ",\"started\":" ++ decimal process.started
-
--- what the host was started with
-abbrev pub with_limits : Limits → List ℕ → List ℕ
-with_limits limits before =
-    before
-    ++ codes ",\"slots\":" ++ decimal limits.slots
-    ++ codes ",\"entries\":" ++ decimal limits.entries
-    ++ codes ",\"slice\":" ++ decimal limits.slice
 
 -- an evaluation by the word that `--eval` has for it
 abbrev pub eval_word : Eval → List ℕ
@@ -29,63 +10,38 @@ eval_word Plain = codes "plain"
 eval_word Hand = codes "hand"
 eval_word Exchange = codes "exchange"
 
--- under what its sessions begin
-abbrev pub with_setup : Setup → List ℕ → List ℕ
-with_setup setup before =
-    before
-    ++ codes ",\"depth\":" ++ decimal setup.depth
-    ++ codes ",\"max_depth\":" ++ decimal setup.max_depth
-    ++ codes ",\"lines\":" ++ decimal setup.multi_pv
-    ++ codes ",\"eval\":\"" ++ eval_word setup.eval ++ codes "\""
-
--- what it has now; those that wait are those that do not search
-abbrev pub with_loads : Status → List ℕ → List ℕ
-with_loads status before =
-    before
+-- the process, what the host was started with, what its sessions begin under, what it has now (those that wait are those
+-- that do not search), who came, who went, what was searched, what was refused or failed, and the bytes
+abbrev pub status_line : Status → List ℕ
+status_line status =
+    codes "{\"version\":\"0.1.0\""
+    ++ codes ",\"pid\":" ++ decimal status.process.pid
+    ++ codes ",\"started\":" ++ decimal status.process.started
+    ++ codes ",\"slots\":" ++ decimal status.limits.slots
+    ++ codes ",\"entries\":" ++ decimal status.limits.entries
+    ++ codes ",\"slice\":" ++ decimal status.limits.slice
+    ++ codes ",\"depth\":" ++ decimal status.setup.depth
+    ++ codes ",\"max_depth\":" ++ decimal status.setup.max_depth
+    ++ codes ",\"lines\":" ++ decimal status.setup.multi_pv
+    ++ codes ",\"eval\":\"" ++ eval_word status.setup.eval ++ codes "\""
     ++ codes ",\"used\":" ++ decimal status.used
     ++ codes ",\"searching\":" ++ decimal status.searching
     ++ codes ",\"waiting\":" ++ decimal (status.used - status.searching)
     ++ codes ",\"filled\":" ++ decimal status.filled
-
--- its turns, and who came
-abbrev pub with_arrivals : Totals → List ℕ → List ℕ
-with_arrivals totals before =
-    before
-    ++ codes ",\"turns\":" ++ decimal totals.turns
-    ++ codes ",\"accepted\":" ++ decimal totals.accepted
-    ++ codes ",\"full\":" ++ decimal totals.full
-    ++ codes ",\"unopened\":" ++ decimal totals.unopened
-
--- who went, and what was refused to those who are there
-abbrev pub with_ends : Totals → List ℕ → List ℕ
-with_ends totals before =
-    before
-    ++ codes ",\"ended_reading\":" ++ decimal totals.ended_reading
-    ++ codes ",\"ended_writing\":" ++ decimal totals.ended_writing
-    ++ codes ",\"finished\":" ++ decimal totals.finished
-    ++ codes ",\"refused_work\":" ++ decimal totals.refused_work
-
--- what was searched, and what the table answered
-abbrev pub with_searches : Status → List ℕ → List ℕ
-with_searches status before =
-    before
+    ++ codes ",\"turns\":" ++ decimal status.totals.turns
+    ++ codes ",\"accepted\":" ++ decimal status.totals.accepted
+    ++ codes ",\"full\":" ++ decimal status.totals.full
+    ++ codes ",\"unopened\":" ++ decimal status.totals.unopened
+    ++ codes ",\"ended_reading\":" ++ decimal status.totals.ended_reading
+    ++ codes ",\"ended_writing\":" ++ decimal status.totals.ended_writing
+    ++ codes ",\"finished\":" ++ decimal status.totals.finished
+    ++ codes ",\"refused_work\":" ++ decimal status.totals.refused_work
     ++ codes ",\"bestmoves\":" ++ decimal status.totals.bestmoves
     ++ codes ",\"steps\":" ++ decimal status.totals.steps
     ++ codes ",\"probes\":" ++ decimal status.probes
     ++ codes ",\"hits\":" ++ decimal status.hits
-
--- what was refused, what failed, and the bytes
-abbrev pub with_others : Status → List ℕ → List ℕ
-with_others status before =
-    before
     ++ codes ",\"refused_notes\":" ++ decimal status.refused_notes
     ++ codes ",\"faults\":" ++ decimal status.faults
     ++ codes ",\"bytes_in\":" ++ decimal status.received
     ++ codes ",\"bytes_out\":" ++ decimal status.sent
-
-abbrev pub status_line : Status → List ℕ
-status_line status =
-    with_others status (with_searches status (with_ends status.totals (with_arrivals status.totals
-    (with_loads status (with_setup status.setup (with_limits status.limits
-    (with_process status.process (codes "{\"version\":\"0.1.0\""))))))))
     ++ codes "}\n"

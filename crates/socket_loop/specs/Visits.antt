@@ -12,9 +12,11 @@ use Rattle.transport.specs.Report.{Report, IsRaised, Stays, KeepsConnection, Kee
 use Rattle.transport.specs.declared.wire.Wire.{Ghosts}
 use Rattle.socket_loop.specs.Links.{links_of, reads_ended, AreOnce, IsMarked, Each, IsNotAmong, Ties, was_shut, IsAmong}
 use Rattle.socket_loop.specs.Scenes.{Scene, scene}
-use Rattle.socket_loop.specs.Parts.{IsEnd, IsInput, LeavesUntouched, Transferred, is_finished}
+use Rattle.socket_loop.specs.Parts.{IsInput, LeavesUntouched, Transferred, is_finished}
 use Rattle.socket_loop.specs.Turns.{EndsOrShuts, KeepsMade, OneEndsOrShuts}
-use Rattle.socket_loop.specs.Calls.{AsksTo, Visits, ends_of, shuts_of}
+use Rattle.socket_loop.specs.Calls.{AsksTo, Visits, calls_of, shuts_of, steps_of}
+use Rattle.socket_loop.specs.declared.visit.Part.{Part}
+use Rattle.socket_loop.specs.declared.visit.Part.TheVariants.{End}
 use Rattle.host_core.specs.Made.{Step}
 use Rattle.host_core.specs.Runs.{IsRun, IsStep}
 use Rattle.session_slots.specs.declared.id.SessionId.{SessionId}
@@ -129,19 +131,13 @@ EndsEmptied old new before after =
     → (old.has_ended ≡ true)
     ⊎ IsEmptied (before.unread old.link.number) (after.unread old.link.number)
 
--- it was visited, with the calls that are due, and its bytes are carried
-pub record CarriesOne (due : HostState → Connection → Connection → List Call)
-    (kind : Event → Type 0) (moved : Bool) (old new : Connection) (before after : Scene)
+-- it was visited in a part of a turn, and its bytes are carried; where it was shut as finished with, by these marks
+pub record CarriesOne (part : Part) (moved : Bool) (old new : Connection) (before after : Scene)
     : Type 0 where
-  pub visited : VisitsOne due kind moved old new before after
-  pub carries : (marks : List Connection) → TransfersHeld kind marks before after
-
--- it was shut where it was finished with, by these marks
-pub record EndsOne (moved : Bool) (old new : Connection) (before after : Scene) : Type 0 where
-  pub visited : VisitsOne ends_of IsEnd moved old new before after
+  pub visited : VisitsOne (calls_of part) (steps_of part) moved old new before after
   pub carries : (marks : List Connection)
-      → (old.has_ended ≡ true → IsMarked reads_ended marks old.link.number)
-      → TransfersHeld IsEnd marks before after
+      → (part ≡ End → old.has_ended ≡ true → IsMarked reads_ended marks old.link.number)
+      → TransfersHeld (steps_of part) marks before after
 
 -- ---- the same of a connection, a host and a wire of the code
 
@@ -168,16 +164,17 @@ pub record VisitsTo (n : ℕ) (due : HostState → Connection → Connection →
   pub bound : after.bound ≡ before.bound
   pub faults : before.failed ≤ after.failed
 
--- each was visited, with the calls that are due, and the bytes of each are carried
-pub record CarriesEach (due : HostState → Connection → Connection → List Call)
-    (kind : Event → Type 0) (moved : Bool) (before after : Scene) : Type 0 where
-  pub visited : VisitsTo (length before.held) due kind moved before after
-  pub carries : (marks : List Connection) → TransfersHeld kind marks before after
-
 -- each was shut that was finished with, and no other; no reads end
-pub record EndsEach (moved : Bool) (before after : Scene) : Type 0 where
-  pub visited : VisitsTo (length before.held) ends_of IsEnd moved before after
-  pub carries : TransfersHeld IsEnd before.held before after
+pub record EndsEach (before after : Scene) : Type 0 where
   pub ended : (number : ℕ) → IsMarked reads_ended after.held number
       → IsMarked reads_ended before.held number
   pub left : AreOnce (links_of before.held) → Each (IsLeft after.host) after.held
+
+-- each was visited in a part of a turn, and the bytes of each are carried; where they were shut as finished with, by these marks
+pub record CarriesEach (part : Part) (moved : Bool) (before after : Scene) : Type 0 where
+  pub visited : VisitsTo (length before.held) (calls_of part) (steps_of part) moved before after
+  pub carries : (marks : List Connection)
+      → (part ≡ End → (number : ℕ) → IsMarked reads_ended before.held number
+      → IsMarked reads_ended marks number)
+      → TransfersHeld (steps_of part) marks before after
+  pub ends : part ≡ End → EndsEach before after

@@ -3,20 +3,20 @@
 ghost use Rattle.std.specs.Prelude.{false, insert, ◌≡◌, ◌≤◌, ◌<◌, [], ◌∷◌, ◌+◌, length, IfOk, vec_capacity};
 ghost use Rattle.socket_loop.specs.Accepting.{new_connection, place_for, AcceptsAll, AdmitsOne, IsShutAfterPrefix};
 ghost use Rattle.socket_loop.specs.Links.{links_of, unshut_of, AreOnce, Each, IsRising};
-ghost use Rattle.socket_loop.specs.Parts.{is_finished, IsInput, IsOutput};
+ghost use Rattle.socket_loop.specs.Parts.{is_finished};
 ghost use Rattle.socket_loop.specs.Turns.{any_pending, host_full, Fits, Over};
 ghost use Rattle.socket_loop.specs.Tallies.{pending_count, shut_count};
-ghost use Rattle.socket_loop.specs.Visits.{CarriesEach, EndsEach};
+ghost use Rattle.socket_loop.specs.Visits.{CarriesEach};
 ghost use Rattle.transport.specs.Moves.{StaysKnown};
 ghost use Rattle.transport.specs.Asked.{Write, Shut};
 ghost use Rattle.transport.specs.Wires.{IsAsked};
-ghost use Rattle.socket_loop.specs.Calls.{reads_of, writes_of, Turns};
+ghost use Rattle.socket_loop.specs.Calls.{Turns};
 ghost use Rattle.socket_loop.specs.declared.turn.TheConstants.{ACCEPTS};
 ghost use Rattle.session_slots.specs.declared.limits.TheConstants.{SESSIONS_MAX};
 
 use crate::connection::{Connection, Link};
 use crate::tally::{Admission, Arrivals, Tally, Visited, newly_shut, one_if};
-use crate::visit::{close_if_finished, read_from, write_to};
+use crate::visit::{Part, visit};
 use host_core::{Host, HostFault};
 use session_slots::SESSIONS_MAX;
 use std::alloc::{AllocError, Allocator};
@@ -193,9 +193,14 @@ impl<A: Allocator + Copy> Loop<A> {
         arrivals
     }
 
-    /// One read for each connection whose session wants input.
-    fn read_all<W: Wire, S: BuildHasher>(&mut self, host: &mut Host<S, A>, wire: &mut W) -> Visited
-        ensures all { Over W.Wire (CarriesEach reads_of IsInput result.moved)
+    /// Visits each connection in a part of a turn.
+    fn visit_all<W: Wire, S: BuildHasher>(
+        &mut self,
+        part: Part,
+        host: &mut Host<S, A>,
+        wire: &mut W,
+    ) -> Visited
+        ensures all { Over W.Wire (CarriesEach part result.moved)
             self.old host.old wire.old self.new host.new wire.new }
         ensures shut { result.shut + shut_count self.old.held ≡ shut_count self.new.held }
     {
@@ -203,41 +208,7 @@ impl<A: Allocator + Copy> Loop<A> {
         let mut shut = 0;
         for connection in self.held.iter_mut() {
             let was_shut = connection.is_shut;
-            let has_moved = read_from(connection, host, wire);
-            shut += newly_shut(was_shut, connection.is_shut);
-            moved = moved | has_moved;
-        }
-        Visited { moved, shut }
-    }
-
-    /// One write for each connection with queued bytes.
-    fn write_all<W: Wire, S: BuildHasher>(&mut self, host: &mut Host<S, A>, wire: &mut W) -> Visited
-        ensures all { Over W.Wire (CarriesEach writes_of IsOutput result.moved)
-            self.old host.old wire.old self.new host.new wire.new }
-        ensures shut { result.shut + shut_count self.old.held ≡ shut_count self.new.held }
-    {
-        let mut moved = false;
-        let mut shut = 0;
-        for connection in self.held.iter_mut() {
-            let was_shut = connection.is_shut;
-            let has_moved = write_to(connection, host, wire);
-            shut += newly_shut(was_shut, connection.is_shut);
-            moved = moved | has_moved;
-        }
-        Visited { moved, shut }
-    }
-
-    /// Shuts each connection that is finished with.
-    fn close_all<W: Wire, S: BuildHasher>(&mut self, host: &mut Host<S, A>, wire: &mut W) -> Visited
-        ensures all { Over W.Wire (EndsEach result.moved)
-            self.old host.old wire.old self.new host.new wire.new }
-        ensures shut { result.shut + shut_count self.old.held ≡ shut_count self.new.held }
-    {
-        let mut moved = false;
-        let mut shut = 0;
-        for connection in self.held.iter_mut() {
-            let was_shut = connection.is_shut;
-            let has_moved = close_if_finished(connection, host, wire);
+            let has_moved = visit(part, connection, host, wire);
             shut += newly_shut(was_shut, connection.is_shut);
             moved = moved | has_moved;
         }
@@ -305,10 +276,10 @@ impl<A: Allocator + Copy> Loop<A> {
         ensures rising { IsRising (links_of self.old.held) → IsRising (links_of self.new.held) }
     {
         let arrivals = self.accept_all(host, wire);
-        let read = self.read_all(host, wire);
+        let read = self.visit_all(Part::Input, host, wire);
         let round = host.round(self.slice);
-        let written = self.write_all(host, wire);
-        let closed = self.close_all(host, wire);
+        let written = self.visit_all(Part::Output, host, wire);
+        let closed = self.visit_all(Part::End, host, wire);
         self.remove_shut();
         let is_pending = self.is_pending(host);
         Turn {

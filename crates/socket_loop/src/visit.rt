@@ -3,36 +3,51 @@
 ghost use Rattle.std.specs.Prelude.{◌≡◌, ◌<◌, ◌≤◌, [], ◌∷◌, None, length, true, false};
 ghost use Rattle.session_slots.specs.Slots.{find};
 ghost use Rattle.usi_session.specs.declared.limits.TheConstants.{CHUNK_MAX};
-ghost use Rattle.socket_loop.specs.Parts.{IsGone, IsInput, IsOutput, is_finished};
+ghost use Rattle.socket_loop.specs.Parts.{IsGone, is_finished};
 ghost use Rattle.transport.specs.Report.{Shuts};
 ghost use Rattle.transport.specs.Asked.{Shut, Asks};
-ghost use Rattle.socket_loop.specs.Calls.{is_to_read, is_to_write, is_to_shut, reads_of, writes_of};
-ghost use Rattle.socket_loop.specs.Visits.{CarriesOne, EndsEmptied, EndsOne, FeedsOne, IsClosing, IsLeft, OverOne, WantsInput};
+ghost use Rattle.socket_loop.specs.Calls.{calls_of, is_to_read, is_to_write, is_to_shut, IsVisit};
+ghost use Rattle.socket_loop.specs.Visits.{CarriesOne, EndsEmptied, FeedsOne, IsClosing, IsLeft, OverOne, WantsInput};
+ghost use Rattle.socket_loop.specs.declared.visit.Part.TheVariants.{Input, Output, End};
 
-use crate::connection::{Connection, Link};
+use crate::connection::Connection;
 use host_core::Host;
 use std::alloc::Allocator;
 use std::hash::BuildHasher;
 use transport::{Got, Wire};
 use usi_session::CHUNK_MAX;
 
+/// A part of a turn that visits each connection.
+#[derive(Clone, Copy)]
+pub enum Part {
+    /// One read for each whose session wants input.
+    Input,
+    /// One write for each with queued bytes.
+    Output,
+    /// Each that is finished with is shut.
+    End,
+}
+
 /// Shuts a connection and closes its session.
-pub fn shut_down<W: Wire, S: BuildHasher, A: Allocator + Copy>(
-    link: Link,
+fn shut_down<W: Wire, S: BuildHasher, A: Allocator + Copy>(
+    held: &mut Connection,
     host: &mut Host<S, A>,
     wire: &mut W,
 )
-    ensures shuts { Shuts (W.bound wire.old) (W.report wire.old) (W.report wire.new) link.number }
-    ensures asked { Asks (W.asked wire.old) (W.asked wire.new) (Shut link.number ∷ []) }
-    ensures closed { IsClosing host.old link.id host.new }
-    ensures gone { link.id.generation < host.old.slots.next → IsGone host.new link.id }
-    ensures if_none { find host.new.slots link.id ≡ None }
+    ensures held { held.new ≡ record held.old { is_shut = true } }
+    ensures shuts { Shuts (W.bound wire.old) (W.report wire.old) (W.report wire.new)
+        held.old.link.number }
+    ensures asked { Asks (W.asked wire.old) (W.asked wire.new) (Shut held.old.link.number ∷ []) }
+    ensures closed { IsClosing host.old held.old.link.id host.new }
+    ensures gone { held.old.link.id.generation < host.old.slots.next
+        → IsGone host.new held.old.link.id }
+    ensures if_none { find host.new.slots held.old.link.id ≡ None }
     ensures bound { W.bound wire.new ≡ W.bound wire.old }
     ensures faults { W.failed wire.old ≤ W.failed wire.new }
-    ensures next { host.old.slots.next ≤ host.new.slots.next }
 {
-    wire.shut(link.number);
-    let _closed = host.close(link.id);
+    wire.shut(held.link.number);
+    let _closed = host.close(held.link.id);
+    held.is_shut = true;
 }
 
 /// Feeds a session what its connection gave; where allocation fails, both end.
@@ -51,8 +66,7 @@ fn feed_from<W: Wire, S: BuildHasher, A: Allocator + Copy>(
     if host.feed(held.link.id, wire.bytes()).is_ok() {
         return;
     }
-    shut_down(held.link, host, wire);
-    held.is_shut = true;
+    shut_down(held, host, wire);
 }
 
 /// Whether a connection is to be read.
@@ -67,12 +81,12 @@ fn is_to_read<S: BuildHasher, A: Allocator + Copy>(held: &Connection, host: &Hos
 /// One read for a connection whose session wants input, and what it gave is fed. A read that fails, or a
 /// feed refused for memory, ends the connection and its session. True where something was read, or the
 /// reads ended, or the connection was shut.
-pub fn read_from<W: Wire, S: BuildHasher, A: Allocator + Copy>(
+fn read_from<W: Wire, S: BuildHasher, A: Allocator + Copy>(
     held: &mut Connection,
     host: &mut Host<S, A>,
     wire: &mut W,
 ) -> bool
-    ensures reads { OverOne W.Wire (CarriesOne reads_of IsInput result)
+    ensures reads { OverOne W.Wire (CarriesOne Input result)
         held.old host.old wire.old held.new host.new wire.new }
     ensures still { is_to_read host.old held.old ≡ false → result ≡ false }
     ensures ended { EndsEmptied held.old held.new (W.report wire.old) (W.report wire.new) }
@@ -92,8 +106,7 @@ pub fn read_from<W: Wire, S: BuildHasher, A: Allocator + Copy>(
             true
         }
         Err(_) => {
-            shut_down(link, host, wire);
-            held.is_shut = true;
+            shut_down(held, host, wire);
             true
         }
     }
@@ -102,12 +115,12 @@ pub fn read_from<W: Wire, S: BuildHasher, A: Allocator + Copy>(
 /// One write of what is queued for a connection, of which the session is passed what was taken. A
 /// write that fails ends the connection and its session. True where something was written, or the
 /// connection was shut.
-pub fn write_to<W: Wire, S: BuildHasher, A: Allocator + Copy>(
+fn write_to<W: Wire, S: BuildHasher, A: Allocator + Copy>(
     held: &mut Connection,
     host: &mut Host<S, A>,
     wire: &mut W,
 ) -> bool
-    ensures writes { OverOne W.Wire (CarriesOne writes_of IsOutput result)
+    ensures writes { OverOne W.Wire (CarriesOne Output result)
         held.old host.old wire.old held.new host.new wire.new }
     ensures still { is_to_write host.old held.old ≡ false → result ≡ false }
     ensures ended { held.new.has_ended ≡ held.old.has_ended }
@@ -125,8 +138,7 @@ pub fn write_to<W: Wire, S: BuildHasher, A: Allocator + Copy>(
             0 < n
         }
         Err(_) => {
-            shut_down(link, host, wire);
-            held.is_shut = true;
+            shut_down(held, host, wire);
             true
         }
     }
@@ -143,12 +155,12 @@ fn is_finished<S: BuildHasher, A: Allocator + Copy>(held: &Connection, host: &Ho
 }
 
 /// Shuts a connection that is finished with, and closes its session. True where it was shut.
-pub fn close_if_finished<W: Wire, S: BuildHasher, A: Allocator + Copy>(
+fn close_if_finished<W: Wire, S: BuildHasher, A: Allocator + Copy>(
     held: &mut Connection,
     host: &mut Host<S, A>,
     wire: &mut W,
 ) -> bool
-    ensures ends { OverOne W.Wire (EndsOne result)
+    ensures ends { OverOne W.Wire (CarriesOne End result)
         held.old host.old wire.old held.new host.new wire.new }
     ensures finished { result ≡ is_to_shut host.old held.old }
     ensures shuts { result ≡ true → held.new.is_shut ≡ true }
@@ -159,7 +171,27 @@ pub fn close_if_finished<W: Wire, S: BuildHasher, A: Allocator + Copy>(
     if held.is_shut || !is_finished(held, host) {
         return false;
     }
-    shut_down(held.link, host, wire);
-    held.is_shut = true;
+    shut_down(held, host, wire);
     true
+}
+
+/// What a part of a turn does with one connection. True where something moved.
+pub fn visit<W: Wire, S: BuildHasher, A: Allocator + Copy>(
+    part: Part,
+    held: &mut Connection,
+    host: &mut Host<S, A>,
+    wire: &mut W,
+) -> bool
+    ensures carries { OverOne W.Wire (CarriesOne part result)
+        held.old host.old wire.old held.new host.new wire.new }
+    ensures visit { IsVisit host.new (calls_of part host.old held.old held.new) held.old held.new }
+    ensures emptied { EndsEmptied held.old held.new (W.report wire.old) (W.report wire.new) }
+    ensures ended { part ≡ End → held.new.has_ended ≡ held.old.has_ended }
+    ensures left { part ≡ End → IsLeft host.new held.new }
+{
+    match part {
+        Part::Input => read_from(held, host, wire),
+        Part::Output => write_to(held, host, wire),
+        Part::End => close_if_finished(held, host, wire),
+    }
 }

@@ -1,7 +1,6 @@
 -- What a read of a stream leaves of its connection.
-use Rattle.std.proofs.Common.{◌≡◌, ◌≢◌, ℕ, Bool, true, false, List, [], ◌∷◌, ◌++◌, Option, Some, None, length, refl, sym, ap, subst, ◌∙◌, append_assoc, append-nil, arith}
-use Rattle.std.specs.Prelude.{◌==◌, suc}
-use borrow.Author.Tests.{eqb-true}
+use Rattle.std.proofs.Common.{◌≡◌, ◌≢◌, ℕ, Bool, true, false, List, [], ◌∷◌, ◌++◌, Option, Some, None, length, sym, ap, subst, ◌∙◌, append_assoc, append-nil}
+use Rattle.std.specs.Prelude.{◌==◌}
 use Rattle.std.specs.Io.KnownBytes.{Appends, Consumes, Keeps, prepend_known}
 use Rattle.std.proofs.KnownBytes.{Appends-nil}
 use Rattle.transport.proofs.Reported.{Appends-none}
@@ -9,10 +8,6 @@ use Rattle.stream_transport.specs.declared.connection.BufferedStream.{BufferedSt
 use Rattle.stream_transport.specs.Held.{HasGiven, HasPassed, unread_of}
 
 -- ---- the bytes that came
-
-pub none_left : (xs : List ℕ) (empty : Bool) → empty ≡ (length xs == 0) → empty ≡ true → xs ≡ []
-none_left [] empty e t = refl
-none_left (x ∷ xs) empty e t = absurd (let none : suc (length xs) ≡ 0 = eqb-true (suc (length xs)) 0 (sym e ∙ t) in omega arith)
 
 pub some_left : (xs : List ℕ) (empty : Bool) → empty ≡ (length xs == 0) → empty ≡ false → xs ≢ []
 some_left [] empty e t z = (let u : empty ≡ true = e in let f : empty ≡ false = t in cc)

@@ -49,11 +49,10 @@ impl<S: ByteStream, A: Allocator + Copy> BufferedStream<S, A> {
         }
     }
 
-    /// Reads once, and gives the first line of what came, or all of it where no line has ended. The rest
-    /// is kept. Room for what comes is there before.
-    fn read_stream(&mut self, spare: &mut Spare<A>, most: usize) -> Result<Got, WireFault>
-        requires none { self.old.buffer.kept ≡ [] }
-        requires room { 1 ≤ most }
+    /// Gives the first line of what is kept, or so many bytes of it, or all where no line has ended.
+    /// Where nothing is kept it reads the stream once before, and keeps what came, for which it makes
+    /// room.
+    pub fn read(&mut self, spare: &mut Spare<A>, most: usize) -> Result<Got, WireFault>
         ensures number { self.new.number ≡ self.old.number }
         ensures within { IsWithin result most (lent_from spare.new self.new.buffer) }
         ensures line { IsOneLine (given_by result spare.new self.new) }
@@ -61,8 +60,17 @@ impl<S: ByteStream, A: Allocator + Copy> BufferedStream<S, A> {
         ensures came { HasPassed S.given self.old self.new (given_by result spare.new self.new) }
         ensures written { Keeps (written_of S.written self.old) (written_of S.written self.new) }
         ensures ended { EndsAt result (unread_of S.unread self.new) }
+        ensures first { GivesKept self.old.buffer.kept most result
+            (lent_from spare.new self.new.buffer) }
         ensures asked { AsksToGive S.calls most result self.old self.new }
     {
+        if most == 0 {
+            return Ok(Got::Nothing);
+        }
+        if !self.buffer.is_empty() {
+            self.buffer.give_line(spare, most);
+            return Ok(Got::Bytes);
+        }
         if !self.readable {
             return Ok(Got::Nothing);
         }
@@ -81,29 +89,6 @@ impl<S: ByteStream, A: Allocator + Copy> BufferedStream<S, A> {
             Err(StreamFault::Interrupted) => Ok(Got::Nothing),
             Err(StreamFault::Failed) => Err(WireFault::Device),
         }
-    }
-
-    /// Gives the first line, or a part of it, of what is kept; where nothing is, of what the stream has.
-    pub fn read(&mut self, spare: &mut Spare<A>, most: usize) -> Result<Got, WireFault>
-        ensures number { self.new.number ≡ self.old.number }
-        ensures within { IsWithin result most (lent_from spare.new self.new.buffer) }
-        ensures line { IsOneLine (given_by result spare.new self.new) }
-        ensures unread { HasGiven S.unread self.old self.new (given_by result spare.new self.new) }
-        ensures came { HasPassed S.given self.old self.new (given_by result spare.new self.new) }
-        ensures written { Keeps (written_of S.written self.old) (written_of S.written self.new) }
-        ensures ended { EndsAt result (unread_of S.unread self.new) }
-        ensures first { GivesKept self.old.buffer.kept most result
-            (lent_from spare.new self.new.buffer) }
-        ensures asked { AsksToGive S.calls most result self.old self.new }
-    {
-        if most == 0 {
-            return Ok(Got::Nothing);
-        }
-        if self.buffer.is_empty() {
-            return self.read_stream(spare, most);
-        }
-        self.buffer.give_line(spare, most);
-        Ok(Got::Bytes)
     }
 
     /// Writes once.

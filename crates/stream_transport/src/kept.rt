@@ -1,6 +1,6 @@
 //! What was read from a connection and is not given yet, and what is lent.
 
-ghost use Rattle.std.specs.Prelude.{◌≡◌, ◌≢◌, ◌<◌, ◌≤◌, [], ◌++◌, length, take, nat_eq, vec_len, OnOk};
+ghost use Rattle.std.specs.Prelude.{◌≡◌, ◌≢◌, ◌<◌, ◌≤◌, [], ◌++◌, length, take, nat_eq, vec_len, OnOk, true};
 ghost use Rattle.usi_lines.specs.OneLine.{one_line, IsOneLine};
 ghost use Rattle.stream_transport.specs.ReadBuffer.{lent_by, lent_from};
 
@@ -113,7 +113,8 @@ impl<A: Allocator> ReadBuffer<A> {
 
     /// Whether there are none.
     pub fn is_empty(&self) -> bool
-        ensures { result ≡ nat_eq (length self.now.kept) 0 }
+        ensures test { result ≡ nat_eq (length self.now.kept) 0 }
+        ensures none { result ≡ true → self.now.kept ≡ [] }
     {
         self.start == self.end
     }

@@ -26,6 +26,10 @@ pub record WireState : Type 0 where
   pub fails_in : ℕ
   pub lent : List ℕ
 
+-- a wire without connections
+abbrev pub new_wire : WireState
+new_wire = record { peers = []; accepted = 0; failed = 0; fails_in = 0; lent = [] }
+
 -- ---- what it reports
 
 -- the bytes of the chunks

@@ -2,7 +2,7 @@
 
 ghost use Rattle.std.specs.Prelude.{◌≡◌, ◌<◌, ◌≤◌, ◌↔◌, true, false, nat_lt, [], length, cond, min, Some, Ok, Err, IfOk, IfErr, OnErr, OnOk};
 ghost use Rattle.transport.specs.Report.{GivesNumber, KeepsAll, HasCause, HasRisen, IsWithin, Reads, Writes};
-ghost use Rattle.test_wire.specs.Memory.{IsKnown, contents_of, report_by, with_peer, changed, narrowing, failing, called, failed, is_open, fails_for, peer_of, width_of, accept_answer, after_accept, read_answer, after_failing, after_read, after_write, after_shut};
+ghost use Rattle.test_wire.specs.Memory.{IsKnown, new_wire, contents_of, report_by, with_peer, changed, narrowing, failing, called, failed, is_open, fails_for, peer_of, width_of, accept_answer, after_accept, read_answer, after_failing, after_read, after_write, after_shut};
 ghost use Rattle.test_wire.specs.declared.memory.TheConstants.{LENT_MAX};
 ghost use Rattle.transport.specs.declared.wire.WireFault.TheVariants.{Device, OutOfMemory};
 
@@ -49,7 +49,7 @@ impl<A: Allocator + Copy> Model for MemoryWire<A> {
 impl<A: Allocator + Copy> MemoryWire<A> {
     /// A wire without connections.
     pub fn new(alloc: A) -> MemoryWire<A>
-        ensures { result ≡ record { peers = []; accepted = 0; failed = 0; fails_in = 0; lent = [] } }
+        ensures { result ≡ new_wire }
     {
         MemoryWire {
             alloc,

@@ -25,7 +25,7 @@ For more information, try '--help'.
 ";
 
 /// Writes the text to standard error, and gives the status.
-fn complain<E: Eprint>(errors: &E, text: &str, status: u8) -> u8
+pub fn complain<E: Eprint>(errors: &E, text: &str, status: u8) -> u8
     ensures { result ≡ status }
 {
     let _ = eprint!(errors; "{text}");

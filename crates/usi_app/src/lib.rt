@@ -6,7 +6,7 @@ mod files;
 mod runs;
 mod serve_fault;
 
-pub use counts::{counting, listing};
+pub use counts::{complain, counting, listing};
 pub use files::warn_of_files;
 pub use runs::{DONE, print_out, script, session};
 pub use serve_fault::{ServeFault, socket_fault, status_fault};

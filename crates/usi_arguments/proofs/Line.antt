@@ -11,7 +11,7 @@ use Rattle.clap.specs.declared.error.kind.ErrorKind.{ErrorKind}
 use Rattle.clap.specs.declared.error.kind.ErrorKind.TheVariants as kinds
 use Rattle.clap.specs.declared.parser.matches.ArgMatches.{ArgMatches}
 use Rattle.clap.specs.declared.parser.matches.ValueSource.TheVariants.{DefaultValue}
-use Rattle.usi_arguments.specs.Answers.{AreHelpArguments, AreVersionArguments, Gives, GivesHelp, GivesReplay, GivesStdio, HasRanges, HasReach, IsTooDeepIn, KnowsEvaluation, NamesNoEvaluation, IsAnswerToParsed, IsAskedBy, IsJobOf, IsRefusal, IsRefusedFor, IsReplayOf, IsStdioOf, HasMistake, IsMistake, IsNoJob, NamesJob}
+use Rattle.usi_arguments.specs.Answers.{AreHelpArguments, AreVersionArguments, Gives, GivesHelp, GivesReplay, GivesStdio, HasRanges, HasReach, IsTooDeepIn, KnowsEvaluation, NamesNoEvaluation, IsAnswerToParsed, IsAskedBy, IsJobOf, IsRefusal, IsRefusedFor, IsReplayOf, IsStdioOf, HasMistake, IsMistake, IsNoJob, NamesHost, NamesJob, usual_host}
 use Rattle.usi_arguments.specs.CommandLine.{IsNumber, NamesNumber, command_line, command_of, faults_of}
 use Rattle.usi_arguments.specs.declared.arguments.Job.{Job}
 use Rattle.usi_arguments.specs.declared.arguments.Job.TheVariants.{Stdio, Replay, Serve, Perft, Moves, Help, Version}
@@ -22,7 +22,7 @@ use Rattle.usi_arguments.specs.declared.setup.Evaluation.TheVariants.{Plain}
 use Rattle.usi_arguments.specs.declared.setup.SetupOptions.{SetupOptions}
 use Rattle.usi_arguments.specs.Texts.{not_an_evaluation}
 use Rattle.usi_arguments.proofs.Numbers.{names_once}
-use Rattle.usi_arguments.proofs.Setups.{setup_once}
+use Rattle.usi_arguments.proofs.Setups.{host_once, setup_once}
 
 pub line_is_simple : is_simple command_line ≡ true
 unfolding clap_on_literals
@@ -134,15 +134,15 @@ pub line_asked : (arguments : List Text) (parsed : Result ArgMatches Error) (r :
     → IsAnswerToParsed parsed r
     → IfOk r (IsAskedBy arguments)
 line_asked arguments (Ok m) (Ok (Stdio entries setup)) line is = (line.kinds, subst (λ (c : Option (Text × List Row)). NamesJob c (Stdio entries setup)) line.matches is)
-line_asked arguments (Ok m) (Ok (Replay slots entries slice setup)) line is = (line.kinds, subst (λ (c : Option (Text × List Row)). NamesJob c (Replay slots entries slice setup)) line.matches is)
-line_asked arguments (Ok m) (Ok (Serve socket status slots entries slice turns setup)) line is = (line.kinds, subst (λ (c : Option (Text × List Row)). NamesJob c (Serve socket status slots entries slice turns setup)) line.matches is)
+line_asked arguments (Ok m) (Ok (Replay host)) line is = (line.kinds, subst (λ (c : Option (Text × List Row)). NamesJob c (Replay host)) line.matches is)
+line_asked arguments (Ok m) (Ok (Serve socket status turns host)) line is = (line.kinds, subst (λ (c : Option (Text × List Row)). NamesJob c (Serve socket status turns host)) line.matches is)
 line_asked arguments (Ok m) (Ok (Perft sfen depth divide)) line is = (line.kinds, subst (λ (c : Option (Text × List Row)). NamesJob c (Perft sfen depth divide)) line.matches is)
 line_asked arguments (Ok m) (Ok (Moves sfen)) line is = (line.kinds, subst (λ (c : Option (Text × List Row)). NamesJob c (Moves sfen)) line.matches is)
 line_asked arguments (Ok m) (Ok (Help text)) line is = absurd (no_help (subcommand_rows_of m) (Help text) text refl is)
 line_asked arguments (Ok m) (Ok Version) line is = absurd (no_version (subcommand_rows_of m) Version refl is)
 line_asked arguments (Err e) (Ok (Stdio entries setup)) line is = absurd is
-line_asked arguments (Err e) (Ok (Replay slots entries slice setup)) line is = absurd is
-line_asked arguments (Err e) (Ok (Serve socket status slots entries slice turns setup)) line is = absurd is
+line_asked arguments (Err e) (Ok (Replay host)) line is = absurd is
+line_asked arguments (Err e) (Ok (Serve socket status turns host)) line is = absurd is
 line_asked arguments (Err e) (Ok (Perft sfen depth divide)) line is = absurd is
 line_asked arguments (Err e) (Ok (Moves sfen)) line is = absurd is
 line_asked arguments (Err e) (Ok (Help text)) line is = elim line.kinds [
@@ -198,9 +198,9 @@ gives : (arguments : List Text) (job : Job) (r : Result Job ArgumentsFault)
     → NamesJob (command_of arguments) job → HasRanges job → HasReach job → ((other : Job) → NamesJob (command_of arguments) other → other ≡ job)
     → IfOk r (IsAskedBy arguments) → IfErr r (IsRefusedFor arguments) → Gives job r
 gives arguments job (Ok (Stdio entries setup)) none knows names range reach only asked refused = inl (ap Ok (only (Stdio entries setup) asked.1))
-gives arguments job (Ok (Replay slots entries slice setup)) none knows names range reach only asked refused = inl (ap Ok (only (Replay slots entries slice setup) asked.1))
-gives arguments job (Ok (Serve socket status slots entries slice turns setup)) none knows names range reach only asked refused =
-    inl (ap Ok (only (Serve socket status slots entries slice turns setup) asked.1))
+gives arguments job (Ok (Replay host)) none knows names range reach only asked refused = inl (ap Ok (only (Replay host) asked.1))
+gives arguments job (Ok (Serve socket status turns host)) none knows names range reach only asked refused =
+    inl (ap Ok (only (Serve socket status turns host) asked.1))
 gives arguments job (Ok (Perft sfen depth divide)) none knows names range reach only asked refused = inl (ap Ok (only (Perft sfen depth divide) asked.1))
 gives arguments job (Ok (Moves sfen)) none knows names range reach only asked refused = inl (ap Ok (only (Moves sfen) asked.1))
 gives arguments job (Ok (Help text)) none knows names range reach only asked refused = absurd (rw none at asked)
@@ -257,8 +257,8 @@ stdio_only (Stdio entries setup) is =
     let a : entries ≡ 4096 = names_once (codes "entries") stdio_rows entries 4096 is.0 stdio_entries in
     let b : setup ≡ usual_setup = setup_once stdio_rows setup usual_setup is.1 stdio_setup in
     λ k. Stdio (a k) (b k)
-stdio_only (Replay slots entries slice setup) is = absurd is
-stdio_only (Serve socket status slots entries slice turns setup) is = absurd is
+stdio_only (Replay host) is = absurd is
+stdio_only (Serve socket status turns host) is = absurd is
 stdio_only (Perft sfen depth divide) is = absurd is
 stdio_only (Moves sfen) is = absurd is
 stdio_only (Help text) is = absurd is
@@ -279,33 +279,20 @@ gives_stdio arguments r is asked refused =
     (inl (refl, (stdio_entries, stdio_setup))) ((lit≤ tt, lit≤ tt), usual_ranges) usual_reach stdio_names
     (subst (λ (a : List Text). IfOk r (IsAskedBy a)) is asked) (subst (λ (a : List Text). IfErr r (IsRefusedFor a)) is refused)
 
-replay_slots : NamesNumber (codes "slots") replay_rows 64
-replay_slots = (codes "64", refl, is_64)
+replay_host : NamesHost replay_rows usual_host
+replay_host =
+    ((codes "64", refl, is_64), (codes "4096", refl, is_4096), (codes "300", refl, is_300), ((inr (refl, refl), (codes "16", refl, is_16), (codes "1", refl, is_1), refl)))
 
-replay_entries : NamesNumber (codes "entries") replay_rows 4096
-replay_entries = (codes "4096", refl, is_4096)
-
-replay_slice : NamesNumber (codes "slice") replay_rows 300
-replay_slice = (codes "300", refl, is_300)
-
-replay_setup : NamesSetup replay_rows usual_setup
-replay_setup = (inr (refl, refl), (codes "16", refl, is_16), (codes "1", refl, is_1), refl)
-
-replay_only : (job : Job) → IsReplayOf replay_rows job → job ≡ Replay 64 4096 300 usual_setup
+replay_only : (job : Job) → IsReplayOf replay_rows job → job ≡ Replay usual_host
 replay_only (Stdio entries setup) is = absurd is
-replay_only (Replay slots entries slice setup) is =
-    let a : slots ≡ 64 = names_once (codes "slots") replay_rows slots 64 is.0 replay_slots in
-    let b : entries ≡ 4096 = names_once (codes "entries") replay_rows entries 4096 is.1 replay_entries in
-    let c : slice ≡ 300 = names_once (codes "slice") replay_rows slice 300 is.2 replay_slice in
-    let d : setup ≡ usual_setup = setup_once replay_rows setup usual_setup is.3 replay_setup in
-    λ k. Replay (a k) (b k) (c k) (d k)
-replay_only (Serve socket status slots entries slice turns setup) is = absurd is
+replay_only (Replay host) is = ap Replay (host_once replay_rows host usual_host is replay_host)
+replay_only (Serve socket status turns host) is = absurd is
 replay_only (Perft sfen depth divide) is = absurd is
 replay_only (Moves sfen) is = absurd is
 replay_only (Help text) is = absurd is
 replay_only Version is = absurd is
 
-replay_names : (job : Job) → NamesJob (Some (codes "replay", replay_rows)) job → job ≡ Replay 64 4096 300 usual_setup
+replay_names : (job : Job) → NamesJob (Some (codes "replay", replay_rows)) job → job ≡ Replay usual_host
 replay_names job (inl is) = let bad : codes "replay" ≡ codes "stdio" = is.0 in cc
 replay_names job (inr (inl is)) = replay_only job is.1
 replay_names job (inr (inr (inl is))) = let bad : codes "replay" ≡ codes "serve" = is.0 in cc
@@ -316,8 +303,8 @@ pub gives_replay : (arguments : List Text) (r : Result Job ArgumentsFault)
     → arguments ≡ codes "replay" ∷ []
     → IfOk r (IsAskedBy arguments) → IfErr r (IsRefusedFor arguments) → GivesReplay r
 gives_replay arguments r is asked refused =
-    gives_of (codes "replay" ∷ []) (Replay 64 4096 300 usual_setup) (Some (codes "replay", replay_rows)) r replay_faults replay_command_is (inr (Plain, refl))
-    (inr (inl (refl, (replay_slots, replay_entries, replay_slice, replay_setup)))) ((lit≤ tt, lit≤ tt), (lit≤ tt, lit≤ tt), (lit≤ tt, lit≤ tt), usual_ranges)
+    gives_of (codes "replay" ∷ []) (Replay usual_host) (Some (codes "replay", replay_rows)) r replay_faults replay_command_is (inr (Plain, refl))
+    (inr (inl (refl, replay_host))) ((lit≤ tt, lit≤ tt), (lit≤ tt, lit≤ tt), (lit≤ tt, lit≤ tt), usual_ranges)
     usual_reach replay_names
     (subst (λ (a : List Text). IfOk r (IsAskedBy a)) is asked) (subst (λ (a : List Text). IfErr r (IsRefusedFor a)) is refused)
 
@@ -342,8 +329,8 @@ gives_help_of : (arguments : List Text) (r : Result Job ArgumentsFault) → faul
     → IfOk r (IsAskedBy arguments) → IfErr r (IsRefusedFor arguments) → GivesHelp r
 gives_help_of arguments (Ok (Help text)) is asked refused = tt
 gives_help_of arguments (Ok (Stdio entries setup)) is asked refused = let bad : kinds.DisplayHelp ∷ [] ≡ [] = sym is ∙ asked.0 in cc
-gives_help_of arguments (Ok (Replay slots entries slice setup)) is asked refused = let bad : kinds.DisplayHelp ∷ [] ≡ [] = sym is ∙ asked.0 in cc
-gives_help_of arguments (Ok (Serve socket status slots entries slice turns setup)) is asked refused = let bad : kinds.DisplayHelp ∷ [] ≡ [] = sym is ∙ asked.0 in cc
+gives_help_of arguments (Ok (Replay host)) is asked refused = let bad : kinds.DisplayHelp ∷ [] ≡ [] = sym is ∙ asked.0 in cc
+gives_help_of arguments (Ok (Serve socket status turns host)) is asked refused = let bad : kinds.DisplayHelp ∷ [] ≡ [] = sym is ∙ asked.0 in cc
 gives_help_of arguments (Ok (Perft sfen depth divide)) is asked refused = let bad : kinds.DisplayHelp ∷ [] ≡ [] = sym is ∙ asked.0 in cc
 gives_help_of arguments (Ok (Moves sfen)) is asked refused = let bad : kinds.DisplayHelp ∷ [] ≡ [] = sym is ∙ asked.0 in cc
 gives_help_of arguments (Ok Version) is asked refused =
@@ -356,8 +343,8 @@ gives_version_of : (arguments : List Text) (r : Result Job ArgumentsFault) → f
     → IfOk r (IsAskedBy arguments) → IfErr r (IsRefusedFor arguments) → Gives Version r
 gives_version_of arguments (Ok Version) is asked refused = inl refl
 gives_version_of arguments (Ok (Stdio entries setup)) is asked refused = let bad : kinds.DisplayVersion ∷ [] ≡ [] = sym is ∙ asked.0 in cc
-gives_version_of arguments (Ok (Replay slots entries slice setup)) is asked refused = let bad : kinds.DisplayVersion ∷ [] ≡ [] = sym is ∙ asked.0 in cc
-gives_version_of arguments (Ok (Serve socket status slots entries slice turns setup)) is asked refused = let bad : kinds.DisplayVersion ∷ [] ≡ [] = sym is ∙ asked.0 in cc
+gives_version_of arguments (Ok (Replay host)) is asked refused = let bad : kinds.DisplayVersion ∷ [] ≡ [] = sym is ∙ asked.0 in cc
+gives_version_of arguments (Ok (Serve socket status turns host)) is asked refused = let bad : kinds.DisplayVersion ∷ [] ≡ [] = sym is ∙ asked.0 in cc
 gives_version_of arguments (Ok (Perft sfen depth divide)) is asked refused = let bad : kinds.DisplayVersion ∷ [] ≡ [] = sym is ∙ asked.0 in cc
 gives_version_of arguments (Ok (Moves sfen)) is asked refused = let bad : kinds.DisplayVersion ∷ [] ≡ [] = sym is ∙ asked.0 in cc
 gives_version_of arguments (Ok (Help text)) is asked refused =

@@ -1,8 +1,10 @@
 -- What the options of the setup name.
 use Rattle.std.proofs.Common.{◌≡◌, ◌∙◌, ◌≤◌, ℕ, List, Option, Some, None, IfNone, IfSome, codes, refl, sym, ap, arith, inl, inr, min}
 use Rattle.clap.specs.Words.{Row, Text, first_of}
+use Rattle.usi_arguments.specs.Answers.{NamesHost}
 use Rattle.usi_arguments.specs.CommandLine.{HasNone, IsFromOne, NamesNumber}
 use Rattle.usi_arguments.specs.Setup.{HasDepth, HasNoDepth, HasNoEvaluation, HasNoSetup, NamesDepth, NamesEvaluation, NamesSetup, evaluation_word}
+use Rattle.usi_arguments.specs.declared.host.HostOptions.{HostOptions}
 use Rattle.usi_arguments.specs.declared.setup.Evaluation.{Evaluation}
 use Rattle.usi_arguments.specs.declared.setup.Evaluation.TheVariants.{Plain, Hand, Exchange}
 use Rattle.usi_arguments.specs.declared.setup.SetupOptions.{SetupOptions}
@@ -20,7 +22,7 @@ word_once Exchange Plain same = let bad : codes "exchange" ≡ codes "plain" = s
 word_once Exchange Hand same = let bad : codes "exchange" ≡ codes "hand" = same in cc
 word_once Exchange Exchange same = refl
 
--- the options name one evaluation, one depth and one setup only
+-- the options name one evaluation, one depth, one setup and one host only
 evaluation_once : (options : List Row) (a b : Evaluation) → NamesEvaluation options a → NamesEvaluation options b → a ≡ b
 evaluation_once options a b first second =
     let same : Some (evaluation_word a) ≡ Some (evaluation_word b) = sym first ∙ second in
@@ -44,6 +46,19 @@ setup_once options a b first second =
       max_depth = most k;
       lines = lines k;
       evaluation = evaluation k;
+    }
+
+pub host_once : (options : List Row) (a b : HostOptions) → NamesHost options a → NamesHost options b → a ≡ b
+host_once options a b first second =
+    let slots : a.slots ≡ b.slots = names_once (codes "slots") options a.slots b.slots first.0 second.0 in
+    let entries : a.entries ≡ b.entries = names_once (codes "entries") options a.entries b.entries first.1 second.1 in
+    let slice : a.slice ≡ b.slice = names_once (codes "slice") options a.slice b.slice first.2 second.2 in
+    let setup : a.setup ≡ b.setup = setup_once options a.setup b.setup first.3 second.3 in
+    λ k. record {
+      slots = slots k;
+      entries = entries k;
+      slice = slice k;
+      setup = setup k;
     }
 
 -- options of which one has no value that a setup may have

@@ -9,6 +9,7 @@ use Rattle.clap.specs.declared.parser.matches.ArgMatches.{ArgMatches}
 use Rattle.usi_arguments.specs.CommandLine.{IsFromOne, NamesNumber, NamesText, NamesTextIfAny, command_of, faults_of, is_set}
 use Rattle.usi_arguments.specs.Setup.{HasNoEvaluation, HasSetupRanges, IsInReach, IsTooDeep, NamesEvaluation, NamesSetup, usual_setup}
 use Rattle.usi_arguments.specs.Texts.{not_an_evaluation, not_digits, too_deep}
+use Rattle.usi_arguments.specs.declared.host.HostOptions.{HostOptions}
 use Rattle.usi_arguments.specs.declared.setup.Evaluation.{Evaluation}
 use Rattle.usi_arguments.specs.declared.setup.SetupOptions.{SetupOptions}
 use Rattle.usi_arguments.specs.declared.arguments.Job.{Job}
@@ -16,20 +17,34 @@ use Rattle.usi_arguments.specs.declared.arguments.Job.TheVariants.{Stdio, Replay
 use Rattle.usi_arguments.specs.declared.arguments.ArgumentsFault.{ArgumentsFault}
 use Rattle.usi_arguments.specs.declared.arguments.ArgumentsFault.TheVariants.{OutOfMemory, NotAccepted}
 
--- the numbers of `serve` lie in their ranges
-abbrev pub HasServeRanges : ℕ → ℕ → ℕ → ℕ → Type 0
-HasServeRanges slots entries slice turns =
-    IsFromOne 1024 slots × IsFromOne 1000000 entries × IsFromOne 1000000000 slice
-    × IsFromOne (2 ^ 64 - 1) turns
+-- the numbers of a host lie in their ranges
+abbrev pub HasHostRanges : HostOptions → Type 0
+HasHostRanges host = IsFromOne 1024 host.slots × IsFromOne 1000000 host.entries
+    × IsFromOne 1000000000 host.slice × HasSetupRanges host.setup
+
+-- the options name this host
+abbrev pub NamesHost : List Row → HostOptions → Type 0
+NamesHost options host = NamesNumber (codes "slots") options host.slots
+    × NamesNumber (codes "entries") options host.entries
+    × NamesNumber (codes "slice") options host.slice × NamesSetup options host.setup
+
+-- they name it, and its numbers lie in their ranges
+abbrev pub AreHostOptions : List Row → HostOptions → Type 0
+AreHostOptions options host = HasHostRanges host × NamesHost options host
+
+-- they name no host whose numbers lie in their ranges
+abbrev pub HasNoHost : List Row → Type 0
+HasNoHost options = (host : HostOptions) → HasHostRanges host → NamesHost options host → ⊥
+
+-- the host of `replay` where no option is given
+abbrev pub usual_host : HostOptions
+usual_host = record { slots = 64; entries = 4096; slice = 300; setup = usual_setup }
 
 -- the numbers of the job lie in their ranges
 abbrev pub HasRanges : Job → Type 0
 HasRanges (Stdio entries setup) = IsFromOne 1000000 entries × HasSetupRanges setup
-HasRanges (Replay slots entries slice setup) =
-    IsFromOne 1024 slots × IsFromOne 1000000 entries × IsFromOne 1000000000 slice
-    × HasSetupRanges setup
-HasRanges (Serve socket status slots entries slice turns setup) =
-    HasServeRanges slots entries slice turns × HasSetupRanges setup
+HasRanges (Replay host) = HasHostRanges host
+HasRanges (Serve socket status turns host) = IsFromOne (2 ^ 64 - 1) turns × HasHostRanges host
 HasRanges (Perft sfen depth divide) = IsFromOne 16 depth
 HasRanges (Moves sfen) = ⊤
 HasRanges (Help text) = ⊤
@@ -38,8 +53,8 @@ HasRanges Version = ⊤
 -- the setup of the job's sessions
 abbrev pub setup_in : Job → Option SetupOptions
 setup_in (Stdio entries setup) = Some setup
-setup_in (Replay slots entries slice setup) = Some setup
-setup_in (Serve socket status slots entries slice turns setup) = Some setup
+setup_in (Replay host) = Some host.setup
+setup_in (Serve socket status turns host) = Some host.setup
 setup_in (Perft sfen depth divide) = None
 setup_in (Moves sfen) = None
 setup_in (Help text) = None
@@ -55,36 +70,17 @@ IsStdioOf options (Stdio entries setup) =
     NamesNumber (codes "entries") options entries × NamesSetup options setup
 IsStdioOf options _ = ⊥
 
--- the job is `replay`, with the numbers and the setup that these options name
+-- the job is `replay`, with the host that these options name
 abbrev pub IsReplayOf : List Row → Job → Type 0
-IsReplayOf options (Replay slots entries slice setup) =
-    NamesNumber (codes "slots") options slots × NamesNumber (codes "entries") options entries
-    × NamesNumber (codes "slice") options slice × NamesSetup options setup
+IsReplayOf options (Replay host) = NamesHost options host
 IsReplayOf options _ = ⊥
 
--- the numbers that these options of `serve` name
-abbrev pub NamesNumbers : List Row → ℕ → ℕ → ℕ → ℕ → Type 0
-NamesNumbers options slots entries slice turns =
-    NamesNumber (codes "slots") options slots × NamesNumber (codes "entries") options entries
-    × NamesNumber (codes "slice") options slice × NamesNumber (codes "turns") options turns
-
--- they are these numbers, and lie in their ranges
-abbrev pub AreServeNumbers : List Row → ℕ → ℕ → ℕ → ℕ → Type 0
-AreServeNumbers options slots entries slice turns =
-    HasServeRanges slots entries slice turns × NamesNumbers options slots entries slice turns
-
--- these options name no numbers of `serve` in their ranges
-abbrev pub HasNoNumbers : List Row → Type 0
-HasNoNumbers options =
-    (slots entries slice turns : ℕ) → HasServeRanges slots entries slice turns
-    → NamesNumbers options slots entries slice turns → ⊥
-
--- the job is `serve`, with the paths, the numbers and the setup that these options name
+-- the job is `serve`, with the paths, the turns and the host that these options name
 abbrev pub IsServeOf : List Row → Job → Type 0
-IsServeOf options (Serve socket status slots entries slice turns setup) =
+IsServeOf options (Serve socket status turns host) =
     NamesText (codes "socket") options (string_bytes socket)
     × NamesTextIfAny (codes "status") options status
-    × NamesNumbers options slots entries slice turns × NamesSetup options setup
+    × NamesNumber (codes "turns") options turns × NamesHost options host
 IsServeOf options _ = ⊥
 
 -- the job is `perft`, with the position, the depth and the word that these options name
@@ -189,9 +185,9 @@ IsRefusedFor arguments (NotAccepted text) = HasMistake arguments (string_bytes t
 abbrev pub Gives : Job → Result Job ArgumentsFault → Type 0
 Gives job result = (result ≡ Ok job) ⊎ (result ≡ Err OutOfMemory)
 
--- the job of `replay` with the numbers that it has where none is given, or memory ran out
+-- the job of `replay` with the host that it has where no option is given, or memory ran out
 abbrev pub GivesReplay : Result Job ArgumentsFault → Type 0
-GivesReplay result = Gives (Replay 64 4096 300 usual_setup) result
+GivesReplay result = Gives (Replay usual_host) result
 
 -- the job of `stdio` with the number that it has where none is given, or memory ran out
 abbrev pub GivesStdio : Result Job ArgumentsFault → Type 0

@@ -1,7 +1,7 @@
 //! The arguments of the command line.
 ghost use Rattle.std.specs.Prelude.{◌≡◌, [], false, true, IfErr, IfNone, IfOk, IfSome, codes, map, string_bytes};
 ghost use Rattle.clap.specs.Words.{kind_of, subcommand_rows_of};
-ghost use Rattle.usi_arguments.specs.Answers.{AreHelpArguments, AreReplayArguments, AreServeNumbers, AreStdioArguments, AreVersionArguments, Gives, GivesHelp, GivesReplay, GivesStdio, HasNoNumbers, HasRanges, HasReach, IsAnswerTo, IsAnswerToParsed, IsAskedBy, IsHeld, IsJobIn, IsJobOf, IsMovesOf, IsPerftIn, IsRefusal, IsRefusedFor, IsReplayOf, IsServeIn, IsStdioOf, KnowsEvaluation, NamesNoEvaluation, NamesNoJob, NamesNoPerft, NamesNoReplay, NamesNoServe, NamesNoStdio, has_no_setup, setup_in};
+ghost use Rattle.usi_arguments.specs.Answers.{AreHelpArguments, AreReplayArguments, AreStdioArguments, AreVersionArguments, Gives, GivesHelp, GivesReplay, GivesStdio, HasRanges, HasReach, IsAnswerTo, IsAnswerToParsed, IsAskedBy, IsHeld, IsJobIn, IsJobOf, IsMovesOf, IsPerftIn, IsRefusal, IsRefusedFor, IsReplayOf, IsServeIn, IsStdioOf, KnowsEvaluation, NamesNoEvaluation, NamesNoJob, NamesNoPerft, NamesNoReplay, NamesNoServe, NamesNoStdio, has_no_setup, setup_in};
 ghost use Rattle.usi_arguments.specs.CommandLine.{NamesTextIfAny, options_in};
 ghost use Rattle.usi_arguments.specs.Setup.{usual_setup};
 ghost use Rattle.usi_arguments.specs.Texts.{too_deep};
@@ -9,6 +9,7 @@ ghost use Rattle.usi_arguments.specs.declared.arguments.Job.TheVariants.{Stdio, 
 ghost use Rattle.usi_arguments.specs.declared.arguments.ArgumentsFault.TheVariants.{OutOfMemory};
 
 use crate::grammar::command_line;
+use crate::host::{ENTRIES_MAX, HostOptions, host_of};
 use crate::setup::{DEPTH_MAX, Evaluation, SetupOptions, evaluation_of, setup_of};
 use crate::values::{is_set, number_of};
 use crate::version::version_text;
@@ -16,15 +17,6 @@ use clap::error::ErrorKind;
 use clap::{ArgMatches, Error};
 use std::alloc::{AllocError, Global};
 use std::convert::AsStr;
-
-/// The most sessions at a time that may be asked for: `SESSIONS_MAX` of `session_slots`.
-const SLOTS_MAX: usize = 1024;
-
-/// The most entries of the table that may be asked for: `CAPACITY_MAX` of `shared_table`.
-const ENTRIES_MAX: usize = 1_000_000;
-
-/// The most steps of search in a round that may be asked for (own choice).
-const STEPS_MAX: usize = 1_000_000_000;
 
 /// The entries of the table where the arguments name no command (own choice).
 const USUAL_ENTRIES: usize = 4096;
@@ -46,27 +38,15 @@ pub enum Job {
         entries: usize,
         setup: SetupOptions,
     },
-    /// A script on standard input, over a host of at most `slots` sessions, 1 to 1,024, that share
-    /// a table of `entries` entries, 1 to 1,000,000; in each round a session makes at most `slice`
-    /// steps of search, 1 to 1,000,000,000. Each session has this setup.
-    Replay {
-        slots: usize,
-        entries: usize,
-        slice: u64,
-        setup: SetupOptions,
-    },
-    /// The host on a Unix socket at the path `socket`, and its status on one at the path `status`,
-    /// where there is one, for `turns` turns, at least 1: at most `slots` sessions, 1 to 1,024,
-    /// that share a table of `entries` entries, 1 to 1,000,000; in each turn a session makes at
-    /// most `slice` steps of search, 1 to 1,000,000,000. Each session has this setup.
+    /// A script on standard input, over this host.
+    Replay(HostOptions),
+    /// This host on a Unix socket at the path `socket`, and its status on one at the path `status`,
+    /// where there is one, for `turns` turns, at least 1.
     Serve {
         socket: String,
         status: Option<String>,
-        slots: usize,
-        entries: usize,
-        slice: u64,
         turns: u64,
-        setup: SetupOptions,
+        host: HostOptions,
     },
     /// The count of sequences of `depth` legal moves, 1 to 16, from the position of a text, or from
     /// the opening position; with `divide` also those of each first move.
@@ -102,9 +82,8 @@ impl Job {
         ensures { result ≡ setup_in self.now }
     {
         match self {
-            Job::Stdio { setup, .. } | Job::Replay { setup, .. } | Job::Serve { setup, .. } => {
-                Some(*setup)
-            }
+            Job::Stdio { setup, .. } => Some(*setup),
+            Job::Replay(host) | Job::Serve { host, .. } => Some(host.setup),
             Job::Perft { .. } | Job::Moves { .. } | Job::Help { .. } | Job::Version => None,
         }
     }
@@ -297,16 +276,7 @@ fn replay_job(options: &ArgMatches<'_>) -> Option<Job>
     ensures some { IfSome result (λ job. HasRanges job × IsReplayOf (options_in options.now) job) }
     ensures if_none { IfNone result (NamesNoReplay (options_in options.now)) }
 {
-    let slots = number_of(options, "slots", SLOTS_MAX)?;
-    let entries = number_of(options, "entries", ENTRIES_MAX)?;
-    let slice = number_of(options, "slice", STEPS_MAX)?;
-    let setup = setup_of(options)?;
-    Some(Job::Replay {
-        slots,
-        entries,
-        slice: slice as u64,
-        setup,
-    })
+    Some(Job::Replay(host_of(options)?))
 }
 
 fn serve_job(alloc: Global, options: &ArgMatches<'_>) -> Result<Option<Job>, AllocError>
@@ -316,10 +286,10 @@ fn serve_job(alloc: Global, options: &ArgMatches<'_>) -> Result<Option<Job>, All
     let Some(text) = options.get_str("socket") else {
         return Ok(None);
     };
-    let Some((slots, entries, slice, turns)) = serve_numbers(options) else {
+    let Some(turns) = number_of(options, "turns", usize::MAX) else {
         return Ok(None);
     };
-    let Some(setup) = setup_of(options) else {
+    let Some(host) = host_of(options) else {
         return Ok(None);
     };
     let socket = String::from_str(alloc, text)?;
@@ -327,11 +297,8 @@ fn serve_job(alloc: Global, options: &ArgMatches<'_>) -> Result<Option<Job>, All
     Ok(Some(Job::Serve {
         socket,
         status,
-        slots,
-        entries,
-        slice,
-        turns,
-        setup,
+        turns: turns as u64,
+        host,
     }))
 }
 
@@ -370,18 +337,6 @@ fn text_if_any(
         Some(text) => Ok(Some(String::from_str(alloc, text)?)),
         None => Ok(None),
     }
-}
-
-/// The slots, the entries, the slice and the turns.
-fn serve_numbers(options: &ArgMatches<'_>) -> Option<(usize, usize, u64, u64)>
-    ensures some { IfSome result (λ n. AreServeNumbers (options_in options.now) n.0 n.1 n.2 n.3) }
-    ensures if_none { IfNone result (HasNoNumbers (options_in options.now)) }
-{
-    let slots = number_of(options, "slots", SLOTS_MAX)?;
-    let entries = number_of(options, "entries", ENTRIES_MAX)?;
-    let slice = number_of(options, "slice", STEPS_MAX)?;
-    let turns = number_of(options, "turns", usize::MAX)?;
-    Some((slots, entries, slice as u64, turns as u64))
 }
 
 fn text_of(alloc: Global, error: &Error, pointer: &str) -> Result<Job, ArgumentsFault>

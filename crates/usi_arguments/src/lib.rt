@@ -5,6 +5,7 @@ mod arguments;
 mod given;
 mod grammar;
 mod help;
+mod host;
 mod refusal;
 mod setup;
 mod unread;
@@ -13,6 +14,7 @@ mod version;
 
 pub use arguments::{ArgumentsFault, Job, read_arguments};
 pub use given::asked;
+pub use host::HostOptions;
 pub use refusal::{complaint, status};
 pub use setup::{Evaluation, SetupOptions};
 pub use unread::unread_arguments;

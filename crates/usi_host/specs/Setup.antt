@@ -3,6 +3,7 @@ use Rattle.std.specs.Prelude.{◌≡◌, ℕ}
 use Rattle.host_core.specs.Steps.{HostState, new_host_under}
 use Rattle.shogi_eval.specs.declared.eval.Eval.{Eval}
 use Rattle.shogi_eval.specs.declared.eval.Eval.TheVariants as evals
+use Rattle.usi_arguments.specs.declared.host.HostOptions.{HostOptions}
 use Rattle.usi_arguments.specs.declared.setup.Evaluation.{Evaluation}
 use Rattle.usi_arguments.specs.declared.setup.Evaluation.TheVariants as named
 use Rattle.usi_arguments.specs.declared.setup.SetupOptions.{SetupOptions}
@@ -27,12 +28,13 @@ abbrev pub IsSessionAsked : SetupOptions → (entries : ℕ) → Report → Repo
 IsSessionAsked options entries old new status =
     (setup : Setup) × IsAskedFor options setup × IsSession setup entries old new status
 
-abbrev pub IsReplayAsked : SetupOptions → (slots entries slice : ℕ) → Report → Report → ℕ → Type 0
-IsReplayAsked options slots entries slice old new status =
-    (setup : Setup) × IsAskedFor options setup × IsReplay setup slots old new status
-    × IsReplayOn setup slots entries slice old new status
+abbrev pub IsReplayAsked : HostOptions → Report → Report → ℕ → Type 0
+IsReplayAsked options old new status =
+    (setup : Setup) × IsAskedFor options.setup setup × IsReplay setup options.slots old new status
+    × IsReplayOn setup options.slots options.entries options.slice old new status
 
 -- a new host whose sessions begin under it
-abbrev pub IsHostAsked : SetupOptions → ℕ → ℕ → HostState → Type 0
-IsHostAsked options slots entries host =
-    (setup : Setup) × IsAskedFor options setup × (host ≡ new_host_under setup slots entries)
+abbrev pub IsHostAsked : HostOptions → HostState → Type 0
+IsHostAsked options host =
+    (setup : Setup) × IsAskedFor options.setup setup
+    × (host ≡ new_host_under setup options.slots options.entries)

@@ -2,9 +2,8 @@
 #![tactic(auto)]
 
 ghost use Rattle.std.specs.Prelude.{◌≡◌, ◌≤◌, option_map, string_bytes};
-ghost use Rattle.session_slots.specs.declared.limits.TheConstants.{SESSIONS_MAX};
-ghost use Rattle.shared_table.specs.declared.table.TheConstants.{CAPACITY_MAX};
-ghost use Rattle.usi_arguments.specs.Setup.{HasSetupRanges, IsInReach};
+ghost use Rattle.usi_arguments.specs.Answers.{HasHostRanges};
+ghost use Rattle.usi_arguments.specs.Setup.{IsInReach};
 
 mod setup;
 
@@ -20,18 +19,11 @@ use std::{fs, io, process};
 use stream_transport::MioWire;
 use transport::WireFault;
 use usi_app::{
-    DONE, ServeFault, counting, listing, print_out, socket_fault, status_fault, warn_of_files,
+    DONE, ServeFault, complain, counting, listing, print_out, socket_fault, status_fault,
+    warn_of_files,
 };
-use usi_arguments::{Job, SetupOptions, asked, complaint, status, version_text};
+use usi_arguments::{HostOptions, Job, asked, complaint, status, version_text};
 use usi_stdio::Duplex;
-
-/// Writes the text to standard error, and gives the status.
-fn complain(rt: &HostRuntime, text: &str, status: u8) -> u8
-    ensures { result ≡ status }
-{
-    let _ = eprint!(rt; "{text}");
-    status
-}
 
 /// A socket at the path, and who listens there.
 fn bound(rt: &HostRuntime, socket: &str) -> Result<MioWire<Global>, ServeFault> {
@@ -109,29 +101,21 @@ fn run_socket(
     rt: &HostRuntime,
     socket: &str,
     status: &Option<String>,
-    slots: usize,
-    entries: usize,
-    slice: u64,
     turns: u64,
-    setup: SetupOptions,
+    options: HostOptions,
 ) -> Result<(), ServeFault>
-    requires least_slots { 1 ≤ slots }
-    requires most_slots { slots ≤ SESSIONS_MAX }
-    requires least_entries { 1 ≤ entries }
-    requires most_entries { entries ≤ CAPACITY_MAX }
-    requires least_slice { 1 ≤ slice }
-    requires ranges { HasSetupRanges setup }
-    requires reach { IsInReach setup }
+    requires ranges { HasHostRanges options }
+    requires reach { IsInReach options.setup }
 {
     let Ok(hasher) = RandomState::new(rt) else {
         return Err(ServeFault::ReadFailed);
     };
     let limits = Limits {
-        slots: slots as u64,
-        entries: entries as u64,
-        slice,
+        slots: options.slots as u64,
+        entries: options.entries as u64,
+        slice: options.slice,
     };
-    let mut host = host_of(rt.alloc(), slots, entries, hasher, setup)?;
+    let mut host = host_of(rt.alloc(), hasher, options)?;
     warn_of_files(rt, limits.slots);
     serve_host(rt, &mut host, socket, status, limits, turns)
 }
@@ -152,35 +136,16 @@ fn main(rt: HostRuntime) -> ExitCode {
     let mut ends = Duplex::new(rt.reader(), io::writer(&rt));
     let status = match asked(&rt) {
         Ok(Job::Stdio { entries, setup }) => run_session(&rt, &mut ends, entries, setup),
-        Ok(
-            Job::Replay {
-                slots,
-                entries,
-                slice,
-                setup,
-            },
-        ) => run_script(&rt, &mut ends, slots, entries, slice, setup),
+        Ok(Job::Replay(host)) => run_script(&rt, &mut ends, host),
         Ok(
             Job::Serve {
                 socket,
                 status,
-                slots,
-                entries,
-                slice,
                 turns,
-                setup,
+                host,
             },
         ) => {
-            match run_socket(
-                &rt,
-                socket.as_str(),
-                &status,
-                slots,
-                entries,
-                slice,
-                turns,
-                setup,
-            ) {
+            match run_socket(&rt, socket.as_str(), &status, turns, host) {
                 Ok(()) => DONE,
                 Err(fault) => complain(&rt, fault.complaint(), fault.status()),
             }

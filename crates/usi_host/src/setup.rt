@@ -1,7 +1,7 @@
 //! What runs under the setup that the arguments ask for.
 ghost use Rattle.std.specs.Prelude.{◌≡◌, ◌≤◌, IfOk};
-ghost use Rattle.session_slots.specs.declared.limits.TheConstants.{SESSIONS_MAX};
 ghost use Rattle.shared_table.specs.declared.table.TheConstants.{CAPACITY_MAX};
+ghost use Rattle.usi_arguments.specs.Answers.{HasHostRanges};
 ghost use Rattle.usi_arguments.specs.Setup.{HasSetupRanges, IsInReach};
 ghost use Rattle.usi_host.specs.Setup.{IsAskedFor, IsHostAsked, IsReplayAsked, IsSessionAsked, eval_of};
 
@@ -10,7 +10,7 @@ use shogi_eval::Eval;
 use std::alloc::Global;
 use std::hash::RandomState;
 use usi_app::{script, session};
-use usi_arguments::{Evaluation, SetupOptions};
+use usi_arguments::{Evaluation, HostOptions, SetupOptions};
 use usi_stdio::FrontEnd;
 use usi_texts::Setup;
 
@@ -60,47 +60,33 @@ pub(crate) fn run_session<T: FrontEnd>(
 pub(crate) fn run_script<T: FrontEnd>(
     rt: &HostRuntime,
     front_end: &mut T,
-    slots: usize,
-    entries: usize,
-    slice: u64,
-    options: SetupOptions,
+    options: HostOptions,
 ) -> u8
-    requires least_slots { 1 ≤ slots }
-    requires most_slots { slots ≤ SESSIONS_MAX }
-    requires least_entries { 1 ≤ entries }
-    requires most_entries { entries ≤ CAPACITY_MAX }
-    requires least_slice { 1 ≤ slice }
-    requires ranges { HasSetupRanges options }
-    requires reach { IsInReach options }
-    ensures { IsReplayAsked options slots entries slice
-        (T.report front_end.old) (T.report front_end.new) result }
+    requires ranges { HasHostRanges options }
+    requires reach { IsInReach options.setup }
+    ensures { IsReplayAsked options (T.report front_end.old) (T.report front_end.new) result }
 {
     script(
         rt,
         rt.alloc(),
-        setup_of(options),
+        setup_of(options.setup),
         front_end,
-        slots,
-        entries,
-        slice,
+        options.slots,
+        options.entries,
+        options.slice,
     )
 }
 
 /// A host of no session yet.
 pub(crate) fn host_of(
     alloc: Global,
-    slots: usize,
-    entries: usize,
     hasher: RandomState,
-    options: SetupOptions,
+    options: HostOptions,
 ) -> Result<Host<RandomState, Global>, HostFault>
-    requires least_slots { 1 ≤ slots }
-    requires most_slots { slots ≤ SESSIONS_MAX }
-    requires least_entries { 1 ≤ entries }
-    requires most_entries { entries ≤ CAPACITY_MAX }
-    requires ranges { HasSetupRanges options }
-    requires reach { IsInReach options }
-    ensures { IfOk result (IsHostAsked options slots entries) }
+    requires ranges { HasHostRanges options }
+    requires reach { IsInReach options.setup }
+    ensures { IfOk result (IsHostAsked options) }
 {
-    Host::with_setup(alloc, setup_of(options), slots, entries, hasher)
+    let setup = setup_of(options.setup);
+    Host::with_setup(alloc, setup, options.slots, options.entries, hasher)
 }

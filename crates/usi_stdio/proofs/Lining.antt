@@ -1,41 +1,14 @@
 -- A chunk that is answered line by line.
-use Rattle.std.proofs.Common.{◌≡◌, ℕ, ◌+◌, ◌≤◌, List, [], ◌++◌, length, refl, sym, subst, ap, ◌∙◌, append_assoc, append-nil, true, false, arith}
+use Rattle.std.proofs.Common.{◌≡◌, ℕ, ◌+◌, ◌≤◌, List, [], ◌++◌, length, refl, sym, ap, ◌∙◌, append_assoc, append-nil, true, false, arith}
 use Rattle.std.proofs.lemmas.List.{length-append}
 use Rattle.usi_session.specs.declared.limits.TheConstants.{CHUNK_MAX}
 use Rattle.usi_session.specs.Due.{SessionView, due, state_due, is_pending, wants_input}
-use Rattle.usi_session.proofs.Settled.{due-over, due-settled, state_due-over_same, wanting-settled}
+use Rattle.usi_session.proofs.Settled.{due-over, state_due-over_same, wanting-settled}
 use Rattle.usi_stdio.specs.Calls.{Report}
-use Rattle.usi_stdio.specs.Saying.{Says, SaysPrefix, Answers, IsAnsweredInFull, IsWorkedOn}
+use Rattle.usi_stdio.specs.Saying.{Says, SaysPrefix, Answers, IsWorkedOn}
 use Rattle.usi_stdio.specs.declared.streams.StdioFault.{StdioFault}
 use Rattle.usi_stdio.proofs.Talking.{says_nothing, says_then}
 use Rattle.usi_stdio.proofs.Working.{said_prefix}
-
--- what was made of bytes that were answered in full is what was due for them
-made_due : (before after : SessionView) (chunk : List ℕ) (old new : Report) → (w : Answers before after chunk old new) → w.made ≡ due before chunk
-made_due before after chunk old new w =
-    sym (ap (λ xs. due before xs) (sym (append-nil chunk)) ∙ (w.owed [] ∙ (ap (λ xs. w.made ++ xs) (due-settled after w.settled ∙ w.empty) ∙ append-nil w.made)))
-
-pub said_due : (before after : SessionView) (chunk : List ℕ) (old new : Report) → Answers before after chunk old new → Says old new (due before chunk)
-said_due before after chunk old new w = subst (λ (bytes : List ℕ). Says old new bytes) (made_due before after chunk old new w) w.written
-
-pub in_full : (before after : SessionView) (chunk : List ℕ) (old new : Report) → Answers before after chunk old new → IsAnsweredInFull before after chunk
-in_full before after chunk old new w = record {
-  owed = λ x. w.owed x ∙ ap (λ xs. xs ++ due after x) (made_due before after chunk old new w);
-  left = w.left;
-  empty = w.empty;
-  settled = w.settled;
-}
-
--- the two together say what was made and written
-pub both_answers : (before after : SessionView) (chunk : List ℕ) (old new : Report) → Says old new (due before chunk) → IsAnsweredInFull before after chunk → Answers before after chunk old new
-both_answers before after chunk old new said a = record {
-  made = due before chunk;
-  written = said;
-  owed = a.owed;
-  left = a.left;
-  empty = a.empty;
-  settled = a.settled;
-}
 
 -- a line that was fed and worked off
 pub line_answers : (before mid after : SessionView) (line : List ℕ) (old new : Report) → ((x : List ℕ) → due mid x ≡ due before (line ++ x)) → ((x : List ℕ) → state_due mid x ≡ state_due before (line ++ x)) → IsWorkedOn mid after old new → is_pending after ≡ false → Answers before after line old new

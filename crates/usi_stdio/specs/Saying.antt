@@ -95,14 +95,6 @@ pub record Answers (before after : SessionView) (chunk : List ℕ) (old new : Re
   pub empty : after.queued ≡ []
   pub settled : is_pending after ≡ false
 
--- these bytes were fed and answered in full: nothing waits, and with further bytes what was due for
--- these comes first
-pub record IsAnsweredInFull (before after : SessionView) (chunk : List ℕ) : Type 0 where
-  pub owed : (x : List ℕ) → due before (chunk ++ x) ≡ due before chunk ++ due after x
-  pub left : (x : List ℕ) → state_due after x ≡ state_due before (chunk ++ x)
-  pub empty : after.queued ≡ []
-  pub settled : is_pending after ≡ false
-
 -- ---- the same of a front end of the code, by what it reports
 
 module _ {F : Type 0} (report : F → Report) where
@@ -112,9 +104,8 @@ module _ {F : Type 0} (report : F → Report) where
   abbrev pub Worked : SessionView → SessionView → (old new : F) → Type 0
   Worked before after old new = IsWorkedOn before after (report old) (report new)
 
-  -- the front end took what was due for these bytes, and all is flushed
-  abbrev pub SaidDue : (old new : F) → SessionView → List ℕ → Type 0
-  SaidDue old new session bytes = Says (report old) (report new) (due session bytes)
+  abbrev pub Answered : SessionView → SessionView → List ℕ → (old new : F) → Type 0
+  Answered before after chunk old new = Answers before after chunk (report old) (report new)
 
   abbrev pub WrotePrefix : (old new : F) → List ℕ → StdioFault → Type 0
   WrotePrefix old new bytes fault = SaysPrefix (report old) (report new) bytes fault

@@ -1,17 +1,14 @@
 //! One session over a front end.
 
-ghost use Rattle.std.specs.Prelude.{◌≡◌, ◌<◌, ◌≤◌, ℕ, List, [], true, false, length, IfErr, OnOk, OnErr, Err};
+ghost use Rattle.std.specs.Prelude.{◌≡◌, ◌<◌, ◌≤◌, [], true, false, length, IfErr, OnOk, OnErr, Err};
 ghost use Rattle.usi_stdio.specs.Dialogue.{Talks};
 ghost use Rattle.usi_stdio.specs.Remembered.{TellsFed, TellsMemory, TellsTable};
-ghost use Rattle.usi_stdio.specs.Saying.{CutShort, CutShortDue, IsAnsweredInFull, SaidDue, Says, Worked, Wrote, WrotePrefix, slices_of};
+ghost use Rattle.usi_stdio.specs.Saying.{Answered, CutShort, CutShortDue, Says, Worked, Wrote, WrotePrefix, slices_of};
 ghost use Rattle.usi_stdio.specs.Stdio.{IsLeft, IsServed};
 ghost use Rattle.usi_stdio.specs.declared.streams.StdioFault.TheVariants.{OutOfMemory, WriteFailed};
 ghost use Rattle.usi_lines.specs.OneLine.{IsOneLine};
-ghost use Rattle.usi_lines.specs.Lines.{lines};
 ghost use Rattle.usi_texts.specs.Setup.{default_setup};
-ghost use Rattle.usi_session.specs.Answer.{initial_state_under};
-ghost use Rattle.usi_session.specs.Due.{due, is_pending, new_session_under, state_due, wants_input, EndsSearches};
-ghost use Rattle.usi_session.specs.WholeStream.{replies_under, state_from};
+ghost use Rattle.usi_session.specs.Due.{due, is_pending, wants_input, EndsSearches};
 ghost use Rattle.usi_session.specs.declared.limits.TheConstants.{CHUNK_MAX};
 ghost use Rattle.shared_table.specs.declared.table.TheConstants.{CAPACITY_MAX};
 
@@ -153,8 +150,8 @@ fn answer_line<A: Allocator + Copy, M: Memo, T: FrontEnd>(
     requires empty { session.old.queued ≡ [] }
     requires most { length line.now ≤ CHUNK_MAX }
     requires one { IsOneLine line.now }
-    ensures ok { OnOk result (SaidDue T.report front_end.old front_end.new session.old line.now) }
-    ensures answered { OnOk result (IsAnsweredInFull session.old session.new line.now) }
+    ensures answered { OnOk result
+        (Answered T.report session.old session.new line.now front_end.old front_end.new) }
     ensures err { CutShortDue T.report result front_end.old front_end.new session.old line.now }
     ensures told { OnOk result
         (TellsFed M.called memo.old memo.new session.old line.now session.new) }
@@ -175,8 +172,8 @@ fn answer_chunk<A: Allocator + Copy, M: Memo, T: FrontEnd>(
     requires wants { wants_input session.old ≡ true }
     requires empty { session.old.queued ≡ [] }
     requires most { length chunk.now ≤ CHUNK_MAX }
-    ensures ok { OnOk result (SaidDue T.report front_end.old front_end.new session.old chunk.now) }
-    ensures answered { OnOk result (IsAnsweredInFull session.old session.new chunk.now) }
+    ensures answered { OnOk result
+        (Answered T.report session.old session.new chunk.now front_end.old front_end.new) }
     ensures err { CutShort T.report result front_end.old front_end.new (due session.old chunk.now) }
     ensures told { OnOk result
         (TellsFed M.called memo.old memo.new session.old chunk.now session.new) }
@@ -189,43 +186,6 @@ fn answer_chunk<A: Allocator + Copy, M: Memo, T: FrontEnd>(
         rest = after;
     }
     Ok(())
-}
-
-/// Answers a new session chunk by chunk, until the input ends or the session is over.
-fn answer_all<A: Allocator + Copy, M: Memo, T: FrontEnd>(
-    session: &mut Session<A>,
-    memo: &mut M,
-    front_end: &mut T,
-) -> Result<(), StdioFault>
-    requires initial { session.old ≡ new_session_under session.old.state.setup }
-    requires due { (x : List ℕ) → due session.old x ≡ replies_under session.old.state.setup x }
-    requires after { (x : List ℕ) → state_due session.old x
-        ≡ state_from (initial_state_under session.old.state.setup) (lines x) }
-    ensures ok { OnOk result
-        (IsServed session.old.state.setup (T.report front_end.old) (T.report front_end.new)) }
-    ensures err { OnErr result
-        (IsLeft session.old.state.setup (T.report front_end.old) (T.report front_end.new)) }
-    ensures calls { Talks session.old.state.setup
-        (T.report front_end.old).calls (T.report front_end.new).calls result }
-    ensures told { OnOk result (TellsMemory M.called session.old.state.setup
-        (T.report front_end.old) (T.report front_end.new) memo.old memo.new) }
-    ensures capacity { M.capacity memo.new ≡ M.capacity memo.old }
-{
-    let mut chunk = [0u8; CHUNK_MAX];
-    'chunks: for _reads in 0..u64::MAX {
-        let Ok(n) = front_end.read(&mut chunk) else {
-            return Err(StdioFault::ReadFailed);
-        };
-        if n == 0 {
-            return Ok(());
-        }
-        let (given, _) = chunk.split_at(n);
-        answer_chunk(session, memo, front_end, given)?;
-        if session.is_over() {
-            return Ok(());
-        }
-    }
-    Err(StdioFault::ReadFailed)
 }
 
 /// `stdio_with_setup` under the default setup.
@@ -250,7 +210,7 @@ pub fn stdio<A: Allocator + Copy, T: FrontEnd>(
 
 /// Runs one session under a setup: reads chunks of at most 4,096 bytes and answers each before the next, until
 /// the input ends or the session is over. Replies are written and flushed as they are found: those
-/// to a line before the next line is looked at, and the info line of a depth before the next 500
+/// to a line before the next line is looked at, and the info line of a depth before the next 300
 /// steps of search are made. Bytes after the last LF are no line, but for 65,536 or more, which are
 /// a line that is too long. The table has `entries` entries, from 1 to 1,000,000.
 ///
@@ -296,5 +256,19 @@ pub fn stdio_on<A: Allocator + Copy, M: Memo, T: FrontEnd>(
     ensures capacity { M.capacity memo.new ≡ M.capacity memo.old }
 {
     let mut session = Session::with_setup(alloc, setup);
-    answer_all(&mut session, memo, front_end)
+    let mut chunk = [0u8; CHUNK_MAX];
+    'chunks: for _reads in 0..u64::MAX {
+        let Ok(n) = front_end.read(&mut chunk) else {
+            return Err(StdioFault::ReadFailed);
+        };
+        if n == 0 {
+            return Ok(());
+        }
+        let (given, _) = chunk.split_at(n);
+        answer_chunk(&mut session, memo, front_end, given)?;
+        if session.is_over() {
+            return Ok(());
+        }
+    }
+    Err(StdioFault::ReadFailed)
 }

@@ -1,4 +1,4 @@
-use Rattle.std.proofs.Common.{◌≡◌, ◌∙◌, [], ◌∷◌, false, true, rules, sym}
+use Rattle.std.proofs.Common.{◌≡◌, ◌∙◌, [], ◌∷◌, false, true, refl, rules, sym}
 use Rattle.transport.proofs.Reported.{stays-refl}
 use Rattle.socket_loop.proofs.Parts.{carries_by_same}
 use Rattle.socket_loop.proofs.Visits.{carries_by_finished}
@@ -27,8 +27,8 @@ returns-clause-ends g c =
     let before : Scene = scene g.W.Wire (x ∷ []) c.args.wire.now c.args.host.now in
     let after : Scene = scene g.W.Wire ((record x { is_shut = true }) ∷ []) c.shut_down.new.wire c.shut_down.new.host in
     let finished : is_finished c.args.host.now x ≡ true = sym c.is_finished.ensures ∙ c.if-not-is_finished.false in
-    record {
+    rw c.shut_down.ensures.held (record {
       visited = ended x before after c.if-held.false finished c.shut_down.ensures.asked
           (visited_shut IsEnd x before after before.report (stays-refl (before.report.is_shut x.link.number)) c.shut_down.ensures.shuts (visits_closing IsEnd x.link.id c.args.host.now c.shut_down.new.host tt c.shut_down.ensures.closed) c.shut_down.ensures.if_none c.shut_down.ensures.bound c.shut_down.ensures.faults);
-      carries = λ marks marked. carries_by_finished marks before.bound x.link before.report after.report c.args.host.now c.shut_down.new.host x.has_ended marked finished c.shut_down.ensures.shuts c.shut_down.ensures.closed;
-    }
+      carries = λ marks marked. carries_by_finished marks before.bound x.link before.report after.report c.args.host.now c.shut_down.new.host x.has_ended (marked refl) finished c.shut_down.ensures.shuts c.shut_down.ensures.closed;
+    })

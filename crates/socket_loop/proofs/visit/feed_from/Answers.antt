@@ -50,7 +50,7 @@ returns-clause-fed g c =
     let o : Outcome = as_outcome (λ _. Done) c.feed.result in
     let step : IsStep c.args.host.now (record { event = Feed x.link.id c.bytes.result.now; outcome = o }) c.feed.new.self = record { below = c.feed.ensures.below; stepped = c.feed.ensures.fed } in
     let visits : Visits IsInput x.link.id c.args.host.now c.shut_down.new.host = visits_two IsInput x.link.id c.args.host.now c.feed.new.self c.shut_down.new.host (Feed x.link.id c.bytes.result.now) o tt tt refl step c.shut_down.ensures.closed in
-    record {
+    rw c.shut_down.ensures.held (record {
       visit = visited_shut IsInput x before after before.report (stays-refl (before.report.is_shut x.link.number)) c.shut_down.ensures.shuts visits c.shut_down.ensures.if_none c.shut_down.ensures.bound c.shut_down.ensures.faults;
       asked = λ «open». asks_shut before.asked after.asked x (record x { is_shut = true }) «open» refl c.shut_down.ensures.asked;
       carries = λ marks earlier gave none.
@@ -58,4 +58,4 @@ returns-clause-fed g c =
           (c.shut_down.ensures.gone (wanted_below c.args.host.now c.feed.new.self x.link.id (Feed x.link.id c.bytes.result.now) o c.requires.wants c.feed.ensures.below c.feed.ensures.fed));
       unread = c.shut_down.ensures.shuts.unread;
       given = c.shut_down.ensures.shuts.given;
-    }
+    })

@@ -22,7 +22,7 @@ returns-then-not-is_to_read-clause-reads g c =
     let before : Scene = scene g.W.Wire (x ∷ []) c.args.wire.now c.args.host.now in
     record {
       visited = visit_none reads_of IsInput before x (no_read c.args.host.now x (sym c.is_to_read.ensures.test ∙ c.if-not-is_to_read.true));
-      carries = λ marks. carries_by_same IsInput marks before.bound (x.link ∷ []) before.report c.args.host.now;
+      carries = λ marks marked. carries_by_same IsInput marks before.bound (x.link ∷ []) before.report c.args.host.now;
     }
 
 pub returns-in-Ok-Nothing-clause-reads : goal.returns-in-Ok-Nothing-clause-reads
@@ -35,7 +35,7 @@ returns-in-Ok-Nothing-clause-reads g c =
     let read : Reads before.report after.report x.link.number (Ok Nothing) (g.W.Wire.lent c.read.new.self) = rw c.in-Ok-Nothing.field-0-is at c.in-Ok-Nothing.ensures.read in
     record {
       visited = read_nothing x before after (g.W.Wire.lent c.read.new.self) due read asked (visited_same IsInput x before after (visits_nothing IsInput x.link.id c.args.host.now) c.read.ensures.bound c.read.ensures.cause.0);
-      carries = λ marks. carries_by_wire IsInput marks before.bound (x.link ∷ []) before.report after.report c.args.host.now (nothing_keeps before.report after.report x.link.number (g.W.Wire.lent c.read.new.self) read);
+      carries = λ marks marked. carries_by_wire IsInput marks before.bound (x.link ∷ []) before.report after.report c.args.host.now (nothing_keeps before.report after.report x.link.number (g.W.Wire.lent c.read.new.self) read);
     }
 
 pub returns-in-Ok-Ended-clause-reads : goal.returns-in-Ok-Ended-clause-reads
@@ -48,7 +48,7 @@ returns-in-Ok-Ended-clause-reads g c =
     let read : Reads before.report after.report x.link.number (Ok Ended) (g.W.Wire.lent c.read.new.self) = rw c.in-Ok-Ended.field-0-is at c.in-Ok-Ended.ensures.read in
     record {
       visited = read_ended x before after due asked (visited_ended IsInput x before after (visits_nothing IsInput x.link.id c.args.host.now) c.read.ensures.bound c.read.ensures.cause.0);
-      carries = λ marks. carries_by_wire IsInput marks before.bound (x.link ∷ []) before.report after.report c.args.host.now (ended_keeps before.report after.report x.link.number (g.W.Wire.lent c.read.new.self) read);
+      carries = λ marks marked. carries_by_wire IsInput marks before.bound (x.link ∷ []) before.report after.report c.args.host.now (ended_keeps before.report after.report x.link.number (g.W.Wire.lent c.read.new.self) read);
     }
 
 pub returns-in-Err-clause-reads : goal.returns-in-Err-clause-reads
@@ -60,11 +60,11 @@ returns-in-Err-clause-reads g c =
     let asked : Asks before.asked (g.W.Wire.asked c.read.new.self) (Read x.link.number CHUNK_MAX ∷ []) = c.read.ensures.asked in
     let shuts : Shuts before.bound (g.W.Wire.report c.read.new.self) after.report x.link.number = rw c.read.ensures.bound at c.shut_down.ensures.shuts in
     let visits : Visits IsInput x.link.id c.args.host.now c.shut_down.new.host = visits_closing IsInput x.link.id c.args.host.now c.shut_down.new.host tt c.shut_down.ensures.closed in
-    record {
+    rw c.shut_down.ensures.held (record {
       visited = read_none x before after (g.W.Wire.asked c.read.new.self) due (c.is_to_read.ensures.«open» c.if-not-is_to_read.false) asked c.shut_down.ensures.asked
           (visited_shut IsInput x before after (g.W.Wire.report c.read.new.self) c.in-Err.ensures.read.shut shuts visits c.shut_down.ensures.if_none (c.shut_down.ensures.bound ∙ c.read.ensures.bound) (at_most_then before.failed (g.W.Wire.failed c.read.new.self) after.failed c.read.ensures.cause.0 c.shut_down.ensures.faults));
-      carries = λ marks. carries_by_fault IsInput marks before.bound x.link before.report (g.W.Wire.report c.read.new.self) after.report c.args.host.now c.shut_down.new.host tt (read_fault before.report (g.W.Wire.report c.read.new.self) x.link.number c.in-Err.field-0 (g.W.Wire.lent c.read.new.self) c.in-Err.ensures.read) c.in-Err.ensures.read.failed shuts c.shut_down.ensures.closed;
-    }
+      carries = λ marks marked. carries_by_fault IsInput marks before.bound x.link before.report (g.W.Wire.report c.read.new.self) after.report c.args.host.now c.shut_down.new.host tt (read_fault before.report (g.W.Wire.report c.read.new.self) x.link.number c.in-Err.field-0 (g.W.Wire.lent c.read.new.self) c.in-Err.ensures.read) c.in-Err.ensures.read.failed shuts c.shut_down.ensures.closed;
+    })
 
 pub returns-in-Ok-Bytes-clause-reads : goal.returns-in-Ok-Bytes-clause-reads
 returns-in-Ok-Bytes-clause-reads g c =
@@ -78,7 +78,7 @@ returns-in-Ok-Bytes-clause-reads g c =
     let within : IsWithin (Ok Bytes) CHUNK_MAX (g.W.Wire.lent c.read.new.self) = rw c.in-Ok-Bytes.field-0-is at c.in-Ok-Bytes.ensures.within in
     record {
       visited = read_bytes x c.feed_from.new.held before mid after (g.W.Wire.lent c.read.new.self) within.0 due (c.is_to_read.ensures.«open» c.if-not-is_to_read.false) c.read.ensures.bound c.read.ensures.cause.0 read asked c.feed_from.ensures.fed.visit.steps c.feed_from.ensures.fed;
-      carries = λ marks. rw c.read.ensures.bound at (c.feed_from.ensures.fed.carries marks before.report (search rules) (search rules));
+      carries = λ marks marked. rw c.read.ensures.bound at (c.feed_from.ensures.fed.carries marks before.report (search rules) (search rules));
     }
 
 pub returns-then-not-is_to_read-clause-ended : goal.returns-then-not-is_to_read-clause-ended
@@ -88,7 +88,7 @@ pub returns-in-Ok-Nothing-clause-ended : goal.returns-in-Ok-Nothing-clause-ended
 returns-in-Ok-Nothing-clause-ended g c = λ e. inl e
 
 pub returns-in-Err-clause-ended : goal.returns-in-Err-clause-ended
-returns-in-Err-clause-ended g c = λ e. inl e
+returns-in-Err-clause-ended g c = λ e. inl (rw c.shut_down.ensures.held at e)
 
 pub returns-in-Ok-Bytes-clause-ended : goal.returns-in-Ok-Bytes-clause-ended
 returns-in-Ok-Bytes-clause-ended g c = λ e. inl (sym c.feed_from.ensures.ended ∙ e)

@@ -1,5 +1,5 @@
 use Rattle.std.proofs.lemmas.Result.{IfErr-weaker}
-use Rattle.usi_stdio.proofs.Lining.{in_full, line_answers, said_due}
+use Rattle.usi_stdio.proofs.Lining.{line_answers}
 use Rattle.usi_stdio.proofs.Working.{on_ok_both, prefix_of_fed}
 use Rattle.usi_stdio.proofs.Remembering.{on_ok, told_fed}
 use Rattle.usi_stdio.proofs.streams.answer_line.Goals as goal
@@ -10,13 +10,9 @@ returns-clause-err g c =
     IfErr-weaker c.work_off.result _ _ (λ fault. prefix_of_fed _ _ c.args.session.now c.feed.new.self c.args.line.now fault c.in_ok-feed.ensures.due) c.work_off.ensures.err
 
 -- what was due to the line was written
-pub returns-clause-ok : goal.returns-clause-ok
-returns-clause-ok g c =
-    on_ok_both c.work_off.result (λ w settled. said_due _ _ _ _ _ (line_answers c.args.session.now c.feed.new.self c.work_off.new.session c.args.line.now _ _ c.in_ok-feed.ensures.due c.in_ok-feed.ensures.after w settled)) c.work_off.ensures.ok c.work_off.ensures.settled
-
 pub returns-clause-answered : goal.returns-clause-answered
 returns-clause-answered g c =
-    on_ok_both c.work_off.result (λ w settled. in_full _ _ _ _ _ (line_answers c.args.session.now c.feed.new.self c.work_off.new.session c.args.line.now _ _ c.in_ok-feed.ensures.due c.in_ok-feed.ensures.after w settled)) c.work_off.ensures.ok c.work_off.ensures.settled
+    on_ok_both c.work_off.result (line_answers c.args.session.now c.feed.new.self c.work_off.new.session c.args.line.now _ _ c.in_ok-feed.ensures.due c.in_ok-feed.ensures.after) c.work_off.ensures.ok c.work_off.ensures.settled
 
 pub returns-clause-told : goal.returns-clause-told
 returns-clause-told g c =

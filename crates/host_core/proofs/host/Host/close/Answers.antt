@@ -29,9 +29,6 @@ returns-in-Some-clause-closed g c =
 pub returns-in-Some-clause-others : goal.returns-in-Some-clause-others
 returns-in-Some-clause-others g c = rw (← c.self.view_is) c.close.ensures.others
 
-pub returns-in-Some-clause-below : goal.returns-in-Some-clause-below
-returns-in-Some-clause-below g c = rw (← c.self.view_is) c.reveal_invariant.ensures.below
-
 pub returns-in-None-clause-err : goal.returns-in-None-clause-err
 returns-in-None-clause-err g c =
     let same = ap (λ (s : OpenSessions SessionView). (let h : HostState = record { setup = c.self.inside.setup; table = c.self.inside.table; slots = s } in h)) (rw c.in-None.ensures.if_none at c.close.ensures.absent) in
@@ -43,6 +40,3 @@ returns-in-None-clause-closed g c =
 
 pub returns-in-None-clause-others : goal.returns-in-None-clause-others
 returns-in-None-clause-others g c = rw (← c.self.view_is) c.close.ensures.others
-
-pub returns-in-None-clause-below : goal.returns-in-None-clause-below
-returns-in-None-clause-below g c = rw (← c.self.view_is) c.reveal_invariant.ensures.below

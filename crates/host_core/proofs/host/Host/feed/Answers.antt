@@ -24,9 +24,6 @@ returns-clause-others g c =
 pub returns-clause-err : goal.returns-clause-err
 returns-clause-err g c = refused_call (λ _. Done) c.args.self.now _ (Feed c.args.id c.args.chunk.now) c.feed-fed.result (λ _. refl) (returns-clause-fed g c)
 
-pub returns-clause-below : goal.returns-clause-below
-returns-clause-below g c = rw (← c.self.view_is) c.reveal_invariant.ensures.below
-
 pub returns-in_default-clause-others : goal.returns-in_default-clause-others
 returns-in_default-clause-others g c = rw (← c.self.view_is) (λ other differs. refl)
 
@@ -38,9 +35,6 @@ returns-in_default-clause-fed g c =
 
 pub returns-in_default-clause-err : goal.returns-in_default-clause-err
 returns-in_default-clause-err g c = c.self.view_is
-
-pub returns-in_default-clause-below : goal.returns-in_default-clause-below
-returns-in_default-clause-below g c = rw (← c.self.view_is) c.reveal_invariant.ensures.below
 
 pub invariant_of-self-2 : goal.invariant_of-self-2
 invariant_of-self-2 g c =

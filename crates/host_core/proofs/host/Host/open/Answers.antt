@@ -15,9 +15,6 @@ returns-in-Ok-clause-opened g c =
     rw (← c.self.view_is)
     (record { room = λ full. (let e = c.in-Ok.ensures.full.1 full in absurd (cc)); opens = rw c.with_setup-session.ensures.initial at c.in-Ok.ensures.opened; table_is = refl; setup_is = refl })
 
-pub returns-in-Ok-clause-below : goal.returns-in-Ok-clause-below
-returns-in-Ok-clause-below g c = rw (← c.self.view_is) c.reveal_invariant.ensures.below
-
 pub returns-in-Err-Full-clause-err : goal.returns-in-Err-Full-clause-err
 returns-in-Err-Full-clause-err g c =
     let same = ap (λ (s : OpenSessions SessionView). (let h : HostState = record { setup = c.self.inside.setup; table = c.self.inside.table; slots = s } in h)) c.in-Err-Full.ensures.err in
@@ -29,9 +26,6 @@ returns-in-Err-Full-clause-opened g c =
     let full = e.0 refl in
     (rw (← c.self.view_is) full, returns-in-Err-Full-clause-err g c)
 
-pub returns-in-Err-Full-clause-below : goal.returns-in-Err-Full-clause-below
-returns-in-Err-Full-clause-below g c = rw (← c.self.view_is) c.reveal_invariant.ensures.below
-
 pub returns-in-Err-OutOfMemory-clause-err : goal.returns-in-Err-OutOfMemory-clause-err
 returns-in-Err-OutOfMemory-clause-err g c =
     let same = ap (λ (s : OpenSessions SessionView). (let h : HostState = record { setup = c.self.inside.setup; table = c.self.inside.table; slots = s } in h)) c.in-Err-OutOfMemory.ensures.err in
@@ -41,6 +35,3 @@ pub returns-in-Err-OutOfMemory-clause-opened : goal.returns-in-Err-OutOfMemory-c
 returns-in-Err-OutOfMemory-clause-opened g c =
     let e = rw c.in-Err-OutOfMemory.field-0-is at c.in-Err-OutOfMemory.ensures.full in
     (rw (← c.self.view_is) (λ full. (let no = e.1 full in absurd (cc))), returns-in-Err-OutOfMemory-clause-err g c)
-
-pub returns-in-Err-OutOfMemory-clause-below : goal.returns-in-Err-OutOfMemory-clause-below
-returns-in-Err-OutOfMemory-clause-below g c = rw (← c.self.view_is) c.reveal_invariant.ensures.below

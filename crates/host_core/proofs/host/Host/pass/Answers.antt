@@ -18,9 +18,6 @@ returns-clause-taken g c =
     rw (← c.self.view_is)
     (on_found (Takes c.args.n) old c.self.inside.table c.args.id c.in-Some.session.now c.pass-passed.new.session (passed_from old c.args.id c.args.n c.pass-passed.result) is went, refl)
 
-pub returns-clause-below : goal.returns-clause-below
-returns-clause-below g c = rw (← c.self.view_is) c.reveal_invariant.ensures.below
-
 pub returns-clause-others : goal.returns-clause-others
 returns-clause-others g c = λ id n.
     let new : HostState = record { setup = c.self.inside.setup; table = c.self.inside.table; slots = with_session c.self.inside.slots c.args.id c.pass-passed.new.session } in

@@ -1,49 +1,22 @@
-use Rattle.std.proofs.Common.{◌≡◌, Some, None, refl, rules, sym}
+use Rattle.std.proofs.Common.{◌≡◌, ap, arith, length, refl, rules, Err}
 use Rattle.session_slots.specs.Slots.{find}
-use Rattle.session_slots.proofs.Finds.{find-with_session-other}
-use Rattle.host_core.specs.Events.{Take, Gave}
-use Rattle.host_core.specs.Seen.{as_outcome}
+use Rattle.host_core.specs.declared.event.HostFault.TheVariants.{NotReady, OutOfMemory}
 use Rattle.host_core.specs.Sessions.{Takes}
-use Rattle.host_core.proofs.Found.{on_found, on_none}
-use Rattle.host_core.proofs.Kept.{refused_call}
-use Rattle.host_core.proofs.Noted.{noted_written}
+use Rattle.host_core.proofs.Found.{on_refused}
 use Rattle.host_core.proofs.host.Host.take.Goals as goal
 
-pub returns-clause-taken : goal.returns-clause-taken
-returns-clause-taken g c =
-    let is : find c.self.inside.slots c.args.id ≡ Some c.in-Some.session.now = sym c.in-Some.ensures.value in
-    rw (← c.self.view_is)
-    (on_found (Takes c.args.n) (record { setup = c.self.inside.setup; table = c.self.inside.table; slots = c.self.inside.slots }) c.self.inside.table c.args.id c.in-Some.session.now c.take-taken.new.session (as_outcome Gave c.take-taken.result) is c.take-taken.ensures, refl)
+pub returns-then-n-queued-clause-taken : goal.returns-then-n-queued-clause-taken
+returns-then-n-queued-clause-taken g c = (
+  on_refused (Takes c.args.n) c.args.self.now c.args.id NotReady (find c.args.self.now.slots c.args.id) c.in-Some.queued refl c.in-Some.ensures
+      (λ s same. (omega (arith, c.if-n-queued.true, ap length same), refl)),
+  refl,
+)
 
-pub returns-clause-others : goal.returns-clause-others
-returns-clause-others g c =
-    let is : find c.self.inside.slots c.args.id ≡ Some c.in-Some.session.now = sym c.in-Some.ensures.value in
-    rw (← c.self.view_is)
-    (λ other differs. find-with_session-other c.self.inside.slots c.args.id other c.in-Some.session.now c.take-taken.new.session is differs)
-
-pub returns-clause-err : goal.returns-clause-err
-returns-clause-err g c = refused_call Gave c.args.self.now _ (Take c.args.id c.args.n) c.take-taken.result (λ _. refl) (returns-clause-taken g c)
-
-pub returns-clause-below : goal.returns-clause-below
-returns-clause-below g c = rw (← c.self.view_is) c.reveal_invariant.ensures.below
-
-pub returns-in_default-clause-others : goal.returns-in_default-clause-others
-returns-in_default-clause-others g c = rw (← c.self.view_is) (λ other differs. refl)
-
-pub returns-in_default-clause-taken : goal.returns-in_default-clause-taken
-returns-in_default-clause-taken g c =
-    let is : find c.self.inside.slots c.args.id ≡ None = search rules in
-    rw (← c.self.view_is)
-    (on_none (Takes c.args.n) (record { setup = c.self.inside.setup; table = c.self.inside.table; slots = c.self.inside.slots }) c.args.id is, refl)
-
-pub returns-in_default-clause-err : goal.returns-in_default-clause-err
-returns-in_default-clause-err g c = c.self.view_is
-
-pub returns-in_default-clause-below : goal.returns-in_default-clause-below
-returns-in_default-clause-below g c = rw (← c.self.view_is) c.reveal_invariant.ensures.below
-
-pub invariant_of-self-2 : goal.invariant_of-self-2
-invariant_of-self-2 g c =
-    let is : find c.self.inside.slots c.args.id ≡ Some c.in-Some.session.now = sym c.in-Some.ensures.value in
-    rw (c.set.ensures, c.of.ensures)
-    (noted_written c.self.inside.notes.items c.self.inside.slots c.args.id c.in-Some.session.now c.take-taken.new.session is c.self.invariant)
+pub returns-in_err-bytes-clause-taken : goal.returns-in_err-bytes-clause-taken
+returns-in_err-bytes-clause-taken g c =
+    let fault : c.from_residual.result ≡ Err OutOfMemory = search rules in
+    rw fault (
+      on_refused (Takes c.args.n) c.args.self.now c.args.id OutOfMemory (find c.args.self.now.slots c.args.id) c.in-Some.queued refl c.in-Some.ensures
+          (λ s same. (omega (arith, c.if-n-queued.false, ap length same), refl)),
+      refl,
+    )

@@ -41,11 +41,5 @@ returns-clause-others g c =
     rw (← c.self.view_is)
     (λ other differs. find-with_session-other c.self.inside.slots c.args.id other c.in-Some.session.now c.work-worked.new.session is differs)
 
-pub returns-clause-below : goal.returns-clause-below
-returns-clause-below g c = rw (← c.self.view_is) c.reveal_invariant.ensures.below
-
 pub returns-in_default-clause-others : goal.returns-in_default-clause-others
 returns-in_default-clause-others g c = rw (← c.self.view_is) (λ other differs. refl)
-
-pub returns-in_default-clause-below : goal.returns-in_default-clause-below
-returns-in_default-clause-below g c = rw (← c.self.view_is) c.reveal_invariant.ensures.below

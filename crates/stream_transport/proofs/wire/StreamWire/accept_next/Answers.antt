@@ -1,5 +1,5 @@
 use Rattle.std.specs.Prelude.{vec_len}
-use Rattle.std.proofs.Common.{◌≡◌, arith, length, [], ◌∷◌, Ok, Err, Some, refl, inr, rules}
+use Rattle.std.proofs.Common.{◌≡◌, arith, length, [], ◌∷◌, Ok, Err, Some, refl, inr}
 use Rattle.transport.specs.declared.wire.WireFault.TheVariants.{OutOfMemory}
 use Rattle.std.specs.Io.KnownBytes.{Keeps}
 use Rattle.transport.proofs.Reported.{kept_same}

@@ -1,7 +1,0 @@
-use Rattle.std.specs.Prelude.{codes, decimal}
-use Rattle.socket_loop.proofs.StatusTexts.{four_more, on_ok}
-use Rattle.socket_loop.proofs.status_line.put_others.Goals as goal
-
-pub returns : goal.returns
-returns g c =
-    on_ok c.put_two-2.result (four_more _ c.put_two.new.out.items c.put_two-2.new.out.items (codes ",\"bytes_in\":") (decimal c.args.status.now.received) (codes ",\"bytes_out\":") (decimal c.args.status.now.sent) c.in_ok-put_two.ensures) c.put_two-2.ensures
