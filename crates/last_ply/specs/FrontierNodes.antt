@@ -3,7 +3,12 @@ use Rattle.std.specs.Prelude.{ℕ, ℤ, Bool}
 use Rattle.shogi_core.specs.declared.piece.Kind.{Kind}
 use Rattle.shogi_moves.specs.declared.origin.Origin.{Origin}
 use Rattle.last_ply.specs.declared.frontier.FrontierNode.{FrontierNode}
-use Rattle.last_ply.specs.LastPly.{AreAnsweredOff, AreDoubtfulEnds, AreDropsAnsweredOff, HasNoneFrom, LeaveSomeAmong, NodeScoresFromAtMost, NoneScoresFrom, OnEach, OnRest, TakesLittle}
+use Rattle.last_ply.specs.declared.moving_piece.MovingPiece.{MovingPiece}
+use Rattle.last_ply.specs.LastPly.{AreAnsweredOff, AreDoubtfulEnds, AreDropsAnsweredOff, HasNoneFrom, is_legal_board_move, LeaveSomeAmong, NodeScoresFromAtMost, NoneScoresFrom, OnEach, OnRest, TakesLittle}
+
+-- the piece's move to the square is legal, promoting or not
+abbrev pub is_legal_to : MovingPiece → ℕ → Bool → Bool
+is_legal_to piece = is_legal_board_move piece.frontier.now.node.now.position piece.from
 
 -- the side's other pieces than these have no legal move
 abbrev pub OthersCannotMove : FrontierNode → ℕ → Type 0

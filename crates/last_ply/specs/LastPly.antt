@@ -31,10 +31,6 @@ use Rattle.minimax.specs.declared.entry.Entry.{Entry}
 abbrev pub is_legal_board_move : Shogi → ℕ → ℕ → Bool → Bool
 is_legal_board_move p from to promote = is_legal_code p (code_of (Board from to promote))
 
--- the same, as a fact
-abbrev pub IsLegalTo : Shogi → ℕ → ℕ → Bool → Type 0
-IsLegalTo p from to promote = is_legal_board_move p from to promote ≡ true
-
 -- what stands on the square becomes this piece by its move, promoting or not
 abbrev pub IsPieceMoved : Shogi → ℕ → Bool → Piece → Type 0
 IsPieceMoved p from promote piece = piece_moved promote (piece_at p.cells from) ≡ Some piece

@@ -4,8 +4,8 @@ ghost use Rattle.std.specs.Prelude.{◌≡◌, ◌≤ℤ◌, ◌<ℤ◌, ℤ, tr
 ghost use Rattle.shogi_core.specs.Codes.{code_of};
 ghost use Rattle.shogi_moves.specs.Destinations.{IsWithin};
 ghost use Rattle.minimax.specs.Entries.{IsConclusive};
-ghost use Rattle.last_ply.specs.LastPly.{BoardMoveScores, HasNoMate, IsFirstFrom, IsFirstMate, IsFirstToScore, IsLegalTo, IsTrueOf, NodeHasScore, NodeScoresAtMost, NoneGains, NoneScores, NoneScoresAmong, NoneScoresFrom, ScoresElse};
-ghost use Rattle.last_ply.specs.FrontierNodes.{OthersScoreElse};
+ghost use Rattle.last_ply.specs.LastPly.{BoardMoveScores, HasNoMate, IsFirstFrom, IsFirstMate, IsFirstToScore, IsTrueOf, NodeHasScore, NodeScoresAtMost, NoneGains, NoneScores, NoneScoresAmong, NoneScoresFrom, ScoresElse};
+ghost use Rattle.last_ply.specs.FrontierNodes.{is_legal_to, OthersScoreElse};
 
 use crate::frontier::FrontierNode;
 use crate::mates::MateSearch;
@@ -18,8 +18,7 @@ use shogi_moves::Walk;
 impl MovingPiece<'_> {
     /// Whether its move to the square is legal and scores this.
     fn is_gain(&self, to: Square, promote: bool, score: i32) -> bool
-        ensures legal { result ≡ true
-            → IsLegalTo self.now.frontier.now.node.now.position self.now.from to promote }
+        ensures legal { result ≡ true → is_legal_to self.now to promote ≡ true }
         ensures scores { result ≡ true
             → BoardMoveScores self.now.frontier.now.node.now score self.now.from to promote }
         ensures other { result ≡ false

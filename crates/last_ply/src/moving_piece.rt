@@ -2,7 +2,8 @@
 
 ghost use Rattle.std.specs.Prelude.{◌≡◌, true};
 ghost use Rattle.shogi_moves.specs.Destinations.{is_own, AreAllDestinations};
-ghost use Rattle.last_ply.specs.LastPly.{is_legal_board_move, IsLegalTo, IsReach, RawScoresTo};
+ghost use Rattle.last_ply.specs.LastPly.{IsReach, RawScoresTo};
+ghost use Rattle.last_ply.specs.FrontierNodes.{is_legal_to};
 
 use crate::frontier::FrontierNode;
 use crate::scored_move::ScoredMove;
@@ -66,8 +67,7 @@ impl MovingPiece<'_> {
     /// Whether its move to the square is legal.
     #[inline(never)]
     pub fn is_end(&self, to: Square, promote: bool) -> bool
-        ensures { result ≡ is_legal_board_move self.now.frontier.now.node.now.position
-            self.now.from to promote }
+        ensures { result ≡ is_legal_to self.now to promote }
     {
         let from = self.from;
         from.reveal_invariant();
@@ -88,7 +88,7 @@ impl MovingPiece<'_> {
     /// Its legal move to the square, with what it scores with nothing settled.
     #[inline(always)]
     pub fn scored_to(&self, to: Square, promote: bool, raw: i32) -> ScoredMove<'_>
-        requires legal { IsLegalTo self.now.frontier.now.node.now.position self.now.from to promote }
+        requires legal { is_legal_to self.now to promote ≡ true }
         requires raw { RawScoresTo self.now.frontier.now.node.now raw self.now.from to promote }
         ensures node { result.node.now ≡ self.now.frontier.now.node.now }
         ensures current { result.current ≡ Move.Board self.now.from to promote }

@@ -148,8 +148,8 @@ is_pinned_by cells color square o from sniper =
     && is_on_ray o square sniper && slides cells o square from && slides cells o from sniper
 
 -- the mask has each piece of the side that is pinned to the square in the direction of that number
-abbrev pub HasPinnedAlong : ℕ → Cells → Color → ℕ → ℕ → Type 0
-HasPinnedAlong m cells side square direction = (n a : ℕ) → n < 81 → a < 81
+abbrev pub HasPinAlong : ℕ → Cells → Color → ℕ → ℕ → Type 0
+HasPinAlong m cells side square direction = (n a : ℕ) → n < 81 → a < 81
     → is_pinned_by cells side square (direction_at direction) n a ≡ true → has_bit m n ≡ true
 
 -- the mask has each piece of the side that is pinned to the square, in whichever direction

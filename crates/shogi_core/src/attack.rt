@@ -1,7 +1,7 @@
 //! Attacks and checks, seen from the square that is attacked.
 
 ghost use Rattle.std.specs.Prelude.{◌≡◌, ◌≢◌, ◌↔◌, ◌<◌, ◌≤◌, ◌^◌, ℕ, true, false, not, None, IfSome, IsNone};
-ghost use Rattle.shogi_core.specs.Attack.{HasNoSniper, is_attacked, is_open_king, in_check, is_sniper, is_sniping, cell_steps, cell_slides_back, is_step_from, is_step_among, slider_attacks_along, slider_attacks, FindsOccupied, FindsPiece, TellsAttack, TellsSliderAttack, TellsSliderAttackAlong, HasPinned, HasPinnedAlong, OthersAreUnpinned, HasNoStep, StaysIfAttacked, StaysInCheck};
+ghost use Rattle.shogi_core.specs.Attack.{HasNoSniper, is_attacked, is_open_king, in_check, is_sniper, is_sniping, cell_steps, cell_slides_back, is_step_from, is_step_among, slider_attacks_along, slider_attacks, FindsOccupied, FindsPiece, TellsAttack, TellsSliderAttack, TellsSliderAttackAlong, HasPinned, HasPinAlong, OthersAreUnpinned, HasNoStep, StaysIfAttacked, StaysInCheck};
 ghost use Rattle.shogi_core.specs.Below.{some_below};
 ghost use Rattle.shogi_core.specs.Bits.{HasBits, has_bit};
 ghost use Rattle.shogi_core.specs.Sets.{KeepsSquares};
@@ -258,7 +258,7 @@ fn slider_check_or_pin(
     requires snipers { HasBits snipers.bits (is_sniper board.now (opponent_of side) square) }
     ensures shot { result ≡ slider_attacks_along board.now (opponent_of side) square direction }
     ensures kept { KeepsSquares pinned.old.bits pinned.new.bits }
-    ensures all { result ≡ false → HasPinnedAlong pinned.new.bits board.now side square direction }
+    ensures all { result ≡ false → HasPinAlong pinned.new.bits board.now side square direction }
 {
     direction.reveal_invariant();
     square.reveal_invariant();
