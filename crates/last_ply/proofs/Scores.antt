@@ -40,8 +40,8 @@ use Rattle.shogi_eval.specs.declared.gain.TheConstants.{PROMOTION_GAIN_MAX}
 use Rattle.shogi_eval.specs.Exchange.{is_quiet, leaf_after}
 use Rattle.shogi_eval.specs.Material.{material_of, taken_gain, promotion_gain, drop_gain}
 use Rattle.shogi_eval.proofs.Gains.{material_after_board, material_after_drop}
-use Rattle.shogi_eval.proofs.RoleGains as roles
 use Rattle.minimax.proofs.Settling.{left_least, left_quiet}
+use Rattle.static_exchange.proofs.Won.{promotion_most}
 use Rattle.last_ply.proofs.Squares.{left_clear}
 use Rattle.last_ply.specs.LastPly.{is_legal_board_move, score_at, raw_score, HasScore, IsReach, ScoresAtMost, ScoresFromAtMost, ScoresAmongAtMost, OnOwn}
 
@@ -232,12 +232,6 @@ quiet_others p e own takes zone sliders n v h ob m zb sb set out =
     let near : has_bit (bit_or zone sliders) n ≡ false = false_from_ne_true (has_bit (bit_or zone sliders) n) (λ there. both_ways (has_bit (bit_and own (bit_or zone sliders)) n) two.1 (has_bit-and own (bit_or zone sliders) n ∙ and_from _ _ set there)) in
     let both = or_parts (has_bit zone n) (has_bit sliders n) (sym (has_bit-or zone sliders n) ∙ near) in
     quiet_piece p e n v h (λ t ht. m n t h ht set two.0) (λ t ht r. far_plain p n t h ht (sym (ob n h) ∙ set) (sym (sb n h) ∙ both.1) (sym (zb n h) ∙ both.0) r)
-
--- what a promotion gains at most
-pub promotion_most : (promote : Bool) (cell : Option Piece) → promotion_gain promote cell ≤ PROMOTION_GAIN_MAX
-promotion_most promote None = omega arith
-promotion_most false (Some piece) = omega arith
-promotion_most true (Some piece) = omega (arith, roles.promotion_gain piece.role, roles.promotion_range piece.role)
 
 -- a piece of which no capture is dear enough scores no more than a bound with room for any promotion
 pub poor_piece : (p : Shogi) (e : Eval) (from : ℕ) (v : ℤ) → IsValid p → from < 81 → (material_of p e +ℤ pos PROMOTION_GAIN_MAX) ≤ℤ v

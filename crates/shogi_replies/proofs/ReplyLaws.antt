@@ -36,7 +36,7 @@ use Rattle.shogi_moves.specs.Rising.{is_in}
 use Rattle.shogi_moves.specs.declared.origin.Origin.{Origin}
 use Rattle.shogi_moves.specs.declared.origin.Origin.TheVariants as origins
 use Rattle.shogi_moves.specs.Origins.{move_to, put_from}
-use Rattle.shogi_replies.specs.ReplyInfo.{holds_free, is_quiet, is_quiet_code, quiet_codes, is_line_of_king, is_aligned_with_king, is_quiet_step, is_step_beside, is_unbound, is_spare, is_way, HasOthers, AreQuietSteps, LeaveFreeMovers, Sees, Aligns, IsReplyInfo, IsHarmless, IsHarmlessFrom, StaysCovered, DiscoversNothing, DiscoversWithin, OpensChecksWithin, IsOpen, IsAnswered, IsQuietlyAnswered, GuaranteesReply}
+use Rattle.shogi_replies.specs.ReplyInfo.{holds_free, is_quiet, is_quiet_code, quiet_codes, is_line_of_king, is_aligned_with_king, is_quiet_step, is_step_beside, is_unbound, is_spare, is_way, HasOthers, AreQuietSteps, LeaveFreeMovers, HasFromKings, Sees, Aligns, IsReplyInfo, IsHarmless, IsHarmlessFrom, StaysCovered, DiscoversNothing, DiscoversWithin, OpensChecksWithin, IsOpen, IsAnswered, IsQuietlyAnswered, GuaranteesReply}
 use Rattle.shogi_moves.proofs.DropChecks as drops
 use Rattle.shogi_moves.proofs.DestinationLaws.{legal_board, legal_drop, drop_matching, still}
 use Rattle.shogi_moves.proofs.ExistenceLaws.{some_legal}
@@ -77,45 +77,25 @@ reply_by q k to hk ht legal = some_legal q (code_of (Board k to false)) (is_lega
 pub unowned : (color : Color) (cell : Option Piece) → is_none cell ≡ true → is_piece_of color cell ≡ false
 unowned color cell bare = grind arith
 
--- ---- what a king sees
+-- ---- what a king sees, and its lines
 
-pub sees_first : (cells : Cells) (side : Color) (m : ℕ) → ((n : ℕ) → n < 81 → has_bit m n ≡ is_king side (piece_at cells n)) → Sees cells side m m
-sees_first cells side m bits = record {
+pub kings_first : (holds : ℕ → ℕ → Bool) (cells : Cells) (side : Color) (m : ℕ) → ((n : ℕ) → n < 81 → has_bit m n ≡ is_king side (piece_at cells n)) → HasFromKings holds cells side m m
+kings_first holds cells side m bits = record {
   kings = λ n h e. bits n h ∙ e;
   squares = λ k n h l e out seen. absurd (both_ways (has_bit m k) out (bits k h ∙ e));
 }
 
-pub sees_more : (cells : Cells) (side : Color) (left next king_view king squares : ℕ) → Sees cells side left king_view → ((i : ℕ) → has_bit next i ≡ (has_bit left i && not (i == king)))
-    → ((n : ℕ) → n < 81 → has_bit squares n ≡ is_seen cells king n) → Sees cells side next (bit_or king_view squares)
-sees_more cells side left next king_view king squares h bits seen = record {
-  kings = λ n l e. grind (arith, has_bit-or king_view squares n, h.kings n l e);
-  squares = λ k n l r e out on. grind (arith, has_bit-or king_view squares n, cases_eq k king, seen n r, bits k, h.squares k n l r e);
+pub kings_more : (holds : ℕ → ℕ → Bool) (cells : Cells) (side : Color) (left next mask king squares : ℕ) → HasFromKings holds cells side left mask → ((i : ℕ) → has_bit next i ≡ (has_bit left i && not (i == king)))
+    → ((n : ℕ) → n < 81 → has_bit squares n ≡ holds king n) → HasFromKings holds cells side next (bit_or mask squares)
+kings_more holds cells side left next mask king squares h bits on_these = record {
+  kings = λ n l e. grind (arith, has_bit-or mask squares n, h.kings n l e);
+  squares = λ k n l r e out on. grind (arith, has_bit-or mask squares n, cases_eq k king, on_these n r, bits k, h.squares k n l r e);
 }
 
-pub sees_done : (cells : Cells) (side : Color) (left king_view : ℕ) → HasNone left → Sees cells side left king_view → Sees cells side 0 king_view
-sees_done cells side left king_view none s = record { kings = s.kings; squares = λ k n h l e _ on. s.squares k n h l e (none k) on }
+pub kings_done : (holds : ℕ → ℕ → Bool) (cells : Cells) (side : Color) (left mask : ℕ) → HasNone left → HasFromKings holds cells side left mask → HasFromKings holds cells side 0 mask
+kings_done holds cells side left mask none s = record { kings = s.kings; squares = λ k n h l e _ on. s.squares k n h l e (none k) on }
 
-pub ruleset seeing = (sees_first, sees_done)
-
--- ---- the lines of a king
-
-pub aligns_first : (cells : Cells) (side : Color) (m : ℕ) → ((n : ℕ) → n < 81 → has_bit m n ≡ is_king side (piece_at cells n)) → Aligns cells side m m
-aligns_first cells side m bits = record {
-  kings = λ n h e. bits n h ∙ e;
-  squares = λ k n h l e out seen. absurd (both_ways (has_bit m k) out (bits k h ∙ e));
-}
-
-pub aligns_more : (cells : Cells) (side : Color) (left next lines king squares : ℕ) → Aligns cells side left lines → ((i : ℕ) → has_bit next i ≡ (has_bit left i && not (i == king)))
-    → ((n : ℕ) → n < 81 → has_bit squares n ≡ are_aligned king n) → Aligns cells side next (bit_or lines squares)
-aligns_more cells side left next lines king squares h bits on_line = record {
-  kings = λ n l e. grind (arith, has_bit-or lines squares n, h.kings n l e);
-  squares = λ k n l r e out on. grind (arith, has_bit-or lines squares n, cases_eq k king, on_line n r, bits k, h.squares k n l r e);
-}
-
-pub aligns_done : (cells : Cells) (side : Color) (left lines : ℕ) → HasNone left → Aligns cells side left lines → Aligns cells side 0 lines
-aligns_done cells side left lines none s = record { kings = s.kings; squares = λ k n h l e _ on. s.squares k n h l e (none k) on }
-
-pub ruleset aligning = (aligns_first, aligns_done)
+pub ruleset seeing = (kings_first, kings_done)
 
 -- a square on no line with a king
 pub unaligned : (cells : Cells) (side : Color) (lines n : ℕ) → Aligns cells side 0 lines → n < 81 → has_bit lines n ≡ false → is_aligned_with_king cells side n ≡ false

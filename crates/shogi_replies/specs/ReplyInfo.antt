@@ -98,17 +98,19 @@ abbrev pub LeaveFreeMovers : Cells → Color → ℕ → Type 0
 LeaveFreeMovers cells side squares = (a to : ℕ) → a < 81 → has_bit squares a ≡ true → a ≢ to
     → some_below 81 (is_spare cells side to) ≡ true
 
--- squares with the kings of a side and all that those see which are not left
-pub record Sees (cells : Cells) (side : Color) (left king_view : ℕ) : Type 0 where
-  pub kings : (n : ℕ) → n < 81 → is_king side (piece_at cells n) ≡ true → has_bit king_view n ≡ true
+-- squares with the kings of a side, and all for which this holds with one of those that are not left
+pub record HasFromKings (holds : ℕ → ℕ → Bool) (cells : Cells) (side : Color) (left mask : ℕ) : Type 0 where
+  pub kings : (n : ℕ) → n < 81 → is_king side (piece_at cells n) ≡ true → has_bit mask n ≡ true
   pub squares : (k n : ℕ) → k < 81 → n < 81 → is_king side (piece_at cells k) ≡ true
-      → has_bit left k ≡ false → is_seen cells k n ≡ true → has_bit king_view n ≡ true
+      → has_bit left k ≡ false → holds k n ≡ true → has_bit mask n ≡ true
+
+-- squares with the kings of a side and all that those see which are not left
+abbrev pub Sees : Cells → Color → ℕ → ℕ → Type 0
+Sees cells = HasFromKings (is_seen cells) cells
 
 -- squares with the kings of a side and all on lines with those which are not left
-pub record Aligns (cells : Cells) (side : Color) (left lines : ℕ) : Type 0 where
-  pub kings : (n : ℕ) → n < 81 → is_king side (piece_at cells n) ≡ true → has_bit lines n ≡ true
-  pub squares : (k n : ℕ) → k < 81 → n < 81 → is_king side (piece_at cells k) ≡ true
-      → has_bit left k ≡ false → are_aligned k n ≡ true → has_bit lines n ≡ true
+abbrev pub Aligns : Cells → Color → ℕ → ℕ → Type 0
+Aligns = HasFromKings are_aligned
 
 -- no piece of the other side that slides and is on a line with a king of the side is on an open line with the square
 abbrev pub StaysCovered : Cells → Color → ℕ → Type 0

@@ -57,7 +57,7 @@ fn king_view_squares(p: &Position, side: Color) -> Squares
 }
 
 /// The squares of kings of the side, and of lines with them, whatever stands between.
-#[tactic(auto, using(crate::proofs::ReplyLaws::aligning))]
+#[tactic(auto, using(crate::proofs::ReplyLaws::seeing))]
 pub fn king_line_mask(p: &Position, side: Color) -> Squares
     ensures { Aligns p.now.cells side 0 result.bits }
 {

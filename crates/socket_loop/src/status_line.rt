@@ -1,6 +1,6 @@
 //! The numbers of a status as one line of JSON.
 
-ghost use Rattle.std.specs.Prelude.{◌≡◌, ◌++◌, codes, decimal, OnOk};
+ghost use Rattle.std.specs.Prelude.{◌≡◌, [], ◌++◌, codes, decimal, OnErr, OnOk};
 ghost use Rattle.socket_loop.specs.StatusLine.{eval_word, status_line};
 
 use crate::status::Status;
@@ -31,8 +31,20 @@ fn word_of(eval: Eval) -> &'static [u8]
     }
 }
 
-/// Makes the line, with its LF, in the place of what was there. On an error some front of it is there.
+/// Makes the line, with its LF, in the place of what was there. After an error nothing is there.
 pub fn write_line<A: Allocator>(out: &mut Vec<u8, A>, status: &Status) -> Result<(), AllocError>
+    ensures ok { OnOk result (out.new.items ≡ status_line status.now) }
+    ensures err { OnErr result (out.new.items ≡ []) }
+{
+    let written = write_fields(out, status);
+    if written.is_err() {
+        out.clear();
+    }
+    written
+}
+
+/// The same, but for what is there after an error.
+fn write_fields<A: Allocator>(out: &mut Vec<u8, A>, status: &Status) -> Result<(), AllocError>
     ensures { OnOk result (out.new.items ≡ status_line status.now) }
 {
     let totals = &status.totals;

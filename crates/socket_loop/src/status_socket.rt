@@ -83,9 +83,7 @@ impl<A: Allocator + Copy> StatusSocket<A> {
             connections,
             wire,
         );
-        if write_line(&mut self.line, &status).is_err() {
-            self.line.clear();
-        }
+        let _written = write_line(&mut self.line, &status);
     }
 }
 

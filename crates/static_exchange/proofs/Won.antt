@@ -88,7 +88,7 @@ recursed q s n gain enough back least below = elim (cases_lt (gain - enough) bac
 ]
 
 -- what a promotion gains at most
-promotion_most : (promote : Bool) (cell : Option Piece) → promotion_gain promote cell ≤ PROMOTION_GAIN_MAX
+pub promotion_most : (promote : Bool) (cell : Option Piece) → promotion_gain promote cell ≤ PROMOTION_GAIN_MAX
 promotion_most promote None = omega arith
 promotion_most false (Some piece) = omega arith
 promotion_most true (Some piece) = subst (λ (v : ℕ). v ≤ PROMOTION_GAIN_MAX) (roles.promotion_gain piece.role) (roles.promotion_range piece.role)

@@ -29,7 +29,8 @@ impl<A: Allocator> Spare<A> {
 
     /// Makes room for so many bytes.
     pub fn reserve(&mut self, most: usize) -> Result<(), AllocError>
-        ensures { OnOk result (most ≤ vec_len self.new.bytes) }
+        ensures ok { OnOk result (vec_len self.new.bytes ≡ max most (vec_len self.old.bytes)) }
+        ensures err { OnErr result (vec_len self.new.bytes ≡ vec_len self.old.bytes) }
     {
         if self.bytes.len() < most {
             self.bytes.resize(most, 0)?;

@@ -1,6 +1,6 @@
 use Rattle.std.proofs.Common.{◌≡◌, ◌++◌, ◌∙◌, ℕ, List, ap, codes, rules, OnOk}
 use Rattle.std.specs.Prelude.{Result, Ok, Err}
-use Rattle.socket_loop.proofs.status_line.write_line.Goals as goal
+use Rattle.socket_loop.proofs.status_line.write_fields.Goals as goal
 
 on_ok : {T E : Type 0} (r : Result T E) {P Q : Type 0} → (P → Q) → OnOk r P → OnOk r Q
 on_ok (Ok value) f p = f p
