@@ -9,7 +9,6 @@ use Rattle.shogi_core.specs.declared.moves.Move.TheVariants.{Board, Drop}
 use Rattle.shogi_core.specs.declared.piece.Color.{Color}
 use Rattle.shogi_core.specs.declared.piece.Color.TheVariants.{Black, White}
 use Rattle.shogi_core.specs.declared.piece.Piece.{Piece}
-use Rattle.shogi_core.specs.declared.piece.Role.TheVariants.{Pawn, Lance, Knight, Silver, Gold, Bishop, Rook}
 use Rattle.shogi_core.specs.declared.piece.Kind.{Kind}
 use Rattle.shogi_core.specs.declared.piece.Kind.TheVariants as kinds
 use Rattle.shogi_core.specs.Bits.{has_bit}

@@ -3,7 +3,6 @@
 ghost use Rattle.std.specs.Prelude.{◌≡◌, true};
 ghost use Rattle.shogi_moves.specs.Destinations.{is_own, AreAllDestinations};
 ghost use Rattle.last_ply.specs.LastPly.{IsReach, RawScoresTo};
-ghost use Rattle.last_ply.specs.FrontierNodes.{is_legal_to};
 
 use crate::frontier::FrontierNode;
 use crate::scored_move::ScoredMove;
@@ -38,6 +37,8 @@ impl FrontierNode<'_> {
 }
 
 impl MovingPiece<'_> {
+    ghost use Rattle.last_ply.specs.FrontierNodes.{is_legal_to};
+
     /// Its legal destinations.
     pub fn destinations(&self) -> Destinations
         ensures { AreAllDestinations self.now.frontier.now.node.now.position self.now.from result }

@@ -1,6 +1,6 @@
 //! What was read from a connection and is not given yet, and what is lent.
 
-ghost use Rattle.std.specs.Prelude.{◌≡◌, ◌≢◌, ◌<◌, ◌≤◌, [], ◌++◌, length, take, nat_eq, vec_len, OnOk, true};
+ghost use Rattle.std.specs.Prelude.{◌≡◌, ◌≢◌, ◌<◌, ◌≤◌, [], ◌++◌, length, take, nat_eq, vec_len, OnErr, OnOk, true};
 ghost use Rattle.usi_lines.specs.OneLine.{one_line, IsOneLine};
 ghost use Rattle.stream_transport.specs.ReadBuffer.{lent_by, lent_from};
 
@@ -29,7 +29,10 @@ impl<A: Allocator> Spare<A> {
 
     /// Makes room for so many bytes.
     pub fn reserve(&mut self, most: usize) -> Result<(), AllocError>
-        ensures ok { OnOk result (vec_len self.new.bytes ≡ max most (vec_len self.old.bytes)) }
+        ensures ok { OnOk result (most ≤ vec_len self.new.bytes) }
+        ensures grown { vec_len self.old.bytes < most
+            → OnOk result (vec_len self.new.bytes ≡ most) }
+        ensures kept { most ≤ vec_len self.old.bytes → self.new ≡ self.old }
         ensures err { OnErr result (vec_len self.new.bytes ≡ vec_len self.old.bytes) }
     {
         if self.bytes.len() < most {

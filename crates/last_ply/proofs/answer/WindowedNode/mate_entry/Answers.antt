@@ -1,4 +1,4 @@
-use Rattle.std.proofs.Common.{◌≤ℤ◌, arith, true}
+use Rattle.std.proofs.Common.{◌≤ℤ◌, arith}
 use Rattle.std.proofs.lemmas.Int.{ints}
 use Rattle.minimax.specs.declared.bounds.TheConstants.{MATE}
 use Rattle.minimax.specs.Minimax.{value}

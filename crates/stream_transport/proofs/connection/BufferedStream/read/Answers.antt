@@ -60,14 +60,14 @@ pub returns-in-Ok-clause-unread : goal.returns-in-Ok-clause-unread
 returns-in-Ok-clause-unread g c =
     let room : c.args.most ≤ length c.deref_mut.result.now = search rules in
     let len : length c.split_at_mut.result.0.now ≡ c.args.most = ap length c.split_at_mut.ensures.front ∙ length-take-le c.args.most c.deref_mut.result.now room in
-    let filled : take c.in-Ok.n (take c.reserve.new.self.bytes.len ((c.receive.new.buf ++ c.split_at_mut.result.1.now) ++ drop (length (c.receive.new.buf ++ c.split_at_mut.result.1.now)) c.reserve.new.self.bytes.items)) ≡ take c.in-Ok.n c.receive.new.buf = filled c.in-Ok.n c.reserve.new.self.bytes.len c.receive.new.buf c.split_at_mut.result.1.now (drop (length (c.receive.new.buf ++ c.split_at_mut.result.1.now)) c.reserve.new.self.bytes.items) c.in-Ok.ensures.bound.0 (omega (arith, c.in-Ok.ensures.bound.0, c.receive.auto.buf, len, c.in_ok-reserve.ensures)) in
+    let filled : take c.in-Ok.n (take c.reserve.new.self.bytes.len ((c.receive.new.buf ++ c.split_at_mut.result.1.now) ++ drop (length (c.receive.new.buf ++ c.split_at_mut.result.1.now)) c.reserve.new.self.bytes.items)) ≡ take c.in-Ok.n c.receive.new.buf = filled c.in-Ok.n c.reserve.new.self.bytes.len c.receive.new.buf c.split_at_mut.result.1.now (drop (length (c.receive.new.buf ++ c.split_at_mut.result.1.now)) c.reserve.new.self.bytes.items) c.in-Ok.ensures.bound.0 (omega (arith, c.in-Ok.ensures.bound.0, c.receive.auto.buf, len, c.in_ok-reserve.ensures.ok)) in
     gives_came g.S.ByteStream.unread c.args.self.now (record c.args.self.now { stream = c.receive.new.self; buffer = c.give_line-in-Ok.new.self }) (take c.in-Ok.n c.receive.new.buf) (lent_from c.give_line-in-Ok.new.spare c.give_line-in-Ok.new.self) (c.is_empty.ensures.none c.if-not-is_empty.false) (c.give_line-in-Ok.ensures.kept ∙ (c.fill.ensures ∙ filled)) c.in-Ok.ensures.bytes.0
 
 pub returns-in-Ok-clause-came : goal.returns-in-Ok-clause-came
 returns-in-Ok-clause-came g c =
     let room : c.args.most ≤ length c.deref_mut.result.now = search rules in
     let len : length c.split_at_mut.result.0.now ≡ c.args.most = ap length c.split_at_mut.ensures.front ∙ length-take-le c.args.most c.deref_mut.result.now room in
-    let filled : take c.in-Ok.n (take c.reserve.new.self.bytes.len ((c.receive.new.buf ++ c.split_at_mut.result.1.now) ++ drop (length (c.receive.new.buf ++ c.split_at_mut.result.1.now)) c.reserve.new.self.bytes.items)) ≡ take c.in-Ok.n c.receive.new.buf = filled c.in-Ok.n c.reserve.new.self.bytes.len c.receive.new.buf c.split_at_mut.result.1.now (drop (length (c.receive.new.buf ++ c.split_at_mut.result.1.now)) c.reserve.new.self.bytes.items) c.in-Ok.ensures.bound.0 (omega (arith, c.in-Ok.ensures.bound.0, c.receive.auto.buf, len, c.in_ok-reserve.ensures)) in
+    let filled : take c.in-Ok.n (take c.reserve.new.self.bytes.len ((c.receive.new.buf ++ c.split_at_mut.result.1.now) ++ drop (length (c.receive.new.buf ++ c.split_at_mut.result.1.now)) c.reserve.new.self.bytes.items)) ≡ take c.in-Ok.n c.receive.new.buf = filled c.in-Ok.n c.reserve.new.self.bytes.len c.receive.new.buf c.split_at_mut.result.1.now (drop (length (c.receive.new.buf ++ c.split_at_mut.result.1.now)) c.reserve.new.self.bytes.items) c.in-Ok.ensures.bound.0 (omega (arith, c.in-Ok.ensures.bound.0, c.receive.auto.buf, len, c.in_ok-reserve.ensures.ok)) in
     passes_came g.S.ByteStream.given c.args.self.now (record c.args.self.now { stream = c.receive.new.self; buffer = c.give_line-in-Ok.new.self }) (take c.in-Ok.n c.receive.new.buf) (lent_from c.give_line-in-Ok.new.spare c.give_line-in-Ok.new.self) (c.is_empty.ensures.none c.if-not-is_empty.false) (c.give_line-in-Ok.ensures.kept ∙ (c.fill.ensures ∙ filled)) c.in-Ok.ensures.gave
 
 pub returns-in-Ok-clause-written : goal.returns-in-Ok-clause-written
