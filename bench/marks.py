@@ -21,7 +21,7 @@ AMONG = 15
 
 
 def engine_chance(engine, text, depth):
-    """The chance of winning of the side to move by the engine; none where it has no move."""
+    """The chance of winning of the side to move by the engine; none where it has no move, or is mated: `mate 0`."""
     engine.send(f"position {text}")
     engine.send(f"go depth {depth}")
     scores = [
@@ -32,7 +32,7 @@ def engine_chance(engine, text, depth):
     if not scores:
         return 0.0
     kind, number = scores[-1][:2]
-    return chance((int(number), None)) if kind == "cp" else float(not number.startswith("-"))
+    return chance((int(number), None)) if kind == "cp" else float(int(number) > 0)
 
 
 def engine_worst(engine, game, depth):
@@ -59,7 +59,7 @@ def main():
         analysis = Analysis(games[number - 1], arguments.depth)
         with contextlib.closing(client_of(arguments)) as client:
             analysis.answers = list(Workers([client], analysis.game, arguments.depth).answers())
-        with contextlib.closing(Client(command=[arguments.engine])) as engine:
+        with contextlib.closing(Client(command=[arguments.engine], lines=None)) as engine:
             worst = engine_worst(engine, analysis.game, arguments.engine_depth)
         marks = analysis.marks()
         shared.append(len(set(marks) & set(worst)))

@@ -18,9 +18,11 @@ from checks import PROGRAM, TOP, USI, Wrong, run_all, want
 
 EXAMPLES = os.path.join(TOP, "share", "examples")
 sys.path.insert(0, EXAMPLES)
+sys.path.append(os.path.join(TOP, "bench"))
 sys.dont_write_bytecode = True
 
-from client import Client, Gone, HostFull, Refused, TooSlow, options_of  # noqa: E402
+from client import LINE_MAX, Client, Gone, HostFull, Lacking, Refused, TooSlow, options_of  # noqa: E402
+from marks import engine_chance  # noqa: E402
 
 MATE_IN_ONE = "4k4/9/4P4/9/9/9/9/9/9 b G 1"
 MATED = "4k4/9/4G4/9/9/9/9/9/9 w G 1"
@@ -159,6 +161,74 @@ def client_that_connects_again():
 def want_opening_of_two(client):
     answer = client.analyse("startpos", 1)
     want([(line.number, line.cp) for line in answer.lines], [(1, 0), (2, 0)], "two lines")
+    want((answer.line(1, 2), answer.line(1, 3)), (answer.lines[1], None), "by number")
+
+
+def client_that_finds_another_host():
+    """A session keeps what it was asked for, and what the first host began with; a host without that is named."""
+    said = "an option with a value that it does not have: Eval is Plain or Hand, and not 'Exchange'"
+    deep = "a depth is a whole number from 1 to 2, and not 3"
+    with tempfile.TemporaryDirectory() as folder:
+        path = os.path.join(folder, "socket")
+        for words, options, depth, others, why in [
+            ((), {}, 3, ["--max-depth", "2"], deep),
+            ((), {"Depth": 3}, None, ["--max-depth", "2"], "a number out of range: Depth is a whole number from 1 to 2"),
+            (("--depth", "3"), {}, None, ["--max-depth", "2"], "a depth is a whole number from 1 to 2, and not '3'"),
+            (("--eval", "exchange"), {"Eval": "Exchange"}, 3, [], said),
+            (("--eval", "exchange"), {}, 3, [], said),
+        ]:
+            with Host(path, *words):
+                client = Client(path=path, patience=20)
+                for name, value in options.items():
+                    client.set_option(name, value)
+                client.analyse("startpos", depth)
+            with Host(path, *others):
+                try:
+                    client.analyse("startpos", depth)
+                    raise Wrong(f"{words} and then {others}: no word of it")
+                except Lacking as lacking:
+                    want(str(lacking).startswith(f"{path}: {why}"), True, str(lacking))
+                want(client.socket, None, "the session is ended")
+        text = f"sfen {reports.HANGING} moves 5f5e 5a4b"
+        with Host(path, "--depth", "2", "--eval", "exchange", "--lines", "3"):
+            client = Client(path=path, patience=20)
+            first = client.analyse(text)
+            want([(line.depth, line.number) for line in first.lines], [(1, 1), (2, 1)], "one line a depth")
+        with Host(path, "--eval", "exchange", "--depth", "4", "--lines", "2"):
+            want(client.analyse(text), first, "to the depth of the first host")
+        with Host(path, "--eval", "exchange", "--max-depth", "1"):
+            want(client.analyse(text, 1).lines, first.lines[:1], "a depth that the third one has")
+            why = "a depth is a whole number from 1 to 1, and not '2'"
+            want(named(client.analyse, text), why, "the depth of the first host")
+            client.close()
+
+
+def host_without_several_lines():
+    """One that shows one line is taken for one, and named for two."""
+    with tempfile.TemporaryDirectory() as folder, socket.socket(socket.AF_UNIX) as host:
+        path = os.path.join(folder, "socket")
+        host.bind(path)
+        host.listen()
+
+        def answer():
+            connection, _ = host.accept()
+            with connection:
+                connection.recv(100)
+                connection.sendall(b"option name Depth type spin default 3 min 1 max 16\nusiok\n")
+                seen.append(connection.recv(100))
+
+        for lines in (1, 2):
+            seen: list = []
+            served = threading.Thread(target=answer)
+            served.start()
+            try:
+                Client(path=path, patience=0, lines=lines).close()
+                want(lines, 1, "a client of two lines")
+            except Lacking as lacking:
+                why = "an option with another name, or in other letters: 'MultiPV'; they are Depth"
+                want((lines, str(lacking)), (2, f"{path}: {why}"), "what is lacking")
+            served.join()
+            want(seen, [b""], "what was sent")
 
 
 def refused_positions():
@@ -222,7 +292,7 @@ def slips_are_named_and_not_sent():
         why = f"an option with another name, or in other letters: {name!r}; they are Depth, Eval, MultiPV"
         want(named(client.set_option, name, 3), why, "another name")
     want(client.sent, [], "what was sent")
-    want(client.options, {}, "the options of a session that is begun anew")
+    want(client.options, {"MultiPV": 1}, "the options of a session that is begun anew")
 
 
 def what_a_host_offers_is_taken():
@@ -310,6 +380,81 @@ def grades_of_several_lines():
     want(run("grade.py", *words, sent=b"# \x81\xff\n"), (1, "", unread), "another encoding")
 
 
+def host_setups_change_no_output():
+    """Each script says the same of a host whose sessions begin with four lines, and with other depths and evaluations,
+    as of one with the usual setup."""
+    sent = f"startpos\n{MATE_IN_ONE}\nsfen {reports.HANGING}\n"
+    game = f"sfen {reports.HANGING} moves {' '.join(reports.HANGING_MOVES)}\n"
+    kinds = ("html", "svg", "kif", "json")
+    seen = []
+    with tempfile.TemporaryDirectory() as folder:
+        path = os.path.join(folder, "socket")
+        files = [os.path.join(folder, f"game.{kind}") for kind in kinds]
+        reported = [word for kind, file in zip(kinds, files) for word in (f"--{kind}", file)]
+        for words in (["--lines", "4", "--depth", "6"], ["--lines", "8", "--max-depth", "4"], []):
+            with Host(path, "--eval", "exchange", *words):
+                Client(path=path, patience=20).close()
+                asked = ["--socket", path, "--eval", "Plain"]
+                engine = ["--engine", PROGRAM, "--go", "depth 1"]
+                outputs = [run("client.py", "--socket", path, "sfen " + reports.HANGING)]
+                outputs += [run("grade.py", *asked), run("grade.py", *asked, "--lines", "2", sent=sent)]
+                outputs += [run("compare.py", *asked, *engine), run("compare.py", *asked[:2], *engine, sent=sent)]
+                outputs += [run("grade.py", *asked[:2], sent=sent)]
+                outputs += [reports.analysed(game, *asked)]
+                status, table, told = reports.analysed(game, *asked[:2], "--jobs", "2", *reported)
+                outputs += [(status, table, [line for line in told if "left" not in line])]
+                for file in files:
+                    with open(file, "rb") as report:
+                        outputs.append(report.read())
+            want([output[0] for output in outputs[:8]], [0, 1, 0, 0, 0, 0, 0, 0], f"{words}: {outputs[:8]}")
+            want((outputs[1][1], outputs[3][1:]), (GRADES, (COMPARED, SUMMARY)), f"{words}")
+            want((outputs[6][1], outputs[7][1]), tuple(map(reports.TABLES.get, ("Plain", "Exchange"))), f"{words}")
+            seen.append(outputs)
+    for outputs in seen:
+        want(outputs, seen[-1], "the same of each host")
+
+
+def positions_longer_than_a_line():
+    """The longest line that a host takes is graded; one more byte is a row that is refused, and the next ones follow."""
+    round_trip = " 4i4h 4a4b 4h4i 4b4a"
+    moves = (round_trip * 3_275).strip()
+    longest = f"position startpos {'moves':>{LINE_MAX - len(moves) - len('position startpos ') - 1}} {moves}"
+    want(len(longest), LINE_MAX, "the longest line")
+    longer = longest.replace("moves", " moves")
+    words = ["--program", PROGRAM, "--eval", "Plain"]
+    status, table, told = run("grade.py", *words, depth="1", sent=f"{longest}\n{longer}\nstartpos\n")
+    rows = [row.rpartition("moves 4i")[2][-40:].split(",", 1)[1] for row in table.splitlines()[1:]]
+    want((status, rows), (1, ["1,1g1f,0,,1g1f,", "1,,,,,line too long", "1,1g1f,0,,1g1f,"]), told)
+    status, table, told = run("compare.py", "--engine", PROGRAM, *words, sent=f"{longer}\nstartpos\n")
+    want((status, table.splitlines()[1].endswith(",,,,,,line too long")), (0, True), told)
+    want(len(table.splitlines()), 3, "the rows")
+    status, table, told = reports.analysed(f"{longest}{round_trip}\n", "--program", PROGRAM)
+    want((status, table, told), (1, "", ["analyse.py: <stdin>:1:10: line too long: startpos"]), "a game")
+
+
+def engine_that_is_mated():
+    """`mate 0` is a mated side."""
+
+    class Engine:
+        def __init__(self, *replies):
+            self.replies = replies
+
+        def send(self, line):
+            del line
+
+        def read_until(self, word):
+            return [*self.replies, word]
+
+    for replies, chance in [
+        (["info depth 0 score mate 0"], 0.0),
+        (["info depth 1 score mate 3 pv 1g1f"], 1.0),
+        (["info depth 1 score mate -2 pv 1g1f"], 0.0),
+        (["info depth 1 score cp 600 pv 1g1f", "info depth 2 score cp 0 pv 1g1f"], 0.5),
+        ([], 0.0),
+    ]:
+        want(engine_chance(Engine(*replies), "startpos", 2), chance, f"{replies}")
+
+
 def grades_of_a_program_that_sleeps():
     with tempfile.TemporaryDirectory() as folder:
         fake = reports.make_fake(folder, most=1, then="time.sleep(600)")
@@ -371,6 +516,8 @@ if __name__ == "__main__":
                 client_of_a_full_host,
                 client_of_a_host_that_is_full_at_once,
                 client_that_connects_again,
+                client_that_finds_another_host,
+                host_without_several_lines,
                 refused_positions,
                 slips_are_named_and_not_sent,
                 what_is_no_slip_is_sent,
@@ -378,6 +525,9 @@ if __name__ == "__main__":
                 a_depth_on_the_command_line_is_refused,
                 grades_of_positions,
                 grades_of_several_lines,
+                host_setups_change_no_output,
+                positions_longer_than_a_line,
+                engine_that_is_mated,
                 grades_of_a_program_that_sleeps,
                 moves_of_another_engine,
                 another_engine_that_dies,

@@ -296,6 +296,11 @@ def heads_of_records():
     [game] = read_games(KIF_OF_TODAY.encode())
     told = {"black": "甲", "white": "乙", "event": "春", "date": "2020/01/02", "handicap": "平手"}
     want(game.head, told, "KIF")
+    for line in ("開始日時：2021/05/02 15:04:12", "開始日時:2021/05/02 15:04:12", "開始日時： 2021/05/02 15:04:12　"):
+        [game] = read_games(f"手合割：平手\n{line}\n   1 ７六歩(77)\n".encode())
+        want(game.head["date"], "2021/05/02 15:04:12", line)
+    [game] = read_games("手合割：平手\n先手：甲:乙：丙\n".encode())
+    want(game.head["black"], "甲:乙：丙", "a name with both colons")
     first, second = read_games(CSA_TWO.encode())
     want(first.head, {"black": "Kuro", "white": "Shiro", "event": "Spring"}, "CSA")
     want(list(map(str, second.notes)), ["15:1: the game ends by a word that is not known: %UCHIKIRI"], "CSA")

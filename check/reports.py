@@ -339,6 +339,87 @@ def what_is_done_is_kept():
             want((data["complete"], len(data["plies"])), (False, 3), "the data")
 
 
+def host_that_is_replaced():
+    """Another host at the path that lacks what was asked: it is named, and what is done is written."""
+    game = f"position startpos moves {' '.join(PLAYED)}\n"
+    with tempfile.TemporaryDirectory() as folder:
+        path, report = os.path.join(folder, "socket"), os.path.join(folder, "game.json")
+        for words, why in [
+            ([], "an option with a value that it does not have: Eval is Plain or Hand, and not 'Exchange'"),
+            (["--eval", "exchange", "--max-depth", "3"], "a depth is a whole number from 1 to 3, and not 4"),
+        ]:
+            serve = [PROGRAM, "serve", "--socket", path]
+            first = subprocess.Popen([*serve, "--eval", "exchange", "--lines", "2"])
+            with subprocess.Popen(
+                script_of("--socket", path, "--depth", "4", "--jobs", "2", "--json", report),
+                stdin=subprocess.PIPE,
+                stdout=subprocess.PIPE,
+                stderr=subprocess.PIPE,
+            ) as running:
+                running.stdin.write(game.encode())
+                running.stdin.close()
+                rows = [running.stdout.readline() for _ in range(4)]
+                first.terminate()
+                first.wait()
+                os.unlink(path)
+                second = subprocess.Popen([*serve, *words])
+                rest, told = running.stdout.read(), running.stderr.read().decode()
+                status = running.wait(60)
+            second.terminate()
+            second.wait()
+            os.unlink(path)
+            done = len(rows) - 1 + len(rest.splitlines())
+            last = f"analyse.py: {path}: {why}; written is what is done, {done} of {len(PLAYED)} moves"
+            want((status, told.splitlines()[-1]), (2, last), "what is told")
+            with open(report, encoding="utf-8") as file:
+                data = json.load(file)
+            want((data["complete"], len(data["plies"]), data["evaluation"]), (False, done, "Exchange"), "the data")
+
+
+def names_in_other_encodings():
+    """A name or a title that is no UTF-8 is shown, and the report is written."""
+    kinds = ("html", "svg", "kif", "json")
+    with tempfile.TemporaryDirectory() as folder:
+        for name, shown in [
+            ("名人戦.kif".encode("cp932"), "名人戦.kif"),
+            ("名人戦.kif".encode("euc_jp"), "名人戦.kif"),
+            ("名人戦.kif".encode(), "名人戦.kif"),
+            (b"a \x81\xff.kif", "a \\x81\\xff.kif"),
+        ]:
+            path = os.path.join(folder.encode(), name)
+            with open(path, "wb") as file:
+                file.write(b"7g7f 3c3d\n")
+            for title in (None, name):
+                files = [os.path.join(folder, f"game.{kind}") for kind in kinds]
+                words = [word for kind, file in zip(kinds, files) for word in (f"--{kind}", file)]
+                words += [] if title is None else ["--title", title]
+                status, table, told = analysed("", "--program", PROGRAM, *words, path)
+                want((status, len(table.splitlines())), (0, 4), f"{name}: {told}")
+                with open(files[0], encoding="utf-8") as file:
+                    want(f"<h1>{shown}</h1>" in file.read(), True, f"{name}: the page")
+                with open(files[3], encoding="utf-8") as file:
+                    data = json.load(file)
+                want((data["record"], data["title"]), (shown, shown), f"{name}: the data")
+                for file in files:
+                    os.unlink(file)
+            with open(path, "wb") as file:
+                file.write(b"7g7f 7g7f\n")
+            told = analysed("", "--program", PROGRAM, path)[2]
+            want(told, [f"analyse.py: {os.path.join(folder, shown)}:1:6: illegal move 7g7f"], f"{name}: a refusal")
+
+
+def report_that_cannot_be_written():
+    """It is told, and the others are written."""
+    with tempfile.TemporaryDirectory() as folder:
+        path = os.path.join(folder, "game.json")
+        words = ["--program", PROGRAM, "--html", "/dev/full", "--json", path]
+        status, table, told = analysed("7g7f 3c3d\n", *words)
+        want((status, len(table.splitlines())), (2, 4), f"{told}")
+        want("No space left on device" in told[-1], True, told[-1])
+        with open(path, encoding="utf-8") as file:
+            want(json.load(file)["complete"], True, "the data")
+
+
 def refusals_leave_no_files():
     with tempfile.TemporaryDirectory() as folder:
         path = os.path.join(folder, "game.html")
@@ -377,6 +458,9 @@ CHECKS = [
     pages_with_international_pieces,
     programs_of_other_kinds,
     what_is_done_is_kept,
+    host_that_is_replaced,
+    names_in_other_encodings,
+    report_that_cannot_be_written,
     refusals_leave_no_files,
     records_that_the_program_refuses,
 ]

@@ -38,6 +38,7 @@ from game_report.page import page_of
 from game_report.values import SHALLOWEST, Analysis, Row, shown
 from game_report.words import Made
 from shogi_records import Game, Unreadable, read_games
+from shogi_records.encoding import text_of_name
 
 
 def text_of_game(game, plies):
@@ -163,10 +164,12 @@ def write_file(path: str, text: str) -> None:
     os.replace(partial, path)
 
 
-def write_reports(arguments, analysis: Analysis, made: Made) -> None:
-    """Writes the files that were asked for, where there is something to tell."""
+def write_reports(arguments, analysis: Analysis, made: Made, tell) -> bool:
+    """Writes the files that were asked for, where there is something to tell. Tells of each that cannot be written;
+    whether all are."""
+    is_whole = True
     if not analysis.count():
-        return
+        return is_whole
     for path, text_of in [
         (arguments.html, lambda: page_of(analysis, made)),
         (arguments.svg, lambda: picture_of(analysis, made)),
@@ -174,7 +177,12 @@ def write_reports(arguments, analysis: Analysis, made: Made) -> None:
         (arguments.json, lambda: data_of(analysis, made)),
     ]:
         if path:
-            write_file(path, text_of())
+            try:
+                write_file(path, text_of())
+            except OSError as why:
+                tell(str(why))
+                is_whole = False
+    return is_whole
 
 
 def arguments_of():
@@ -207,11 +215,11 @@ def arguments_of():
 
 
 def record_at(path):
-    """The bytes of the record, and its name."""
+    """The bytes of the record, and its name as text."""
     if path is None:
         return sys.stdin.buffer.read(), "<stdin>"
     with open(path, "rb") as file:
-        return file.read(), path
+        return file.read(), text_of_name(path)
 
 
 def run(arguments, clients: list) -> int:
@@ -233,22 +241,23 @@ def run(arguments, clients: list) -> int:
         return 1
     if told := told_evaluation(clients[0], arguments):
         tell(told)
+    arguments.eval = clients[0].options["Eval"]
     while len(clients) < min(arguments.jobs, len(game.moves) + 1):
         clients.append(client_of(arguments))
     analysis = Analysis(game, arguments.depth)
     title = "a game" if arguments.game_file is None else os.path.basename(name)
-    made = Made(clients[0].title, clients[0].options["Eval"], title, arguments.pieces, arguments.title)
+    asked = None if arguments.title is None else text_of_name(arguments.title)
+    made = Made(clients[0].title, arguments.eval, title, arguments.pieces, asked)
     try:
         analyse(analysis, clients)
-    except (Gone, OSError, KeyboardInterrupt) as why:
+    except (Gone, Refused, OSError, KeyboardInterrupt) as why:
         print(file=sys.stderr)
         cause, status = ("Ctrl-C", 130) if isinstance(why, KeyboardInterrupt) else (why, 2)
-        write_reports(arguments, analysis, made)
+        write_reports(arguments, analysis, made, tell)
         moves = min(analysis.count(), len(game.moves))
         tell(f"{cause}; written is what is done, {moves} of {len(game.moves)} moves")
         return status
-    write_reports(arguments, analysis, made)
-    return 0
+    return 0 if write_reports(arguments, analysis, made, tell) else 2
 
 
 def main():

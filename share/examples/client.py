@@ -30,6 +30,10 @@ class TooSlow(Gone):
     """A reply did not come in time; the session is ended."""
 
 
+class Lacking(Gone):
+    """The host does not offer what is asked of it: an evaluation, a depth, a number of lines."""
+
+
 class Refused(Exception):
     """A position was refused. The host keeps the one before it, so a `go` would answer for that one."""
 
@@ -52,10 +56,16 @@ class Answer(NamedTuple):
     ponder: Optional[str]
     lines: list[Line]
 
+    def line(self, depth, number=1):
+        """The info line of a depth, of the best move or of another one by its number; None if there is none."""
+        return next((line for line in self.lines if (line.depth, line.number) == (depth, number)), None)
 
-# The evaluations that a host may offer, the one to analyse with first, and the deepest search.
+
+# The evaluations that a host may offer, the one to analyse with first; the depths of a search; and how many bytes a
+# line may have before its LF: a host ends the session at a longer one.
 EVALUATIONS = ("Exchange", "Plain", "Hand")
 DEPTHS = range(1, 17)
+LINE_MAX = 65_535
 
 INFO = re.compile(
     r"info depth (\d+)(?: multipv (\d+))? score (?:cp (-?\d+)|mate (-?\d+)) pv(.*)"
@@ -89,6 +99,16 @@ def options_of(replies):
         elif kind == "combo":
             options[name] = tuple(rest.split(" var ")[1:])
     return options
+
+
+def defaults_of(replies):
+    """The values that the options have as a session begins, by the replies to `usi`."""
+    found = (match.groups() for match in map(OPTION.fullmatch, replies) if match)
+    return {
+        name: re.split(" (?:min|max|var) ", rest.removeprefix(" default "))[0]
+        for name, kind, rest in found
+        if kind in ("spin", "combo") and rest.startswith(" default ")
+    }
 
 
 def listed(words):
@@ -131,18 +151,21 @@ def want_option(offered, name, value):
 class Client:
     """A session. `command` is the program with its arguments; or `path` is a host's socket, where it
     waits up to `patience` seconds for the host to be there and to have room. Over a socket a session that
-    was cut off is begun anew, with the options and the position that it had. The reply to a line may take
-    `timeout` seconds, or as long as it takes where that is None."""
+    was cut off is begun anew, with the options and the position that it had; a host that does not offer those
+    raises `Lacking`. The reply to a line may take `timeout` seconds, or as long as it takes where that is None.
+    A `go` shows `lines` lines a depth, whatever the host's setup says; None leaves it to that."""
 
-    def __init__(self, command=None, path=None, patience=60.0, timeout=None):
+    def __init__(self, command=None, path=None, patience=60.0, timeout=None, lines=1):
         self.command, self.path, self.patience, self.timeout = command, path, patience, timeout
-        self.options, self.position = {}, "startpos"
+        self.options, self.defaults, self.position = {}, {}, "startpos"
+        if lines is not None:
+            self.options["MultiPV"] = lines
         self.process = self.socket = None
         self.name = path if command is None else command[0]
         self.connect()
 
     def connect(self):
-        """Starts the program, or connects to the host, and asks what it offers."""
+        """Starts the program, or connects to the host, asks what it offers, and sets the session's options."""
         self.close()
         self.unread = b""
         if self.command:
@@ -159,7 +182,7 @@ class Client:
                 self.socket.connect(self.path)
                 self.greet()
                 return
-            except TooSlow:
+            except (TooSlow, Lacking):
                 raise
             except (OSError, Gone) as why:
                 self.close()
@@ -168,7 +191,8 @@ class Client:
                 time.sleep(0.2)
 
     def greet(self):
-        """Asks who the host is and what it offers."""
+        """Asks who the host is and what it offers, and sets the options that the session has. Those that were never
+        set are what the first host began with, since another one may begin with others."""
         # A full host says so and ends, maybe before it is asked; the others answer.
         with contextlib.suppress(Gone):
             self.send("usi")
@@ -176,6 +200,25 @@ class Client:
         self.offered = options_of(replies)
         names = [reply.removeprefix("id name ") for reply in replies if reply.startswith("id name ")]
         self.title = names[0] if names else self.name
+        for name, value in {**self.defaults, **self.options}.items():
+            # Without the option there is one line. A depth that was never set matters to a `go` without one alone.
+            if name not in self.offered and (name, value) == ("MultiPV", 1):
+                continue
+            if name == "Depth" and name not in self.options and not is_number(value, self.offered.get(name, ())):
+                continue
+            with self.lacking():
+                want_option(self.offered, name, value)
+            self.send(f"setoption name {name} value {value}")
+        self.defaults = self.defaults or defaults_of(replies)
+
+    @contextlib.contextmanager
+    def lacking(self):
+        """Raises `Lacking`, and ends the session, for the `ValueError` of what the host does not offer."""
+        try:
+            yield
+        except ValueError as why:
+            self.close()
+            raise Lacking(f"{self.name}: {why}") from why
 
     def close(self):
         """Ends the session, and the program too where it does not end by that."""
@@ -204,8 +247,10 @@ class Client:
         return Gone(f"{self.name}: it has ended with {how}")
 
     def send(self, line):
-        """Sends one line, as it is."""
-        data = line.encode() + b"\n"
+        """Sends one line, as it is. Raises `Refused`, and sends nothing, where it is longer than a host takes."""
+        data = line.encode(errors="surrogateescape") + b"\n"
+        if len(data) > LINE_MAX + 1:
+            raise Refused(f"line too long: {len(data) - 1} bytes, and a host takes {LINE_MAX}")
         try:
             if self.process is not None:
                 while data:
@@ -241,7 +286,7 @@ class Client:
                 raise self.end_of()
             self.unread += data
         line, self.unread = self.unread.split(b"\n", 1)
-        return line.decode()
+        return line.decode(errors="replace")
 
     def read_until(self, word):
         """The replies up to the one that begins with the word, with that one."""
@@ -262,7 +307,9 @@ class Client:
         self.send(f"setoption name {name} value {value}")
 
     def want_depth(self, depth):
-        """Raises `ValueError` for a depth to which the host does not search."""
+        """Raises `ValueError` for a depth to which the host does not search; None is the session's own."""
+        if depth is None:
+            depth = self.options.get("Depth", self.defaults.get("Depth", DEPTHS[0]))
         want_depth(depth, self.offered.get("Depth", DEPTHS))
 
     def set_position(self, text):
@@ -278,19 +325,21 @@ class Client:
     def go(self, depth=None):
         """Searches the position, by default to the depth that is set. Raises `ValueError`, and sends nothing,
         where the host does not search to that depth."""
-        if depth is not None:
-            self.want_depth(depth)
+        self.want_depth(depth)
         self.send("go" if depth is None else f"go depth {depth}")
         replies = self.read_until("bestmove")
         words = replies[-1].split()
         lines = [line for line in map(line_of, replies) if line is not None]
-        return Answer(words[1], words[3] if len(words) > 3 else None, lines)
+        answer = Answer(words[1], words[3] if len(words) > 3 else None, lines)
+        if depth is not None and lines and not all(map(answer.line, range(1, int(depth) + 1))):
+            raise Lacking(f"{self.name}: an answer to go depth {depth} without an info line for each depth")
+        return answer
 
     def analyse(self, text, depth=None):
-        """The answer for a position. Over a socket it is asked for once more where the host went away. A depth
-        is refused as by `go`, before the position is sent."""
-        if depth is not None:
-            self.want_depth(depth)
+        """The answer for a position. Over a socket it is asked for once more where the host went away; `Lacking` is
+        raised where the next one does not offer what this session has. A depth is refused as by `go`, before the
+        position is sent."""
+        self.want_depth(depth)
         try:
             self.set_position(text)
             return self.go(depth)
@@ -300,8 +349,8 @@ class Client:
             if self.path is None:
                 raise
             self.connect()
-            for name, value in self.options.items():
-                self.send(f"setoption name {name} value {value}")
+            with self.lacking():
+                self.want_depth(depth)
             self.set_position(text)
             return self.go(depth)
 
@@ -357,23 +406,16 @@ def command_of(program, depth):
     return [program] if tried.returncode == 2 else words
 
 
-def client_of(arguments):
+def client_of(arguments, lines=1):
     """The client that the arguments ask for, with its evaluation set, which stands in `options["Eval"]`. Raises
-    `Gone` where the host has no such evaluation or does not search so deep."""
-    if arguments.socket:
-        client = Client(path=arguments.socket, timeout=arguments.timeout)
-    else:
-        client = Client(
-            command=command_of(arguments.program, arguments.depth), timeout=arguments.timeout
-        )
+    `Lacking` where the host has no such evaluation, does not search so deep, or does not show so many lines."""
+    command = None if arguments.socket else command_of(arguments.program, arguments.depth)
+    client = Client(command=command, path=arguments.socket, timeout=arguments.timeout, lines=lines)
     offered = client.offered.get("Eval", ())
     chosen = arguments.eval or next((name for name in EVALUATIONS if name in offered), "")
-    try:
+    with client.lacking():
         client.want_depth(arguments.depth)
         client.set_option("Eval", chosen)
-    except ValueError as why:
-        client.close()
-        raise Gone(f"{client.name}: {why}") from why
     return client
 
 

@@ -30,7 +30,7 @@ class Other(Client):
 
     def __init__(self, command, timeout):
         self.title = ""
-        super().__init__(command=command, timeout=timeout)
+        super().__init__(command=command, timeout=timeout, lines=None)
 
     def connect(self):
         self.name = f"the other engine, {self.command[0]}"

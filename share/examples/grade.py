@@ -42,7 +42,7 @@ def rows_of(client, sfen, depth, wanted):
         answer = client.analyse(text_of(sfen), depth)
     except Refused as why:
         return [row | {"error": str(why).split(":", 1)[0]}]
-    lines = [line for line in answer.lines if line.depth == depth]
+    lines = [line for line in answer.lines if line.depth == depth and line.number <= wanted]
     return [
         row
         | {
@@ -83,11 +83,9 @@ def main():
         return 1
     columns = COLUMNS if arguments.lines == 1 else [*COLUMNS[:2], "line", *COLUMNS[2:-1], "lead", "error"]
     refused = 0
-    with contextlib.closing(client_of(arguments)) as client:
+    with contextlib.closing(client_of(arguments, arguments.lines)) as client:
         if told := told_evaluation(client, arguments):
             print(f"grade.py: {told}", file=sys.stderr)
-        if arguments.lines > 1:
-            client.set_option("MultiPV", arguments.lines)
         out = csv.DictWriter(sys.stdout, columns, extrasaction="ignore", lineterminator="\n")
         out.writeheader()
         for number, sfen in enumerate(sfens, 1):

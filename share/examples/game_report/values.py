@@ -49,8 +49,8 @@ def for_black(value: Value, side: str) -> Value:
 
 
 def line_at(answer: Answer, depth: int) -> Optional[Line]:
-    """The info line of a depth; None where no move is legal."""
-    return answer.lines[depth - 1] if answer.lines else None
+    """The best move's info line of a depth; None where no move is legal."""
+    return answer.line(depth)
 
 
 def value_at(answer: Answer, depth: int) -> Value:

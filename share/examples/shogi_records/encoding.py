@@ -1,6 +1,7 @@
 """The text of a record: UTF-8 with or without its mark, UTF-16 by its mark, Shift-JIS, EUC-JP."""
 
 import codecs
+import os
 import re
 
 from .game import Unreadable
@@ -53,3 +54,13 @@ def text_of_bytes(data: bytes) -> str:
         return min(texts.values(), key=lambda text: len(HALF_WIDTH.findall(text)))
     furthest = max(("cp932", "euc_jp"), key=lambda encoding: stops[encoding])
     raise refusal(data, stops[furthest], furthest, "neither UTF-8 nor UTF-16 nor Shift-JIS nor EUC-JP")
+
+
+def text_of_name(name: str) -> str:
+    """The text of a word of the command line, as the name of a file, in one of these encodings. What is in none of them
+    is shown by its bytes."""
+    data = os.fsencode(name)
+    try:
+        return text_of_bytes(data)
+    except Unreadable:
+        return data.decode(errors="backslashreplace")

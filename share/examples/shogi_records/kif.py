@@ -91,7 +91,7 @@ class Reader:
 
     def read_head(self, text: str) -> None:
         """What a line of the head says. Most say nothing of the position."""
-        key, colon, value = text.replace(":", "：", 1).partition("：")
+        key, colon, value = re.fullmatch(r"([^：:]*)([：:]?)(.*)", text, re.DOTALL).groups()
         if text.startswith("|"):
             if not self.ranks:
                 self.board.squares = {}
