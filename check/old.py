@@ -1,6 +1,6 @@
 #!/usr/bin/env python3
 """Looks whether the program of the benchmark can still be laid over earlier commits by `bench/old`: at two of them it
-is compiled, without a proof, and run on no games. Then looks what `bench/old` and `bench/compare.py` refuse. Where the
+is compiled, without a proof, and run on no games. Then looks what `bench/old` and `bench/run` refuse. Where the
 history of the repository is not there, nothing is looked at. Its last line is `N passed, M failed`."""
 
 import os
@@ -13,7 +13,7 @@ from checks import TOP, Wrong, run_all, want
 
 START, LAST_PLY = "38c6383e", "75f117a3"
 OLD = os.path.join(TOP, "bench", "old")
-COMPARE = os.path.join(TOP, "bench", "compare.py")
+RUN = os.path.join(TOP, "bench", "run")
 # What a job prints that had no games: FNV-1a of no bytes.
 NO_GAMES = "0 bytes, digest cbf29ce484222325"
 
@@ -66,18 +66,18 @@ def old_refuses_by_name():
     want(ended(OLD)[0], 2, "no arguments")
 
 
-def compare_refuses_by_name():
+def run_refuses_by_name():
     with tempfile.TemporaryDirectory() as empty:
-        why = f"bench/compare.py: {empty} has no built program {name_of_program()}\n"
-        want(ended(COMPARE, empty, empty), (2, why), "a tree that is not built")
-    want(ended(COMPARE, TOP)[0], 2, "one tree")
+        why = f"bench/run: {empty} has no built program {name_of_program()}\n"
+        want(ended(RUN, empty, empty), (2, why), "a tree that is not built")
+    want(ended(RUN, TOP)[0], 2, "one tree")
 
 
 CHECKS = (
     the_program_compiles_at_the_start,
     the_program_compiles_before_the_last_ply,
     old_refuses_by_name,
-    compare_refuses_by_name,
+    run_refuses_by_name,
 )
 
 
