@@ -3,14 +3,16 @@
 they are proved and run: everything from the first `use` of a file on; whether docs/DEFINITIONS.md has the
 tables of `check/definitions.py`; and whether docs/PROOFS.md counts definitions as `check/trusted.py` does.
 With `--write` it puts all of these there. Then looks whether README.md names the toolchain as `rt version`
-does, the command that runs the program and the one that tests it, and whether each link of a page leads to a
-file and a heading that are there. Its last line is `N passed, M failed`."""
+does, the command that runs the program and the one that tests it, whether each link of a page leads to a file
+and a heading that are there, and whether what a page cites of the code is there (`check/cited.py`). Its last line
+is `N passed, M failed`."""
 
 import os
 import re
 import subprocess
 import sys
 
+from cited import missing
 from definitions import PAGE, page_with, tables
 from trusted import counts
 
@@ -123,11 +125,12 @@ def main():
         print(f"README.md names the toolchain {named}, and rt version prints {toolchain}")
     for page in pages():
         dead = [link for link in LINK.findall(ANY_BLOCK.sub("", read(page))) if leads_nowhere(page, link)]
-        if dead:
-            failed += 1
-            print(f"{os.path.relpath(page, TOP)} has links that lead nowhere: {', '.join(dead)}")
-        else:
-            passed += 1
+        for is_wrong, what in (dead, "has links that lead nowhere"), (list(missing(page)), "cites what is not there"):
+            if is_wrong:
+                failed += 1
+                print(f"{os.path.relpath(page, TOP)} {what}: {'; '.join(is_wrong)}")
+            else:
+                passed += 1
     print(f"{passed} passed, {failed} failed")
     return 1 if failed else 0
 
