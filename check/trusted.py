@@ -1,7 +1,7 @@
 #!/usr/bin/env python3
 """Counts the definitions that a reader trusts for a promise: those of specs/ that its words stand on, one
 through another, and their lines without comments. Its arguments are names of definitions, as a module of
-specs/ and a word: `host_core.Headline.PrefixOfReplies`. Without any, the words of the headline."""
+specs/ and a word: `host_core.Headline.PrefixOfReplies`. Without any, the words of the law behind the program."""
 
 import glob
 import os
@@ -9,8 +9,16 @@ import re
 import sys
 
 TOP = os.path.dirname(os.path.dirname(os.path.abspath(__file__)))
-HEADLINE = ("host_core.Headline.PrefixOfReplies", "host_core.Headline.AllReplies")
-REPLIES = ("usi_session.WholeStream.replies",)
+LAW = ("host_core.Headline.PrefixOfReplies", "host_core.Headline.AllReplies")
+# The sentence of docs/PROOFS.md: each promise by its name there, and the definitions that say it.
+COUNTED = (
+    ("The law stands on", LAW),
+    (", the replies alone on", ("usi_session.WholeStream.replies",)),
+    ("; `serve` stands on", ("socket_loop.Promises.ServesTurns",)),
+    (", its [whole] on", ("socket_loop.Life.Lives",)),
+    (", `stdio` [ok] on", ("usi_stdio.Stdio.IsServed",)),
+    (" and `replay` [ok] on", ("usi_replay.Replayed.Replays",)),
+)
 BEGINS = re.compile(r"(?:(?:unfoldable|abbrev|data|record|codata|pub|inline)\s+)+«?([^\s({:»]+)")
 IMPORT = re.compile(r"^use Rattle\.(\w+)\.specs\.([\w.]+)\.\{(.*)\}$")
 WORD = re.compile(r"[\w◌⊤⊥≡≤<>+*/^∷%&|=-]+")
@@ -72,17 +80,21 @@ def stood_on(words, found, names):
     return trusted(wanted, found, names)
 
 
-def counts():
-    """How many definitions the headline stands on and how many lines they have, and the same of the replies."""
+def told():
+    """The sentence of docs/PROOFS.md: how many definitions each promise stands on, and how many lines they have."""
     found, names = all_definitions()
-    for words in (HEADLINE, REPLIES):
+    sentence, units = "", (" definitions", " lines of `specs/`")
+    for name, words in COUNTED:
         seen = stood_on(words, found, names)
-        yield len(seen), sum(len(found[it]) for it in seen)
+        lines = sum(len(found[it]) for it in seen)
+        sentence += f"{name} {len(seen):,}{units[0]} ({lines:,}{units[1]})"
+        units = ("", "")
+    return f"{sentence}."
 
 
 def main():
     found, names = all_definitions()
-    seen = stood_on(sys.argv[1:] or HEADLINE, found, names)
+    seen = stood_on(sys.argv[1:] or LAW, found, names)
     by_module = {}
     for one in seen:
         by_module.setdefault(one[:2], []).append(one)
