@@ -14,14 +14,9 @@ PROGRAM = os.path.abspath(
     sys.argv[1] if len(sys.argv) > 1 else os.path.join(TOP, "crates", "usi_host", "out", "usi_host")
 )
 
-USI = (
-    b"id name Shared Shogi Host\n"
-    b"id author Shared Shogi Host Team\n"
-    b"option name Depth type spin default 3 min 1 max 16\n"
-    b"option name Eval type combo default Plain var Plain var Hand\n"
-    b"option name MultiPV type spin default 1 min 1 max 8\n"
-    b"usiok\n"
-)
+# The reply to `usi` without the words of a setup; `check/readmes.py` compares it with docs/PROTOCOL.md and the rows.
+with open(os.path.join(TOP, "check", "usi.txt"), "rb") as file:
+    USI = file.read()
 DEPTH_ONE = b"info depth 1 score cp 0 pv 1g1f\n"
 DEPTH_THREE = (
     DEPTH_ONE
@@ -40,6 +35,20 @@ signal.signal(signal.SIGINT, signal.default_int_handler)
 
 class Wrong(Exception):
     """What was seen is not what was wanted."""
+
+
+def usi_of(depth=3, most=16, evaluation=b"Plain", lines=1):
+    """The reply to `usi` under a setup."""
+    offered = b" var Exchange" if evaluation == b"Exchange" else b""
+    reply = USI
+    for was, now in (
+        (b"Depth type spin default 3 min 1 max 16\n", b"Depth type spin default %d min 1 max %d\n" % (depth, most)),
+        (b"default Plain var Plain var Hand\n", b"default %s var Plain var Hand%s\n" % (evaluation, offered)),
+        (b"MultiPV type spin default 1 ", b"MultiPV type spin default %d " % lines),
+    ):
+        want(reply.count(was), 1, f"{was} in the reply to usi")
+        reply = reply.replace(was, now)
+    return reply
 
 
 def want(seen, wanted, what):

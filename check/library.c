@@ -1,5 +1,6 @@
 /* Tries the library from C: what each call refuses, and a dialogue while the system refuses one block of
- * memory after another. It is linked with --wrap=malloc,--wrap=realloc,--wrap=free. */
+ * memory after another. It is linked with --wrap=malloc,--wrap=realloc,--wrap=free. Its argument is the reply
+ * to `usi` under the setup that try_setup opens a session with. */
 #include <pthread.h>
 #include <stdio.h>
 #include <stdlib.h>
@@ -49,15 +50,10 @@ void __wrap_free(void *block) {
     __real_free(block);
 }
 
-/* What is written to a session under a setup, and what it answers: no search is deeper than 2. */
+/* What is written to a session under a setup, and what it answers behind the reply to `usi`: no search is
+ * deeper than 2. */
 static const char SETUP_SCRIPT[] = "usi\ngo\ngo depth 3\nquit\n";
 static const char SETUP_REPLY[] =
-    "id name Shared Shogi Host\n"
-    "id author Shared Shogi Host Team\n"
-    "option name Depth type spin default 1 min 1 max 2\n"
-    "option name Eval type combo default Exchange var Plain var Hand var Exchange\n"
-    "option name MultiPV type spin default 1 min 1 max 8\n"
-    "usiok\n"
     "info depth 1 score cp 0 pv 1g1f\n"
     "bestmove 1g1f\n"
     "info depth 1 score cp 0 pv 1g1f\n"
@@ -148,15 +144,17 @@ static void try_wrong_setups(void) {
     WANT("blocks", blocks, 0);
 }
 
-static void try_setup(void) {
+static void try_setup(const char *usi) {
     struct usi_session session = USI_SESSION_CLOSED;
-    char reply[sizeof SETUP_REPLY + 100];
+    char reply[sizeof SETUP_REPLY + 1000];
+    size_t first = strlen(usi);
     WANT("open", usi_open_with_setup(&session, 4096, 1, 2, 1, USI_EVAL_EXCHANGE), USI_OK);
     WANT("feed", usi_feed(&session, SETUP_SCRIPT, strlen(SETUP_SCRIPT)), USI_OK);
     while (usi_look(&session).is_pending) WANT("work", usi_work(&session, 1000).status, USI_OK);
     struct usi_answer taken = usi_take(&session, reply, sizeof reply);
-    WANT("length", taken.count, strlen(SETUP_REPLY));
-    WANT("reply", memcmp(reply, SETUP_REPLY, taken.count), 0);
+    WANT("length", taken.count, first + strlen(SETUP_REPLY));
+    WANT("usi", memcmp(reply, usi, first), 0);
+    WANT("reply", memcmp(reply + first, SETUP_REPLY, taken.count - first), 0);
     WANT("close", usi_close(&session), USI_OK);
     WANT("blocks", blocks, 0);
 }
@@ -257,13 +255,14 @@ static void try_threads(void) {
     if (step.length < 100) WANT("length", step.length, 100);
 }
 
-int main(void) {
+int main(int count, char **words) {
+    WANT("arguments", count, 2);
     try_texts();
     try_threads();
     try_closed();
     try_refusals();
     try_wrong_setups();
-    try_setup();
+    try_setup(words[1]);
     try_script(1, 1);
     try_script(UINT64_MAX, 50);
     try_memory();

@@ -7,7 +7,7 @@ import subprocess
 import sys
 import tempfile
 
-from checks import DEPTH_THREE, TOP, Wrong, run_all, want
+from checks import DEPTH_THREE, TOP, Wrong, run_all, usi_of, want
 
 LIBRARY = os.path.join(TOP, "share", "library")
 OUT = os.path.join(TOP, "crates", "usi_library", "out")
@@ -48,7 +48,8 @@ def calls_of_c():
         program = compiled(
             folder, os.path.join(TOP, "check", "library.c"), "-pthread", "-Wl,--wrap=malloc,--wrap=realloc,--wrap=free"
         )
-        ran = subprocess.run([program], stdout=subprocess.PIPE, timeout=300)
+        usi = usi_of(depth=1, most=2, evaluation=b"Exchange")
+        ran = subprocess.run([program, usi], stdout=subprocess.PIPE, timeout=300)
     want((ran.returncode, ran.stdout), (0, b"refused\n"), "what the calls answer")
 
 
@@ -119,13 +120,7 @@ def setups_of_python():
     with Session(LOADED, setup=Setup(depth=1, max_depth=1, lines=2, eval=HAND)) as session:
         lines = b"usi\nsetoption name Depth value 9\nsetoption name MultiPV value 1\ngo depth 5\ngo\n"
         said = b"".join(session.answers(lines))
-    wanted = (
-        b"id name Shared Shogi Host\nid author Shared Shogi Host Team\n"
-        b"option name Depth type spin default 1 min 1 max 1\n"
-        b"option name Eval type combo default Hand var Plain var Hand\n"
-        b"option name MultiPV type spin default 2 min 1 max 8\n"
-        b"usiok\n"
-    )
+    wanted = usi_of(depth=1, most=1, evaluation=b"Hand", lines=2)
     wanted += 2 * b"info depth 1 score cp 0 pv 1g1f\nbestmove 1g1f\n"
     want(said, wanted, "what a session under a setup says")
 

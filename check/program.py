@@ -14,7 +14,7 @@ import sys
 import tempfile
 import time
 
-from checks import DEPTH_ONE, DEPTH_THREE, IS_UNPROVED, PROGRAM, TOP, USI, Wrong, run_all, want
+from checks import DEPTH_ONE, DEPTH_THREE, IS_UNPROVED, PROGRAM, TOP, USI, Wrong, run_all, usi_of, want
 
 # The longest that a run may take, in seconds.
 PATIENCE = 60
@@ -298,19 +298,6 @@ def a_depth_above_the_greatest_is_refused():
         said = b"error: --depth %d is above --max-depth %d" % (depth, most) + POINTER
         for command in (["stdio"], ["replay"], ["serve", "--socket", "s"]):
             want(run([*command, *words]), (2, b"", said), f"{command} {words}")
-
-
-def usi_of(depth=3, most=16, evaluation=b"Plain", lines=1):
-    """The reply to `usi` under a setup: docs/PROTOCOL.md."""
-    offered = b" var Exchange" if evaluation == b"Exchange" else b""
-    return (
-        b"id name Shared Shogi Host\n"
-        b"id author Shared Shogi Host Team\n"
-        b"option name Depth type spin default %d min 1 max %d\n"
-        b"option name Eval type combo default %s var Plain var Hand%s\n"
-        b"option name MultiPV type spin default %d min 1 max 8\n"
-        b"usiok\n"
-    ) % (depth, most, evaluation, offered, lines)
 
 
 def usi_shows_the_setup():

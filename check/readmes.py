@@ -4,8 +4,8 @@ they are proved and run: everything from the first `use` of a file on; whether d
 tables of `check/definitions.py`; and whether docs/PROOFS.md counts definitions as `check/trusted.py` does.
 With `--write` it puts all of these there. Then looks whether README.md names the toolchain as `rt version`
 does, the command that runs the program and the one that tests it, whether each link of a page leads to a file
-and a heading that are there, and whether what a page cites of the code is there (`check/cited.py`). Its last line
-is `N passed, M failed`."""
+and a heading that are there, and whether what a page cites of the code is there (`check/cited.py`); and whether
+docs/PROTOCOL.md and the rows have the reply to `usi` of check/usi.txt. Its last line is `N passed, M failed`."""
 
 import os
 import re
@@ -28,6 +28,15 @@ LINK = re.compile(r"\]\(([^)\s]+)\)")
 PROOFS = os.path.join(TOP, "docs", "PROOFS.md")
 # What docs/PROOFS.md says of the definitions that are to be trusted.
 COUNTED = re.compile(r"The law stands on .*? `replay` \[ok\] on [^.]*\.")
+
+# What has the reply to `usi` too: the page, and what tests want that are written in Rattle or run by the toolchain.
+REPLIES = (
+    "docs/PROTOCOL.md",
+    "crates/test_rows/data/dialogues.txt",
+    "crates/test_support/src/rows.rt",
+    "crates/usi_host/stdout",
+)
+REPLY = re.compile(r"^id name .*?^usiok\n", re.M | re.S)
 
 
 def read(path):
@@ -76,6 +85,12 @@ def counted():
     return was, COUNTED.sub(lambda _: told(), was) if COUNTED.search(was) else None
 
 
+def has_reply(path):
+    """Whether each reply to `usi` in the file, and at least one, is that of check/usi.txt."""
+    text = re.sub(r"^> |^.*= \"(?=id name )", "", read(os.path.join(TOP, path)), flags=re.M)
+    return set(REPLY.findall(text)) == {read(os.path.join(TOP, "check", "usi.txt"))}
+
+
 def is_kept(path, was, wanted):
     """Whether the page is as it is wanted; with `--write` it is made so."""
     if wanted is not None and was != wanted and "--write" in sys.argv[1:]:
@@ -111,6 +126,12 @@ def main():
         else:
             failed += 1
             print(f"README.md does not name `make {goal}`, or the Makefile has no such goal")
+    for path in REPLIES:
+        if has_reply(path):
+            passed += 1
+        else:
+            failed += 1
+            print(f"{path} has another reply to usi than check/usi.txt")
     toolchain = subprocess.run(["rt", "version"], capture_output=True, text=True, check=True).stdout.strip()
     named = re.findall(r"`(rattle-kit[^`]*)`", readme)
     if toolchain in named:

@@ -21,7 +21,7 @@ import tempfile
 import time
 
 import refusals
-from checks import DEPTH_ONE, DEPTH_THREE, PROGRAM, USI, Wrong, run_all, want
+from checks import DEPTH_ONE, DEPTH_THREE, PROGRAM, USI, Wrong, run_all, usi_of, want
 
 # The longest that one step may take, in seconds.
 PATIENCE = 40
@@ -1078,9 +1078,7 @@ def a_session_begins_under_the_setup():
     words = ("--depth", "1", "--max-depth", "2", "--eval", "exchange")
     with host(*words) as running:
         lines = b"usi\ngo\ngo depth 3\nquit\n"
-        offered = USI.replace(b"default 3 min 1 max 16", b"default 1 min 1 max 2")
-        exchange = b"default Exchange var Plain var Hand var Exchange"
-        offered = offered.replace(b"default Plain var Plain var Hand", exchange)
+        offered = usi_of(depth=1, most=2, evaluation=b"Exchange")
         first = b"info depth 1 score cp 0 pv 1g1f\n"
         second = b"info depth 2 score cp 0 pv 1g1f 1a1b\n"
         answer = offered + first + b"bestmove 1g1f\n" + first + second + b"bestmove 1g1f ponder 1a1b\n"
