@@ -14,9 +14,18 @@ install -D -m 755 "$program" "$root/bin/usi_host"
 install -D -m 644 share/usi_host.1 "$root/share/man/man1/usi_host.1"
 install -D -m 644 share/usi_host.bash "$root/share/bash-completion/completions/usi_host"
 install -D -m 644 share/_usi_host "$root/share/zsh/site-functions/_usi_host"
-install -D -m 644 -t "$doc" LICENSE SECURITY.md docs/PROTOCOL.md docs/OPERATING.md deploy/usi_host.service \
-    deploy/usi_host@.service deploy/haproxy.cfg
+install -D -m 644 -t "$doc" LICENSE deploy/usi_host.service deploy/usi_host@.service deploy/haproxy.cfg
+install -D -m 644 -t "$doc/pictures" docs/pictures/*.png docs/pictures/game.svg
 install -D -m 755 -t "$doc/examples" share/examples/*.py
+# The pages lie beside each other there, and the examples below them. What else they link to is no link there.
+for page in SECURITY docs/GUIDE docs/PROTOCOL docs/OPERATING docs/TROUBLESHOOTING share/examples/README; do
+    to=$doc/${page##*/}.md up=
+    case $page in share/*) to=$doc/examples/README.md up=../ ;; esac
+    sed -E "s#\]\((\.\./)*(docs/)?((SECURITY|GUIDE|PROTOCOL|OPERATING|TROUBLESHOOTING)\.md)#](:$up\3#g
+        s#\]\((\.\./)+share/(examples/)#](:\2#g; s#\]\((\#|pictures/[a-z]+\.(png|svg)\))#](:\1#g
+        s#\[([^]]*)\]\([^:)][^)]*\)#\1#g; s#\]\(:#](#g" "$page.md" >"$to"
+    chmod 644 "$to"
+done
 for package in game_report shogi_records; do
     install -D -m 644 -t "$doc/examples/$package" share/examples/$package/*.py
 done

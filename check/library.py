@@ -2,12 +2,14 @@
 """Tries the library for C that `make library` makes: from C, whose programs are compiled here, and from
 Python. Its last line is `N passed, M failed`."""
 
+import glob
 import os
 import subprocess
 import sys
 import tempfile
 
 from checks import DEPTH_THREE, TOP, Wrong, run_all, usi_of, want
+from readmes import dead_links
 
 LIBRARY = os.path.join(TOP, "share", "library")
 OUT = os.path.join(TOP, "crates", "usi_library", "out")
@@ -67,11 +69,13 @@ def names_of_the_libraries():
 
 
 def installed():
-    """A program is built by what pkg-config says of an installed library."""
+    """A program is built by what pkg-config says of an installed library; what an installed page links to is there."""
     with tempfile.TemporaryDirectory() as folder:
         prefix = os.path.join(folder, "a prefix")
         words = ["make", "-s", "-C", TOP, "install", f"PREFIX={prefix}"]
         subprocess.run(words, check=True, stdout=subprocess.DEVNULL)
+        for page in glob.glob(os.path.join(prefix, "share", "doc", "usi_host", "**", "*.md"), recursive=True):
+            want(dead_links(page), [], f"links of {page} that lead nowhere")
         config = os.path.join(prefix, "lib", "pkgconfig", "usi.pc")
         with open(config, encoding="utf-8") as file:
             want(file.readline(), f"prefix={prefix}\n", "usi.pc")

@@ -79,6 +79,11 @@ def leads_nowhere(page, link):
     return not os.path.exists(target) or (anchor != "" and anchor not in anchors(target))
 
 
+def dead_links(page):
+    """The links of a page that lead nowhere."""
+    return [link for link in LINK.findall(ANY_BLOCK.sub("", read(page))) if leads_nowhere(page, link)]
+
+
 def counted():
     """docs/PROOFS.md, and the same with the counts of now."""
     was = read(PROOFS)
@@ -140,8 +145,8 @@ def main():
         failed += 1
         print(f"README.md names the toolchain {named}, and rt version prints {toolchain}")
     for page in pages():
-        dead = [link for link in LINK.findall(ANY_BLOCK.sub("", read(page))) if leads_nowhere(page, link)]
-        for is_wrong, what in (dead, "has links that lead nowhere"), (list(missing(page)), "cites what is not there"):
+        dead, absent = dead_links(page), list(missing(page))
+        for is_wrong, what in (dead, "has links that lead nowhere"), (absent, "cites what is not there"):
             if is_wrong:
                 failed += 1
                 print(f"{os.path.relpath(page, TOP)} {what}: {'; '.join(is_wrong)}")
