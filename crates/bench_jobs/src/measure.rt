@@ -12,6 +12,8 @@ use std::alloc::Global;
 use std::time::Instant;
 use std::{fmt, io};
 use test_facade::{OpaqueSession, table_of};
+use usi_lines::DEPTH_MAX;
+use usi_texts::DEPTH_DEFAULT;
 
 /// A count as it is printed: a number, or `too-many` from 2^64 up.
 #[derive(Clone, Copy, Debug)]
@@ -53,9 +55,15 @@ fn time_perft(rt: &HostRuntime, p: &Position, depth: u8) -> io::Result<()> {
 }
 
 /// Searches over the memo, and prints how long that took.
-fn time_search<M: Memo>(rt: &HostRuntime, p: &Position, depth: u8, memo: &mut M) -> io::Result<()> {
+fn time_search<M: Memo>(
+    rt: &HostRuntime,
+    p: &Position,
+    eval: Eval,
+    depth: u8,
+    memo: &mut M,
+) -> io::Result<()> {
     let start = Instant::now(rt)?;
-    let found = search(p, Eval::Plain, depth.min(16), memo);
+    let found = search(p, eval, depth.min(16), memo);
     let seconds = start.elapsed(rt)?.as_secs_f64();
     let Found { value, best, steps } = found;
     let best = BestMove(best);
@@ -72,12 +80,26 @@ fn sent_lines(alloc: Global, lines: &[u8]) -> Result<Vec<u8>> {
     Ok(sent)
 }
 
+/// Sends a session lines.
+fn send(session: &mut OpaqueSession<Global>, lines: &[u8]) -> Result<()> {
+    let fed = session.feed(lines);
+    fed.map_err(|_| anyhow!("a session is not heard"))
+}
+
+/// A session that offers each evaluation, and begins under `Plain`.
+fn session_of<M: Memo>(alloc: Global, memo: &mut M) -> Result<OpaqueSession<Global>> {
+    let made = OpaqueSession::under(alloc, DEPTH_DEFAULT, DEPTH_MAX, 1, Eval::Exchange);
+    let mut session = made.map_err(|_| anyhow!("there is no setup of these numbers"))?;
+    send(&mut session, b"setoption name Eval value Plain\n")?;
+    session.work(memo, u64::MAX)?;
+    Ok(session)
+}
+
 /// How many steps a session over the memo has made each time that it wrote something. It makes one at a time.
 fn steps_of<M: Memo>(alloc: Global, lines: &[u8], memo: &mut M) -> Result<Vec<u64>> {
-    let mut session = OpaqueSession::new(alloc);
+    let mut session = session_of(alloc, memo)?;
     let sent = sent_lines(alloc, lines)?;
-    let fed = session.feed(sent.as_slice());
-    fed.map_err(|_| anyhow!("a session is not heard"))?;
+    send(&mut session, sent.as_slice())?;
     let mut counts = Vec::new(alloc);
     let mut made = 0u64;
     for _ in 0..u64::MAX {
@@ -110,9 +132,10 @@ fn answer_over<M: Memo>(rt: &HostRuntime, request: &Request<'_>, memo: &mut M) -
         Request::Perft { depth, position } => time_perft(rt, position, *depth)?,
         Request::Search {
             depth,
+            eval,
             position,
             ..
-        } => time_search(rt, position, *depth, memo)?,
+        } => time_search(rt, position, *eval, *depth, memo)?,
         Request::Steps { lines, .. } => count_steps(rt, lines, memo)?,
     }
     Ok(())

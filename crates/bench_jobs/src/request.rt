@@ -1,6 +1,7 @@
 //! What a line of the job `measure` asks for.
 
 use shogi_core::{Position, PositionFault};
+use shogi_eval::Eval;
 use shogi_sfen::{SfenFault, read_number, read_position, words};
 use std::fmt;
 
@@ -21,11 +22,12 @@ pub enum Request<'a> {
         depth: u8,
         position: Position,
     },
-    /// Search for the value and the best move over a new table of so many entries, or over none where
-    /// they are 0.
+    /// Search for the value and the best move under an evaluation, over a new table of so many entries, or
+    /// over none where they are 0.
     Search {
         depth: u8,
         entries: usize,
+        eval: Eval,
         position: Position,
     },
     /// Count the steps of a session over such a table. It is sent these lines, each but the last ended by `;`.
@@ -107,6 +109,17 @@ fn read_entries(word: Option<&[u8]>) -> Result<usize, Refusal> {
     }
 }
 
+/// The evaluation whose name begins the text, and what follows; `Plain` where none does.
+fn read_eval(text: &[u8]) -> (Eval, &[u8]) {
+    let mut rest = words(text);
+    match rest.next() {
+        Some(b"Plain") => (Eval::Plain, rest.rest()),
+        Some(b"Hand") => (Eval::Hand, rest.rest()),
+        Some(b"Exchange") => (Eval::Exchange, rest.rest()),
+        _ => (Eval::Plain, text),
+    }
+}
+
 /// The position, where no word stands in the text after it.
 fn alone(position: Position, text: &[u8]) -> Result<Position, Refusal> {
     match words(text).next() {
@@ -141,10 +154,12 @@ pub fn read(line: &str) -> Result<Request<'_>, Refusal> {
         Some(b"search") => {
             let depth = read_depth(rest.next())?;
             let entries = read_entries(rest.next())?;
-            let position = read_place(rest.rest())?;
+            let (eval, place) = read_eval(rest.rest());
+            let position = read_place(place)?;
             Ok(Request::Search {
                 depth,
                 entries,
+                eval,
                 position,
             })
         }

@@ -1,5 +1,5 @@
 -- A move on the board that takes nothing and does not promote, and a reply that lets it be, may be made in either order.
-use Rattle.std.proofs.Common.{◌≡◌, ℕ, ℤ, pos, ◌+◌, ◌<◌, ◌+ℤ◌, true, false, Option, Some, None, refl, sym, ap, subst, ◌∙◌, arith, inl, inr, set, length, length-set, get_or-set_same, get_or-set_other}
+use Rattle.std.proofs.Common.{◌≡◌, ℕ, ℤ, pos, ◌+◌, ◌<◌, ◌+ℤ◌, Bool, true, false, Option, Some, None, refl, sym, ap, subst, ◌∙◌, arith, inl, inr, set, length, length-set, get_or-set_same, get_or-set_other}
 use Rattle.std.proofs.lemmas.Bool.{and_left, both_ways}
 use Rattle.std.proofs.lemmas.Int.{ints}
 use Rattle.std.proofs.lemmas.List.{set_comm}
@@ -22,7 +22,7 @@ use Rattle.shogi_replies.proofs.ReplyLaws.{left_board, legal_own, moved_own, oth
 use Rattle.shogi_eval.specs.declared.eval.Eval.{Eval}
 use Rattle.shogi_eval.specs.Material.{material_of, promotion_gain, taken_gain}
 use Rattle.shogi_eval.proofs.Gains.{gain_of}
-use Rattle.dull_moves.specs.Dull.{IsOff, IsOnSquares, IsWorthAtMost, Survives, after_reply, lifted, passed, placed}
+use Rattle.dull_moves.specs.Dull.{IsOff, IsOnSquares, ReplySuffices, IsWorthAtMost, Survives, after_reply, lifted, passed, placed}
 use Rattle.dull_moves.proofs.Commuting.{one_by_two, other_way, position, stands}
 use Rattle.dull_moves.proofs.Materials.{material_both, move_valid}
 use Rattle.dull_moves.proofs.Unchecked.{unchecked_by}
@@ -130,14 +130,14 @@ material_board p e a b r v shut ha hb there lm bare lr off apart l =
 -- ---- what the move is worth
 
 -- no more than what is left, if that is worth so much where it is valid and its material is that after a pass and the reply
-pub quiet_dull : (p : Shogi) (e : Eval) (a b : ℕ) (r : Move) (t : ℤ) → IsValid p → in_check p.cells p.side ≡ false → a < 81 → b < 81 → IsOnSquares r → is_legal p (Board a b false) ≡ true → piece_at p.cells b ≡ None → is_legal (passed p) r ≡ true → is_pawn_drop r ≡ false → IsOff r a → Survives r b
+pub quiet_dull : (quiet_only : Bool) (p : Shogi) (e : Eval) (depth a b : ℕ) (r : Move) (t : ℤ) → ReplySuffices quiet_only e depth → IsValid p → in_check p.cells p.side ≡ false → a < 81 → b < 81 → IsOnSquares r → is_legal p (Board a b false) ≡ true → piece_at p.cells b ≡ None → is_legal (passed p) r ≡ true → is_pawn_drop r ≡ false → IsOff r a → Survives r b
     → is_lined_with_king (after_reply p r).cells (opponent_of p.side) a ≡ false → IsHarmless (after_reply p r).cells (opponent_of p.side) (piece_at p.cells a) b
-    → (IsValid (placed (lifted (after_reply p r) a) (piece_at p.cells a) b) → material_of (placed (lifted (after_reply p r) a) (piece_at p.cells a) b) e ≡ material_of (after_reply p r) e → AreAtMost (placed (lifted (after_reply p r) a) (piece_at p.cells a) b) e t)
-    → IsWorthAtMost p e t (Board a b false)
-quiet_dull p e a b r t v shut ha hb there lm bare lr plain off spared free far low =
+    → (IsValid (placed (lifted (after_reply p r) a) (piece_at p.cells a) b) → material_of (placed (lifted (after_reply p r) a) (piece_at p.cells a) b) e ≡ material_of (after_reply p r) e → AreAtMost (placed (lifted (after_reply p r) a) (piece_at p.cells a) b) e depth t)
+    → IsWorthAtMost p e depth t (Board a b false)
+quiet_dull quiet_only p e depth a b r t told v shut ha hb there lm bare lr plain off spared free far low =
     let l : is_legal (after p (Board a b false)) r ≡ true = still_legal_board p a b r v ha hb there lm lr plain off spared free far in
     let same : after (after p (Board a b false)) r ≡ placed (lifted (after_reply p r) a) (piece_at p.cells a) b = commute_board p a b r bare off spared.0 in
     let vn : IsValid (after (after p (Board a b false)) r) = move_valid (after p (Board a b false)) r (move_valid p (Board a b false) v (ha, hb) lm) there l in
-    reply_at_most p e (Board a b false) r t (ha, hb) there l
-    (subst (λ (q : Shogi). AreAtMost q e t) (sym same) (low (subst IsValid same vn)
+    reply_at_most quiet_only p e depth (Board a b false) r t told (ha, hb) there l
+    (subst (λ (q : Shogi). AreAtMost q e depth t) (sym same) (low (subst IsValid same vn)
     (ap (λ (q : Shogi). material_of q e) (sym same) ∙ material_board p e a b r v shut ha hb there lm bare lr off spared.0 l)))

@@ -30,7 +30,7 @@ use Rattle.shogi_eval.specs.Material.{material_of}
 use Rattle.shogi_eval.proofs.Gains.{gain_of}
 use Rattle.minimax.specs.Minimax.{lost_value}
 use Rattle.dull_moves.specs.declared.moves.DullMoves.{DullMoves}
-use Rattle.dull_moves.specs.Dull.{AreDull, AreIdle, AreNonInterfering, DropsAreWorthAtMost, IsOnSquares, IsIdle, IsOff, IsQuietThere, IsUnseen, IsWorthAtMost, LetsBe, QuietsAreWorthAtMost, Survives, after_reply, drops_of, lifted, passed, placed}
+use Rattle.dull_moves.specs.Dull.{AreDull, AreIdle, AreNonInterfering, DropsAreWorthAtMost, IsOnSquares, IsIdle, IsOff, IsQuietThere, ReplySuffices, IsUnseen, IsWorthAtMost, LetsBe, QuietsAreWorthAtMost, Survives, after_reply, drops_of, lifted, passed, placed}
 use Rattle.dull_moves.proofs.BoardMoves.{quiet_dull}
 use Rattle.dull_moves.proofs.Commuting.{commute, stands}
 use Rattle.dull_moves.proofs.Idle.{board_parts, drop_parts, none_is, put_on, tame}
@@ -84,9 +84,9 @@ spared_among r shut touched both free among set spared join fits meet within n h
 
 -- ---- a drop
 
-pub dull : (p : Shogi) (e : Eval) (kind : Kind) (b : ℕ) (r : Move) (gains king squares shut : ℕ) (t : ℤ) → IsValid p → in_check p.cells p.side ≡ false → b < 81 → IsOnSquares r → is_legal p (Drop kind b) ≡ true → is_legal (passed p) r ≡ true → is_pawn_drop r ≡ false → Survives r b → has_bit shut b ≡ false
-    → IsQuietThere (after_reply p r) e gains king squares shut → IsIdle (after_reply p r) e gains king squares (dropped (after_reply p r).side kind) b → lost_value 1 ≤ℤ t → (material_of (after_reply p r) e +ℤ pos gains) ≤ℤ t → IsWorthAtMost p e t (Drop kind b)
-dull p e kind b r gains king squares shut t v safe on there lm lr plain spared off quiet idle low room =
+pub dull : (quiet_only : Bool) (depth : ℕ) (p : Shogi) (e : Eval) (kind : Kind) (b : ℕ) (r : Move) (gains king squares shut : ℕ) (t : ℤ) → ReplySuffices quiet_only e depth → IsValid p → in_check p.cells p.side ≡ false → b < 81 → IsOnSquares r → is_legal p (Drop kind b) ≡ true → is_legal (passed p) r ≡ true → is_pawn_drop r ≡ false → Survives r b → has_bit shut b ≡ false
+    → IsQuietThere quiet_only (after_reply p r) e gains king squares shut → IsIdle quiet_only (after_reply p r) e gains king squares (dropped (after_reply p r).side kind) b → lost_value 1 ≤ℤ t → (material_of (after_reply p r) e +ℤ pos gains) ≤ℤ t → IsWorthAtMost p e depth t (Drop kind b)
+dull quiet_only depth p e kind b r gains king squares shut t told v safe on there lm lr plain spared off quiet idle low room =
     let v0 : IsValid (passed p) = passed_valid p v safe in
     let vq : IsValid (after_reply p r) = move_valid (passed p) r v0 there lr in
     let be : LetsBe p kind b r = record {
@@ -104,14 +104,14 @@ dull p e kind b r gains king squares shut t v safe on there lm lr plain spared o
     let little : gain_of p e (Drop kind b) ≤ℤ pos 0 = drop_little e kind in
     let here : material_of (after (after p (Drop kind b)) r) e ≡ material_of (after_drop (after_reply p r) kind b) e = ap (λ (q : Shogi). material_of q e) same in
     let less : (material_of (after_drop (after_reply p r) kind b) e +ℤ pos gains) ≤ℤ t = omega (arith, ints, moved, little, here, room) in
-    let calm : IsTame (after_drop (after_reply p r) kind b) e t = tame (after_reply p r) e gains king squares shut (dropped (after_reply p r).side kind) (hands_after (after_reply p r).hands (after_reply p r).cells (after_reply p r).side (Drop kind b)) b vq.cells_fit (dropped_of (after_reply p r).side kind) (held_before (after_reply p r) kind b vq.hands_fit) on bare off quiet idle vw t less in
-    reply_at_most p e (Drop kind b) r t on there l (subst (λ (q : Shogi). AreAtMost q e t) (sym same) (tame_at_most (after_drop (after_reply p r) kind b) e t vw low calm))
+    let calm : IsTame quiet_only (after_drop (after_reply p r) kind b) e t = tame quiet_only (after_reply p r) e gains king squares shut (dropped (after_reply p r).side kind) (hands_after (after_reply p r).hands (after_reply p r).cells (after_reply p r).side (Drop kind b)) b vq.cells_fit (dropped_of (after_reply p r).side kind) (held_before (after_reply p r) kind b vq.hands_fit) on bare off quiet idle vw t less in
+    reply_at_most quiet_only p e depth (Drop kind b) r t told on there l (subst (λ (q : Shogi). AreAtMost q e depth t) (sym same) (tame_at_most quiet_only (after_drop (after_reply p r) kind b) e depth t told vw low calm))
 
 -- so is none of its kind on squares that are spared and idle
-drops_dull : (p : Shogi) (e : Eval) (kind : Kind) (r : Move) (gains king squares shut : ℕ) (t : ℤ) (idle : ℕ) → IsValid p → in_check p.cells p.side ≡ false → IsOnSquares r → is_legal (passed p) r ≡ true → is_pawn_drop r ≡ false → AreSpared r shut idle
-    → IsQuietThere (after_reply p r) e gains king squares shut → AreIdle (after_reply p r) e gains king squares (dropped (after_reply p r).side kind) idle → lost_value 1 ≤ℤ t → (material_of (after_reply p r) e +ℤ pos gains) ≤ℤ t → DropsAreWorthAtMost p e t kind idle
-drops_dull p e kind r gains king squares shut t idle v safe there lr plain spared quiet all low room to h set legal =
-    dull p e kind to r gains king squares shut t v safe h there legal lr plain (spared to h set).0 (spared to h set).1 quiet (all to h set) low room
+drops_dull : (quiet_only : Bool) (depth : ℕ) (p : Shogi) (e : Eval) (kind : Kind) (r : Move) (gains king squares shut : ℕ) (t : ℤ) (idle : ℕ) → ReplySuffices quiet_only e depth → IsValid p → in_check p.cells p.side ≡ false → IsOnSquares r → is_legal (passed p) r ≡ true → is_pawn_drop r ≡ false → AreSpared r shut idle
+    → IsQuietThere quiet_only (after_reply p r) e gains king squares shut → AreIdle quiet_only (after_reply p r) e gains king squares (dropped (after_reply p r).side kind) idle → lost_value 1 ≤ℤ t → (material_of (after_reply p r) e +ℤ pos gains) ≤ℤ t → DropsAreWorthAtMost p e depth t kind idle
+drops_dull quiet_only depth p e kind r gains king squares shut t idle told v safe there lr plain spared quiet all low room to h set legal =
+    dull quiet_only depth p e kind to r gains king squares shut t told v safe h there legal lr plain (spared to h set).0 (spared to h set).1 quiet (all to h set) low room
 
 -- a side that drops a piece after a pass and a reply held one before
 held_there : (p : Shogi) (kind : Kind) (b : ℕ) (r : Move) → is_legal p (Drop kind b) ≡ true → 0 < count_in_hand (after_reply p r).hands (after_reply p r).side kind
@@ -119,13 +119,13 @@ held_there p kind b r legal =
     subst (λ (n : ℕ). 0 < n) (sym (other_counts (passed p) r kind ∙ ap (λ (color : Color). count_in_hand p.hands color kind) (opponent_twice p.side))) (ltb-true 0 (count_in_hand p.hands p.side kind) (drop_parts p kind b legal).0)
 
 -- the same of a position that is that one, where the squares are idle if a piece of the kind is held
-pub scene_dull : (p q : Shogi) (e f : Eval) (kind : Kind) (r : Move) (gains king squares shut : ℕ) (t : ℤ) (idle : ℕ) → q ≡ after_reply p r → f ≡ e → IsValid p → in_check p.cells p.side ≡ false → IsOnSquares r → is_legal (passed p) r ≡ true → is_pawn_drop r ≡ false → AreSpared r shut idle
-    → IsQuietThere q f gains king squares shut → lost_value 1 ≤ℤ t → (material_of q f +ℤ pos gains) ≤ℤ t → (0 < count_in_hand q.hands q.side kind → AreIdle q f gains king squares (dropped q.side kind) idle) → DropsAreWorthAtMost p e t kind idle
-scene_dull p q e f kind r gains king squares shut t idle is alike v safe there lr plain spared quiet low room each to h set legal =
+pub scene_dull : (quiet_only : Bool) (depth : ℕ) (p q : Shogi) (e f : Eval) (kind : Kind) (r : Move) (gains king squares shut : ℕ) (t : ℤ) (idle : ℕ) → ReplySuffices quiet_only e depth → q ≡ after_reply p r → f ≡ e → IsValid p → in_check p.cells p.side ≡ false → IsOnSquares r → is_legal (passed p) r ≡ true → is_pawn_drop r ≡ false → AreSpared r shut idle
+    → IsQuietThere quiet_only q f gains king squares shut → lost_value 1 ≤ℤ t → (material_of q f +ℤ pos gains) ≤ℤ t → (0 < count_in_hand q.hands q.side kind → AreIdle quiet_only q f gains king squares (dropped q.side kind) idle) → DropsAreWorthAtMost p e depth t kind idle
+scene_dull quiet_only depth p q e f kind r gains king squares shut t idle told is alike v safe there lr plain spared quiet low room each to h set legal =
     let held : 0 < count_in_hand q.hands q.side kind = subst (λ (x : Shogi). 0 < count_in_hand x.hands x.side kind) (sym is) (held_there p kind to r legal) in
-    drops_dull p e kind r gains king squares shut t idle v safe there lr plain spared
-    (subst (λ (x : Shogi). IsQuietThere x e gains king squares shut) is (subst (λ (y : Eval). IsQuietThere q y gains king squares shut) alike quiet))
-    (subst (λ (x : Shogi). AreIdle x e gains king squares (dropped x.side kind) idle) is (subst (λ (y : Eval). AreIdle q y gains king squares (dropped q.side kind) idle) alike (each held))) low
+    drops_dull quiet_only depth p e kind r gains king squares shut t idle told v safe there lr plain spared
+    (subst (λ (x : Shogi). IsQuietThere quiet_only x e gains king squares shut) is (subst (λ (y : Eval). IsQuietThere quiet_only q y gains king squares shut) alike quiet))
+    (subst (λ (x : Shogi). AreIdle quiet_only x e gains king squares (dropped x.side kind) idle) is (subst (λ (y : Eval). AreIdle quiet_only q y gains king squares (dropped q.side kind) idle) alike (each held))) low
     (subst (λ (x : Shogi). (material_of x e +ℤ pos gains) ≤ℤ t) is (subst (λ (y : Eval). (material_of q y +ℤ pos gains) ≤ℤ t) alike room))
     to h set legal
 
@@ -134,23 +134,23 @@ scene_dull p q e f kind r gains king squares shut t idle is alike v safe there l
 legal_owns : (p : Shogi) (a b : ℕ) → is_legal p (Board a b false) ≡ true → (is_piece_of p.side (piece_at p.cells a) ≡ true) × (reaches p.cells a b ≡ true)
 legal_owns p a b l = let parts = board_parts p a b false l in (parts.0, parts.2)
 
-pub quiet_is_dull : (p : Shogi) (e : Eval) (a b : ℕ) (r : Move) (gains king squares shut : ℕ) (t : ℤ) → IsValid p → in_check p.cells p.side ≡ false → a < 81 → b < 81 → IsOnSquares r → is_legal p (Board a b false) ≡ true → piece_at p.cells b ≡ None → is_legal (passed p) r ≡ true → is_pawn_drop r ≡ false → IsOff r a → Survives r b → has_bit shut b ≡ false
-    → IsQuietThere (after_reply p r) e gains king squares shut → IsUnseen (after_reply p r) king squares a → IsQuietThere (lifted (after_reply p r) a) e gains king squares shut → IsIdle (lifted (after_reply p r) a) e gains king squares (piece_at (after_reply p r).cells a) b
-    → lost_value 1 ≤ℤ t → (material_of (after_reply p r) e +ℤ pos gains) ≤ℤ t → IsWorthAtMost p e t (Board a b false)
-quiet_is_dull p e a b r gains king squares shut t v safe ha on there lm bare lr plain apart spared off quiet unseen quiet_lifted idle low room =
+pub quiet_is_dull : (quiet_only : Bool) (depth : ℕ) (p : Shogi) (e : Eval) (a b : ℕ) (r : Move) (gains king squares shut : ℕ) (t : ℤ) → ReplySuffices quiet_only e depth → IsValid p → in_check p.cells p.side ≡ false → a < 81 → b < 81 → IsOnSquares r → is_legal p (Board a b false) ≡ true → piece_at p.cells b ≡ None → is_legal (passed p) r ≡ true → is_pawn_drop r ≡ false → IsOff r a → Survives r b → has_bit shut b ≡ false
+    → IsQuietThere quiet_only (after_reply p r) e gains king squares shut → IsUnseen (after_reply p r) king squares a → IsQuietThere quiet_only (lifted (after_reply p r) a) e gains king squares shut → IsIdle quiet_only (lifted (after_reply p r) a) e gains king squares (piece_at (after_reply p r).cells a) b
+    → lost_value 1 ≤ℤ t → (material_of (after_reply p r) e +ℤ pos gains) ≤ℤ t → IsWorthAtMost p e depth t (Board a b false)
+quiet_is_dull quiet_only depth p e a b r gains king squares shut t told v safe ha on there lm bare lr plain apart spared off quiet unseen quiet_lifted idle low room =
     let vq : IsValid (after_reply p r) = move_valid (passed p) r (passed_valid p v safe) there lr in
     let own : is_piece_of p.side (piece_at p.cells a) ≡ true = (legal_owns p a b lm).0 in
     let stays_there : piece_at (after_reply p r).cells a ≡ piece_at p.cells a = stands p.cells (opponent_of p.side) r a apart in
     let ne : b ≢ a = λ at. both_ways (is_piece_of p.side None) refl (ap (is_piece_of p.side) (sym (ap (piece_at p.cells) (sym at) ∙ bare)) ∙ own) in
     let empty : piece_at (lifted (after_reply p r) a).cells b ≡ None = get_or-set_other (after_reply p r).cells a b None None ne ∙ (stands p.cells (opponent_of p.side) r b spared.0 ∙ bare) in
     let len : length (lifted (after_reply p r) a).cells ≡ 81 = length-set (after_reply p r).cells a None ∙ vq.cells_fit in
-    let idle_there : IsIdle (lifted (after_reply p r) a) e gains king squares (piece_at p.cells a) b = subst (λ (cell : Option Piece). IsIdle (lifted (after_reply p r) a) e gains king squares cell b) stays_there idle in
+    let idle_there : IsIdle quiet_only (lifted (after_reply p r) a) e gains king squares (piece_at p.cells a) b = subst (λ (cell : Option Piece). IsIdle quiet_only (lifted (after_reply p r) a) e gains king squares cell b) stays_there idle in
     let mine : is_piece_of (after_reply p r).side (piece_at p.cells a) ≡ true = ap (λ (color : Color). is_piece_of color (piece_at p.cells a)) (opponent_twice p.side) ∙ own in
-    quiet_dull p e a b r t v safe ha on there lm bare lr plain apart spared
+    quiet_dull quiet_only p e depth a b r t told v safe ha on there lm bare lr plain apart spared
     (ap (λ (color : Color). is_lined_with_king (after_reply p r).cells color a) (sym (ap opponent_of (opponent_twice p.side))) ∙ unlined_with_king (after_reply p r).cells (opponent_of (after_reply p r).side) king a vq.cells_fit quiet.standing.king_fits quiet.standing.lone unseen.off_king)
     (harmless_after p r king (lifted (after_reply p r) a).cells (piece_at p.cells a) b len quiet.standing.king_fits quiet.standing.lone (emptied vq.cells_fit) idle_there.king_far)
-    (λ vw material. tame_at_most (placed (lifted (after_reply p r) a) (piece_at p.cells a) b) e t vw low
-    (tame (lifted (after_reply p r) a) e gains king squares shut (piece_at p.cells a) (after_reply p r).hands b len mine (λ other some. some) on empty off quiet_lifted idle_there vw t (omega (arith, ints, material, room))))
+    (λ vw material. tame_at_most quiet_only (placed (lifted (after_reply p r) a) (piece_at p.cells a) b) e depth t told vw low
+    (tame quiet_only (lifted (after_reply p r) a) e gains king squares shut (piece_at p.cells a) (after_reply p r).hands b len mine (λ other some. some) on empty off quiet_lifted idle_there vw t (omega (arith, ints, material, room))))
   where
     emptied : length (after_reply p r).cells ≡ 81 → (x : ℕ) → is_none (piece_at (after_reply p r).cells x) ≡ true → is_none (piece_at (lifted (after_reply p r) a).cells x) ≡ true
     emptied len x n = elim (cases_eq x a) [
@@ -159,16 +159,16 @@ quiet_is_dull p e a b r gains king squares shut t v safe ha on there lm bare lr 
     ]
 
 -- the same of a position that is that one, for pieces that are lifted there and ends on which they are idle
-pub scene_quiets : (p q : Shogi) (e f : Eval) (r : Move) (gains king squares shut : ℕ) (t : ℤ) (pieces ends : ℕ) → q ≡ after_reply p r → f ≡ e → IsValid p → in_check p.cells p.side ≡ false → IsOnSquares r → is_legal (passed p) r ≡ true → is_pawn_drop r ≡ false → AreSpared r shut ends
-    → IsQuietThere q f gains king squares shut → lost_value 1 ≤ℤ t → (material_of q f +ℤ pos gains) ≤ℤ t → ((a : ℕ) → a < 81 → has_bit pieces a ≡ true → IsOff r a)
-    → ((a : ℕ) → a < 81 → has_bit pieces a ≡ true → IsUnseen q king squares a) → ((a : ℕ) → a < 81 → has_bit pieces a ≡ true → IsQuietThere (lifted q a) f gains king squares shut)
-    → ((from to : ℕ) → from < 81 → to < 81 → has_bit pieces from ≡ true → has_bit ends to ≡ true → reaches p.cells from to ≡ true → IsIdle (lifted q from) f gains king squares (piece_at q.cells from) to) → QuietsAreWorthAtMost p e t pieces ends
-scene_quiets p q e f r gains king squares shut t pieces ends is alike v safe there lr plain spared quiet low room apart unseen lifts idle from to hf ht mine on bare legal =
-    quiet_is_dull p e from to r gains king squares shut t v safe hf ht there legal bare lr plain (apart from hf mine) (spared to ht on).0 (spared to ht on).1
-    (subst (λ (x : Shogi). IsQuietThere x e gains king squares shut) is (subst (λ (y : Eval). IsQuietThere q y gains king squares shut) alike quiet))
+pub scene_quiets : (quiet_only : Bool) (depth : ℕ) (p q : Shogi) (e f : Eval) (r : Move) (gains king squares shut : ℕ) (t : ℤ) (pieces ends : ℕ) → ReplySuffices quiet_only e depth → q ≡ after_reply p r → f ≡ e → IsValid p → in_check p.cells p.side ≡ false → IsOnSquares r → is_legal (passed p) r ≡ true → is_pawn_drop r ≡ false → AreSpared r shut ends
+    → IsQuietThere quiet_only q f gains king squares shut → lost_value 1 ≤ℤ t → (material_of q f +ℤ pos gains) ≤ℤ t → ((a : ℕ) → a < 81 → has_bit pieces a ≡ true → IsOff r a)
+    → ((a : ℕ) → a < 81 → has_bit pieces a ≡ true → IsUnseen q king squares a) → ((a : ℕ) → a < 81 → has_bit pieces a ≡ true → IsQuietThere quiet_only (lifted q a) f gains king squares shut)
+    → ((from to : ℕ) → from < 81 → to < 81 → has_bit pieces from ≡ true → has_bit ends to ≡ true → reaches p.cells from to ≡ true → IsIdle quiet_only (lifted q from) f gains king squares (piece_at q.cells from) to) → QuietsAreWorthAtMost p e depth t pieces ends
+scene_quiets quiet_only depth p q e f r gains king squares shut t pieces ends told is alike v safe there lr plain spared quiet low room apart unseen lifts idle from to hf ht mine on bare legal =
+    quiet_is_dull quiet_only depth p e from to r gains king squares shut t told v safe hf ht there legal bare lr plain (apart from hf mine) (spared to ht on).0 (spared to ht on).1
+    (subst (λ (x : Shogi). IsQuietThere quiet_only x e gains king squares shut) is (subst (λ (y : Eval). IsQuietThere quiet_only q y gains king squares shut) alike quiet))
     (subst (λ (x : Shogi). IsUnseen x king squares from) is (unseen from hf mine))
-    (subst (λ (x : Shogi). IsQuietThere (lifted x from) e gains king squares shut) is (subst (λ (y : Eval). IsQuietThere (lifted q from) y gains king squares shut) alike (lifts from hf mine)))
-    (subst (λ (x : Shogi). IsIdle (lifted x from) e gains king squares (piece_at x.cells from) to) is (subst (λ (y : Eval). IsIdle (lifted q from) y gains king squares (piece_at q.cells from) to) alike (idle from to hf ht mine on (legal_owns p from to legal).1))) low
+    (subst (λ (x : Shogi). IsQuietThere quiet_only (lifted x from) e gains king squares shut) is (subst (λ (y : Eval). IsQuietThere quiet_only (lifted q from) y gains king squares shut) alike (lifts from hf mine)))
+    (subst (λ (x : Shogi). IsIdle quiet_only (lifted x from) e gains king squares (piece_at x.cells from) to) is (subst (λ (y : Eval). IsIdle quiet_only (lifted q from) y gains king squares (piece_at q.cells from) to) alike (idle from to hf ht mine on (legal_owns p from to legal).1))) low
     (subst (λ (x : Shogi). (material_of x e +ℤ pos gains) ≤ℤ t) is (subst (λ (y : Eval). (material_of q y +ℤ pos gains) ≤ℤ t) alike room))
 
 -- a piece that the reply leaves alone stands there after it
@@ -178,8 +178,8 @@ own_stays p q r a is off own =
     (ap (λ (color : Color). is_piece_of color (piece_at (after_reply p r).cells a)) (opponent_twice p.side) ∙ (ap (is_piece_of p.side) (stands p.cells (opponent_of p.side) r a off) ∙ own))
 
 -- so no quiet move that is among these is worth more
-pub all_dull : (p : Shogi) (e : Eval) (d : DullMoves) → ((kind : Kind) → DropsAreWorthAtMost p e d.most kind (drops_of d.drops kind).bits) → QuietsAreWorthAtMost p e d.most d.pieces.bits d.ends.bits → AreDull p e d
-all_dull p e d drops quiets (Board from to promote) on among quiet legal =
-    subst (λ (x : Bool). IsWorthAtMost p e d.most (Board from to x)) (sym quiet.0)
+pub all_dull : (p : Shogi) (e : Eval) (depth : ℕ) (d : DullMoves) → ((kind : Kind) → DropsAreWorthAtMost p e depth d.most kind (drops_of d.drops kind).bits) → QuietsAreWorthAtMost p e depth d.most d.pieces.bits d.ends.bits → AreDull p e depth d
+all_dull p e depth d drops quiets (Board from to promote) on among quiet legal =
+    subst (λ (x : Bool). IsWorthAtMost p e depth d.most (Board from to x)) (sym quiet.0)
     (quiets from to on.0 on.1 among.0 among.1 quiet.1 (subst (λ (x : Bool). is_legal p (Board from to x) ≡ true) quiet.0 legal))
-all_dull p e d drops quiets (Drop kind to) on among quiet legal = drops kind to on among legal
+all_dull p e depth d drops quiets (Drop kind to) on among quiet legal = drops kind to on among legal

@@ -84,8 +84,8 @@ takes_no_king q c k v hc hk crown own =
     false_from_ne_true _ (λ reach. both_ways (is_attacked_from q.cells (opponent_of (opponent_of q.side)) k c)
     (some_below_not 81 (is_attacked_from q.cells (opponent_of (opponent_of q.side)) k) c calm hc) (and_from _ _ mine reach))
 
-module _ (q : Shogi) (e : Eval) (gains king squares shut : ℕ) (arrived : Option Piece) (hands : HandCounts) (b : ℕ) (len : length q.cells ≡ 81) (owned : is_piece_of q.side arrived ≡ true) (fewer : (other : Kind) → 0 < count_in_hand hands q.side other → 0 < count_in_hand q.hands q.side other) (hb : b < 81) (bare : piece_at q.cells b ≡ None) (off_shut : has_bit shut b ≡ false)
-    (quiet : IsQuietThere q e gains king squares shut) (idle : IsIdle q e gains king squares arrived b) (v : IsValid (put_on q arrived hands b)) where
+module _ (quiet_only : Bool) (q : Shogi) (e : Eval) (gains king squares shut : ℕ) (arrived : Option Piece) (hands : HandCounts) (b : ℕ) (len : length q.cells ≡ 81) (owned : is_piece_of q.side arrived ≡ true) (fewer : (other : Kind) → 0 < count_in_hand hands q.side other → 0 < count_in_hand q.hands q.side other) (hb : b < 81) (bare : piece_at q.cells b ≡ None) (off_shut : has_bit shut b ≡ false)
+    (quiet : IsQuietThere quiet_only q e gains king squares shut) (idle : IsIdle quiet_only q e gains king squares arrived b) (v : IsValid (put_on q arrived hands b)) where
   no_foe_king : is_king (opponent_of q.side) arrived ≡ false
   no_foe_king = false_from_ne_true _ (λ crown. both_ways (is_piece_of (opponent_of q.side) arrived) (other_side q.side arrived owned) (king_own (opponent_of q.side) arrived crown))
 
@@ -173,11 +173,11 @@ module _ (q : Shogi) (e : Eval) (gains king squares shut : ℕ) (arrived : Optio
   unchecked_now : in_check (put_on q arrived hands b).cells (opponent_of q.side) ≡ false
   unchecked_now = (faultless_from (put_on q arrived hands b) v.no_fault).shut
 
-  by_spare : (new : Cells) (held : HandCounts) (d : ℕ) → HasSpareMoves q king → LeavesStanding (put_on q arrived hands b).cells new (opponent_of q.side) d → in_check new (opponent_of q.side) ≡ false → HasBoardMove (record { cells = new; hands = held; side = opponent_of q.side })
+  by_spare : (new : Cells) (held : HandCounts) (d : ℕ) → HasSpareMoves q king → LeavesStanding (put_on q arrived hands b).cells new (opponent_of q.side) d → in_check new (opponent_of q.side) ≡ false → HasBoardMove quiet_only (record { cells = new; hands = held; side = opponent_of q.side })
   by_spare new held d spares stays safe =
       let one = spares b d in
       let from_off : one.0 ≢ b = λ at. both_ways (is_piece_of (opponent_of q.side) None) refl (ap (is_piece_of (opponent_of q.side)) (sym bare) ∙ subst (λ (x : ℕ). is_piece_of (opponent_of q.side) (piece_at q.cells x) ≡ true) at one.7.own) in
-      replies_by_step (put_on q arrived hands b).cells new held (opponent_of q.side) king d one.0 one.1 lone_now stays safe one.2 one.3 one.4 one.5
+      replies_by_step quiet_only (put_on q arrived hands b).cells new held (opponent_of q.side) king d one.0 one.1 lone_now stays safe one.2 one.3 one.4 one.5
       (ap (is_piece_of (opponent_of q.side)) (same one.0 from_off) ∙ one.7.own) one.7.off_king one.7.off_lines
       (step_same q.cells (put_on q arrived hands b).cells one.0 one.1 (same one.0 from_off) (same one.1 one.6) one.7.step)
 
@@ -228,24 +228,28 @@ module _ (q : Shogi) (e : Eval) (gains king squares shut : ℕ) (arrived : Optio
     end_there = get_or-set_same (set (put_on q arrived hands b).cells c None) d (piece_moved promote (piece_at (put_on q arrived hands b).cells c)) None (omega (arith, length-set (put_on q arrived hands b).cells c None, fits, hd))
 
     -- of what was dropped
-    dropped_moves : c ≡ b → (taken_gain e (piece_at (put_on q arrived hands b).cells d) + promotion_gain promote (piece_at (put_on q arrived hands b).cells c) ≤ gains) × (HasBoardMove (after (put_on q arrived hands b) (Board c d promote)))
+    dropped_moves : c ≡ b → (taken_gain e (piece_at (put_on q arrived hands b).cells d) + promotion_gain promote (piece_at (put_on q arrived hands b).cells c) ≤ gains) × (HasBoardMove quiet_only (after (put_on q arrived hands b) (Board c d promote)))
     unfolding reaches
     dropped_moves at =
         let there : piece_at (put_on q arrived hands b).cells c ≡ arrived = ap (piece_at (put_on q arrived hands b).cells) at ∙ put in
         let led : cell_reaches (without_king q king) arrived b d ≡ true = reached_now arrived b d (subst (λ (x : ℕ). cell_reaches (put_on q arrived hands b).cells arrived x d ≡ true) at (ap (λ (cell : Option Piece). cell_reaches (put_on q arrived hands b).cells cell c d) (sym there) ∙ reach)) in
         let lets : promote ≡ true → may_promote arrived b d ≡ true = λ p. subst (λ (x : ℕ). may_promote arrived x d ≡ true) at (ap (λ (cell : Option Piece). may_promote cell c d) (sym there) ∙ may p) in
-        let calm : IsCalm q e gains king arrived squares d promote = idle.next d promote hd free_before led lets in
+        let calm : IsCalm quiet_only q e gains king arrived squares d promote = idle.next d promote hd free_before led lets in
         let one = calm.leaves in
         let moved : piece_moved promote (piece_at (put_on q arrived hands b).cells c) ≡ piece_moved promote arrived = ap (piece_moved promote) there in (
           gain_here arrived there calm.gain,
           λ none. quiet.standing.replies one.0 one.1 one.2
-              (λ escape. none king one.0 quiet.standing.king_fits one.1
+              (λ flight. none king one.0 quiet.standing.king_fits one.1
               (king_goes q.cells (cells_after (put_on q arrived hands b).cells q.side (Board c d promote)) (after (put_on q arrived hands b) (Board c d promote)).hands q.side (λ x. ⊥) d (piece_moved promote (piece_at (put_on q arrived hands b).cells c))
               (length-after (put_on q arrived hands b).cells q.side (Board c d promote) ∙ fits)
               own_moved (seen_after at)
-              king one.0 quiet.standing.king_fits one.1 quiet.standing.crown (λ left. left) not_king escape
+              king one.0 quiet.standing.king_fits one.1 quiet.standing.crown (λ left. left) not_king flight.escape
               (ap (λ (cell : Option Piece). cell_reaches (set q.cells king None) cell d one.0) moved ∙ one.3)
-              (λ x left. absurd left)))
+              (λ x left. absurd left))
+              (λ only. elim (seen_after at one.0) [
+                | inl end ↦ absurd (one.4 only end.0)
+                | inr rest ↦ elim rest [ inl gone ↦ absurd gone.0 | inr stood ↦ ap is_none stood ∙ flight.bare only ]
+              ]))
               (λ home. by_spare (cells_after (put_on q arrived hands b).cells q.side (Board c d promote)) (after (put_on q arrived hands b) (Board c d promote)).hands d home.1
               (left_board (put_on q arrived hands b) c d promote v hc hd own)
               (unchecked_by q.cells (cells_after (put_on q arrived hands b).cells q.side (Board c d promote)) q.side (λ x. ⊥) d (piece_moved promote (piece_at (put_on q arrived hands b).cells c)) hd own_moved (seen_after at) end_there (λ x left. absurd left)
@@ -272,7 +276,7 @@ module _ (q : Shogi) (e : Eval) (gains king squares shut : ℕ) (arrived : Optio
         ]
 
     -- of one that stood there
-    other_moves : c ≢ b → (taken_gain e (piece_at (put_on q arrived hands b).cells d) + promotion_gain promote (piece_at (put_on q arrived hands b).cells c) ≤ gains) × (HasBoardMove (after (put_on q arrived hands b) (Board c d promote)))
+    other_moves : c ≢ b → (taken_gain e (piece_at (put_on q arrived hands b).cells d) + promotion_gain promote (piece_at (put_on q arrived hands b).cells c) ≤ gains) × (HasBoardMove quiet_only (after (put_on q arrived hands b) (Board c d promote)))
     unfolding reaches
     other_moves off =
         let there : piece_at (put_on q arrived hands b).cells c ≡ piece_at q.cells c = same c off in
@@ -287,22 +291,29 @@ module _ (q : Shogi) (e : Eval) (gains king squares shut : ℕ) (arrived : Optio
               (still_shut q arrived shut b c d promote len hb hc hd own_before (λ at. off (sym at)) (λ at. end_off (sym at)) off_shut stopped))
         ]
       where
-        left_one : piece_at (put_on q arrived hands b).cells c ≡ piece_at q.cells c → piece_moved promote (piece_at (put_on q arrived hands b).cells c) ≡ piece_moved promote (piece_at q.cells c) → ((set : ℕ) × AreOffLines c squares set × LeavesOne (without_king q king) (piece_moved promote (piece_at q.cells c)) d set) → HasBoardMove (after (put_on q arrived hands b) (Board c d promote))
+        left_one : piece_at (put_on q arrived hands b).cells c ≡ piece_at q.cells c → piece_moved promote (piece_at (put_on q arrived hands b).cells c) ≡ piece_moved promote (piece_at q.cells c) → ((set : ℕ) × AreOffLines c squares set × LeavesOne quiet_only (without_king q king) (piece_moved promote (piece_at q.cells c)) d set) → HasBoardMove quiet_only (after (put_on q arrived hands b) (Board c d promote))
         left_one there moved calm =
             let one = calm.2 in
             let out = calm.1 one.0 one.1 one.2 in
             let short : cell_reaches (without_king q king) (piece_moved promote (piece_at (put_on q arrived hands b).cells c)) d one.0 ≡ false = ap (λ (cell : Option Piece). cell_reaches (without_king q king) cell d one.0) moved ∙ one.3 in
             λ none. quiet.standing.replies one.0 one.1 out.0
-            (λ escape. none king one.0 quiet.standing.king_fits one.1
+            (λ flight. none king one.0 quiet.standing.king_fits one.1
             (king_goes (put_on q arrived hands b).cells (cells_after (put_on q arrived hands b).cells q.side (Board c d promote)) (after (put_on q arrived hands b) (Board c d promote)).hands q.side (λ x. x ≡ c) d (piece_moved promote (piece_at (put_on q arrived hands b).cells c))
             (length-after (put_on q arrived hands b).cells q.side (Board c d promote) ∙ fits)
             own_moved
             (look (put_on q arrived hands b).cells q.side c d (piece_moved promote (piece_at (put_on q arrived hands b).cells c)) fits hc hd)
             king one.0 quiet.standing.king_fits one.1 crown_now
             (λ at. both_ways (is_piece_of (opponent_of q.side) (piece_at (put_on q arrived hands b).cells c)) (other_side q.side (piece_at (put_on q arrived hands b).cells c) own) (subst (λ (x : ℕ). is_piece_of (opponent_of q.side) (piece_at (put_on q arrived hands b).cells x) ≡ true) at (king_own (opponent_of q.side) (piece_at (put_on q arrived hands b).cells king) crown_now)))
-            not_king (escape_now one.0 one.1 out.0 escape)
+            not_king (escape_now one.0 one.1 out.0 flight.escape)
             (short_lifted (piece_moved promote (piece_at (put_on q arrived hands b).cells c)) d one.0 short)
-            (λ x left. subst (λ (y : ℕ). are_lined (set (put_on q arrived hands b).cells king None) y one.0 ≡ false) (sym left) (false_from_ne_true _ (λ lined. both_ways (are_aligned c one.0) out.1 (lined_aligned (set (put_on q arrived hands b).cells king None) c one.0 lined))))))
+            (λ x left. subst (λ (y : ℕ). are_lined (set (put_on q arrived hands b).cells king None) y one.0 ≡ false) (sym left) (false_from_ne_true _ (λ lined. both_ways (are_aligned c one.0) out.1 (lined_aligned (set (put_on q arrived hands b).cells king None) c one.0 lined)))))
+            (λ only. elim (look (put_on q arrived hands b).cells q.side c d (piece_moved promote (piece_at (put_on q arrived hands b).cells c)) fits hc hd one.0) [
+              | inl end ↦ absurd (one.4 only end.0)
+              | inr rest ↦ elim rest [
+                | inl gone ↦ ap is_none gone.1
+                | inr stood ↦ ap is_none stood ∙ (ap is_none (same one.0 (square_off one.0 out.0)) ∙ flight.bare only)
+              ]
+            ]))
             (λ home. by_spare (cells_after (put_on q arrived hands b).cells q.side (Board c d promote)) (after (put_on q arrived hands b) (Board c d promote)).hands d home.1
             (left_board (put_on q arrived hands b) c d promote v hc hd own)
             (unchecked_by (put_on q arrived hands b).cells (cells_after (put_on q arrived hands b).cells q.side (Board c d promote)) q.side (λ x. x ≡ c) d (piece_moved promote (piece_at (put_on q arrived hands b).cells c)) hd own_moved
@@ -312,12 +323,12 @@ module _ (q : Shogi) (e : Eval) (gains king squares shut : ℕ) (arrived : Optio
             (harmless_now (piece_moved promote (piece_at (put_on q arrived hands b).cells c)) d one.0 home.0 short)
             unchecked_now) none)
 
-    board_calm : (taken_gain e (piece_at (put_on q arrived hands b).cells d) + promotion_gain promote (piece_at (put_on q arrived hands b).cells c) ≤ gains) × (HasBoardMove (after (put_on q arrived hands b) (Board c d promote)))
+    board_calm : (taken_gain e (piece_at (put_on q arrived hands b).cells d) + promotion_gain promote (piece_at (put_on q arrived hands b).cells c) ≤ gains) × (HasBoardMove quiet_only (after (put_on q arrived hands b) (Board c d promote)))
     board_calm = elim (cases_eq c b) [ inl here ↦ dropped_moves here | inr off ↦ other_moves off ]
 
   -- ---- a drop
 
-  drop_calm : (other : Kind) (d : ℕ) → d < 81 → is_legal (put_on q arrived hands b) (Drop other d) ≡ true → HasBoardMove (after (put_on q arrived hands b) (Drop other d))
+  drop_calm : (other : Kind) (d : ℕ) → d < 81 → is_legal (put_on q arrived hands b) (Drop other d) ≡ true → HasBoardMove quiet_only (after (put_on q arrived hands b) (Drop other d))
   drop_calm other d hd l =
       let parts = drop_parts (put_on q arrived hands b) other d l in
       let empty : piece_at (put_on q arrived hands b).cells d ≡ None = none_is (piece_at (put_on q arrived hands b).cells d) parts.1 in
@@ -325,19 +336,23 @@ module _ (q : Shogi) (e : Eval) (gains king squares shut : ℕ) (arrived : Optio
       let one = quiet.kinds other (fewer other (ltb-true 0 (count_in_hand (put_on q arrived hands b).hands q.side other) parts.0)) d hd (sym (same d off) ∙ empty) parts.2 in
       let not_there : king ≢ d = λ at. both_ways (is_king (opponent_of q.side) None) refl (ap (is_king (opponent_of q.side)) (sym empty) ∙ subst (λ (x : ℕ). is_king (opponent_of q.side) (piece_at (put_on q arrived hands b).cells x) ≡ true) at crown_now) in
       λ none. quiet.standing.replies one.0 one.1 one.2
-      (λ escape. none king one.0 quiet.standing.king_fits one.1
+      (λ flight. none king one.0 quiet.standing.king_fits one.1
       (king_goes (put_on q arrived hands b).cells (cells_after (put_on q arrived hands b).cells q.side (Drop other d)) (after (put_on q arrived hands b) (Drop other d)).hands q.side (λ x. ⊥) d (dropped q.side other)
       (length-after (put_on q arrived hands b).cells q.side (Drop other d) ∙ fits)
       (dropped_of q.side other)
       (λ x. elim (drops.look (put_on q arrived hands b).cells q.side other d fits hd x) [ inl here ↦ inl here | inr stood ↦ inr (inr stood) ])
-      king one.0 quiet.standing.king_fits one.1 crown_now (λ left. left) not_there (escape_now one.0 one.1 one.2 escape)
+      king one.0 quiet.standing.king_fits one.1 crown_now (λ left. left) not_there (escape_now one.0 one.1 one.2 flight.escape)
       (short_lifted (dropped q.side other) d one.0 one.3)
-      (λ x left. absurd left)))
+      (λ x left. absurd left))
+      (λ only. elim (drops.look (put_on q arrived hands b).cells q.side other d fits hd one.0) [
+        | inl here ↦ absurd (one.4 only here.0)
+        | inr stood ↦ ap is_none stood ∙ (ap is_none (same one.0 (square_off one.0 one.2)) ∙ flight.bare only)
+      ]))
       (λ home. by_spare (cells_after (put_on q arrived hands b).cells q.side (Drop other d)) (after (put_on q arrived hands b) (Drop other d)).hands d home.1
       (left_drop (put_on q arrived hands b) other d v hd) (shut_drop (put_on q arrived hands b) other d v hd (harmless_now (dropped q.side other) d one.0 home.0 one.3)) none)
 
   -- so it gains no more than it did, and mates by nothing
-  pub tame : (t : ℤ) → (material_of (put_on q arrived hands b) e +ℤ pos gains) ≤ℤ t → IsTame (put_on q arrived hands b) e t
+  pub tame : (t : ℤ) → (material_of (put_on q arrived hands b) e +ℤ pos gains) ≤ℤ t → IsTame quiet_only (put_on q arrived hands b) e t
   tame t room = record {
     gains = λ c on l. few c on l;
     least = omega (arith, ints, room);
@@ -352,6 +367,6 @@ module _ (q : Shogi) (e : Eval) (gains king squares shut : ℕ) (arrived : Optio
           let none : drop_gain e other ≤ℤ pos 0 = drop_little e other in
           omega (arith, ints, none, room)
 
-      some : (c : Move) → IsOnSquares c → is_legal (put_on q arrived hands b) c ≡ true → HasBoardMove (after (put_on q arrived hands b) c)
+      some : (c : Move) → IsOnSquares c → is_legal (put_on q arrived hands b) c ≡ true → HasBoardMove quiet_only (after (put_on q arrived hands b) c)
       some (Board c d promote) on l = (board_calm c d promote on.0 on.1 l).1
       some (Drop other d) on l = drop_calm other d on l

@@ -1,8 +1,8 @@
 -- A piece that has no part in it may leave a position in which its side gains little and leaves the king a square.
-use Rattle.std.proofs.Common.{◌≡◌, ◌≢◌, ◌⊎◌, ℕ, ◌+◌, ◌<◌, ◌≤◌, true, false, List, [], ◌∷◌, Option, Some, None, refl, sym, ap, subst, ◌∙◌, inl, inr, arith, set, length-set, get_or-set_other}
+use Rattle.std.proofs.Common.{◌≡◌, ◌≢◌, ◌⊎◌, ℕ, ◌+◌, ◌<◌, ◌≤◌, Bool, true, false, List, [], ◌∷◌, Option, Some, None, refl, sym, ap, subst, ◌∙◌, inl, inr, arith, set, length-set, get_or-set_other}
 use Rattle.std.specs.Prelude.{is_none}
 use Rattle.std.specs.List.{list_any}
-use Rattle.std.proofs.lemmas.Bool.{both_ways, cases_eq, false_from_ne_true, or_cases, or_left, or_right}
+use Rattle.std.proofs.lemmas.Bool.{both_ways, cases_Bool, cases_eq, false_from_ne_true, or_cases, or_left, or_right}
 use Rattle.shogi_core.specs.declared.offset.Offset.{Offset}
 use Rattle.shogi_core.specs.declared.piece.Color.{Color}
 use Rattle.shogi_core.specs.declared.piece.Kind.{Kind}
@@ -81,7 +81,21 @@ module _ (old new : Cells) (a : ℕ) (opened : (x : ℕ) → is_none (piece_at n
 
 -- ---- a piece is lifted
 
-module _ (q : Shogi) (e : Eval) (gains king squares shut a : ℕ) (ha : a < 81) (mine : is_piece_of q.side (piece_at q.cells a) ≡ true) (off : has_bit shut a ≡ false) (quiet : IsQuietThere q e gains king squares shut) (unseen : IsUnseen q king squares a) where
+-- with the king lifted, no square but that one is empty that was not
+pub opened_lifted : (q : Shogi) (king a x : ℕ) → is_none (piece_at (without_king (lifted q a) king) x) ≡ true → (is_none (piece_at (without_king q king) x) ≡ true) ⊎ (x ≡ a)
+opened_lifted q king a x n = elim (cases_eq x king) [
+  | inl here ↦ inl (subst (λ (y : ℕ). is_none (piece_at (without_king q king) y) ≡ true) (sym here) (ap is_none (cleared_none q.cells king)))
+  | inr off ↦ elim (cases_eq x a) [
+    | inl at ↦ inr at
+    | inr other ↦ inl (ap is_none (get_or-set_other q.cells king x None None off) ∙ (ap is_none (sym (get_or-set_other q.cells a x None None other)) ∙ (ap is_none (sym (get_or-set_other (lifted q a).cells king x None None off)) ∙ n)))
+  ]
+]
+
+-- what reaches a square once the piece is lifted reached it before, if it steps or does not reach the piece
+pub reach_lifted : (q : Shogi) (king a : ℕ) (piece : Piece) (from to : ℕ) → from < 81 → to < 81 → a < 81 → (is_sliding_role piece.role ≡ false) ⊎ (cell_reaches (without_king q king) (Some piece) from a ≡ false) → cell_reaches (without_king (lifted q a) king) (Some piece) from to ≡ true → cell_reaches (without_king q king) (Some piece) from to ≡ true
+reach_lifted q king a piece from to hf ht ha cut reached = reach_cut (without_king q king) (without_king (lifted q a) king) a (opened_lifted q king a) piece from to hf ht ha cut reached
+
+module _ (quiet_only : Bool) (q : Shogi) (e : Eval) (gains king squares shut a : ℕ) (ha : a < 81) (mine : is_piece_of q.side (piece_at q.cells a) ≡ true) (off : has_bit shut a ≡ false) (quiet : IsQuietThere quiet_only q e gains king squares shut) (unseen : IsUnseen q king squares a) where
   king_off : king ≢ a
   king_off at = both_ways (is_piece_of (opponent_of q.side) (piece_at q.cells a)) (other_side q.side (piece_at q.cells a) mine) (subst (λ (x : ℕ). is_piece_of (opponent_of q.side) (piece_at q.cells x) ≡ true) at (king_own (opponent_of q.side) (piece_at q.cells king) quiet.standing.crown))
 
@@ -92,20 +106,14 @@ module _ (q : Shogi) (e : Eval) (gains king squares shut a : ℕ) (ha : a < 81) 
   gone = cleared_none q.cells a
 
   opened : (x : ℕ) → is_none (piece_at (without_king (lifted q a) king) x) ≡ true → (is_none (piece_at (without_king q king) x) ≡ true) ⊎ (x ≡ a)
-  opened x n = elim (cases_eq x king) [
-    | inl here ↦ inl (subst (λ (y : ℕ). is_none (piece_at (without_king q king) y) ≡ true) (sym here) (ap is_none (cleared_none q.cells king)))
-    | inr off ↦ elim (cases_eq x a) [
-      | inl at ↦ inr at
-      | inr other ↦ inl (ap is_none (get_or-set_other q.cells king x None None off) ∙ (ap is_none (sym (same x other)) ∙ (ap is_none (sym (get_or-set_other (lifted q a).cells king x None None off)) ∙ n)))
-    ]
-  ]
+  opened x n = opened_lifted q king a x n
 
   short : (cell : Option Piece) (n s : ℕ) → are_lined (without_king q king) a s ≡ false → cell_reaches (without_king q king) cell n s ≡ false → cell_reaches (without_king (lifted q a) king) cell n s ≡ false
   short cell n s off out = false_from_ne_true _ (λ r. both_ways (cell_reaches (without_king q king) cell n s) out
       (reach_was (without_king q king) (without_king (lifted q a) king) (λ x. x ≡ a) opened cell n s (λ x left. subst (λ (y : ℕ). are_lined (without_king q king) y s ≡ false) (sym left) off) r))
 
-  leaves : (cell : Option Piece) (n among : ℕ) → ((m : ℕ) → m < 81 → has_bit among m ≡ true → has_bit squares m ≡ true) → LeavesOne (without_king q king) cell n among → LeavesOne (without_king (lifted q a) king) cell n among
-  leaves cell n among within one = (one.0, one.1, one.2, short cell n one.0 (unseen.off_squares one.0 one.1 (within one.0 one.1 one.2)) one.3)
+  leaves : (cell : Option Piece) (n among : ℕ) → ((m : ℕ) → m < 81 → has_bit among m ≡ true → has_bit squares m ≡ true) → LeavesOne quiet_only (without_king q king) cell n among → LeavesOne quiet_only (without_king (lifted q a) king) cell n among
+  leaves cell n among within one = (one.0, one.1, one.2, short cell n one.0 (unseen.off_squares one.0 one.1 (within one.0 one.1 one.2)) one.3, one.4)
 
   -- ---- the king has its squares still
 
@@ -146,6 +154,12 @@ module _ (q : Shogi) (e : Eval) (gains king squares shut a : ℕ) (ha : a < 81) 
             (λ x left. subst (λ (y : ℕ). are_lined (without_king q king) y n ≡ false) (sym left) (unseen.off_squares n h bit)) was.safe;
       }
 
+  bare_now : (n : ℕ) → is_none (piece_at q.cells n) ≡ true → is_none (piece_at (lifted q a).cells n) ≡ true
+  bare_now n was = elim (cases_eq n a) [
+    | inl at ↦ ap (λ (y : ℕ). is_none (piece_at (lifted q a).cells y)) at ∙ ap is_none gone
+    | inr off ↦ ap is_none (same n off) ∙ was
+  ]
+
   -- the other side is in no check still
   unchecked_now : in_check (lifted q a).cells (opponent_of q.side) ≡ false
   unchecked_now =
@@ -185,8 +199,8 @@ module _ (q : Shogi) (e : Eval) (gains king squares shut a : ℕ) (ha : a < 81) 
 
   -- ---- what the other pieces do
 
-  piece_calm : (from : ℕ) → from < 81 → is_piece_of q.side (piece_at (lifted q a).cells from) ≡ true → PieceLetsLeave q e gains king squares from a → PieceIsCalm (lifted q a) e gains king squares shut from
-  piece_calm from hf own lets n promote h free reached may = by_cell (piece_at q.cells from) refl
+  piece_calm : (from : ℕ) → from < 81 → is_piece_of q.side (piece_at (lifted q a).cells from) ≡ true → PieceLetsLeave quiet_only q e gains king squares from a → PieceIsCalm quiet_only (lifted q a) e gains king squares shut from
+  piece_calm from hf own lets n promote h free reached may = goes
     where
       off_a : from ≢ a
       off_a at = both_ways (is_piece_of q.side None) refl (ap (is_piece_of q.side) (sym (ap (piece_at (lifted q a).cells) at ∙ gone)) ∙ own)
@@ -200,33 +214,39 @@ module _ (q : Shogi) (e : Eval) (gains king squares shut a : ℕ) (ha : a < 81) 
       may_there : promote ≡ true → may_promote (piece_at q.cells from) from n ≡ true
       may_there p = ap (λ (cell : Option Piece). may_promote cell from n) (sym there) ∙ may p
 
-      out : (some : cell_reaches (without_king q king) (piece_at q.cells from) from n ≡ true) → IsCalmOffLines (lifted q a) e gains king squares from n promote ⊎ IsShut (lifted q a) shut from n
-      out some = elim (cases_eq n a) [
-        | inl at ↦ (
-            let calm = lets.calm promote (subst (λ (y : ℕ). cell_reaches (without_king q king) (piece_at q.cells from) from y ≡ true) at some) (λ p. subst (λ (y : ℕ). may_promote (piece_at q.cells from) from y ≡ true) at (may_there p)) in
-            let none : taken_gain e (piece_at (lifted q a).cells n) ≡ 0 = ap (λ (y : ℕ). taken_gain e (piece_at (lifted q a).cells y)) at ∙ ap (taken_gain e) gone in
+      moved_there : (m set : ℕ) → AreOffLines from squares set → LeavesOne quiet_only (without_king q king) (piece_moved promote (piece_at q.cells from)) m set → LeavesOne quiet_only (without_king (lifted q a) king) (piece_moved promote (piece_at (lifted q a).cells from)) m set
+      moved_there m set lines one = subst (λ (cell : Option Piece). LeavesOne quiet_only (without_king (lifted q a) king) (piece_moved promote cell) m set) (sym there) (leaves (piece_moved promote (piece_at q.cells from)) m set (λ i hi bit. (lines i hi bit).0) one)
+
+      -- it goes there anew
+      anew : (cell_reaches (without_king q king) (piece_at q.cells from) from n ≡ true → n ≡ a) → IsCalmOffLines quiet_only (lifted q a) e gains king squares from n promote
+      anew fresh =
+          let calm = lets.calm n promote h free (ap (λ (cell : Option Piece). cell_reaches (without_king (lifted q a) king) cell from n) (sym there) ∙ reached) fresh may_there in
+          let little : promotion_gain promote (piece_at (lifted q a).cells from) ≡ promotion_gain promote (piece_at q.cells from) = ap (promotion_gain promote) there in
+          let few : taken_gain e (piece_at (lifted q a).cells n) + promotion_gain promote (piece_at q.cells from) ≤ gains = calm.0 in
+          (omega (arith, little, few), (calm.1.0, calm.1.1, moved_there n calm.1.0 calm.1.1 calm.1.2))
+
+      -- or as before
+      as_before : n ≢ a → cell_reaches (without_king q king) (piece_at q.cells from) from n ≡ true → IsCalmOffLines quiet_only (lifted q a) e gains king squares from n promote ⊎ IsShut (lifted q a) shut from n
+      as_before other was = elim (quiet.pieces from hf mine_there n promote h (ap (is_piece_of q.side) (sym (same n other)) ∙ free) was may_there) [
+        | inl calm ↦ (
+            let alike : taken_gain e (piece_at (lifted q a).cells n) ≡ taken_gain e (piece_at q.cells n) = ap (taken_gain e) (same n other) in
             let little : promotion_gain promote (piece_at (lifted q a).cells from) ≡ promotion_gain promote (piece_at q.cells from) = ap (promotion_gain promote) there in
-            let few : promotion_gain promote (piece_at q.cells from) ≤ gains = calm.0 in
-            inl (omega (arith, none, little, few), (calm.1.0, calm.1.1, moved_there n calm.1.0 calm.1.1 (subst (λ (y : ℕ). LeavesOne (without_king q king) (piece_moved promote (piece_at q.cells from)) y calm.1.0) (sym at) calm.1.2))))
-        | inr other ↦ elim (quiet.pieces from hf mine_there n promote h (ap (is_piece_of q.side) (sym (same n other)) ∙ free) some may_there) [
-          | inl calm ↦ (
-              let alike : taken_gain e (piece_at (lifted q a).cells n) ≡ taken_gain e (piece_at q.cells n) = ap (taken_gain e) (same n other) in
-              let little : promotion_gain promote (piece_at (lifted q a).cells from) ≡ promotion_gain promote (piece_at q.cells from) = ap (promotion_gain promote) there in
-              let few : taken_gain e (piece_at q.cells n) + promotion_gain promote (piece_at q.cells from) ≤ gains = calm.0 in
-              inl (omega (arith, alike, little, few), (calm.1.0, calm.1.1, moved_there n calm.1.0 calm.1.1 calm.1.2)))
-          | inr stopped ↦ inr (shut_lifted q shut a from n quiet.standing.cells_fit ha hf h (λ at. off_a (sym at)) (λ at. other (sym at)) off stopped)
+            let few : taken_gain e (piece_at q.cells n) + promotion_gain promote (piece_at q.cells from) ≤ gains = calm.0 in
+            inl (omega (arith, alike, little, few), (calm.1.0, calm.1.1, moved_there n calm.1.0 calm.1.1 calm.1.2)))
+        | inr stopped ↦ inr (shut_lifted q shut a from n quiet.standing.cells_fit ha hf h (λ at. off_a (sym at)) (λ at. other (sym at)) off stopped)
+      ]
+
+      goes : IsCalmOffLines quiet_only (lifted q a) e gains king squares from n promote ⊎ IsShut (lifted q a) shut from n
+      goes = elim (cases_eq n a) [
+        | inl at ↦ inl (anew (λ was. at))
+        | inr other ↦ elim (cases_Bool (cell_reaches (without_king q king) (piece_at q.cells from) from n)) [
+          | inl was ↦ as_before other was
+          | inr new ↦ inl (anew (λ was. absurd (both_ways (cell_reaches (without_king q king) (piece_at q.cells from) from n) new was)))
         ]
       ]
-        where
-          moved_there : (m set : ℕ) → AreOffLines from squares set → LeavesOne (without_king q king) (piece_moved promote (piece_at q.cells from)) m set → LeavesOne (without_king (lifted q a) king) (piece_moved promote (piece_at (lifted q a).cells from)) m set
-          moved_there m set lines one = subst (λ (cell : Option Piece). LeavesOne (without_king (lifted q a) king) (piece_moved promote cell) m set) (sym there) (leaves (piece_moved promote (piece_at q.cells from)) m set (λ i hi bit. (lines i hi bit).0) one)
-
-      by_cell : (cell : Option Piece) → piece_at q.cells from ≡ cell → IsCalmOffLines (lifted q a) e gains king squares from n promote ⊎ IsShut (lifted q a) shut from n
-      by_cell None is = absurd (both_ways (is_piece_of q.side None) refl (ap (is_piece_of q.side) (sym is) ∙ mine_there))
-      by_cell (Some piece) is = out (ap (λ (cell : Option Piece). cell_reaches (without_king q king) cell from n) is ∙ reach_cut (without_king q king) (without_king (lifted q a) king) a opened piece from n hf h ha (lets.shut piece is) (ap (λ (cell : Option Piece). cell_reaches (without_king (lifted q a) king) cell from n) (sym (there ∙ is)) ∙ reached))
 
   -- so it may leave
-  pub lift_quiet : ((from : ℕ) → from < 81 → is_piece_of q.side (piece_at q.cells from) ≡ true → PieceLetsLeave q e gains king squares from a) → ((kind : Kind) → 0 < count_in_hand q.hands q.side kind → KindLetsLeave q king squares kind a) → IsQuietThere (lifted q a) e gains king squares shut
+  pub lift_quiet : ((from : ℕ) → from < 81 → is_piece_of q.side (piece_at q.cells from) ≡ true → PieceLetsLeave quiet_only q e gains king squares from a) → ((kind : Kind) → 0 < count_in_hand q.hands q.side kind → KindLetsLeave quiet_only q king squares kind a) → IsQuietThere quiet_only (lifted q a) e gains king squares shut
   lift_quiet pieces kinds = record {
     standing = record {
       cells_fit = length-set q.cells a None ∙ quiet.standing.cells_fit;
@@ -234,14 +254,14 @@ module _ (q : Shogi) (e : Eval) (gains king squares shut a : ℕ) (ha : a < 81) 
       crown = crown_now;
       lone = lone_now;
       unchecked = unchecked_now;
-      replies = λ n h bit no nor. quiet.standing.replies n h bit (λ was. no (escape_now n h bit was)) (λ own. nor (own.0, spare_now own.1));
+      replies = λ n h bit no nor. quiet.standing.replies n h bit (λ was. no (record { escape = escape_now n h bit was.escape; bare = λ only. bare_now n (was.bare only) })) (λ own. nor (own.0, spare_now own.1));
     };
     pieces = λ from hf own. piece_calm from hf own (pieces from hf (elim (cases_eq from a) [
       | inl at ↦ absurd (both_ways (is_piece_of q.side None) refl (ap (is_piece_of q.side) (sym (ap (piece_at (lifted q a).cells) at ∙ gone)) ∙ own))
       | inr off ↦ ap (is_piece_of q.side) (sym (same from off)) ∙ own
     ]));
     kinds = λ kind held n h bare moves. leaves (dropped q.side kind) n squares (λ m hm bit. bit) (elim (cases_eq n a) [
-      | inl at ↦ subst (λ (y : ℕ). LeavesOne (without_king q king) (dropped q.side kind) y squares) (sym at) (kinds kind held (subst (λ (y : ℕ). is_immobile y (dropped q.side kind) ≡ false) at moves))
+      | inl at ↦ subst (λ (y : ℕ). LeavesOne quiet_only (without_king q king) (dropped q.side kind) y squares) (sym at) (kinds kind held (subst (λ (y : ℕ). is_immobile y (dropped q.side kind) ≡ false) at moves))
       | inr off ↦ quiet.kinds kind held n h (sym (same n off) ∙ bare) moves
     ]);
   }

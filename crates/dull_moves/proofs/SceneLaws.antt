@@ -1,8 +1,8 @@
 -- What sets of squares say of the moves of a side.
-use Rattle.std.proofs.Common.{◌≡◌, ◌≢◌, ℕ, ◌+◌, ◌-◌, ◌^◌, ◌<◌, ◌≤◌, Bool, true, false, Option, Some, None, refl, sym, ap, subst, ◌∙◌, inl, inr, arith, bit_and, bit_or, set, get_or-set_other}
+use Rattle.std.proofs.Common.{◌≡◌, ◌≢◌, ◌⊎◌, ℕ, ◌+◌, ◌-◌, ◌^◌, ◌<◌, ◌≤◌, Bool, true, false, Option, Some, None, refl, sym, ap, subst, ◌∙◌, inl, inr, arith, bit_and, bit_or, set, get_or-set_other}
 use Rattle.std.proofs.lemmas.List.{set_comm}
-use Rattle.std.specs.Prelude.{◌||◌, ◌==◌, is_none, nat_lt}
-use Rattle.std.proofs.lemmas.Bool.{and_from, and_parts, both_ways, cases_Bool, cases_eq, eq-eqb, false_from_ne_true, ltb-false, not_from_false, or_cases, or_left, or_parts, or_right}
+use Rattle.std.specs.Prelude.{◌&&◌, ◌||◌, not, ◌==◌, is_none, nat_lt}
+use Rattle.std.proofs.lemmas.Bool.{and_from, and_parts, both_ways, cases_Bool, cases_eq, eq-eqb, false_from_ne_true, ltb-false, not-true, not_from_false, or_cases, or_left, or_parts, or_right}
 use Rattle.shogi_core.specs.declared.piece.Color.{Color}
 use Rattle.shogi_core.specs.declared.piece.Color.TheVariants.{Black, White}
 use Rattle.shogi_core.specs.declared.piece.Kind.{Kind}
@@ -11,7 +11,7 @@ use Rattle.shogi_core.specs.declared.piece.Piece.{Piece}
 use Rattle.shogi_core.specs.Bits.{has_bit}
 use Rattle.shogi_core.specs.Sets.{IsSifted, IsUnion}
 use Rattle.shogi_core.specs.declared.squares.Squares.{Squares}
-use Rattle.shogi_core.specs.Cell.{is_immobile, is_king, is_piece_of, is_slider, is_sliding_role}
+use Rattle.shogi_core.specs.Cell.{is_immobile, is_king, is_piece_of, is_sliding_role}
 use Rattle.shogi_core.specs.Lines.{are_aligned, are_lined}
 use Rattle.shogi_core.specs.Movement.{Cells, cell_reaches, piece_at, reaches}
 use Rattle.shogi_core.specs.Pieces.{is_same_color, opponent_of}
@@ -21,9 +21,12 @@ use Rattle.shogi_core.proofs.BitLaws.{has_bit-and, has_bit-none, has_bit-or}
 use Rattle.shogi_core.proofs.LineBits.{has_bit-not}
 use Rattle.shogi_core.proofs.SeenLaws.{lined_back}
 use Rattle.shogi_moves.specs.After.{dropped, piece_moved}
+use Rattle.shogi_moves.proofs.CheckInfoLaws.{other_side}
+use Rattle.shogi_moves.proofs.KingLaws.{king_own}
 use Rattle.shogi_eval.specs.declared.eval.Eval.{Eval}
 use Rattle.shogi_eval.specs.Material.{promotion_gain, taken_gain}
 use Rattle.shogi_replies.proofs.KingGoes.{cleared_none}
+use Rattle.dull_moves.proofs.Lifting.{reach_lifted}
 use Rattle.dull_moves.proofs.Sets.{out_parts}
 use Rattle.dull_moves.proofs.Shut.{shut_more}
 use Rattle.shogi_eval.specs.Evaluated.{Evaluated}
@@ -107,45 +110,49 @@ off_left a b n out = (off_two a b n out).0
 pub off_right : (a b n : ℕ) → has_bit (bit_or a b) n ≡ false → has_bit b n ≡ false
 off_right a b n out = (off_two a b n out).1
 
-pub promotes_nowhere : (q : Shogi) (e : Eval) (gains king : ℕ) (piece : Piece) (squares all : ℕ) → ((n : ℕ) → n < 81 → has_bit all n ≡ true) → AllowsPromotions q e gains king piece squares all
-promotes_nowhere q e gains king piece squares all every = record {
+pub promotes_nowhere : (quiet_only : Bool) (q : Shogi) (e : Eval) (gains king : ℕ) (piece : Piece) (squares all : ℕ) → ((n : ℕ) → n < 81 → has_bit all n ≡ true) → AllowsPromotions quiet_only q e gains king piece squares all
+promotes_nowhere quiet_only q e gains king piece squares all every = record {
   leaves = λ n h out. absurd (both_ways (has_bit all n) out (every n h));
   gain = λ n h out. absurd (both_ways (has_bit all n) out (every n h));
   takes = λ n h out free. absurd (both_ways (has_bit all n) out (every n h));
 }
 
-pub promotes_off : (q : Shogi) (e : Eval) (gains king : ℕ) (board : Cells) (piece promoted : Piece) (more dear covered squares : ℕ) → board ≡ without_king q king → piece_moved true (Some piece) ≡ Some promoted → more ≡ promotion_gain true (Some piece) → more ≤ gains → AreDear q.cells q.side e (gains - more) dear
-    → ((n : ℕ) → n < 81 → has_bit covered n ≡ false → LeavesOne board (Some promoted) n squares) → AllowsPromotions q e gains king piece squares (bit_or dear covered)
-promotes_off q e gains king board piece promoted more dear covered squares lifted is gain fits dearer leaves = record {
-  leaves = λ n h out. subst (λ (x : Option Piece). LeavesOne (without_king q king) x n squares) (sym is) (subst (λ (cells : Cells). LeavesOne cells (Some promoted) n squares) lifted (leaves n h (off_two dear covered n out).1));
+pub promotes_off : (quiet_only : Bool) (q : Shogi) (e : Eval) (gains king : ℕ) (board : Cells) (piece promoted : Piece) (more dear covered squares : ℕ) → board ≡ without_king q king → piece_moved true (Some piece) ≡ Some promoted → more ≡ promotion_gain true (Some piece) → more ≤ gains → AreDear q.cells q.side e (gains - more) dear
+    → ((n : ℕ) → n < 81 → has_bit covered n ≡ false → LeavesOne quiet_only board (Some promoted) n squares) → AllowsPromotions quiet_only q e gains king piece squares (bit_or dear covered)
+promotes_off quiet_only q e gains king board piece promoted more dear covered squares lifted is gain fits dearer leaves = record {
+  leaves = λ n h out. subst (λ (x : Option Piece). LeavesOne quiet_only (without_king q king) x n squares) (sym is) (subst (λ (cells : Cells). LeavesOne quiet_only cells (Some promoted) n squares) lifted (leaves n h (off_two dear covered n out).1));
   gain = λ n h out. omega (arith, gain, fits);
   takes = λ n h out free. (let few : taken_gain e (piece_at q.cells n) ≤ gains - more = dearer n h free (off_two dear covered n out).0 in omega (arith, few, gain, fits));
 }
 
-pub allows_off : (q : Shogi) (e : Eval) (gains king : ℕ) (board : Cells) (piece : Piece) (squares dear covered : ℕ) (promoting forbidden : Squares) → board ≡ without_king q king → AreDear q.cells q.side e gains dear → ((n : ℕ) → n < 81 → has_bit covered n ≡ false → LeavesOne board (Some piece) n squares) → forbidden.bits ≡ bit_or dear covered
-    → AllowsPromotions q e gains king piece squares promoting.bits → Allows q e gains king piece squares (record { non_promoting = forbidden; promoting = promoting })
-allows_off q e gains king board piece squares dear covered promoting forbidden lifted dearer leaves is promotions = record {
-  leaves = λ n h out. subst (λ (cells : Cells). LeavesOne cells (Some piece) n squares) lifted (leaves n h (off_two dear covered n (ap (λ (m : ℕ). has_bit m n) (sym is) ∙ out)).1);
+pub allows_off : (quiet_only : Bool) (q : Shogi) (e : Eval) (gains king : ℕ) (board : Cells) (piece : Piece) (squares dear covered : ℕ) (promoting forbidden : Squares) → board ≡ without_king q king → AreDear q.cells q.side e gains dear → ((n : ℕ) → n < 81 → has_bit covered n ≡ false → LeavesOne quiet_only board (Some piece) n squares) → forbidden.bits ≡ bit_or dear covered
+    → AllowsPromotions quiet_only q e gains king piece squares promoting.bits → Allows quiet_only q e gains king piece squares (record { non_promoting = forbidden; promoting = promoting })
+allows_off quiet_only q e gains king board piece squares dear covered promoting forbidden lifted dearer leaves is promotions = record {
+  leaves = λ n h out. subst (λ (cells : Cells). LeavesOne quiet_only cells (Some piece) n squares) lifted (leaves n h (off_two dear covered n (ap (λ (m : ℕ). has_bit m n) (sym is) ∙ out)).1);
   takes = λ n h free out. dearer n h free (off_two dear covered n (ap (λ (m : ℕ). has_bit m n) (sym is) ∙ out)).0;
   promotions = promotions;
 }
 
 -- ---- the moves of a piece
 
+-- the position in which a piece is lifted
+abbrev lifted_from : Shogi → ℕ → Shogi
+lifted_from q a = lifted q a
+
 no_promotion : (cell : Option Piece) → promotion_gain false cell ≡ 0
 no_promotion None = refl
 no_promotion (Some piece) = refl
 
 -- a move is calm to a square that is not forbidden
-calm_there : (q : Shogi) (e : Eval) (gains king : ℕ) (piece : Piece) (squares n : ℕ) (promote : Bool) (forbidden : ForbiddenSquares) → Allows q e gains king piece squares forbidden → n < 81 → has_bit forbidden.non_promoting.bits n ≡ false → (promote ≡ true → has_bit forbidden.promoting.bits n ≡ false)
-    → (promotion_gain promote (Some piece) ≤ gains) × LeavesOne (without_king q king) (piece_moved promote (Some piece)) n squares
-calm_there q e gains king piece squares n true forbidden allows h out off = (allows.promotions.gain n h (off refl), allows.promotions.leaves n h (off refl))
-calm_there q e gains king piece squares n false forbidden allows h out off = let nothing : promotion_gain false (Some piece) ≡ 0 = no_promotion (Some piece) in (omega (arith, nothing), allows.leaves n h out)
+calm_there : (quiet_only : Bool) (q : Shogi) (e : Eval) (gains king : ℕ) (piece : Piece) (squares n : ℕ) (promote : Bool) (forbidden : ForbiddenSquares) → Allows quiet_only q e gains king piece squares forbidden → n < 81 → has_bit forbidden.non_promoting.bits n ≡ false → (promote ≡ true → has_bit forbidden.promoting.bits n ≡ false)
+    → (promotion_gain promote (Some piece) ≤ gains) × LeavesOne quiet_only (without_king q king) (piece_moved promote (Some piece)) n squares
+calm_there quiet_only q e gains king piece squares n true forbidden allows h out off = (allows.promotions.gain n h (off refl), allows.promotions.leaves n h (off refl))
+calm_there quiet_only q e gains king piece squares n false forbidden allows h out off = let nothing : promotion_gain false (Some piece) ≡ 0 = no_promotion (Some piece) in (omega (arith, nothing), allows.leaves n h out)
 
-gain_there : (q : Shogi) (e : Eval) (gains king : ℕ) (piece : Piece) (squares n : ℕ) (promote : Bool) (forbidden : ForbiddenSquares) → Allows q e gains king piece squares forbidden → n < 81 → is_piece_of q.side (piece_at q.cells n) ≡ false → has_bit forbidden.non_promoting.bits n ≡ false → (promote ≡ true → has_bit forbidden.promoting.bits n ≡ false)
+gain_there : (quiet_only : Bool) (q : Shogi) (e : Eval) (gains king : ℕ) (piece : Piece) (squares n : ℕ) (promote : Bool) (forbidden : ForbiddenSquares) → Allows quiet_only q e gains king piece squares forbidden → n < 81 → is_piece_of q.side (piece_at q.cells n) ≡ false → has_bit forbidden.non_promoting.bits n ≡ false → (promote ≡ true → has_bit forbidden.promoting.bits n ≡ false)
     → taken_gain e (piece_at q.cells n) + promotion_gain promote (Some piece) ≤ gains
-gain_there q e gains king piece squares n true forbidden allows h free out off = allows.promotions.takes n h (off refl) free
-gain_there q e gains king piece squares n false forbidden allows h free out off =
+gain_there quiet_only q e gains king piece squares n true forbidden allows h free out off = allows.promotions.takes n h (off refl) free
+gain_there quiet_only q e gains king piece squares n false forbidden allows h free out off =
     let nothing : promotion_gain false (Some piece) ≡ 0 = no_promotion (Some piece) in
     let few : taken_gain e (piece_at q.cells n) ≤ gains = allows.takes n h free out in
     omega (arith, nothing, few)
@@ -156,8 +163,8 @@ pub record AreForbidden (piece : Piece) (from targets : ℕ) (forbidden : Forbid
   pub promoting : (n : ℕ) → n < 81 → has_bit targets n ≡ true → has_bit found n ≡ false → may_promote (Some piece) from n ≡ true → has_bit forbidden.promoting.bits n ≡ false
 
 -- a piece whose moves to forbidden targets are shut, but to squares of its own side
-module _ (q : Shogi) (e : Eval) (gains king : ℕ) (board : Cells) (piece : Piece) (from targets own lines clear squares found : ℕ) (forbidden : ForbiddenSquares) (lifted : board ≡ without_king q king) (is : piece_at q.cells from ≡ Some piece) (reach : (n : ℕ) → n < 81 → has_bit targets n ≡ cell_reaches board (Some piece) from n)
-    (lined : (n : ℕ) → n < 81 → has_bit lines n ≡ are_aligned from n) (lines_fit : lines < 2 ^ 81) (opens : clear ≡ bit_and squares (2 ^ 128 - 1 - lines)) (allows : Allows q e gains king piece clear forbidden) (these : AreForbidden piece from targets forbidden found) where
+module _ (quiet_only : Bool) (q : Shogi) (e : Eval) (gains king : ℕ) (board : Cells) (piece : Piece) (from targets own lines clear squares found : ℕ) (forbidden : ForbiddenSquares) (lifted : board ≡ without_king q king) (is : piece_at q.cells from ≡ Some piece) (reach : (n : ℕ) → n < 81 → has_bit targets n ≡ cell_reaches board (Some piece) from n)
+    (lined : (n : ℕ) → n < 81 → has_bit lines n ≡ are_aligned from n) (lines_fit : lines < 2 ^ 81) (opens : clear ≡ bit_and squares (2 ^ 128 - 1 - lines)) (allows : Allows quiet_only q e gains king piece clear forbidden) (these : AreForbidden piece from targets forbidden found) where
   led : (n : ℕ) → n < 81 → cell_reaches (without_king q king) (piece_at q.cells from) from n ≡ true → has_bit targets n ≡ true
   led n h reached = reach n h ∙ (ap (λ (cells : Cells). cell_reaches cells (Some piece) from n) lifted ∙ (ap (λ (x : Option Piece). cell_reaches (without_king q king) x from n) (sym is) ∙ reached))
 
@@ -165,49 +172,98 @@ module _ (q : Shogi) (e : Eval) (gains king : ℕ) (board : Cells) (piece : Piec
   off_lines m hm set = let out = out_parts squares lines m lines_fit hm (sym (ap (λ (x : ℕ). has_bit x m) opens) ∙ set) in (out.0, sym (lined m hm) ∙ out.1)
 
   calm_off : (n : ℕ) (promote : Bool) → n < 81 → has_bit targets n ≡ true → has_bit found n ≡ false → (promote ≡ true → may_promote (piece_at q.cells from) from n ≡ true)
-      → (promotion_gain promote (piece_at q.cells from) ≤ gains) × ((set : ℕ) × AreOffLines from squares set × LeavesOne (without_king q king) (piece_moved promote (piece_at q.cells from)) n set)
+      → (promotion_gain promote (piece_at q.cells from) ≤ gains) × ((set : ℕ) × AreOffLines from squares set × LeavesOne quiet_only (without_king q king) (piece_moved promote (piece_at q.cells from)) n set)
   calm_off n promote h on out lets =
-      let one = calm_there q e gains king piece clear n promote forbidden allows h (these.non_promoting n on out) (λ p. these.promoting n h on out (ap (λ (x : Option Piece). may_promote x from n) (sym is) ∙ lets p)) in
-      (subst (λ (x : Option Piece). promotion_gain promote x ≤ gains) (sym is) one.0, (clear, off_lines, subst (λ (x : Option Piece). LeavesOne (without_king q king) (piece_moved promote x) n clear) (sym is) one.1))
+      let one = calm_there quiet_only q e gains king piece clear n promote forbidden allows h (these.non_promoting n on out) (λ p. these.promoting n h on out (ap (λ (x : Option Piece). may_promote x from n) (sym is) ∙ lets p)) in
+      (subst (λ (x : Option Piece). promotion_gain promote x ≤ gains) (sym is) one.0, (clear, off_lines, subst (λ (x : Option Piece). LeavesOne quiet_only (without_king q king) (piece_moved promote x) n clear) (sym is) one.1))
 
-  pub piece_calm : (rest shut : ℕ) → ((n : ℕ) → n < 81 → has_bit own n ≡ is_piece_of q.side (piece_at q.cells n)) → own < 2 ^ 81 → rest ≡ bit_and found (2 ^ 128 - 1 - own) → ((n : ℕ) → n < 81 → has_bit rest n ≡ true → IsShut q shut from n) → PieceIsCalm q e gains king squares shut from
+  pub piece_calm : (rest shut : ℕ) → ((n : ℕ) → n < 81 → has_bit own n ≡ is_piece_of q.side (piece_at q.cells n)) → own < 2 ^ 81 → rest ≡ bit_and found (2 ^ 128 - 1 - own) → ((n : ℕ) → n < 81 → has_bit rest n ≡ true → IsShut q shut from n) → PieceIsCalm quiet_only q e gains king squares shut from
   piece_calm rest shut owned own_fits left stopped n promote h free reached lets = elim (cases_Bool (has_bit found n)) [
     | inl some ↦ inr (stopped n h (ap (λ (m : ℕ). has_bit m n) left ∙ kept_out found own n own_fits h some (owned n h ∙ free)))
     | inr out ↦ (
         let on : has_bit targets n ≡ true = led n h reached in
-        let few : taken_gain e (piece_at q.cells n) + promotion_gain promote (Some piece) ≤ gains = gain_there q e gains king piece clear n promote forbidden allows h free (these.non_promoting n on out) (λ p. these.promoting n h on out (ap (λ (x : Option Piece). may_promote x from n) (sym is) ∙ lets p)) in
+        let few : taken_gain e (piece_at q.cells n) + promotion_gain promote (Some piece) ≤ gains = gain_there quiet_only q e gains king piece clear n promote forbidden allows h free (these.non_promoting n on out) (λ p. these.promoting n h on out (ap (λ (x : Option Piece). may_promote x from n) (sym is) ∙ lets p)) in
         inl (subst (λ (x : Option Piece). taken_gain e (piece_at q.cells n) + promotion_gain promote x ≤ gains) (sym is) few, (calm_off n promote h on out lets).1))
   ]
 
   same_piece : (other : Piece) → piece_at q.cells from ≡ Some other → Some other ≡ Some piece
   same_piece other at = sym at ∙ is
 
-  -- one that slides holds what it reaches
-  pub slider_lets : (a : ℕ) → a < 81 → has_bit targets a ≡ false → PieceLetsLeave q e gains king squares from a
-  slider_lets a h out = record {
-    shut = λ other at. inr (false_from_ne_true _ (λ r. both_ways (has_bit targets a) out (led a h (ap (λ (x : Option Piece). cell_reaches (without_king q king) x from a) at ∙ r))));
-    calm = λ promote reached lets. absurd (both_ways (has_bit targets a) out (led a h reached));
+  -- what it reaches anew, if it steps or does not reach the piece that leaves, is only where that stood
+  led_anew : (a n : ℕ) → from < 81 → a < 81 → n < 81 → (is_sliding_role piece.role ≡ false) ⊎ (has_bit targets a ≡ false) → cell_reaches (without_king (lifted_from q a) king) (piece_at q.cells from) from n ≡ true → (cell_reaches (without_king q king) (piece_at q.cells from) from n ≡ true → n ≡ a) → (n ≡ a) × (has_bit targets a ≡ true)
+  led_anew a n hf ha h cut reached fresh =
+      let was : cell_reaches (without_king q king) (piece_at q.cells from) from n ≡ true = ap (λ (x : Option Piece). cell_reaches (without_king q king) x from n) is
+      ∙ reach_lifted q king a piece from n hf h ha (elim cut [ inl still ↦ inl still | inr out ↦ inr (false_from_ne_true _ (λ r. both_ways (has_bit targets a) out (led a ha (ap (λ (x : Option Piece). cell_reaches (without_king q king) x from a) is ∙ r)))) ])
+      (ap (λ (x : Option Piece). cell_reaches (without_king (lifted_from q a) king) x from n) (sym is) ∙ reached) in
+      (fresh was, subst (λ (x : ℕ). has_bit targets x ≡ true) (fresh was) (led n h was))
+
+  -- one that slides lets leave what it does not reach
+  pub slider_lets : from < 81 → (a : ℕ) → a < 81 → has_bit targets a ≡ false → PieceLetsLeave quiet_only q e gains king squares from a
+  slider_lets hf a ha out = record { calm = λ n promote h free reached fresh lets. absurd (both_ways (has_bit targets a) out (led_anew a n hf ha h (inr out) reached fresh).1) }
+
+  -- and another one what it may move to
+  pub stepper_lets : from < 81 → is_sliding_role piece.role ≡ false → (a : ℕ) → a < 81 → has_bit found a ≡ false → PieceLetsLeave quiet_only q e gains king squares from a
+  stepper_lets hf still a ha out = record {
+    calm = λ n promote h free reached fresh lets. (
+        let at = led_anew a n hf ha h (inl still) reached fresh in
+        let calm = calm_off n promote h (subst (λ (x : ℕ). has_bit targets x ≡ true) (sym at.0) at.1) (subst (λ (x : ℕ). has_bit found x ≡ false) (sym at.0) out) lets in
+        let none : taken_gain e (piece_at (lifted_from q a).cells n) ≡ 0 = ap (λ (y : ℕ). taken_gain e (piece_at (lifted_from q a).cells y)) at.0 ∙ ap (taken_gain e) (cleared_none q.cells a) in
+        let few : promotion_gain promote (piece_at q.cells from) ≤ gains = calm.0 in
+        (omega (arith, none, few), calm.1));
   }
 
-  -- and another one what it may not move to
-  pub stepper_lets : is_sliding_role piece.role ≡ false → (a : ℕ) → a < 81 → has_bit found a ≡ false → PieceLetsLeave q e gains king squares from a
-  stepper_lets still a h out = record {
-    shut = λ other at. inl (subst (λ (x : Option Piece). is_slider x ≡ false) (sym (same_piece other at)) still);
-    calm = λ promote reached lets. calm_off a promote h (led a h reached) out lets;
+-- one that slides lets leave what is in its way, if nothing is forbidden of what it reaches then
+module _ (quiet_only : Bool) (q : Shogi) (e : Eval) (gains king : ℕ) (board : Cells) (piece : Piece) (from a targets opened own both others ends clear squares found : ℕ) (forbidden : ForbiddenSquares) (lifted : board ≡ without_king q king) (is : piece_at q.cells from ≡ Some piece) (reach : (n : ℕ) → n < 81 → has_bit targets n ≡ cell_reaches board (Some piece) from n)
+    (wide : (n : ℕ) → n < 81 → has_bit opened n ≡ cell_reaches (set board a None) (Some piece) from n) (owned : (n : ℕ) → n < 81 → has_bit own n ≡ is_piece_of q.side (piece_at q.cells n)) (joins : both ≡ bit_or own targets) (spares : (i : ℕ) → has_bit others i ≡ (has_bit both i && not (i == a))) (others_fit : others < 2 ^ 81) (rest : ends ≡ bit_and opened (2 ^ 128 - 1 - others))
+    (off_lines : AreOffLines from squares clear) (allows : Allows quiet_only q e gains king piece clear forbidden) (these : AreForbidden piece from ends forbidden found) (nothing : found ≡ 0) (off : king ≢ a) where
+  led_wide : (n : ℕ) → n < 81 → cell_reaches (without_king (lifted_from q a) king) (piece_at q.cells from) from n ≡ true → has_bit opened n ≡ true
+  led_wide n h reached = wide n h ∙ (ap (λ (cells : Cells). cell_reaches cells (Some piece) from n) (both_lifted board q.cells king a lifted off) ∙ (ap (λ (x : Option Piece). cell_reaches (without_king (lifted_from q a) king) x from n) (sym is) ∙ reached))
+
+  among_ends : (n : ℕ) → n < 81 → is_piece_of q.side (piece_at (lifted_from q a).cells n) ≡ false → cell_reaches (without_king (lifted_from q a) king) (piece_at q.cells from) from n ≡ true → (cell_reaches (without_king q king) (piece_at q.cells from) from n ≡ true → n ≡ a) → has_bit ends n ≡ true
+  among_ends n h free reached fresh = ap (λ (m : ℕ). has_bit m n) rest ∙ kept_out opened others n others_fit h (led_wide n h reached) (false_from_ne_true _ (λ on. (
+      let parts = and_parts (has_bit both n) (not (n == a)) (sym (spares n) ∙ on) in
+      let other : n ≢ a = λ at. both_ways (n == a) (not-true _ parts.1) (eq-eqb n a at) in
+      elim (or_cases (has_bit own n) (has_bit targets n) (sym (has_bit-or own targets n) ∙ (ap (λ (m : ℕ). has_bit m n) (sym joins) ∙ parts.0))) [
+        | inl mine ↦ both_ways (is_piece_of q.side (piece_at q.cells n)) (ap (is_piece_of q.side) (sym (get_or-set_other q.cells a n None None other)) ∙ free) (sym (owned n h) ∙ mine)
+        | inr led ↦ other (fresh (ap (λ (x : Option Piece). cell_reaches (without_king q king) x from n) is ∙ (ap (λ (cells : Cells). cell_reaches cells (Some piece) from n) (sym lifted) ∙ (sym (reach n h) ∙ led))))
+      ])))
+
+  pub blocker_lets : PieceLetsLeave quiet_only q e gains king squares from a
+  blocker_lets = record {
+    calm = λ n promote h free reached fresh lets. (
+        let on : has_bit ends n ≡ true = among_ends n h free reached fresh in
+        let out : has_bit found n ≡ false = ap (λ (m : ℕ). has_bit m n) nothing ∙ has_bit-none n in
+        let plain : has_bit forbidden.non_promoting.bits n ≡ false = these.non_promoting n on out in
+        let may : promote ≡ true → has_bit forbidden.promoting.bits n ≡ false = λ p. these.promoting n h on out (ap (λ (x : Option Piece). may_promote x from n) (sym is) ∙ lets p) in
+        let one = calm_there quiet_only q e gains king piece clear n promote forbidden allows h plain may in
+        let few : taken_gain e (piece_at (lifted_from q a).cells n) + promotion_gain promote (Some piece) ≤ gains = elim (cases_eq n a) [
+          | inl at ↦ (
+              let none : taken_gain e (piece_at (lifted_from q a).cells n) ≡ 0 = ap (λ (y : ℕ). taken_gain e (piece_at (lifted_from q a).cells y)) at ∙ ap (taken_gain e) (cleared_none q.cells a) in
+              let little : promotion_gain promote (Some piece) ≤ gains = one.0 in
+              omega (arith, none, little))
+          | inr other ↦ (
+              let same : piece_at (lifted_from q a).cells n ≡ piece_at q.cells n = get_or-set_other q.cells a n None None other in
+              subst (λ (x : Option Piece). taken_gain e x + promotion_gain promote (Some piece) ≤ gains) (sym same) (gain_there quiet_only q e gains king piece clear n promote forbidden allows h (ap (is_piece_of q.side) (sym same) ∙ free) plain may))
+        ] in
+        (subst (λ (x : Option Piece). taken_gain e (piece_at (lifted_from q a).cells n) + promotion_gain promote x ≤ gains) (sym is) few, (clear, off_lines, subst (λ (x : Option Piece). LeavesOne quiet_only (without_king q king) (piece_moved promote x) n clear) (sym is) one.1)));
   }
+
+-- the king of the other side stands off a piece
+pub king_apart : (q : Shogi) (king a : ℕ) → is_king (opponent_of q.side) (piece_at q.cells king) ≡ true → is_piece_of q.side (piece_at q.cells a) ≡ true → king ≢ a
+king_apart q king a crown mine at = both_ways (is_piece_of (opponent_of q.side) (piece_at q.cells a)) (other_side q.side (piece_at q.cells a) mine) (subst (λ (x : ℕ). is_piece_of (opponent_of q.side) (piece_at q.cells x) ≡ true) at (king_own (opponent_of q.side) (piece_at q.cells king) crown))
 
 -- ---- drops
 
-pub kind_lets : (q : Shogi) (king : ℕ) (board : Cells) (kind : Kind) (piece : Piece) (covered dead held squares : ℕ) → board ≡ without_king q king → dropped q.side kind ≡ Some piece → ((n : ℕ) → n < 81 → has_bit covered n ≡ false → LeavesOne board (Some piece) n squares)
-    → ((n : ℕ) → n < 81 → has_bit dead n ≡ is_immobile n (Some piece)) → dead < 2 ^ 81 → held ≡ bit_and covered (2 ^ 128 - 1 - dead) → (a : ℕ) → a < 81 → has_bit held a ≡ false → KindLetsLeave q king squares kind a
-kind_lets q king board kind piece covered dead held squares lifted is leaves stuck dead_fits live a h out moves =
+pub kind_lets : (quiet_only : Bool) (q : Shogi) (king : ℕ) (board : Cells) (kind : Kind) (piece : Piece) (covered dead held squares : ℕ) → board ≡ without_king q king → dropped q.side kind ≡ Some piece → ((n : ℕ) → n < 81 → has_bit covered n ≡ false → LeavesOne quiet_only board (Some piece) n squares)
+    → ((n : ℕ) → n < 81 → has_bit dead n ≡ is_immobile n (Some piece)) → dead < 2 ^ 81 → held ≡ bit_and covered (2 ^ 128 - 1 - dead) → (a : ℕ) → a < 81 → has_bit held a ≡ false → KindLetsLeave quiet_only q king squares kind a
+kind_lets quiet_only q king board kind piece covered dead held squares lifted is leaves stuck dead_fits live a h out moves =
     let off : has_bit covered a ≡ false = false_from_ne_true _ (λ on. both_ways (has_bit held a) out (ap (λ (m : ℕ). has_bit m a) live ∙ kept_out covered dead a dead_fits h on (stuck a h ∙ (ap (is_immobile a) (sym is) ∙ moves)))) in
-    subst (λ (x : Option Piece). LeavesOne (without_king q king) x a squares) (sym is) (subst (λ (cells : Cells). LeavesOne cells (Some piece) a squares) lifted (leaves a h off))
+    subst (λ (x : Option Piece). LeavesOne quiet_only (without_king q king) x a squares) (sym is) (subst (λ (cells : Cells). LeavesOne quiet_only cells (Some piece) a squares) lifted (leaves a h off))
 
-pub kind_calm : (q : Shogi) (king : ℕ) (board : Cells) (kind : Kind) (piece : Piece) (covered free dead held both squares : ℕ) → board ≡ without_king q king → dropped q.side kind ≡ Some piece → ((n : ℕ) → n < 81 → has_bit covered n ≡ false → LeavesOne board (Some piece) n squares)
-    → ((n : ℕ) → n < 81 → has_bit free n ≡ is_none (piece_at q.cells n)) → ((n : ℕ) → n < 81 → has_bit dead n ≡ is_immobile n (Some piece)) → dead < 2 ^ 81 → held ≡ bit_and covered (2 ^ 128 - 1 - dead) → both ≡ bit_and held free → both ≡ 0 → KindIsCalm q king squares kind
-kind_calm q king board kind piece covered free dead held both squares lifted is leaves empty stuck dead_fits live meet none n h bare moves =
-    kind_lets q king board kind piece covered dead held squares lifted is leaves stuck dead_fits live n h
+pub kind_calm : (quiet_only : Bool) (q : Shogi) (king : ℕ) (board : Cells) (kind : Kind) (piece : Piece) (covered free dead held both squares : ℕ) → board ≡ without_king q king → dropped q.side kind ≡ Some piece → ((n : ℕ) → n < 81 → has_bit covered n ≡ false → LeavesOne quiet_only board (Some piece) n squares)
+    → ((n : ℕ) → n < 81 → has_bit free n ≡ is_none (piece_at q.cells n)) → ((n : ℕ) → n < 81 → has_bit dead n ≡ is_immobile n (Some piece)) → dead < 2 ^ 81 → held ≡ bit_and covered (2 ^ 128 - 1 - dead) → both ≡ bit_and held free → both ≡ 0 → KindIsCalm quiet_only q king squares kind
+kind_calm quiet_only q king board kind piece covered free dead held both squares lifted is leaves empty stuck dead_fits live meet none n h bare moves =
+    kind_lets quiet_only q king board kind piece covered dead held squares lifted is leaves stuck dead_fits live n h
     (false_from_ne_true (has_bit held n) (λ on. both_ways (has_bit both n) (ap (λ (m : ℕ). has_bit m n) none ∙ has_bit-none n) (ap (λ (m : ℕ). has_bit m n) meet ∙ (has_bit-and held free n ∙ and_from _ _ on (empty n h ∙ ap is_none bare))))) moves
 
 pub each_kind : (fact : Kind → Type 0) → fact kinds.Pawn → fact kinds.Lance → fact kinds.Knight → fact kinds.Silver → fact kinds.Gold → fact kinds.Bishop → fact kinds.Rook → (kind : Kind) → fact kind
@@ -220,10 +276,10 @@ each_kind fact pawn lance knight silver gold bishop rook kinds.Bishop = bishop
 each_kind fact pawn lance knight silver gold bishop rook kinds.Rook = rook
 
 -- what is put on the square is idle
-pub idle_there : (q : Shogi) (e : Eval) (gains king : ℕ) (board : Cells) (piece : Piece) (to reach squares closed own rest found : ℕ) (forbidden : ForbiddenSquares) → board ≡ without_king q king → king < 81 → ((n : ℕ) → n < 81 → has_bit reach n ≡ cell_reaches board (Some piece) to n)
+pub idle_there : (quiet_only : Bool) (q : Shogi) (e : Eval) (gains king : ℕ) (board : Cells) (piece : Piece) (to reach squares closed own rest found : ℕ) (forbidden : ForbiddenSquares) → board ≡ without_king q king → king < 81 → ((n : ℕ) → n < 81 → has_bit reach n ≡ cell_reaches board (Some piece) to n)
     → has_bit squares to ≡ false → ((i : ℕ) → has_bit closed i ≡ (has_bit squares i || i == king)) → bit_and reach closed ≡ 0 → ((n : ℕ) → n < 81 → has_bit own n ≡ is_piece_of q.side (piece_at q.cells n)) → own < 2 ^ 81 → rest ≡ bit_and reach (2 ^ 128 - 1 - own)
-    → Allows q e gains king piece squares forbidden → AreForbidden piece to rest forbidden found → found ≡ 0 → IsIdle q e gains king squares (Some piece) to
-idle_there q e gains king board piece to reach squares closed own rest found forbidden lifted low led off shut none owned own_fits left allows these nothing = record {
+    → Allows quiet_only q e gains king piece squares forbidden → AreForbidden piece to rest forbidden found → found ≡ 0 → IsIdle quiet_only q e gains king squares (Some piece) to
+idle_there quiet_only q e gains king board piece to reach squares closed own rest found forbidden lifted low led off shut none owned own_fits left allows these nothing = record {
   off = off;
   king_far = far king low (shut king ∙ or_right (has_bit squares king) (king == king) (same king));
   far = λ n h set. far n h (shut n ∙ or_left (has_bit squares n) (n == king) set);
@@ -232,8 +288,8 @@ idle_there q e gains king board piece to reach squares closed own rest found for
       let out : has_bit found n ≡ false = ap (λ (m : ℕ). has_bit m n) nothing ∙ has_bit-none n in
       let may : promote ≡ true → has_bit forbidden.promoting.bits n ≡ false = λ p. these.promoting n h on out (lets p) in
       record {
-        gain = gain_there q e gains king piece squares n promote forbidden allows h free (these.non_promoting n on out) may;
-        leaves = (calm_there q e gains king piece squares n promote forbidden allows h (these.non_promoting n on out) may).1;
+        gain = gain_there quiet_only q e gains king piece squares n promote forbidden allows h free (these.non_promoting n on out) may;
+        leaves = (calm_there quiet_only q e gains king piece squares n promote forbidden allows h (these.non_promoting n on out) may).1;
       });
 }
   where
@@ -249,14 +305,14 @@ idle_there q e gains king board piece to reach squares closed own rest found for
 -- ---- what is calm or shut where more is shut
 
 -- what is calm is so where more is shut
-calm_more : (q : Shogi) (e : Eval) (gains king squares shut more from : ℕ) → ((x : ℕ) → has_bit more x ≡ false → has_bit shut x ≡ false) → PieceIsCalm q e gains king squares shut from → PieceIsCalm q e gains king squares more from
-calm_more q e gains king squares shut more from within calm n promote h free reached lets = elim (calm n promote h free reached lets) [ inl little ↦ inl little | inr stopped ↦ inr (shut_more q shut more from n within stopped) ]
+calm_more : (quiet_only : Bool) (q : Shogi) (e : Eval) (gains king squares shut more from : ℕ) → ((x : ℕ) → has_bit more x ≡ false → has_bit shut x ≡ false) → PieceIsCalm quiet_only q e gains king squares shut from → PieceIsCalm quiet_only q e gains king squares more from
+calm_more quiet_only q e gains king squares shut more from within calm n promote h free reached lets = elim (calm n promote h free reached lets) [ inl little ↦ inl little | inr stopped ↦ inr (shut_more q shut more from n within stopped) ]
 
 pub shut_next : (q : Shogi) (from shut more : ℕ) → ((n : ℕ) → IsShut q shut from n → IsShut q (bit_or shut more) from n) × ((n : ℕ) → IsShut q more from n → IsShut q (bit_or shut more) from n)
 shut_next q from shut more = (λ n. shut_more q shut (bit_or shut more) from n (off_left shut more), λ n. shut_more q more (bit_or shut more) from n (off_right shut more))
 
-pub calm_next : (q : Shogi) (e : Eval) (gains king squares shut more : ℕ) → ((n : ℕ) → PieceIsCalm q e gains king squares shut n → PieceIsCalm q e gains king squares (bit_or shut more) n) × ((n : ℕ) → PieceIsCalm q e gains king squares more n → PieceIsCalm q e gains king squares (bit_or shut more) n)
-calm_next q e gains king squares shut more = (λ n. calm_more q e gains king squares shut (bit_or shut more) n (off_left shut more), λ n. calm_more q e gains king squares more (bit_or shut more) n (off_right shut more))
+pub calm_next : (quiet_only : Bool) (q : Shogi) (e : Eval) (gains king squares shut more : ℕ) → ((n : ℕ) → PieceIsCalm quiet_only q e gains king squares shut n → PieceIsCalm quiet_only q e gains king squares (bit_or shut more) n) × ((n : ℕ) → PieceIsCalm quiet_only q e gains king squares more n → PieceIsCalm quiet_only q e gains king squares (bit_or shut more) n)
+calm_next quiet_only q e gains king squares shut more = (λ n. calm_more quiet_only q e gains king squares shut (bit_or shut more) n (off_left shut more), λ n. calm_more quiet_only q e gains king squares more (bit_or shut more) n (off_right shut more))
 
 -- ---- what is seen
 
@@ -278,7 +334,7 @@ all_seen q board king squares found lines post lifted says union lined a ha out 
 -- what stands on the square is idle on those of the ends that it reaches on another board
 abbrev pub AreIdleEndsFrom : Scene → Cells → ℕ → ℕ → Type 0
 AreIdleEndsFrom s before set from = (to : ℕ) → to < 81 → has_bit set to ≡ true → reaches before from to ≡ true
-    → IsIdle (lifted (place_in s) from) s.node.eval s.gains s.king s.squares.bits (piece_at s.standing from) to
+    → IsIdle s.quiet_only (lifted (place_in s) from) s.node.eval s.gains s.king s.squares.bits (piece_at s.standing from) to
 
 -- ends without those of the targets that are not idle
 pub merged_among : (ends targets idle n : ℕ) → ((m : ℕ) → has_bit idle m ≡ true → has_bit (bit_and targets ends) m ≡ true) → has_bit (bit_or (bit_and ends (2 ^ 128 - 1 - targets)) idle) n ≡ true → has_bit ends n ≡ true
@@ -294,10 +350,11 @@ merged_idle ends targets idle n fits h set on = elim (or_cases _ _ (sym (has_bit
 ]
 
 -- what is idle in a scene that is alike but for a piece that is lifted
-pub idle_alike : (s t : Scene) (a : ℕ) (cell : Option Piece) (to : ℕ) → place_in t ≡ lifted (place_in s) a → IsAlike s t → IsIdleIn t cell to → IsIdle (lifted (place_in s) a) s.node.eval s.gains s.king s.squares.bits cell to
+pub idle_alike : (s t : Scene) (a : ℕ) (cell : Option Piece) (to : ℕ) → place_in t ≡ lifted (place_in s) a → IsAlike s t → IsIdleIn t cell to → IsIdle s.quiet_only (lifted (place_in s) a) s.node.eval s.gains s.king s.squares.bits cell to
 idle_alike s t a cell to place alike idle =
-    subst (λ (q : Shogi). IsIdle q s.node.eval s.gains s.king s.squares.bits cell to) place
-    (subst (λ (squares : Squares). IsIdle (place_in t) s.node.eval s.gains s.king squares.bits cell to) alike.squares
-    (subst (λ (king : ℕ). IsIdle (place_in t) s.node.eval s.gains king t.squares.bits cell to) alike.king
-    (subst (λ (gains : ℕ). IsIdle (place_in t) s.node.eval gains t.king t.squares.bits cell to) alike.gains
-    (subst (λ (n : Evaluated). IsIdle (place_in t) n.eval t.gains t.king t.squares.bits cell to) alike.node idle))))
+    subst (λ (q : Shogi). IsIdle s.quiet_only q s.node.eval s.gains s.king s.squares.bits cell to) place
+    (subst (λ (squares : Squares). IsIdle s.quiet_only (place_in t) s.node.eval s.gains s.king squares.bits cell to) alike.squares
+    (subst (λ (king : ℕ). IsIdle s.quiet_only (place_in t) s.node.eval s.gains king t.squares.bits cell to) alike.king
+    (subst (λ (gains : ℕ). IsIdle s.quiet_only (place_in t) s.node.eval gains t.king t.squares.bits cell to) alike.gains
+    (subst (λ (n : Evaluated). IsIdle s.quiet_only (place_in t) n.eval t.gains t.king t.squares.bits cell to) alike.node
+    (subst (λ (quiet : Bool). IsIdle quiet (place_in t) t.node.eval t.gains t.king t.squares.bits cell to) alike.quiet_only idle)))))

@@ -1,6 +1,6 @@
 -- A side that is in no check and has spare moves has a legal one.
 use Rattle.std.proofs.Common.{◌≡◌, ◌≢◌, ℕ, ◌<◌, true, false, not, Option, Some, None, sym, ap, subst, ◌∙◌, inl, inr, ◌-◌, ◌^◌, bit_and}
-use Rattle.std.specs.Prelude.{◌&&◌, ◌||◌, ◌==◌, IfSome, is_none, is_some}
+use Rattle.std.specs.Prelude.{Bool, ◌&&◌, ◌||◌, ◌==◌, IfSome, is_none, is_some}
 use Rattle.std.proofs.lemmas.Bool.{and_from, and_parts, both_ways, cases_eq, eq-eqb, false_from_ne_true, not-true, or_parts}
 use Rattle.shogi_core.specs.declared.piece.Color.{Color}
 use Rattle.shogi_core.specs.declared.piece.Piece.{Piece}
@@ -37,10 +37,10 @@ unaligned cells color king a lone off = some_below_no 81 (is_line_of_king cells 
     ])))
 
 -- a move of the other side leaves such a step, if it ends on neither of its squares
-pub replies_by_step : (old new : Cells) (hands : HandCounts) (color : Color) (king d a t : ℕ) → HasNoOtherKing old color king → LeavesStanding old new color d → in_check new color ≡ false → a < 81 → t < 81 → a ≢ d → t ≢ d → is_piece_of color (piece_at old a) ≡ true → a ≢ king → are_aligned king a ≡ false → is_quiet_step old a t ≡ true
-    → HasBoardMove (record { cells = new; hands = hands; side = color })
-replies_by_step old new hands color king d a t lone k shut ha ht stays beside own other off step =
-    λ none. none a t ha ht (legal_step old new hands color d a t k shut ha ht stays beside (and_from _ _ (and_from _ _ own (ap not (lone a ha other))) (ap not (unaligned old color king a lone off))) step)
+pub replies_by_step : (quiet_only : Bool) (old new : Cells) (hands : HandCounts) (color : Color) (king d a t : ℕ) → HasNoOtherKing old color king → LeavesStanding old new color d → in_check new color ≡ false → a < 81 → t < 81 → a ≢ d → t ≢ d → is_piece_of color (piece_at old a) ≡ true → a ≢ king → are_aligned king a ≡ false → is_quiet_step old a t ≡ true
+    → HasBoardMove quiet_only (record { cells = new; hands = hands; side = color })
+replies_by_step quiet_only old new hands color king d a t lone k shut ha ht stays beside own other off step =
+    λ none. none a t ha ht (legal_step old new hands color d a t k shut ha ht stays beside (and_from _ _ (and_from _ _ own (ap not (lone a ha other))) (ap not (unaligned old color king a lone off))) step) (λ only. k.empty t (step_parts old a t step).1 beside)
 
 -- ---- one of three is left
 

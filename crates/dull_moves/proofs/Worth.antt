@@ -1,6 +1,6 @@
 -- A move is worth no more than what is left after it and a reply.
 use Rattle.std.proofs.Common.{◌≡◌, ◌≢◌, ℕ, ℤ, pos, ◌+◌, ◌-◌, ◌/◌, ◌%◌, ◌<◌, ◌-ℤ◌, ◌+ℤ◌, ◌≤ℤ◌, true, false, suc, refl, List, [], ◌∷◌, Some, sym, ap, subst, ◌∙◌, inl, inr, arith}
-use Rattle.std.specs.Prelude.{◌==◌}
+use Rattle.std.specs.Prelude.{◌==◌, ◌⊎◌, Bool, is_none}
 use Rattle.std.proofs.lemmas.Bool.{cases_lt}
 use Rattle.std.proofs.lemmas.Int.{by_lt_z, ints}
 use Rattle.shogi_core.specs.declared.moves.Move.{Move}
@@ -18,17 +18,16 @@ use Rattle.shogi_moves.proofs.LegalLaws.{after_code_at, after_code_of, is_legal_
 use Rattle.shogi_replies.proofs.ReplyLaws.{reply_by}
 use Rattle.shogi_eval.specs.declared.eval.Eval.{Eval}
 use Rattle.shogi_eval.specs.declared.points.TheConstants.{POINTS_MAX}
-use Rattle.shogi_eval.specs.declared.eval.Eval.TheVariants.{Plain, Hand, Exchange}
-use Rattle.shogi_eval.specs.Exchange.{leaf_after, resolves_captures}
+use Rattle.shogi_eval.specs.Exchange.{is_quiet, leaf_after, resolves_captures}
 use Rattle.shogi_eval.specs.Material.{material_of, promotion_gain, taken_gain}
 use Rattle.shogi_eval.proofs.Bounds.{material_bounds}
 use Rattle.shogi_eval.proofs.Gains.{gain_of}
 use Rattle.minimax.specs.Minimax.{ended, greatest_or, if_no_move_else, lost_value, value, worth}
 use Rattle.minimax.proofs.Greatest.{greatest_least}
 use Rattle.minimax.proofs.MinimaxLaws.{cut, ended_some, value-suc}
-use Rattle.minimax.proofs.Settling.{left_least}
+use Rattle.minimax.proofs.Settling.{left_least, left_plain, left_quiet}
 use Rattle.minimax.proofs.Valid.{board_of, drop_of}
-use Rattle.dull_moves.specs.Dull.{IsOnSquares, IsWorthAtMost}
+use Rattle.dull_moves.specs.Dull.{IsOnSquares, ReplySuffices, IsWorthAtMost}
 use Rattle.dull_moves.proofs.Materials.{material_after, move_valid}
 use Rattle.dull_moves.proofs.Squares.{move_back}
 
@@ -62,19 +61,19 @@ value_at_most q e d t low each = subst (λ (w : ℤ). w ≤ℤ t) (sym (value-su
 
 -- ---- one ply is worth no more than its moves gain, where none mates
 
--- a move of a piece that stays as it is is legal
-abbrev pub HasBoardMove : Shogi → Type 0
-HasBoardMove q = ((from to : ℕ) → from < 81 → to < 81 → is_legal q (Board from to false) ≡ true → ⊥) → ⊥
+-- a move of a piece that stays as it is is legal, to an empty square if that is to be quiet
+abbrev pub HasBoardMove : Bool → Shogi → Type 0
+HasBoardMove quiet_only q = ((from to : ℕ) → from < 81 → to < 81 → is_legal q (Board from to false) ≡ true → (quiet_only ≡ true → is_none (piece_at q.cells to) ≡ true) → ⊥) → ⊥
 
 -- each legal move of the position gains so little, and the other side has a move on the board after it
-pub record IsTame (q : Shogi) (e : Eval) (t : ℤ) : Type 0 where
+pub record IsTame (quiet_only : Bool) (q : Shogi) (e : Eval) (t : ℤ) : Type 0 where
   pub least : material_of q e ≤ℤ t
   pub gains : (c : Move) → IsOnSquares c → is_legal q c ≡ true → (material_of q e +ℤ gain_of q e c) ≤ℤ t
-  pub answered : (c : Move) → IsOnSquares c → is_legal q c ≡ true → HasBoardMove (after q c)
+  pub answered : (c : Move) → IsOnSquares c → is_legal q c ≡ true → HasBoardMove quiet_only (after q c)
 
-value_of_tame : (q : Shogi) (e : Eval) (t : ℤ) → IsValid q → lost_value 1 ≤ℤ t → IsTame q e t → value q e 1 ≤ℤ t
-value_of_tame q e t v low tame = value_at_most q e 0 t low (λ code c listed there on l.
-    let some : legal_codes (after_code q code) ≢ [] = λ none. tame.answered c on l (λ from to hf ht reply. reply_by (after q c) from to hf ht reply (ap legal_codes (sym there) ∙ none)) in
+value_of_tame : (quiet_only : Bool) (q : Shogi) (e : Eval) (t : ℤ) → IsValid q → lost_value 1 ≤ℤ t → IsTame quiet_only q e t → value q e 1 ≤ℤ t
+value_of_tame quiet_only q e t v low tame = value_at_most q e 0 t low (λ code c listed there on l.
+    let some : legal_codes (after_code q code) ≢ [] = λ none. tame.answered c on l (λ from to hf ht reply bare. reply_by (after q c) from to hf ht reply (ap legal_codes (sym there) ∙ none)) in
     let leaf : ended q e code ≡ leaf_after q e code = ended_some q e code some in
     let least : material_of (after_code q code) e ≤ℤ leaf_after q e code = left_least q e code in
     let same : material_of (after_code q code) e ≡ material_of (after q c) e = ap (λ (s : Shogi). material_of s e) there in
@@ -82,42 +81,42 @@ value_of_tame q e t v low tame = value_at_most q e 0 t low (λ code c listed the
     let few : (material_of q e +ℤ gain_of q e c) ≤ℤ t = tame.gains c on l in
     omega (arith, ints))
 
--- ---- nor are two, if captures at the end are not settled: the other side's move on the board loses it nothing
+-- ---- nor are two, if captures at the end are not settled, or that move is quiet: it loses its side nothing
 
-left_raw : (s : Shogi) (e : Eval) (code : ℕ) → resolves_captures e ≡ false → leaf_after s e code ≡ material_of (after_code s code) e
-left_raw s Plain code raw = refl
-left_raw s Hand code raw = refl
-left_raw s Exchange code raw = absurd (cc)
+-- nothing is settled after the move
+left_raw : (quiet_only : Bool) (s : Shogi) (e : Eval) (from to : ℕ) → (resolves_captures e ≡ false) ⊎ (quiet_only ≡ true) → from < 81 → to < 81 → (quiet_only ≡ true → is_none (piece_at s.cells to) ≡ true) → leaf_after s e (code_of (Board from to false)) ≡ material_of (after_code s (code_of (Board from to false))) e
+left_raw quiet_only s e from to (inl raw) hf ht bare = left_plain s e (code_of (Board from to false)) raw
+left_raw quiet_only s e from to (inr only) hf ht bare = left_quiet s e (code_of (Board from to false)) (ap (is_quiet s) (move_back (Board from to false) (hf, ht)) ∙ bare only)
 
 ended_at_most : (s : Shogi) (e : Eval) (code : ℕ) (codes : List ℕ) (t : ℤ) → legal_codes (after_code s code) ≡ codes → lost_value 0 ≤ℤ t → leaf_after s e code ≤ℤ t → ended s e code ≤ℤ t
 ended_at_most s e code [] t at low leaf = subst (λ (w : ℤ). w ≤ℤ t) (sym (ap (if_no_move_else (lost_value 0) (leaf_after s e code)) at)) low
 ended_at_most s e code (next ∷ more) t at low leaf = subst (λ (w : ℤ). w ≤ℤ t) (sym (ap (if_no_move_else (lost_value 0) (leaf_after s e code)) at)) leaf
 
 -- a move on the board is worth no less than what its side has
-board_worth : (s : Shogi) (e : Eval) (from to : ℕ) → IsValid s → resolves_captures e ≡ false → from < 81 → to < 81 → is_legal s (Board from to false) ≡ true → material_of s e ≤ℤ worth s e 0 (code_of (Board from to false))
-board_worth s e from to v raw hf ht l =
+board_worth : (quiet_only : Bool) (s : Shogi) (e : Eval) (from to : ℕ) → IsValid s → (resolves_captures e ≡ false) ⊎ (quiet_only ≡ true) → from < 81 → to < 81 → is_legal s (Board from to false) ≡ true → (quiet_only ≡ true → is_none (piece_at s.cells to) ≡ true) → material_of s e ≤ℤ worth s e 0 (code_of (Board from to false))
+board_worth quiet_only s e from to v raw hf ht l bare =
     let there : after_code s (code_of (Board from to false)) ≡ after s (Board from to false) = after_code_of s (Board from to false) (move_back (Board from to false) (hf, ht)) in
     let same : material_of (after_code s (code_of (Board from to false))) e ≡ material_of (after s (Board from to false)) e = ap (λ (q : Shogi). material_of q e) there in
     let made : material_of (after s (Board from to false)) e ≡ pos 0 -ℤ (material_of s e +ℤ pos (taken_gain e (piece_at s.cells to) + promotion_gain false (piece_at s.cells from))) = material_after s e (Board from to false) v (hf, ht) l in
-    let leaf : leaf_after s e (code_of (Board from to false)) ≡ material_of (after_code s (code_of (Board from to false))) e = left_raw s e (code_of (Board from to false)) raw in
+    let leaf : leaf_after s e (code_of (Board from to false)) ≡ material_of (after_code s (code_of (Board from to false))) e = left_raw quiet_only s e from to raw hf ht bare in
     let most : material_of s e ≤ℤ pos POINTS_MAX = (material_bounds s e v).1 in
     let little : ended s e (code_of (Board from to false)) ≤ℤ (pos 0 -ℤ material_of s e) = ended_at_most s e (code_of (Board from to false)) (legal_codes (after_code s (code_of (Board from to false)))) (pos 0 -ℤ material_of s e) refl (omega (arith, ints)) (omega (arith, ints)) in
     omega (arith, ints)
 
 -- so a side that has such a move is worth no less
-value_least : (s : Shogi) (e : Eval) → IsValid s → resolves_captures e ≡ false → HasBoardMove s → material_of s e ≤ℤ value s e 1
-value_least s e v raw has = by_lt_z (value s e 1) (material_of s e)
-    (λ less. absurd (has (λ from to hf ht l. (
-    let enough : material_of s e ≤ℤ value s e 1 = cut s e 1 (code_of (Board from to false)) (material_of s e) (omega arith) (legal_to_listed s (Board from to false) (move_back (Board from to false) (hf, ht)) l) (board_worth s e from to v raw hf ht l) in
+value_least : (quiet_only : Bool) (s : Shogi) (e : Eval) → IsValid s → (resolves_captures e ≡ false) ⊎ (quiet_only ≡ true) → HasBoardMove quiet_only s → material_of s e ≤ℤ value s e 1
+value_least quiet_only s e v raw has = by_lt_z (value s e 1) (material_of s e)
+    (λ less. absurd (has (λ from to hf ht l bare. (
+    let enough : material_of s e ≤ℤ value s e 1 = cut s e 1 (code_of (Board from to false)) (material_of s e) (omega arith) (legal_to_listed s (Board from to false) (move_back (Board from to false) (hf, ht)) l) (board_worth quiet_only s e from to v raw hf ht l bare) in
     omega (arith, ints)))))
     (λ enough. enough)
 
-two_plies_of_tame : (q : Shogi) (e : Eval) (t : ℤ) → IsValid q → resolves_captures e ≡ false → IsTame q e t → value q e 2 ≤ℤ t
-two_plies_of_tame q e t v raw tame =
+two_plies_of_tame : (quiet_only : Bool) (q : Shogi) (e : Eval) (t : ℤ) → IsValid q → (resolves_captures e ≡ false) ⊎ (quiet_only ≡ true) → IsTame quiet_only q e t → value q e 2 ≤ℤ t
+two_plies_of_tame quiet_only q e t v raw tame =
     let bound : (pos 0 -ℤ pos POINTS_MAX) ≤ℤ material_of q e = (material_bounds q e v).0 in
     let some : material_of q e ≤ℤ t = tame.least in
     value_at_most q e 1 t (omega (arith, ints)) (λ code c listed there on l. (
-    let least : material_of (after q c) e ≤ℤ value (after q c) e 1 = value_least (after q c) e (move_valid q c v on l) raw (tame.answered c on l) in
+    let least : material_of (after q c) e ≤ℤ value (after q c) e 1 = value_least quiet_only (after q c) e (move_valid q c v on l) raw (tame.answered c on l) in
     let same : value (after_code q code) e 1 ≡ value (after q c) e 1 = ap (λ (s : Shogi). value s e 1) there in
     let made : material_of (after q c) e ≡ pos 0 -ℤ (material_of q e +ℤ gain_of q e c) = material_after q e c v on l in
     let few : (material_of q e +ℤ gain_of q e c) ≤ℤ t = tame.gains c on l in
@@ -125,12 +124,14 @@ two_plies_of_tame q e t v raw tame =
 
 -- ---- what a move is worth after which a reply leaves so little
 
--- the position is worth at most so much with a ply left, and with two if captures are not settled
-abbrev pub AreAtMost : Shogi → Eval → ℤ → Type 0
-AreAtMost q e t = (value q e 1 ≤ℤ t) × (resolves_captures e ≡ false → value q e 2 ≤ℤ t)
+-- the position is worth at most so much with two plies less than so many
+abbrev pub AreAtMost : Shogi → Eval → ℕ → ℤ → Type 0
+AreAtMost q e depth t = value q e (depth - 2) ≤ℤ t
 
-pub tame_at_most : (q : Shogi) (e : Eval) (t : ℤ) → IsValid q → lost_value 1 ≤ℤ t → IsTame q e t → AreAtMost q e t
-tame_at_most q e t v low tame = (value_of_tame q e t v low tame, λ raw. two_plies_of_tame q e t v raw tame)
+pub tame_at_most : (quiet_only : Bool) (q : Shogi) (e : Eval) (depth : ℕ) (t : ℤ) → ReplySuffices quiet_only e depth → IsValid q → lost_value 1 ≤ℤ t → IsTame quiet_only q e t → AreAtMost q e depth t
+tame_at_most quiet_only q e depth t (inl three) v low tame = subst (λ (n : ℕ). value q e (n - 2) ≤ℤ t) (sym three) (value_of_tame quiet_only q e t v low tame)
+tame_at_most quiet_only q e depth t (inr four) v low tame = subst (λ (n : ℕ). value q e (n - 2) ≤ℤ t) (sym four.0) (two_plies_of_tame quiet_only q e t v four.1 tame)
 
-pub reply_at_most : (p : Shogi) (e : Eval) (m r : Move) (t : ℤ) → IsOnSquares m → IsOnSquares r → is_legal (after p m) r ≡ true → AreAtMost (after (after p m) r) e t → IsWorthAtMost p e t m
-reply_at_most p e m r t on there l low = (worth_by_reply p e 0 m r t on there l low.0, λ raw. worth_by_reply p e 1 m r t on there l (low.1 raw))
+pub reply_at_most : (quiet_only : Bool) (p : Shogi) (e : Eval) (depth : ℕ) (m r : Move) (t : ℤ) → ReplySuffices quiet_only e depth → IsOnSquares m → IsOnSquares r → is_legal (after p m) r ≡ true → AreAtMost (after (after p m) r) e depth t → IsWorthAtMost p e depth t m
+reply_at_most quiet_only p e depth m r t (inl three) on there l low = subst (λ (n : ℕ). worth p e (n - 1) (code_of m) ≤ℤ t) (sym three) (worth_by_reply p e 0 m r t on there l (subst (λ (n : ℕ). value (after (after p m) r) e (n - 2) ≤ℤ t) three low))
+reply_at_most quiet_only p e depth m r t (inr four) on there l low = subst (λ (n : ℕ). worth p e (n - 1) (code_of m) ≤ℤ t) (sym four.0) (worth_by_reply p e 1 m r t on there l (subst (λ (n : ℕ). value (after (after p m) r) e (n - 2) ≤ℤ t) four.0 low))

@@ -1,12 +1,12 @@
 -- Drops and quiet moves three or four plies before the end that change nothing of what one reply refutes (own choice).
-use Rattle.std.specs.Prelude.{ℕ, ◌≡◌, ◌≢◌, ◌⊎◌, ◌<◌, ◌≤◌, ◌≤ℤ◌, ◌+◌, ℤ, Bool, true, false, Option, None, Some, length, slice_set}
+use Rattle.std.specs.Prelude.{ℕ, ◌≡◌, ◌≢◌, ◌⊎◌, ◌<◌, ◌≤◌, ◌≤ℤ◌, ◌+◌, ◌-◌, ℤ, Bool, true, false, Option, None, Some, is_none, length, slice_set}
 use Rattle.shogi_core.specs.declared.moves.Move.{Move}
 use Rattle.shogi_core.specs.declared.moves.Move.TheVariants.{Board, Drop}
 use Rattle.shogi_core.specs.declared.piece.Color.{Color}
 use Rattle.shogi_core.specs.declared.piece.Kind.{Kind}
 use Rattle.shogi_core.specs.declared.piece.Piece.{Piece}
 use Rattle.shogi_core.specs.Bits.{has_bit}
-use Rattle.shogi_core.specs.Cell.{HasNoOtherKing, is_immobile, is_king, is_piece_of, is_sliding_role}
+use Rattle.shogi_core.specs.Cell.{HasNoOtherKing, is_immobile, is_king, is_piece_of}
 use Rattle.shogi_core.specs.Attack.{in_check}
 use Rattle.shogi_core.specs.Codes.{code_of}
 use Rattle.shogi_core.specs.Lines.{are_aligned, are_lined}
@@ -76,20 +76,20 @@ pub record LetsBe (p : Shogi) (kind : Kind) (to : ℕ) (r : Move) : Type 0 where
       IsHarmless (after_reply p r).cells (opponent_of p.side) (dropped p.side kind) to
   pub plain : is_pawn_drop r ≡ false
 
--- one of the squares is out of reach of this where it stands
-abbrev pub LeavesOne : Cells → Option Piece → ℕ → ℕ → Type 0
-LeavesOne cells cell n squares = (e : ℕ) × (e < 81) × (has_bit squares e ≡ true)
-    × (cell_reaches cells cell n e ≡ false)
+-- from the square where it stands, this reaches not each of the squares: one is left, another than that where it stands if replies have to be quiet
+abbrev pub LeavesOne : Bool → Cells → Option Piece → ℕ → ℕ → Type 0
+LeavesOne quiet_only cells cell n squares = (e : ℕ) × (e < 81) × (has_bit squares e ≡ true)
+    × (cell_reaches cells cell n e ≡ false) × (quiet_only ≡ true → e ≢ n)
 
 -- the squares of a board on which the king of the side that is not to move has left its own
 abbrev pub without_king : Shogi → ℕ → Cells
 without_king q king = slice_set q.cells king None
 
 -- a move of this from a square to another one gains no more than so much, and leaves one of the squares
-pub record IsCalm (q : Shogi) (e : Eval) (gains king : ℕ) (cell : Option Piece)
-    (squares n : ℕ) (promote : Bool) : Type 0 where
+pub record IsCalm (quiet_only : Bool) (q : Shogi) (e : Eval) (gains king : ℕ)
+    (cell : Option Piece) (squares n : ℕ) (promote : Bool) : Type 0 where
   pub gain : taken_gain e (piece_at q.cells n) + promotion_gain promote cell ≤ gains
-  pub leaves : LeavesOne (without_king q king) (piece_moved promote cell) n squares
+  pub leaves : LeavesOne quiet_only (without_king q king) (piece_moved promote cell) n squares
 
 -- no capture on a square that is not in the set gains more than so much
 abbrev pub AreDear : Cells → Color → Eval → ℕ → ℕ → Type 0
@@ -97,10 +97,10 @@ AreDear cells side e most set = (n : ℕ) → n < 81 → is_piece_of side (piece
     → has_bit set n ≡ false → taken_gain e (piece_at cells n) ≤ most
 
 -- off the set, promotions of this gain no more than so much, with what they take and without, and leave the king one of some squares
-pub record AllowsPromotions (q : Shogi) (e : Eval) (gains king : ℕ) (piece : Piece)
-    (squares set : ℕ) : Type 0 where
+pub record AllowsPromotions (quiet_only : Bool) (q : Shogi) (e : Eval) (gains king : ℕ)
+    (piece : Piece) (squares set : ℕ) : Type 0 where
   pub leaves : (n : ℕ) → n < 81 → has_bit set n ≡ false
-      → LeavesOne (without_king q king) (piece_moved true (Some piece)) n squares
+      → LeavesOne quiet_only (without_king q king) (piece_moved true (Some piece)) n squares
   pub gain : (n : ℕ) → n < 81 → has_bit set n ≡ false
       → promotion_gain true (Some piece) ≤ gains
   pub takes : (n : ℕ) → n < 81 → has_bit set n ≡ false
@@ -108,12 +108,13 @@ pub record AllowsPromotions (q : Shogi) (e : Eval) (gains king : ℕ) (piece : P
       → taken_gain e (piece_at q.cells n) + promotion_gain true (Some piece) ≤ gains
 
 -- off the one set, moves of this that do not promote gain no more than so much and leave the king one of some squares, and off the other one those that do
-pub record Allows (q : Shogi) (e : Eval) (gains king : ℕ) (piece : Piece) (squares : ℕ)
-    (forbidden : ForbiddenSquares) : Type 0 where
+pub record Allows (quiet_only : Bool) (q : Shogi) (e : Eval) (gains king : ℕ) (piece : Piece)
+    (squares : ℕ) (forbidden : ForbiddenSquares) : Type 0 where
   pub leaves : (n : ℕ) → n < 81 → has_bit forbidden.non_promoting.bits n ≡ false
-      → LeavesOne (without_king q king) (Some piece) n squares
+      → LeavesOne quiet_only (without_king q king) (Some piece) n squares
   pub takes : AreDear q.cells q.side e gains forbidden.non_promoting.bits
-  pub promotions : AllowsPromotions q e gains king piece squares forbidden.promoting.bits
+  pub promotions : AllowsPromotions quiet_only q e gains king piece squares
+      forbidden.promoting.bits
 
 -- the squares of a set that are on no line with a square
 abbrev pub AreOffLines : ℕ → ℕ → ℕ → Type 0
@@ -135,25 +136,26 @@ pub record IsShut (q : Shogi) (shut from n : ℕ) : Type 0 where
   pub way : AreNonInterfering (Board foe home false) shut
 
 -- a move of what stands on the square gains no more than so much, and leaves unattacked one of the squares that is on no line with it
-abbrev pub IsCalmOffLines : Shogi → Eval → ℕ → ℕ → ℕ → ℕ → ℕ → Bool → Type 0
-IsCalmOffLines q e gains king squares from n promote =
+abbrev pub IsCalmOffLines : Bool → Shogi → Eval → ℕ → ℕ → ℕ → ℕ → ℕ → Bool → Type 0
+IsCalmOffLines quiet_only q e gains king squares from n promote =
     (taken_gain e (piece_at q.cells n) + promotion_gain promote (piece_at q.cells from) ≤ gains)
     × ((set : ℕ) × AreOffLines from squares set
-    × LeavesOne (without_king q king) (piece_moved promote (piece_at q.cells from)) n set)
+    × LeavesOne quiet_only (without_king q king) (piece_moved promote (piece_at q.cells from)) n
+    set)
 
 -- the moves on the board of what stands on the square do so, but those that leave their own king attacked
-abbrev pub PieceIsCalm : Shogi → Eval → ℕ → ℕ → ℕ → ℕ → ℕ → Type 0
-PieceIsCalm q e gains king squares shut from = (n : ℕ) (promote : Bool) → n < 81
+abbrev pub PieceIsCalm : Bool → Shogi → Eval → ℕ → ℕ → ℕ → ℕ → ℕ → Type 0
+PieceIsCalm quiet_only q e gains king squares shut from = (n : ℕ) (promote : Bool) → n < 81
     → is_piece_of q.side (piece_at q.cells n) ≡ false
     → cell_reaches (without_king q king) (piece_at q.cells from) from n ≡ true
     → (promote ≡ true → may_promote (piece_at q.cells from) from n ≡ true)
-    → IsCalmOffLines q e gains king squares from n promote ⊎ IsShut q shut from n
+    → IsCalmOffLines quiet_only q e gains king squares from n promote ⊎ IsShut q shut from n
 
 -- a drop of the kind leaves one of the squares wherever it may end
-abbrev pub KindIsCalm : Shogi → ℕ → ℕ → Kind → Type 0
-KindIsCalm q king squares kind = (n : ℕ) → n < 81 → piece_at q.cells n ≡ None
+abbrev pub KindIsCalm : Bool → Shogi → ℕ → ℕ → Kind → Type 0
+KindIsCalm quiet_only q king squares kind = (n : ℕ) → n < 81 → piece_at q.cells n ≡ None
     → is_immobile n (dropped q.side kind) ≡ false
-    → LeavesOne (without_king q king) (dropped q.side kind) n squares
+    → LeavesOne quiet_only (without_king q king) (dropped q.side kind) n squares
 
 -- a piece of the side that is not to move, on no line with its king, steps to an empty square
 pub record IsSpareMove (q : Shogi) (king a t : ℕ) : Type 0 where
@@ -171,44 +173,52 @@ HasSpareMoves q king = (b d : ℕ) → (a : ℕ) × (t : ℕ) × (a < 81) × (t 
 abbrev pub HoldsEither : Type 0 → Type 0 → Type 0
 HoldsEither A B = (A → ⊥) → (B → ⊥) → ⊥
 
+-- the king may go to the square, which is empty if replies have to be quiet
+pub record IsFlight (quiet_only : Bool) (q : Shogi) (king n : ℕ) : Type 0 where
+  pub escape : IsEscape q.cells (opponent_of q.side) king n
+  pub bare : quiet_only ≡ true → is_none (piece_at q.cells n) ≡ true
+
 -- one of the squares that is not attacked leaves that side a reply: the king may go there, or it is the king's own and there are spare moves
-abbrev pub AreReplySquares : Shogi → ℕ → ℕ → Type 0
-AreReplySquares q king squares = (n : ℕ) → n < 81 → has_bit squares n ≡ true
-    → HoldsEither (IsEscape q.cells (opponent_of q.side) king n) ((n ≡ king) × HasSpareMoves q king)
+abbrev pub AreReplySquares : Bool → Shogi → ℕ → ℕ → Type 0
+AreReplySquares quiet_only q king squares = (n : ℕ) → n < 81 → has_bit squares n ≡ true
+    → HoldsEither (IsFlight quiet_only q king n) ((n ≡ king) × HasSpareMoves q king)
 
 -- the only king of the side that is not to move stands there unattacked, and these squares leave its side a reply
-pub record IsStanding (q : Shogi) (king squares : ℕ) : Type 0 where
+pub record IsStanding (quiet_only : Bool) (q : Shogi) (king squares : ℕ) : Type 0 where
   pub cells_fit : length q.cells ≡ 81
   pub king_fits : king < 81
   pub crown : is_king (opponent_of q.side) (piece_at q.cells king) ≡ true
   pub lone : HasNoOtherKing q.cells (opponent_of q.side) king
   pub unchecked : in_check q.cells (opponent_of q.side) ≡ false
-  pub replies : AreReplySquares q king squares
+  pub replies : AreReplySquares quiet_only q king squares
 
 -- the side to move gains no more than so much by any move on the board, and whatever it moves or drops, one of the squares is left
-pub record IsQuietThere (q : Shogi) (e : Eval) (gains king squares shut : ℕ) : Type 0 where
-  pub standing : IsStanding q king squares
+pub record IsQuietThere (quiet_only : Bool) (q : Shogi) (e : Eval)
+    (gains king squares shut : ℕ) : Type 0 where
+  pub standing : IsStanding quiet_only q king squares
   pub pieces : (from : ℕ) → from < 81 → is_piece_of q.side (piece_at q.cells from) ≡ true
-      → PieceIsCalm q e gains king squares shut from
+      → PieceIsCalm quiet_only q e gains king squares shut from
   pub kinds : (kind : Kind) → 0 < count_in_hand q.hands q.side kind
-      → KindIsCalm q king squares kind
+      → KindIsCalm quiet_only q king squares kind
 
--- what stands on the square moves calmly to another one, or may not move there, also once a piece of its side has left that
-pub record PieceLetsLeave (q : Shogi) (e : Eval) (gains king squares from a : ℕ) : Type 0 where
-  pub shut : (piece : Piece) → piece_at q.cells from ≡ Some piece
-      → (is_sliding_role piece.role ≡ false)
-      ⊎ (cell_reaches (without_king q king) (Some piece) from a ≡ false)
-  pub calm : (promote : Bool)
-      → cell_reaches (without_king q king) (piece_at q.cells from) from a ≡ true
-      → (promote ≡ true → may_promote (piece_at q.cells from) from a ≡ true)
-      → (promotion_gain promote (piece_at q.cells from) ≤ gains)
+-- once a piece of its side has left the square `a`, what stands on the square `from` moves calmly to `a`, and to squares that it did not reach before
+pub record PieceLetsLeave (quiet_only : Bool) (q : Shogi) (e : Eval)
+    (gains king squares from a : ℕ) : Type 0 where
+  pub calm : (n : ℕ) (promote : Bool) → n < 81
+      → is_piece_of q.side (piece_at (lifted q a).cells n) ≡ false
+      → cell_reaches (without_king (lifted q a) king) (piece_at q.cells from) from n ≡ true
+      → (cell_reaches (without_king q king) (piece_at q.cells from) from n ≡ true → n ≡ a)
+      → (promote ≡ true → may_promote (piece_at q.cells from) from n ≡ true)
+      → (taken_gain e (piece_at (lifted q a).cells n)
+      + promotion_gain promote (piece_at q.cells from) ≤ gains)
       × ((set : ℕ) × AreOffLines from squares set
-      × LeavesOne (without_king q king) (piece_moved promote (piece_at q.cells from)) a set)
+      × LeavesOne quiet_only (without_king q king) (piece_moved promote (piece_at q.cells from)) n
+      set)
 
 -- a drop of the kind on the square leaves one of the squares
-abbrev pub KindLetsLeave : Shogi → ℕ → ℕ → Kind → ℕ → Type 0
-KindLetsLeave q king squares kind a = is_immobile a (dropped q.side kind) ≡ false
-    → LeavesOne (without_king q king) (dropped q.side kind) a squares
+abbrev pub KindLetsLeave : Bool → Shogi → ℕ → ℕ → Kind → ℕ → Type 0
+KindLetsLeave quiet_only q king squares kind a = is_immobile a (dropped q.side kind) ≡ false
+    → LeavesOne quiet_only (without_king q king) (dropped q.side kind) a squares
 
 -- the square is on no open line with the king or one of its squares
 pub record IsUnseen (q : Shogi) (king squares a : ℕ) : Type 0 where
@@ -217,8 +227,8 @@ pub record IsUnseen (q : Shogi) (king squares a : ℕ) : Type 0 where
       → are_lined (without_king q king) a n ≡ false
 
 -- this, on the square, reaches neither the king nor one of its squares, and what it does next is calm
-pub record IsIdle (q : Shogi) (e : Eval) (gains king squares : ℕ) (cell : Option Piece) (to : ℕ) :
-    Type 0 where
+pub record IsIdle (quiet_only : Bool) (q : Shogi) (e : Eval) (gains king squares : ℕ)
+    (cell : Option Piece) (to : ℕ) : Type 0 where
   pub off : has_bit squares to ≡ false
   pub king_far : cell_reaches (without_king q king) cell to king ≡ false
   pub far : (n : ℕ) → n < 81 → has_bit squares n ≡ true
@@ -227,28 +237,32 @@ pub record IsIdle (q : Shogi) (e : Eval) (gains king squares : ℕ) (cell : Opti
       → is_piece_of q.side (piece_at q.cells n) ≡ false
       → cell_reaches (without_king q king) cell to n ≡ true
       → (promote ≡ true → may_promote cell to n ≡ true)
-      → IsCalm q e gains king cell squares n promote
+      → IsCalm quiet_only q e gains king cell squares n promote
 
 -- so it is on each of the squares
-abbrev pub AreIdle : Shogi → Eval → ℕ → ℕ → ℕ → Option Piece → ℕ → Type 0
-AreIdle q e gains king squares cell set =
-    (n : ℕ) → n < 81 → has_bit set n ≡ true → IsIdle q e gains king squares cell n
+abbrev pub AreIdle : Bool → Shogi → Eval → ℕ → ℕ → ℕ → Option Piece → ℕ → Type 0
+AreIdle quiet_only q e gains king squares cell set =
+    (n : ℕ) → n < 81 → has_bit set n ≡ true → IsIdle quiet_only q e gains king squares cell n
 
--- the move is worth no more than so much with three plies left, and with four if the evaluation settles no captures
-abbrev pub IsWorthAtMost : Shogi → Eval → ℤ → Move → Type 0
-IsWorthAtMost p e most m = (worth p e 2 (code_of m) ≤ℤ most)
-    × (resolves_captures e ≡ false → worth p e 3 (code_of m) ≤ℤ most)
+-- a reply that is left bounds what a move is worth: with three plies left any does, and with four one that is quiet, or any if the evaluation settles no captures
+abbrev pub ReplySuffices : Bool → Eval → ℕ → Type 0
+ReplySuffices quiet_only e depth = (depth ≡ 3)
+    ⊎ ((depth ≡ 4) × ((resolves_captures e ≡ false) ⊎ (quiet_only ≡ true)))
+
+-- the move is worth no more than so much with so many plies left
+abbrev pub IsWorthAtMost : Shogi → Eval → ℕ → ℤ → Move → Type 0
+IsWorthAtMost p e depth most m = worth p e (depth - 1) (code_of m) ≤ℤ most
 
 -- no legal drop of the kind on the squares is worth more than that
-abbrev pub DropsAreWorthAtMost : Shogi → Eval → ℤ → Kind → ℕ → Type 0
-DropsAreWorthAtMost p e most kind squares = (to : ℕ) → to < 81 → has_bit squares to ≡ true
-    → is_legal p (Drop kind to) ≡ true → IsWorthAtMost p e most (Drop kind to)
+abbrev pub DropsAreWorthAtMost : Shogi → Eval → ℕ → ℤ → Kind → ℕ → Type 0
+DropsAreWorthAtMost p e depth most kind squares = (to : ℕ) → to < 81 → has_bit squares to ≡ true
+    → is_legal p (Drop kind to) ≡ true → IsWorthAtMost p e depth most (Drop kind to)
 
 -- no legal move of the pieces to the ends is that takes nothing and does not promote
-abbrev pub QuietsAreWorthAtMost : Shogi → Eval → ℤ → ℕ → ℕ → Type 0
-QuietsAreWorthAtMost p e most pieces ends = (from to : ℕ) → from < 81 → to < 81
+abbrev pub QuietsAreWorthAtMost : Shogi → Eval → ℕ → ℤ → ℕ → ℕ → Type 0
+QuietsAreWorthAtMost p e depth most pieces ends = (from to : ℕ) → from < 81 → to < 81
     → has_bit pieces from ≡ true → has_bit ends to ≡ true → piece_at p.cells to ≡ None
-    → is_legal p (Board from to false) ≡ true → IsWorthAtMost p e most (Board from to false)
+    → is_legal p (Board from to false) ≡ true → IsWorthAtMost p e depth most (Board from to false)
 
 -- the move takes nothing and does not promote
 abbrev pub IsQuietMove : Shogi → Move → Type 0
@@ -271,7 +285,7 @@ IsAmong d (Board from to promote) =
     (has_bit d.pieces.bits from ≡ true) × (has_bit d.ends.bits to ≡ true)
 IsAmong d (Drop kind to) = has_bit (drops_of d.drops kind).bits to ≡ true
 
--- no legal quiet move that is one of these is worth more than that
-abbrev pub AreDull : Shogi → Eval → DullMoves → Type 0
-AreDull p e d = (m : Move) → IsOnSquares m → IsAmong d m → IsQuietMove p m
-    → is_legal p m ≡ true → IsWorthAtMost p e d.most m
+-- no legal quiet move that is one of these is worth more than that with so many plies left
+abbrev pub AreDull : Shogi → Eval → ℕ → DullMoves → Type 0
+AreDull p e depth d = (m : Move) → IsOnSquares m → IsAmong d m → IsQuietMove p m
+    → is_legal p m ≡ true → IsWorthAtMost p e depth d.most m

@@ -1,18 +1,18 @@
 //! Moves that change nothing of what a reply refutes.
 
-ghost use Rattle.std.specs.Prelude.{◌≡◌, ◌≤ℤ◌, ◌<ℤ◌, ◌+ℤ◌, ℕ, pos, true, IfSome};
+ghost use Rattle.std.specs.Prelude.{◌≡◌, ◌⊎◌, ◌≤ℤ◌, ◌<ℤ◌, ◌+ℤ◌, ℕ, pos, true, IfSome};
 ghost use Rattle.shogi_moves.specs.Legal.{is_pawn_drop};
 ghost use Rattle.shogi_eval.specs.Material.{material_of};
 ghost use Rattle.minimax.specs.declared.bounds.TheConstants.{INFINITY};
 ghost use Rattle.shogi_core.specs.Bits.{has_bit};
-ghost use Rattle.dull_moves.specs.Dull.{AreDull, IsAmong, IsOnSquares, drops_of};
+ghost use Rattle.dull_moves.specs.Dull.{AreDull, IsAmong, IsOnSquares, ReplySuffices, drops_of};
 ghost use Rattle.dull_moves.specs.Scenes.{AreIdleDropsIn};
 
 use crate::scene::{Scene, dear_squares, squares_touched};
 use crate::spare_moves::reply_squares;
 use minimax::MATE;
 use shogi_core::{Kind, Move, Position, Squares};
-use shogi_eval::Node;
+use shogi_eval::{Eval, Node};
 use shogi_moves::{in_check, is_legal};
 
 /// Squares for drops, by kind.
@@ -44,9 +44,8 @@ impl DropSquares {
     }
 }
 
-/// Moves none of which is worth more than so much with three plies left, nor with four if the evaluation
-/// settles no captures: drops on squares for their kind, and moves of these pieces to these ends that
-/// take nothing and do not promote.
+/// Moves none of which is worth more than so much with three plies left, or with four: drops on squares for
+/// their kind, and moves of these pieces to these ends that take nothing and do not promote.
 #[derive(Clone, Copy, Debug)]
 pub struct DullMoves {
     pub most: i32,
@@ -70,10 +69,11 @@ fn drops_pawn(m: &Move) -> bool
 
 /// The position as it is looked at, where its material is not more than so much and the side that is not
 /// to move has just one king.
-fn scene_of(node: Node, most: i32) -> Option<Scene>
+fn scene_of(node: Node, most: i32, quiet_only: bool) -> Option<Scene>
     requires most { most <ℤ INFINITY }
     ensures node { IfSome result (λ scene. scene.node ≡ node) }
     ensures standing { IfSome result (λ scene. scene.standing ≡ node.position.cells) }
+    ensures quiet_only { IfSome result (λ scene. scene.quiet_only ≡ quiet_only) }
     ensures room { IfSome result (λ scene.
         (material_of node.position node.eval +ℤ pos scene.gains) ≤ℤ most) }
 {
@@ -92,10 +92,20 @@ fn scene_of(node: Node, most: i32) -> Option<Scene>
         standing,
         king,
         board: standing.put(king, None),
-        squares: reply_squares(p, king),
+        squares: reply_squares(p, king, quiet_only),
+        quiet_only,
         gains,
         dear: dear_squares(&standing, p.side(), node.eval(), gains),
     })
+}
+
+/// Whether a reply to what the side moves next has to be quiet: with four plies left it ends the line, where
+/// a capture or promotion is settled under `Exchange`.
+fn needs_quiet(eval: Eval, depth: u8) -> bool
+    requires deep { (depth ≡ 3) ⊎ (depth ≡ 4) }
+    ensures { ReplySuffices result eval depth }
+{
+    depth == 4 && eval.resolves_captures()
 }
 
 /// The squares of drops that are idle, by kind.
@@ -135,11 +145,13 @@ impl DullMoves {
     }
 
     /// The moves that the reply refutes since they change nothing of what it leaves: none is worth more
-    /// than so much. None where the reply is not legal after a pass, or drops a pawn, or leaves the side
-    /// to move more, or a check after which the king that it defends has no square to go to.
-    pub fn of(node: &Node, reply: Move, most: i32) -> Option<DullMoves>
+    /// than so much with `depth` plies left, 3 or 4. There are none if the reply is not legal after a pass, or
+    /// drops a pawn, or leaves the side to move more, or a check after which the king that it defends has no
+    /// square to go to.
+    pub fn of(node: &Node, reply: Move, most: i32, depth: u8) -> Option<DullMoves>
+        requires deep { (depth ≡ 3) ⊎ (depth ≡ 4) }
         requires most { most <ℤ INFINITY }
-        ensures dull { IfSome result (AreDull node.now.position node.now.eval) }
+        ensures dull { IfSome result (AreDull node.now.position node.now.eval depth) }
         ensures most { IfSome result (λ moves. moves.most ≡ most) }
     {
         let p = node.as_position();
@@ -153,9 +165,10 @@ impl DullMoves {
             return None;
         }
         let touched = squares_touched(&reply);
+        let quiet_only = needs_quiet(node.eval(), depth);
         let mut next = Node::of(passed, node.eval());
         next.advance(reply);
-        let scene = scene_of(next, most)?;
+        let scene = scene_of(next, most, quiet_only)?;
         let held = scene.held_squares()?;
         let free = p.as_board().free().without(touched | held.shut);
         let drops = idle_drops(&scene, free);

@@ -32,10 +32,11 @@ pub fn squares_touched(reply: &Move) -> Squares
     }
 }
 
-/// Squares from which the piece reaches each of some squares.
-pub fn covering_squares(board: &Board, piece: Piece, squares: Squares) -> Squares
+/// Squares from which the piece takes each of some squares from a king: it reaches that, or stands on it if
+/// replies have to be quiet.
+pub fn covering_squares(board: &Board, piece: Piece, squares: Squares, quiet_only: bool) -> Squares
     ensures { (n : ℕ) → n < 81 → has_bit result.bits n ≡ false
-        → LeavesOne board.now (Some piece) n squares.bits }
+        → LeavesOne quiet_only board.now (Some piece) n squares.bits }
 {
     let back = Piece {
         color: piece.color.opponent(),
@@ -47,7 +48,13 @@ pub fn covering_squares(board: &Board, piece: Piece, squares: Squares) -> Square
         if covered.is_empty() {
             return covered;
         }
-        covered = covered & board.targets_of(back, to);
+        let targets = board.targets_of(back, to);
+        let closing = if quiet_only {
+            targets.with(to)
+        } else {
+            targets
+        };
+        covered = covered & closing;
     }
     covered
 }
@@ -103,13 +110,15 @@ pub struct Scene {
     pub squares: Squares,
     pub gains: u32,
     pub dear: Squares,
+    /// Whether replies have to take nothing and may not promote.
+    pub quiet_only: bool,
     ghost kingless: { board ≡ slice_set standing king None } by { Prim.hlevel props },
-    ghost stands: { IsStanding (record { cells = standing; hands = node.position.hands; side = node.position.side }) king squares.bits } by { Prim.hlevel props },
+    ghost stands: { IsStanding quiet_only (record { cells = standing; hands = node.position.hands; side = node.position.side }) king squares.bits } by { Prim.hlevel props },
     ghost dearer: { AreDear standing node.position.side node.eval gains dear.bits } by { Prim.hlevel props },
 }
 
 impl Scene {
-    ghost use Rattle.dull_moves.specs.Scenes.{AllowsIn, AreIdleDropsIn, AreIdleEnds, AreIdleFrom, AreIdleIn, AreShutIn, AreStandingLifted, IsAlike, IsIdleIn, IsOwnIn, IsQuietIn, IsQuietWithout, IsStandingLifted, IsViewIn, KindIsCalmIn, KindLetsLeaveIn, PieceIsCalmIn, PieceLetsLeaveIn, PiecesAreCalmIn, PiecesLetLeaveIn, PromotionsAllowedIn, place_in};
+    ghost use Rattle.dull_moves.specs.Scenes.{AllowsIn, AreIdleDropsIn, AreIdleEnds, AreIdleFrom, AreIdleIn, AreOffLinesIn, AreShutIn, AreStandingLifted, AreTargetsIn, IsAlike, IsIdleIn, IsOwnIn, IsQuietIn, IsQuietWithout, IsStandingLifted, IsViewIn, KindIsCalmIn, KindLetsLeaveIn, PieceIsCalmIn, PieceLetsLeaveIn, PieceMayLeaveIn, PiecesAreCalmIn, PiecesLetLeaveIn, PromotionsAllowedIn, place_in};
 
     /// The side to move.
     fn side(&self) -> Color
@@ -136,7 +145,7 @@ impl Scene {
             self.node.eval(),
             self.gains - more,
         );
-        dear | covering_squares(&self.board, promoted, squares)
+        dear | covering_squares(&self.board, promoted, squares, self.quiet_only)
     }
 
     /// Squares to which moves of the piece are forbidden that are to leave one of some squares.
@@ -149,7 +158,8 @@ impl Scene {
             Squares::all()
         };
         ForbiddenSquares {
-            non_promoting: self.dear | covering_squares(&self.board, piece, squares),
+            non_promoting: self.dear
+                | covering_squares(&self.board, piece, squares, self.quiet_only),
             promoting,
         }
     }
@@ -191,6 +201,61 @@ impl Scene {
         Some(shut)
     }
 
+    /// Whether what stands on `a` has to stay in the way of the piece of its side that slides from the other
+    /// square: with it lifted, that reaches forbidden squares anew.
+    fn blocks(
+        &self,
+        piece: Piece,
+        from: Square,
+        targets: Squares,
+        squares: Squares,
+        forbidden: &ForbiddenSquares,
+        promotes: bool,
+        a: Square,
+    ) -> bool
+        requires stands { piece_at self.now.standing from ≡ Some piece }
+        requires targets { AreTargetsIn self.now piece from targets.bits }
+        requires squares { AreOffLinesIn self.now from squares.bits }
+        requires allowed { AllowsIn self.now piece squares.bits forbidden.now }
+        ensures { result ≡ false → IsOwnIn self.now a → PieceMayLeaveIn self.now from a }
+    {
+        from.reveal_invariant();
+        a.reveal_invariant();
+        let opened = self.board.put(a, None).targets_of(piece, from);
+        let others = (self.standing.own(self.side()) | targets).except(a);
+        let ends = opened.without(others);
+        let more = !promotes && !(ends & promoting_squares(Some(piece), from)).is_empty();
+        let sets = if more {
+            self.forbidden_squares(piece, squares, true)
+        } else {
+            *forbidden
+        };
+        !sets.among(piece, from, ends).is_empty()
+    }
+
+    /// The pieces that have to stay in the way of the piece of their side that slides from the square.
+    fn blockers(
+        &self,
+        piece: Piece,
+        from: Square,
+        targets: Squares,
+        squares: Squares,
+        forbidden: &ForbiddenSquares,
+        promotes: bool,
+    ) -> Squares
+        requires stands { piece_at self.now.standing from ≡ Some piece }
+        requires targets { AreTargetsIn self.now piece from targets.bits }
+        requires squares { AreOffLinesIn self.now from squares.bits }
+        requires allowed { AllowsIn self.now piece squares.bits forbidden.now }
+        ensures { (a : ℕ) → a < 81 → has_bit targets.bits a ≡ true → has_bit result.bits a ≡ false
+            → IsOwnIn self.now a → PieceMayLeaveIn self.now from a }
+    {
+        let own = self.standing.own(self.side());
+        (targets & own).sift(|a| {
+            self.blocks(piece, from, targets, squares, forbidden, promotes, a)
+        })
+    }
+
     /// Where all moves on the board of what stands on the square gain little and leave one of the
     /// squares, or leave its own king attacked: what has to stay for that. One is left that is on no line
     /// with the square: those may be attacked once it is left.
@@ -203,16 +268,16 @@ impl Scene {
         let targets = self.board.targets_of(piece, from);
         let squares = self.squares.without(line_mask(from));
         let ends = targets & promoting_squares(Some(piece), from);
-        let forbidden = self
-            .forbidden_squares(piece, squares, !ends.is_empty())
-            .among(piece, from, targets);
+        let promotes = !ends.is_empty();
+        let sets = self.forbidden_squares(piece, squares, promotes);
+        let forbidden = sets.among(piece, from, targets);
         let shut = self.shut_squares(
             piece,
             from,
             forbidden.without(self.standing.own(self.side())),
         )?;
         let pieces = if piece.role.is_sliding() {
-            targets
+            self.blockers(piece, from, targets, squares, &sets, promotes)
         } else {
             forbidden
         };
@@ -246,9 +311,9 @@ impl Scene {
             return Some(Squares::none());
         }
         let piece = dropped(side, kind)?;
-        let covered = covering_squares(&self.board, piece, self.squares).without(dead_squares(Some(
-            piece,
-        )));
+        let covered = covering_squares(&self.board, piece, self.squares, self.quiet_only).without(
+            dead_squares(Some(piece)),
+        );
         if !(covered & self.standing.free()).is_empty() {
             return None;
         }
@@ -350,6 +415,7 @@ impl Scene {
             squares: self.squares,
             gains: self.gains,
             dear: self.dear,
+            quiet_only: self.quiet_only,
         }
     }
 

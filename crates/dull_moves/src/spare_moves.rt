@@ -51,14 +51,20 @@ fn has_spare_moves(p: &Position, king: Square) -> bool
     free_step(p, others.except(two.from), taken.with(two.to)).is_some()
 }
 
-/// The squares to which the king may go, and its own where its side has spare moves.
-pub fn reply_squares(p: &Position, king: Square) -> Squares
+/// The squares to which the king may go, only empty ones if replies have to be quiet, and its own if its
+/// side has spare moves.
+pub fn reply_squares(p: &Position, king: Square, quiet_only: bool) -> Squares
     requires crown { is_king (opponent_of p.now.side) (piece_at p.now.cells king) ≡ true }
     requires lone { HasNoOtherKing p.now.cells (opponent_of p.now.side) king }
-    ensures { AreReplySquares p.now king result.bits }
+    ensures { AreReplySquares quiet_only p.now king result.bits }
 {
     king.reveal_invariant();
-    let squares = escape_squares(p);
+    let escapes = escape_squares(p);
+    let squares = if quiet_only {
+        escapes & p.as_board().free()
+    } else {
+        escapes
+    };
     if has_spare_moves(p, king) {
         return squares.with(king);
     }

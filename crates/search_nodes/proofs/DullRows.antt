@@ -94,21 +94,16 @@ dull_drops p d kind code next destinations k up high among =
 
 -- ---- what is known of a node
 
--- the bound holds with as many plies as the node leaves after a move
-pub worth_there : (f : Frame) (m : Move) (most : ℤ) → PrunesDull f → IsWorthAtMost f.node.position f.node.eval most m → worth_of f m ≤ℤ most
-worth_there f m most (inl three) few = subst (λ (n : ℕ). worth f.node.position f.node.eval (n - 1) (code_of m) ≤ℤ most) (sym three) few.0
-worth_there f m most (inr four) few = subst (λ (n : ℕ). worth f.node.position f.node.eval (n - 1) (code_of m) ≤ℤ most) (sym four.0) (few.1 four.1)
-
 pub deep : (f : Frame) → PrunesDull f → 0 < f.depth
 deep f (inl three) = omega (arith, three)
-deep f (inr four) = omega (arith, four.0)
+deep f (inr four) = omega (arith, four)
 
 -- dull moves that are passed leave what is known
-pub dull_known : (f : Frame) (d : DullMoves) (first : ℕ) (picker : MovePicker) → f.state ≡ Expanding → PrunesDull f → AreDull f.node.position f.node.eval d → d.most ≤ℤ move_alpha f.best_value (code_at f.best_move) first
+pub dull_known : (f : Frame) (d : DullMoves) (first : ℕ) (picker : MovePicker) → f.state ≡ Expanding → PrunesDull f → AreDull f.node.position f.node.eval f.depth d → d.most ≤ℤ move_alpha f.best_value (code_at f.best_move) first
     → IsSkipped (IsDullFrom f.node.position d first) (todo f.node.position f.picker) (todo f.node.position picker) → IsKnownWhile f.node.position f.node.eval f.depth f.alpha f.beta f.best_value (code_at f.best_move) (todo f.node.position picker) f.state
 dull_known f d first picker next there dull low passed = skipped_known f (IsDullFrom f.node.position d first) picker next
     (λ c is. (
-    let most : worth_of f is.move ≤ℤ d.most = worth_there f is.move d.most there (dull is.move is.on_board is.among is.quiet is.legal) in
+    let most : worth_of f is.move ≤ℤ d.most = dull is.move is.on_board is.among is.quiet is.legal in
     let same : worth f.node.position f.node.eval (f.depth - 1) c ≡ worth_of f is.move = ap (worth f.node.position f.node.eval (f.depth - 1)) is.is in
     let up : move_alpha f.best_value (code_at f.best_move) first ≤ℤ move_alpha f.best_value (code_at f.best_move) c = threshold_rises f.best_value (code_at f.best_move) first c is.above in
     omega (arith, ints, most, same, up, low)))

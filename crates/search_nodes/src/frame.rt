@@ -64,7 +64,7 @@ pub struct Frame {
     ghost known: { IsKnownSoFar node depth alpha beta best_value best_move picker state } by { Prim.hlevel known_props },
     ghost moves: { has_move ≡ true → legal_codes node.position ≢ [] } by { Prim.hlevel props },
     ghost kept: { IsKept node.position picker } by { IsKept-prop node.position picker },
-    ghost refuted: { ForSome dull (AreDull node.position node.eval) } by { Prim.hlevel props },
+    ghost refuted: { ForSome dull (AreDull node.position node.eval depth) } by { Prim.hlevel props },
 }
 
 /// Whether some move is legal.

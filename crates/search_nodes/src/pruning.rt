@@ -105,6 +105,7 @@ impl Frame {
     /// Looks for moves that the reply refutes, none of which is worth more than so much, if few replies
     /// were tried.
     fn look_for_dull(&mut self, reply: &Option<Move>, most: i32)
+        requires deep { PrunesDull self.old }
         requires most { most <ℤ INFINITY }
         ensures { KeepsMoves self.old self.new }
     {
@@ -116,7 +117,7 @@ impl Frame {
         }
         self.dull_tries += 1;
         self.dull_reply = Some(*reply);
-        self.dull = DullMoves::of(&self.node, *reply, most);
+        self.dull = DullMoves::of(&self.node, *reply, most, self.depth);
     }
 
     /// Whether the current move takes nothing and does not promote.
@@ -131,13 +132,12 @@ impl Frame {
         }
     }
 
-    /// Whether a dull move is surely not worth more than its bound there: at depth 3, and at depth 4
-    /// where captures at the end are not settled.
+    /// Whether dull moves are looked for there: at depths 3 and 4.
     #[inline(always)]
     fn prunes_dull(&self) -> bool
         ensures { result ≡ true → PrunesDull self.now }
     {
-        self.depth == 3 || self.depth == 4 && !self.node.eval().resolves_captures()
+        self.depth == 3 || self.depth == 4
     }
 
     /// Prunes the current move where it is a quiet one that the reply to a move before it refutes as

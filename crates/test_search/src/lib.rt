@@ -8,6 +8,8 @@ mod assertions;
 #[cfg(test)]
 mod below;
 #[cfg(test)]
+mod dull;
+#[cfg(test)]
 mod exchanges;
 #[cfg(test)]
 mod forgetful;

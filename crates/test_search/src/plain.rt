@@ -71,7 +71,43 @@ pub fn minimax(p: &Position, e: Eval, depth: u8) -> Found {
     found
 }
 
-/// The same at each depth from 1 on.
+/// What `minimax` finds, if the value is above `alpha` and below `beta`; else a bound on its side of them.
+/// A node is left once it is worth no less than `beta`.
+pub fn minimax_within(p: &Position, e: Eval, depth: u8, alpha: i32, beta: i32) -> Found {
+    let mut found = Found {
+        value: (-MATE).saturating_sub(i32::from(depth)),
+        best: None,
+        steps: 2,
+    };
+    if depth == 0 {
+        found.value = leaf(p, e);
+        return found;
+    }
+    let mut walk = Walk::new(p);
+    'moves: while let Some(m) = walk.next() {
+        let tried = m;
+        let next = apply(p, tried);
+        let floor = alpha.max(found.value);
+        let worth = if depth == 1 {
+            ended(p, &m, &next, e).saturating_neg()
+        } else {
+            let (above, below) = (beta.saturating_neg(), floor.saturating_neg());
+            minimax_within(&next, e, depth - 1, above, below)
+                .value
+                .saturating_neg()
+        };
+        if found.best.is_none() || worth > found.value {
+            found.value = worth;
+            found.best = Some(m);
+        }
+        if found.value >= beta {
+            return found;
+        }
+    }
+    found
+}
+
+/// What `minimax` finds at each depth from 1 on.
 pub fn minimax_by_depth(
     alloc: Global,
     p: &Position,

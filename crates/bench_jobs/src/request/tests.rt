@@ -2,6 +2,7 @@ use super::{Refusal, Request, read};
 use Refusal::{BadDepth, BadEntries, BadPosition, FurtherWords, UnknownWord};
 use SfenFault::{BadBoard, BadHand, BadSide, Invalid};
 use shogi_core::{Position, PositionFault};
+use shogi_eval::Eval;
 use shogi_sfen::{SfenFault, write_position};
 use std::process::Abort;
 use std::test::Fail;
@@ -46,7 +47,7 @@ const REQUESTS: [(&str, u8, Option<usize>, &str); 16] = [
 ];
 
 /// Lines that are refused; of several faults the first one from the left counts.
-const REFUSED: [(&str, Refusal); 45] = [
+const REFUSED: [(&str, Refusal); 48] = [
     ("", UnknownWord),
     (" \t ", UnknownWord),
     ("Perft 3", UnknownWord),
@@ -101,6 +102,9 @@ const REFUSED: [(&str, Refusal); 45] = [
         "perft 3 4k4/4P4/9/9/9/9/9/9/9 b -",
         BadPosition(Invalid(PositionFault::KingOpen)),
     ),
+    ("search 3 0 exchange startpos", BadPosition(BadBoard)),
+    ("search 3 0 Hand Plain startpos", BadPosition(BadBoard)),
+    ("perft 3 Hand startpos", BadPosition(BadBoard)),
     ("perft 3 startpos 1", FurtherWords),
     ("search 3 0 startpos moves 7g7f", FurtherWords),
     ("perft 3 9/9/9/9/9/9/9/9/9 b - moves", FurtherWords),
@@ -129,6 +133,7 @@ fn is_wanted(request: &Request<'_>, wanted: (u8, Option<usize>), text: &str) -> 
             depth,
             entries,
             position,
+            ..
         } => (*depth, Some(*entries)) == wanted && is_written(position, text),
         Request::Steps { .. } => false,
     }
@@ -147,6 +152,37 @@ fn requests_of_lines(rt: HostRuntime) {
     for (line, depth, entries, position) in REQUESTS {
         assert!(rt; asks(line, (depth, entries), position), "for {line:?}");
     }
+}
+
+/// Searches with their evaluation, each of the position of two kings.
+const EVALUATIONS: [(&str, Eval); 6] = [
+    ("search 3 9 4k4/9/9/9/9/9/9/9/4K4 w 2Pb", Eval::Plain),
+    ("search 3 9 Plain 4k4/9/9/9/9/9/9/9/4K4 w 2Pb", Eval::Plain),
+    ("search 3 9 Hand 4k4/9/9/9/9/9/9/9/4K4 w 2Pb", Eval::Hand),
+    (
+        "search 3 9 Exchange 4k4/9/9/9/9/9/9/9/4K4 w 2Pb",
+        Eval::Exchange,
+    ),
+    (
+        "search\t3\t9\tHand\t4k4/9/9/9/9/9/9/9/4K4 w 2Pb",
+        Eval::Hand,
+    ),
+    (
+        "search 3 9  Exchange  4k4/9/9/9/9/9/9/9/4K4 w 2Pb 1",
+        Eval::Exchange,
+    ),
+];
+
+#[test]
+fn evaluations_of_lines(rt: HostRuntime) -> Result<(), Fail> {
+    for (line, wanted) in EVALUATIONS {
+        assert!(rt; asks(line, (3, Some(9)), KINGS), "for {line:?}");
+        match read(line) {
+            Ok(Request::Search { eval, .. }) => assert!(rt; eval == wanted, "for {line:?}"),
+            _ => return Err(Fail::from("a search")),
+        }
+    }
+    Ok(())
 }
 
 // Whether the line is refused so.

@@ -16,7 +16,7 @@ pub invariant_of-result : goal.invariant_of-result
 invariant_of-result c =
     let same : c.board-standing.result ≡ c.args.node.position.cells = rw c.as_position-p.ensures at c.board-standing.ensures in
     let v : IsValid c.args.node.position = rw c.as_position-p.ensures at c.reveal_invariant.ensures in
-    let stands : IsStanding c.args.node.position c.in_ok-king.king c.reply_squares.result.bits = record {
+    let stands : IsStanding c.args.quiet_only c.args.node.position c.in_ok-king.king c.reply_squares.result.bits = record {
       cells_fit = v.cells_fit;
       king_fits = c.reveal_invariant-2.ensures;
       crown = rw (c.opponent.ensures, c.side.ensures, c.as_position-p.ensures) at c.in_ok-king.ensures.king;
@@ -26,7 +26,7 @@ invariant_of-result c =
     } in
     record {
       kingless = c.put.ensures;
-      stands = subst (λ (cells : Cells). IsStanding (with_cells c.args.node.position cells) c.in_ok-king.king c.reply_squares.result.bits) (sym same) stands;
+      stands = subst (λ (cells : Cells). IsStanding c.args.quiet_only (with_cells c.args.node.position cells) c.in_ok-king.king c.reply_squares.result.bits) (sym same) stands;
       dearer = rw (c.side-2.ensures, c.eval.ensures, c.as_position-p.ensures) at c.dear_squares.ensures;
     }
 

@@ -6,7 +6,7 @@ use Rattle.dull_moves.proofs.scene.covering_squares.Given as goal
 abbrev pub invariant-squares : goal.invariant-squares
 invariant-squares l = record {
   among : (n : ℕ) → has_bit l.left n ≡ true → has_bit l.fn.squares.bits n ≡ true;
-  leaves : (n : ℕ) → n < 81 → has_bit l.covered.bits n ≡ false → LeavesOne l.board (Some l.fn.piece) n l.fn.squares.bits;
+  leaves : (n : ℕ) → n < 81 → has_bit l.covered.bits n ≡ false → LeavesOne l.fn.quiet_only l.board (Some l.fn.piece) n l.fn.squares.bits;
 }
 
 abbrev pub decreases-squares : goal.decreases-squares

@@ -1,4 +1,4 @@
-use Rattle.std.proofs.Common.{◌≡◌, ◌≤ℤ◌, ◌+ℤ◌, ℤ, pos, ℕ, ◌<◌, true, false, rules, FitsSigned, w32, sym, ap, subst, ◌∙◌, arith}
+use Rattle.std.proofs.Common.{◌≡◌, ◌≤ℤ◌, ◌+ℤ◌, ℤ, pos, ℕ, ◌<◌, Bool, true, false, rules, FitsSigned, w32, sym, ap, subst, ◌∙◌, arith}
 use Rattle.std.proofs.lemmas.Int.{ints, to_z-of_z}
 use mir.Val.{to_z, of_z}
 use Rattle.shogi_core.specs.Attack.{in_check}
@@ -11,7 +11,7 @@ use Rattle.shogi_moves.specs.Legal.{is_legal}
 use Rattle.shogi_eval.specs.Evaluated.{Evaluated}
 use Rattle.shogi_eval.specs.Material.{material_of}
 use Rattle.minimax.specs.Minimax.{lost_value}
-use Rattle.dull_moves.specs.Dull.{AreDull, after_reply, drops_of, passed}
+use Rattle.dull_moves.specs.Dull.{AreDull, ReplySuffices, after_reply, drops_of, passed}
 use Rattle.dull_moves.specs.Scenes.{AreStandingLifted, IsOwnIn, place_in, with_cells}
 use Rattle.dull_moves.proofs.Dull.{all_dull, own_stays, scene_dull, scene_quiets, spared_among}
 use Rattle.dull_moves.proofs.Passing.{passed_valid}
@@ -48,20 +48,21 @@ returns-clause-dull c =
     let apart : (a : ℕ) → a < 81 → has_bit c.without-pieces.result.bits a ≡ true → has_bit c.squares_touched-touched.result.bits a ≡ false = λ a h set. off_left c.squares_touched-touched.result.bits c.in_ok-held.held.pieces.bits a (rw c.bitor-2.ensures at (out a h set).1) in
     let loose : (a : ℕ) → a < 81 → has_bit c.without-pieces.result.bits a ≡ true → has_bit c.in_ok-held.held.pieces.bits a ≡ false = λ a h set. off_right c.squares_touched-touched.result.bits c.in_ok-held.held.pieces.bits a (rw c.bitor-2.ensures at (out a h set).1) in
     let mine : (a : ℕ) → a < 81 → has_bit c.without-pieces.result.bits a ≡ true → IsOwnIn c.in_ok-scene.scene a = λ a h set. own_stays c.args.node.now.position (place_in c.in_ok-scene.scene) c.args.reply a is (c.squares_touched-touched.ensures.spared a h (apart a h set)).0 (sym ((rw (c.side-2.ensures, c.as_board-2.ensures, c.as_position-p.ensures) at c.own.ensures.squares) a h) ∙ (out a h set).0) in
-    let alike : c.in_ok-scene.scene.node.eval ≡ c.args.node.now.eval = ap (λ (n : Evaluated). n.eval) c.in_ok-scene.ensures.node ∙ (c.advance.ensures.eval ∙ (c.of-next.ensures.eval ∙ c.eval.ensures)) in
+    let alike : c.in_ok-scene.scene.node.eval ≡ c.args.node.now.eval = ap (λ (n : Evaluated). n.eval) c.in_ok-scene.ensures.node ∙ (c.advance.ensures.eval ∙ (c.of-next.ensures.eval ∙ c.eval-2.ensures)) in
+    let told : ReplySuffices c.in_ok-scene.scene.quiet_only c.args.node.now.eval c.args.depth = subst (λ (b : Bool). ReplySuffices b c.args.node.now.eval c.args.depth) (sym c.in_ok-scene.ensures.quiet_only) (rw c.eval.ensures at c.needs_quiet-quiet_only.ensures) in
     let lr : is_legal (passed c.args.node.now.position) c.args.reply ≡ true = rw away at (sym c.is_legal.ensures.value ∙ c.if-not-is_legal.false) in
     let fits : FitsSigned w32 c.args.most = search rules in
     let same = to_z-of_z w32 c.args.most fits in
     let low : lost_value 1 ≤ℤ c.args.most = omega (arith, ints, c.if-most.false, same) in
     let before : (material_of c.in_ok-scene.scene.node.position c.in_ok-scene.scene.node.eval +ℤ pos c.in_ok-scene.scene.gains) ≤ℤ c.args.most = subst (λ (t : ℤ). (material_of c.in_ok-scene.scene.node.position c.in_ok-scene.scene.node.eval +ℤ pos c.in_ok-scene.scene.gains) ≤ℤ t) same (subst (λ (n : Evaluated). (material_of n.position n.eval +ℤ pos c.in_ok-scene.scene.gains) ≤ℤ to_z w32 (of_z w32 c.args.most)) (sym c.in_ok-scene.ensures.node) c.in_ok-scene.ensures.room) in
     let room : (material_of (place_in c.in_ok-scene.scene) c.in_ok-scene.scene.node.eval +ℤ pos c.in_ok-scene.scene.gains) ≤ℤ c.args.most = subst (λ (q : Shogi). (material_of q c.in_ok-scene.scene.node.eval +ℤ pos c.in_ok-scene.scene.gains) ≤ℤ c.args.most) (there ∙ sym is) before in
-    subst (λ (t : ℤ). AreDull c.args.node.now.position c.args.node.now.eval (record { most = t; drops = c.idle_drops-drops.result; pieces = c.without-pieces.result; ends = c.idle_ends-ends.result })) (sym same) (all_dull c.args.node.now.position c.args.node.now.eval (record { most = c.args.most; drops = c.idle_drops-drops.result; pieces = c.without-pieces.result; ends = c.idle_ends-ends.result })
-    (λ kind. scene_dull c.args.node.now.position (place_in c.in_ok-scene.scene) c.args.node.now.eval c.in_ok-scene.scene.node.eval kind c.args.reply c.in_ok-scene.scene.gains c.in_ok-scene.scene.king c.in_ok-scene.scene.squares.bits c.in_ok-held.held.shut.bits c.args.most (drops_of c.idle_drops-drops.result kind).bits
-    is alike v shut c.squares_touched-touched.ensures.on_board lr (sym c.drops_pawn.ensures ∙ c.if-drops_pawn.false)
+    subst (λ (t : ℤ). AreDull c.args.node.now.position c.args.node.now.eval c.args.depth (record { most = t; drops = c.idle_drops-drops.result; pieces = c.without-pieces.result; ends = c.idle_ends-ends.result })) (sym same) (all_dull c.args.node.now.position c.args.node.now.eval c.args.depth (record { most = c.args.most; drops = c.idle_drops-drops.result; pieces = c.without-pieces.result; ends = c.idle_ends-ends.result })
+    (λ kind. scene_dull c.in_ok-scene.scene.quiet_only c.args.depth c.args.node.now.position (place_in c.in_ok-scene.scene) c.args.node.now.eval c.in_ok-scene.scene.node.eval kind c.args.reply c.in_ok-scene.scene.gains c.in_ok-scene.scene.king c.in_ok-scene.scene.squares.bits c.in_ok-held.held.shut.bits c.args.most (drops_of c.idle_drops-drops.result kind).bits
+    told is alike v shut c.squares_touched-touched.ensures.on_board lr (sym c.drops_pawn.ensures ∙ c.if-drops_pawn.false)
     (spared_among c.args.reply c.in_ok-held.held.shut.bits c.squares_touched-touched.result.bits c.bitor.result.bits c.free.result.bits c.without-free.result.bits (drops_of c.idle_drops-drops.result kind).bits c.squares_touched-touched.ensures.spared c.bitor.ensures c.bitor.result.fits c.without-free.ensures (c.idle_drops-drops.ensures.among kind))
     c.in_ok-held.ensures.quiet low room (c.idle_drops-drops.ensures.idle kind))
-    (scene_quiets c.args.node.now.position (place_in c.in_ok-scene.scene) c.args.node.now.eval c.in_ok-scene.scene.node.eval c.args.reply c.in_ok-scene.scene.gains c.in_ok-scene.scene.king c.in_ok-scene.scene.squares.bits c.in_ok-held.held.shut.bits c.args.most c.without-pieces.result.bits c.idle_ends-ends.result.bits
-    is alike v shut c.squares_touched-touched.ensures.on_board lr (sym c.drops_pawn.ensures ∙ c.if-drops_pawn.false)
+    (scene_quiets c.in_ok-scene.scene.quiet_only c.args.depth c.args.node.now.position (place_in c.in_ok-scene.scene) c.args.node.now.eval c.in_ok-scene.scene.node.eval c.args.reply c.in_ok-scene.scene.gains c.in_ok-scene.scene.king c.in_ok-scene.scene.squares.bits c.in_ok-held.held.shut.bits c.args.most c.without-pieces.result.bits c.idle_ends-ends.result.bits
+    told is alike v shut c.squares_touched-touched.ensures.on_board lr (sym c.drops_pawn.ensures ∙ c.if-drops_pawn.false)
     (spared_among c.args.reply c.in_ok-held.held.shut.bits c.squares_touched-touched.result.bits c.bitor.result.bits c.free.result.bits c.without-free.result.bits c.idle_ends-ends.result.bits c.squares_touched-touched.ensures.spared c.bitor.ensures c.bitor.result.fits c.without-free.ensures c.idle_ends-ends.ensures.among)
     c.in_ok-held.ensures.quiet low room (λ a h set. (c.squares_touched-touched.ensures.spared a h (apart a h set)).0) (λ a h set. c.in_ok-held.ensures.held.unseen a h (loose a h set))
     (λ a h set. c.in_ok-held.ensures.held.quiet a h (mine a h set) (loose a h set)) (rw c.as_position-p.ensures at c.idle_ends-ends.ensures.idle)))

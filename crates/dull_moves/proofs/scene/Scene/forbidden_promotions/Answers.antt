@@ -6,8 +6,8 @@ use Rattle.dull_moves.proofs.Sets.{has_bit-all}
 use Rattle.dull_moves.proofs.scene.Scene.forbidden_promotions.Goals as goal
 
 pub returns-then-more-self : goal.returns-then-more-self
-returns-then-more-self c = promotes_nowhere (place_in c.args.self.now) c.args.self.now.node.eval c.args.self.now.gains c.args.self.now.king c.args.piece c.args.squares.bits c.all.result.bits (λ n h. ap (λ (m : ℕ). has_bit m n) c.all.ensures ∙ has_bit-all n h)
+returns-then-more-self c = promotes_nowhere c.args.self.now.quiet_only (place_in c.args.self.now) c.args.self.now.node.eval c.args.self.now.gains c.args.self.now.king c.args.piece c.args.squares.bits c.all.result.bits (λ n h. ap (λ (m : ℕ). has_bit m n) c.all.ensures ∙ has_bit-all n h)
 
 pub returns : goal.returns
-returns c = rw c.bitor.ensures (promotes_off (place_in c.args.self.now) c.args.self.now.node.eval c.args.self.now.gains c.args.self.now.king c.args.self.now.board c.args.piece (record { color = c.args.piece.color; role = c.promoted.result }) c.promotion_gain-more.result c.dear_squares-dear.result.bits c.covering_squares.result.bits c.args.squares.bits
+returns c = rw c.bitor.ensures (promotes_off c.args.self.now.quiet_only (place_in c.args.self.now) c.args.self.now.node.eval c.args.self.now.gains c.args.self.now.king c.args.self.now.board c.args.piece (record { color = c.args.piece.color; role = c.promoted.result }) c.promotion_gain-more.result c.dear_squares-dear.result.bits c.covering_squares.result.bits c.args.squares.bits
     c.args.self.now.kingless (rw c.promoted.ensures refl) c.promotion_gain-more.ensures.value (omega (arith, c.if-more-self.false)) (rw (c.side.ensures, c.eval.ensures) at c.dear_squares-dear.ensures) c.covering_squares.ensures)

@@ -7,7 +7,7 @@ use Rattle.dull_moves.proofs.scene.Scene.forbidden_squares.Goals.{then-promotes,
 use Rattle.dull_moves.proofs.scene.Scene.forbidden_squares.Goals as goal
 
 pub returns : goal.returns
-returns c = allows_off (place_in c.args.self.now) c.args.self.now.node.eval c.args.self.now.gains c.args.self.now.king c.args.self.now.board c.args.piece c.args.squares.bits c.args.self.now.dear.bits c.covering_squares.result.bits c.if-promotes.promoting c.bitor.result c.args.self.now.kingless c.args.self.now.dearer c.covering_squares.ensures c.bitor.ensures (elim c.if-promotes.branch [
+returns c = allows_off c.args.self.now.quiet_only (place_in c.args.self.now) c.args.self.now.node.eval c.args.self.now.gains c.args.self.now.king c.args.self.now.board c.args.piece c.args.squares.bits c.args.self.now.dear.bits c.covering_squares.result.bits c.if-promotes.promoting c.bitor.result c.args.self.now.kingless c.args.self.now.dearer c.covering_squares.ensures c.bitor.ensures (elim c.if-promotes.branch [
   | then-promotes w ↦ rw w.promoting-is w.forbidden_promotions-promoting.ensures
-  | else-promotes w ↦ rw w.promoting-is (promotes_nowhere (place_in c.args.self.now) c.args.self.now.node.eval c.args.self.now.gains c.args.self.now.king c.args.piece c.args.squares.bits w.all-promoting.result.bits (λ n h. ap (λ (m : ℕ). has_bit m n) w.all-promoting.ensures ∙ has_bit-all n h))
+  | else-promotes w ↦ rw w.promoting-is (promotes_nowhere c.args.self.now.quiet_only (place_in c.args.self.now) c.args.self.now.node.eval c.args.self.now.gains c.args.self.now.king c.args.piece c.args.squares.bits w.all-promoting.result.bits (λ n h. ap (λ (m : ℕ). has_bit m n) w.all-promoting.ensures ∙ has_bit-all n h))
 ])

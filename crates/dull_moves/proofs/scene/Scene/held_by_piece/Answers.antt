@@ -1,32 +1,42 @@
-use Rattle.std.proofs.Common.{◌∙◌, sym}
+use Rattle.std.proofs.Common.{◌∙◌, sym, inl, inr}
+use Rattle.std.proofs.lemmas.Bool.{cases_Bool}
+use Rattle.shogi_core.specs.Bits.{has_bit}
 use Rattle.dull_moves.specs.Scenes.{place_in}
 use Rattle.dull_moves.proofs.SceneLaws.{piece_calm, slider_lets, stepper_lets}
+use Rattle.dull_moves.proofs.Sets.{out_parts}
 use Rattle.dull_moves.proofs.scene.Scene.held_by_piece.Goals as goal
 
 pub returns-then-is_sliding-clause-calm : goal.returns-then-is_sliding-clause-calm
 returns-then-is_sliding-clause-calm c =
-    piece_calm (place_in c.args.self.now) c.args.self.now.node.eval c.args.self.now.gains c.args.self.now.king c.args.self.now.board c.in_ok-piece.piece c.args.from c.targets_of-targets.result.bits c.own.result.bits c.line_mask.result.bits c.without-squares.result.bits c.args.self.now.squares.bits c.among-forbidden.result.bits c.forbidden_squares.result
+    piece_calm c.args.self.now.quiet_only (place_in c.args.self.now) c.args.self.now.node.eval c.args.self.now.gains c.args.self.now.king c.args.self.now.board c.in_ok-piece.piece c.args.from c.targets_of-targets.result.bits c.own.result.bits c.line_mask.result.bits c.without-squares.result.bits c.args.self.now.squares.bits c.among-forbidden.result.bits c.forbidden_squares-sets.result
     c.args.self.now.kingless (sym c.at.ensures ∙ c.in_ok-piece.was) c.targets_of-targets.ensures.squares
-    c.line_mask.ensures.squares c.line_mask.result.fits c.without-squares.ensures c.forbidden_squares.ensures (record { non_promoting = c.among-forbidden.ensures.non_promoting; promoting = c.among-forbidden.ensures.promoting })
+    c.line_mask.ensures.squares c.line_mask.result.fits c.without-squares.ensures c.forbidden_squares-sets.ensures (record { non_promoting = c.among-forbidden.ensures.non_promoting; promoting = c.among-forbidden.ensures.promoting })
     c.without.result.bits c.in_ok-shut.shut.bits (rw c.side.ensures at c.own.ensures.squares) c.own.result.fits c.without.ensures c.in_ok-shut.ensures
 
+pub blockers-pieces-requires-clause-squares : goal.blockers-pieces-requires-clause-squares
+blockers-pieces-requires-clause-squares c = λ n h set.
+    let out = out_parts c.args.self.now.squares.bits c.line_mask.result.bits n c.line_mask.result.fits h (rw c.without-squares.ensures at set) in
+    (out.0, sym (c.line_mask.ensures.squares n h) ∙ out.1)
+
 pub returns-then-is_sliding-clause-held : goal.returns-then-is_sliding-clause-held
-returns-then-is_sliding-clause-held c = λ a h out own.
-    slider_lets (place_in c.args.self.now) c.args.self.now.node.eval c.args.self.now.gains c.args.self.now.king c.args.self.now.board c.in_ok-piece.piece c.args.from c.targets_of-targets.result.bits c.own.result.bits c.line_mask.result.bits c.without-squares.result.bits c.args.self.now.squares.bits c.among-forbidden.result.bits c.forbidden_squares.result
-    c.args.self.now.kingless (sym c.at.ensures ∙ c.in_ok-piece.was) c.targets_of-targets.ensures.squares
-    c.line_mask.ensures.squares c.line_mask.result.fits c.without-squares.ensures c.forbidden_squares.ensures (record { non_promoting = c.among-forbidden.ensures.non_promoting; promoting = c.among-forbidden.ensures.promoting })
-    a h out
+returns-then-is_sliding-clause-held c = λ a h out own. elim (cases_Bool (has_bit c.targets_of-targets.result.bits a)) [
+  | inl led ↦ c.blockers-pieces.ensures a h led out own
+  | inr far ↦ slider_lets c.args.self.now.quiet_only (place_in c.args.self.now) c.args.self.now.node.eval c.args.self.now.gains c.args.self.now.king c.args.self.now.board c.in_ok-piece.piece c.args.from c.targets_of-targets.result.bits c.own.result.bits c.line_mask.result.bits c.without-squares.result.bits c.args.self.now.squares.bits c.among-forbidden.result.bits c.forbidden_squares-sets.result
+      c.args.self.now.kingless (sym c.at.ensures ∙ c.in_ok-piece.was) c.targets_of-targets.ensures.squares
+      c.line_mask.ensures.squares c.line_mask.result.fits c.without-squares.ensures c.forbidden_squares-sets.ensures (record { non_promoting = c.among-forbidden.ensures.non_promoting; promoting = c.among-forbidden.ensures.promoting })
+      c.reveal_invariant.ensures a h far
+]
 
 pub returns-else-is_sliding-clause-calm : goal.returns-else-is_sliding-clause-calm
 returns-else-is_sliding-clause-calm c =
-    piece_calm (place_in c.args.self.now) c.args.self.now.node.eval c.args.self.now.gains c.args.self.now.king c.args.self.now.board c.in_ok-piece.piece c.args.from c.targets_of-targets.result.bits c.own.result.bits c.line_mask.result.bits c.without-squares.result.bits c.args.self.now.squares.bits c.among-forbidden.result.bits c.forbidden_squares.result
+    piece_calm c.args.self.now.quiet_only (place_in c.args.self.now) c.args.self.now.node.eval c.args.self.now.gains c.args.self.now.king c.args.self.now.board c.in_ok-piece.piece c.args.from c.targets_of-targets.result.bits c.own.result.bits c.line_mask.result.bits c.without-squares.result.bits c.args.self.now.squares.bits c.among-forbidden.result.bits c.forbidden_squares-sets.result
     c.args.self.now.kingless (sym c.at.ensures ∙ c.in_ok-piece.was) c.targets_of-targets.ensures.squares
-    c.line_mask.ensures.squares c.line_mask.result.fits c.without-squares.ensures c.forbidden_squares.ensures (record { non_promoting = c.among-forbidden.ensures.non_promoting; promoting = c.among-forbidden.ensures.promoting })
+    c.line_mask.ensures.squares c.line_mask.result.fits c.without-squares.ensures c.forbidden_squares-sets.ensures (record { non_promoting = c.among-forbidden.ensures.non_promoting; promoting = c.among-forbidden.ensures.promoting })
     c.without.result.bits c.in_ok-shut.shut.bits (rw c.side.ensures at c.own.ensures.squares) c.own.result.fits c.without.ensures c.in_ok-shut.ensures
 
 pub returns-else-is_sliding-clause-held : goal.returns-else-is_sliding-clause-held
 returns-else-is_sliding-clause-held c = λ a h out own.
-    stepper_lets (place_in c.args.self.now) c.args.self.now.node.eval c.args.self.now.gains c.args.self.now.king c.args.self.now.board c.in_ok-piece.piece c.args.from c.targets_of-targets.result.bits c.own.result.bits c.line_mask.result.bits c.without-squares.result.bits c.args.self.now.squares.bits c.among-forbidden.result.bits c.forbidden_squares.result
+    stepper_lets c.args.self.now.quiet_only (place_in c.args.self.now) c.args.self.now.node.eval c.args.self.now.gains c.args.self.now.king c.args.self.now.board c.in_ok-piece.piece c.args.from c.targets_of-targets.result.bits c.own.result.bits c.line_mask.result.bits c.without-squares.result.bits c.args.self.now.squares.bits c.among-forbidden.result.bits c.forbidden_squares-sets.result
     c.args.self.now.kingless (sym c.at.ensures ∙ c.in_ok-piece.was) c.targets_of-targets.ensures.squares
-    c.line_mask.ensures.squares c.line_mask.result.fits c.without-squares.ensures c.forbidden_squares.ensures (record { non_promoting = c.among-forbidden.ensures.non_promoting; promoting = c.among-forbidden.ensures.promoting })
-    (sym c.is_sliding.ensures ∙ c.if-is_sliding.false) a h out
+    c.line_mask.ensures.squares c.line_mask.result.fits c.without-squares.ensures c.forbidden_squares-sets.ensures (record { non_promoting = c.among-forbidden.ensures.non_promoting; promoting = c.among-forbidden.ensures.promoting })
+    c.reveal_invariant.ensures (sym c.is_sliding.ensures ∙ c.if-is_sliding.false) a h out

@@ -15,7 +15,7 @@ returns-else-is_empty-clause-among c = λ n set. merged_among c.args.ends.bits c
 pub returns-else-is_empty-clause-idle : goal.returns-else-is_empty-clause-idle
 returns-else-is_empty-clause-idle c = λ to h set on.
     let is : piece_at c.args.self.now.standing c.args.from ≡ Some c.in-Some.piece = sym c.at.ensures ∙ c.in-Some.is in
-    subst (λ (cell : Option Piece). IsIdle (lifted (place_in c.args.self.now) c.args.from) c.args.self.now.node.eval c.args.self.now.gains c.args.self.now.king c.args.self.now.squares.bits cell to) (sym is)
+    subst (λ (cell : Option Piece). IsIdle c.args.self.now.quiet_only (lifted (place_in c.args.self.now) c.args.from) c.args.self.now.node.eval c.args.self.now.gains c.args.self.now.king c.args.self.now.squares.bits cell to) (sym is)
     (idle_alike c.args.self.now c.lifted.result c.args.from (Some c.in-Some.piece) to c.lifted.ensures.standing c.lifted.ensures.unchanged
     (c.idle_squares-idle.ensures.idle to h (merged_idle c.args.ends.bits c.args.targets.bits c.idle_squares-idle.result.bits to c.args.targets.fits h (rw (c.bitor.ensures, c.without.ensures) at set) on)))
 

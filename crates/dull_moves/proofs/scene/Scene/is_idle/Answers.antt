@@ -6,7 +6,7 @@ use Rattle.dull_moves.proofs.scene.Scene.is_idle.Goals as goal
 
 pub returns : goal.returns
 returns c = λ yes.
-    idle_there (place_in c.args.self.now) c.args.self.now.node.eval c.args.self.now.gains c.args.self.now.king c.args.self.now.board c.args.piece c.args.to c.targets_of-reach.result.bits c.args.self.now.squares.bits c.with.result.bits c.own.result.bits c.without-targets.result.bits c.among.result.bits c.args.forbidden.now
+    idle_there c.args.self.now.quiet_only (place_in c.args.self.now) c.args.self.now.node.eval c.args.self.now.gains c.args.self.now.king c.args.self.now.board c.args.piece c.args.to c.targets_of-reach.result.bits c.args.self.now.squares.bits c.with.result.bits c.own.result.bits c.without-targets.result.bits c.among.result.bits c.args.forbidden.now
     c.args.self.now.kingless c.args.self.now.stands.king_fits c.targets_of-reach.ensures.squares
     (sym c.has.ensures ∙ c.if-has.false) c.with.ensures (sym c.bitand.ensures ∙ eqb-true _ _ (sym c.is_empty.ensures ∙ c.if-not-is_empty.false))
     (rw c.side.ensures at c.own.ensures.squares) c.own.result.fits c.without-targets.ensures c.requires.allowed

@@ -1,4 +1,4 @@
-use Rattle.std.proofs.Common.{rules, ◌≡◌, ◌≤ℤ◌, ◌∙◌, true, subst, arith, FitsSigned, w32}
+use Rattle.std.proofs.Common.{ℕ, rules, ◌≡◌, ◌≤ℤ◌, ◌∙◌, true, subst, arith, FitsSigned, w32}
 use Rattle.std.proofs.lemmas.Int.{ints, to_z-of_z}
 use Rattle.shogi_core.specs.declared.moves.Move.{Move}
 use Rattle.shogi_moves.specs.Legal.{is_legal}
@@ -8,7 +8,6 @@ use Rattle.dull_moves.specs.Dull.{AreDull}
 use Rattle.search_nodes.specs.declared.frame.Frame.{Frame}
 use Rattle.search_nodes.specs.Frames.{IsLost, move_alpha_of, worth_of}
 use Rattle.search_nodes.proofs.Nodes.{asked, of_current, waits}
-use Rattle.search_nodes.proofs.DullRows.{worth_there}
 use Rattle.search_nodes.proofs.Rows.{lost_kept}
 use Rattle.search_nodes.proofs.frame.Frame.prune_dull.Goals as goal
 
@@ -19,8 +18,8 @@ fail_low-requires c =
     let m : Move = c.args.current.now in
     let w : _ = waits _ _ _ _ _ _ _ _ _ _ (asked _ _ c.requires.asked) f.known in
     let legal : is_legal f.node.position m ≡ true = listed_to_legal _ _ c.reveal_invariant.ensures.back w.is_listed in
-    let dull : AreDull f.node.position f.node.eval c.in-Some.dull = subst (λ (n : Evaluated). AreDull n.position n.eval c.in-Some.dull) c.look_for_dull.ensures.0.0 (g.refuted c.in-Some.dull c.in-Some.is) in
-    let few : worth_of f m ≤ℤ c.in-Some.dull.most = worth_there f m c.in-Some.dull.most (c.prunes_dull.ensures c.if-not-prunes_dull.false) (dull m c.has.ensures.on_board (c.has.ensures.among c.if-not-has.false) (c.is_quiet.ensures c.if-not-is_quiet.false) legal) in
+    let dull : AreDull f.node.position f.node.eval f.depth c.in-Some.dull = subst (λ (n : ℕ). AreDull f.node.position f.node.eval n c.in-Some.dull) c.look_for_dull.ensures.0.1.0 (subst (λ (n : Evaluated). AreDull n.position n.eval g.depth c.in-Some.dull) c.look_for_dull.ensures.0.0 (g.refuted c.in-Some.dull c.in-Some.is)) in
+    let few : worth_of f m ≤ℤ c.in-Some.dull.most = (dull m c.has.ensures.on_board (c.has.ensures.among c.if-not-has.false) (c.is_quiet.ensures c.if-not-is_quiet.false) legal) in
     let fits : FitsSigned w32 c.in-Some.dull.most = search rules in
     let same = to_z-of_z w32 c.in-Some.dull.most fits in
     let lost : worth_of f m ≤ℤ move_alpha_of f m = omega (arith, ints, few, same, c.move_alpha-move_alpha.ensures.move_alpha, c.if-dull-move_alpha.false) in
