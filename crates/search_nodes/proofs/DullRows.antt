@@ -1,9 +1,8 @@
 -- Dull moves that are passed in a row.
-use Rattle.std.proofs.Common.{◌≡◌, ◌≤◌, ◌<◌, ◌+◌, ◌-◌, ◌*◌, ◌/◌, ◌%◌, ◌≤ℤ◌, ℕ, ℤ, true, false, bit_and, bit_or, ◌^◌, None, Some, Option, refl, sym, ap, subst, ◌∙◌, arith, inl, inr}
+use Rattle.std.proofs.Common.{◌≡◌, ◌≤◌, ◌<◌, ◌+◌, ◌-◌, ◌*◌, ◌/◌, ◌%◌, ◌≤ℤ◌, ℕ, true, false, bit_and, bit_or, ◌^◌, None, Some, Option, refl, sym, ap, ◌∙◌, arith, inl, inr}
 use Rattle.std.specs.Prelude.{is_some, not}
 use Rattle.std.proofs.lemmas.Bool.{and_parts, both_ways, or_parts}
 use Rattle.std.proofs.lemmas.Int.{ints}
-use Rattle.shogi_core.specs.declared.moves.Move.{Move}
 use Rattle.shogi_core.specs.declared.moves.Move.TheVariants.{Board, Drop}
 use Rattle.shogi_core.specs.declared.moves.TheConstants.{FIRST_DROP, SQUARE_CODES}
 use Rattle.shogi_core.specs.declared.piece.Kind.{Kind}
@@ -23,7 +22,7 @@ use Rattle.shogi_moves.proofs.DestinationLaws.{matching_move}
 use Rattle.shogi_replies.specs.Passes.{IsSkipped}
 use Rattle.shogi_replies.proofs.PassLaws.{destination_of, drop_of, not_uncertain, passed_to}
 use Rattle.dull_moves.specs.declared.moves.DullMoves.{DullMoves}
-use Rattle.dull_moves.specs.Dull.{AreDull, IsWorthAtMost, drops_of}
+use Rattle.dull_moves.specs.Dull.{AreDull, drops_of}
 use Rattle.minimax.specs.Minimax.{worth}
 use Rattle.minimax.specs.Window.{code_at, move_alpha}
 use Rattle.search_nodes.specs.declared.frame.Frame.{Frame}
