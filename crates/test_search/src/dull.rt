@@ -82,12 +82,12 @@ fn assert_games(
 
 #[test]
 fn random_games_at_depth_three(rt: HostRuntime) -> Result<(), Fail> {
-    assert_games(&rt, rt.alloc(), (20261201, 3), (3, 8000))
+    assert_games(&rt, rt.alloc(), (20261201, 2), (3, 8000))
 }
 
 #[test]
 fn random_games_at_depth_four(rt: HostRuntime) -> Result<(), Fail> {
-    assert_games(&rt, rt.alloc(), (20261202, 2), (4, 2000))
+    assert_games(&rt, rt.alloc(), (20261202, 1), (4, 2000))
 }
 
 // Where a node is left early, the value and the best move of the root are those of plain minimax.

@@ -66,12 +66,14 @@ fn settled(p: &Position, at: Square, captures: u8) -> i32 {
     }
 }
 
-/// The most that the side to move has once any one square is settled.
+/// The most that the side to move has once any one square is settled. Nothing is taken on an empty one.
 fn best_settled(p: &Position) -> i32 {
     let mut most = material(p, Eval::Exchange);
     for file in 1..10u8 {
         for rank in 1..10u8 {
-            if let Some(at) = Square::new(file, rank) {
+            if let Some(at) = Square::new(file, rank)
+                && p.at(at).is_some()
+            {
                 most = most.max(settled(p, at, 40));
             }
         }
