@@ -14,7 +14,7 @@ PROGRAM = os.path.abspath(
     sys.argv[1] if len(sys.argv) > 1 else os.path.join(TOP, "crates", "usi_host", "out", "usi_host")
 )
 
-# The reply to `usi` without the words of a setup; `check/readmes.py` compares it with docs/PROTOCOL.md and the rows.
+# The reply to `usi` without a setup's words; `check/readmes.py` compares it with docs/PROTOCOL.md and the rows.
 with open(os.path.join(TOP, "check", "usi.txt"), "rb") as file:
     USI = file.read()
 DEPTH_ONE = b"info depth 1 score cp 0 pv 1g1f\n"

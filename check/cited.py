@@ -1,7 +1,7 @@
 #!/usr/bin/env python3
-"""Looks up what the pages cite of the code between backticks: files, and those behind a crate and a colon in that crate;
-calls as `Host::run`; and the clauses in brackets behind a call or a type, as in `serve` [whole], among its clauses and the
-fields of their records. Prints what is not there; the status is 1 if there is something. `check/readmes.py` calls it."""
+"""Looks up what the pages cite of the code between backticks: files, and those behind a crate and a colon in that
+crate; calls as `Host::run`; and the clauses in brackets behind a call or a type, as in `serve` [whole], among its clauses
+and the fields of their records. Prints what is not there; the status is 1 if there is something."""
 
 import functools
 import os
@@ -47,11 +47,12 @@ def files():
 
 def owner_of(line):
     """The trait, or the type that `impl` is for."""
-    words = line.split("{")[0]
-    while "<" in words and words != (words := re.sub(r"<[^<>]*>", "", words)):
-        pass
-    words = WORD.findall(words)
-    return words[words.index("for") + 1] if "for" in words else words[words.index("trait") + 1] if "trait" in words else words[1]
+    text = line.split("{")[0]
+    for _ in range(text.count("<")):
+        text = re.sub(r"<[^<>]*>", "", text)
+    words = WORD.findall(text)
+    before = next((it for it in ("for", "trait") if it in words), "impl")
+    return words[words.index(before) + 1]
 
 
 class Call:
@@ -145,7 +146,7 @@ def missing_files(line):
 
 
 def missing(page):
-    """What a page cites and is not there, each with its place."""
+    """What a page cites and is not there."""
     code = the_code()
     crate = os.path.relpath(page, CRATES).split("/")[0]
     crate = None if crate == ".." else crate

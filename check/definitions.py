@@ -1,6 +1,6 @@
 #!/usr/bin/env python3
-"""Makes the tables of docs/DEFINITIONS.md: of the constants that clauses and definitions cite, and of each module of specs/
-with the sentence at its head. Prints them; with `--write` it puts them into the page, between its marks.
+"""Makes the tables of docs/DEFINITIONS.md: of the constants that clauses and definitions cite, and of each module of
+specs/ with the sentence at its head. Prints them; with `--write` it puts them into the page, between its marks.
 `check/readmes.py` compares them."""
 
 import glob
