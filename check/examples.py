@@ -172,7 +172,7 @@ def client_that_finds_another_host():
         path = os.path.join(folder, "socket")
         for words, options, depth, others, why in [
             ((), {}, 3, ["--max-depth", "2"], deep),
-            ((), {"Depth": 3}, None, ["--max-depth", "2"], "a number out of range: Depth is a whole number from 1 to 2"),
+            ((), {"Depth": 3}, None, ["--max-depth", "2"], "a number out of range: Depth is a whole number"),
             (("--depth", "3"), {}, None, ["--max-depth", "2"], "a depth is a whole number from 1 to 2, and not '3'"),
             (("--eval", "exchange"), {"Eval": "Exchange"}, 3, [], said),
             (("--eval", "exchange"), {}, 3, [], said),
@@ -415,7 +415,7 @@ def host_setups_change_no_output():
 
 
 def positions_longer_than_a_line():
-    """The longest line that a host takes is graded; one more byte is a row that is refused, and the next ones follow."""
+    """The longest line that a host takes is graded; with one more byte it is refused, and the next ones follow."""
     round_trip = " 4i4h 4a4b 4h4i 4b4a"
     moves = (round_trip * 3_275).strip()
     longest = f"position startpos {'moves':>{LINE_MAX - len(moves) - len('position startpos ') - 1}} {moves}"

@@ -1,18 +1,22 @@
 #!/usr/bin/env bash
-# check/install.sh PREFIX [DESTDIR]: puts the built program and what goes with it below a prefix: man page,
-# completions, pages, units, example clients; and the library for C, if it is built.
+# check/install.sh PREFIX [DESTDIR]: puts the built program and what goes with it below a prefix: usi_analyst, man
+# pages, completions, pages, units, example clients; and the library for C, if it is built. USI_HOST names another
+# program to install.
 set -euo pipefail
 cd "$(dirname "$0")/.."
 prefix=$1 root=${2:-}$1
-program=crates/usi_host/out/usi_host library=crates/usi_library/out
+program=${USI_HOST:-crates/usi_host/out/usi_host} library=crates/usi_library/out
 [ -x "$program" ] || {
     echo 'Nothing is built yet: call make build first.' >&2
     exit 1
 }
 doc=$root/share/doc/usi_host
 install -D -m 755 "$program" "$root/bin/usi_host"
+install -m 755 share/usi_analyst "$root/bin/usi_analyst"
 install -D -m 644 share/usi_host.1 "$root/share/man/man1/usi_host.1"
+echo '.so man1/usi_host.1' >"$root/share/man/man1/usi_analyst.1"
 install -D -m 644 share/usi_host.bash "$root/share/bash-completion/completions/usi_host"
+ln -sf usi_host "$root/share/bash-completion/completions/usi_analyst"
 install -D -m 644 share/_usi_host "$root/share/zsh/site-functions/_usi_host"
 install -D -m 644 -t "$doc" LICENSE deploy/usi_host.service deploy/usi_host@.service deploy/haproxy.cfg
 install -D -m 644 -t "$doc/pictures" docs/pictures/*.png docs/pictures/game.svg

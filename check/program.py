@@ -3,6 +3,7 @@
 exit status, and at when its lines come. Its one argument is the program; without it, the program that
 `make build` makes. Its last line is `N passed, M failed`."""
 
+import contextlib
 import os
 import re
 import resource
@@ -326,6 +327,96 @@ def usi_shows_the_setup():
         want(run(["stdio", *words], b"usi\n"), (0, reply, b""), f"stdio {words}")
         output = b"== A\n" + reply + b"== B\n" + reply
         want(run(["replay", *words], b"+A\nA usi\n+B\nB usi\n"), (0, output, b""), f"replay {words}")
+
+
+# What front ends are told of it: docs/GUIDE.md.
+ANALYST = usi_of(6, 8, b"Exchange")
+
+
+def ended_with(words, sent, **how):
+    """The status, the output and the complaints of a program that is sent this."""
+    ended = subprocess.run(words, input=sent, capture_output=True, timeout=PATIENCE, check=False, **how)
+    return ended.returncode, ended.stdout, ended.stderr
+
+
+@contextlib.contextmanager
+def analyst():
+    """`usi_analyst`, as it is installed below a path with a space."""
+    with tempfile.TemporaryDirectory() as folder:
+        prefix = os.path.join(folder, "a place")
+        words = [os.path.join(TOP, "check", "install.sh"), prefix]
+        subprocess.run(words, env={**os.environ, "USI_HOST": PROGRAM}, check=True, capture_output=True)
+        yield os.path.join(prefix, "bin", "usi_analyst")
+
+
+def the_analyst_sets_the_program_up():
+    """By its path, by the path of commands, and by links; words behind it are added, and bad ones refused as ever."""
+    with analyst() as path, tempfile.TemporaryDirectory() as folder:
+        told = (0, ANALYST, b"")
+        want(ended_with([path], b"usi\n"), told, "by its path")
+        named = {**os.environ, "PATH": f"{os.path.dirname(path)}:{os.environ['PATH']}"}
+        want(ended_with(["sh", "-c", "usi_analyst"], b"usi\n", env=named), told, "by its name")
+        want(ended_with(["./usi_analyst"], b"usi\n", cwd=os.path.dirname(path)), told, "from its folder")
+        first, second = (os.path.join(folder, name) for name in ("a link", "-e"))
+        os.symlink(path, first)
+        os.symlink("a link", second)
+        want(ended_with([first], b"usi\n"), told, "by a link")
+        want(ended_with([second], b"usi\n"), told, "by a link to a link")
+        want(ended_with(["sh", "-c", "./-e"], b"usi\n", cwd=folder), told, "by a link like an option")
+        want(ended_with([path, "--lines", "2"], b"usi\n"), (0, usi_of(6, 8, b"Exchange", 2), b""), "words behind")
+        want(ended_with([path], GUARDED), (0, SETTLED, b""), "captures are settled")
+        for words in (["--lines", "9"], ["--depth", "5"], ["stdio"], ["a b"], [""], ["--entries", "+5"]):
+            given = run(["stdio", "--eval", "exchange", "--depth", "6", "--max-depth", "8", *words])
+            want((ended_with([path, *words], b""), given[0]), (given, 2), f"{words}")
+        host = os.path.join(os.path.dirname(path), "usi_host")
+        missing = f"usi_analyst: no program usi_host beside it: {host}\n".encode()
+        os.chmod(host, 0o644)
+        want(ended_with([path], b"usi\n"), (127, b"", missing), "a file that is no program")
+        os.unlink(host)
+        os.mkdir(host)
+        want(ended_with([first], b"usi\n"), (127, b"", missing), "a folder, by a link")
+        os.rmdir(host)
+        want(ended_with([path], b"usi\n"), (127, b"", missing), "nothing there")
+
+
+def nothing_is_left_of_what_was_installed():
+    with analyst() as path:
+        prefix = os.path.dirname(os.path.dirname(path))
+        there = [name for _, _, names in os.walk(prefix) for name in names]
+        names = ("usi_host", "usi_analyst", "usi_host.1", "usi_analyst.1")
+        want([name for name in names if name not in there], [], "what is missing")
+        subprocess.run([os.path.join(TOP, "check", "uninstall.sh"), prefix], check=True)
+        want([names for _, _, names in os.walk(prefix) if names], [], "files that are left")
+
+
+def the_analyst_answers_xboard():
+    """Through `uci2wb`, if that is installed, which takes a path without a space: a link to it."""
+    bridge = shutil.which("uci2wb", path=f"{os.environ['PATH']}:/usr/games")
+    if bridge is None:
+        return
+    with analyst() as path, tempfile.TemporaryDirectory() as folder:
+        link = os.path.join(folder, "usi_analyst")
+        os.symlink(path, link)
+        pipes = {"stdin": subprocess.PIPE, "stdout": subprocess.PIPE, "bufsize": 0}
+        with subprocess.Popen([bridge, "-s", link], **pipes) as running:
+            seen = []
+
+            def until(text):
+                while not seen or text not in seen[-1]:
+                    seen.append(line_of(running))
+                    want(seen[-1].endswith(b"\n"), True, f"{text} in {seen}")
+
+            running.stdin.write(b"xboard\nprotover 2\n")
+            until(b"done=1")
+            for feature in (b"Depth -spin 6 1 8", b"Eval -combo Plain /// Hand /// Exchange", b"MultiPV -spin 1 1 8"):
+                want(b'feature option="%s"\n' % feature in seen, True, f"{feature} in {seen}")
+            # Unsettled, the third ply of the opening takes a pawn, for 200.
+            running.stdin.write(b"new\nvariant shogi\npost\nanalyze\n")
+            until(b"  3  ")
+            want(seen[-1].split()[:2], [b"3", b"0"], "the settled value at depth 3")
+            running.stdin.write(b"exit\nquit\n")
+            running.stdin.close()
+            running.wait(PATIENCE)
 
 
 def sessions_begin_with_the_setup():
@@ -884,6 +975,9 @@ CHECKS = (
     the_longest_line_of_a_script,
     each_session_has_an_evaluation_of_its_own,
     usi_shows_the_setup,
+    the_analyst_sets_the_program_up,
+    the_analyst_answers_xboard,
+    nothing_is_left_of_what_was_installed,
     sessions_begin_with_the_setup,
     no_search_is_deeper_than_the_greatest,
     captures_are_settled_where_exchange_is_offered,

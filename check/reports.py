@@ -405,7 +405,7 @@ def names_in_other_encodings():
             with open(path, "wb") as file:
                 file.write(b"7g7f 7g7f\n")
             told = analysed("", "--program", PROGRAM, path)[2]
-            want(told, [f"analyse.py: {os.path.join(folder, shown)}:1:6: illegal move 7g7f"], f"{name}: a refusal")
+            want(told, [f"analyse.py: {folder}/{shown}:1:6: illegal move 7g7f"], f"{name}: a refusal")
 
 
 def report_that_cannot_be_written():

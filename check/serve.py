@@ -9,6 +9,7 @@ import json
 import multiprocessing
 import os
 import random
+import re
 import resource
 import select
 import selectors
@@ -21,7 +22,7 @@ import tempfile
 import time
 
 import refusals
-from checks import DEPTH_ONE, DEPTH_THREE, PROGRAM, USI, Wrong, run_all, usi_of, want
+from checks import DEPTH_ONE, DEPTH_THREE, PROGRAM, TOP, USI, Wrong, run_all, usi_of, want
 
 # The longest that one step may take, in seconds.
 PATIENCE = 40
@@ -1074,6 +1075,52 @@ def a_status_shows_the_setup():
             picked(running, depth=2, max_depth=5, lines=8, eval=word)
 
 
+def setup_of(place):
+    """What the host whose status is there was started with."""
+    with socket.socket(socket.AF_UNIX) as client:
+        client.settimeout(PATIENCE)
+        client.connect(os.path.join(place, "status"))
+        told = json.loads(to_the_end(client))
+    return {name: told[name] for name in "slots entries slice depth max_depth lines eval".split()}, told["pid"]
+
+
+def an_upgrade_keeps_the_setup():
+    """The commands of docs/OPERATING.md: the new host has the words of the old one, who is connected stays with that,
+    and it ends once nobody is. They want `socat`."""
+    if shutil.which("socat") is None:
+        return
+    with open(os.path.join(TOP, "docs", "OPERATING.md"), encoding="utf-8") as page:
+        [commands] = re.findall(r"^## An upgrade without loss\n[^`]*```sh\n(.*?)```", page.read(), re.M | re.S)
+    words = "--slots 7 --entries 99 --slice 50 --depth 2 --max-depth 4 --lines 2 --eval exchange".split()
+    with folder() as place:
+        os.symlink(PROGRAM, os.path.join(place, "usi_host"))
+        old = Host(place, "--status", os.path.join(place, "status"), *words)
+        began, old_process = setup_of(place)
+        new_process = None
+        how = {"cwd": place, "env": {**os.environ, "PATH": f"{place}:{os.environ['PATH']}"}}
+        with old.connect() as client, subprocess.Popen(["bash", "-c", commands], **how) as running:
+            try:
+                client.sendall(b"isready\n")
+                want(client.recv(100), b"readyok\n", "a client of the old host")
+                wait_until(lambda: os.path.exists(os.path.join(place, "status.old")), "the new host")
+                wait_until(lambda: not os.path.exists(os.path.join(place, "socket.new")), "its name")
+                has, new_process = setup_of(place)
+                want((has, new_process != old_process), (began, True), "the setup of the new host")
+                client.sendall(b"isready\n")
+                want(client.recv(100), b"readyok\n", "the old host goes on")
+                offered = old.ask(b"usi\n").splitlines()
+                for option in (b"Depth type spin default 2 min 1 max 4", b"MultiPV type spin default 2 min 1 max 8"):
+                    want(b"option name " + option in offered, True, f"{option} in {offered}")
+                client.close()
+                want(running.wait(PATIENCE), 0, "the end of the commands")
+                wait_until(lambda: not old.is_running(), "the end of the old host")
+            finally:
+                running.kill()
+                old.stop()
+                if new_process is not None:
+                    os.kill(new_process, signal.SIGTERM)
+
+
 def a_session_begins_under_the_setup():
     words = ("--depth", "1", "--max-depth", "2", "--eval", "exchange")
     with host(*words) as running:
@@ -1311,6 +1358,7 @@ CHECKS = (
     a_status_counts_searches,
     a_status_counts_what_happened,
     a_status_shows_the_setup,
+    an_upgrade_keeps_the_setup,
     a_session_begins_under_the_setup,
     bytes_are_counted,
     sixty_four_status_clients_at_once,

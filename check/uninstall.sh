@@ -2,7 +2,8 @@
 # check/uninstall.sh PREFIX [DESTDIR]: takes away what check/install.sh put there.
 set -euo pipefail
 root=${2:-}$1
-rm -f "$root/bin/usi_host" "$root/share/man/man1/usi_host.1" "$root/share/bash-completion/completions/usi_host" \
+rm -f "$root"/bin/usi_{host,analyst} "$root"/share/man/man1/usi_{host,analyst}.1 \
+    "$root"/share/bash-completion/completions/usi_{host,analyst} \
     "$root/share/zsh/site-functions/_usi_host" "$root/include/usi_library.h" "$root"/lib/libusi.{a,so,so.0,so.0.1.0} \
     "$root/lib/pkgconfig/usi.pc"
 rm -rf "$root/share/doc/usi_host" "$root/lib/cmake/usi"

@@ -1,4 +1,4 @@
-# Completion of the words of usi_host, for bash.
+# Completion of the words of usi_host and of usi_analyst, for bash.
 _usi_host() {
     local word=${COMP_WORDS[COMP_CWORD]} before=${COMP_WORDS[COMP_CWORD - 1]}
     COMPREPLY=()
@@ -16,7 +16,9 @@ _usi_host() {
             ;;
     esac
     local words setup='--depth --max-depth --lines --eval'
-    if [ "$COMP_CWORD" -eq 1 ]; then
+    if [ "${1##*/}" = usi_analyst ]; then
+        words='--entries --lines -h --help'
+    elif [ "$COMP_CWORD" -eq 1 ]; then
         words='stdio replay serve perft moves help -h --help -V --version'
     else
         case ${COMP_WORDS[1]} in
@@ -30,4 +32,4 @@ _usi_host() {
     fi
     mapfile -t COMPREPLY < <(compgen -W "$words" -- "$word")
 }
-complete -F _usi_host usi_host
+complete -F _usi_host usi_host usi_analyst

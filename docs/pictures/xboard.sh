@@ -1,32 +1,26 @@
 #!/bin/sh
-# Takes the picture of README.md: xboard analyses a position with the built program, on a screen that is only
-# in memory. It needs Xvfb, xboard, uci2wb, xdotool and ImageMagick (`import`). Its argument is the PNG that
-# is written; without it, xboard.png beside this script.
+# Takes the picture of README.md: xboard analyses a position with the built program, by the words that docs/GUIDE.md has,
+# on a screen that is only in memory. It needs Xvfb, xboard, uci2wb, xdotool and ImageMagick (`import`). Its argument is
+# the PNG that is written; without it, xboard.png beside this script.
 set -eu
 here=$(cd "$(dirname "$0")" && pwd)
 picture=$(realpath -m "${1:-$here/xboard.png}")
-program=$here/../../crates/usi_host/out/usi_host
-PATH=$PATH:/usr/games
 home=$(mktemp -d)
-export HOME="$home" DISPLAY=:77
+export HOME="$home" DISPLAY=:77 PATH="$home/prefix/bin:$PATH:/usr/games"
 Xvfb :77 -screen 0 930x366x24 >"$home/log" 2>&1 &
 screen=$!
 front=$screen
 trap 'kill $front $screen; rm -rf "$home"' EXIT
+"$here/../../check/install.sh" "$home/prefix" 2>>"$home/log"
 sleep 2
 
-# uci2wb takes one word for the engine; xboard writes first the side that moves first, as White.
-cat >"$home/usi_host" <<ENGINE
-#!/bin/sh
-exec "$program" stdio --eval exchange --depth 5
-ENGINE
-chmod +x "$home/usi_host"
+# xboard writes first the side that moves first, as White.
 cat >"$home/position" <<'POSITION'
 l6nl/5+P1gk/2np1S3/p1p4Pp/3P2Sp1/1PPb2P1P/P5GS1/R8/LN4bKL[RGgsnppppp] b - 0 1
 POSITION
 touch "$home/.xboard-shogi-rc"
-xboard @shogi -fcp "uci2wb -s $home/usi_host" -size 49 -startupMessage '' \
-    -loadPositionFile "$home/position" -initialMode analysis -engineOutputUp true >>"$home/log" 2>&1 &
+xboard @shogi -fcp "uci2wb -s usi_analyst" -initialMode analysis -size 49 -startupMessage '' \
+    -loadPositionFile "$home/position" -engineOutputUp true >>"$home/log" 2>&1 &
 front=$!
 sleep 5
 board=$(xdotool search --name '^xboard' | tail -1)
