@@ -4,8 +4,8 @@ Each crate that they stand on is proved from nothing, by the command of the tool
 again only where a file of it, or of a crate below it, is another than when it was proved. First comes the crate with
 the longest chain of others behind it, by all processors; two others are proved beside it, of less priority.
 With --passed, right after `rt ci`, nothing is built: what that proved in this tree is taken as proved.
-Standard error tells which crates are proved, after how many seconds, and about how long is left, as fast as it
-went so far. What the toolchain says is kept in `out/build.log` of each crate, and shown where it fails."""
+Standard error tells which crates are proved, how many seconds of a processor each took, after how many seconds, and
+about how long is left, as fast as it went so far. What the toolchain says is kept in `out/build.log` of each crate, and shown where it fails."""
 
 import fcntl
 import hashlib
@@ -22,12 +22,15 @@ CRATES = os.path.join(TOP, "crates")
 NAME, LIBRARY = "usi_host", "usi_library"
 # How long nothing is told at most, in seconds.
 QUIET = 20
-# How many crates are proved at a time, at most one a processor.
+# How many crates are proved at a time, at most one a processor; and what the first of them keeps busy of all processors
+# on average: its end runs on one.
 AT_ONCE = 3
+FIRST_SHARE = 0.5
 # What is begun only after another crate, though it doesn't stand on it: beside it the first ones, for which all others
 # wait, take twice as long.
 AFTER = {"usi_arguments": "shogi_search"}
-# What each crate takes of a processor in it, in seconds. What is left is told by these and by how fast it went so far.
+# What each crate takes of a processor in it, in seconds; what has no row takes as much as small ones do. What is left is
+# told by these and by how fast it went so far.
 USUAL = {
     "shogi_core": 160,
     "shogi_moves": 124,
@@ -35,6 +38,7 @@ USUAL = {
     "shogi_sfen": 72,
     "shogi_eval": 35,
     "minimax": 10,
+    "static_exchange": 30,
     "dull_moves": 40,
     "search_nodes": 118,
     "last_ply": 76,
@@ -45,6 +49,7 @@ USUAL = {
     "usi_moves": 40,
     "usi_session": 132,
     "transport": 13,
+    "byte_logs": 9,
     "stream_transport": 122,
     "session_slots": 29,
     "host_core": 98,
@@ -174,8 +179,10 @@ class Build:
         for crate in reversed(crates):
             after = (self.behind[it] for it in self.behind if crate in used[it])
             self.behind[crate] = usual([crate]) + max(after, default=0)
-        self.start = self.told = self.last = time.time()
-        self.work = usual(self.left)
+        self.ends = self.schedule()
+        self.start = self.told = time.time()
+        # When the last one of those that others wait for was proved, after the start, and when by `schedule`.
+        self.reached = 0.0, 0.0
 
     def stop(self, number, _):
         """Notes the signal that ends the build."""
@@ -209,19 +216,39 @@ class Build:
                 start_new_session=True,
                 preexec_fn=None if is_first else lambda: os.nice(10),
             )
-        self.running[crate] = running, is_first
+        return running
 
-    def begin_ready(self):
-        """Begins the crate with the longest chain behind it, if it waits for none, and others beside it."""
-        unproved = {*self.left, *self.running}
-        beside = {it for it, (_, is_first) in self.running.items() if not is_first}
+    def begin_ready(self, left, running, begin):
+        """Begins the crate with the longest chain behind it, if it waits for none, and others beside it. Those that run
+        are kept with what `begin` gives, and whether they are first."""
+        unproved = {*left, *running}
+        beside = {it for it, (_, is_first) in running.items() if not is_first}
         first = max(unproved - beside, key=self.behind.get)
-        for crate in sorted(self.left, key=self.behind.get, reverse=True):
+        for crate in sorted(left, key=self.behind.get, reverse=True):
             # While the first waits for others, a place is kept for it.
-            most = min(AT_ONCE, self.processors) - (crate != first and first in self.left)
-            if unproved.isdisjoint([*self.used[crate], AFTER.get(crate)]) and len(self.running) < most:
-                self.left.remove(crate)
-                self.begin(crate, crate == first)
+            most = min(AT_ONCE, self.processors) - (crate != first and first in left)
+            if unproved.isdisjoint([*self.used[crate], AFTER.get(crate)]) and len(running) < most:
+                left.remove(crate)
+                running[crate] = begin(crate, crate == first), crate == first
+
+    def schedule(self):
+        """When each crate will be proved, after the start, if each takes what is usual: the first one has its share of
+        the processors, and those beside it the others."""
+        left, running, ends, now = list(self.left), {}, {}, 0.0
+        while left or running:
+            if left:
+                self.begin_ready(left, running, lambda crate, _: usual([crate]))
+            shares = {it: FIRST_SHARE for it, (_, is_first) in running.items() if is_first}
+            rest = (1 - sum(shares.values())) / max(len(running) - len(shares), 1)
+            shares |= {it: min(rest, FIRST_SHARE) for it in running if it not in shares}
+            busy = {it: max(1.0, share * self.processors) for it, share in shares.items()}
+            step = min(left_of / busy[it] for it, (left_of, _) in running.items())
+            now += step
+            running = {it: (left_of - step * busy[it], is_first) for it, (left_of, is_first) in running.items()}
+            for it in [it for it, (left_of, _) in running.items() if left_of < 0.001]:
+                ends[it] = now
+                del running[it]
+        return ends
 
     def link(self, crate):
         """Links a program; what went wrong."""
@@ -231,7 +258,7 @@ class Build:
         made = subprocess.run(words, capture_output=True, errors="replace", check=False)
         return f"{made.stdout}{made.stderr}" if made.returncode else ""
 
-    def end(self, crate, status):
+    def end(self, crate, is_first, status, seconds):
         """Takes in that a crate was proved, or shows why not."""
         said = ""
         if status:
@@ -245,38 +272,43 @@ class Build:
         if sums(self.lines, self.used, below(self.used, [crate]))[crate] != self.sums[crate]:
             raise Failed(f"What {crate} stands on changed while it was proved. Call it again.")
         note(crate, self.sums[crate])
-        self.last = self.told = time.time()
-        tell(f"{self.proved()}: {crate} proved, {self.after()}")
+        self.told = time.time()
+        if is_first:
+            self.reached = max(self.reached, (self.told - self.start, self.ends[crate]))
+        tell(f"{self.proved()}: {crate} proved, by {seconds:.0f} s of a processor, {self.after()}")
 
     def proved(self):
         return f"{len(self.crates) - len(self.left) - len(self.running)} of {len(self.crates)}"
 
     def expected(self):
-        """About how long all of it takes on usual cores: no crate keeps all of them busy to its end."""
-        return minutes(1.25 * self.work / self.processors)
+        """About how long all of it takes on usual cores."""
+        return minutes(max(self.ends.values()))
 
     def after(self):
-        """How long it took so far, and about how long is left once a twentieth was proved."""
-        now = time.time()
-        rest = usual([*self.left, *self.running])
-        text = f"after {now - self.start:.0f} s"
-        if 0 < rest < 0.95 * self.work:
-            pace = (self.last - self.start) / (self.work - rest)
-            text += f", {minutes(max(0.0, pace * rest - (now - self.last)))} left"
+        """How long it took so far, and about how long is left, once a crate was proved that others wait for. One that
+        takes longer than it should is taken to need a quarter more of that, and what comes after it is still to come."""
+        took, (reached, usually) = time.time() - self.start, self.reached
+        text = f"after {took:.0f} s"
+        if usually and (self.left or self.running):
+            pace, whole, since = reached / usually, max(self.ends.values()), took - reached
+            first = max((self.ends[it] for it, (_, is_first) in self.running.items() if is_first), default=whole)
+            rest = max(pace * (first - usually) - since, since / 4) + pace * (whole - first)
+            text += f", {minutes(rest)} left"
         return text
 
     def whole(self):
         """Proves and builds all; the status."""
         while self.left or self.running:
             if self.left:
-                self.begin_ready()
+                self.begin_ready(self.left, self.running, self.begin)
             time.sleep(0.2)
             if self.stopped:
                 return 128 + self.stopped
-            for crate, (running, _) in list(self.running.items()):
+            for crate, (running, is_first) in list(self.running.items()):
+                before = sum(os.times()[2:4])
                 if running.poll() is not None:
                     del self.running[crate]
-                    self.end(crate, running.returncode)
+                    self.end(crate, is_first, running.returncode, sum(os.times()[2:4]) - before)
             if time.time() - self.told >= QUIET:
                 self.told = time.time()
                 tell(f"{self.proved()} {self.after()}")
