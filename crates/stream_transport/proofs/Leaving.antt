@@ -1,13 +1,22 @@
 -- Streams that linger leave in time.
-use Rattle.std.proofs.Common.{◌≡◌, ◌<◌, ◌≤◌, ◌+◌, ◌-◌, ◌⊎◌, ℕ, List, [], ◌∷◌, ◌++◌, length, take, get_or, set, true, refl, sym, ap, ◌∙◌, subst, arith, inl, inr}
-use Rattle.std.specs.Prelude.{All, filter}
+use Rattle.std.proofs.Common.{Bool, Option, ◌≡◌, ◌<◌, ◌≤◌, ◌+◌, ◌-◌, ◌⊎◌, ℕ, List, [], ◌∷◌, ◌++◌, length, take, get_or, set, true, refl, sym, ap, ◌∙◌, subst, arith, inl, inr}
+use Rattle.std.specs.Prelude.{◌==◌, ◌≢◌, false, All, filter}
+use borrow.Author.Tests.{eqb-false, eqb-true}
 use Rattle.std.proofs.lemmas.Bool.{ltb-true}
 use Rattle.std.proofs.Math.Nat.{eq-or-lt_of_le}
 use Rattle.std.proofs.Math.Seq.{take-append_seam}
 use Rattle.std.proofs.lemmas.List.{get_or_default, get_or-set_same, get_or-set_other, length-set}
 use Rattle.std.proofs.lemmas.List.Elements.{All-filter, filter_passes}
 use Rattle.stream_transport.specs.Lingering.{Leave, StayAtMost, has_looks}
+use Rattle.stream_transport.specs.System.{AreShut, IsShut}
 use Rattle.stream_transport.specs.declared.lingering.LingeringStream.{LingeringStream}
+
+by_test : {P Q : Type 0} (t : Bool) → (t ≡ true → P) → (t ≡ false → Q) → P ⊎ Q
+by_test true p q = inl (p refl)
+by_test false p q = inr (q refl)
+
+is_it : (k i : ℕ) → (k ≡ i) ⊎ (k ≢ i)
+is_it k i = by_test (k == i) (λ e. eqb-true k i e) (λ e. eqb-false k i e)
 
 module _ {S : Type 0} where
   -- of some streams the first ones have so many fewer looks left, and the others are as they were
@@ -62,3 +71,34 @@ module _ {S : Type 0} where
   pub gone_filtered : (looks : ℕ) (old passed new : List (LingeringStream S)) → Leave looks old passed → new ≡ filter has_looks passed → StayAtMost looks old → new ≡ []
   gone_filtered looks old passed new leave e stay =
       e ∙ none_stays (filter has_looks passed) (stay_filtered 0 passed (leave 0 (stay_longer looks (0 + looks) old (omega arith) stay))) (filter_passes has_looks passed)
+
+  module _ (is_shut : S → Option Bool) where
+    -- of each of these streams it is told the same whether its writing side is shut
+    abbrev pub TellSame : (old new : List (LingeringStream S)) → Type 0
+    TellSame old new = (k : ℕ) (d : LingeringStream S) → is_shut (get_or new k d).stream ≡ is_shut (get_or old k d).stream
+
+    pub same_none : (old new : List (LingeringStream S)) → new ≡ old → TellSame old new
+    same_none old new e k d = ap (λ xs. is_shut (get_or xs k d).stream) e
+
+    same_at : (old new : List (LingeringStream S)) (i : ℕ) (v d0 : LingeringStream S) → i < length new → TellSame old new
+        → is_shut v.stream ≡ is_shut (get_or new i d0).stream → (k : ℕ) (d : LingeringStream S) → (k ≡ i) ⊎ (k ≢ i)
+        → is_shut (get_or (set new i v) k d).stream ≡ is_shut (get_or old k d).stream
+    same_at old new i v d0 in' so_far same k d (inl e) =
+        let at_it : is_shut (get_or (set new i v) i d).stream ≡ is_shut (get_or old i d).stream =
+        ap (λ (x : LingeringStream S). is_shut x.stream) (get_or-set_same new i v d in') ∙ (same ∙ (ap (λ (x : LingeringStream S). is_shut x.stream) (get_or_default new i d0 d in') ∙ so_far i d)) in
+        subst (λ (n : ℕ). is_shut (get_or (set new i v) n d).stream ≡ is_shut (get_or old n d).stream) (sym e) at_it
+    same_at old new i v d0 in' so_far same k d (inr apart) =
+        ap (λ (x : LingeringStream S). is_shut x.stream) (get_or-set_other new i k v d (omega (arith, apart))) ∙ so_far k d
+
+    pub same_more : (old new : List (LingeringStream S)) (i : ℕ) (v d0 : LingeringStream S) → i < length new → TellSame old new
+        → is_shut v.stream ≡ is_shut (get_or new i d0).stream → TellSame old (set new i v)
+    same_more old new i v d0 in' so_far same k d = same_at old new i v d0 in' so_far same k d (is_it k i)
+
+    pub shut_same : (old new : List (LingeringStream S)) → TellSame old new → length new ≡ length old → AreShut is_shut old → AreShut is_shut new
+    shut_same old new same long shut k d below = subst IsShut (sym (same k d)) (shut k d (omega (arith, long, below)))
+
+    shut_filtered : (xs : List (LingeringStream S)) → AreShut is_shut xs → AreShut is_shut (filter has_looks xs)
+    shut_filtered xs shut = All-filter has_looks (λ lingering. IsShut (is_shut lingering.stream)) xs shut
+
+    pub shut_left : (passed new : List (LingeringStream S)) → new ≡ filter has_looks passed → AreShut is_shut passed → AreShut is_shut new
+    shut_left passed new e shut = subst (AreShut is_shut) (sym e) (shut_filtered passed shut)

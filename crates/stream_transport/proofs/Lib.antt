@@ -8,3 +8,4 @@ pub mod Asked
 pub mod Noting
 pub mod Leaving
 pub mod Telling
+pub mod Calling

@@ -1,5 +1,5 @@
 -- What stands in the place of a number, and what is held under it.
-use Rattle.std.proofs.Common.{◌≡◌, ◌≢◌, ℕ, Bool, true, false, ◌<◌, ◌≤◌, ◌%◌, List, [], ◌∷◌, ◌++◌, Option, Some, None, Result, Ok, length, get_or, refl, sym, ap, subst, ◌∙◌, append-nil, inl, inr}
+use Rattle.std.proofs.Common.{arith, ◌≡◌, ◌≢◌, ℕ, Bool, true, false, ◌<◌, ◌≤◌, ◌%◌, List, [], ◌∷◌, ◌++◌, Option, Some, None, Result, Ok, length, get_or, refl, sym, ap, subst, ◌∙◌, append-nil, inl, inr}
 use Rattle.std.specs.Prelude.{◌==◌, ◌||◌, ◌&&◌, cond, is_some, nat_eq, not, suc, zero, IfSome}
 use Rattle.std.proofs.KnownBytes.{Appends-nil}
 use Rattle.std.proofs.Math.ListN.{set}
@@ -9,7 +9,7 @@ use borrow.Author.Tests.{eqb-true, ne_eqb}
 use Rattle.stream_transport.specs.declared.connection.BufferedStream.{BufferedStream}
 use Rattle.stream_transport.specs.declared.connection.TheConstants.{PLACES}
 use Rattle.stream_transport.specs.declared.readiness.Readiness.{Readiness}
-use Rattle.stream_transport.specs.Held.{HasPassed, HoldsOthers, IsFree, has_kept, held, kept_in, of_number}
+use Rattle.stream_transport.specs.Held.{AreTakenBelow, HasPassed, HoldsOthers, IsFree, has_kept, held, kept_in, of_number}
 use Rattle.stream_transport.specs.declared.listener.StreamCall.{StreamCall}
 use Rattle.stream_transport.specs.Asking.{AsksToGive, IsQuiet, OfHeld, after_read, after_write, found_nothing, readable, took_nothing, writable}
 use Rattle.transport.specs.declared.wire.Got.{Got}
@@ -142,6 +142,7 @@ module _ {S A : Type 0} where
   quiet_asks calls room None q = absurd q
   quiet_asks calls room (Some p) q = record {
     called = λ may kept some. absurd (let t : p.readable ≡ true = may in let f : p.readable ≡ false = q.0 in cc);
+    asleep = λ may kept. (refl, refl);
     awake = λ may found. may;
     takes = λ may. may;
   }
@@ -169,3 +170,10 @@ module _ {S A : Type 0} where
 
   pub none_writes : (old : Readiness) (a : Option (BufferedStream S A)) (r : Result ℕ WireFault) → a ≡ None → old ≡ after_write old a r
   none_writes old a r e = ap (λ (b : Bool). record old { needs_timeout = b }) (or_false old.needs_timeout ∙ ap (λ x. old.needs_timeout || (writable x && took_nothing r)) (sym e))
+
+  -- what comes first takes the first place that is free
+  pub first_taken : (places new : List (Option (BufferedStream S A))) (number place own : ℕ) (q : Option (BufferedStream S A)) → number % PLACES ≡ place → own ≡ number → new ≡ set places (own % PLACES) q → AreTakenBelow places place → AreTakenBelow new (number % PLACES)
+  first_taken places new number place own q e same is least earlier below none =
+      let at_place : own % PLACES ≡ place = ap (λ (n : ℕ). n % PLACES) same ∙ e in
+      let lt : earlier < place = rw e at below in
+      least earlier lt (sym (get_or-set_other places (own % PLACES) earlier q None (omega (arith, at_place, lt))) ∙ (ap (λ xs. get_or xs earlier None) (sym is) ∙ none))

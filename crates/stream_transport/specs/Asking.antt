@@ -186,10 +186,11 @@ module _ {S A : Type 0} where
       × GivesAs answer result new))
 
   -- a read of so many bytes asked the stream so, where nothing was kept of one that may give bytes; it may give more where
-  -- the read found any, or failed, and may take what it might
+  -- the read found any, or failed, and may take what it might; where nothing is kept of one that sleeps it finds nothing
   pub record AsksToGive (calls : S → Option (List StreamCall)) (room : ℕ)
       (result : Result Got WireFault) (old new : BufferedStream S A) : Type 0 where
     pub called : old.readable ≡ true → old.buffer.kept ≡ [] → 0 < room → AsksStream calls room result old new
+    pub asleep : old.readable ≡ false → old.buffer.kept ≡ [] → (result ≡ Ok Nothing) × (new ≡ old)
     pub awake : old.readable ≡ true → result ≢ Ok Nothing → new.readable ≡ true
     pub takes : old.writable ≡ true → new.writable ≡ true
 
@@ -200,14 +201,15 @@ module _ {S A : Type 0} where
   TakesAs (Err why.Interrupted) result new = (result ≡ Ok 0) × (new.writable ≡ true)
   TakesAs (Err why.Failed) result new = (result ≡ Err Device) × (new.writable ≡ true)
 
-  -- a write of so many bytes offered them to the stream, once, where it may take some, and answers so; it may give what it
-  -- might
+  -- a write of so many bytes offered them to the stream, once, where it may take some, and answers so; where it sleeps the
+  -- write takes nothing; it may give what it might
   pub record AsksToTake (calls : S → Option (List StreamCall)) (bytes : ℕ)
       (result : Result ℕ WireFault) (old new : BufferedStream S A) : Type 0 where
     pub called : old.writable ≡ true
         → (answer : Result ℕ StreamFault)
         × (Asks (calls old.stream) (calls new.stream) (Send bytes answer ∷ [])
         × TakesAs answer result new)
+    pub asleep : old.writable ≡ false → (result ≡ Ok 0) × (new ≡ old)
     pub gives : old.readable ≡ true → new.readable ≡ true
 
   -- it is held, and its next read asks the stream; or its next write does

@@ -1,5 +1,5 @@
 -- The connections that a wire holds, and what it reports of them and of all others (own choice).
-use Rattle.std.specs.Prelude.{◌≡◌, ◌≢◌, ◌==◌, ◌%◌, ◌+◌, ◌-◌, ◌^◌, ◌++◌, cond, length, min, nat_eq, not, ℕ, Bool, List, [], Option, None, Some, Result, slice_index_or}
+use Rattle.std.specs.Prelude.{◌≡◌, ◌≢◌, ◌==◌, ◌<◌, ◌%◌, ◌+◌, ◌-◌, ◌^◌, ◌++◌, cond, length, min, nat_eq, not, ℕ, Bool, List, [], Option, None, Some, Result, Ok, Err, ⊤, slice_index_or}
 use Rattle.std.specs.Io.KnownBytes.{Appends, Consumes, prepend_known}
 use Rattle.transport.specs.Report.{Report, bytes_read}
 use Rattle.transport.specs.declared.wire.Got.{Got}
@@ -36,6 +36,17 @@ module _ {S A : Type 0} where
   -- nothing has the place of this number
   abbrev pub IsFree : List (Option (BufferedStream S A)) → ℕ → Type 0
   IsFree places number = slice_index_or places (number % PLACES) None ≡ None
+
+  -- each place below this one is taken
+  abbrev pub AreTakenBelow : List (Option (BufferedStream S A)) → ℕ → Type 0
+  AreTakenBelow places place =
+      (earlier : ℕ) → earlier < place → slice_index_or places earlier None ≢ None
+
+  -- where a number was given, its place was the first one that was free
+  abbrev pub TakesFirst : Result (Option ℕ) WireFault → List (Option (BufferedStream S A)) → Type 0
+  TakesFirst (Ok (Some number)) places = AreTakenBelow places (number % PLACES)
+  TakesFirst (Ok None) places = ⊤
+  TakesFirst (Err fault) places = ⊤
 
   -- the bytes that reads of it will give: those that are kept, and those that the stream has
   abbrev pub unread_of : (S → Option (List ℕ)) → BufferedStream S A → Option (List ℕ)

@@ -8,8 +8,10 @@ mod listener;
 mod places;
 mod readiness;
 mod sockets;
+mod system;
 mod wire;
 
 pub use listener::{ByteStream, Listener, ListenerCall, Ready, StreamCall, StreamFault};
-pub use sockets::{MioListener, MioWire, SocketStream, watch_again};
+pub use sockets::{MioListener, MioWire, SocketListener, SocketStream, watch_again};
+pub use system::{Endpoint, MioEndpoint, Socket};
 pub use wire::{StreamWire, Traffic};

@@ -2,6 +2,7 @@
 
 ghost use Rattle.std.specs.Prelude.{◌≡◌, ◌≢◌, ◌≤◌, ◌+◌, ◌-◌, [], ℕ, length, filter, is_some, true, IfOk, vec_capacity};
 ghost use Rattle.stream_transport.specs.Lingering.{Leave, StayAtMost, has_looks, with_one};
+ghost use Rattle.stream_transport.specs.System.{AreShut, IsShut};
 ghost use Rattle.stream_transport.specs.declared.lingering.TheConstants.{LINGERING_MAX, LOOKS_MAX};
 
 use crate::listener::{ByteStream, Ready, StreamFault};
@@ -70,7 +71,9 @@ fn is_named(ready: &[Ready], number: u64) -> bool {
 
 /// Reads and drops what a peer has sent, at most `READS` times. `None` where it has ended or the stream
 /// failed, and else whether it may have sent more.
-fn drain<S: ByteStream>(stream: &mut S) -> Option<bool> {
+fn drain<S: ByteStream>(stream: &mut S) -> Option<bool>
+    ensures { S.is_shut stream.new ≡ S.is_shut stream.old }
+{
     let mut buf = [0u8; 4096];
     for _ in 0..READS {
         match stream.receive(&mut buf) {
@@ -87,7 +90,8 @@ fn drain<S: ByteStream>(stream: &mut S) -> Option<bool> {
 impl<S: ByteStream> LingeringStream<S> {
     /// So many looks have passed, the last of which found these.
     fn pass(&mut self, ready: &[Ready], looks: u64)
-        ensures { self.new.looks ≤ self.old.looks - looks }
+        ensures looks { self.new.looks ≤ self.old.looks - looks }
+        ensures shut { S.is_shut self.new.stream ≡ S.is_shut self.old.stream }
     {
         self.looks = self.looks.saturating_sub(looks);
         self.readable = self.readable | is_named(ready, self.number);
@@ -108,6 +112,7 @@ fn pass_all<S: ByteStream, A: Allocator>(
     looks: u64,
 )
     ensures leave { Leave looks streams.old.items streams.new.items }
+    ensures shut { AreShut S.is_shut streams.old.items → AreShut S.is_shut streams.new.items }
     ensures length { length streams.new.items ≡ length streams.old.items }
     ensures capacity { vec_capacity streams.new ≡ vec_capacity streams.old }
 {
@@ -151,6 +156,8 @@ impl<S: ByteStream, A: Allocator + Copy> Lingering<S, A> {
     pub fn linger(&mut self, number: u64, stream: S)
         ensures few { length self.new ≤ LINGERING_MAX }
         ensures within { StayAtMost LOOKS_MAX self.new }
+        ensures shut { AreShut S.is_shut self.old → IsShut (S.is_shut stream)
+            → AreShut S.is_shut self.new }
     {
         let _within = &self.streams;
         let mut stream = stream;
@@ -167,6 +174,7 @@ impl<S: ByteStream, A: Allocator + Copy> Lingering<S, A> {
     /// So many looks have passed, the last of which found these.
     pub fn pass(&mut self, ready: &[Ready], looks: u64)
         ensures leaves { Leave looks self.old self.new }
+        ensures shut { AreShut S.is_shut self.old → AreShut S.is_shut self.new }
         ensures gone { StayAtMost looks self.old → self.new ≡ [] }
         ensures few { length self.new ≤ LINGERING_MAX }
         ensures within { StayAtMost LOOKS_MAX self.new }

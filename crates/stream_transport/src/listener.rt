@@ -1,6 +1,6 @@
 //! What a wire is made over: streams, and the listener that gives them.
 
-ghost use Rattle.std.specs.Prelude.{◌≡◌, ℕ, [], ◌∷◌, length, is_some, slice_get, IfOk, OnErr, Option, None, List};
+ghost use Rattle.std.specs.Prelude.{◌≡◌, ℕ, Bool, [], ◌∷◌, length, is_some, slice_get, IfOk, OnErr, Option, None, List};
 ghost use Rattle.std.specs.Io.{ReadsAtMost, WritesAtMost};
 ghost use Rattle.std.specs.Io.KnownBytes.{Keeps};
 ghost use Rattle.transport.specs.Asked.{Asks};
@@ -59,6 +59,9 @@ pub trait ByteStream: Drop {
     /// The calls of `receive` and `send` that it was asked for, with their answers. It may tell none.
     ghost calls: { Self → Option (List StreamCall) } = { λ _. None };
 
+    /// Its writing side was shut. It may not tell.
+    ghost is_shut: { Self → Option Bool } = { λ _. None };
+
     /// A `read` of the stream.
     fn receive(&mut self, buf: &mut [u8]) -> Result<usize, StreamFault>
         ensures bound { ReadsAtMost result buf.new }
@@ -66,7 +69,8 @@ pub trait ByteStream: Drop {
         ensures gave { Gave given self.old self.new result buf.new }
         ensures written { Keeps (written self.old) (written self.new) }
         ensures called { Asks (calls self.old) (calls self.new)
-            (Receive (length buf.old) result ∷ []) };
+            (Receive (length buf.old) result ∷ []) }
+        ensures shut { is_shut self.new ≡ is_shut self.old };
 
     /// A `write` of the stream.
     fn send(&mut self, buf: &[u8]) -> Result<usize, StreamFault>
@@ -75,7 +79,8 @@ pub trait ByteStream: Drop {
         ensures unread { Keeps (unread self.old) (unread self.new) }
         ensures given { Keeps (given self.old) (given self.new) }
         ensures called { Asks (calls self.old) (calls self.new)
-            (Send (length buf.now) result ∷ []) };
+            (Send (length buf.now) result ∷ []) }
+        ensures shut { is_shut self.new ≡ is_shut self.old };
 }
 
 /// Who may be ready.

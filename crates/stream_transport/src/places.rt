@@ -1,9 +1,9 @@
 //! The connections of a wire, each in the place of its number.
 
-ghost use Rattle.std.specs.Prelude.{◌≡◌, ◌<◌, ◌≤◌, ◌%◌, ◌^◌, ◌+◌, ◌-◌, None, Some, IfErr, IfOk, IfSome, is_some, true, length, slice_index_or, vec_len};
+ghost use Rattle.std.specs.Prelude.{◌≡◌, ◌<◌, ◌≤◌, ◌%◌, ◌^◌, ◌+◌, ◌-◌, None, Some, IfErr, IfOk, IfSome, is_some, true, length, slice_index_or, slice_set, vec_len};
 ghost use Rattle.transport.specs.declared.wire.WireFault.TheVariants.{OutOfMemory};
 ghost use Rattle.stream_transport.specs.Asking.{IsAwake, IsQuiet};
-ghost use Rattle.stream_transport.specs.Held.{AreAlike, HoldsAll, HoldsOthers, IsFree, held, lent_under};
+ghost use Rattle.stream_transport.specs.Held.{AreAlike, AreTakenBelow, HoldsAll, HoldsOthers, IsFree, held, lent_under};
 ghost use Rattle.stream_transport.specs.declared.connection.TheConstants.{PLACES};
 
 use crate::connection::{BufferedStream, PLACES};
@@ -98,6 +98,8 @@ pub fn insert<S: ByteStream, A: Allocator + Copy>(
     requires room { connection.number % PLACES < vec_len places.old }
     requires free { IsFree places.old.items connection.number }
     ensures held { held places.new.items connection.number ≡ Some connection }
+    ensures place { places.new.items
+        ≡ slice_set places.old.items (connection.number % PLACES) (Some connection) }
     ensures others { HoldsOthers places.old.items places.new.items connection.number }
     ensures if_none { held places.old.items connection.number ≡ None }
 {
@@ -121,12 +123,14 @@ pub fn mark_ready<S: ByteStream, A: Allocator + Copy>(
     }
 }
 
-/// A place that is free: the first one, or one more.
+/// The first place that is free, or one more where all are taken.
 pub fn free_place<S: ByteStream, A: Allocator + Copy>(
     places: &mut Vec<Option<BufferedStream<S, A>>, A>,
 ) -> Result<usize, WireFault>
     ensures room { IfOk result (λ place. place < vec_len places.new) }
     ensures free { IfOk result (λ place. slice_index_or places.new.items place None ≡ None) }
+    ensures least { IfOk result (λ place. AreTakenBelow places.new.items place) }
+    ensures full { IfErr result (λ fault. AreTakenBelow places.new.items (vec_len places.new)) }
     ensures same { HoldsAll places.old.items places.new.items }
     ensures memory { IfErr result (λ fault. fault ≡ OutOfMemory) }
 {

@@ -1,27 +1,34 @@
 //! A wire over a Unix socket.
 
-ghost use Rattle.std.specs.Prelude.{◌≡◌, ◌≤◌, [], is_some, length, true, false, Err, IfOk, OnErr, Some};
+ghost use Rattle.std.specs.Prelude.{◌≡◌, ◌≤◌, [], ◌∷◌, is_some, length, true, false, vec_capacity, Err, IfOk, OnErr, OnOk, Some};
 ghost use Rattle.std.specs.Io.{ReadsAtMost, WritesAtMost};
-ghost use Rattle.std.specs.Io.KnownBytes.{WriteAppends};
+ghost use Rattle.std.specs.Io.KnownBytes.{Keeps, ReadConsumes, WriteAppends};
 ghost use Rattle.std.specs.IoError.{error_kind};
+ghost use Rattle.mio.specs.Events.{items, capacity as events_capacity};
 ghost use Rattle.stream_transport.specs.Lingering.{Leave};
 ghost use Rattle.byte_logs.specs.Noted.{last_under};
 ghost use Rattle.stream_transport.specs.Reporting.{AreBlank};
-ghost use Rattle.stream_transport.specs.Streams.{answer_of, fault_by};
+ghost use Rattle.stream_transport.specs.Streams.{HandsOut, HasBack, KeepsElse, Receives, answer_of, fault_by, firsts};
+ghost use Rattle.stream_transport.specs.System.{IsAskedForOne, IsAskedOnce, IsPolled, IsUnused, KeepsShut, named_by, names_of, Poll as Polled, most_of};
+ghost use Rattle.stream_transport.specs.declared.listener.ListenerCall.TheVariants.{Accept, Look, Wait};
+ghost use Rattle.stream_transport.specs.declared.listener.StreamCall.TheVariants.{Receive, Send};
+ghost use Rattle.transport.specs.Asked.{Asks};
+ghost use Rattle.transport.specs.Report.{KeepsAll};
 ghost use Rattle.transport.specs.declared.wire.WireFault.TheVariants.{Device};
 
 use crate::lingering::{LINGERING_MAX, Lingering};
 use crate::listener::{ByteStream, Listener, ListenerCall, Ready, StreamCall, StreamFault};
+use crate::system::{Endpoint, MioEndpoint, Socket};
 use crate::wire::StreamWire;
 use byte_logs::Bytes;
 use http_server::Log;
-use mio::net::{UnixListener, UnixStream};
+use mio::net::UnixListener;
 use mio::{Events, Interest, Poll, Registry, Token};
 use std::alloc::Allocator;
 use std::fs::Files;
 use std::io;
-use std::io::{ErrorKind, Read, Write};
-use std::net::{Net, Shutdown};
+use std::io::ErrorKind;
+use std::net::Net;
 use std::time::Duration;
 use transport::{Wire, WireFault};
 
@@ -33,10 +40,10 @@ const EVENTS: usize = 1026 + LINGERING_MAX;
 const VISIT_PATIENCE: u64 = 500;
 
 /// The token of the listener. Those of streams are their numbers.
-const LISTENER: Token = Token(usize::MAX);
+const LISTENER: usize = usize::MAX;
 
 /// The token of a listener that is watched beside it.
-const WATCHED: Token = Token(usize::MAX - 1);
+const WATCHED: usize = usize::MAX - 1;
 
 /// Why a call of the system gave nothing.
 fn fault_of(error: io::Error) -> StreamFault
@@ -50,20 +57,30 @@ fn fault_of(error: io::Error) -> StreamFault
 }
 
 /// One read of a stream.
-fn read_once(stream: &mut UnixStream, buf: &mut [u8]) -> Result<usize, StreamFault>
-    ensures { ReadsAtMost result buf.new }
+fn read_once<S: Socket>(stream: &mut S, buf: &mut [u8]) -> Result<usize, StreamFault>
+    ensures bound { ReadsAtMost result buf.new }
+    ensures bytes { ReadConsumes (S.unread stream.old) (S.unread stream.new) result buf.new }
+    ensures called { Asks (S.calls stream.old) (S.calls stream.new)
+        (Receive (length buf.old) result ∷ []) }
+    ensures taken { S.taken stream.new ≡ S.taken stream.old }
+    ensures shut { S.is_shut stream.new ≡ S.is_shut stream.old }
 {
-    match stream.read(buf) {
+    match stream.read_some(buf) {
         Ok(n) => Ok(n),
         Err(error) => Err(fault_of(error)),
     }
 }
 
 /// One write to a stream.
-fn write_once(stream: &mut UnixStream, buf: &[u8]) -> Result<usize, StreamFault>
-    ensures { WritesAtMost result buf.now }
+fn write_once<S: Socket>(stream: &mut S, buf: &[u8]) -> Result<usize, StreamFault>
+    ensures bound { WritesAtMost result buf.now }
+    ensures bytes { WriteAppends (S.taken stream.old) (S.taken stream.new) result buf.now }
+    ensures called { Asks (S.calls stream.old) (S.calls stream.new)
+        (Send (length buf.now) result ∷ []) }
+    ensures unread { S.unread stream.new ≡ S.unread stream.old }
+    ensures shut { S.is_shut stream.new ≡ S.is_shut stream.old }
 {
-    match stream.write(buf) {
+    match stream.write_some(buf) {
         Ok(n) => Ok(n),
         Err(error) => Err(fault_of(error)),
     }
@@ -79,18 +96,19 @@ fn note_passed(log: &mut Bytes, answer: Result<usize, StreamFault>, buf: &[u8])
     }
 }
 
-/// A stream of a Unix socket. It tells its calls, what its reads gave and what its writes took, by logs
-/// that take no memory.
+/// A stream of a socket. It tells its calls, what its reads gave and what its writes took, by logs that
+/// take no memory. Each of its calls is one call of the stream of the system, with the same bytes and the
+/// same answer.
 #[derive(Drop)]
-pub struct SocketStream {
-    stream: UnixStream,
+pub struct SocketStream<S: Socket> {
+    stream: S,
     calls: Log<StreamCall, ()>,
     given: Bytes,
     // Behind what was noted under its number before it came.
     written: Bytes,
 }
 
-impl ByteStream for SocketStream {
+impl<S: Socket> ByteStream for SocketStream<S> {
     ghost use Rattle.std.specs.Prelude.{Some};
     ghost use Rattle.stream_transport.specs.Streams.{firsts};
 
@@ -100,7 +118,22 @@ impl ByteStream for SocketStream {
 
     ghost calls = { λ stream. Some (firsts stream.calls.items) };
 
-    fn receive(&mut self, buf: &mut [u8]) -> Result<usize, StreamFault> {
+    ghost is_shut = { λ stream. S.is_shut stream.stream };
+
+    fn receive(&mut self, buf: &mut [u8]) -> Result<usize, StreamFault>
+        ensures bound { ReadsAtMost result buf.new }
+        ensures bytes { Receives ⟦<Self as ByteStream>⟧.unread self.old self.new result buf.new }
+        ensures gave { WriteAppends (Some self.old.given.items) (Some self.new.given.items) result buf.new }
+        ensures written { Keeps (Some self.old.written.items) (Some self.new.written.items) }
+        ensures called { Asks (Some (firsts self.old.calls.items)) (Some (firsts self.new.calls.items))
+            (Receive (length buf.old) result ∷ []) }
+        ensures shut { S.is_shut self.new.stream ≡ S.is_shut self.old.stream }
+        ensures made { Asks (S.calls self.old.stream) (S.calls self.new.stream)
+            (Receive (length buf.old) result ∷ []) }
+        ensures came { ReadConsumes (S.unread self.old.stream) (S.unread self.new.stream)
+            result buf.new }
+        ensures taken { S.taken self.new.stream ≡ S.taken self.old.stream }
+    {
         let room = buf.len();
         let answer = read_once(&mut self.stream, buf);
         self.calls = self.calls.and(&StreamCall::Receive(room, answer), &());
@@ -108,7 +141,21 @@ impl ByteStream for SocketStream {
         answer
     }
 
-    fn send(&mut self, buf: &[u8]) -> Result<usize, StreamFault> {
+    fn send(&mut self, buf: &[u8]) -> Result<usize, StreamFault>
+        ensures bound { WritesAtMost result buf.now }
+        ensures bytes { WriteAppends (Some self.old.written.items) (Some self.new.written.items) result buf.now }
+        ensures unread { Keeps (⟦<Self as ByteStream>⟧.unread self.old)
+            (⟦<Self as ByteStream>⟧.unread self.new) }
+        ensures given { Keeps (Some self.old.given.items) (Some self.new.given.items) }
+        ensures called { Asks (Some (firsts self.old.calls.items)) (Some (firsts self.new.calls.items))
+            (Send (length buf.now) result ∷ []) }
+        ensures shut { S.is_shut self.new.stream ≡ S.is_shut self.old.stream }
+        ensures made { Asks (S.calls self.old.stream) (S.calls self.new.stream)
+            (Send (length buf.now) result ∷ []) }
+        ensures taken { WriteAppends (S.taken self.old.stream) (S.taken self.new.stream)
+            result buf.now }
+        ensures left { S.unread self.new.stream ≡ S.unread self.old.stream }
+    {
         let answer = write_once(&mut self.stream, buf);
         self.calls = self.calls.and(&StreamCall::Send(buf.len(), answer), &());
         note_passed(&mut self.written, answer, buf);
@@ -125,25 +172,28 @@ struct Past {
     failed: Log<u64, ()>,
 }
 
-/// A Unix socket, and a poll that names its streams. It tells its calls, and of each number what its
+/// A socket, and a poll that names its streams. It tells its calls, and of each number what its
 /// stream took that came back, whether it was shut and whether a call failed, by logs that take no
 /// memory.
 #[derive(Drop)]
-pub struct MioListener<A: Allocator> {
-    listener: UnixListener,
-    poll: Poll,
+pub struct SocketListener<E: Endpoint, A: Allocator> {
+    endpoint: E,
     events: Events<A>,
     // Whom the last poll named, in the room for all.
     ready: Vec<Ready, A>,
     asked: Log<ListenerCall, ()>,
     // The streams that it has back and whose peers have not ended.
-    lingering: Lingering<SocketStream, A>,
+    lingering: Lingering<SocketStream<E::Stream>, A>,
     /// How often a look or a wait has named the listener that is watched.
     pub visits: u64,
     // It was named, and no wait has found nobody since.
     is_visited: bool,
     past: Past,
+    ghost room: { events_capacity events ≤ vec_capacity ready },
 }
+
+/// A listener over a Unix socket.
+pub type MioListener<A> = SocketListener<MioEndpoint, A>;
 
 /// How long a wait lasts at most: for a while where a visitor may not have been answered.
 fn patience_while(is_visited: bool, patience: Option<Duration>) -> Option<Duration>
@@ -157,8 +207,41 @@ fn patience_while(is_visited: bool, patience: Option<Duration>) -> Option<Durati
     }
 }
 
+/// The one that a token names: nobody, where it is that of the listener that is watched.
+fn name_of(token: Token) -> Option<Ready>
+    ensures { result ≡ named_by token }
+{
+    if token.0 == WATCHED {
+        None
+    } else if token.0 == LISTENER {
+        Some(Ready::Listener)
+    } else {
+        Some(Ready::Stream(token.0 as u64))
+    }
+}
+
+/// Puts down whom these events name, for whom there is room, and answers how many name the listener that
+/// is watched.
+fn name_all<A: Allocator>(ready: &mut Vec<Ready, A>, events: &Events<A>) -> u64
+    requires none { ready.old.items ≡ [] }
+    requires room { length (items events.now) ≤ vec_capacity ready.old }
+    ensures names { ready.new.items ≡ names_of (items events.now) }
+    ensures capacity { vec_capacity ready.old ≤ vec_capacity ready.new }
+{
+    let mut visits = 0u64;
+    for event in events.iter() {
+        match name_of(event.token()) {
+            Some(who) => {
+                let _kept = ready.push(who);
+            }
+            None => visits = visits.saturating_add(1),
+        }
+    }
+    visits
+}
+
 /// Whether somebody came.
-fn answer_for(accepted: &Result<SocketStream, StreamFault>) -> Result<(), StreamFault>
+fn answer_for<S: Socket>(accepted: &Result<SocketStream<S>, StreamFault>) -> Result<(), StreamFault>
     ensures { result ≡ answer_of accepted.now }
 {
     match accepted {
@@ -167,31 +250,24 @@ fn answer_for(accepted: &Result<SocketStream, StreamFault>) -> Result<(), Stream
     }
 }
 
-impl<A: Allocator + Copy> MioListener<A> {
+impl<E: Endpoint, A: Allocator + Copy> SocketListener<E, A> {
     /// Polls, and remembers who was named.
     fn look_for(&mut self, patience: Option<Duration>) -> Result<(), StreamFault>
         ensures nobody { OnErr result (self.new.ready.items ≡ []) }
         ensures asked { self.new.asked ≡ self.old.asked }
         ensures lingering { self.new.lingering ≡ self.old.lingering }
         ensures past { self.new.past ≡ self.old.past }
+        ensures polled { Asks (E.calls self.old.endpoint) (E.calls self.new.endpoint)
+            (Polled (most_of patience) (items self.new.events) result ∷ []) }
+        ensures named { OnOk result (self.new.ready.items ≡ names_of (items self.new.events)) }
     {
         self.ready.clear();
-        if let Err(error) = self.poll.poll(&mut self.events, patience) {
+        if let Err(error) = self.endpoint.poll_once(&mut self.events, patience) {
             return Err(fault_of(error));
         }
-        for event in self.events.iter() {
-            let token = event.token();
-            if token == WATCHED {
-                self.visits = self.visits.saturating_add(1);
-                self.is_visited = true;
-                continue;
-            }
-            let _kept = self.ready.push(if token == LISTENER {
-                Ready::Listener
-            } else {
-                Ready::Stream(token.0 as u64)
-            });
-        }
+        let visits = name_all(&mut self.ready, &self.events);
+        self.visits = self.visits.saturating_add(visits);
+        self.is_visited = self.is_visited | (visits > 0);
         Ok(())
     }
 
@@ -201,6 +277,11 @@ impl<A: Allocator + Copy> MioListener<A> {
         ensures asked { self.new.asked ≡ self.old.asked }
         ensures past { self.new.past ≡ self.old.past }
         ensures leaves { Leave 1 self.old.lingering self.new.lingering }
+        ensures polled { Asks (E.calls self.old.endpoint) (E.calls self.new.endpoint)
+            (Polled (Some 0) (items self.new.events) result ∷ []) }
+        ensures named { OnOk result (self.new.ready.items ≡ names_of (items self.new.events)) }
+        ensures shut { KeepsShut ⟦<SocketStream<E::Stream> as ByteStream>⟧.is_shut
+            self.old.lingering self.new.lingering }
     {
         let looked = self.look_for(Some(Duration::ZERO));
         self.lingering.pass(self.ready.as_slice(), 1);
@@ -214,6 +295,11 @@ impl<A: Allocator + Copy> MioListener<A> {
         ensures asked { self.new.asked ≡ self.old.asked }
         ensures past { self.new.past ≡ self.old.past }
         ensures leaves { Leave 1 self.old.lingering self.new.lingering }
+        ensures polled { IsPolled patience self.old.lingering self.old.is_visited
+            (E.calls self.old.endpoint) (E.calls self.new.endpoint) (items self.new.events) result }
+        ensures named { OnOk result (self.new.ready.items ≡ names_of (items self.new.events)) }
+        ensures shut { KeepsShut ⟦<SocketStream<E::Stream> as ByteStream>⟧.is_shut
+            self.old.lingering self.new.lingering }
     {
         let visits = self.visits;
         let patience = self
@@ -229,23 +315,32 @@ impl<A: Allocator + Copy> MioListener<A> {
     }
 
     /// Shuts the writing side of a stream, which then lingers until its peer ends.
-    fn linger(&mut self, number: u64, stream: SocketStream)
+    fn linger(&mut self, number: u64, stream: SocketStream<E::Stream>)
+        ensures calls { E.calls self.new.endpoint ≡ E.calls self.old.endpoint }
+        ensures shut { KeepsShut ⟦<SocketStream<E::Stream> as ByteStream>⟧.is_shut
+            self.old.lingering self.new.lingering }
         ensures asked { self.new.asked ≡ self.old.asked }
         ensures past { self.new.past ≡ self.old.past }
         ensures named { self.new.ready.items ≡ self.old.ready.items }
     {
-        if stream.stream.shutdown(Shutdown::Write).is_ok() {
+        let mut stream = stream;
+        if stream.stream.end_writing().is_ok() {
             self.lingering.linger(number, stream);
         }
     }
 
     /// Accepts who waits first. Where that fails, those who linger leave, and it is tried once more.
-    fn accept_with_room(&mut self, number: u64) -> Result<SocketStream, StreamFault>
+    fn accept_with_room(&mut self, number: u64) -> Result<SocketStream<E::Stream>, StreamFault>
+        ensures calls { IsAskedForOne number
+            (E.calls self.old.endpoint) (E.calls self.new.endpoint) (answer_of result) }
+        ensures unused { IfOk result (λ stream. IsUnused (E.Stream.calls stream.stream)) }
         ensures written { IfOk result (λ stream. stream.written.items
             ≡ last_under (λ bytes. bytes.items) self.old.past.back.items number) }
         ensures asked { self.new.asked ≡ self.old.asked }
         ensures past { self.new.past ≡ self.old.past }
         ensures named { self.new.ready.items ≡ self.old.ready.items }
+        ensures shut { KeepsShut ⟦<SocketStream<E::Stream> as ByteStream>⟧.is_shut
+            self.old.lingering self.new.lingering }
     {
         match self.accept_as(number) {
             Err(StreamFault::Failed) if self.lingering.release() => self.accept_as(number),
@@ -254,46 +349,50 @@ impl<A: Allocator + Copy> MioListener<A> {
     }
 
     /// Accepts who waits first, and has the poll name the stream by this number.
-    fn accept_as(&self, number: u64) -> Result<SocketStream, StreamFault>
+    fn accept_as(&mut self, number: u64) -> Result<SocketStream<E::Stream>, StreamFault>
         ensures written { IfOk result (λ stream. stream.written.items
-            ≡ last_under (λ bytes. bytes.items) self.now.past.back.items number) }
+            ≡ last_under (λ bytes. bytes.items) self.old.past.back.items number) }
+        ensures calls { IsAskedOnce number
+            (E.calls self.old.endpoint) (E.calls self.new.endpoint) (answer_of result) }
+        ensures unused { IfOk result (λ stream. IsUnused (E.Stream.calls stream.stream)) }
+        ensures asked { self.new.asked ≡ self.old.asked }
+        ensures past { self.new.past ≡ self.old.past }
+        ensures lingering { self.new.lingering ≡ self.old.lingering }
+        ensures named { self.new.ready.items ≡ self.old.ready.items }
     {
-        let mut stream = match self.listener.accept() {
-            Ok((stream, _)) => stream,
+        let mut stream = match self.endpoint.accept_one() {
+            Ok(stream) => stream,
             Err(error) => return Err(fault_of(error)),
         };
-        let both_ways = Interest::READABLE | Interest::WRITABLE;
-        let registry = self.poll.registry();
-        if registry
-            .register(&mut stream, Token(number as usize), both_ways)
-            .is_err()
-        {
-            return Err(StreamFault::Failed);
+        match self.endpoint.name(&mut stream, number) {
+            Ok(()) => Ok(SocketStream {
+                stream,
+                calls: Log::new(),
+                given: Bytes::new(),
+                written: Bytes::last_under(&self.past.back, &number),
+            }),
+            Err(_) => Err(StreamFault::Failed),
         }
-        Ok(SocketStream {
-            stream,
-            calls: Log::new(),
-            given: Bytes::new(),
-            written: Bytes::last_under(&self.past.back, &number),
-        })
     }
+}
 
+impl<A: Allocator + Copy> MioListener<A> {
     /// Has a wait end too where somebody comes to this other listener, which names nobody. One listener
     /// may be watched. The registry is for `watch_again`.
     pub fn watch(&self, other: &mut UnixListener) -> io::Result<Registry> {
-        let registry = self.poll.registry();
-        registry.register(other, WATCHED, Interest::READABLE)?;
+        let registry = self.endpoint.poll.registry();
+        registry.register(other, Token(WATCHED), Interest::READABLE)?;
         registry.try_clone()
     }
 }
 
 /// Has the next wait end at once where somebody waits at the listener that is watched.
 pub fn watch_again(registry: &Registry, other: &mut UnixListener) -> io::Result<()> {
-    registry.reregister(other, WATCHED, Interest::READABLE)
+    registry.reregister(other, Token(WATCHED), Interest::READABLE)
 }
 
-impl<A: Allocator + Copy> Listener for MioListener<A> {
-    type Stream = SocketStream;
+impl<E: Endpoint, A: Allocator + Copy> Listener for SocketListener<E, A> {
+    type Stream = SocketStream<E::Stream>;
 
     ghost use Rattle.std.specs.Prelude.{Some};
     ghost use Rattle.stream_transport.specs.Streams.{firsts};
@@ -306,20 +405,53 @@ impl<A: Allocator + Copy> Listener for MioListener<A> {
 
     ghost named = { λ listener. listener.ready.items };
 
-    fn accept(&mut self, number: u64) -> Result<SocketStream, StreamFault> {
+    fn accept(&mut self, number: u64) -> Result<SocketStream<E::Stream>, StreamFault>
+        ensures given { HandsOut ⟦<SocketStream<E::Stream> as ByteStream>⟧.unread ⟦<SocketStream<E::Stream> as ByteStream>⟧.written
+            (⟦<Self as Listener>⟧.told self.old) number result }
+        ensures rest { IfOk result (λ stream. KeepsElse
+            (⟦<Self as Listener>⟧.told self.old) (⟦<Self as Listener>⟧.told self.new) number) }
+        ensures err { OnErr result (KeepsAll (⟦<Self as Listener>⟧.told self.old) (⟦<Self as Listener>⟧.told self.new)) }
+        ensures asked { Asks (⟦<Self as Listener>⟧.asked self.old) (⟦<Self as Listener>⟧.asked self.new)
+            (Accept (answer_of result) ∷ []) }
+        ensures named { ⟦<Self as Listener>⟧.named self.new ≡ ⟦<Self as Listener>⟧.named self.old }
+        ensures calls { IsAskedForOne number
+            (E.calls self.old.endpoint) (E.calls self.new.endpoint) (answer_of result) }
+        ensures unused { IfOk result (λ stream. IsUnused (E.Stream.calls stream.stream)) }
+        ensures shut { KeepsShut ⟦<SocketStream<E::Stream> as ByteStream>⟧.is_shut
+            self.old.lingering self.new.lingering }
+    {
         let accepted = self.accept_with_room(number);
         let answer = answer_for(&accepted);
         self.asked = self.asked.and(&ListenerCall::Accept(answer), &());
         accepted
     }
 
-    fn look(&mut self) -> Result<(), StreamFault> {
+    fn look(&mut self) -> Result<(), StreamFault>
+        ensures unchanged { KeepsAll (⟦<Self as Listener>⟧.told self.old) (⟦<Self as Listener>⟧.told self.new) }
+        ensures nobody { OnErr result (⟦<Self as Listener>⟧.named self.new ≡ []) }
+        ensures asked { Asks (⟦<Self as Listener>⟧.asked self.old) (⟦<Self as Listener>⟧.asked self.new) (Look result ∷ []) }
+        ensures polled { Asks (E.calls self.old.endpoint) (E.calls self.new.endpoint)
+            (Polled (Some 0) (items self.new.events) result ∷ []) }
+        ensures named { OnOk result (self.new.ready.items ≡ names_of (items self.new.events)) }
+        ensures shut { KeepsShut ⟦<SocketStream<E::Stream> as ByteStream>⟧.is_shut
+            self.old.lingering self.new.lingering }
+    {
         let looked = self.look_and_drain();
         self.asked = self.asked.and(&ListenerCall::Look(looked), &());
         looked
     }
 
-    fn wait(&mut self, patience: Option<Duration>) -> Result<(), StreamFault> {
+    fn wait(&mut self, patience: Option<Duration>) -> Result<(), StreamFault>
+        ensures unchanged { KeepsAll (⟦<Self as Listener>⟧.told self.old) (⟦<Self as Listener>⟧.told self.new) }
+        ensures nobody { OnErr result (⟦<Self as Listener>⟧.named self.new ≡ []) }
+        ensures asked { Asks (⟦<Self as Listener>⟧.asked self.old) (⟦<Self as Listener>⟧.asked self.new)
+            (Wait (is_some patience) result ∷ []) }
+        ensures polled { IsPolled patience self.old.lingering self.old.is_visited
+            (E.calls self.old.endpoint) (E.calls self.new.endpoint) (items self.new.events) result }
+        ensures named { OnOk result (self.new.ready.items ≡ names_of (items self.new.events)) }
+        ensures shut { KeepsShut ⟦<SocketStream<E::Stream> as ByteStream>⟧.is_shut
+            self.old.lingering self.new.lingering }
+    {
         let is_bounded = patience.is_some();
         let looked = self.wait_and_drain(patience);
         self.asked = self.asked.and(&ListenerCall::Wait(is_bounded, looked), &());
@@ -342,7 +474,15 @@ impl<A: Allocator + Copy> Listener for MioListener<A> {
         self.past.shut = self.past.shut.and(&number, &());
     }
 
-    fn take_back(&mut self, number: u64, stream: SocketStream, _kept: &[u8]) {
+    fn take_back(&mut self, number: u64, stream: SocketStream<E::Stream>, _kept: &[u8])
+        ensures back { HasBack ⟦<SocketStream<E::Stream> as ByteStream>⟧.unread ⟦<SocketStream<E::Stream> as ByteStream>⟧.written
+            (⟦<Self as Listener>⟧.told self.new) number _kept.now stream }
+        ensures rest { KeepsElse (⟦<Self as Listener>⟧.told self.old) (⟦<Self as Listener>⟧.told self.new) number }
+        ensures asked { ⟦<Self as Listener>⟧.asked self.new ≡ ⟦<Self as Listener>⟧.asked self.old }
+        ensures calls { E.calls self.new.endpoint ≡ E.calls self.old.endpoint }
+        ensures shut { KeepsShut ⟦<SocketStream<E::Stream> as ByteStream>⟧.is_shut
+            self.old.lingering self.new.lingering }
+    {
         self.past.back = self.past.back.and(&number, &stream.written);
         self.linger(number, stream);
     }
@@ -373,14 +513,13 @@ impl<A: Allocator + Copy> StreamWire<MioListener<A>, A> {
         };
         let registry = poll.registry();
         if registry
-            .register(&mut listener, LISTENER, Interest::READABLE)
+            .register(&mut listener, Token(LISTENER), Interest::READABLE)
             .is_err()
         {
             return Err(WireFault::Device);
         }
-        let listener = MioListener {
-            listener,
-            poll,
+        let listener = SocketListener {
+            endpoint: MioEndpoint { listener, poll },
             events,
             ready,
             asked: Log::new(),

@@ -5,7 +5,7 @@ ghost use Rattle.usi_lines.specs.OneLine.{IsOneLine};
 ghost use Rattle.transport.specs.Report.{GivesNumber, HasCause, HasRisen, IsWithin, KeepsAll, bytes_read, bytes_written};
 ghost use Rattle.transport.specs.declared.wire.WireFault.TheVariants.{Device};
 ghost use Rattle.stream_transport.specs.Asking.{AnswersAs, AreAwakeStill, AsksByAccept, AsksByRead, AsksByWait, AsksNext, AsksToTake, GivesKept, HoldsAccepted, NotesByRead, NotesByWrite, OfNumber, StaysOpen, WakesByAccept, WakesByWait, is_made, nothing_asked};
-ghost use Rattle.stream_transport.specs.Held.{HasPassed, HoldsOthers, counted, given_under, held, kept_of, none_given};
+ghost use Rattle.stream_transport.specs.Held.{HasPassed, HoldsOthers, TakesFirst, counted, given_under, held, kept_of, none_given};
 ghost use Rattle.stream_transport.specs.Reporting.{CountsRead, CountsWrite, KeepsReport, given_last, ReportsRead, ReportsShut, ReportsWrite, no_traffic};
 ghost use Rattle.stream_transport.specs.Streams.{Notes};
 ghost use Rattle.stream_transport.specs.declared.connection.TheConstants.{PLACES};
@@ -178,6 +178,7 @@ impl<L: Listener, A: Allocator + Copy> StreamWire<L, A> {
         ensures named { L.named self.new.listener ≡ L.named self.old.listener }
         ensures awake { AreAwakeStill self.old.places.items self.new.places.items }
         ensures holds { HoldsAccepted result self.old.places.items self.new.places.items }
+        ensures first { TakesFirst result self.new.places.items }
         ensures readiness { self.new.readiness ≡ self.old.readiness }
         ensures traffic { self.new.traffic ≡ self.old.traffic }
         ensures unchanged { KeepsReport ⟦<Self as Wire>⟧ self.old self.new }
@@ -226,6 +227,7 @@ impl<L: Listener, A: Allocator + Copy> Wire for StreamWire<L, A> {
         ensures awake { WakesByAccept L.named self.old self.new }
         ensures still { AreAwakeStill self.old.places.items self.new.places.items }
         ensures holds { HoldsAccepted result self.old.places.items self.new.places.items }
+        ensures first { TakesFirst result self.new.places.items }
         ensures more { self.new.readiness.has_buffered ≡ self.old.readiness.has_buffered }
         ensures sure { OnOk result
             (self.new.readiness.needs_timeout ≡ self.old.readiness.needs_timeout) }

@@ -1,3 +1,4 @@
 pub mod Memory
 pub mod Below
 pub mod Telling
+pub mod Endpoints

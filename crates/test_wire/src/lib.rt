@@ -5,10 +5,12 @@ mod listener;
 mod memory;
 mod peer;
 mod returns;
+mod socket;
 mod stream;
 #[cfg(test)]
 mod tests;
 
 pub use listener::MemoryListener;
 pub use memory::MemoryWire;
+pub use socket::{EndpointCall, MemoryEndpoint, MemorySocket};
 pub use stream::{MemoryStream, Plan};

@@ -54,6 +54,7 @@ impl<A: Allocator + Copy> MemoryStream<A> {
     pub fn new(alloc: A, incoming: Vec<u8, A>, width: usize, plan: Plan) -> MemoryStream<A>
         ensures incoming { result.incoming.items ≡ incoming.items }
         ensures written { result.written.items ≡ [] }
+        ensures calls { result.calls.items ≡ [] }
     {
         MemoryStream {
             incoming,

@@ -1,9 +1,10 @@
 //! A wire over a listener in memory, each call of which fails in turn.
 
-use crate::{MemoryListener, MemoryStream, Plan};
+use crate::{MemoryEndpoint, MemoryListener, MemoryStream, Plan};
+use mio::Events;
 use std::alloc::Global;
 use std::test::Fail;
-use stream_transport::{StreamFault, StreamWire};
+use stream_transport::{Endpoint, Socket, StreamFault, StreamWire};
 use transport::{Got, Wire};
 
 const LINES: &[u8] = b"usi\nisready\n\nquit\nrest";
@@ -123,5 +124,29 @@ fn a_listener_that_failed_takes_nobody(rt: HostRuntime) -> Result<(), Fail> {
             assert_eq!(rt; client.wire.faults(), 1);
         }
     }
+    Ok(())
+}
+
+#[test]
+fn an_endpoint_hands_its_clients_out(rt: HostRuntime) -> Result<(), Fail> {
+    let mut line = Vec::new(rt.alloc());
+    line.extend_from_slice(b"usi\n")?;
+    let mut waiting = Vec::new(rt.alloc());
+    waiting.push(line)?;
+    let mut endpoint = MemoryEndpoint::new(rt.alloc(), waiting);
+    let mut events = Events::with_capacity(rt.alloc(), 4)?;
+    assert!(rt; endpoint.poll_once(&mut events, None).is_ok());
+    assert!(rt; events.is_empty());
+    let Ok(mut socket) = endpoint.accept_one() else {
+        return Err(Fail::from("nobody waits"));
+    };
+    assert!(rt; endpoint.name(&mut socket, 7).is_ok());
+    assert!(rt; endpoint.accept_one().is_err());
+    let mut buf = [0u8; 8];
+    assert!(rt; matches!(socket.read_some(&mut buf), Ok(4)));
+    assert!(rt; matches!(socket.write_some(b"id name"), Ok(3)));
+    assert!(rt; socket.end_writing().is_ok());
+    assert!(rt; socket.is_shut);
+    assert_eq!(rt; socket.stream.written.as_slice(), b"id ".as_slice());
     Ok(())
 }

@@ -17,7 +17,7 @@ pub returns-then-most-eq0-clause-written : goal.returns-then-most-eq0-clause-wri
 returns-then-most-eq0-clause-written g c = Keeps-refl (g.S.ByteStream.written c.args.self.now.stream)
 
 pub returns-then-most-eq0-clause-asked : goal.returns-then-most-eq0-clause-asked
-returns-then-most-eq0-clause-asked g c = record { called = λ may none room. absurd (omega (arith, room)); awake = λ may found. may; takes = λ may. may }
+returns-then-most-eq0-clause-asked g c = record { called = λ may none room. absurd (omega (arith, room)); asleep = λ may kept. (refl, refl); awake = λ may found. may; takes = λ may. may }
 
 -- what is kept is given
 pub returns-then-not-is_empty-clause-unread : goal.returns-then-not-is_empty-clause-unread
@@ -33,7 +33,7 @@ pub returns-then-not-is_empty-clause-within : goal.returns-then-not-is_empty-cla
 returns-then-not-is_empty-clause-within g c = (c.give_line.ensures.some (some_left c.args.self.now.buffer.kept c.is_empty.result c.is_empty.ensures.test c.if-not-is_empty.true) (omega arith), c.give_line.ensures.most)
 
 pub returns-then-not-is_empty-clause-asked : goal.returns-then-not-is_empty-clause-asked
-returns-then-not-is_empty-clause-asked g c = record { called = λ may none room. absurd (some_left c.args.self.now.buffer.kept c.is_empty.result c.is_empty.ensures.test c.if-not-is_empty.true none); awake = λ may found. may; takes = λ may. may }
+returns-then-not-is_empty-clause-asked g c = record { called = λ may none room. absurd (some_left c.args.self.now.buffer.kept c.is_empty.result c.is_empty.ensures.test c.if-not-is_empty.true none); asleep = λ may none. absurd (some_left c.args.self.now.buffer.kept c.is_empty.result c.is_empty.ensures.test c.if-not-is_empty.true none); awake = λ may found. may; takes = λ may. may }
 
 -- nothing is asked
 pub returns-then-not-self-clause-unread : goal.returns-then-not-self-clause-unread
@@ -45,6 +45,7 @@ returns-then-not-self-clause-written g c = Keeps-refl (g.S.ByteStream.written c.
 pub returns-then-not-self-clause-asked : goal.returns-then-not-self-clause-asked
 returns-then-not-self-clause-asked g c = record {
   called = λ may kept room. absurd (let t : c.args.self.now.readable ≡ true = may in let f : c.args.self.now.readable ≡ false = c.if-not-self.true in cc);
+  asleep = λ may kept. (refl, refl);
   awake = λ may found. may;
   takes = λ may. may;
 }
@@ -53,7 +54,7 @@ pub returns-in-Ok-eq0-clause-asked : goal.returns-in-Ok-eq0-clause-asked
 returns-in-Ok-eq0-clause-asked g c =
     let room : c.args.most ≤ length c.deref_mut.result.now = search rules in
     let len : length c.split_at_mut.result.0.now ≡ c.args.most = ap length c.split_at_mut.ensures.front ∙ length-take-le c.args.most c.deref_mut.result.now room in
-    record { called = λ may kept room. inr (c.receive.result, (rw len at c.receive.ensures.called, rw c.in-Ok-eq0.is (inl (c.in-Ok-eq0.field-0-test, refl), may))); awake = λ may found. may; takes = λ may. may }
+    record { called = λ may kept room. inr (c.receive.result, (rw len at c.receive.ensures.called, rw c.in-Ok-eq0.is (inl (c.in-Ok-eq0.field-0-test, refl), may))); asleep = λ may kept. absurd (let t : c.args.self.now.readable ≡ true = c.if-not-self.false in let f : c.args.self.now.readable ≡ false = may in cc); awake = λ may found. may; takes = λ may. may }
 
 -- bytes came
 pub returns-in-Ok-clause-unread : goal.returns-in-Ok-clause-unread
@@ -77,7 +78,7 @@ pub returns-in-Ok-clause-asked : goal.returns-in-Ok-clause-asked
 returns-in-Ok-clause-asked g c =
     let room : c.args.most ≤ length c.deref_mut.result.now = search rules in
     let len : length c.split_at_mut.result.0.now ≡ c.args.most = ap length c.split_at_mut.ensures.front ∙ length-take-le c.args.most c.deref_mut.result.now room in
-    record { called = λ may kept room. inr (c.receive.result, (rw len at c.receive.ensures.called, rw c.in-Ok.is (inr (c.in-Ok.n-test.1, refl), may))); awake = λ may found. may; takes = λ may. may }
+    record { called = λ may kept room. inr (c.receive.result, (rw len at c.receive.ensures.called, rw c.in-Ok.is (inr (c.in-Ok.n-test.1, refl), may))); asleep = λ may kept. absurd (let t : c.args.self.now.readable ≡ true = c.if-not-self.false in let f : c.args.self.now.readable ≡ false = may in cc); awake = λ may found. may; takes = λ may. may }
 
 -- none came
 pub returns-in-Err-WouldBlock-clause-unread : goal.returns-in-Err-WouldBlock-clause-unread
@@ -90,7 +91,7 @@ pub returns-in-Err-WouldBlock-clause-asked : goal.returns-in-Err-WouldBlock-clau
 returns-in-Err-WouldBlock-clause-asked g c =
     let room : c.args.most ≤ length c.deref_mut.result.now = search rules in
     let len : length c.split_at_mut.result.0.now ≡ c.args.most = ap length c.split_at_mut.ensures.front ∙ length-take-le c.args.most c.deref_mut.result.now room in
-    record { called = λ may kept room. inr (c.receive.result, (rw len at c.receive.ensures.called, rw (c.in-Err-WouldBlock.is, c.in-Err-WouldBlock.field-0-is) (refl, refl))); awake = λ may found. absurd (found refl); takes = λ may. may }
+    record { called = λ may kept room. inr (c.receive.result, (rw len at c.receive.ensures.called, rw (c.in-Err-WouldBlock.is, c.in-Err-WouldBlock.field-0-is) (refl, refl))); asleep = λ may kept. absurd (let t : c.args.self.now.readable ≡ true = c.if-not-self.false in let f : c.args.self.now.readable ≡ false = may in cc); awake = λ may found. absurd (found refl); takes = λ may. may }
 
 pub returns-in-Err-Interrupted-clause-unread : goal.returns-in-Err-Interrupted-clause-unread
 returns-in-Err-Interrupted-clause-unread g c = gives_none g.S.ByteStream.unread c.args.self.now (record c.args.self.now { stream = c.receive.new.self }) refl c.in-Err-Interrupted.ensures.bytes
@@ -102,7 +103,7 @@ pub returns-in-Err-Interrupted-clause-asked : goal.returns-in-Err-Interrupted-cl
 returns-in-Err-Interrupted-clause-asked g c =
     let room : c.args.most ≤ length c.deref_mut.result.now = search rules in
     let len : length c.split_at_mut.result.0.now ≡ c.args.most = ap length c.split_at_mut.ensures.front ∙ length-take-le c.args.most c.deref_mut.result.now room in
-    record { called = λ may kept room. inr (c.receive.result, (rw len at c.receive.ensures.called, rw (c.in-Err-Interrupted.is, c.in-Err-Interrupted.field-0-is) (refl, may))); awake = λ may found. may; takes = λ may. may }
+    record { called = λ may kept room. inr (c.receive.result, (rw len at c.receive.ensures.called, rw (c.in-Err-Interrupted.is, c.in-Err-Interrupted.field-0-is) (refl, may))); asleep = λ may kept. absurd (let t : c.args.self.now.readable ≡ true = c.if-not-self.false in let f : c.args.self.now.readable ≡ false = may in cc); awake = λ may found. may; takes = λ may. may }
 
 pub returns-in-Err-Failed-clause-unread : goal.returns-in-Err-Failed-clause-unread
 returns-in-Err-Failed-clause-unread g c = gives_none g.S.ByteStream.unread c.args.self.now (record c.args.self.now { stream = c.receive.new.self }) refl c.in-Err-Failed.ensures.bytes
@@ -114,7 +115,7 @@ pub returns-in-Err-Failed-clause-asked : goal.returns-in-Err-Failed-clause-asked
 returns-in-Err-Failed-clause-asked g c =
     let room : c.args.most ≤ length c.deref_mut.result.now = search rules in
     let len : length c.split_at_mut.result.0.now ≡ c.args.most = ap length c.split_at_mut.ensures.front ∙ length-take-le c.args.most c.deref_mut.result.now room in
-    record { called = λ may kept room. inr (c.receive.result, (rw len at c.receive.ensures.called, rw (c.in-Err-Failed.is, c.in-Err-Failed.field-0-is) (refl, may))); awake = λ may found. may; takes = λ may. may }
+    record { called = λ may kept room. inr (c.receive.result, (rw len at c.receive.ensures.called, rw (c.in-Err-Failed.is, c.in-Err-Failed.field-0-is) (refl, may))); asleep = λ may kept. absurd (let t : c.args.self.now.readable ≡ true = c.if-not-self.false in let f : c.args.self.now.readable ≡ false = may in cc); awake = λ may found. may; takes = λ may. may }
 
 -- what passed
 pub returns-then-not-self-clause-came : goal.returns-then-not-self-clause-came

@@ -15,6 +15,7 @@ returns-then-not-self-clause-written g c = Appends-nil (g.S.ByteStream.written c
 pub returns-then-not-self-clause-asked : goal.returns-then-not-self-clause-asked
 returns-then-not-self-clause-asked g c = record {
   called = λ may. absurd (let t : c.args.self.now.writable ≡ true = may in let f : c.args.self.now.writable ≡ false = c.if-not-self.true in cc);
+  asleep = λ may. (refl, refl);
   gives = λ may. may;
 }
 
@@ -29,7 +30,7 @@ pub returns-in-Ok-clause-written : goal.returns-in-Ok-clause-written
 returns-in-Ok-clause-written g c = c.in-Ok.ensures.bytes
 
 pub returns-in-Ok-clause-asked : goal.returns-in-Ok-clause-asked
-returns-in-Ok-clause-asked g c = record { called = λ may. (c.send.result, (c.send.ensures.called, rw c.in-Ok.is (refl, may))); gives = λ may. may }
+returns-in-Ok-clause-asked g c = record { called = λ may. (c.send.result, (c.send.ensures.called, rw c.in-Ok.is (refl, may))); asleep = λ may. absurd (let t : c.args.self.now.writable ≡ true = c.if-not-self.false in let f : c.args.self.now.writable ≡ false = may in cc); gives = λ may. may }
 
 -- or none
 pub returns-in-Err-WouldBlock-clause-unread : goal.returns-in-Err-WouldBlock-clause-unread
@@ -39,7 +40,7 @@ pub returns-in-Err-WouldBlock-clause-written : goal.returns-in-Err-WouldBlock-cl
 returns-in-Err-WouldBlock-clause-written g c = Appends-none (g.S.ByteStream.written c.args.self.now.stream) (g.S.ByteStream.written c.send.new.self) c.in-Err-WouldBlock.ensures.bytes
 
 pub returns-in-Err-WouldBlock-clause-asked : goal.returns-in-Err-WouldBlock-clause-asked
-returns-in-Err-WouldBlock-clause-asked g c = record { called = λ may. (c.send.result, (c.send.ensures.called, rw (c.in-Err-WouldBlock.is, c.in-Err-WouldBlock.field-0-is) (refl, refl))); gives = λ may. may }
+returns-in-Err-WouldBlock-clause-asked g c = record { called = λ may. (c.send.result, (c.send.ensures.called, rw (c.in-Err-WouldBlock.is, c.in-Err-WouldBlock.field-0-is) (refl, refl))); asleep = λ may. absurd (let t : c.args.self.now.writable ≡ true = c.if-not-self.false in let f : c.args.self.now.writable ≡ false = may in cc); gives = λ may. may }
 
 pub returns-in-Err-Interrupted-clause-unread : goal.returns-in-Err-Interrupted-clause-unread
 returns-in-Err-Interrupted-clause-unread g c = unread_stays c.args.self.now.buffer.kept (g.S.ByteStream.unread c.args.self.now.stream) (g.S.ByteStream.unread c.send.new.self) c.send.ensures.unread
@@ -48,7 +49,7 @@ pub returns-in-Err-Interrupted-clause-written : goal.returns-in-Err-Interrupted-
 returns-in-Err-Interrupted-clause-written g c = Appends-none (g.S.ByteStream.written c.args.self.now.stream) (g.S.ByteStream.written c.send.new.self) c.in-Err-Interrupted.ensures.bytes
 
 pub returns-in-Err-Interrupted-clause-asked : goal.returns-in-Err-Interrupted-clause-asked
-returns-in-Err-Interrupted-clause-asked g c = record { called = λ may. (c.send.result, (c.send.ensures.called, rw (c.in-Err-Interrupted.is, c.in-Err-Interrupted.field-0-is) (refl, may))); gives = λ may. may }
+returns-in-Err-Interrupted-clause-asked g c = record { called = λ may. (c.send.result, (c.send.ensures.called, rw (c.in-Err-Interrupted.is, c.in-Err-Interrupted.field-0-is) (refl, may))); asleep = λ may. absurd (let t : c.args.self.now.writable ≡ true = c.if-not-self.false in let f : c.args.self.now.writable ≡ false = may in cc); gives = λ may. may }
 
 pub returns-in-Err-Failed-clause-unread : goal.returns-in-Err-Failed-clause-unread
 returns-in-Err-Failed-clause-unread g c = unread_stays c.args.self.now.buffer.kept (g.S.ByteStream.unread c.args.self.now.stream) (g.S.ByteStream.unread c.send.new.self) c.send.ensures.unread
@@ -57,7 +58,7 @@ pub returns-in-Err-Failed-clause-written : goal.returns-in-Err-Failed-clause-wri
 returns-in-Err-Failed-clause-written g c = Appends-none (g.S.ByteStream.written c.args.self.now.stream) (g.S.ByteStream.written c.send.new.self) c.in-Err-Failed.ensures.bytes
 
 pub returns-in-Err-Failed-clause-asked : goal.returns-in-Err-Failed-clause-asked
-returns-in-Err-Failed-clause-asked g c = record { called = λ may. (c.send.result, (c.send.ensures.called, rw (c.in-Err-Failed.is, c.in-Err-Failed.field-0-is) (refl, may))); gives = λ may. may }
+returns-in-Err-Failed-clause-asked g c = record { called = λ may. (c.send.result, (c.send.ensures.called, rw (c.in-Err-Failed.is, c.in-Err-Failed.field-0-is) (refl, may))); asleep = λ may. absurd (let t : c.args.self.now.writable ≡ true = c.if-not-self.false in let f : c.args.self.now.writable ≡ false = may in cc); gives = λ may. may }
 
 -- nothing came
 pub returns-then-not-self-clause-came : goal.returns-then-not-self-clause-came

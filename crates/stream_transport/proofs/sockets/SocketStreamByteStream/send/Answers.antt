@@ -4,4 +4,4 @@ use Rattle.stream_transport.proofs.sockets.SocketStreamByteStream.send.Goals as 
 
 -- the call was noted
 pub returns-clause-called : goal.returns-clause-called
-returns-clause-called c = noted c.args.self.now.calls.items c.args.self.now.calls.items c.and-self.result.items _ tt refl c.and-self.ensures
+returns-clause-called g c = noted c.args.self.now.calls.items c.args.self.now.calls.items c.and-self.result.items _ tt refl c.and-self.ensures

@@ -8,6 +8,7 @@ use Rattle.stream_transport.specs.Streams.{KeepsElse, answer_of}
 use Rattle.stream_transport.specs.declared.listener.ListenerCall.TheVariants.{Accept}
 use Rattle.stream_transport.proofs.Asked.{asked_no_next}
 use Rattle.stream_transport.proofs.Outcomes.{passed_on, cause_of_ok, crowded, not_below}
+use Rattle.stream_transport.proofs.Placing.{first_taken}
 use Rattle.stream_transport.proofs.Reports.{alike_keeps, comes}
 use Rattle.stream_transport.proofs.Waking.{accepted_alike, accepted_one, same_alike, still_comes, still_same, still_then}
 use Rattle.stream_transport.proofs.wire.StreamWire.accept_next.Goals as goal
@@ -135,3 +136,7 @@ pub returns-in_err-place-clause-asks : goal.returns-in_err-place-clause-asks
 returns-in_err-place-clause-asks g c =
     let failed : c.from_residual.result ≡ Err OutOfMemory = passed_on c.from_residual.result c.in_err-place.field-0.0 OutOfMemory c.from_residual.ensures.1 c.in_err-place.ensures.memory in
     rw failed (asked_no_next (length c.free_place.new.places.items) (g.L.Listener.asked c.args.self.now.listener) (g.L.Listener.asked c.args.self.now.listener) OutOfMemory refl tt)
+
+-- in the first place that was free
+pub returns-in-Ok-clause-first : goal.returns-in-Ok-clause-first
+returns-in-Ok-clause-first g c = first_taken c.free_place.new.places.items c.insert.new.places.items c.number_at-number.result c.in_ok-place.place c.new.result.number (Some c.new.result) c.number_at-number.ensures.place c.new.ensures.number c.insert.ensures.place c.in_ok-place.ensures.least

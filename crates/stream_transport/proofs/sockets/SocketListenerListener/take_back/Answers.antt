@@ -1,5 +1,5 @@
 use Rattle.stream_transport.proofs.Telling.{told_rest, told_taken}
-use Rattle.stream_transport.proofs.sockets.MioListenerListener.take_back.Goals as goal
+use Rattle.stream_transport.proofs.sockets.SocketListenerListener.take_back.Goals as goal
 
 -- what the stream took was noted
 pub returns-clause-back : goal.returns-clause-back

@@ -1,5 +1,5 @@
 use Rattle.stream_transport.proofs.Telling.{told_failed}
-use Rattle.stream_transport.proofs.sockets.MioListenerListener.fail.Goals as goal
+use Rattle.stream_transport.proofs.sockets.SocketListenerListener.fail.Goals as goal
 
 -- the number was noted
 pub returns-clause-failed : goal.returns-clause-failed

@@ -1,5 +1,5 @@
 use Rattle.stream_transport.proofs.Telling.{told_shut}
-use Rattle.stream_transport.proofs.sockets.MioListenerListener.shut.Goals as goal
+use Rattle.stream_transport.proofs.sockets.SocketListenerListener.shut.Goals as goal
 
 -- the number was noted
 pub returns-clause-shut : goal.returns-clause-shut

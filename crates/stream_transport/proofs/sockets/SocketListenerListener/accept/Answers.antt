@@ -1,6 +1,6 @@
 use Rattle.std.proofs.Common.{ap}
 use Rattle.stream_transport.proofs.Noting.{noted}
-use Rattle.stream_transport.proofs.sockets.MioListenerListener.accept.Goals as goal
+use Rattle.stream_transport.proofs.sockets.SocketListenerListener.accept.Goals as goal
 
 -- the call was noted
 pub returns-clause-asked : goal.returns-clause-asked
