@@ -1268,6 +1268,16 @@ def a_status_socket_that_cannot_be_made_is_told():
             seen = (ended.returncode, ended.stdout, ended.stderr)
             want(seen, (1, b"", failed + why), f"a status at {other!r}")
             want(os.path.lexists(path), False, "the file of the other socket")
+        for taken in (there, left, listens):
+            ended = subprocess.run(
+                [PROGRAM, "serve", "--socket", taken, "--status", os.path.join(place, "status")],
+                capture_output=True,
+                timeout=PATIENCE,
+                check=False,
+            )
+            want((ended.returncode, ended.stdout), (1, b""), f"a socket at {taken!r}")
+            if not ended.stderr.startswith(b"usi_host: socket failed"):
+                raise Wrong(f"a socket at {taken!r}: {ended.stderr!r}")
         listener.close()
         names = sorted(os.listdir(place))
         want(names, ["left", "listens", "there"], "the files that were there")

@@ -14,3 +14,4 @@ pub mod Promises
 pub mod Alone
 pub mod Status
 pub mod StatusLine
+pub mod Numbers

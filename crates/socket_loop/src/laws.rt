@@ -1,6 +1,7 @@
 //! What follows of any servings.
 
 ghost use Rattle.socket_loop.specs.Alone.{AnswersAsAlone, IsolatesConnections};
+ghost use Rattle.socket_loop.specs.Numbers.{AreNumbers};
 
 /// Connections do not see one another. Two servings of any hosts of one setup over any wires wrote the
 /// same to two undisturbed connections from which the same bytes were read. All else may differ: the
@@ -15,4 +16,10 @@ pub fn isolation()
 /// connections did.
 pub fn answers_as_alone()
     ensures { AnswersAsAlone }
+{}
+
+/// How many are accepted in a turn, have a session at a time and are told the status after a turn, and
+/// the room for its line, are these numbers.
+pub fn numbers()
+    ensures { AreNumbers }
 {}

@@ -14,11 +14,11 @@ mod visit;
 mod visitors;
 
 pub use connection::{Connection, Link};
-pub use laws::{answers_as_alone, isolation};
+pub use laws::{answers_as_alone, isolation, numbers};
 pub use monitor::{Monitor, NoMonitor};
 pub use serving::serve;
 pub use status::{Limits, Process, Status, Totals, status_of};
 pub use status_line::{LINE_MAX, write_line};
-pub use status_socket::StatusSocket;
+pub use status_socket::{StatusListener, StatusSocket};
 pub use tally::Tally;
 pub use turn::{Loop, Turn};

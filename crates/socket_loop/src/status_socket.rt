@@ -11,18 +11,58 @@ use crate::turn::{Loop, Turn};
 use crate::visitors::Visitors;
 use host_core::Host;
 use mio::net::UnixListener;
+use mio::{Poll, Registry};
 use std::alloc::Allocator;
-use std::fs::Files;
 use std::hash::BuildHasher;
-use std::net::Net;
-use stream_transport::MioWire;
+use stream_transport::{Binder, MioWire};
 use transport::WireFault;
+
+/// A Unix socket for a status, which no wire watches yet.
+#[derive(Drop)]
+pub struct StatusListener<A: Allocator> {
+    listener: UnixListener,
+    line: Vec<u8, A>,
+    /// The process of the host.
+    pub process: Process,
+    /// What the host was given.
+    pub limits: Limits,
+}
+
+impl<A: Allocator + Copy> StatusListener<A> {
+    /// Makes a socket at the path. `Device` if the system refuses it, as for a path that exists, and
+    /// if the path is empty. All memory is taken before.
+    pub fn bind<B: Binder<Poll>>(
+        binder: &mut B,
+        alloc: A,
+        path: &str,
+        process: Process,
+        limits: Limits,
+    ) -> Result<StatusListener<A>, WireFault>
+        ensures unnamed { path.now ≡ [] → result ≡ Err Device }
+        ensures process { IfOk result (λ listener. listener.process ≡ process) }
+        ensures limits { IfOk result (λ listener. listener.limits ≡ limits) }
+    {
+        if path.is_empty() {
+            return Err(WireFault::Device);
+        }
+        let line = Vec::with_capacity(alloc, LINE_MAX)?;
+        match binder.listen(path) {
+            Ok(listener) => Ok(StatusListener {
+                listener,
+                line,
+                process,
+                limits,
+            }),
+            Err(_) => Err(WireFault::Device),
+        }
+    }
+}
 
 /// A Unix socket that tells the status of a host to whoever connects: one line, in one write that does
 /// not wait, and then the connection is closed, whatever was taken of it.
 #[derive(Drop)]
 pub struct StatusSocket<A: Allocator> {
-    visitors: Visitors,
+    visitors: Visitors<Registry>,
     line: Vec<u8, A>,
     /// The process of the host.
     pub process: Process,
@@ -33,38 +73,33 @@ pub struct StatusSocket<A: Allocator> {
 }
 
 impl<A: Allocator + Copy> StatusSocket<A> {
-    /// Makes a socket at the path, and has the waits of this wire end too where somebody connects to it.
-    /// `Device` where the system refuses it, as for a path that exists, and where the path is empty.
-    pub fn bind<R: Files + Net>(
-        rt: &R,
-        alloc: A,
-        path: &str,
-        process: Process,
-        limits: Limits,
-        wire: &MioWire<A>,
+    /// Has the waits of this wire end too when somebody connects to the socket. `Device` if the
+    /// system refuses it.
+    pub fn over(
+        listener: StatusListener<A>,
+        wire: &mut MioWire<A>,
     ) -> Result<StatusSocket<A>, WireFault>
-        ensures unnamed { path.now ≡ [] → result ≡ Err Device }
-        ensures process { IfOk result (λ socket. socket.process ≡ process) }
-        ensures limits { IfOk result (λ socket. socket.limits ≡ limits) }
+        ensures process { IfOk result (λ socket. socket.process ≡ listener.process) }
+        ensures limits { IfOk result (λ socket. socket.limits ≡ listener.limits) }
         ensures if_none { IfOk result (λ socket. socket.totals ≡ no_totals) }
     {
-        if path.is_empty() {
-            return Err(WireFault::Device);
-        }
-        let line = Vec::with_capacity(alloc, LINE_MAX)?;
-        let Ok(mut listener) = UnixListener::bind(rt, path) else {
-            return Err(WireFault::Device);
-        };
-        let Ok(registry) = wire.listener.watch(&mut listener) else {
-            return Err(WireFault::Device);
-        };
-        Ok(StatusSocket {
-            visitors: Visitors::new(listener, registry),
+        let StatusListener {
+            listener,
             line,
             process,
             limits,
-            totals: Totals::NONE,
-        })
+        } = listener;
+        let mut listener = listener;
+        match wire.listener.watch(&mut listener) {
+            Ok(watcher) => Ok(StatusSocket {
+                visitors: Visitors::new(listener, watcher),
+                line,
+                process,
+                limits,
+                totals: Totals::NONE,
+            }),
+            Err(_) => Err(WireFault::Device),
+        }
     }
 
     /// Makes the line of now. There is none where memory is refused.

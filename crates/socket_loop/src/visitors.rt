@@ -1,20 +1,18 @@
 //! Those who ask for a status.
 
-use mio::Registry;
-use mio::net::{UnixListener, UnixStream};
-use std::io::{ErrorKind, Write};
-use stream_transport::watch_again;
+use std::io::ErrorKind;
+use stream_transport::{Socket, Watcher};
 
 /// How many are answered after a turn.
-const ANSWERS: usize = 16;
+pub const ANSWERS: usize = 16;
 
 /// The listener of a status. It is asked only after a poll has named it, or where it owes an answer.
 #[derive(Drop)]
-pub struct Visitors {
-    listener: UnixListener,
-    registry: Registry,
+pub struct Visitors<V: Watcher> {
+    listener: V::Listener,
+    watcher: V,
     // A descriptor that is given up where there is none for a visitor, and opened again afterwards.
-    spare: Option<Registry>,
+    spare: Option<V::Spare>,
     // An accept failed, and somebody may wait.
     owes: bool,
     // How often a poll had named the listener when it was asked last.
@@ -23,16 +21,18 @@ pub struct Visitors {
     pub faults: u64,
 }
 
-/// Writes the line in one write, and closes the connection, whatever was taken.
-fn answer(stream: UnixStream, line: &[u8]) {
-    let mut client = stream;
-    let _taken = client.write(line);
+/// Writes the line in one write, whatever is taken of it.
+fn tell<S: Socket>(client: &mut S, line: &[u8]) {
+    let _taken = client.write_some(line);
 }
 
 /// Accepts who waits first. `None` where nobody does, and an error where somebody may.
-fn accept_from(listener: &UnixListener) -> Result<Option<UnixStream>, ErrorKind> {
-    match listener.accept() {
-        Ok((stream, _)) => Ok(Some(stream)),
+fn accept_from<V: Watcher>(
+    watcher: &mut V,
+    listener: &mut V::Listener,
+) -> Result<Option<V::Stream>, ErrorKind> {
+    match watcher.accept_visitor(listener) {
+        Ok(stream) => Ok(Some(stream)),
         Err(error) => match error.kind() {
             ErrorKind::WouldBlock => Ok(None),
             kind => Err(kind),
@@ -40,13 +40,14 @@ fn accept_from(listener: &UnixListener) -> Result<Option<UnixStream>, ErrorKind>
     }
 }
 
-impl Visitors {
+impl<V: Watcher> Visitors<V> {
     /// Nobody has come.
-    pub fn new(listener: UnixListener, registry: Registry) -> Visitors {
-        let spare = registry.try_clone().ok();
+    pub fn new(listener: V::Listener, watcher: V) -> Visitors<V> {
+        let mut watcher = watcher;
+        let spare = watcher.spare().ok();
         Visitors {
             listener,
-            registry,
+            watcher,
             spare,
             owes: false,
             visits: 0,
@@ -55,11 +56,11 @@ impl Visitors {
     }
 
     /// Accepts who waits first. Where that fails the spare descriptor is given up for a second try.
-    fn accept(&mut self) -> Option<UnixStream> {
-        let mut accepted = accept_from(&self.listener);
+    fn accept(&mut self) -> Option<V::Stream> {
+        let mut accepted = accept_from(&mut self.watcher, &mut self.listener);
         if accepted.is_err() && self.spare.is_some() {
             self.spare = None;
-            accepted = accept_from(&self.listener);
+            accepted = accept_from(&mut self.watcher, &mut self.listener);
         }
         match accepted {
             Ok(visitor) => visitor,
@@ -73,20 +74,20 @@ impl Visitors {
 
     /// Has the next wait end at once where somebody waits.
     fn watch_again(&mut self) {
-        let _watched = watch_again(&self.registry, &mut self.listener);
+        let _watched = self.watcher.watch_again(&mut self.listener);
     }
 
     /// Opens the spare descriptor, where it was given up.
     fn keep_spare(&mut self) {
         if self.spare.is_none() {
-            self.spare = self.registry.try_clone().ok();
+            self.spare = self.watcher.spare().ok();
         }
     }
 
     /// Who waits first, where a poll has named the listener since, by the number of its visits, or an
     /// answer is owed. After a failure it is tried at the next visit, and in the turn after the wait that
     /// follows, which is bounded.
-    pub fn next_after(&mut self, visits: u64) -> Option<UnixStream> {
+    pub fn next_after(&mut self, visits: u64) -> Option<V::Stream> {
         let is_named = visits != self.visits;
         if !(is_named | self.owes) {
             return None;
@@ -100,9 +101,15 @@ impl Visitors {
         visitor
     }
 
+    /// Writes the line to who came in one write, and closes the connection, whatever was taken.
+    fn answer(&mut self, stream: V::Stream, line: &[u8]) {
+        let mut client = stream;
+        tell(&mut client, line);
+    }
+
     /// Answers this one and those who wait behind it, `ANSWERS` at most.
-    pub fn answer_all(&mut self, first: UnixStream, line: &[u8]) {
-        answer(first, line);
+    pub fn answer_all(&mut self, first: V::Stream, line: &[u8]) {
+        self.answer(first, line);
         self.answer_others(line);
         self.keep_spare();
     }
@@ -113,7 +120,7 @@ impl Visitors {
             let Some(visitor) = self.accept() else {
                 return;
             };
-            answer(visitor, line);
+            self.answer(visitor, line);
         }
         self.watch_again();
     }

@@ -9,3 +9,4 @@ pub mod Noting
 pub mod Leaving
 pub mod Telling
 pub mod Calling
+pub mod Draining

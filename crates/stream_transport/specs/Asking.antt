@@ -186,7 +186,7 @@ module _ {S A : Type 0} where
       × GivesAs answer result new))
 
   -- a read of so many bytes asked the stream so, where nothing was kept of one that may give bytes; it may give more where
-  -- the read found any, or failed, and may take what it might; where nothing is kept of one that sleeps it finds nothing
+  -- the read found any, or failed, and may take what it might; if nothing is kept of one that sleeps it finds nothing
   pub record AsksToGive (calls : S → Option (List StreamCall)) (room : ℕ)
       (result : Result Got WireFault) (old new : BufferedStream S A) : Type 0 where
     pub called : old.readable ≡ true → old.buffer.kept ≡ [] → 0 < room → AsksStream calls room result old new
@@ -201,7 +201,7 @@ module _ {S A : Type 0} where
   TakesAs (Err why.Interrupted) result new = (result ≡ Ok 0) × (new.writable ≡ true)
   TakesAs (Err why.Failed) result new = (result ≡ Err Device) × (new.writable ≡ true)
 
-  -- a write of so many bytes offered them to the stream, once, where it may take some, and answers so; where it sleeps the
+  -- a write of so many bytes offered them to the stream, once, if it may take some, and answers so; if it sleeps the
   -- write takes nothing; it may give what it might
   pub record AsksToTake (calls : S → Option (List StreamCall)) (bytes : ℕ)
       (result : Result ℕ WireFault) (old new : BufferedStream S A) : Type 0 where

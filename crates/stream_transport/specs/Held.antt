@@ -42,7 +42,7 @@ module _ {S A : Type 0} where
   AreTakenBelow places place =
       (earlier : ℕ) → earlier < place → slice_index_or places earlier None ≢ None
 
-  -- where a number was given, its place was the first one that was free
+  -- if a number was given, its place was the first one that was free
   abbrev pub TakesFirst : Result (Option ℕ) WireFault → List (Option (BufferedStream S A)) → Type 0
   TakesFirst (Ok (Some number)) places = AreTakenBelow places (number % PLACES)
   TakesFirst (Ok None) places = ⊤

@@ -6,3 +6,5 @@ pub mod Held
 pub mod Asking
 pub mod Reporting
 pub mod Lingering
+pub mod Numbers
+pub mod Noted

@@ -1,5 +1,5 @@
 -- Streams that are shut and linger, and for how many looks each stays at most (own choice).
-use Rattle.std.specs.Prelude.{◌≤◌, ◌+◌, ◌-◌, ◌++◌, ◌∷◌, [], ℕ, Bool, List, All, Vec, drop, length, nat_lt, vec_capacity}
+use Rattle.std.specs.Prelude.{◌≤◌, ◌+◌, ◌-◌, ◌++◌, ◌&&◌, ◌∷◌, [], ℕ, Bool, true, not, List, All, Vec, drop, length, nat_lt, vec_capacity}
 use Rattle.stream_transport.specs.declared.lingering.LingeringStream.{LingeringStream}
 use Rattle.stream_transport.specs.declared.lingering.TheConstants.{LINGERING_MAX, LOOKS_MAX}
 
@@ -15,6 +15,11 @@ module _ {S : Type 0} where
   -- it stays for another look
   abbrev pub has_looks : LingeringStream S → Bool
   has_looks lingering = nat_lt 0 lingering.looks
+
+  -- all that they sent is read, as far as was seen
+  abbrev pub are_drained : List (LingeringStream S) → Bool
+  are_drained [] = true
+  are_drained (first ∷ rest) = not first.readable && are_drained rest
 
   -- one more; where all places are taken the oldest one leaves
   abbrev pub with_one : List (LingeringStream S) → LingeringStream S → List (LingeringStream S)

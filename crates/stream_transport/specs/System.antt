@@ -1,5 +1,5 @@
 -- The calls of the system that sockets are made of, with their answers (own choice).
-use Rattle.std.specs.Prelude.{◌≡◌, ◌==◌, ◌-◌, ◌^◌, ◌⊎◌, ⊤, ℕ, Bool, true, false, List, [], ◌∷◌, ◌++◌, All, cond, flat_map, Option, None, Some, Result, Ok, Err, is_some, option_map}
+use Rattle.std.specs.Prelude.{◌≡◌, ◌≢◌, ◌==◌, ◌*◌, ◌⊎◌, ⊤, ℕ, zero, suc, Bool, true, false, List, [], ◌∷◌, ◌++◌, All, cond, flat_map, Option, None, Some, Result, Ok, Err, OnErr, OnOk, option_map}
 use Rattle.std.specs.Duration.{as_nanos}
 use Rattle.std.specs.IoError.{error_kind}
 use Rattle.std.specs.declared.io.Error.{Error}
@@ -8,21 +8,37 @@ use Rattle.mio.specs.Event.{event_token}
 use Rattle.mio.specs.declared.event.event.Event.{Event}
 use Rattle.mio.specs.declared.token.Token.{Token}
 use Rattle.transport.specs.Asked.{Asks}
+use Rattle.transport.specs.declared.wire.WireFault.{WireFault}
+use Rattle.transport.specs.declared.wire.WireFault.TheVariants.{Device, OutOfMemory}
+use Rattle.stream_transport.specs.Lingering.{are_drained, with_one}
 use Rattle.stream_transport.specs.Streams.{fault_by}
 use Rattle.stream_transport.specs.declared.listener.Ready.{Ready}
 use Rattle.stream_transport.specs.declared.listener.Ready.TheVariants.{Listener, Stream}
 use Rattle.stream_transport.specs.declared.listener.StreamFault.{StreamFault}
-use Rattle.stream_transport.specs.declared.listener.StreamFault.TheVariants.{Failed}
+use Rattle.stream_transport.specs.declared.listener.StreamFault.TheVariants.{Failed, Interrupted, WouldBlock}
 use Rattle.stream_transport.specs.declared.lingering.LingeringStream.{LingeringStream}
+use Rattle.stream_transport.specs.declared.lingering.TheConstants.{DRAINING_PATIENCE, IDLE_PATIENCE, LOOKS_MAX, READS}
+use Rattle.stream_transport.specs.declared.listener.StreamCall.{StreamCall}
+use Rattle.stream_transport.specs.declared.listener.StreamCall.TheVariants.{Receive, Send}
+use Rattle.stream_transport.specs.declared.sockets.Past.{Past}
+use Rattle.stream_transport.specs.declared.sockets.SocketStream.{SocketStream}
+use Rattle.stream_transport.specs.declared.sockets.TheConstants.{VISIT_PATIENCE}
+use Rattle.stream_transport.specs.declared.tokens.TheConstants.{LISTENER, WATCHED}
 
--- a call of an endpoint: of who waits first, of having polls name a stream by a number, and a poll, of so many nanoseconds at
--- most, or until somebody is ready, with the events that it gave
+-- a call of an endpoint: of who waits first, of having polls name a stream or a listener by a number, and a poll, of so many
+-- nanoseconds at most, or until somebody is ready, with the events that it gave
 pub data SystemCall : Type 0 where
   Accept : (answer : Result (Unit {0}) StreamFault) → SystemCall
   Name : (number : ℕ) (answer : Result (Unit {0}) StreamFault) → SystemCall
+  NameListener : (number : ℕ) (answer : Result (Unit {0}) StreamFault) → SystemCall
   Poll : (most : Option ℕ) (events : List Event) (answer : Result (Unit {0}) StreamFault) → SystemCall
 
--- what the system answered, with the reason where it gave nothing
+-- a call of who makes an endpoint, and a listener at a path
+pub data BinderCall : Type 0 where
+  Open : (answer : Result (Unit {0}) StreamFault) → BinderCall
+  Listen : (path : List ℕ) (answer : Result (Unit {0}) StreamFault) → BinderCall
+
+-- what the system answered, with the reason if it gave nothing
 abbrev pub answer_by : {T : Type 0} → Result T Error → Result T StreamFault
 answer_by (Ok value) = Ok value
 answer_by (Err error) = Err (fault_by (error_kind error))
@@ -36,17 +52,17 @@ outcome_by (Err error) = Err (fault_by (error_kind error))
 abbrev pub most_of : Option Duration → Option ℕ
 most_of patience = option_map as_nanos patience
 
--- where calls are told, none was made
+-- if calls are told, none was made
 abbrev pub IsUnused : {C : Type 0} → Option (List C) → Type 0
 IsUnused None = ⊤
 IsUnused (Some calls) = calls ≡ []
 
--- where it is told, the writing side is shut
+-- if it is told, the writing side is shut
 abbrev pub IsShut : Option Bool → Type 0
 IsShut None = ⊤
 IsShut (Some flag) = flag ≡ true
 
--- what one accept asks an endpoint for, by its answer: who waits first, whom polls name by this number; where they cannot, it
+-- what one accept asks an endpoint for, by its answer: who waits first, whom polls name by this number; if they cannot, it
 -- fails
 abbrev pub AcceptsAs : ℕ → Result (Unit {0}) StreamFault → List SystemCall → Type 0
 AcceptsAs number (Ok done) calls = calls ≡ Accept (Ok tt) ∷ Name number (Ok tt) ∷ []
@@ -64,12 +80,13 @@ pub record AcceptsAgain (number : ℕ) (answer : Result (Unit {0}) StreamFault) 
   pub failed : AcceptsAs number (Err Failed) first
   pub due : AcceptsAs number answer again
 
--- an endpoint was asked for who waits first: once, or once more where that failed
-pub record IsAskedForOne (number : ℕ) (old new : Option (List SystemCall))
-    (answer : Result (Unit {0}) StreamFault) : Type 0 where
+-- an endpoint was asked for who waits first: once, or once more if that failed and somebody lingered
+pub record IsAskedForOne {S : Type 0} (number : ℕ) (lingering : List (LingeringStream S))
+    (old new : Option (List SystemCall)) (answer : Result (Unit {0}) StreamFault) : Type 0 where
   pub calls : List SystemCall
   pub asked : Asks old new calls
-  pub due : AcceptsAs number answer calls ⊎ AcceptsAgain number answer calls
+  pub due : AcceptsAs number answer calls
+      ⊎ ((lingering ≢ []) × AcceptsAgain number answer calls)
 
 -- an endpoint was asked so once
 pub record IsAskedOnce (number : ℕ) (old new : Option (List SystemCall))
@@ -78,10 +95,37 @@ pub record IsAskedOnce (number : ℕ) (old new : Option (List SystemCall))
   pub asked : Asks old new calls
   pub due : AcceptsAs number answer calls
 
--- the one that a token names, as `usize::MAX` does the listener and the number before a listener that is watched
+-- what was asked for nothing before was asked for these calls
+abbrev pub IsAskedAnew : {E C : Type 0} → (E → Option (List C)) → E → List C → Type 0
+IsAskedAnew {E} calls now asked = (first : E) × (IsUnused (calls first) × Asks (calls first) (calls now) asked)
+
+-- what a bind asks for that made a wire, or failed so: an endpoint, and a listener at the path; nothing, if memory is refused
+abbrev pub BindsAs : {W : Type 0} → (path : List ℕ) → Result W WireFault → List BinderCall → Type 0
+BindsAs path (Ok wire) calls = calls ≡ Open (Ok tt) ∷ Listen path (Ok tt) ∷ []
+BindsAs path (Err OutOfMemory) calls = calls ≡ []
+BindsAs path (Err Device) calls =
+    ((path ≡ []) × (calls ≡ []))
+    ⊎ (((why : StreamFault) × (calls ≡ Open (Err why) ∷ []))
+    ⊎ ((answer : Result (Unit {0}) StreamFault)
+    × (calls ≡ Open (Ok tt) ∷ Listen path answer ∷ [])))
+
+-- it was asked so
+pub record IsAskedToBind {W : Type 0} (path : List ℕ) (old new : Option (List BinderCall))
+    (result : Result W WireFault) : Type 0 where
+  pub calls : List BinderCall
+  pub asked : Asks old new calls
+  pub due : BindsAs path result calls
+
+-- polls were to name one more listener by this number; if they can, a watcher may be refused still
+abbrev pub Watches : ℕ → (old new : Option (List SystemCall)) → Result (Unit {0}) StreamFault → Type 0
+Watches number old new (Ok done) = Asks old new (NameListener number (Ok tt) ∷ [])
+Watches number old new (Err fault) =
+    Asks old new (NameListener number (Ok tt) ∷ []) ⊎ Asks old new (NameListener number (Err fault) ∷ [])
+
+-- the one that a token names: nobody, if it is that of a listener that is watched
 abbrev pub named_by : Token → Option Ready
 named_by token =
-    cond (token.0 == 2 ^ 64 - 2) None (Some (cond (token.0 == 2 ^ 64 - 1) Listener (Stream token.0)))
+    cond (token.0 == WATCHED) None (Some (cond (token.0 == LISTENER) Listener (Stream token.0)))
 
 abbrev pub listed : {X : Type 0} → Option X → List X
 listed None = []
@@ -96,16 +140,74 @@ module _ {S : Type 0} (is_shut : S → Option Bool) where
   abbrev pub AreShut : List (LingeringStream S) → Type 0
   AreShut streams = All (λ lingering. IsShut (is_shut lingering.stream)) streams
 
-  -- where the writing side of all that lingered was shut, that of all that lingers is
+  -- if the writing side of all that lingered was shut, that of all that lingers is
   abbrev pub KeepsShut : List (LingeringStream S) → List (LingeringStream S) → Type 0
   KeepsShut old new = AreShut old → AreShut new
 
+-- how long a wait lasts at most: for half a second if a visitor may be unanswered
+abbrev pub visited_for : (is_visited : Bool) → Option ℕ → Option ℕ
+visited_for true most = Some (VISIT_PATIENCE * 1000000)
+visited_for false most = most
+
+-- the same while these linger: for a short time, and a shorter one if not all that was sent is read
+abbrev pub lingering_for : {S : Type 0} → List (LingeringStream S) → Option ℕ → Option ℕ
+lingering_for [] most = most
+lingering_for (first ∷ rest) most =
+    Some (cond (are_drained (first ∷ rest)) IDLE_PATIENCE DRAINING_PATIENCE * 1000000)
+
+-- one poll was made, for so long
+abbrev pub IsPolled : {S : Type 0} → Option Duration → List (LingeringStream S) → (is_visited : Bool)
+    → (old new : Option (List SystemCall)) → List Event → Result (Unit {0}) StreamFault → Type 0
+IsPolled patience lingering is_visited old new events answer =
+    Asks old new
+    (Poll (lingering_for lingering (visited_for is_visited (most_of patience))) events answer ∷ [])
+
+-- of nothing it was told
+abbrev pub IsNewPast : Past → Type 0
+IsNewPast past = (past.back.items ≡ []) × ((past.shut.items ≡ []) × (past.failed.items ≡ []))
+
+-- ---- a stream that lingers
+
+-- so many reads are left, and these were made until the peer has ended or the stream failed (`None`), or has nothing more now
+-- (`Some false`), or none was left
+abbrev pub Drains : ℕ → List StreamCall → Option Bool → Type 0
+Drains zero calls result = (calls ≡ []) × (result ≡ Some true)
+Drains (suc left) [] result = ⊥
+Drains (suc left) (Send room answer ∷ rest) result = ⊥
+Drains (suc left) (Receive room (Ok zero) ∷ rest) result = (rest ≡ []) × (result ≡ None)
+Drains (suc left) (Receive room (Ok (suc n)) ∷ rest) result = Drains left rest result
+Drains (suc left) (Receive room (Err WouldBlock) ∷ rest) result = (rest ≡ []) × (result ≡ Some false)
+Drains (suc left) (Receive room (Err Interrupted) ∷ rest) result = Drains left rest result
+Drains (suc left) (Receive room (Err Failed) ∷ rest) result = (rest ≡ []) × (result ≡ None)
+
+-- a stream was read so, READS times at most
+pub record IsDrained (old new : Option (List StreamCall)) (result : Option Bool) : Type 0 where
+  pub calls : List StreamCall
+  pub asked : Asks old new calls
+  pub due : Drains READS calls result
+
 module _ {S : Type 0} where
-  -- one poll was made, for as long as was asked where nobody lingers and no visitor may be unanswered; bounded where that was
-  pub record IsPolled (patience : Option Duration) (lingering : List (LingeringStream S)) (is_visited : Bool)
-      (old new : Option (List SystemCall)) (events : List Event) (answer : Result (Unit {0}) StreamFault)
-      : Type 0 where
-    pub most : Option ℕ
-    pub bound : is_some patience ≡ true → is_some most ≡ true
-    pub same : lingering ≡ [] → is_visited ≡ false → most ≡ most_of patience
-    pub asked : Asks old new (Poll most events answer ∷ [])
+  -- a stream that was drained lingers for the longest, unless its peer has ended
+  abbrev pub LingersAs : ℕ → S → Option Bool → List (LingeringStream S) → List (LingeringStream S)
+      → Type 0
+  LingersAs number last None old new = new ≡ old
+  LingersAs number last (Some has_more) old new =
+      new ≡ with_one old
+      (record { number = number; stream = last; readable = has_more; looks = LOOKS_MAX })
+
+  pub record Lingers (calls : S → Option (List StreamCall)) (number : ℕ) (stream : S)
+      (old new : List (LingeringStream S)) : Type 0 where
+    pub last : S
+    pub answer : Option Bool
+    pub drained : IsDrained (calls stream) (calls last) answer
+    pub left : LingersAs number last answer old new
+
+-- the writing side of a stream was to be shut; if it was, the stream lingers, unless its peer has ended
+pub record LingersOnceShut {S : Type 0} (calls : SocketStream S → Option (List StreamCall))
+    (ends : S → Option (List (Result (Unit {0}) StreamFault))) (number : ℕ) (stream : SocketStream S)
+    (old new : List (LingeringStream (SocketStream S))) : Type 0 where
+  pub last : SocketStream S
+  pub answer : Result (Unit {0}) StreamFault
+  pub ended : Asks (ends stream.stream) (ends last.stream) (answer ∷ [])
+  pub left : OnErr answer (new ≡ old)
+  pub lingers : OnOk answer (Lingers calls number last old new)

@@ -1,8 +1,8 @@
 //! Streams that are shut and whose peers have not ended yet.
 
 ghost use Rattle.std.specs.Prelude.{◌≡◌, ◌≢◌, ◌≤◌, ◌+◌, ◌-◌, [], ℕ, length, filter, is_some, true, IfOk, vec_capacity};
-ghost use Rattle.stream_transport.specs.Lingering.{Leave, StayAtMost, has_looks, with_one};
-ghost use Rattle.stream_transport.specs.System.{AreShut, IsShut};
+ghost use Rattle.stream_transport.specs.Lingering.{Leave, StayAtMost, are_drained, has_looks, with_one};
+ghost use Rattle.stream_transport.specs.System.{AreShut, IsDrained, IsShut, Lingers, lingering_for, most_of};
 ghost use Rattle.stream_transport.specs.declared.lingering.TheConstants.{LINGERING_MAX, LOOKS_MAX};
 
 use crate::listener::{ByteStream, Ready, StreamFault};
@@ -17,16 +17,16 @@ pub const LINGERING_MAX: usize = 256;
 pub const LOOKS_MAX: u64 = 4096;
 
 /// For how many looks a wait counts that found nobody.
-const IDLE_LOOKS: u64 = 64;
+pub const IDLE_LOOKS: u64 = 64;
 
 /// How many milliseconds a wait lasts at most while somebody lingers.
-const IDLE_PATIENCE: u64 = 50;
+pub const IDLE_PATIENCE: u64 = 50;
 
 /// The same where not all that was sent is read.
-const DRAINING_PATIENCE: u64 = 1;
+pub const DRAINING_PATIENCE: u64 = 1;
 
 /// How often a stream is read at a look.
-const READS: usize = 4;
+pub const READS: usize = 4;
 
 /// A stream that is shut, and for how many looks it stays.
 #[derive(Drop)]
@@ -72,7 +72,8 @@ fn is_named(ready: &[Ready], number: u64) -> bool {
 /// Reads and drops what a peer has sent, at most `READS` times. `None` where it has ended or the stream
 /// failed, and else whether it may have sent more.
 fn drain<S: ByteStream>(stream: &mut S) -> Option<bool>
-    ensures { S.is_shut stream.new ≡ S.is_shut stream.old }
+    ensures shut { S.is_shut stream.new ≡ S.is_shut stream.old }
+    ensures reads { IsDrained (S.calls stream.old) (S.calls stream.new) result }
 {
     let mut buf = [0u8; 4096];
     for _ in 0..READS {
@@ -130,6 +131,18 @@ fn retain_lingering<S: ByteStream, A: Allocator>(streams: &mut Vec<LingeringStre
     streams.retain(|lingering| lingering.looks > 0);
 }
 
+/// Whether all that these have sent is read, as far as was seen.
+fn are_drained<S: ByteStream>(streams: &[LingeringStream<S>]) -> bool
+    ensures { result ≡ are_drained streams.now }
+{
+    for place in 0..streams.len() {
+        if streams[place].readable {
+            return false;
+        }
+    }
+    true
+}
+
 impl<S: ByteStream, A: Allocator + Copy> Lingering<S, A> {
     /// Nobody lingers. There is room for all.
     pub fn new(alloc: A) -> Result<Lingering<S, A>, AllocError>
@@ -158,6 +171,7 @@ impl<S: ByteStream, A: Allocator + Copy> Lingering<S, A> {
         ensures within { StayAtMost LOOKS_MAX self.new }
         ensures shut { AreShut S.is_shut self.old → IsShut (S.is_shut stream)
             → AreShut S.is_shut self.new }
+        ensures lingers { Lingers S.calls number stream self.old self.new }
     {
         let _within = &self.streams;
         let mut stream = stream;
@@ -183,25 +197,14 @@ impl<S: ByteStream, A: Allocator + Copy> Lingering<S, A> {
         retain_lingering(&mut self.streams);
     }
 
-    /// Whether all that was sent by those who linger is read.
-    fn is_drained(&self) -> bool {
-        for lingering in self.streams.as_slice() {
-            if lingering.readable {
-                return false;
-            }
-        }
-        true
-    }
-
     /// How long a wait lasts at most: while somebody lingers, not for long.
     pub fn patience(&self, patience: Option<Duration>) -> Option<Duration>
-        ensures nobody { self.now ≡ [] → result ≡ patience }
-        ensures bounded { self.now ≢ [] → is_some result ≡ true }
+        ensures { most_of result ≡ lingering_for self.now (most_of patience) }
     {
         if self.streams.is_empty() {
             return patience;
         }
-        Some(Duration::from_millis(if self.is_drained() {
+        Some(Duration::from_millis(if are_drained(self.streams.as_slice()) {
             IDLE_PATIENCE
         } else {
             DRAINING_PATIENCE
@@ -212,7 +215,7 @@ impl<S: ByteStream, A: Allocator + Copy> Lingering<S, A> {
     pub fn looks_of_wait(&self, ready: &[Ready]) -> u64
         ensures { 1 ≤ result }
     {
-        if ready.is_empty() && self.is_drained() {
+        if ready.is_empty() && are_drained(self.streams.as_slice()) {
             IDLE_LOOKS
         } else {
             1
@@ -221,7 +224,8 @@ impl<S: ByteStream, A: Allocator + Copy> Lingering<S, A> {
 
     /// Nobody lingers any more. Whether somebody did.
     pub fn release(&mut self) -> bool
-        ensures { self.new ≡ [] }
+        ensures gone { self.new ≡ [] }
+        ensures had { result ≡ true → self.old ≢ [] }
     {
         let had_some = !self.streams.is_empty();
         self.streams.clear();

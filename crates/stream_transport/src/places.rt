@@ -123,7 +123,7 @@ pub fn mark_ready<S: ByteStream, A: Allocator + Copy>(
     }
 }
 
-/// The first place that is free, or one more where all are taken.
+/// The first place that is free, or one more if all are taken.
 pub fn free_place<S: ByteStream, A: Allocator + Copy>(
     places: &mut Vec<Option<BufferedStream<S, A>>, A>,
 ) -> Result<usize, WireFault>

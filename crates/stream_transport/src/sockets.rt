@@ -9,7 +9,8 @@ ghost use Rattle.stream_transport.specs.Lingering.{Leave};
 ghost use Rattle.byte_logs.specs.Noted.{last_under};
 ghost use Rattle.stream_transport.specs.Reporting.{AreBlank};
 ghost use Rattle.stream_transport.specs.Streams.{HandsOut, HasBack, KeepsElse, Receives, answer_of, fault_by, firsts};
-ghost use Rattle.stream_transport.specs.System.{IsAskedForOne, IsAskedOnce, IsPolled, IsUnused, KeepsShut, named_by, names_of, Poll as Polled, most_of};
+ghost use Rattle.stream_transport.specs.System.{IsAskedAnew, IsAskedForOne, IsAskedOnce, IsAskedToBind, IsPolled, IsUnused, KeepsShut, LingersOnceShut, NameListener, named_by, names_of, outcome_by, Poll as Polled, most_of, visited_for, IsNewPast, Watches};
+ghost use Rattle.stream_transport.specs.declared.tokens.TheConstants.{LISTENER, WATCHED};
 ghost use Rattle.stream_transport.specs.declared.listener.ListenerCall.TheVariants.{Accept, Look, Wait};
 ghost use Rattle.stream_transport.specs.declared.listener.StreamCall.TheVariants.{Receive, Send};
 ghost use Rattle.transport.specs.Asked.{Asks};
@@ -18,17 +19,15 @@ ghost use Rattle.transport.specs.declared.wire.WireFault.TheVariants.{Device};
 
 use crate::lingering::{LINGERING_MAX, Lingering};
 use crate::listener::{ByteStream, Listener, ListenerCall, Ready, StreamCall, StreamFault};
-use crate::system::{Endpoint, MioEndpoint, Socket};
+use crate::system::{Binder, Endpoint, Socket};
+use crate::tokens::{LISTENER, WATCHED};
 use crate::wire::StreamWire;
 use byte_logs::Bytes;
 use http_server::Log;
-use mio::net::UnixListener;
-use mio::{Events, Interest, Poll, Registry, Token};
+use mio::{Events, Poll, Token};
 use std::alloc::Allocator;
-use std::fs::Files;
 use std::io;
 use std::io::ErrorKind;
-use std::net::Net;
 use std::time::Duration;
 use transport::{Wire, WireFault};
 
@@ -37,13 +36,7 @@ use transport::{Wire, WireFault};
 const EVENTS: usize = 1026 + LINGERING_MAX;
 
 /// How many milliseconds a wait lasts at most after the listener that is watched was named.
-const VISIT_PATIENCE: u64 = 500;
-
-/// The token of the listener. Those of streams are their numbers.
-const LISTENER: usize = usize::MAX;
-
-/// The token of a listener that is watched beside it.
-const WATCHED: usize = usize::MAX - 1;
+pub const VISIT_PATIENCE: u64 = 500;
 
 /// Why a call of the system gave nothing.
 fn fault_of(error: io::Error) -> StreamFault
@@ -172,12 +165,27 @@ struct Past {
     failed: Log<u64, ()>,
 }
 
+impl Past {
+    /// It was told nothing.
+    fn new() -> Past
+        ensures { IsNewPast result }
+    {
+        Past {
+            back: Log::new(),
+            shut: Log::new(),
+            failed: Log::new(),
+        }
+    }
+}
+
 /// A socket, and a poll that names its streams. It tells its calls, and of each number what its
 /// stream took that came back, whether it was shut and whether a call failed, by logs that take no
 /// memory.
 #[derive(Drop)]
 pub struct SocketListener<E: Endpoint, A: Allocator> {
     endpoint: E,
+    // Where clients come.
+    listener: E::Listener,
     events: Events<A>,
     // Whom the last poll named, in the room for all.
     ready: Vec<Ready, A>,
@@ -193,12 +201,11 @@ pub struct SocketListener<E: Endpoint, A: Allocator> {
 }
 
 /// A listener over a Unix socket.
-pub type MioListener<A> = SocketListener<MioEndpoint, A>;
+pub type MioListener<A> = SocketListener<Poll, A>;
 
 /// How long a wait lasts at most: for a while where a visitor may not have been answered.
 fn patience_while(is_visited: bool, patience: Option<Duration>) -> Option<Duration>
-    ensures visited { is_visited ≡ true → is_some result ≡ true }
-    ensures otherwise { is_visited ≡ false → result ≡ patience }
+    ensures { most_of result ≡ visited_for is_visited (most_of patience) }
 {
     if is_visited {
         Some(Duration::from_millis(VISIT_PATIENCE))
@@ -207,13 +214,13 @@ fn patience_while(is_visited: bool, patience: Option<Duration>) -> Option<Durati
     }
 }
 
-/// The one that a token names: nobody, where it is that of the listener that is watched.
+/// The one that a token names: nobody, if it is that of the listener that is watched.
 fn name_of(token: Token) -> Option<Ready>
     ensures { result ≡ named_by token }
 {
-    if token.0 == WATCHED {
+    if token.0 as u64 == WATCHED {
         None
-    } else if token.0 == LISTENER {
+    } else if token.0 as u64 == LISTENER {
         Some(Ready::Listener)
     } else {
         Some(Ready::Stream(token.0 as u64))
@@ -322,16 +329,19 @@ impl<E: Endpoint, A: Allocator + Copy> SocketListener<E, A> {
         ensures asked { self.new.asked ≡ self.old.asked }
         ensures past { self.new.past ≡ self.old.past }
         ensures named { self.new.ready.items ≡ self.old.ready.items }
+        ensures lingers { LingersOnceShut ⟦<SocketStream<E::Stream> as ByteStream>⟧.calls E.Stream.ends
+            number stream self.old.lingering self.new.lingering }
     {
         let mut stream = stream;
-        if stream.stream.end_writing().is_ok() {
-            self.lingering.linger(number, stream);
+        match stream.stream.end_writing() {
+            Ok(()) => self.lingering.linger(number, stream),
+            Err(_) => {}
         }
     }
 
     /// Accepts who waits first. Where that fails, those who linger leave, and it is tried once more.
     fn accept_with_room(&mut self, number: u64) -> Result<SocketStream<E::Stream>, StreamFault>
-        ensures calls { IsAskedForOne number
+        ensures calls { IsAskedForOne number self.old.lingering
             (E.calls self.old.endpoint) (E.calls self.new.endpoint) (answer_of result) }
         ensures unused { IfOk result (λ stream. IsUnused (E.Stream.calls stream.stream)) }
         ensures written { IfOk result (λ stream. stream.written.items
@@ -360,7 +370,7 @@ impl<E: Endpoint, A: Allocator + Copy> SocketListener<E, A> {
         ensures lingering { self.new.lingering ≡ self.old.lingering }
         ensures named { self.new.ready.items ≡ self.old.ready.items }
     {
-        let mut stream = match self.endpoint.accept_one() {
+        let mut stream = match self.endpoint.accept_one(&mut self.listener) {
             Ok(stream) => stream,
             Err(error) => return Err(fault_of(error)),
         };
@@ -376,19 +386,62 @@ impl<E: Endpoint, A: Allocator + Copy> SocketListener<E, A> {
     }
 }
 
-impl<A: Allocator + Copy> MioListener<A> {
+impl<E: Endpoint, A: Allocator + Copy> SocketListener<E, A> {
     /// Has a wait end too where somebody comes to this other listener, which names nobody. One listener
-    /// may be watched. The registry is for `watch_again`.
-    pub fn watch(&self, other: &mut UnixListener) -> io::Result<Registry> {
-        let registry = self.endpoint.poll.registry();
-        registry.register(other, Token(WATCHED), Interest::READABLE)?;
-        registry.try_clone()
+    /// may be watched.
+    pub fn watch(&mut self, other: &mut E::Listener) -> io::Result<E::Watcher>
+        ensures calls { Watches WATCHED
+            (E.calls self.old.endpoint) (E.calls self.new.endpoint) (outcome_by result) }
+        ensures told { ⟦<Self as Listener>⟧.told self.new ≡ ⟦<Self as Listener>⟧.told self.old }
+        ensures asked { ⟦<Self as Listener>⟧.asked self.new ≡ ⟦<Self as Listener>⟧.asked self.old }
+        ensures lingering { self.new.lingering ≡ self.old.lingering }
+    {
+        match self.endpoint.name_listener(other, WATCHED) {
+            Ok(()) => self.endpoint.watcher(),
+            Err(error) => Err(error),
+        }
     }
-}
 
-/// Has the next wait end at once where somebody waits at the listener that is watched.
-pub fn watch_again(registry: &Registry, other: &mut UnixListener) -> io::Result<()> {
-    registry.reregister(other, Token(WATCHED), Interest::READABLE)
+    /// A listener whose clients come to a socket at the path. All memory is taken before the socket is
+    /// made. The path is not empty.
+    fn bind<B: Binder<E>>(
+        binder: &mut B,
+        alloc: A,
+        path: &str,
+    ) -> Result<SocketListener<E, A>, WireFault>
+        ensures made { IsAskedToBind path.now (B.calls binder.old) (B.calls binder.new) result }
+        ensures named { IfOk result (λ listener. IsAskedAnew E.calls listener.endpoint
+            (NameListener LISTENER (Ok tt) ∷ [])) }
+        ensures nobody { IfOk result (λ listener. (listener.lingering ≡ []) × (listener.ready.items ≡ [])) }
+        ensures asked { IfOk result (λ listener. listener.asked.items ≡ []) }
+        ensures past { IfOk result (λ listener. IsNewPast listener.past) }
+    {
+        let events = Events::with_capacity(alloc, EVENTS)?;
+        let ready = Vec::with_capacity(alloc, EVENTS)?;
+        let lingering = Lingering::new(alloc)?;
+        let mut endpoint = match binder.open() {
+            Ok(endpoint) => endpoint,
+            Err(_) => return Err(WireFault::Device),
+        };
+        let mut listener = match binder.listen(path) {
+            Ok(listener) => listener,
+            Err(_) => return Err(WireFault::Device),
+        };
+        match endpoint.name_listener(&mut listener, LISTENER) {
+            Ok(()) => Ok(SocketListener {
+                endpoint,
+                listener,
+                events,
+                ready,
+                asked: Log::new(),
+                lingering,
+                visits: 0,
+                is_visited: false,
+                past: Past::new(),
+            }),
+            Err(_) => Err(WireFault::Device),
+        }
+    }
 }
 
 impl<E: Endpoint, A: Allocator + Copy> Listener for SocketListener<E, A> {
@@ -414,7 +467,7 @@ impl<E: Endpoint, A: Allocator + Copy> Listener for SocketListener<E, A> {
         ensures asked { Asks (⟦<Self as Listener>⟧.asked self.old) (⟦<Self as Listener>⟧.asked self.new)
             (Accept (answer_of result) ∷ []) }
         ensures named { ⟦<Self as Listener>⟧.named self.new ≡ ⟦<Self as Listener>⟧.named self.old }
-        ensures calls { IsAskedForOne number
+        ensures calls { IsAskedForOne number self.old.lingering
             (E.calls self.old.endpoint) (E.calls self.new.endpoint) (answer_of result) }
         ensures unused { IfOk result (λ stream. IsUnused (E.Stream.calls stream.stream)) }
         ensures shut { KeepsShut ⟦<SocketStream<E::Stream> as ByteStream>⟧.is_shut
@@ -482,6 +535,8 @@ impl<E: Endpoint, A: Allocator + Copy> Listener for SocketListener<E, A> {
         ensures calls { E.calls self.new.endpoint ≡ E.calls self.old.endpoint }
         ensures shut { KeepsShut ⟦<SocketStream<E::Stream> as ByteStream>⟧.is_shut
             self.old.lingering self.new.lingering }
+        ensures lingers { LingersOnceShut ⟦<SocketStream<E::Stream> as ByteStream>⟧.calls E.Stream.ends
+            number stream self.old.lingering self.new.lingering }
     {
         self.past.back = self.past.back.and(&number, &stream.written);
         self.linger(number, stream);
@@ -491,47 +546,27 @@ impl<E: Endpoint, A: Allocator + Copy> Listener for SocketListener<E, A> {
 /// The connections of a Unix socket.
 pub type MioWire<A> = StreamWire<MioListener<A>, A>;
 
-impl<A: Allocator + Copy> StreamWire<MioListener<A>, A> {
+impl<E: Endpoint, A: Allocator + Copy> StreamWire<SocketListener<E, A>, A> {
     /// Makes a socket at the path, and listens. `Device` where the system refuses it, as for a path that
     /// exists, and where the path is empty; no wire counts it, as there is none yet.
-    pub fn bind<R: Files + Net>(rt: &R, alloc: A, path: &str) -> Result<MioWire<A>, WireFault>
+    pub fn bind<B: Binder<E>>(
+        binder: &mut B,
+        alloc: A,
+        path: &str,
+    ) -> Result<StreamWire<SocketListener<E, A>, A>, WireFault>
         ensures unnamed { path.now ≡ [] → result ≡ Err Device }
         ensures unused { IfOk result (λ wire. (wire.next ≡ 0) × (wire.failed ≡ 0)) }
         ensures blank { IfOk result (λ wire. AreBlank (⟦<Self as Wire>⟧.report wire)) }
+        ensures made { IsAskedToBind path.now (B.calls binder.old) (B.calls binder.new) result }
+        ensures named { IfOk result (λ wire. IsAskedAnew E.calls wire.listener.endpoint
+            (NameListener LISTENER (Ok tt) ∷ [])) }
     {
         if path.is_empty() {
             return Err(WireFault::Device);
         }
-        let events = Events::with_capacity(alloc, EVENTS)?;
-        let ready = Vec::with_capacity(alloc, EVENTS)?;
-        let lingering = Lingering::new(alloc)?;
-        let Ok(poll) = Poll::new(rt) else {
-            return Err(WireFault::Device);
-        };
-        let Ok(mut listener) = UnixListener::bind(rt, path) else {
-            return Err(WireFault::Device);
-        };
-        let registry = poll.registry();
-        if registry
-            .register(&mut listener, Token(LISTENER), Interest::READABLE)
-            .is_err()
-        {
-            return Err(WireFault::Device);
+        match SocketListener::bind(binder, alloc, path) {
+            Ok(listener) => Ok(StreamWire::new(alloc, listener)),
+            Err(fault) => Err(fault),
         }
-        let listener = SocketListener {
-            endpoint: MioEndpoint { listener, poll },
-            events,
-            ready,
-            asked: Log::new(),
-            lingering,
-            visits: 0,
-            is_visited: false,
-            past: Past {
-                back: Log::new(),
-                shut: Log::new(),
-                failed: Log::new(),
-            },
-        };
-        Ok(StreamWire::new(alloc, listener))
     }
 }

@@ -1,11 +1,13 @@
 //! A wire over a listener.
 
-ghost use Rattle.std.specs.Prelude.{◌≡◌, ◌≢◌, ◌≤◌, ◌-◌, ◌^◌, ◌&&◌, not, true, ℕ, [], ◌++◌, length, IfOk, Err, None, Ok, OnOk};
+ghost use Rattle.std.specs.Prelude.{◌≡◌, ◌≢◌, ◌≤◌, ◌-◌, ◌^◌, ◌&&◌, not, true, ℕ, [], ◌∷◌, ◌++◌, length, IfOk, Err, None, Ok, OnOk, Some};
 ghost use Rattle.usi_lines.specs.OneLine.{IsOneLine};
+ghost use Rattle.transport.specs.Asked.{Accept, Asks, Read, Shut, Wait, Write};
 ghost use Rattle.transport.specs.Report.{GivesNumber, HasCause, HasRisen, IsWithin, KeepsAll, bytes_read, bytes_written};
 ghost use Rattle.transport.specs.declared.wire.WireFault.TheVariants.{Device};
 ghost use Rattle.stream_transport.specs.Asking.{AnswersAs, AreAwakeStill, AsksByAccept, AsksByRead, AsksByWait, AsksNext, AsksToTake, GivesKept, HoldsAccepted, NotesByRead, NotesByWrite, OfNumber, StaysOpen, WakesByAccept, WakesByWait, is_made, nothing_asked};
 ghost use Rattle.stream_transport.specs.Held.{HasPassed, HoldsOthers, TakesFirst, counted, given_under, held, kept_of, none_given};
+ghost use Rattle.stream_transport.specs.Noted.{call_of, calls_of};
 ghost use Rattle.stream_transport.specs.Reporting.{CountsRead, CountsWrite, KeepsReport, given_last, ReportsRead, ReportsShut, ReportsWrite, no_traffic};
 ghost use Rattle.stream_transport.specs.Streams.{Notes};
 ghost use Rattle.stream_transport.specs.declared.connection.TheConstants.{PLACES};
@@ -29,8 +31,33 @@ pub struct Traffic {
     pub sent: u64,
 }
 
-/// The connections of a listener. It reports what its reads gave, and what the streams tell of their bytes.
-/// Only `wait` waits.
+/// A call of a wire, without the bytes of a write.
+#[derive(Clone, Copy)]
+pub enum WireCall {
+    /// The next one who waits was asked for.
+    Accept(Result<Option<u64>, WireFault>),
+    /// A connection was to be read, of so many bytes at most.
+    Read(u64, usize),
+    /// A connection was to be written to.
+    Write(u64),
+    /// A connection was to be shut.
+    Shut(u64),
+    /// It was asked to wait, until something may be ready if it is true.
+    Wait(bool, Result<(), WireFault>),
+}
+
+/// Notes a call, with the bytes of a write, for clauses alone.
+fn note_call(log: &mut Log<WireCall, Bytes>, call: WireCall, buf: &[u8])
+    ensures { Asks (Some (calls_of log.old.items)) (Some (calls_of log.new.items))
+        (call_of call buf.now ∷ []) }
+{
+    let mut bytes = Bytes::new();
+    bytes.note(buf);
+    *log = log.and(&call, &bytes);
+}
+
+/// The connections of a listener. It reports what its reads gave, and what the streams tell of their bytes;
+/// and its calls. Only `wait` waits.
 ///
 /// A read gives one line at most, so that a turn answers one line of each connection. What else came
 /// with it is kept, and given by the next reads before the stream is asked again. Room for it is there
@@ -57,6 +84,8 @@ pub struct StreamWire<L: Listener, A: Allocator> {
     pub traffic: Traffic,
     // What each read gave, by its number. It takes no memory.
     given: Log<u64, Bytes>,
+    // The calls that it was asked for. It takes no memory.
+    asked: Log<WireCall, Bytes>,
 }
 
 /// The bytes that a read gave, by what is lent after it.
@@ -145,6 +174,8 @@ impl<L: Listener, A: Allocator + Copy> StreamWire<L, A> {
         ensures bound { ⟦<Self as Wire>⟧.bound result ≡ 0 }
         ensures failed { ⟦<Self as Wire>⟧.failed result ≡ 0 }
         ensures traffic { result.traffic ≡ no_traffic }
+        ensures listener { result.listener ≡ listener }
+        ensures asked { ⟦<Self as Wire>⟧.asked result ≡ Some [] }
         ensures readiness { result.readiness ≡ nothing_asked }
         ensures report { KeepsAll (none_given (L.told listener)) (⟦<Self as Wire>⟧.report result) }
     {
@@ -166,6 +197,7 @@ impl<L: Listener, A: Allocator + Copy> StreamWire<L, A> {
                 sent: 0,
             },
             given: Log::new(),
+            asked: Log::new(),
         }
     }
 
@@ -182,6 +214,7 @@ impl<L: Listener, A: Allocator + Copy> StreamWire<L, A> {
         ensures readiness { self.new.readiness ≡ self.old.readiness }
         ensures traffic { self.new.traffic ≡ self.old.traffic }
         ensures unchanged { KeepsReport ⟦<Self as Wire>⟧ self.old self.new }
+        ensures calls { self.new.asked ≡ self.old.asked }
     {
         let place = free_place(&mut self.places)?;
         if place >= PLACES as usize {
@@ -203,13 +236,88 @@ impl<L: Listener, A: Allocator + Copy> StreamWire<L, A> {
             },
         }
     }
+
+    /// Looks, and accepts who waits first if somebody may.
+    fn accept_now(&mut self) -> Result<Option<u64>, WireFault>
+        ensures number { GivesNumber self.old.next self.new.next result }
+        ensures unchanged { KeepsReport ⟦<Self as Wire>⟧ self.old self.new }
+        ensures cause { HasCause self.old.failed self.new.failed result }
+        ensures asks { AsksByAccept L.named L.asked self.old self.new result }
+        ensures opens { StaysOpen result
+            self.old.readiness.may_accept self.new.readiness.may_accept }
+        ensures awake { WakesByAccept L.named self.old self.new }
+        ensures still { AreAwakeStill self.old.places.items self.new.places.items }
+        ensures holds { HoldsAccepted result self.old.places.items self.new.places.items }
+        ensures first { TakesFirst result self.new.places.items }
+        ensures more { self.new.readiness.has_buffered ≡ self.old.readiness.has_buffered }
+        ensures sure { OnOk result
+            (self.new.readiness.needs_timeout ≡ self.old.readiness.needs_timeout) }
+        ensures traffic { self.new.traffic ≡ self.old.traffic }
+        ensures calls { self.new.asked ≡ self.old.asked }
+    {
+        if self.next > u64::MAX - PLACES {
+            return Err(fault(&mut self.failed));
+        }
+        let looked = self.listener.look();
+        mark_all_ready(
+            &self.listener,
+            &mut self.readiness.may_accept,
+            &mut self.places,
+        );
+        answer_as(&mut self.failed, looked)?;
+        if !self.readiness.may_accept {
+            return Ok(None);
+        }
+        let accepted = self.accept_next();
+        self.readiness.note_accept(&accepted);
+        accepted
+    }
+
+    /// Waits if it is to wait and no read has left something.
+    fn wait_now(&mut self, idle: bool) -> Result<(), WireFault>
+        ensures bound { self.new.next ≡ self.old.next }
+        ensures unchanged { KeepsReport ⟦<Self as Wire>⟧ self.old self.new }
+        ensures cause { HasCause self.old.failed self.new.failed result }
+        ensures asks { AsksByWait L.asked idle self.old self.new result }
+        ensures awake { WakesByWait L.named idle self.old self.new }
+        ensures still { AreAwakeStill self.old.places.items self.new.places.items }
+        ensures opens { self.old.readiness.may_accept ≡ true
+            → self.new.readiness.may_accept ≡ true }
+        ensures more { self.new.readiness.has_buffered
+            ≡ (self.old.readiness.has_buffered && not idle) }
+        ensures unsure { self.new.readiness.needs_timeout ≡ (self.old.readiness.needs_timeout
+            && not (is_made idle self.old.readiness.has_buffered)) }
+        ensures traffic { self.new.traffic ≡ self.old.traffic }
+        ensures calls { self.new.asked ≡ self.old.asked }
+    {
+        if !idle {
+            return Ok(());
+        }
+        if self.readiness.has_buffered {
+            self.readiness.has_buffered = false;
+            return Ok(());
+        }
+        let patience = patience_for(self.readiness.needs_timeout);
+        self.readiness.needs_timeout = false;
+        let looked = self.listener.wait(patience);
+        mark_all_ready(
+            &self.listener,
+            &mut self.readiness.may_accept,
+            &mut self.places,
+        );
+        answer_as(&mut self.failed, looked)
+    }
 }
 
 impl<L: Listener, A: Allocator + Copy> Wire for StreamWire<L, A> {
+    ghost use Rattle.std.specs.Prelude.{Some};
     ghost use Rattle.stream_transport.specs.Held.{given_under, held, lent_under, reported};
+    ghost use Rattle.stream_transport.specs.Noted.{calls_of};
 
     ghost report = { λ wire. reported L.Stream.unread L.Stream.written
         (given_under wire.given.items) (L.told wire.listener) wire.places.items };
+
+    ghost asked = { λ wire. Some (calls_of wire.asked.items) };
 
     ghost bound = { λ wire. wire.next };
 
@@ -232,22 +340,11 @@ impl<L: Listener, A: Allocator + Copy> Wire for StreamWire<L, A> {
         ensures sure { OnOk result
             (self.new.readiness.needs_timeout ≡ self.old.readiness.needs_timeout) }
         ensures traffic { self.new.traffic ≡ self.old.traffic }
+        ensures asked { Asks (⟦<Self as Wire>⟧.asked self.old) (⟦<Self as Wire>⟧.asked self.new)
+            (Accept result ∷ []) }
     {
-        if self.next > u64::MAX - PLACES {
-            return Err(fault(&mut self.failed));
-        }
-        let looked = self.listener.look();
-        mark_all_ready(
-            &self.listener,
-            &mut self.readiness.may_accept,
-            &mut self.places,
-        );
-        answer_as(&mut self.failed, looked)?;
-        if !self.readiness.may_accept {
-            return Ok(None);
-        }
-        let accepted = self.accept_next();
-        self.readiness.note_accept(&accepted);
+        let accepted = self.accept_now();
+        note_call(&mut self.asked, WireCall::Accept(accepted), &[]);
         accepted
     }
 
@@ -268,7 +365,10 @@ impl<L: Listener, A: Allocator + Copy> Wire for StreamWire<L, A> {
         ensures readiness { NotesByRead number result self.old self.new }
         ensures traffic { CountsRead self.old self.new
             (given_last ⟦<Self as Wire>⟧ self.new result) }
+        ensures asked { Asks (⟦<Self as Wire>⟧.asked self.old) (⟦<Self as Wire>⟧.asked self.new)
+            (Read number most ∷ []) }
     {
+        note_call(&mut self.asked, WireCall::Read(number, most), &[]);
         let received = self.traffic.received;
         if is_quiet(self.places.as_slice(), number) {
             return Ok(Got::Nothing);
@@ -306,7 +406,10 @@ impl<L: Listener, A: Allocator + Copy> Wire for StreamWire<L, A> {
         ensures others { HoldsOthers self.old.places.items self.new.places.items number }
         ensures readiness { NotesByWrite number result self.old self.new }
         ensures traffic { CountsWrite self.old self.new result buf.now }
+        ensures asked { Asks (⟦<Self as Wire>⟧.asked self.old) (⟦<Self as Wire>⟧.asked self.new)
+            (Write number buf.now ∷ []) }
     {
+        note_call(&mut self.asked, WireCall::Write(number), buf);
         let sent = self.traffic.sent;
         let Some(mut writer) = remove(&mut self.places, number) else {
             let absent = Err(WireFault::Device);
@@ -330,7 +433,10 @@ impl<L: Listener, A: Allocator + Copy> Wire for StreamWire<L, A> {
         ensures asks { L.asked self.new.listener ≡ L.asked self.old.listener }
         ensures readiness { self.new.readiness ≡ self.old.readiness }
         ensures traffic { self.new.traffic ≡ self.old.traffic }
+        ensures asked { Asks (⟦<Self as Wire>⟧.asked self.old) (⟦<Self as Wire>⟧.asked self.new)
+            (Shut number ∷ []) }
     {
+        note_call(&mut self.asked, WireCall::Shut(number), &[]);
         self.listener.shut(number);
         if let Some(connection) = remove(&mut self.places, number) {
             let BufferedStream { stream, buffer, .. } = connection;
@@ -352,23 +458,12 @@ impl<L: Listener, A: Allocator + Copy> Wire for StreamWire<L, A> {
         ensures unsure { self.new.readiness.needs_timeout ≡ (self.old.readiness.needs_timeout
             && not (is_made idle self.old.readiness.has_buffered)) }
         ensures traffic { self.new.traffic ≡ self.old.traffic }
+        ensures asked { Asks (⟦<Self as Wire>⟧.asked self.old) (⟦<Self as Wire>⟧.asked self.new)
+            (Wait idle result ∷ []) }
     {
-        if !idle {
-            return Ok(());
-        }
-        if self.readiness.has_buffered {
-            self.readiness.has_buffered = false;
-            return Ok(());
-        }
-        let patience = patience_for(self.readiness.needs_timeout);
-        self.readiness.needs_timeout = false;
-        let looked = self.listener.wait(patience);
-        mark_all_ready(
-            &self.listener,
-            &mut self.readiness.may_accept,
-            &mut self.places,
-        );
-        answer_as(&mut self.failed, looked)
+        let waited = self.wait_now(idle);
+        note_call(&mut self.asked, WireCall::Wait(idle, waited), &[]);
+        waited
     }
 
     fn faults(&self) -> u64 {

@@ -9,7 +9,7 @@ use std::alloc::Allocator;
 use std::fs::Files;
 use std::hash::BuildHasher;
 use std::net::Net;
-use stream_transport::MioWire;
+use stream_transport::{MioBinder, MioWire};
 use transport::WireFault;
 
 /// Makes a socket at the path, and serves those who connect for so many turns.
@@ -22,7 +22,7 @@ pub fn serve_at<R: Files + Net, S: BuildHasher, A: Allocator + Copy>(
 ) -> Result<(), WireFault>
     ensures unnamed { path.now ≡ [] → result ≡ Err Device }
 {
-    let mut wire = MioWire::bind(rt, alloc, path)?;
+    let mut wire = MioWire::bind(&mut MioBinder::new(rt), alloc, path)?;
     let mut connections = Loop::new(alloc, 1000)?;
     serve(host, &mut connections, &mut wire, &mut NoMonitor, turns)
 }

@@ -11,7 +11,7 @@ use std::os::unix::net::UnixStream;
 use std::path::{Path, PathBuf};
 use std::test::Fail;
 use std::{env, fs, process};
-use stream_transport::MioWire;
+use stream_transport::{MioBinder, MioWire};
 use test_support::{FailingAllocator, holds};
 use transport::{Wire, WireFault};
 
@@ -137,7 +137,7 @@ fn serve_all(scene: &mut Scene<'_>, clients: &mut [Client]) -> Result<usize, Fai
 fn refused_at(rt: &HostRuntime, n: u64) -> Result<(bool, usize), Fail> {
     let memory = FailingAllocator::new(rt.alloc());
     let path = path_of(rt, n)?;
-    let wire = MioWire::bind(rt, &memory, path.as_path().as_str())?;
+    let wire = MioWire::bind(&mut MioBinder::new(rt), &memory, path.as_path().as_str())?;
     let mut clients = Vec::new(rt.alloc());
     for _ in 0..CLIENTS {
         let client = Client::new(rt, path.as_path())?;

@@ -12,5 +12,7 @@ mod tests;
 
 pub use listener::MemoryListener;
 pub use memory::MemoryWire;
-pub use socket::{EndpointCall, MemoryEndpoint, MemorySocket};
+pub use socket::{
+    BinderStep, EndpointCall, MemoryBinder, MemoryDoor, MemoryEndpoint, MemorySocket,
+};
 pub use stream::{MemoryStream, Plan};

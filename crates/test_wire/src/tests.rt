@@ -1,11 +1,11 @@
 //! A wire over a listener in memory, each call of which fails in turn.
 
-use crate::{MemoryEndpoint, MemoryListener, MemoryStream, Plan};
+use crate::{MemoryBinder, MemoryDoor, MemoryEndpoint, MemoryListener, MemoryStream, Plan};
 use mio::Events;
 use std::alloc::Global;
 use std::test::Fail;
-use stream_transport::{Endpoint, Socket, StreamFault, StreamWire};
-use transport::{Got, Wire};
+use stream_transport::{Endpoint, Socket, SocketListener, StreamFault, StreamWire, Watcher};
+use transport::{Got, Wire, WireFault};
 
 const LINES: &[u8] = b"usi\nisready\n\nquit\nrest";
 
@@ -127,26 +127,76 @@ fn a_listener_that_failed_takes_nobody(rt: HostRuntime) -> Result<(), Fail> {
     Ok(())
 }
 
+type SocketWire = StreamWire<SocketListener<MemoryEndpoint<Global>, Global>, Global>;
+
+// Two clients, of which the first one sends a line and the start of another one.
+fn door(alloc: Global) -> Result<MemoryDoor<Global>, Fail> {
+    let mut waiting = Vec::new(alloc);
+    for sent in [b"isready\n".as_slice(), b"usi\nqu".as_slice()] {
+        waiting.push(Vec::from_slice(alloc, sent)?)?;
+    }
+    Ok(MemoryDoor::new(alloc, waiting))
+}
+
 #[test]
 fn an_endpoint_hands_its_clients_out(rt: HostRuntime) -> Result<(), Fail> {
-    let mut line = Vec::new(rt.alloc());
-    line.extend_from_slice(b"usi\n")?;
-    let mut waiting = Vec::new(rt.alloc());
-    waiting.push(line)?;
-    let mut endpoint = MemoryEndpoint::new(rt.alloc(), waiting);
+    let mut door = door(rt.alloc())?;
+    let mut endpoint = MemoryEndpoint::new();
     let mut events = Events::with_capacity(rt.alloc(), 4)?;
     assert!(rt; endpoint.poll_once(&mut events, None).is_ok());
     assert!(rt; events.is_empty());
-    let Ok(mut socket) = endpoint.accept_one() else {
+    let Ok(mut socket) = endpoint.accept_one(&mut door) else {
         return Err(Fail::from("nobody waits"));
     };
     assert!(rt; endpoint.name(&mut socket, 7).is_ok());
-    assert!(rt; endpoint.accept_one().is_err());
+    assert!(rt;
+        endpoint.watcher().is_ok_and(|watcher| {
+            let mut watcher = watcher;
+            watcher.accept_visitor(&mut door).is_ok() & watcher.watch_again(&mut door).is_ok()
+        })
+    );
+    assert!(rt; endpoint.accept_one(&mut door).is_err());
     let mut buf = [0u8; 8];
-    assert!(rt; matches!(socket.read_some(&mut buf), Ok(4)));
+    assert!(rt; matches!(socket.read_some(&mut buf), Ok(6)));
     assert!(rt; matches!(socket.write_some(b"id name"), Ok(3)));
     assert!(rt; socket.end_writing().is_ok());
     assert!(rt; socket.is_shut);
     assert_eq!(rt; socket.stream.written.as_slice(), b"id ".as_slice());
+    Ok(())
+}
+
+// The listener of a socket, run in memory: a line of each client is read, what it sent behind its line is kept, and
+// a shut connection is not read again.
+#[test]
+fn a_listener_of_sockets_is_run_in_memory(rt: HostRuntime) -> Result<(), Fail> {
+    let mut binder = MemoryBinder::new(door(rt.alloc())?);
+    assert!(rt;
+        matches!(
+            SocketWire::bind(&mut binder, rt.alloc(), ""),
+            Err(WireFault::Device)
+        )
+    );
+    let mut wire = SocketWire::bind(&mut binder, rt.alloc(), "socket")?;
+    assert!(rt;
+        matches!(
+            SocketWire::bind(&mut binder, rt.alloc(), "socket"),
+            Err(WireFault::Device)
+        )
+    );
+    assert_eq!(rt; wire.accept(), Ok(Some(0)));
+    assert_eq!(rt; wire.accept(), Ok(Some(1)));
+    assert_eq!(rt; wire.accept(), Ok(None));
+    assert_eq!(rt; wire.read(0, 4096), Ok(Got::Bytes));
+    assert_eq!(rt; wire.bytes(), b"usi\n".as_slice());
+    assert_eq!(rt; wire.read(1, 4096), Ok(Got::Bytes));
+    assert_eq!(rt; wire.bytes(), b"isready\n".as_slice());
+    assert_eq!(rt; wire.write(1, b"readyok\n"), Ok(3));
+    assert_eq!(rt; wire.read(0, 4096), Ok(Got::Bytes));
+    assert_eq!(rt; wire.bytes(), b"qu".as_slice());
+    assert_eq!(rt; wire.read(0, 4096), Ok(Got::Ended));
+    wire.shut(0);
+    assert_eq!(rt; wire.read(0, 4096), Err(WireFault::Device));
+    assert_eq!(rt; wire.wait(true), Ok(()));
+    assert_eq!(rt; wire.faults(), 1);
     Ok(())
 }

@@ -6,68 +6,23 @@ ghost use Rattle.usi_arguments.specs.Answers.{HasHostRanges};
 ghost use Rattle.usi_arguments.specs.Setup.{IsInReach};
 
 mod setup;
+mod sockets;
 
 use crate::setup::{host_of, run_script, run_session};
+use crate::sockets::opened;
 use host_core::Host;
-use socket_loop::{Limits, Loop, Process, StatusSocket, serve};
+use socket_loop::{Limits, Loop, serve};
 use std::alloc::Global;
 use std::hash::RandomState;
+use std::io;
 use std::io::IsTerminal;
 use std::process::ExitCode;
-use std::time::{SystemTime, UNIX_EPOCH};
-use std::{fs, io, process};
-use stream_transport::MioWire;
-use transport::WireFault;
-use usi_app::{
-    DONE, ServeFault, complain, counting, listing, print_out, socket_fault, status_fault,
-    warn_of_files,
-};
+use usi_app::{DONE, ServeFault, complain, counting, listing, print_out, warn_of_files};
 use usi_arguments::{HostOptions, Job, asked, complaint, status, version_text};
 use usi_stdio::Duplex;
 
-/// A socket at the path, and who listens there.
-fn bound(rt: &HostRuntime, socket: &str) -> Result<MioWire<Global>, ServeFault> {
-    match MioWire::bind(rt, rt.alloc(), socket) {
-        Ok(wire) => Ok(wire),
-        Err(WireFault::Device) => Err(socket_fault(rt, socket)),
-        Err(WireFault::OutOfMemory) => Err(ServeFault::OutOfMemory),
-    }
-}
-
-/// The seconds since 1970 began (UTC), or 0 where no clock tells them.
-fn seconds_now(rt: &HostRuntime) -> u64 {
-    let Ok(now) = SystemTime::now(rt) else {
-        return 0;
-    };
-    match now.duration_since(UNIX_EPOCH) {
-        Ok(passed) => passed.as_secs(),
-        Err(_) => 0,
-    }
-}
-
-/// A socket for the status at the path, where there is one, watched by the wire of another socket.
-fn watched(
-    rt: &HostRuntime,
-    status: &Option<String>,
-    limits: Limits,
-    wire: &MioWire<Global>,
-) -> Result<Option<StatusSocket<Global>>, ServeFault> {
-    let Some(path) = status else {
-        return Ok(None);
-    };
-    let process = Process {
-        pid: process::id(rt.process()),
-        started: seconds_now(rt),
-    };
-    match StatusSocket::bind(rt, rt.alloc(), path.as_str(), process, limits, wire) {
-        Ok(bound) => Ok(Some(bound)),
-        Err(WireFault::Device) => Err(status_fault(rt, path.as_str())),
-        Err(WireFault::OutOfMemory) => Err(ServeFault::OutOfMemory),
-    }
-}
-
-/// Serves a host on a Unix socket at this path, for so many turns, and where there is another path its
-/// status on one there. Where that one cannot be made, the file of the first is removed again.
+/// Serves a host on a Unix socket at this path, for so many turns, and if there is another path its
+/// status on one there.
 fn serve_host(
     rt: &HostRuntime,
     host: &mut Host<RandomState, Global>,
@@ -81,14 +36,7 @@ fn serve_host(
     let Ok(mut connections) = Loop::new(rt.alloc(), limits.slice) else {
         return Err(ServeFault::OutOfMemory);
     };
-    let mut wire = bound(rt, socket)?;
-    let mut watch = match watched(rt, status, limits, &wire) {
-        Ok(watch) => watch,
-        Err(fault) => {
-            let _removed = fs::remove_file(rt, socket);
-            return Err(fault);
-        }
-    };
+    let (mut wire, mut watch) = opened(rt, socket, status, limits)?;
     match serve(host, &mut connections, &mut wire, &mut watch, turns) {
         Ok(()) => Ok(()),
         Err(fault) => Err(fault.into()),

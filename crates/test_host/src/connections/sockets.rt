@@ -2,7 +2,7 @@
 //! and bytes in the stream.
 
 use std::alloc::Global;
-use std::io::Write;
+use std::io::{Read as StreamRead, Write};
 use std::marker::Model;
 use std::net::Shutdown;
 use std::os::unix::net::UnixStream;
@@ -10,7 +10,7 @@ use std::path::PathBuf;
 use std::process::Abort;
 use std::test::Fail;
 use std::{env, fs, process};
-use stream_transport::MioWire;
+use stream_transport::{MioBinder, MioWire};
 use test_support::{holds, same};
 use transport::{Got, Wire, WireFault};
 
@@ -87,7 +87,7 @@ fn path_of(rt: &HostRuntime, name: &str) -> Result<PathBuf, Fail> {
 fn with_a_client(rt: &HostRuntime, name: &str) -> Result<(TestWire, UnixStream), Fail> {
     let path = path_of(rt, name)?;
     let mut wire = TestWire {
-        wire: MioWire::bind(rt, rt.alloc(), path.as_path().as_str())?,
+        wire: MioWire::bind(&mut MioBinder::new(rt), rt.alloc(), path.as_path().as_str())?,
     };
     if wire.accept()?.is_some() {
         return Err("nobody waits".into());
@@ -161,5 +161,38 @@ fn a_read_gives_one_line(rt: HostRuntime) -> Result<(), Fail> {
     client.shutdown(Shutdown::Write)?;
     same!(rt; wire.accept(), Ok(None));
     assert_lines(&rt, &mut wire);
+    Ok(())
+}
+
+// What the client has taken, of so many bytes.
+fn taken_by(client: &mut UnixStream, bytes: usize) -> Result<usize, Fail> {
+    let mut room = [0u8; 4096];
+    let mut taken = 0usize;
+    for _ in 0..1000 {
+        if taken >= bytes {
+            break;
+        }
+        taken = taken.saturating_add(client.read(&mut room)?);
+    }
+    Ok(taken)
+}
+
+// Who has sent nothing, and who takes nothing, sleeps: no call of it fails, and a look wakes it.
+#[test]
+fn a_connection_that_sleeps_is_not_failed(rt: HostRuntime) -> Result<(), Fail> {
+    let (mut wire, mut client) = with_a_client(&rt, "sleeping")?;
+    same!(rt; wire.accept(), Ok(Some(0)));
+    let sent = wire.fill(0)?;
+    for _ in 0..3 {
+        same!(rt; wire.read(0), Ok(Got::Nothing));
+        same!(rt; wire.write(0, b"x"), Ok(0));
+    }
+    same!(rt; wire.faults(), 0);
+    client.write_all(b"usi\n")?;
+    same!(rt; taken_by(&mut client, sent)?, sent);
+    same!(rt; wire.accept(), Ok(None));
+    holds!(rt; wire.gives(0, 4, b"usi\n"));
+    same!(rt; wire.write(0, b"x"), Ok(1));
+    same!(rt; wire.faults(), 0);
     Ok(())
 }

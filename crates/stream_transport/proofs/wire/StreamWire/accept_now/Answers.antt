@@ -5,7 +5,7 @@ use Rattle.stream_transport.proofs.Asked.{asked_look, asked_next, asked_nobody, 
 use Rattle.stream_transport.proofs.Outcomes.{cause_of_ok, cause_then, more_noted, stays_open, sure_noted, unsure_noted}
 use Rattle.stream_transport.proofs.Reports.{alike_keeps}
 use Rattle.stream_transport.proofs.Waking.{accepted_alike, awake_named, same_alike, still_same, still_then}
-use Rattle.stream_transport.proofs.wire.StreamWireWire.accept.Goals as goal
+use Rattle.stream_transport.proofs.wire.StreamWire.accept_now.Goals as goal
 
 -- a look leaves all that is reported, and so does what is accepted
 pub returns-clause-unchanged : goal.returns-clause-unchanged

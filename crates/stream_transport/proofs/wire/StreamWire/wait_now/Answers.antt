@@ -5,7 +5,7 @@ use Rattle.stream_transport.proofs.Asked.{made_no_more, made_not, made_once, mor
 use Rattle.stream_transport.proofs.Outcomes.{cause_of_ok, not_below}
 use Rattle.stream_transport.proofs.Reports.{alike_keeps}
 use Rattle.stream_transport.proofs.Waking.{still_same}
-use Rattle.stream_transport.proofs.wire.StreamWireWire.wait.Goals as goal
+use Rattle.stream_transport.proofs.wire.StreamWire.wait_now.Goals as goal
 
 pub returns-then-not-idle-clause-unchanged : goal.returns-then-not-idle-clause-unchanged
 returns-then-not-idle-clause-unchanged g c = λ n. kept_same _ n
