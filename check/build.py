@@ -39,6 +39,7 @@ USUAL = {
     "shogi_eval": 44,
     "minimax": 13,
     "static_exchange": 38,
+    "mate_search": 75,
     "dull_moves": 79,
     "search_nodes": 150,
     "last_ply": 112,
