@@ -47,7 +47,7 @@ USUAL = {
     "shared_table": 49,
     "usi_lines": 56,
     "usi_texts": 63,
-    "usi_moves": 51,
+    "usi_moves": 100,
     "usi_session": 156,
     "transport": 14,
     "byte_logs": 12,

@@ -1,2 +1,4 @@
 pub mod Appending
 pub mod Left
+pub mod SolutionLaws
+mod AnswerLaws

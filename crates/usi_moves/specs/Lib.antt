@@ -1,2 +1,4 @@
 pub mod Listings
 pub mod Asked
+pub mod Solutions
+pub mod MateAnswers

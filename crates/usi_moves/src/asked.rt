@@ -49,7 +49,10 @@ fn write_illegal<A: Allocator>(out: &mut Vec<u8, A>, number: usize) -> Result<()
 }
 
 /// Appends a refusal in words.
-fn write_words<A: Allocator>(out: &mut Vec<u8, A>, refusal: Refusal) -> Result<(), AllocError>
+pub(crate) fn write_reason<A: Allocator>(
+    out: &mut Vec<u8, A>,
+    refusal: Refusal,
+) -> Result<(), AllocError>
     ensures { Appends result out.old out.new (refusal_words refusal) }
 {
     match refusal {
@@ -64,7 +67,7 @@ pub fn write_refusal<A: Allocator>(out: &mut Vec<u8, A>, refusal: Refusal) -> Re
     ensures { Appends result out.old out.new (refusal_text refusal) }
 {
     out.extend_from_slice(b"error: --sfen: ")?;
-    write_words(out, refusal)?;
+    write_reason(out, refusal)?;
     out.extend_from_slice(b"\n\nFor more information, try '--help'.\n")?;
     Ok(())
 }

@@ -1,8 +1,12 @@
-//! The legal moves of a position, and counts of sequences of them, as text.
+//! The legal moves of a position, counts of sequences of them, and mates by checks, as text.
 #![tactic(auto)]
 
+mod answers;
 mod asked;
+mod solutions;
 mod texts;
 
+pub use answers::write_answer;
 pub use asked::{asked_position, write_refusal};
+pub use solutions::{MateOptions, write_mate};
 pub use texts::{CountFault, Progress, write_moves, write_perft};
