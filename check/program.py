@@ -143,7 +143,7 @@ SCRIPT = (b"+A ", b"A TEXT", b"-A ", b"refused 1", b"3  ", b"usi_host replay --s
 HELPS = (
     (
         [],
-        (b"stdio", b"replay", b"serve", b"perft", b"moves", b"--version", b"COMMAND --help"),
+        (b"stdio", b"replay", b"serve", b"perft", b"moves", b"mate", b"--version", b"COMMAND --help"),
         (b"0  ", b"1  ", b"2  ", b"3  ", b"usi_host stdio --entries 100000\n"),
     ),
     (
@@ -158,6 +158,14 @@ HELPS = (
         (b"0  ", b"1  ", b"2  ", b"usi_host perft --depth 4"),
     ),
     (["moves"], (b"--sfen", b"[default: the opening position]"), (b"0  ", b"1  ", b"2  ", b"usi_host moves --sfen")),
+    (
+        ["mate"],
+        (
+            *(b"--plies", b"from 1 to 15", b"[default: 9]", b"--line", b"--keys"),
+            *(b"--sfen", b"[default: the lines of standard input]"),
+        ),
+        (b"0  ", b"1  ", b"2  ", b"usi_host mate --sfen", b"error: line 3: ", b"unique"),
+    ),
     (
         ["serve"],
         TABLE + SLICES + SETUP + SOCKET,
@@ -239,6 +247,15 @@ def other_words_are_refused():
         ["moves", "startpos"],
         ["moves", "--sfen", "startpos"],
         ["moves", "--depth", "1"],
+        ["mate", "startpos"],
+        ["mate", "--plies"],
+        ["mate", "--plies", "0"],
+        ["mate", "--plies", "17"],
+        ["mate", "--plies", "9", "--plies", "9"],
+        ["mate", "--depth", "9"],
+        ["mate", "--sfen"],
+        ["mate", "--line=true"],
+        ["mate", "--keys", "--keys"],
         # What `clap` finds is told first.
         ["stdio", "--depth", "17", "--max-depth", "4", "--eval", "material"],
     ):
@@ -268,6 +285,7 @@ def a_number_with_a_sign_is_refused():
         ["replay", "--max-depth", "+16"],
         ["serve", "--socket", "s", "--lines=+1"],
         ["perft", "--depth", "+1"],
+        ["mate", "--plies", "+9"],
         # A depth that can be read is above the greatest, but another number cannot be read.
         ["stdio", "--depth", "5", "--max-depth", "4", "--lines", "+1"],
     ):
@@ -299,6 +317,13 @@ def a_depth_above_the_greatest_is_refused():
         said = b"error: --depth %d is above --max-depth %d" % (depth, most) + POINTER
         for command in (["stdio"], ["replay"], ["serve", "--socket", "s"]):
             want(run([*command, *words]), (2, b"", said), f"{command} {words}")
+
+
+def an_even_number_of_plies_is_refused():
+    said = b"error: --plies takes an odd number, from 1 to 15" + POINTER
+    for plies in ("2", "8", "14", "08"):
+        for words in (["--plies", plies], ["--sfen", MATE_IN_ONE, f"--plies={plies}"], ["--sfen", "x", "--plies", plies]):
+            want(run(["mate", *words], b"x\n"), (2, b"", said), f"{words}")
 
 
 def usi_shows_the_setup():
@@ -851,8 +876,9 @@ def a_bad_sfen_is_named():
         (f"{OPENING} moves 7g7f 7g7f", b"move 2 is not legal"),
         (f"{OPENING} 1 moves 7g7e", b"move 1 is not legal"),
     ):
-        for command in (["moves"], ["perft", "--depth", "1"], ["perft", "--depth", "16", "--divide"]):
+        for command in (["moves"], ["perft", "--depth", "1"], ["perft", "--depth", "16", "--divide"], ["mate"]):
             want(run([*command, "--sfen", sfen]), (2, b"", b"error: --sfen: " + why + POINTER), f"{command} {sfen}")
+        want(run(["mate"], sfen.encode() + b"\n"), (2, b"error: line 1: " + why + b"\n", b""), f"a line: {sfen}")
 
 
 def a_list_and_a_count_tell_their_faults():
@@ -867,21 +893,127 @@ def a_list_and_a_count_tell_their_faults():
 
 
 def a_long_count_tells_a_terminal_how_far_it_is():
+    words = ["perft", "--depth", "5" if IS_UNPROVED else "6"]
+    tells_a_terminal(words, rb"usi_host: counted to [1-9][a-i][1-9][a-i]\+?\r?\n")
+
+
+def tells_a_terminal(words, pattern):
     """Once a second, on standard error, and nothing else than a terminal is told."""
-    words = [PROGRAM, "perft", "--depth", "5" if IS_UNPROVED else "6"]
     here, there = os.openpty()
-    with subprocess.Popen(words, stdout=subprocess.PIPE, stderr=there) as running:
+    with subprocess.Popen([PROGRAM, *words], stdout=subprocess.PIPE, stderr=there) as running:
         ready, _, _ = select.select([here], [], [], PATIENCE)
         said = os.read(here, 1000) if ready else b""
         running.kill()
     os.close(here)
     os.close(there)
-    if not re.match(rb"usi_host: counted to [1-9][a-i][1-9][a-i]\+?\r?\n", said):
+    if not re.match(pattern, said):
         raise Wrong(f"a terminal is told {said!r}")
-    running = start(words[1:])
+    running = start(words)
     time.sleep(3)
     running.send_signal(signal.SIGINT)
     ends(running, -signal.SIGINT, b"")
+
+
+MATE_IN_ONE = "4k4/9/4P4/9/9/9/9/9/9 b G"
+# The rook mates from each square of the first rank but the nearest; a pawn in the other hand can come between, but not
+# where the rook is dropped beside the king.
+ROOK = "8k/9/7G1/9/9/9/9/9/9 b R"
+ROOK_AND_PAWN = "8k/9/7G1/9/9/9/9/9/9 b Rp"
+# There is no mate by checks, and a search for one takes long.
+NO_MATE = "9/9/9/9/4k4/9/9/9/9 b 4N4L"
+
+
+def mates_are_told():
+    """Problems solved by hand: the length, the line, the keys, and whether there is one key everywhere."""
+    drops = b" ".join(b"R*%da" % file for file in range(3, 10))
+    for sfen, line, lists, verdict in (
+        (MATE_IN_ONE, b"G*5b", (b"G*5b",), b"unique"),
+        (ROOK, b"R*3a", (drops,), b"1 node with more than one key"),
+        (ROOK_AND_PAWN, b"R*1b 1a2a 1b2b+", (b"R*1b", b"1b2b+ 2c2b"), b"1 node with more than one key"),
+    ):
+        length = b"mate %d" % len(line.split())
+        keys = b"".join(b"keys %s\n" % it for it in lists) + verdict + b"\n"
+        for words, text in (
+            ([], length + b"\n"),
+            (["--line"], length + b" " + line + b"\n"),
+            (["--keys"], length + b"\n" + keys),
+            (["--keys", "--line", "--plies", "3"], length + b" " + line + b"\n" + keys),
+        ):
+            want(run(["mate", *words, "--sfen", sfen]), (0, text, b""), f"{words}, {sfen}")
+            want(run(["mate", *words], sfen.encode()), (0, text, b""), f"a line, {words}, {sfen}")
+
+
+def no_mate_is_told():
+    """Stalemate, a pawn drop that would mate, a side without a king, a check of the attacker; and one ply too few."""
+    for sfen, plies in (
+        ("8k/7R1/6S2/9/9/9/9/9/9 b -", 1),
+        ("7nk/9/7G1/9/9/9/9/9/9 b P", 5),
+        ("9/9/4P4/9/9/9/9/9/4K4 b G", 3),
+        ("4k4/9/4P4/9/9/9/9/9/r3K4 b G", 3),
+        (ROOK_AND_PAWN, 1),
+        (OPENING, 5),
+        (f"{MATE_IN_ONE} moves G*5b", 9),
+    ):
+        text = b"no mate in %d plies by checks\n" % plies
+        for words in ([], ["--line", "--keys"]):
+            want(run(["mate", *words, "--plies", str(plies), "--sfen", sfen]), (0, text, b""), f"{words}, {sfen}")
+    want(run(["mate", "--sfen", OPENING]), (0, b"no mate in 9 plies by checks\n", b""), "by default")
+
+
+def lines_are_answered_one_by_one():
+    """Each before the next is sent. An empty line has no answer, and the last one needs no LF."""
+    running = start(["mate", "--plies", "3"])
+    for line, answer in (
+        (MATE_IN_ONE.encode() + b"\n", b"mate 1\n"),
+        (b"\n\r\n" + ROOK_AND_PAWN.encode() + b"\r\n", b"mate 3\n"),
+        (b"x\n", b"error: line 5: it does not begin with a board\n"),
+        (b" \n", b"error: line 6: it does not begin with a board\n"),
+        (OPENING.encode() + b" moves 7g7f 7g7f\n", b"error: line 7: move 2 is not legal\n"),
+        (ROOK.encode() + b" 1\n", b"mate 1\n"),
+    ):
+        running.stdin.write(line)
+        want(line_of(running), answer, f"the answer to {line}")
+    running.stdin.write(MATE_IN_ONE.encode())
+    running.stdin.close()
+    running.stdin = None
+    want(line_of(running), b"mate 1\n", "a last line without LF")
+    ends(running, 2, b"")
+
+
+def a_file_of_positions_is_answered():
+    text = b"".join(b"%s\n" % it.encode() for it in (MATE_IN_ONE, ROOK, ROOK_AND_PAWN)) * 100
+    want(run(["mate"], text), (0, b"mate 1\nmate 1\nmate 3\n" * 100, b""), "three hundred lines")
+    want(run(["mate"]), (0, b"", b""), "no line")
+    long = b"error: line 2: it is too long, and nothing behind it is read\n"
+    for length, answer in (
+        (65_535, b"error: line 2: it does not begin with a board\nmate 1\n"),
+        (65_536, long),
+        (1_000_000, long),
+    ):
+        sent = MATE_IN_ONE.encode() + b"\n" + b"x" * length + b"\n" + MATE_IN_ONE.encode() + b"\n"
+        want(run(["mate"], sent), (2, b"mate 1\n" + answer, b""), f"a line of {length} bytes")
+
+
+def a_search_for_a_mate_tells_its_faults():
+    for words, sent in ((["mate", "--sfen", MATE_IN_ONE], b""), (["mate"], MATE_IN_ONE.encode())):
+        with open("/dev/full", "wb") as full:
+            status, _, complaints = run(words, sent, stdout=full)
+        want((status, complaints), (1, b"usi_host: write failed\n"), f"a full device, {words}")
+    folder = os.open(TOP, os.O_RDONLY)
+    try:
+        seen = run(["mate"], stdin=folder)
+    finally:
+        os.close(folder)
+    want(seen, (1, b"", b"usi_host: read failed\n"), "a folder as input")
+    running = start(["mate", "--plies", "15", "--sfen", NO_MATE])
+    time.sleep(0.3)
+    running.send_signal(signal.SIGINT)
+    ends(running, -signal.SIGINT, b"")
+
+
+def a_long_search_for_a_mate_tells_a_terminal_how_far_it_is():
+    words = ["mate", "--plies", "15", "--sfen", NO_MATE]
+    tells_a_terminal(words, rb"usi_host: no mate by [NL]\*[1-9][a-i] in [0-9]+ plies\r?\n")
 
 
 def the_first_bad_line_of_a_script_is_named():
@@ -954,6 +1086,7 @@ CHECKS = (
     other_words_are_refused,
     a_number_with_a_sign_is_refused,
     an_evaluation_is_one_of_three,
+    an_even_number_of_plies_is_refused,
     a_depth_above_the_greatest_is_refused,
     a_word_that_is_not_utf_8_is_refused,
     a_full_device_is_a_failed_write,
@@ -989,6 +1122,12 @@ CHECKS = (
     a_bad_sfen_is_named,
     a_list_and_a_count_tell_their_faults,
     a_long_count_tells_a_terminal_how_far_it_is,
+    mates_are_told,
+    no_mate_is_told,
+    lines_are_answered_one_by_one,
+    a_file_of_positions_is_answered,
+    a_search_for_a_mate_tells_its_faults,
+    a_long_search_for_a_mate_tells_a_terminal_how_far_it_is,
     the_first_bad_line_of_a_script_is_named,
     a_replay_writes_nothing_before_its_script_ends,
     a_replay_tells_its_faults,

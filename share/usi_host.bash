@@ -11,6 +11,10 @@ _usi_host() {
             mapfile -t COMPREPLY < <(compgen -W 'plain hand exchange' -- "$word")
             return
             ;;
+        --plies)
+            mapfile -t COMPREPLY < <(compgen -W '1 3 5 7 9 11 13 15' -- "$word")
+            return
+            ;;
         --slots | --entries | --slice | --turns | --depth | --max-depth | --lines | --sfen)
             return
             ;;
@@ -19,7 +23,7 @@ _usi_host() {
     if [ "${1##*/}" = usi_analyst ]; then
         words='--entries --lines -h --help'
     elif [ "$COMP_CWORD" -eq 1 ]; then
-        words='stdio replay serve perft moves help -h --help -V --version'
+        words='stdio replay serve perft moves mate help -h --help -V --version'
     else
         case ${COMP_WORDS[1]} in
             stdio) words="--entries $setup -h --help" ;;
@@ -27,7 +31,8 @@ _usi_host() {
             serve) words="--socket --status --slots --entries --slice $setup --turns -h --help" ;;
             perft) words='--depth --sfen --divide -h --help' ;;
             moves) words='--sfen -h --help' ;;
-            help) words='stdio replay serve perft moves' ;;
+            mate) words='--plies --sfen --line --keys -h --help' ;;
+            help) words='stdio replay serve perft moves mate' ;;
         esac
     fi
     mapfile -t COMPREPLY < <(compgen -W "$words" -- "$word")

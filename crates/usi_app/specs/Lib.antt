@@ -1,3 +1,4 @@
 pub mod Runs
 pub mod ServeFaults
 pub mod Counts
+pub mod Mates

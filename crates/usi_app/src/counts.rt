@@ -5,19 +5,17 @@ ghost use Rattle.usi_moves.specs.Asked.{asked_position};
 ghost use Rattle.usi_app.specs.Counts.{IsCounting, IsListing, IsUnasked};
 
 use crate::runs::{FAULT, print_out};
-use shogi_core::Move;
-use shogi_sfen::write_move;
+use crate::teller::Teller;
 use std::alloc::Allocator;
 use std::rt::Clock;
-use std::time::Instant;
-use usi_moves::{CountFault, Progress, asked_position, write_moves, write_perft, write_refusal};
+use usi_moves::{CountFault, asked_position, write_moves, write_perft, write_refusal};
 use usi_stdio::FrontEnd;
 use usi_texts::Refusal;
 
 /// The status of arguments that ask for no position, or for more than can be counted.
-const NOT_ACCEPTED: u8 = 2;
+pub(crate) const NOT_ACCEPTED: u8 = 2;
 
-const OUT_OF_MEMORY: &str = "usi_host: out of memory\n";
+pub(crate) const OUT_OF_MEMORY: &str = "usi_host: out of memory\n";
 
 const TOO_MANY: &str = "error: --depth: there are more sequences than 18446744073709551615
 
@@ -33,7 +31,7 @@ pub fn complain<E: Eprint>(errors: &E, text: &str, status: u8) -> u8
 }
 
 /// Tells standard error why there is no position, and gives the status.
-fn refuse<E: Eprint, A: Allocator>(errors: &E, alloc: A, refusal: Refusal) -> u8
+pub(crate) fn refuse<E: Eprint, A: Allocator>(errors: &E, alloc: A, refusal: Refusal) -> u8
     ensures { IsUnasked result }
 {
     let mut text = Vec::new(alloc);
@@ -69,43 +67,6 @@ pub fn listing<E: Eprint, A: Allocator + Copy, T: FrontEnd>(
     }
 }
 
-/// Tells a terminal how far a count is.
-#[derive(Drop)]
-struct Teller<'a, E> {
-    errors: &'a E,
-    /// When it began or told something last; `None` where nothing is told.
-    told: Option<Instant>,
-}
-
-impl<'a, E: Eprint + Clock> Progress for Teller<'a, E> {
-    fn counted(&mut self, m: &Move) {
-        let Some(told) = self.told else {
-            return;
-        };
-        if !is_past(self.errors, told) {
-            return;
-        }
-        tell(self.errors, m);
-        self.told = Instant::now(self.errors).ok();
-    }
-}
-
-/// Whether a second passed since then.
-fn is_past<E: Clock>(clock: &E, then: Instant) -> bool {
-    match then.elapsed(clock) {
-        Ok(passed) => passed.as_secs() >= 1,
-        Err(_) => false,
-    }
-}
-
-/// Tells how far a count is.
-fn tell<E: Eprint>(errors: &E, m: &Move) {
-    let text = write_move(*m);
-    if let Ok(text) = str::from_utf8(text.as_slice()) {
-        let _ = eprintln!(errors; "usi_host: counted to {text}");
-    }
-}
-
 /// Counts the sequences of legal moves from the position that a text asks for, over a front end. Gives
 /// the status, and tells standard error of a fault; and where `tells` is set, at most once a second,
 /// which first move the count has reached.
@@ -128,14 +89,7 @@ pub fn counting<E: Eprint + Clock, A: Allocator + Copy, T: FrontEnd>(
         Err(refusal) => return refuse(errors, alloc, refusal),
     };
     let mut text = Vec::new(alloc);
-    let mut teller = Teller {
-        errors,
-        told: if tells {
-            Instant::now(errors).ok()
-        } else {
-            None
-        },
-    };
+    let mut teller = Teller::new(errors, tells);
     match write_perft(&mut text, &p, depth, divide, &mut teller) {
         Ok(()) => print_out(errors, front_end, text.as_slice()),
         Err(CountFault::OutOfMemory) => complain(errors, OUT_OF_MEMORY, FAULT),

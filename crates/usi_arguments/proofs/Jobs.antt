@@ -1,10 +1,10 @@
 -- Options of which one has no value that a job may have.
 use Rattle.std.proofs.Common.{◌≡◌, ◌-◌, ◌^◌, List, None, codes}
 use Rattle.clap.specs.Words.{Row, first_of}
-use Rattle.usi_arguments.specs.Answers.{HasNoHost, NamesNoPerft, NamesNoReplay, NamesNoServe, NamesNoStdio}
+use Rattle.usi_arguments.specs.Answers.{HasNoHost, NamesNoMate, NamesNoPerft, NamesNoReplay, NamesNoServe, NamesNoStdio}
 use Rattle.usi_arguments.specs.CommandLine.{HasNone}
 use Rattle.usi_arguments.specs.Setup.{HasNoSetup}
-use Rattle.usi_arguments.specs.declared.arguments.Job.TheVariants.{Stdio, Replay, Serve, Perft, Moves, Help, Version}
+use Rattle.usi_arguments.specs.declared.arguments.Job.TheVariants.{Stdio, Replay, Serve, Perft, Moves, Mate, Help, Version}
 
 pub no_stdio : (options : List Row) → HasNone (codes "entries") 1000000 options → NamesNoStdio options
 no_stdio options none (Stdio entries setup) range is = none entries range.0 is.0
@@ -12,6 +12,7 @@ no_stdio options none (Replay host) range is = is
 no_stdio options none (Serve socket status turns host) range is = is
 no_stdio options none (Perft sfen depth divide) range is = is
 no_stdio options none (Moves sfen) range is = is
+no_stdio options none (Mate sfen plies line keys) range is = is
 no_stdio options none (Help text) range is = is
 no_stdio options none Version range is = is
 
@@ -21,6 +22,7 @@ no_stdio_setup options none (Replay host) range is = is
 no_stdio_setup options none (Serve socket status turns host) range is = is
 no_stdio_setup options none (Perft sfen depth divide) range is = is
 no_stdio_setup options none (Moves sfen) range is = is
+no_stdio_setup options none (Mate sfen plies line keys) range is = is
 no_stdio_setup options none (Help text) range is = is
 no_stdio_setup options none Version range is = is
 
@@ -30,6 +32,7 @@ no_replay options none (Replay host) range is = none host range is
 no_replay options none (Serve socket status turns host) range is = is
 no_replay options none (Perft sfen depth divide) range is = is
 no_replay options none (Moves sfen) range is = is
+no_replay options none (Mate sfen plies line keys) range is = is
 no_replay options none (Help text) range is = is
 no_replay options none Version range is = is
 
@@ -39,6 +42,7 @@ no_socket options none (Replay host) range is = is
 no_socket options none (Serve socket status turns host) range is = let text = is.0 in cc
 no_socket options none (Perft sfen depth divide) range is = is
 no_socket options none (Moves sfen) range is = is
+no_socket options none (Mate sfen plies line keys) range is = is
 no_socket options none (Help text) range is = is
 no_socket options none Version range is = is
 
@@ -48,6 +52,7 @@ no_turns options none (Replay host) range is = is
 no_turns options none (Serve socket status turns host) range is = none turns range.0 is.2
 no_turns options none (Perft sfen depth divide) range is = is
 no_turns options none (Moves sfen) range is = is
+no_turns options none (Mate sfen plies line keys) range is = is
 no_turns options none (Help text) range is = is
 no_turns options none Version range is = is
 
@@ -57,6 +62,7 @@ no_served_host options none (Replay host) range is = is
 no_served_host options none (Serve socket status turns host) range is = none host range.1 is.3
 no_served_host options none (Perft sfen depth divide) range is = is
 no_served_host options none (Moves sfen) range is = is
+no_served_host options none (Mate sfen plies line keys) range is = is
 no_served_host options none (Help text) range is = is
 no_served_host options none Version range is = is
 
@@ -66,5 +72,16 @@ no_perft options none (Replay host) range is = is
 no_perft options none (Serve socket status turns host) range is = is
 no_perft options none (Perft sfen depth divide) range is = none depth range is.0
 no_perft options none (Moves sfen) range is = is
+no_perft options none (Mate sfen plies line keys) range is = is
 no_perft options none (Help text) range is = is
 no_perft options none Version range is = is
+
+pub no_mate : (options : List Row) → HasNone (codes "plies") 15 options → NamesNoMate options
+no_mate options none (Stdio entries setup) range is = is
+no_mate options none (Replay host) range is = is
+no_mate options none (Serve socket status turns host) range is = is
+no_mate options none (Perft sfen depth divide) range is = is
+no_mate options none (Moves sfen) range is = is
+no_mate options none (Mate sfen plies line keys) range is = none plies range is.0
+no_mate options none (Help text) range is = is
+no_mate options none Version range is = is

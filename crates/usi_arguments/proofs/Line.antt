@@ -11,16 +11,16 @@ use Rattle.clap.specs.declared.error.kind.ErrorKind.{ErrorKind}
 use Rattle.clap.specs.declared.error.kind.ErrorKind.TheVariants as kinds
 use Rattle.clap.specs.declared.parser.matches.ArgMatches.{ArgMatches}
 use Rattle.clap.specs.declared.parser.matches.ValueSource.TheVariants.{DefaultValue}
-use Rattle.usi_arguments.specs.Answers.{AreHelpArguments, AreVersionArguments, Gives, GivesHelp, GivesReplay, GivesStdio, HasRanges, HasReach, IsTooDeepIn, KnowsEvaluation, NamesNoEvaluation, IsAnswerToParsed, IsAskedBy, IsJobOf, IsRefusal, IsRefusedFor, IsReplayOf, IsStdioOf, HasMistake, IsMistake, IsNoJob, NamesHost, NamesJob, usual_host}
+use Rattle.usi_arguments.specs.Answers.{AreHelpArguments, AreVersionArguments, Gives, GivesHelp, GivesReplay, GivesStdio, HasRanges, HasReach, IsTooDeepIn, IsUnfitIn, KnowsEvaluation, NamesNoEvaluation, IsAnswerToParsed, IsAskedBy, IsJobOf, IsRefusal, IsRefusedFor, IsReplayOf, IsStdioOf, HasMistake, IsHeld, IsMistake, IsNoJob, NamesHost, NamesJob, is_even, usual_host}
 use Rattle.usi_arguments.specs.CommandLine.{IsNumber, NamesNumber, command_line, command_of, faults_of}
 use Rattle.usi_arguments.specs.declared.arguments.Job.{Job}
-use Rattle.usi_arguments.specs.declared.arguments.Job.TheVariants.{Stdio, Replay, Serve, Perft, Moves, Help, Version}
+use Rattle.usi_arguments.specs.declared.arguments.Job.TheVariants.{Stdio, Replay, Serve, Perft, Moves, Mate, Help, Version}
 use Rattle.usi_arguments.specs.declared.arguments.ArgumentsFault.{ArgumentsFault}
 use Rattle.usi_arguments.specs.declared.arguments.ArgumentsFault.TheVariants.{OutOfMemory, NotAccepted}
 use Rattle.usi_arguments.specs.Setup.{HasSetupRanges, IsInReach, IsTooDeep, NamesSetup, usual_setup}
 use Rattle.usi_arguments.specs.declared.setup.Evaluation.TheVariants.{Plain}
 use Rattle.usi_arguments.specs.declared.setup.SetupOptions.{SetupOptions}
-use Rattle.usi_arguments.specs.Texts.{not_an_evaluation}
+use Rattle.usi_arguments.specs.Texts.{not_an_evaluation, not_odd}
 use Rattle.usi_arguments.proofs.Numbers.{names_once}
 use Rattle.usi_arguments.proofs.Setups.{host_once, setup_once}
 
@@ -118,7 +118,8 @@ no_help (Some command) job text e (inl is) = rw e at is.1
 no_help (Some command) job text e (inr (inl is)) = rw e at is.1
 no_help (Some command) job text e (inr (inr (inl is))) = rw e at is.1
 no_help (Some command) job text e (inr (inr (inr (inl is)))) = rw e at is.1
-no_help (Some command) job text e (inr (inr (inr (inr is)))) = rw e at is.1
+no_help (Some command) job text e (inr (inr (inr (inr (inl is))))) = rw e at is.1
+no_help (Some command) job text e (inr (inr (inr (inr (inr is))))) = rw e at is.1
 
 -- no command names the version
 no_version : (command : Option (Text × List Row)) (job : Job) → job ≡ Version → NamesJob command job → ⊥
@@ -127,7 +128,8 @@ no_version (Some command) job e (inl is) = rw e at is.1
 no_version (Some command) job e (inr (inl is)) = rw e at is.1
 no_version (Some command) job e (inr (inr (inl is))) = rw e at is.1
 no_version (Some command) job e (inr (inr (inr (inl is)))) = rw e at is.1
-no_version (Some command) job e (inr (inr (inr (inr is)))) = rw e at is.1
+no_version (Some command) job e (inr (inr (inr (inr (inl is))))) = rw e at is.1
+no_version (Some command) job e (inr (inr (inr (inr (inr is))))) = rw e at is.1
 
 -- a job is one that the arguments ask for
 pub line_asked : (arguments : List Text) (parsed : Result ArgMatches Error) (r : Result Job ArgumentsFault) → IsParsedLine arguments parsed
@@ -138,6 +140,7 @@ line_asked arguments (Ok m) (Ok (Replay host)) line is = (line.kinds, subst (λ 
 line_asked arguments (Ok m) (Ok (Serve socket status turns host)) line is = (line.kinds, subst (λ (c : Option (Text × List Row)). NamesJob c (Serve socket status turns host)) line.matches is)
 line_asked arguments (Ok m) (Ok (Perft sfen depth divide)) line is = (line.kinds, subst (λ (c : Option (Text × List Row)). NamesJob c (Perft sfen depth divide)) line.matches is)
 line_asked arguments (Ok m) (Ok (Moves sfen)) line is = (line.kinds, subst (λ (c : Option (Text × List Row)). NamesJob c (Moves sfen)) line.matches is)
+line_asked arguments (Ok m) (Ok (Mate sfen plies with_line keys)) line is = (line.kinds, subst (λ (c : Option (Text × List Row)). NamesJob c (Mate sfen plies with_line keys)) line.matches is)
 line_asked arguments (Ok m) (Ok (Help text)) line is = absurd (no_help (subcommand_rows_of m) (Help text) text refl is)
 line_asked arguments (Ok m) (Ok Version) line is = absurd (no_version (subcommand_rows_of m) Version refl is)
 line_asked arguments (Err e) (Ok (Stdio entries setup)) line is = absurd is
@@ -145,6 +148,7 @@ line_asked arguments (Err e) (Ok (Replay host)) line is = absurd is
 line_asked arguments (Err e) (Ok (Serve socket status turns host)) line is = absurd is
 line_asked arguments (Err e) (Ok (Perft sfen depth divide)) line is = absurd is
 line_asked arguments (Err e) (Ok (Moves sfen)) line is = absurd is
+line_asked arguments (Err e) (Ok (Mate sfen plies with_line keys)) line is = absurd is
 line_asked arguments (Err e) (Ok (Help text)) line is = elim line.kinds [
   | inl memory ↦ let bad : kinds.DisplayHelp ≡ kinds.OutOfMemory = sym is ∙ memory in cc
   | inr among ↦ subst (λ (k : ErrorKind). IsAmong k (faults_of arguments)) is among
@@ -174,12 +178,23 @@ refused_evaluation command (Ok job) none is = absurd is
 refused_evaluation command (Err OutOfMemory) none is = tt
 refused_evaluation command (Err (NotAccepted text)) none is = inl (none, is)
 
+-- an even number of plies is refused with its text
+pub refused_even : (job : Job) (r : Result Job ArgumentsFault) → is_even job ≡ true → IsRefusal not_odd r → IsHeld job r
+refused_even job (Ok given) even is = absurd is
+refused_even job (Err OutOfMemory) even is = tt
+refused_even job (Err (NotAccepted text)) even is = inr (even, is)
+
 -- a job within its reach does not begin with a depth above its greatest
 not_too_deep : (job : Job) (said : List ℕ) → HasReach job → IsTooDeepIn job said → ⊥
 not_too_deep job said reach deep =
-    let fits : IsInReach deep.0 = subst (λ (s : Option SetupOptions). IfSome s IsInReach) deep.1 reach in
+    let fits : IsInReach deep.0 = subst (λ (s : Option SetupOptions). IfSome s IsInReach) deep.1 reach.0 in
     let above : IsTooDeep deep.0 = deep.2 in
     omega arith
+
+-- the numbers of a job within its reach go together
+not_unfit : (job : Job) (said : List ℕ) → HasReach job → IsUnfitIn job said → ⊥
+not_unfit job said reach (inl deep) = not_too_deep job said reach deep
+not_unfit job said reach (inr even) = let bad : true ≡ false = sym even.0 ∙ reach.1 in absurd (true≢false bad)
 
 -- a command that knows its evaluation, and names one job only, which is within its reach, is not refused
 has_job : (command : Option (Text × List Row)) (job : Job) (said : List ℕ) → KnowsEvaluation command → NamesJob command job → HasRanges job → HasReach job
@@ -189,7 +204,7 @@ has_job (Some command) job said (inr known) names range reach only (inl is) = is
 has_job None job said knows names range reach only (inl is) = is.0
 has_job command job said knows names range reach only (inr (inl is)) = is.1 job range names
 has_job command job said knows names range reach only (inr (inr is)) =
-    not_too_deep job said reach (subst (λ (j : Job). IsTooDeepIn j said) (only is.0 is.1.1) is.2)
+    not_unfit job said reach (subst (λ (j : Job). IsUnfitIn j said) (only is.0 is.1.1) is.2)
 
 -- arguments without a mistake that name one job only give it
 gives : (arguments : List Text) (job : Job) (r : Result Job ArgumentsFault)
@@ -203,6 +218,7 @@ gives arguments job (Ok (Serve socket status turns host)) none knows names range
     inl (ap Ok (only (Serve socket status turns host) asked.1))
 gives arguments job (Ok (Perft sfen depth divide)) none knows names range reach only asked refused = inl (ap Ok (only (Perft sfen depth divide) asked.1))
 gives arguments job (Ok (Moves sfen)) none knows names range reach only asked refused = inl (ap Ok (only (Moves sfen) asked.1))
+gives arguments job (Ok (Mate sfen plies line keys)) none knows names range reach only asked refused = inl (ap Ok (only (Mate sfen plies line keys) asked.1))
 gives arguments job (Ok (Help text)) none knows names range reach only asked refused = absurd (rw none at asked)
 gives arguments job (Ok Version) none knows names range reach only asked refused = absurd (rw none at asked)
 gives arguments job (Err OutOfMemory) none knows names range reach only asked refused = inr refl
@@ -222,8 +238,8 @@ gives_of arguments job command r none is knows names range reach only asked refu
 usual_ranges : HasSetupRanges usual_setup
 usual_ranges = ((lit≤ tt, lit≤ tt), (lit≤ tt, lit≤ tt), (lit≤ tt, lit≤ tt))
 
-usual_reach : IsInReach usual_setup
-usual_reach = lit≤ tt
+usual_reach : IsInReach usual_setup × (false ≡ false)
+usual_reach = (lit≤ tt, refl)
 
 pub gives_bare : (arguments : List Text) (r : Result Job ArgumentsFault) → arguments ≡ []
     → IfOk r (IsAskedBy arguments) → IfErr r (IsRefusedFor arguments) → GivesStdio r
@@ -261,6 +277,7 @@ stdio_only (Replay host) is = absurd is
 stdio_only (Serve socket status turns host) is = absurd is
 stdio_only (Perft sfen depth divide) is = absurd is
 stdio_only (Moves sfen) is = absurd is
+stdio_only (Mate sfen plies line keys) is = absurd is
 stdio_only (Help text) is = absurd is
 stdio_only Version is = absurd is
 
@@ -269,7 +286,8 @@ stdio_names job (inl is) = stdio_only job is.1
 stdio_names job (inr (inl is)) = let bad : codes "stdio" ≡ codes "replay" = is.0 in cc
 stdio_names job (inr (inr (inl is))) = absurd (let second : 116 ≡ 101 = ap (λ (text : Text). slice_index_or text 1 0) is.0 in omega arith)
 stdio_names job (inr (inr (inr (inl is)))) = absurd (let second : 116 ≡ 101 = ap (λ (text : Text). slice_index_or text 1 0) is.0 in omega arith)
-stdio_names job (inr (inr (inr (inr is)))) = absurd (let second : 116 ≡ 111 = ap (λ (text : Text). slice_index_or text 1 0) is.0 in omega arith)
+stdio_names job (inr (inr (inr (inr (inl is))))) = absurd (let second : 116 ≡ 111 = ap (λ (text : Text). slice_index_or text 1 0) is.0 in omega arith)
+stdio_names job (inr (inr (inr (inr (inr is))))) = absurd (let second : 116 ≡ 97 = ap (λ (text : Text). slice_index_or text 1 0) is.0 in omega arith)
 
 pub gives_stdio : (arguments : List Text) (r : Result Job ArgumentsFault)
     → arguments ≡ codes "stdio" ∷ []
@@ -289,6 +307,7 @@ replay_only (Replay host) is = ap Replay (host_once replay_rows host usual_host 
 replay_only (Serve socket status turns host) is = absurd is
 replay_only (Perft sfen depth divide) is = absurd is
 replay_only (Moves sfen) is = absurd is
+replay_only (Mate sfen plies line keys) is = absurd is
 replay_only (Help text) is = absurd is
 replay_only Version is = absurd is
 
@@ -297,7 +316,8 @@ replay_names job (inl is) = let bad : codes "replay" ≡ codes "stdio" = is.0 in
 replay_names job (inr (inl is)) = replay_only job is.1
 replay_names job (inr (inr (inl is))) = let bad : codes "replay" ≡ codes "serve" = is.0 in cc
 replay_names job (inr (inr (inr (inl is)))) = let bad : codes "replay" ≡ codes "perft" = is.0 in cc
-replay_names job (inr (inr (inr (inr is)))) = let bad : codes "replay" ≡ codes "moves" = is.0 in cc
+replay_names job (inr (inr (inr (inr (inl is))))) = let bad : codes "replay" ≡ codes "moves" = is.0 in cc
+replay_names job (inr (inr (inr (inr (inr is))))) = let bad : codes "replay" ≡ codes "mate" = is.0 in cc
 
 pub gives_replay : (arguments : List Text) (r : Result Job ArgumentsFault)
     → arguments ≡ codes "replay" ∷ []
@@ -333,6 +353,7 @@ gives_help_of arguments (Ok (Replay host)) is asked refused = let bad : kinds.Di
 gives_help_of arguments (Ok (Serve socket status turns host)) is asked refused = let bad : kinds.DisplayHelp ∷ [] ≡ [] = sym is ∙ asked.0 in cc
 gives_help_of arguments (Ok (Perft sfen depth divide)) is asked refused = let bad : kinds.DisplayHelp ∷ [] ≡ [] = sym is ∙ asked.0 in cc
 gives_help_of arguments (Ok (Moves sfen)) is asked refused = let bad : kinds.DisplayHelp ∷ [] ≡ [] = sym is ∙ asked.0 in cc
+gives_help_of arguments (Ok (Mate sfen plies line keys)) is asked refused = let bad : kinds.DisplayHelp ∷ [] ≡ [] = sym is ∙ asked.0 in cc
 gives_help_of arguments (Ok Version) is asked refused =
     let bad : kinds.DisplayVersion ≡ kinds.DisplayHelp = among_one kinds.DisplayHelp kinds.DisplayVersion (subst (λ (k : Kinds). IsAmong kinds.DisplayVersion k) is asked) in cc
 gives_help_of arguments (Err OutOfMemory) is asked refused = tt
@@ -347,6 +368,7 @@ gives_version_of arguments (Ok (Replay host)) is asked refused = let bad : kinds
 gives_version_of arguments (Ok (Serve socket status turns host)) is asked refused = let bad : kinds.DisplayVersion ∷ [] ≡ [] = sym is ∙ asked.0 in cc
 gives_version_of arguments (Ok (Perft sfen depth divide)) is asked refused = let bad : kinds.DisplayVersion ∷ [] ≡ [] = sym is ∙ asked.0 in cc
 gives_version_of arguments (Ok (Moves sfen)) is asked refused = let bad : kinds.DisplayVersion ∷ [] ≡ [] = sym is ∙ asked.0 in cc
+gives_version_of arguments (Ok (Mate sfen plies line keys)) is asked refused = let bad : kinds.DisplayVersion ∷ [] ≡ [] = sym is ∙ asked.0 in cc
 gives_version_of arguments (Ok (Help text)) is asked refused =
     let bad : kinds.DisplayHelp ≡ kinds.DisplayVersion = among_one kinds.DisplayVersion kinds.DisplayHelp (subst (λ (k : Kinds). IsAmong kinds.DisplayHelp k) is asked) in cc
 gives_version_of arguments (Err OutOfMemory) is asked refused = inr refl

@@ -1,5 +1,5 @@
 -- When each answer to the arguments comes.
-use Rattle.std.specs.Prelude.{◌≡◌, ◌≢◌, ◌⊎◌, ◌∷◌, ◌-◌, ◌^◌, ◌||◌, ℕ, Bool, true, false, List, [], Option, Some, None, Result, Ok, Err, IfSome, MatchResult, ⊤, codes, string_bytes}
+use Rattle.std.specs.Prelude.{◌≡◌, ◌≢◌, ◌⊎◌, ◌∷◌, ◌-◌, ◌^◌, ◌||◌, ◌%◌, ◌==◌, ℕ, Bool, true, false, List, [], Option, Some, None, Result, Ok, Err, IfSome, MatchResult, ⊤, codes, string_bytes}
 use Rattle.std.specs.Str.{bytes_eq}
 use Rattle.clap.specs.Words.{IsAmong, Row, Text, kind_of, subcommand_rows_of}
 use Rattle.clap.specs.declared.error.Error.{Error}
@@ -8,12 +8,12 @@ use Rattle.clap.specs.declared.error.kind.ErrorKind.TheVariants as kinds
 use Rattle.clap.specs.declared.parser.matches.ArgMatches.{ArgMatches}
 use Rattle.usi_arguments.specs.CommandLine.{IsFromOne, NamesNumber, NamesText, NamesTextIfAny, command_of, faults_of, is_set}
 use Rattle.usi_arguments.specs.Setup.{HasNoEvaluation, HasSetupRanges, IsInReach, IsTooDeep, NamesEvaluation, NamesSetup, usual_setup}
-use Rattle.usi_arguments.specs.Texts.{not_an_evaluation, not_digits, too_deep}
+use Rattle.usi_arguments.specs.Texts.{not_an_evaluation, not_digits, not_odd, too_deep}
 use Rattle.usi_arguments.specs.declared.host.HostOptions.{HostOptions}
 use Rattle.usi_arguments.specs.declared.setup.Evaluation.{Evaluation}
 use Rattle.usi_arguments.specs.declared.setup.SetupOptions.{SetupOptions}
 use Rattle.usi_arguments.specs.declared.arguments.Job.{Job}
-use Rattle.usi_arguments.specs.declared.arguments.Job.TheVariants.{Stdio, Replay, Serve, Perft, Moves, Help, Version}
+use Rattle.usi_arguments.specs.declared.arguments.Job.TheVariants.{Stdio, Replay, Serve, Perft, Moves, Mate, Help, Version}
 use Rattle.usi_arguments.specs.declared.arguments.ArgumentsFault.{ArgumentsFault}
 use Rattle.usi_arguments.specs.declared.arguments.ArgumentsFault.TheVariants.{OutOfMemory, NotAccepted}
 
@@ -47,6 +47,7 @@ HasRanges (Replay host) = HasHostRanges host
 HasRanges (Serve socket status turns host) = IsFromOne (2 ^ 64 - 1) turns × HasHostRanges host
 HasRanges (Perft sfen depth divide) = IsFromOne 16 depth
 HasRanges (Moves sfen) = ⊤
+HasRanges (Mate sfen plies line keys) = IsFromOne 15 plies
 HasRanges (Help text) = ⊤
 HasRanges Version = ⊤
 
@@ -57,12 +58,18 @@ setup_in (Replay host) = Some host.setup
 setup_in (Serve socket status turns host) = Some host.setup
 setup_in (Perft sfen depth divide) = None
 setup_in (Moves sfen) = None
+setup_in (Mate sfen plies line keys) = None
 setup_in (Help text) = None
 setup_in Version = None
 
--- the job's sessions begin with a depth that they may search
+-- the job seeks a mate in an even number of plies
+abbrev pub is_even : Job → Bool
+is_even (Mate sfen plies line keys) = plies % 2 == 0
+is_even job = false
+
+-- the job's sessions begin with a depth that they may search, and a mate is sought in an odd number of plies
 abbrev pub HasReach : Job → Type 0
-HasReach job = IfSome (setup_in job) IsInReach
+HasReach job = IfSome (setup_in job) IsInReach × (is_even job ≡ false)
 
 -- the job is `stdio`, with the number and the setup that these options name
 abbrev pub IsStdioOf : List Row → Job → Type 0
@@ -95,6 +102,13 @@ abbrev pub IsMovesOf : List Row → Job → Type 0
 IsMovesOf options (Moves sfen) = NamesTextIfAny (codes "sfen") options sfen
 IsMovesOf options _ = ⊥
 
+-- the job is `mate`, with the position, the plies and the words that these options name
+abbrev pub IsMateOf : List Row → Job → Type 0
+IsMateOf options (Mate sfen plies line keys) =
+    NamesNumber (codes "plies") options plies × NamesTextIfAny (codes "sfen") options sfen
+    × (line ≡ is_set (codes "line") options) × (keys ≡ is_set (codes "keys") options)
+IsMateOf options _ = ⊥
+
 -- the command names the job; without a command it is `stdio` with 4096 entries and the usual setup
 abbrev pub NamesJob : Option (Text × List Row) → Job → Type 0
 NamesJob None job = job ≡ Stdio 4096 usual_setup
@@ -103,20 +117,24 @@ NamesJob (Some command) job = ((command.0 ≡ codes "stdio") × IsStdioOf comman
     ⊎ ((command.0 ≡ codes "serve") × IsServeOf command.1 job)
     ⊎ ((command.0 ≡ codes "perft") × IsPerftOf command.1 job)
     ⊎ ((command.0 ≡ codes "moves") × IsMovesOf command.1 job)
+    ⊎ ((command.0 ≡ codes "mate") × IsMateOf command.1 job)
 
 -- the job has its numbers in their ranges, and is `serve` as these options name it
 abbrev pub IsServeIn : List Row → Job → Type 0
 IsServeIn options job = HasRanges job × IsServeOf options job
 
--- the same of `perft`
+-- the same of `perft`, and of `mate`
 abbrev pub IsPerftIn : List Row → Job → Type 0
 IsPerftIn options job = HasRanges job × IsPerftOf options job
+
+abbrev pub IsMateIn : List Row → Job → Type 0
+IsMateIn options job = HasRanges job × IsMateOf options job
 
 -- the job has its numbers in their ranges, and the command names it
 abbrev pub IsJobIn : Option (Text × List Row) → Job → Type 0
 IsJobIn command job = HasRanges job × NamesJob command job
 
--- these options name no `stdio`, no `replay`, no `serve`, no `perft`, whose numbers lie in their ranges
+-- these options name no `stdio`, no `replay`, no `serve`, no `perft`, no `mate`, whose numbers lie in their ranges
 abbrev pub NamesNoStdio : List Row → Type 0
 NamesNoStdio options = (job : Job) → HasRanges job → IsStdioOf options job → ⊥
 
@@ -128,6 +146,9 @@ NamesNoServe options = (job : Job) → HasRanges job → IsServeOf options job �
 
 abbrev pub NamesNoPerft : List Row → Type 0
 NamesNoPerft options = (job : Job) → HasRanges job → IsPerftOf options job → ⊥
+
+abbrev pub NamesNoMate : List Row → Type 0
+NamesNoMate options = (job : Job) → HasRanges job → IsMateOf options job → ⊥
 
 -- the command names no job whose numbers are written in digits alone and lie in their ranges
 abbrev pub NamesNoJob : Option (Text × List Row) → Type 0
@@ -145,7 +166,8 @@ IsMistake kind = (kind ≢ kinds.DisplayHelp) × (kind ≢ kinds.DisplayVersion)
 
 -- the command has no sessions, and so no setup
 abbrev pub has_no_setup : Text → Bool
-has_no_setup name = bytes_eq name (codes "perft") || bytes_eq name (codes "moves")
+has_no_setup name =
+    bytes_eq name (codes "perft") || (bytes_eq name (codes "moves") || bytes_eq name (codes "mate"))
 
 -- the command has an evaluation that is known, or none; and it has one that is not
 abbrev pub KnowsEvaluation : Option (Text × List Row) → Type 0
@@ -163,12 +185,16 @@ abbrev pub IsTooDeepIn : Job → List ℕ → Type 0
 IsTooDeepIn job said = (setup : SetupOptions) × (setup_in job ≡ Some setup) × IsTooDeep setup
     × (said ≡ too_deep setup.depth setup.max_depth)
 
+-- this is said of the job, whose numbers do not go together: its depth is above its greatest, or its plies are even
+abbrev pub IsUnfitIn : Job → List ℕ → Type 0
+IsUnfitIn job said = IsTooDeepIn job said ⊎ ((is_even job ≡ true) × (said ≡ not_odd))
+
 -- why the command names no job, and what is said of it: its evaluation is not known; or a number is not written in
--- digits alone; or all are, and its depth is above its greatest
+-- digits alone; or all are, and do not go together
 abbrev pub IsNoJob : Option (Text × List Row) → List ℕ → Type 0
 IsNoJob command said = (NamesNoEvaluation command × (said ≡ not_an_evaluation))
     ⊎ (KnowsEvaluation command × NamesNoJob command × (said ≡ not_digits))
-    ⊎ ((job : Job) × IsJobIn command job × IsTooDeepIn job said)
+    ⊎ ((job : Job) × IsJobIn command job × IsUnfitIn job said)
 
 -- the arguments have a mistake, or are read without one and name no job, of which this is said
 abbrev pub HasMistake : List Text → List ℕ → Type 0
@@ -226,11 +252,11 @@ IsRefusal said (Ok job) = ⊥
 IsRefusal said (Err OutOfMemory) = ⊤
 IsRefusal said (Err (NotAccepted text)) = string_bytes text ≡ said
 
--- the answer to a job that was named: it is given where its depth is not above its greatest
+-- the answer to a job that was named: it is given where its numbers go together
 abbrev pub IsHeld : Job → Result Job ArgumentsFault → Type 0
 IsHeld job (Ok given) = (given ≡ job) × HasReach job
 IsHeld job (Err OutOfMemory) = ⊤
-IsHeld job (Err (NotAccepted text)) = IsTooDeepIn job (string_bytes text)
+IsHeld job (Err (NotAccepted text)) = IsUnfitIn job (string_bytes text)
 
 -- the answer to an error of this kind
 abbrev pub IsAnswerTo : ErrorKind → Result Job ArgumentsFault → Type 0

@@ -115,12 +115,16 @@ plies_option = record (value_option (codes "depth")) {
   parser = Some (parser.Unsigned 1 16);
 }
 
--- whether the counts of the first moves are told: `--divide`, which may be left out
-abbrev pub divide_option : Rule
-divide_option = record (new_rule (codes "divide")) {
-  long = Some (codes "divide");
+-- the option `--NAME` without a value, which may be left out
+abbrev pub flag_option : Text → Rule
+flag_option name = record (new_rule name) {
+  long = Some name;
   action = Some SetTrue;
 }
+
+-- whether the counts of the first moves are told: `--divide`
+abbrev pub divide_option : Rule
+divide_option = flag_option (codes "divide")
 
 -- the command `perft`
 abbrev pub perft_command : App
@@ -131,6 +135,19 @@ perft_command =
 -- the command `moves`
 abbrev pub moves_command : App
 moves_command = with_rule (new_app (codes "moves")) sfen_option
+
+-- how long a mate may be: `--plies N`, from 1 to 15, and 9 where it is left out
+abbrev pub mate_plies_option : Rule
+mate_plies_option = number_option (codes "plies") 15 (codes "9")
+
+-- the command `mate` with the options of a position and of its length
+abbrev pub mate_position : App
+mate_position = with_rule (with_rule (new_app (codes "mate")) mate_plies_option) sfen_option
+
+-- the command `mate`: `--line` and `--keys` ask for more than the length
+abbrev pub mate_command : App
+mate_command =
+    with_rule (with_rule mate_position (flag_option (codes "line"))) (flag_option (codes "keys"))
 
 -- the program without a command; it has a version, so `--version` and `-V` ask for it
 abbrev pub bare_line : App
@@ -153,9 +170,13 @@ serve_line = with_subcommand replay_line serve_command.top
 abbrev pub perft_line : App
 perft_line = with_subcommand serve_line perft_command.top
 
--- the command line: the program with its five commands
+-- the program with these and `moves`
+abbrev pub moves_line : App
+moves_line = with_subcommand perft_line moves_command.top
+
+-- the command line: the program with its six commands
 abbrev pub command_line : App
-command_line = with_subcommand perft_line moves_command.top
+command_line = with_subcommand moves_line mate_command.top
 
 -- the kinds of mistake for which the arguments are refused, or a request for help or for the
 -- version; none where they are a command line

@@ -28,6 +28,12 @@ too_deep depth most =
     codes "error: --depth " ++ (decimal depth ++ (codes " is above --max-depth "
     ++ (decimal most ++ codes "\n\nFor more information, try '--help'.\n")))
 
+-- why an even number of plies is refused, with the same pointer
+abbrev pub not_odd : List ℕ
+not_odd =
+    codes "error: --plies takes an odd number, from 1 to 15\n\n"
+    ++ codes "For more information, try '--help'.\n"
+
 -- why arguments are refused that could not be read, with the same pointer
 abbrev pub not_utf_8 : List ℕ
 not_utf_8 =

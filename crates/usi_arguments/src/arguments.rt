@@ -1,7 +1,7 @@
 //! The arguments of the command line.
 ghost use Rattle.std.specs.Prelude.{◌≡◌, [], false, true, IfErr, IfNone, IfOk, IfSome, codes, map, string_bytes};
 ghost use Rattle.clap.specs.Words.{kind_of, subcommand_rows_of};
-ghost use Rattle.usi_arguments.specs.Answers.{AreHelpArguments, AreReplayArguments, AreStdioArguments, AreVersionArguments, Gives, GivesHelp, GivesReplay, GivesStdio, HasRanges, HasReach, IsAnswerTo, IsAnswerToParsed, IsAskedBy, IsHeld, IsJobIn, IsJobOf, IsMovesOf, IsPerftIn, IsRefusal, IsRefusedFor, IsReplayOf, IsServeIn, IsStdioOf, KnowsEvaluation, NamesNoEvaluation, NamesNoJob, NamesNoPerft, NamesNoReplay, NamesNoServe, NamesNoStdio, has_no_setup, setup_in};
+ghost use Rattle.usi_arguments.specs.Answers.{AreHelpArguments, AreReplayArguments, AreStdioArguments, AreVersionArguments, Gives, GivesHelp, GivesReplay, GivesStdio, HasRanges, HasReach, IsAnswerTo, IsAnswerToParsed, IsAskedBy, IsHeld, IsJobIn, IsJobOf, IsMateIn, IsMovesOf, IsPerftIn, IsRefusal, IsRefusedFor, IsReplayOf, IsServeIn, IsStdioOf, KnowsEvaluation, NamesNoEvaluation, NamesNoJob, NamesNoMate, NamesNoPerft, NamesNoReplay, NamesNoServe, NamesNoStdio, has_no_setup, is_even, setup_in};
 ghost use Rattle.usi_arguments.specs.CommandLine.{NamesTextIfAny, options_in};
 ghost use Rattle.usi_arguments.specs.Setup.{usual_setup};
 ghost use Rattle.usi_arguments.specs.Texts.{too_deep};
@@ -20,6 +20,9 @@ use std::convert::AsStr;
 
 /// The entries of the table where the arguments name no command (own choice).
 const USUAL_ENTRIES: usize = 4096;
+
+/// The most plies of a mate that may be asked for: 2 MOVES_MAX - 1 of `mate_search`.
+const PLIES_MAX: usize = 15;
 
 /// The setup where no option is given (own choice).
 const USUAL_SETUP: SetupOptions = SetupOptions {
@@ -59,6 +62,15 @@ pub enum Job {
     Moves {
         sfen: Option<String>,
     },
+    /// The shortest mate by checks of at most `plies` plies, an odd number from 1 to 15, in the position
+    /// of a text, or in that of each line of standard input; with `line` also its main line, and with
+    /// `keys` the keys along it.
+    Mate {
+        sfen: Option<String>,
+        plies: u8,
+        line: bool,
+        keys: bool,
+    },
     /// The text of a help that was asked for.
     Help {
         text: String,
@@ -84,7 +96,21 @@ impl Job {
         match self {
             Job::Stdio { setup, .. } => Some(*setup),
             Job::Replay(host) | Job::Serve { host, .. } => Some(host.setup),
-            Job::Perft { .. } | Job::Moves { .. } | Job::Help { .. } | Job::Version => None,
+            Job::Perft { .. }
+            | Job::Moves { .. }
+            | Job::Mate { .. }
+            | Job::Help { .. }
+            | Job::Version => None,
+        }
+    }
+
+    /// Whether it seeks a mate in an even number of plies.
+    fn is_even(&self) -> bool
+        ensures { result ≡ is_even self.now }
+    {
+        match self {
+            Job::Mate { plies, .. } => *plies % 2 == 0,
+            _ => false,
         }
     }
 }
@@ -102,12 +128,13 @@ impl From<AllocError> for ArgumentsFault {
 /// `--slice N`; `serve` for a Unix socket, with `--socket PATH`, which has to be there, these
 /// three, `--turns N` and `--status PATH`; after each of them `--depth N`, `--max-depth N`,
 /// `--lines N` and `--eval NAME` for the setup of the sessions; `perft` with `--depth N`, which has
-/// to be there, `--sfen SFEN` and `--divide`; `moves` with `--sfen SFEN`; `--help`, `-h` or `help`
-/// for help; and `--version` or `-V` for the version. A number is written in decimal digits alone, and the
-/// evaluation is `plain`, `hand` or `exchange`. Every other line is `NotAccepted`, and so is a depth
-/// above the greatest. Of several mistakes those that `clap` finds come first, then an evaluation
-/// that is not known, then a number with a sign, then the depth. The texts of help are those of
-/// `clap`, and so are those of refusals but for these three.
+/// to be there, `--sfen SFEN` and `--divide`; `moves` with `--sfen SFEN`; `mate` with `--plies N`,
+/// `--sfen SFEN`, `--line` and `--keys`; `--help`, `-h` or `help` for help; and `--version` or `-V`
+/// for the version. A number is written in decimal digits alone, and the evaluation is `plain`, `hand`
+/// or `exchange`. Every other line is `NotAccepted`, and so is a depth above the greatest, and an even
+/// number of plies. Of several mistakes those that `clap` finds come first, then an evaluation that is
+/// not known, then a number with a sign, then the depth or the plies. The texts of help are those of
+/// `clap`, and so are those of refusals but for these four.
 pub fn read_arguments<'a, S: AsStr>(
     alloc: Global,
     arguments: &'a [S],
@@ -197,13 +224,16 @@ fn knows_evaluation(matches: &ArgMatches<'_>) -> bool
 fn has_no_setup(name: &str) -> bool
     ensures { result ≡ has_no_setup name.now }
 {
-    name == "perft" || name == "moves"
+    name == "perft" || name == "moves" || name == "mate"
 }
 
-/// The job, where the depth of its setup is not above its greatest.
+/// The job, where the depth of its setup is not above its greatest, and its plies are odd.
 fn held(alloc: Global, job: Job) -> Result<Job, ArgumentsFault>
     ensures { IsHeld job result }
 {
+    if job.is_even() {
+        return refused_with(alloc, NOT_ODD);
+    }
     match job.setup() {
         Some(setup) if setup.depth > setup.max_depth => Err(ArgumentsFault::NotAccepted {
             text: too_deep(alloc, setup)?,
@@ -249,6 +279,9 @@ fn named_job(alloc: Global, matches: &ArgMatches<'_>) -> Result<Option<Job>, All
     }
     if name == "moves" {
         return Ok(Some(moves_job(alloc, options)?));
+    }
+    if name == "mate" {
+        return mate_job(alloc, options);
     }
     Ok(None)
 }
@@ -325,6 +358,24 @@ fn moves_job(alloc: Global, options: &ArgMatches<'_>) -> Result<Job, AllocError>
     Ok(Job::Moves { sfen })
 }
 
+fn mate_job(alloc: Global, options: &ArgMatches<'_>) -> Result<Option<Job>, AllocError>
+    ensures some { IfOk result (λ named. IfSome named (IsMateIn (options_in options.now))) }
+    ensures if_none { IfOk result (λ named. IfNone named (NamesNoMate (options_in options.now))) }
+{
+    let Some(plies) = number_of(options, "plies", PLIES_MAX) else {
+        return Ok(None);
+    };
+    let sfen = text_if_any(alloc, options, "sfen")?;
+    let line = is_set(options, "line");
+    let keys = is_set(options, "keys");
+    Ok(Some(Job::Mate {
+        sfen,
+        plies: plies as u8,
+        line,
+        keys,
+    }))
+}
+
 /// The text of an option, if it has one.
 fn text_if_any(
     alloc: Global,
@@ -354,6 +405,11 @@ fn text_of(alloc: Global, error: &Error, pointer: &str) -> Result<Job, Arguments
         }),
     }
 }
+
+const NOT_ODD: &str = "error: --plies takes an odd number, from 1 to 15
+
+For more information, try '--help'.
+";
 
 const NOT_DIGITS: &str = "error: a number is written in digits alone, without a sign
 

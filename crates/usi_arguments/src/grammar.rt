@@ -1,20 +1,21 @@
 //! The command line as `clap` is told it: the commands with their options.
 ghost use Rattle.std.specs.Prelude.{◌≡◌, IfOk};
 ghost use Rattle.clap.specs.Words.{App, Rule, app_of, new_app, with_rule, with_subcommand};
-ghost use Rattle.usi_arguments.specs.CommandLine.{IsCommand, IsMade, IsOption, bare_line, command_line, depth_option, divide_option, entries_option, eval_option, moves_command, number_option, perft_command, plies_option, replay_command, serve_command, sfen_option, socket_command, socket_option, stdio_command, turns_option, value_option, with_host_options, with_setup_options};
+ghost use Rattle.usi_arguments.specs.CommandLine.{IsCommand, IsMade, IsOption, bare_line, command_line, depth_option, divide_option, entries_option, eval_option, flag_option, mate_command, mate_plies_option, mate_position, moves_command, number_option, perft_command, plies_option, replay_command, serve_command, sfen_option, socket_command, socket_option, stdio_command, turns_option, value_option, with_host_options, with_setup_options};
 
 use crate::help;
 use crate::help::{
-    ABOUT, AFTER_HELP, AFTER_LONG_HELP, MOVES_ABOUT, MOVES_HELP, MOVES_LONG_HELP, PERFT_ABOUT,
-    PERFT_HELP, PERFT_LONG_HELP, REPLAY_ABOUT, REPLAY_HELP, REPLAY_LONG_HELP, SERVE_ABOUT,
-    SERVE_HELP, SERVE_LONG_HELP, STDIO_ABOUT, STDIO_HELP, STDIO_LONG_HELP,
+    ABOUT, AFTER_HELP, AFTER_LONG_HELP, MATE_ABOUT, MATE_HELP, MATE_LONG_HELP, MOVES_ABOUT,
+    MOVES_HELP, MOVES_LONG_HELP, PERFT_ABOUT, PERFT_HELP, PERFT_LONG_HELP, REPLAY_ABOUT,
+    REPLAY_HELP, REPLAY_LONG_HELP, SERVE_ABOUT, SERVE_HELP, SERVE_LONG_HELP, STDIO_ABOUT,
+    STDIO_HELP, STDIO_LONG_HELP,
 };
 use crate::version::version_text;
 use clap::builder::ValueParser;
 use clap::{Arg, ArgAction, Command};
 use std::alloc::{AllocError, Global};
 
-/// The program with its five commands.
+/// The program with its six commands.
 pub(crate) fn command_line<'a>(alloc: Global) -> Result<Command<'a>, AllocError>
     ensures { IfOk result (λ line. app_of line ≡ command_line) }
 {
@@ -22,7 +23,8 @@ pub(crate) fn command_line<'a>(alloc: Global) -> Result<Command<'a>, AllocError>
     let line = with_command(line, replay_command(alloc));
     let line = with_command(line, serve_command(alloc));
     let line = with_command(line, perft_command(alloc));
-    with_command(line, moves_command(alloc))
+    let line = with_command(line, moves_command(alloc));
+    with_command(line, mate_command(alloc))
 }
 
 /// The line with one command more, where both were made.
@@ -151,6 +153,35 @@ fn moves_command<'a>(alloc: Global) -> Result<Command<'a>, AllocError>
     with_option(Ok(command), sfen_option(alloc))
 }
 
+fn mate_command<'a>(alloc: Global) -> Result<Command<'a>, AllocError>
+    ensures { IsMade mate_command result }
+{
+    let made = with_option(mate_position(alloc), flag_option(alloc, "line", help::LINE));
+    with_option(made, flag_option(alloc, "keys", help::KEYS))
+}
+
+/// `mate` with the options of a position and of its length.
+fn mate_position<'a>(alloc: Global) -> Result<Command<'a>, AllocError>
+    ensures { IsMade mate_position result }
+{
+    let command = described(alloc, "mate", MATE_ABOUT, MATE_HELP, MATE_LONG_HELP);
+    let made = with_option(Ok(command), mate_plies_option(alloc));
+    with_option(made, sfen_or_lines_option(alloc))
+}
+
+fn mate_plies_option<'a>(alloc: Global) -> Arg<'a>
+    ensures { IsOption mate_plies_option result }
+{
+    number_option(alloc, "plies", 15, "9", help::MATE_PLIES)
+}
+
+/// The position of `mate`, which reads standard input where it is left out.
+fn sfen_or_lines_option<'a>(alloc: Global) -> Arg<'a>
+    ensures { IsOption sfen_option result }
+{
+    value_option(alloc, "sfen", "SFEN", help::SFEN_OR_LINES)
+}
+
 fn sfen_option<'a>(alloc: Global) -> Arg<'a>
     ensures { IsOption sfen_option result }
 {
@@ -168,10 +199,17 @@ fn plies_option<'a>(alloc: Global) -> Arg<'a>
 fn divide_option<'a>(alloc: Global) -> Arg<'a>
     ensures { IsOption divide_option result }
 {
-    Arg::new(alloc, "divide")
-        .long("divide")
+    flag_option(alloc, "divide", help::DIVIDE)
+}
+
+/// The option that has no value.
+fn flag_option<'a>(alloc: Global, name: &'a str, help: &'a str) -> Arg<'a>
+    ensures { IsOption (flag_option name.entry.now) result }
+{
+    Arg::new(alloc, name)
+        .long(name)
         .action(ArgAction::SetTrue)
-        .help(help::DIVIDE)
+        .help(help)
 }
 
 fn socket_option<'a>(alloc: Global) -> Arg<'a>

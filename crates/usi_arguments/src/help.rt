@@ -13,10 +13,10 @@ pub(crate) const AFTER_LONG_HELP: &str =
 
 Exit statuses:
   0  the input ended, the session is over, the script was replayed, the last turn was taken,
-     moves were listed or counted, or help or the version was asked for
+     moves were listed or counted, mates were sought, or help or the version was asked for
   1  out of memory, a failed read or write, or a socket that could not be made or waited for;
      standard error says which
-  2  the arguments are not accepted; standard error says why
+  2  the arguments are not accepted; standard error says why; or a line for `mate` has no position
   3  a script has a bad line; standard error gives its number
 
 Examples:
@@ -26,7 +26,32 @@ Examples:
   printf 'position startpos\\ngo depth 3\\nquit\\n' | usi_host
   printf '+A\\n+B\\nA go depth 1\\nB usi\\n' | usi_host replay --slots 2
   usi_host serve --socket /tmp/shogi.socket
-  usi_host perft --depth 4";
+  usi_host perft --depth 4
+  usi_host mate --plies 7 --line --sfen '4k4/9/4P4/9/9/9/9/9/9 b G'";
+
+pub(crate) const MATE_HELP: &str =
+    "Each move of the side to move gives check. Every interposition counts as a move.";
+
+pub(crate) const MATE_LONG_HELP: &str =
+    "It tells the length of the shortest mate by checks, as `mate 7`, or `no mate in 9 plies by checks`.
+Each move of the side to move gives check and is legal, so no pawn is dropped to mate; the side that
+is mated is in check and has no legal move. Every interposition counts as a move. With --keys, a line
+follows for each position of the side to move on the main line, with all moves that mate as quickly,
+and then `unique`, or in how many of them there is more than one.
+
+Without --sfen, each line of standard input is a position, answered before the next is read. A line
+that has none is answered by `error: line 3: ` and why, and the others are answered all the same.
+No time is promised: a search of 15 plies may take minutes, and Ctrl-C ends it.
+
+Exit statuses:
+  0  all positions were answered, whether there is a mate or not
+  1  out of memory, or a failed read or write; standard error says which
+  2  the arguments are not accepted, or the SFEN has a fault, as standard error says; or a line has no
+     position, as its answer says
+
+Examples:
+  usi_host mate --sfen '4k4/9/4P4/9/9/9/9/9/9 b G'
+  usi_host mate --plies 5 --line --keys <problems.sfen";
 
 pub(crate) const PERFT_HELP: &str =
     "The count is the last line; with --divide, a line for each first move comes before it.";
@@ -122,6 +147,17 @@ pub(crate) const SERVE_ABOUT: &str =
 pub(crate) const PERFT_ABOUT: &str = "Counts the sequences of legal moves from a position";
 
 pub(crate) const MOVES_ABOUT: &str = "Lists the legal moves of a position";
+
+pub(crate) const MATE_ABOUT: &str = "Finds the shortest mate by checks (tsume)";
+
+pub(crate) const MATE_PLIES: &str = "The most plies of a mate, an odd number from 1 to 15";
+
+pub(crate) const LINE: &str = "Tells the main line, too";
+
+pub(crate) const KEYS: &str = "Tells the moves that mate as quickly, too";
+
+pub(crate) const SFEN_OR_LINES: &str =
+    "The position, and after it `moves` and moves [default: the lines of standard input]";
 
 pub(crate) const SFEN: &str =
     "The position, and after it `moves` and moves [default: the opening position]";

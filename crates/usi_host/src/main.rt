@@ -5,9 +5,11 @@ ghost use Rattle.std.specs.Prelude.{◌≡◌, ◌≤◌, option_map, string_byt
 ghost use Rattle.usi_arguments.specs.Answers.{HasHostRanges};
 ghost use Rattle.usi_arguments.specs.Setup.{IsInReach};
 
+mod mates;
 mod setup;
 mod sockets;
 
+use crate::mates::run_mate;
 use crate::setup::{host_of, run_script, run_session};
 use crate::sockets::opened;
 use host_core::Host;
@@ -114,6 +116,14 @@ fn main(rt: HostRuntime) -> ExitCode {
             rt.stderr().is_terminal(),
         ),
         Ok(Job::Moves { sfen }) => listing(&rt, rt.alloc(), &mut ends, bytes_of(&sfen)),
+        Ok(
+            Job::Mate {
+                sfen,
+                plies,
+                line,
+                keys,
+            },
+        ) => run_mate(&rt, &mut ends, bytes_of(&sfen), plies, line, keys),
         Ok(Job::Help { text }) => print_out(&rt, &mut ends, text.as_bytes()),
         Ok(Job::Version) => print_out(&rt, &mut ends, version_text().as_bytes()),
         Err(fault) => complain(&rt, complaint(&fault), status(&fault)),
