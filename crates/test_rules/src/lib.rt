@@ -15,6 +15,8 @@ mod exchanges;
 #[cfg(test)]
 mod legal_moves;
 #[cfg(test)]
+mod mates;
+#[cfg(test)]
 mod passes;
 #[cfg(test)]
 mod pieces;
