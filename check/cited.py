@@ -46,13 +46,13 @@ def files():
 
 
 def owner_of(line):
-    """The trait, or the type that `impl` is for."""
+    """The trait, or the type that `impl` is for; none if that is `()`."""
     text = line.split("{")[0]
     for _ in range(text.count("<")):
         text = re.sub(r"<[^<>]*>", "", text)
     words = WORD.findall(text)
     before = next((it for it in ("for", "trait") if it in words), "impl")
-    return words[words.index(before) + 1]
+    return next(iter(words[words.index(before) + 1 :]), None)
 
 
 class Call:
