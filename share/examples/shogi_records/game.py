@@ -33,7 +33,8 @@ class Note(NamedTuple):
 @dataclass
 class Game:
     """`startpos` or `sfen ..` and where that stands, the moves from there, what the head says of the game (keys
-    `black`, `white`, `event`, `date`, `site`, `handicap`), the word by which it ends, and notes."""
+    `black`, `white`, `event`, `date`, `site`, `handicap`) or of a problem (`title`, `author`, `length`), the word by
+    which it ends, and notes."""
 
     start: str
     line: int
