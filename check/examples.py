@@ -1,8 +1,8 @@
 #!/usr/bin/env python3
 """Runs the scripts of `share/examples` against the built program, over its standard input and output and
 as a host on a Unix socket. Its one argument is the program; without it, the program that `make build`
-makes. Its last line is `N passed, M failed`. The checks of records and of reports stand in records.py and in
-reports.py."""
+makes. Its last line is `N passed, M failed`. The checks of records, of reports and of problems stand in records.py,
+reports.py and problems.py."""
 
 import os
 import socket
@@ -12,6 +12,7 @@ import tempfile
 import threading
 import time
 
+import problems
 import records
 import reports
 from checks import PROGRAM, TOP, USI, Wrong, run_all, want
@@ -533,6 +534,7 @@ if __name__ == "__main__":
                 table_of_a_status,
                 *records.CHECKS,
                 *reports.CHECKS,
+                *problems.CHECKS,
             ],
         )
     )

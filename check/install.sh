@@ -30,7 +30,7 @@ for page in SECURITY docs/GUIDE docs/PROTOCOL docs/OPERATING docs/TROUBLESHOOTIN
         s#\[([^]]*)\]\([^:)][^)]*\)#\1#g; s#\]\(:#](#g" "$page.md" >"$to"
     chmod 644 "$to"
 done
-for package in game_report shogi_records; do
+for package in game_report shogi_mates shogi_records; do
     install -D -m 644 -t "$doc/examples/$package" share/examples/$package/*.py
 done
 if [ -e "$library/libusi.so" ] && [ -e "$library/libusi.a" ]; then

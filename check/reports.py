@@ -32,19 +32,21 @@ HANGING_MOVES = "5f5e 5a4b 5e5d 4b3c 5g5f 3c4d".split()
 TABLES = {}
 for evaluation, name in (("Plain", "analysed.csv"), ("Exchange", "exchanged.csv")):
     with open(os.path.join(TOP, "check", name), encoding="ascii") as file:
-        TABLES[evaluation] = file.read()
+        # No move of it misses a mate.
+        head, *rows = file.read().splitlines()
+        TABLES[evaluation] = "\n".join([f"{head},missed", *(f"{row}," for row in rows), ""])
 
 MATE_IN_ONE = "4k4/9/4P4/9/9/9/9/9/9 b G 1"
-HEAD = "ply,side,move,value,best,worth,loss,drawn\n"
+HEAD = "ply,side,move,value,best,worth,loss,drawn,missed\n"
 # With a gold in hand and a pawn on the board against a king alone. The pawn promotes, and is taken: what is
 # left is the gold against a pawn in hand.
-MATE_MISSED = f"{HEAD}1,Black,5c5b+,mate 1,G*5b,cp 500,mate,mate 1\n2,White,,cp 500,5a5b,,,cp 500\n"
-MATE_FOUND = f"{HEAD}1,Black,G*5b,mate 1,G*5b,mate 1,0,mate 1\n2,White,,mate 0,resign,,,mate 0\n"
+MATE_MISSED = f"{HEAD}1,Black,5c5b+,mate 1,G*5b,cp 500,mate,mate 1,mate 1 G*5b\n2,White,,cp 500,5a5b,,,cp 500,\n"
+MATE_FOUND = f"{HEAD}1,Black,G*5b,mate 1,G*5b,mate 1,0,mate 1,\n2,White,,mate 0,resign,,,mate 0,\n"
 
 # A program that answers each position with nothing gained, and sleeps or ends after so many answers.
 FAKE = """#!{python}
 import sys, time
-if {refuses} and len(sys.argv) > 1:
+if {refuses} and len(sys.argv) > 1 or "mate" in sys.argv:
     sys.exit(2)
 answers = moves = 0
 for line in sys.stdin:
@@ -117,6 +119,26 @@ def mates_of_a_game():
     for move, table in [("5c5b+", MATE_MISSED), ("G*5b", MATE_FOUND)]:
         line = f"position sfen {MATE_IN_ONE} moves {move}\n"
         want(analysed(line, "--program", PROGRAM)[:2], (0, table), move)
+
+
+def missed_mates():
+    """In one position a gold on 5b is the one mate. In the other the rook mates at once from seven squares, and on 1c
+    in five plies: P*1b takes two more."""
+    rook = "8k/9/7G1/9/9/9/9/9/9 b Rp 1"
+    for sfen, move, missed in [
+        (MATE_IN_ONE, "5c5b+", "mate 1 G*5b"),
+        (MATE_IN_ONE, "G*4b", "mate 1 G*5b"),
+        (MATE_IN_ONE, "G*5b", ""),
+        (rook, "R*1b", ""),
+        (rook, "R*1c", ""),
+        (rook, "R*2b", "mate 3 R*1b 1a2a 1b2b+"),
+    ]:
+        status, table, told = analysed(f"position sfen {sfen} moves {move}\n", "--program", PROGRAM)
+        want((status, table.splitlines()[1].split(",")[8]), (0, missed), f"{move}: {told}")
+    with tempfile.TemporaryDirectory() as folder:
+        status, table, told = analysed(f"position sfen {MATE_IN_ONE} moves G*4b\n", "--program", make_fake(folder))
+        told_so = [line for line in told if "missed mates are left out: " in line]
+        want((status, len(table.splitlines()), len(told_so)), (0, 3, 1), f"a program without the command: {told}")
 
 
 def tables_of_other_forms():
@@ -450,6 +472,7 @@ def records_that_the_program_refuses():
 CHECKS = [
     rows_worked_out_by_another_program,
     mates_of_a_game,
+    missed_mates,
     tables_of_other_forms,
     losses_on_which_depths_agree,
     what_is_marked,

@@ -6,9 +6,10 @@
 
 GAME is a record: moves in USI's words or `position` lines, the log of a front end, KIF, KI2 or CSA, in UTF-8,
 UTF-16, Shift-JIS or EUC-JP. Each row of the table has the ply, who moved, the move that was played, the value of
-the position before it, the best move, what the played move was worth, what it lost, and the value as it is drawn;
-a last row has the position at the end. Values and worths are from Black's side: hundredths of a pawn, or `mate N`
-in plies where Black mates, `mate -N` where White does, and `mate 0` where the side to move is mated.
+the position before it, the best move, what the played move was worth, what it lost, the value as it is drawn, and
+with its line a mate by checks, up to 9 plies, that the move missed; a last row has the position at the end. Values and
+worths are from Black's side: hundredths of a pawn, or `mate N` in plies where Black mates, `mate -N` where White does,
+and `mate 0` where the side to move is mated.
 
 Both sides of a loss are exact and of the same depth. A move's worth at depth N is the negated value of the
 position after it, one ply less deep, which the search of that position to depth N shows on its way: so each
@@ -37,6 +38,7 @@ from game_report.kif import record_of
 from game_report.page import page_of
 from game_report.values import SHALLOWEST, Analysis, Row, shown
 from game_report.words import Made
+from shogi_mates import missed
 from shogi_records import Game, Unreadable, read_games
 from shogi_records.encoding import text_of_name
 
@@ -83,10 +85,11 @@ class Table:
         """Writes the rows that are new."""
         for plies in range(self.written, self.analysis.count()):
             if plies == 0:
-                self.out.writerow(Row._fields)
+                self.out.writerow([*Row._fields, "missed"])
             row = self.analysis.row(plies)
             worth = "" if row.worth is None else shown(row.worth)
-            self.out.writerow(row._replace(value=shown(row.value), worth=worth, drawn=shown(row.drawn)))
+            told = row._replace(value=shown(row.value), worth=worth, drawn=shown(row.drawn))
+            self.out.writerow([*told, missed.cell_of(self.analysis, plies)])
             sys.stdout.flush()
         self.written = self.analysis.count()
 
@@ -132,11 +135,12 @@ def left(began: float, done: int, total: int) -> str:
     return f"{seconds // 60}:{seconds % 60:02}"
 
 
-def analyse(analysis: Analysis, clients: list) -> None:
+def analyse(analysis: Analysis, clients: list, finder: missed.Finder) -> None:
     """Fills the analysis, writes the rows as they come, and tells how far it is."""
     table, began, total = Table(analysis), time.monotonic(), len(analysis.game.moves) + 1
     for done, answer in enumerate(Workers(clients, analysis.game, analysis.depth).answers(), 1):
         analysis.answers.append(answer)
+        finder.look(analysis)
         table.write()
         told = f"{done} of {total} positions, {left(began, done, total)} left"
         print(f"\r{told:<40}", end="\n" if done == total else "", file=sys.stderr, flush=True)
@@ -248,8 +252,9 @@ def run(arguments, clients: list) -> int:
     title = "a game" if arguments.game_file is None else os.path.basename(name)
     asked = None if arguments.title is None else text_of_name(arguments.title)
     made = Made(clients[0].title, arguments.eval, title, arguments.pieces, asked)
+    finder = missed.Finder(arguments.program, arguments.timeout, lambda text: print(f"\nanalyse.py: {text}", file=sys.stderr))
     try:
-        analyse(analysis, clients)
+        analyse(analysis, clients, finder)
     except (Gone, Refused, OSError, KeyboardInterrupt) as why:
         print(file=sys.stderr)
         cause, status = ("Ctrl-C", 130) if isinstance(why, KeyboardInterrupt) else (why, 2)
@@ -257,6 +262,8 @@ def run(arguments, clients: list) -> int:
         moves = min(analysis.count(), len(game.moves))
         tell(f"{cause}; written is what is done, {moves} of {len(game.moves)} moves")
         return status
+    finally:
+        finder.close()
     return 0 if write_reports(arguments, analysis, made, tell) else 2
 
 

@@ -34,6 +34,7 @@ from shogi_mates.problems import Examiner, Found, Problem, read_problems
 from shogi_mates.solver import PLIES
 from shogi_mates.words import is_misstated, line_words, mate_words, notes_of
 from shogi_records import Unreadable
+from shogi_records.encoding import text_of_name
 
 COLUMNS = "number place title sfen stated mate verdict line written cooks promotions last left drops error".split()
 
@@ -137,10 +138,11 @@ def files_of(paths: list[str]) -> tuple[list[Problem], int]:
         else:
             with open(path, "rb") as file:
                 data = file.read()
+        name = "<stdin>" if path is None else text_of_name(path)
         try:
-            problems += read_problems(data, path or "<stdin>")
+            problems += read_problems(data, name)
         except Unreadable as why:
-            tell(f"{path or '<stdin>'}:{why}")
+            tell(f"{name}:{why}")
             unread += 1
     return problems, unread
 
@@ -173,7 +175,7 @@ def arguments_of():
 def write_page(arguments, rows, is_whole: bool) -> None:
     """Writes the page where it was asked for, and where there is something to tell."""
     if arguments.html and rows:
-        title = arguments.title or os.path.basename((arguments.files or ["Problems"])[0])
+        title = text_of_name(arguments.title or os.path.basename((arguments.files or ["Problems"])[0]))
         write_file(arguments.html, page_of(rows, arguments.plies, title, arguments.pieces, is_whole))
 
 

@@ -2,6 +2,8 @@
 
 import json
 
+from shogi_mates import missed
+
 from .values import SCALE, SLIP, Analysis, Value, chance_for_black
 from .words import Made, result_of, title_of
 
@@ -33,6 +35,7 @@ def ply_of(analysis: Analysis, plies: int, sfen: str) -> dict:
             "answer": marked.answer,
             "loss": row.loss,
             "lost": round(marked.lost, 4),
+            **missed.entry_of(analysis, plies),
         }
     return data
 

@@ -1,5 +1,6 @@
 """A game written back as KIF, with what its moves were worth as comments."""
 
+from shogi_mates import missed
 from shogi_records.board import EVEN, Board
 from shogi_records.japanese import HANDICAPS, RANKS, set_handicap
 from shogi_records.kif import ENDS as KIF_ENDS
@@ -74,6 +75,8 @@ def comments_of(analysis: Analysis, plies: int, made: Made) -> list[str]:
         number = marks.index(plies) + 1
         out.append(f"*{number} of the moves that lost most: {lost_words(analysis, plies)}")
         out.append(f"*best was {line} ({pawns(row.value)})")
+    if words := missed.words_of(analysis, plies, made):
+        out.append(f"*{words}")
     return out
 
 

@@ -3,6 +3,7 @@
 import html
 import urllib.parse
 
+from shogi_mates import missed
 from shogi_records.board import Board
 from shogi_records.notation import NOTATIONS, line_of
 
@@ -162,6 +163,7 @@ def page_of(analysis: Analysis, made: Made) -> str:
             "<h2>The moves that lost most</h2>",
             '<p class="soft">Losses are of the chance of winning; values are in pawns, for Black.</p>',
             *(marks or ["<p>None lost anything.</p>"]),
+            *missed.section_of(analysis, made),
             "<h2>All moves</h2>",
             '<p class="soft">The value is that of the move that was played.</p>',
             *moves_of(analysis, made),

@@ -6,6 +6,7 @@ import math
 from typing import NamedTuple, Optional, Union
 
 from client import Answer, Line
+from shogi_mates.solver import Mate
 from shogi_records import Game
 from shogi_records.board import Board, Square
 from shogi_records.notation import parts_of
@@ -132,6 +133,7 @@ class Analysis:
     def __init__(self, game: Game, depth: int):
         self.game, self.depth = game, depth
         self.answers: list[Answer] = []
+        self.missed: dict[int, Mate] = {}  # the mates that moves missed, by the plies before them
         self.losses: dict[int, float] = {}  # the chances that moves lost, by the plies before them
         self.found: tuple[int, list[int]] = (0, [])  # the marked moves among so many rows
         self.black_begins = game.start == "startpos" or game.start.split()[2] == "b"

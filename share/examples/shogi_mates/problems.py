@@ -67,7 +67,7 @@ def stated_by(game: Game) -> Optional[int]:
 def problem_of(game: Game, place: str, stated: Optional[int] = None) -> Problem:
     """The problem of a record."""
     sfen = f"{EVEN} b - 1" if game.start == "startpos" else game.start.removeprefix("sfen ")
-    return Problem(f"{place}:{game.line}", game.head.get("title", ""), sfen, stated_by(game) or stated)
+    return Problem(place, game.head.get("title") or game.head.get("event", ""), sfen, stated_by(game) or stated)
 
 
 def listed(lines: list[str], place: str) -> Iterator[Problem]:
@@ -79,7 +79,7 @@ def listed(lines: list[str], place: str) -> Iterator[Problem]:
             stated = int(comment[1])
         if text and not text.startswith("#"):
             try:
-                yield problem_of(usi.game_of(usi.words_of(line, number)), place, stated)
+                yield problem_of(usi.game_of(usi.words_of(line, number)), f"{place}:{number}", stated)
             except Unreadable as why:
                 yield Problem(f"{place}:{number}", "", "", None, str(why).split(": ", 1)[1])
 
@@ -91,7 +91,8 @@ def read_problems(data: bytes, place: str) -> list[Problem]:
     first = next((text for text in map(str.strip, lines) if text and not text.startswith("#")), "")
     if first and usi.begins(first):
         return list(listed(lines, place))
-    return [problem_of(game, place) for game in read_games(data)]
+    games = read_games(data)
+    return [problem_of(game, f"{place}:{game.line}" if len(games) > 1 else place) for game in games]
 
 
 class Examiner:

@@ -12,12 +12,15 @@ def line_words(problem: Problem, mate: Mate, pieces: str) -> str:
     return line_of(Board.of(f"sfen {problem.sfen}"), mate.line, pieces)
 
 
-def key_words(problem: Problem, mate: Mate, other: Other, pieces: str) -> str:
-    """Another key: its ply, the move, and its plies."""
-    board = Board.of(f"sfen {problem.sfen}")
-    for move in mate.line[: other.ply - 1]:
+def keys_words(problem: Problem, mate: Mate, others: list[Other], pieces: str) -> list[str]:
+    """Other keys, with the ply and the length of the mate by them: those of one ply and one length together."""
+    board, written = Board.of(f"sfen {problem.sfen}"), {}
+    for ply, move in enumerate(mate.line, 1):
+        for other in others:
+            if other.ply == ply:
+                written.setdefault((ply, other.plies), []).append(NOTATIONS[pieces](board, other.move))
         board.play(move)
-    return f"{NOTATIONS[pieces](board, other.move)} at ply {other.ply}, mate {other.plies}"
+    return [f"{' '.join(moves)} at ply {ply}, mate {plies}" for (ply, plies), moves in written.items()]
 
 
 def is_misstated(problem: Problem, found: Found, plies: int) -> bool:
@@ -38,7 +41,7 @@ def notes_of(problem: Problem, found: Found, plies: int, pieces: str) -> list[st
             ("with or without promotion", found.promotions),
             ("other last move", found.last),
         ]:
-            notes += [f"{told}: {key_words(problem, mate, other, pieces)}" for other in others]
+            notes += [f"{told}: {words}" for words in keys_words(problem, mate, others, pieces)]
         notes += [f"an interposed drop at ply {ply} is counted" for ply in found.drops]
         if found.left:
             notes.append(f"left in hand: {found.left}")
