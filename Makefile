@@ -63,6 +63,7 @@ bench:
 	bench/curves.py
 	bench/multipv.py
 	bench/usefulness.py --write
+	bench/mates.py --write
 	bench/serve.py
 
 # Takes away what was built and what `rt check` kept.

@@ -144,7 +144,7 @@ def other_keys_of_the_definition():
 
 
 def lengths_that_are_stated():
-    status, out, told = solved(LIST, "--plies", "5")
+    status, out, told = solved(LIST, "--plies", "3")
     why = "tsume.py: <stdin>:"
     faults = [f"{why}5: no move in USI's words: Once", f"{why}8: stated is 1, found mate 3"]
     want((status, told), (1, faults), out)

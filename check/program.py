@@ -1067,7 +1067,7 @@ def the_readme_shows_its_answers():
         with tempfile.TemporaryDirectory() as folder:
             shell = shell.replace("crates/usi_host/out/usi_host", PROGRAM)
             # What is shown of the program before its proof holds of the proved one.
-            shell = shell.replace("make try", PROGRAM)
+            shell = shell.replace("make try", PROGRAM).replace("check/try.sh", PROGRAM)
             shell = shell.replace("/tmp/shogi.socket", os.path.join(folder, "socket"))
             ended = subprocess.run(
                 ["bash", "-m", "-c", shell], capture_output=True, timeout=PATIENCE, check=False
