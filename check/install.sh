@@ -21,6 +21,7 @@ install -D -m 644 share/_usi_host "$root/share/zsh/site-functions/_usi_host"
 install -D -m 644 -t "$doc" LICENSE deploy/usi_host.service deploy/usi_host@.service deploy/haproxy.cfg
 install -D -m 644 -t "$doc/pictures" docs/pictures/*.png docs/pictures/game.svg
 install -D -m 755 -t "$doc/examples" share/examples/*.py
+install -D -m 644 -t "$doc/examples" share/examples/problems.sfen
 # The pages lie beside each other there, and the examples below them. What else they link to is no link there.
 for page in SECURITY docs/GUIDE docs/PROTOCOL docs/OPERATING docs/TROUBLESHOOTING share/examples/README; do
     to=$doc/${page##*/}.md up=
