@@ -252,7 +252,7 @@ def run(arguments, clients: list) -> int:
     title = "a game" if arguments.game_file is None else os.path.basename(name)
     asked = None if arguments.title is None else text_of_name(arguments.title)
     made = Made(clients[0].title, arguments.eval, title, arguments.pieces, asked)
-    finder = missed.Finder(arguments.program, arguments.timeout, lambda text: print(f"\nanalyse.py: {text}", file=sys.stderr))
+    finder = missed.Finder(arguments.program, arguments.timeout, tell)
     try:
         analyse(analysis, clients, finder)
     except (Gone, Refused, OSError, KeyboardInterrupt) as why:

@@ -1,6 +1,7 @@
 """Mates by checks that moves of a game missed."""
 
 import html
+import sys
 from typing import Callable, Optional
 
 from client import Gone, Refused, TooSlow
@@ -20,8 +21,8 @@ def is_kept(solver: Solver, position: str, move: str) -> bool:
 
 
 class Finder:
-    """Looks for the mates that moves missed. Where the program has no command for mates, it tells that once, and
-    finds none."""
+    """Looks for the mates that moves missed. If the program has no command for mates, it tells that once, and finds
+    none."""
 
     def __init__(self, program: str, timeout: Optional[float], tell: Callable[[str], None]):
         self.solver: Optional[Solver] = Solver(program, PLIES, timeout)
@@ -50,11 +51,16 @@ class Finder:
                 if mate := self.missed_by(analysis, self.looked):
                     analysis.missed[self.looked] = mate
             except (Refused, TooSlow) as why:
-                self.tell(f"ply {self.looked + 1}: no look for a mate: {why}")
+                self.say(f"ply {self.looked + 1}: no look for a mate: {why}")
             except (Gone, OSError) as why:
-                self.tell(f"missed mates are left out: {why}")
+                self.say(f"missed mates are left out: {why}")
                 self.solver = None
             self.looked += 1
+
+    def say(self, text: str) -> None:
+        """Tells something, on a line of its own behind the progress."""
+        print(file=sys.stderr)
+        self.tell(text)
 
     def close(self) -> None:
         """Ends the program."""

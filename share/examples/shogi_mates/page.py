@@ -20,6 +20,8 @@ ul { margin: 0; padding-left: 1.1rem }
 td { vertical-align: top }
 @media print { .problems { grid-template-columns: 1fr 1fr } h2 { break-after: avoid } tr { break-inside: avoid } }
 """
+NOTE = "Each move of the mating side is a check. Lengths are in plies, and interpositions count."
+NOT_COUNTED = "Other keys at the last move, and keys that differ by promotion alone, are listed and do not count."
 Row = tuple[int, Problem, Found]
 
 
@@ -33,7 +35,7 @@ def board_of(row: Row, plies: int, pieces: str) -> str:
     number, problem, found = row
     board = Board.of(f"sfen {problem.sfen}")
     side = "☗ Black" if board.black else "☖ White"
-    task = f"{side} mates in {found.mate.plies}" if found.mate else mate_words(found, plies)
+    task = f"{side} mates in {found.mate.plies}" if found.mate else mate_words(found, plies) or f"{side} to move"
     words = html.escape(f"{name_of(number, problem)} {task}")
     picture = diagram_of(board, pieces, [], html.escape(label_of(board, task)))
     return f'<figure id="problem{number}"><figcaption>{words}</figcaption>{picture}</figure>'
@@ -45,8 +47,9 @@ def solution_of(row: Row, plies: int, pieces: str) -> str:
     line = line_words(problem, found.mate, pieces) if found.mate else ""
     notes = "".join(f"<li>{html.escape(note)}</li>" for note in notes_of(problem, found, plies, pieces))
     mark = ' class="cooked"' if found.cooks else ""
+    name = number if found.is_refused else f'<a href="#problem{number}">{number}</a>'
     cells = [
-        f'<td><a href="#problem{number}">{number}</a></td>',
+        f"<td>{name}</td>",
         f"<td>{html.escape(mate_words(found, plies))}</td>",
         f"<td{mark}>{found.verdict}</td>",
         f'<td class="line">{html.escape(line)}{f"<ul>{notes}</ul>" if notes else ""}</td>',
@@ -56,7 +59,7 @@ def solution_of(row: Row, plies: int, pieces: str) -> str:
 
 def page_of(rows: list[Row], plies: int, title: str, pieces: str, is_whole: bool) -> str:
     """The whole page."""
-    shown = [row for row in rows if row[1].sfen and (row[2].mate or not row[2].error)]
+    shown = [row for row in rows if not row[2].is_refused]
     told = [] if is_whole else [f"<p><strong>Not complete:</strong> the first {len(rows)} problems.</p>"]
     return "\n".join(
         [
@@ -66,7 +69,7 @@ def page_of(rows: list[Row], plies: int, title: str, pieces: str, is_whole: bool
             f"<style>{COLORS}{REPORT_STYLE}{STYLE}{PRINT}</style></head><body>",
             f"<h1>{html.escape(title)}</h1>",
             *told,
-            '<p class="soft">Each move of the mating side is a check. Lengths are in plies, and interpositions count.</p>',
+            f'<p class="soft">{NOTE}</p>',
             '<div class="problems">',
             *(board_of(row, plies, pieces) for row in shown),
             "</div>",
@@ -74,8 +77,7 @@ def page_of(rows: list[Row], plies: int, title: str, pieces: str, is_whole: bool
             "<table><thead><tr><th></th><th>length</th><th></th><th>line</th></tr></thead><tbody>",
             *(solution_of(row, plies, pieces) for row in rows),
             "</tbody></table>",
-            f'<p class="soft">Sound: no other check on the line mates within {plies} plies in all. Other keys at the last '
-            "move, and keys that differ by promotion alone, are listed and do not count.</p>",
+            f'<p class="soft">Sound: no other check on the line mates within {plies} plies in all. {NOT_COUNTED}</p>',
             "<footer><p>Made by tsume.py.</p></footer>",
             "</body></html>\n",
         ]

@@ -38,7 +38,8 @@ class Other(NamedTuple):
 class Found:
     """What is found of a problem: its mate; other keys before the last move; those of them that differ from the one on
     the line by promotion alone; other keys at the last move; what the attacker has left in hand; at which plies the
-    line has a drop by the other side; and why the problem, or a part of it, was not answered."""
+    line has a drop by the other side; why the problem, or a part of it, was not answered; and whether it is no position
+    that could be shown."""
 
     mate: Optional[Mate] = None
     cooks: list[Other] = field(default_factory=list)
@@ -47,6 +48,7 @@ class Found:
     left: str = ""
     drops: list[int] = field(default_factory=list)
     error: str = ""
+    is_refused: bool = False
 
     @property
     def verdict(self) -> str:
@@ -157,7 +159,7 @@ class Examiner:
 
     def examine(self, problem: Problem) -> Found:
         """What is found of a problem."""
-        found = Found(error=problem.error)
+        found = Found(error=problem.error, is_refused=bool(problem.error))
         if problem.error:
             return found
         try:
@@ -165,5 +167,5 @@ class Examiner:
             if found.mate is not None:
                 self.look_along(problem, found)
         except (Refused, TooSlow) as why:
-            found.error = str(why)
+            found.error, found.is_refused = str(why), isinstance(why, Refused)
         return found
