@@ -122,8 +122,8 @@ def mates_of_a_game():
 
 
 def missed_mates():
-    """In one position a gold on 5b is the one mate. In the other the rook mates at once from seven squares, and on 1c
-    in five plies: P*1b takes two more."""
+    """In one position a gold on 5b is the one mate. In the other R*1b mates in three plies, and R*1c, to which P*1b
+    replies, in five. R*2b gives no check, and the search sees that it mates. If the gold leaves, nothing mates."""
     rook = "8k/9/7G1/9/9/9/9/9/9 b Rp 1"
     for sfen, move, missed in [
         (MATE_IN_ONE, "5c5b+", "mate 1 G*5b"),
@@ -131,7 +131,8 @@ def missed_mates():
         (MATE_IN_ONE, "G*5b", ""),
         (rook, "R*1b", ""),
         (rook, "R*1c", ""),
-        (rook, "R*2b", "mate 3 R*1b 1a2a 1b2b+"),
+        (rook, "R*2b", ""),
+        (rook, "2c2d", "mate 3 R*1b 1a2a 1b2b+"),
     ]:
         status, table, told = analysed(f"position sfen {sfen} moves {move}\n", "--program", PROGRAM)
         want((status, table.splitlines()[1].split(",")[8]), (0, missed), f"{move}: {told}")
