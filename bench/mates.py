@@ -1,6 +1,6 @@
 #!/usr/bin/env python3
-"""Asks the built program for a mate by checks at each position of the games of bench/games.txt, and times the answers.
-Writes its table to docs/BENCHMARKS.md with --write.
+"""Asks the built program for a mate by checks at each position of the games of bench/games.txt and bench/more_games.txt,
+and times the answers. Writes its table to docs/BENCHMARKS.md with --write.
 
     bench/mates.py [--program FILE] [--plies N] [--write]
 
@@ -29,9 +29,10 @@ TRIES = 3
 
 def positions():
     """Each position of the games once, in which a side is to move."""
-    with open(os.path.join(TOP, "bench", "games.txt"), "rb") as file:
-        games = read_games(file.read())
-    found = {}
+    games, found = [], {}
+    for name in ("games.txt", "more_games.txt"):
+        with open(os.path.join(TOP, "bench", name), "rb") as file:
+            games += read_games(file.read())
     for game in games:
         board = Board.of(game.start)
         for move in game.moves:

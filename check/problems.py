@@ -11,7 +11,7 @@ import sys
 import tempfile
 
 import mates
-from checks import PROGRAM, TOP, want
+from checks import IS_UNPROVED, PROGRAM, TOP, want
 from minimax_rows import after, in_check, legal_codes, read, text
 from records import DIAGRAM
 from reports import Tags
@@ -176,7 +176,8 @@ def pages_of_problems():
 
 
 def sample_of_problems():
-    """The problems of the sample up to three plies are as long as it says, sound, and those of the definition."""
+    """The problems of the sample are as long as it says, and sound; those of three plies also by the definition. Of a
+    program that is not proved these alone are asked for."""
     with open(SAMPLE, encoding="ascii") as file:
         problems = read_problems(file.read().encode(), "sample")
     want((len(problems), sorted({problem.stated for problem in problems})), (30, [1, 3, 5, 7, 9]), "lengths")
@@ -184,8 +185,9 @@ def sample_of_problems():
     short = [problem for problem in problems if problem.stated <= 3]
     for problem in short:
         want(2 * mates.shortest(read(problem.sfen), 2) - 1, problem.stated, problem.sfen)
-    sent = "".join(f"# {problem.stated} plies\n{problem.sfen}\n" for problem in problems if problem.stated <= 5)
-    status, out, told = solved(sent, "--plies", "5", "--jobs", "4", "--form", "csv")
+    most = 3 if IS_UNPROVED else 9
+    sent = "".join(f"# {problem.stated} plies\n{problem.sfen}\n" for problem in problems if problem.stated <= most)
+    status, out, told = solved(sent, "--plies", str(most), "--jobs", "4", "--form", "csv")
     want((status, told), (0, []), "lengths of the sample")
     for row in csv.DictReader(io.StringIO(out)):
         want((row["verdict"], row["left"], row["drops"]), ("sound", "", ""), row["sfen"])
