@@ -53,26 +53,23 @@ fn after_some_moves(
     Ok(p)
 }
 
-// Four positions of each of so many games from each beginning, where two plies have at most so many paths,
-// under each evaluation.
+// So many positions of a game from each beginning, where two plies have at most so many paths, under each
+// evaluation.
 fn assert_games(
     rt: &impl Abort,
     alloc: Global,
-    (seed, games): (u64, u64),
+    (seed, places): (u64, u64),
     (depth, most): (u8, u64),
 ) -> Result<(), Fail> {
     let mut random = Random::new(seed);
     for sfen in BEGINNINGS {
-        let start = position(sfen)?;
-        for _ in 0..games {
-            let mut p = start;
-            for _ in 0..4u8 {
-                let more = random.below(12).saturating_add(1);
-                p = after_some_moves(alloc, &p, more, &mut random)?;
-                if has_few(&p, 2, most) {
-                    for e in [Eval::Plain, Eval::Hand, Eval::Exchange] {
-                        assert_agrees(rt, &p, e, depth);
-                    }
+        let mut p = position(sfen)?;
+        for _ in 0..places {
+            let more = random.below(12).saturating_add(1);
+            p = after_some_moves(alloc, &p, more, &mut random)?;
+            if has_few(&p, 2, most) {
+                for e in [Eval::Plain, Eval::Hand, Eval::Exchange] {
+                    assert_agrees(rt, &p, e, depth);
                 }
             }
         }
@@ -82,12 +79,12 @@ fn assert_games(
 
 #[test]
 fn random_games_at_depth_three(rt: HostRuntime) -> Result<(), Fail> {
-    assert_games(&rt, rt.alloc(), (20261201, 2), (3, 8000))
+    assert_games(&rt, rt.alloc(), (20261201, 4), (3, 8000))
 }
 
 #[test]
 fn random_games_at_depth_four(rt: HostRuntime) -> Result<(), Fail> {
-    assert_games(&rt, rt.alloc(), (20261202, 1), (4, 2000))
+    assert_games(&rt, rt.alloc(), (20261202, 2), (4, 2000))
 }
 
 // Where a node is left early, the value and the best move of the root are those of plain minimax.
