@@ -4,10 +4,12 @@ column. Which games are legal is left to the program that is asked."""
 import re
 
 from . import csa, kif, usi
-from .encoding import text_of_bytes
-from .game import Game, Move, Note, Unreadable
+from .encoding import text_of_bytes, want_text
+from .game import MOVES_MAX, Game, Move, Note, Unreadable
 
-__all__ = ["Game", "Move", "Note", "Unreadable", "read_games"]
+__all__ = ["BYTES_MAX", "Game", "Move", "Note", "Unreadable", "read_games"]
+
+BYTES_MAX = 4_000_000  # longer records are refused
 
 
 def games_of(lines: list[str]) -> list[Game]:
@@ -28,4 +30,13 @@ def games_of(lines: list[str]) -> list[Game]:
 
 def read_games(data: bytes) -> list[Game]:
     """The games of a record, one at least."""
-    return games_of(re.split(r"\r\n|\n|\r", text_of_bytes(data)))
+    if len(data) > BYTES_MAX:
+        raise Unreadable(1, 1, f"a record of more than {BYTES_MAX:,} bytes")
+    lines = re.split(r"\r\n|\n|\r", text_of_bytes(data).rstrip("\x1a"))
+    want_text(lines)
+    games = games_of(lines)
+    for game in games:
+        if len(game.moves) > MOVES_MAX:
+            late = game.moves[MOVES_MAX]
+            raise Unreadable(late.line, late.column, f"a game of more than {MOVES_MAX:,} moves")
+    return games

@@ -10,6 +10,10 @@ ROLES = dict(zip("FU KY KE GI KI KA HI OU TO NY NK NG UM RY".split(),
                  "P L N S G B R K +P +L +N +S +B +R".split()))  # fmt: skip
 MOVE = re.compile(r"([+-])(\d)(\d)([1-9])([1-9])([A-Z]{2})")
 FIRST = re.compile(r"'|V\d|N[+-]|\$|P[I1-9+-]|[+-]$|[+-]\d{4}[A-Z]{2}")
+TIME = re.compile(r"T(\d+(?:\.\d+)?)$")
+ENCODING = re.compile(r"'CSA encoding=", re.I)
+# What KIF has in its head too, beyond the names; of other statements a comment is made.
+TOLD = {"$TIME_LIMIT:": "持ち時間", "$TIME:": "持ち時間", "$END_TIME:": "終了日時", "$OPENING:": "戦型"}
 HEAD = {"N+": "black", "N-": "white", "$EVENT:": "event", "$SITE:": "site", "$START_TIME:": "date"}
 ENDS = set(
     "TORYO CHUDAN SENNICHITE TIME_UP ILLEGAL_MOVE +ILLEGAL_ACTION -ILLEGAL_ACTION JISHOGI KACHI HIKIWAKE MAX_MOVES "
@@ -96,7 +100,7 @@ def statements(lines: list[str]) -> Iterator[tuple[str, int, int]]:
     for number, line in enumerate(lines, 1):
         for found in re.finditer(r".+" if line.startswith(("P", "N", "$", "'", "V")) else r"[^,]+", line):
             text = found[0].rstrip()
-            if text and not text.startswith(("T", "'", "V")):
+            if text and not text.startswith("V"):
                 yield text, number, found.start() + 1
 
 
@@ -110,18 +114,49 @@ class Reader:
     def begin(self) -> None:
         """Makes room for the next game."""
         self.board, self.game, self.head, self.is_over = Board(), None, {}, False
+        self.before: list[str] = []
+        self.comments: list[str] = []  # those before the game has begun
+
+    def keep(self, text: str) -> None:
+        """Keeps a comment, as KIF has it."""
+        comment = text if text.startswith("*") else f"*{text}"
+        if self.game is None:
+            self.comments.append(comment)
+        else:
+            self.game.comment(comment)
+
+    def set_time(self, text: str) -> None:
+        """Adds the seconds that the last move took."""
+        match = TIME.match(text)
+        if match and self.game and self.game.moves and not self.is_over:
+            self.game.moves[-1] = self.game.moves[-1]._replace(seconds=float(match[1]))
+
+    def read_told(self, text: str) -> None:
+        """Reads a statement that says nothing of the moves."""
+        key, value = text[: text.find(":") + 1], text[text.find(":") + 1 :].strip()
+        if text.startswith("'"):
+            if not ENCODING.match(text):
+                self.keep(text[1:])
+        elif key in TOLD:
+            self.before.append(f"{TOLD[key]}：{value}")
+        else:
+            self.keep(text)
 
     def read(self, text: str, line: int, column: int) -> None:
         """Reads a statement."""
         key = next((key for key in HEAD if text.startswith(key)), None)
         if text == "/":
             self.begin()
+        elif text.startswith("'"):
+            self.read_told(text)
+        elif text.startswith("T"):
+            self.set_time(text)
         elif self.is_over:
             pass
         elif key:
             self.head[HEAD[key]] = text.removeprefix(key).strip()
         elif text.startswith("$"):
-            pass
+            self.read_told(text)
         elif text.startswith("%"):
             self.finish(text[1:], line, column)
         elif self.game is not None:
@@ -131,7 +166,9 @@ class Reader:
         elif text in ("+", "-"):
             self.board.black = text == "+"
             self.board.squares = self.board.squares or Board(EVEN).squares
-            self.game = Game(f"sfen {self.board.sfen()}", line, column, head=self.head)
+            self.game = Game(f"sfen {self.board.sfen()}", line, column, head=self.head, before=self.before)
+            for comment in self.comments:
+                self.game.comment(comment)
             self.games.append(self.game)
         else:
             raise ValueError(f"neither a position of CSA nor whose turn it is, + or -: {text}")

@@ -14,6 +14,9 @@ MARKS = [
 # A record may name its encoding in its first line: `#KIF version=2.0 encoding=EUC-JP`, `'CSA encoding=SHIFT_JIS`.
 NAMED = re.compile(rb"[#'].*encoding=([\w-]+)", re.I)
 NAMES = {"utf-8": "utf-8", "shift_jis": "cp932", "shift-jis": "cp932", "euc-jp": "euc_jp", "euc_jp": "euc_jp"}
+# Letters that no text has.
+CONTROLS = re.compile("[\x00-\x08\x0e-\x1f\x7f]")
+LINE_MAX = 100_000  # longer lines are refused, in letters
 # Letters that a text in EUC-JP has many of if it is read as Shift-JIS.
 HALF_WIDTH = re.compile("[\uff61-\uff9f]")
 
@@ -64,3 +67,12 @@ def text_of_name(name: str) -> str:
         return text_of_bytes(data)
     except Unreadable:
         return data.decode(errors="backslashreplace")
+
+
+def want_text(lines: list[str]) -> None:
+    """Raises `Unreadable` for lines that are no text, and for one without an end."""
+    for number, line in enumerate(lines, 1):
+        if len(line) > LINE_MAX:
+            raise Unreadable(number, 1, f"a line of more than {LINE_MAX:,} letters")
+        if found := CONTROLS.search(line):
+            raise Unreadable(number, found.start() + 1, f"no text: the letter U+{ord(found[0]):04X}")

@@ -1,7 +1,10 @@
 """A game as a record has it."""
 
 from dataclasses import dataclass, field
-from typing import NamedTuple
+from typing import NamedTuple, Optional
+
+
+MOVES_MAX = 10_000  # longer games are refused
 
 
 class Unreadable(Exception):
@@ -12,11 +15,12 @@ class Unreadable(Exception):
 
 
 class Move(NamedTuple):
-    """A move in USI's words, and where it stands in the record."""
+    """A move in USI's words, where it stands in the record, and the seconds that it took, where the record has them."""
 
     text: str
     line: int
     column: int
+    seconds: Optional[float] = None
 
 
 class Note(NamedTuple):
@@ -34,7 +38,9 @@ class Note(NamedTuple):
 class Game:
     """`startpos` or `sfen ..` and where that stands, the moves from there, what the head says of the game (keys
     `black`, `white`, `event`, `date`, `site`, `handicap`) or of a problem (`title`, `author`, `length`), the word by
-    which it ends, and notes."""
+    which it ends, and notes. `comments` has what the record says of the position after so many moves, as lines of KIF:
+    `*a note`, or `&a bookmark`. `before` and `behind` are the lines of a KIF's or KI2's head and those behind its last
+    move; `lines` are all of a record in KIF with a line for each move, and else none."""
 
     start: str
     line: int
@@ -43,7 +49,15 @@ class Game:
     head: dict[str, str] = field(default_factory=dict)
     end: str = ""
     notes: list[Note] = field(default_factory=list)
+    comments: dict[int, list[str]] = field(default_factory=dict)
+    before: list[str] = field(default_factory=list)
+    behind: list[str] = field(default_factory=list)
+    lines: list[str] = field(default_factory=list)
 
     def note(self, line: int, column: int, text: str) -> None:
         """Adds a note."""
         self.notes.append(Note(line, column, text))
+
+    def comment(self, line: str) -> None:
+        """Adds a comment on the position after the last move so far."""
+        self.comments.setdefault(len(self.moves), []).append(line)

@@ -1,10 +1,12 @@
 """Games in USI's words: moves alone, `position` lines, an SFEN before the moves, several games one a line, and
 the log of a front end, of which the `position` lines are read."""
 
+import itertools
 import re
+from typing import Iterable
 
 from .board import USI_MOVE, Board
-from .game import Game, Move, Unreadable
+from .game import MOVES_MAX, Game, Move, Unreadable
 
 ENDS = ("resign", "win", "draw", "timeout")
 RANKS = r"[1-9PLNSGBRKplnsgbrk+]+"
@@ -65,21 +67,22 @@ def game_of(words: list[Move]) -> Game:
     return game
 
 
-def is_playable(words: list[Move]) -> bool:
-    """Whether these are legal moves from the opening position on, with or without an end."""
-    board = Board.of("startpos")
-    for at, word in enumerate(words):
+def is_playable(words: Iterable[Move]) -> bool:
+    """Whether these are legal moves from the opening position on, with or without an end. No game is longer than
+    `MOVES_MAX`."""
+    board, left = Board.of("startpos"), iter(words)
+    for word in itertools.islice(left, MOVES_MAX):
         if not board.is_legal(word.text):
-            return word.text in ENDS and at == len(words) - 1
+            return word.text in ENDS and next(left, None) is None
         board.play(word.text)
-    return True
+    return next(left, None) is None
 
 
 def is_split(rows: list[list[Move]]) -> bool:
     """Whether lines of moves alone are games of their own: all are playable one by one, and not in a row."""
     if len(rows) < 2 or not all(USI_MOVE.fullmatch(row[0].text) for row in rows):
         return False
-    return not is_playable(sum(rows, [])) and all(map(is_playable, rows))
+    return not is_playable(itertools.chain(*rows)) and all(map(is_playable, rows))
 
 
 def logged_games(lines: list[str]) -> list[Game]:
@@ -106,17 +109,27 @@ def logged_games(lines: list[str]) -> list[Game]:
     return [game for game in games if game.moves] or games[:1]
 
 
+def with_comments(games: list[Game], lines: list[str]) -> list[Game]:
+    """The games, each with the lines that begin with `#` among its own: as comments of KIF."""
+    for number, line in enumerate(lines, 1):
+        if line.lstrip().startswith("#"):
+            game = next((game for game in reversed(games) if game.line <= number), games[0])
+            played = sum(move.line < number for move in game.moves)
+            game.comments.setdefault(played, []).append(f"*{line.strip().lstrip('#').strip()}")
+    return games
+
+
 def read(lines: list[str]) -> list[Game]:
     """The games of a record in USI's words."""
     if is_log(lines):
         return logged_games(lines)
     rows = [row for row in (words_of(line, number) for number, line in enumerate(lines, 1)) if row]
     if is_split(rows):
-        return [game_of(row) for row in rows]
+        return with_comments([game_of(row) for row in rows], lines)
     games: list[list[Move]] = []
     for row in rows:
         if games and USI_MOVE.fullmatch(row[0].text) or games and row[0].text in ENDS:
             games[-1].extend(row)
         else:
             games.append(row)
-    return [game_of(words) for words in games]
+    return with_comments([game_of(words) for words in games], lines)
