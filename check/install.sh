@@ -34,6 +34,7 @@ done
 for package in game_report shogi_mates shogi_records; do
     install -D -m 644 -t "$doc/examples/$package" share/examples/$package/*.py
 done
+install -D -m 644 -t "$doc/examples/game_report" share/examples/game_report/shapes.txt share/examples/game_report/step.js
 if [ -e "$library/libusi.so" ] && [ -e "$library/libusi.a" ]; then
     version=$(sed -n 's/^#define USI_VERSION "\(.*\)"$/\1/p' share/library/usi_library.h)
     install -D -m 644 share/library/usi_library.h "$root/include/usi_library.h"

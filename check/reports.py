@@ -1,11 +1,14 @@
 """Checks of share/examples/analyse.py: its table against rows that are worked out by another program or by hand,
 what it marks, its reports, and what becomes of them where it is stopped or its program goes away."""
 
+import base64
 import csv
+import hashlib
 import html.parser
 import io
 import json
 import os
+import re
 import signal
 import subprocess
 import sys
@@ -13,15 +16,23 @@ import tempfile
 import xml.etree.ElementTree
 
 from checks import PROGRAM, TOP, Wrong, want
-from records import PLAYED, UNREADABLE, bytes_of
+from records import COMMENTS, PLAYED, UNREADABLE, bytes_of
 from written import kif_of
 
 EXAMPLES = os.path.join(TOP, "share", "examples")
 sys.path.insert(0, EXAMPLES)
 
-from client import Answer, Line, command_of  # noqa: E402
-from game_report.values import Analysis, agreed_loss, loss_of, lost_chance  # noqa: E402
-from game_report.words import pawns  # noqa: E402
+from client import Answer, Client, Line, command_of  # noqa: E402
+from game_report.curve import picture_of  # noqa: E402
+from game_report.data import data_of  # noqa: E402
+from game_report.kif import record_of  # noqa: E402
+from game_report.opinion import View, view_of  # noqa: E402
+from game_report.page import page_of  # noqa: E402
+from game_report.shapes import shape_of, shapes  # noqa: E402
+from game_report.texts import LANGUAGES, TEXTS  # noqa: E402
+from game_report.threats import Threat, balance_of, cause_of, look_at  # noqa: E402
+from game_report.values import Analysis, accuracy_of, agreed_loss, loss_of, lost_chance  # noqa: E402
+from game_report.words import Made, pawns  # noqa: E402
 from shogi_records import read_games  # noqa: E402
 from shogi_records.board import Board  # noqa: E402
 from shogi_records.notation import NOTATIONS, kif, line_of  # noqa: E402
@@ -36,6 +47,7 @@ for evaluation, name in (("Plain", "analysed.csv"), ("Exchange", "exchanged.csv"
         head, *rows = file.read().splitlines()
         TABLES[evaluation] = "\n".join([f"{head},missed", *(f"{row}," for row in rows), ""])
 
+MADE = Made("A Program", "Exchange", "a record", "japanese")
 MATE_IN_ONE = "4k4/9/4P4/9/9/9/9/9/9 b G 1"
 HEAD = "ply,side,move,value,best,worth,loss,drawn,missed\n"
 # With a gold in hand and a pawn on the board against a king alone. The pawn promotes, and is taken: what is
@@ -86,10 +98,16 @@ def script_of(*words):
     return [sys.executable, "-B", os.path.join(EXAMPLES, "analyse.py"), *words]
 
 
+def in_english():
+    """An environment in which reports are in English."""
+    return dict(os.environ, LC_ALL="C.UTF-8")
+
+
 def analysed(record, *words, depth="4"):
     """The status, the output and the lines on standard error for a record."""
     ended = subprocess.run(
         script_of(*words, "--depth", depth),
+        env=in_english(),
         input=bytes_of(record),
         capture_output=True,
         timeout=300,
@@ -197,6 +215,15 @@ def what_is_marked():
     level, ahead, behind, lost = (answer(*[value] * 4) for value in (0, 400, -400, 1500))
     want(analysis_of(level, ahead, behind, lost).marks(), [2, 0], "the worst one first")
     want(analysis_of(level, ahead, behind, ahead).marks(), [0], "a move that lost nothing")
+    # 1 / (1 + e^(-320 / 600)) is 0.63, and 1 / (1 + e^(-400 / 600)) is 0.66: a slip loses 16 % or more.
+    want(analysis_of(level, answer(*[320] * 4)).marks(), [], "a loss of 13 %")
+    want(analysis_of(level, answer(*[400] * 4)).marks(), [0], "a loss of 16 %")
+    analysis = analysis_of(level, answer(*[320] * 4))
+    analysis.slip = 0.1
+    want(analysis.marks(), [0], "a loss of 13 % where slips lose 10 %")
+    # Six slips one after the other: five are marked.
+    many = [answer(*[400 + 100 * at] * 4) for at in range(7)]
+    want((len(analysis_of(*many).slips()), len(analysis_of(*many).marks())), (6, 5), "at most five")
     # Black gives up a rook; White's reply loses nothing; then Black mates, or does not.
     given = answer(*[2000] * 4)
     want(analysis_of(level, given, answer(*[-2000] * 4)).marks(), [0], "a rook given up for nothing")
@@ -214,9 +241,70 @@ def notations_of_moves():
     want(line_of(start, "7g7f 3c3d 8h2b+ 3a2b".split(), "japanese"), "☗７六歩 ☖３四歩 ☗２二角成 ☖同銀", "a line")
     want(line_of(start, "4i5h 3c3d".split(), "international"), "☗G4i-5h ☖P-3d", "which gold")
     want(NOTATIONS["japanese"](start, "4i5h"), "☗５八金右", "which gold")
-    for cp, text in [(200, "+2"), (-50, "−0.5"), (0, "0")]:
-        want(pawns((cp, None)), text, "a value in words")
-    want(pawns((None, 1)), "Black mates in 1 ply", "a mate in words")
+    for cp, text in [(200, "+1"), (-100, "−0.5"), (0, "0"), (1500, "+7.5")]:
+        want(pawns((cp, None), MADE), text, "a value in pawns won")
+    want(pawns((None, 1), MADE), "Black mates in 1 ply", "a mate in words")
+    want(pawns((None, -3), MADE._replace(language="ja")), "後手の3手詰み", "a mate in Japanese")
+
+
+def accuracy_by_the_formula():
+    # 103.1668 e^(-0.04354 x) - 3.1669 for x percent lost: e^-0.4354 is 0.64701, e^-2.177 is 0.11338.
+    for lost, accuracy in [(0, 100.0), (0.1, 63.58), (0.5, 8.53), (1, 0.0)]:
+        want(round(accuracy_of(lost), 2), accuracy, f"a move that lost {lost}")
+    level, ahead = answer(*[0] * 4), answer(*[400] * 4)
+    quiet = analysis_of(level, level, level)
+    want([round(quiet.accuracy(side), 1) for side in ("Black", "White")], [100.0, 100.0], "a game without losses")
+    # Black's first move lost 1 / (1 + e^(-2/3)) - 1/2, which is 0.16076; White's next one lost nothing.
+    slip = analysis_of(level, ahead, answer(*[-400] * 4))
+    want([round(slip.accuracy(side), 1) for side in ("Black", "White")], [48.1, 100.0], "a game with a slip")
+    want(slip.mean_lost("White", "end"), None, "a phase without moves")
+
+
+def phases_of_a_game():
+    """A bishop for a bishop are two captures of pieces that are no pawns; the third one begins the middle game."""
+    moves = "7g7f 3c3d 8h2b+ 3a2b 2g2f 8c8d 2f2e 8d8e 2e2d 2c2d 2h2d 8e8f 2d2b+".split()
+    [game] = read_games(" ".join(moves).encode())
+    want(Analysis(game, 4).phases, ["opening"] * 13 + ["middle"], "phases")
+
+
+# Openings and castles from books: the side's moves alone, with the other side's rook going to and fro.
+BUILT = {
+    "四間飛車 美濃囲い": "7g7f 6g6f 2h6h 5i4h 4h3h 3h2h 3i3h 6i5h",
+    "三間飛車 片美濃囲い": "7g7f 6g6f 2h7h 5i4h 4h3h 3h2h 3i3h",
+    "ゴキゲン中飛車 ": "7g7f 5g5f 2h5h 5f5e",
+    "向かい飛車 高美濃囲い": "7g7f 6g6f 8h7g 2h8h 5i4h 4h3h 3h2h 3i3h 4g4f 6i5h 5h4g",
+    "袖飛車 ": "3g3f 2h3h",
+    "矢倉 金矢倉": "7g7f 7i6h 6h7g 6i7h 5g5f 4i5h 6g6f 5h6g 8h7i 7i4f 5i6h 6h7i 7i8h",
+    " 居飛車穴熊": "7g7f 8h7g 5i6h 6h7h 7h8h 9i9h 8h9i 7i8h",
+    " 船囲い": "7g7f 5i6h 6h7h 4i5h",
+    " 左美濃": "7g7f 5i6h 7i7h 8h7g 6h7i 7i8h",
+    " エルモ囲い": "7g7f 5i6h 6h7h 7i6h 6i7i",
+    "棒銀 ": "2g2f 2f2e 3i3h 3h2g 2g2f",
+}
+
+
+def names_of_shapes():
+    for name, moves in BUILT.items():
+        opening, castle = name.split(" ")
+        for black in (True, False):
+            board, words = Board.of("startpos"), []
+            other = ["8b7b", "7b8b"] if black else ["2h3h", "3h2h"]
+            for at, word in enumerate(moves.split()):
+                mine = word if black else turned_move(word)
+                words += [mine, other[at % 2]] if black else [other[at % 2], mine]
+            for word in words:
+                want(board.is_legal(word), True, f"{name}: {word}")
+                board.play(word)
+            analysis = Analysis(read_games(" ".join(words).encode())[0], 4)
+            found = [shape_of(analysis, black, kind) for kind in ("opening", "castle")]
+            want([shape.names[1] if shape else "" for shape in found], [opening, castle], f"{name}, {black}")
+    kinds = [shape.kind for shape in shapes()]
+    want(min(kinds.count("opening"), kinds.count("castle")) >= 12, True, "a dozen of each")
+
+
+def turned_move(word):
+    """A move on the board, as White makes it."""
+    return "".join(str(10 - int(c)) if c.isdigit() else "ihgfedcba"["abcdefghi".index(c)] for c in word)
 
 
 class Tags(html.parser.HTMLParser):
@@ -237,16 +325,32 @@ class Tags(html.parser.HTMLParser):
             raise Wrong(f"</{tag}> closes nothing")
 
 
-def want_page(text, boards):
-    """Looks whether a page is whole, loads nothing, and has so many boards."""
+# Where a page leads: the positions on an analysis board, and the source of a formula.
+LINKS = ("https://lishogi.org/analysis/", "https://lichess.org/page/accuracy")
+
+
+def want_page(text, marks):
+    """Looks whether a page is whole, loads nothing, runs its own script alone, and has so many marks: their boards, and
+    the one for stepping."""
     tags = Tags()
     tags.feed(text)
     want(tags.open, [], "tags that are open")
-    want((text.count('class="board"'), text.count("<article")), (boards, boards), "boards")
-    elsewhere = [link for link in tags.links if not link.startswith("#")]
-    want([link for link in elsewhere if not link.startswith("https://lishogi.org/analysis/")], [], "links")
-    want([tag for tag in ("link", "script", "img", "iframe") if tag in tags.seen], [], "tags that load")
-    want([word for word in ("@import", "url(", "src=") if word in text], [], "what is loaded")
+    want((text.count('class="board"'), text.count("<article")), (marks + 1, marks), "boards")
+    want([link for link in tags.links if not link.startswith(("#", *LINKS))], [], "links")
+    want([tag for tag in ("link", "img", "iframe", "object", "base") if tag in tags.seen], [], "tags that load")
+    want([word for word in ("@import", "url(") if word in text], [], "what is loaded")
+    with open(os.path.join(EXAMPLES, "game_report", "step.js"), encoding="ascii") as file:
+        script = file.read()
+    want(text.count("<script"), 2, "scripts: the data, and the one that steps")
+    want(text.count(f"<script>{script}</script>"), 1, "the script that steps")
+    digest = base64.b64encode(hashlib.sha256(script.encode()).digest()).decode()
+    want(f"script-src 'sha256-{digest}'" in text and "default-src 'none'" in text, True, "what may run")
+    return data_in(text)
+
+
+def data_in(page):
+    """The data of the script that steps."""
+    return json.loads(page.split('id="plies">')[1].split("</script>")[0])
 
 
 def reports_of_a_game():
@@ -271,14 +375,27 @@ def reports_of_a_game():
         want(str(ply.get("loss", "")), row["loss"], "a loss and its data")
     lost = {ply["ply"]: ply["lost"] for ply in data["plies"] if "lost" in ply}
     marks = data["marks"]
-    want((len(marks), marks), (5, sorted(marks, key=lambda ply: (-lost[ply], ply))), "marks, the worst one first")
-    want_page(texts["html"], 5)
+    want(marks, sorted(marks, key=lambda ply: (-lost[ply], ply)), "marks, the worst one first")
+    slips = [ply for ply in lost if lost[ply] >= 0.16]
+    want(len(marks), min(5, sum(side["slips"] for side in data["sides"].values())), "the number of marks")
+    want(set(marks) <= set(slips), True, "only slips are marked")
+    want([ply for ply in data["plies"] if ply["ply"] in marks and "cause" not in ply], [], "marks without a cause")
+    stepped = want_page(texts["html"], len(marks))
+    want([ply["sfen"] for ply in stepped["plies"]], [ply["sfen"] for ply in data["plies"]], "the positions to step to")
+    want([ply["notes"] for ply in stepped["plies"]], ["", *["a note"] * len(PLAYED)], "the record's comments")
     want("<h1>☗ &lt;甲&gt; – ☖ 乙</h1>" in texts["html"], True, "the players' names")
     want("2020/01/02" in texts["html"] and "broken off" in texts["html"], True, "the date and the end")
-    [game] = read_games(texts["kif"].encode())
-    want([move.text for move in game.moves], PLAYED, "the record that is written back")
-    want((game.head["black"], game.end, game.notes), ("<甲>", "中断", []), "its head and its end")
-    want(texts["kif"].count("\n*value "), len(PLAYED), "comments")
+    for row, ply in zip(rows, data["plies"]):
+        mate = row["loss"].endswith("plies") or row["loss"] == "mate"
+        is_dear = row["move"] and row["best"] != row["move"] and (mate or int(row["loss"]) >= 200)
+        want(bool(stepped["plies"][ply["ply"]]["better"]) if row["move"] else None, is_dear if row["move"] else None,
+             f"ply {ply['ply']}: a better move is named where a pawn was lost")  # fmt: skip
+    want_kept(record, texts["kif"])
+    points = [int(line.partition("=")[2]) for line in texts["kif"].split("\n") if line.startswith("*#評価値=")]
+    worth = [ply["worth"] for ply in data["plies"] if "worth" in ply]
+    mates = {True: 30000, False: -30000}
+    wanted = [round(value["cp"] / 2) if "cp" in value else mates[value["mate"] > 0] for value in worth]
+    want(points, wanted, "values as hundredths of a pawn won")
     picture = xml.etree.ElementTree.fromstring(texts["svg"])
     space = "{http://www.w3.org/2000/svg}"
     [curve] = picture.iter(f"{space}polyline")
@@ -287,7 +404,255 @@ def reports_of_a_game():
     for height, ply in zip(heights, data["plies"]):
         want(height < heights[0], ply["chance"] > 0.5, "what is good for Black is above")
     texts_of = [text.text for text in picture.iter(f"{space}text")]
-    want(sum(text.startswith("ply ") for text in texts_of), 5, "the list of the marked moves")
+    want(sum(text.startswith("ply ") for text in texts_of), len(marks), "the list of the marked moves")
+
+
+def is_ours(line):
+    """Whether a line of a record is one that this script adds."""
+    return line.startswith(("**解析 0 深さ ", "*#評価値=", "*best was ")) or " of the moves that lost most" in line or (
+        "values in hundredths of a pawn won" in line
+    )
+
+
+def want_kept(record, written):
+    """Looks whether a record in KIF is in what was written: all lines but that of its encoding in their order, and
+    ours between; and whether it is read as the same game with the same comments."""
+    first, *lines = written.split("\n")
+    want(first, "#KIF version=2.0 encoding=UTF-8", "the encoding")
+    want_among([line for line in record.split("\n") if not line.startswith("#KIF version")], lines)
+    [before], [after] = read_games(record.encode()), read_games(written.encode())
+    want([move[0::3] for move in after.moves], [move[0::3] for move in before.moves], "moves and times")
+    want((after.head, after.end, after.start), (before.head, before.end, before.start), "the head and the end")
+    for plies, said in after.comments.items():
+        want_among(before.comments.get(plies, []), said)
+    want(set(before.comments) <= set(after.comments), True, "comments")
+
+
+def want_among(theirs, lines):
+    """Looks whether the lines are these in their order, and others between that are ours."""
+    left = list(theirs)
+    for line in lines:
+        if left and left[0] == line:
+            left.pop(0)
+        elif not is_ours(line):
+            raise Wrong(f"neither the record's line nor ours: {line!r}; the record's next is {left[:1]}")
+    want(left, [], "lines that are lost")
+
+
+def filled(record):
+    """The first game of a record with answers that gain nothing."""
+    game = read_games(bytes_of(record))[0]
+    analysis = Analysis(game, 4)
+    for board in analysis.boards:
+        [move] = [move for move in ("1g1f", "1c1d", "1f1e", "1d1e", "9i9h", "9a9b") if board.is_legal(move)][:1]
+        analysis.answers.append(Answer(move, None, [Line(depth, 1, 0, None, [move]) for depth in range(1, 5)]))
+    return analysis
+
+
+def records_written_back():
+    """Records as other programs write them: all that they say is in what is written."""
+    record = COMMENTS["KIF"][0]
+    want_kept(record, record_of(filled(record), MADE))
+    marked = record.replace("# KIF形式", "#KIF version=2.0 encoding=Shift_JIS\n# KIF形式").encode("cp932")
+    want_kept(record, record_of(filled(marked), MADE))
+    # Once more over what was written: the values stand there twice, and the player's words once.
+    twice = record_of(filled(record_of(filled(record), MADE)), MADE)
+    want((twice.count("*一手目"), twice.count("*#評価値=0"), twice.count("encoding=")), (1, 4, 1), "written twice")
+    for name in ("KI2", "CSA", "moves"):
+        record, comments, times = COMMENTS[name]
+        game = read_games(bytes_of(record))[0]
+        [again] = read_games(record_of(filled(record), MADE).encode())
+        theirs = {plies: [line for line in said if not is_ours(line)] for plies, said in again.comments.items()}
+        want({plies: said for plies, said in theirs.items() if said}, comments, f"{name}: comments")
+        want([move.text for move in again.moves], [move.text for move in game.moves], f"{name}: moves")
+        want([move.seconds for move in again.moves], [time and int(time) for time in times], f"{name}: times")
+        for key, value in game.head.items():
+            want(again.head.get(key), value, f"{name}: {key}")
+    told = record_of(filled(COMMENTS["CSA"][0]), MADE).split("\n")
+    want([line for line in told if line.startswith(("持ち時間", "戦型"))], ["持ち時間：00:25+00", "戦型：歩"], "CSA: the head")
+    late = record_of(filled("先手：甲\n▲７六歩 △３四歩\nまで2手で中断\n\n変化：2手\n*変化\n△８四歩\n"), MADE)
+    want(late.endswith("\nまで2手で中断\n\n変化：2手\n*変化\n△８四歩\n"), True, "KI2: a variation")
+
+
+# Names, comments, a title and a path that would be markup, script or lines of KIF.
+MEAN = "</script><script>alert(1)</script><img src=x onerror=alert(1)>&amp;{name}\u2028先手番"
+MEAN_NAME = MEAN.replace("/", ":")
+
+
+def words_that_stay_words():
+    csa = f"N+{MEAN}\nN-{MEAN}\n$EVENT:{MEAN}\n$OPENING:{MEAN}\n'{MEAN}\nPI\n+\n+7776FU\n'{MEAN}\n-3334FU\n%TORYO\n"
+    kif = f"手合割：平手\n先手：{MEAN}\n   1 ７六歩(77)\n*{MEAN}\n   2 ３四歩(33)\n   3 {MEAN}\n"
+    for record in (csa, kif):
+        for made in (MADE, MADE._replace(name=MEAN_NAME, title=MEAN, program=MEAN, language="ja")):
+            analysis = filled(record)
+            stepped = want_page(page_of(analysis, made), 0)
+            want(stepped["plies"][1]["notes"], MEAN.replace("\u2028", " "), "a comment is a text")
+            page = page_of(analysis, made)
+            want([word for word in ("<img", "alert(1)</script><", "\u2028") if word in page], [], "markup")
+            text = xml.etree.ElementTree.tostring(xml.etree.ElementTree.fromstring(picture_of(analysis, made)))
+            want(b"<img" in text or b"<script" in text, False, "markup in the picture")
+            [again] = read_games(record_of(analysis, made).encode())
+            want((again.start, len(again.moves)), (f"sfen {Board.of('startpos').sfen()}", 2), "KIF")
+            json.loads(data_of(analysis, made))
+    for line in record_of(filled(csa), MADE).split("\n"):
+        want("\u2028" in line, False, f"a line that ends for some programs: {line!r}")
+
+
+def texts_in_both_languages():
+    for key, texts in TEXTS.items():
+        fields = [sorted(re.findall(r"\{(\w+)", text)) for text in texts]
+        want((len(texts), fields[1]), (len(LANGUAGES), fields[0]), f"the fields of {key}")
+    page = page_of(filled("7g7f 3c3d"), MADE._replace(language="ja"))
+    want('<html lang="ja">' in page and "<h2>全指し手</h2>" in page, True, "a page in Japanese")
+    here = dict(os.environ, LANG="ja_JP.UTF-8")
+    english = dict(here, LC_ALL="C")
+    for language, words, env in [("ja", [], here), ("en", ["--language", "en"], here), ("en", [], english)]:
+        with tempfile.TemporaryDirectory() as folder:
+            path = os.path.join(folder, "game.html")
+            ran = subprocess.run(
+                script_of("--program", make_fake(folder), "--depth", "4", "--html", path, *words),
+                input=b"7g7f 3c3d\n",
+                capture_output=True,
+                env=env,
+                timeout=300,
+                check=False,
+            )
+            want(ran.returncode, 0, ran.stderr.decode())
+            with open(path, encoding="utf-8") as file:
+                want(f'<html lang="{language}">' in file.read(), True, f"{words}: {language}")
+
+
+# A second engine: it says what the words of its answer say, or ends, or says nothing more.
+SECOND = """#!{python}
+import sys, time
+moves = 0
+for line in sys.stdin:
+    words = line.split()
+    if words[0] == "usi":
+        print("id name <b>A Second</b>\\nusiok")
+    if words[0] == "position":
+        moves = len(words) - words.index("moves") - 1 if "moves" in words else 0
+    if words[0] == "go":
+        {then}
+    sys.stdout.flush()
+"""
+# What it says, what Black's move lost by it, and what is told of it. The values are for the side to move, and a chance of
+# winning is 0.9933 at 3,000. A line ends before what is no legal move.
+SAID = "print('info depth 9 score cp', {values}[moves], 'pv', {lines}[moves], '\\nbestmove 1g1f')"
+SECONDS = [
+    (SAID.format(values=[3000, 3000], lines=["G*5b 9a9b", "1c1d"]), {"lost": 0.9866}, ""),
+    (SAID.format(values=[0, 0], lines=["G*5b <img>", "1c1d"]), {"lost": 0.0}, ""),
+    ("print('bestmove 1g1f')", None, "no score in its answer to go depth 9"),
+    ("print('info score cp what pv 1g1f\\nbestmove')", None, "no score in its answer to go depth 9"),
+    ("sys.exit(3)", None, "it has ended with status 3"),
+    ("time.sleep(600)", None, "no answer within 10 s"),
+]
+
+
+def second_opinions():
+    game = f"position sfen {MATE_IN_ONE} moves 5c5b+\n"
+    for then, wanted, why in SECONDS:
+        with tempfile.TemporaryDirectory() as folder:
+            second = os.path.join(folder, "a second")
+            paths = [os.path.join(folder, f"game.{kind}") for kind in ("json", "html")]
+            with open(second, "w", encoding="ascii") as file:
+                file.write(SECOND.format(python=sys.executable, then=then))
+            os.chmod(second, 0o755)
+            words = ["--program", PROGRAM, "--json", paths[0], "--html", paths[1], "--timeout", "10"]
+            asked = ["--second", f"'{second}'", "--second-go", "depth 9"]
+            status, table, told = analysed(game, *words, *asked)
+            want((status, table), (0, MATE_MISSED), f"{then}: {told}")
+            with open(paths[0], encoding="utf-8") as file:
+                data = json.load(file)
+            with open(paths[1], encoding="utf-8") as file:
+                page = file.read()
+            want_page(page, 1)
+            want(bool(data["second"]), not why, f"{then}: {told}")
+            if why:
+                last = f"analyse.py: the second engine: {second}: {why}; the report is made without it"
+                want((told[-1], data["second"]), (last, None), then)
+                continue
+            seen = data["plies"][0]["second"]
+            want((seen["lost"], seen["line"]), (wanted["lost"], ["G*5b"]), then)
+            says = "says so too" if wanted["lost"] else "differs"
+            want(f"&lt;b&gt;A Second&lt;/b&gt; {says}" in page, True, f"{then}: what the page says")
+    told = analysed(game, "--program", PROGRAM, "--second", "/none/such")[2]
+    want("analyse.py: the second engine: " in told[-1] and "No such file" in told[-1], True, told)
+    board = Board.of("startpos")
+    for replies, view in [
+        (["info depth 2 score mate -4 pv 7g7f 3c3d", "bestmove 7g7f"], View((None, -4), ["7g7f", "3c3d"])),
+        (["info score cp 5 lowerbound pv 2g2f", "info depth 1 multipv 2 score cp 9 pv 2g2f", "bestmove 2g2f"], None),
+        (["bestmove resign"], View((None, 0), [])),
+        (["info score cp -31 nodes 5", "bestmove 2g2f"], View((-31, None), [])),
+    ]:
+        want(view_of(board, replies), view, f"{replies}")
+
+
+def depths_and_jobs_of_their_own():
+    """Without a depth it is 7, or 6 from 200 plies on, or the deepest that the host offers; the slip is asked for."""
+    with tempfile.TemporaryDirectory() as folder:
+        path, less = os.path.join(folder, "game.json"), os.path.join(folder, "less")
+        os.mkdir(less)
+        fake = make_fake(folder)
+        long = " ".join(["9i9h", "9a9b", "9h9i", "9b9a"] * 50)
+        for game, words, wanted in [
+            ("7g7f 3c3d", [], (7, 0.16)),
+            (long, ["--slip", "25"], (6, 0.25)),
+            ("7g7f 3c3d", ["--program", make_fake(less, greatest=5)], (5, 0.16)),
+        ]:
+            ran = subprocess.run(
+                script_of("--program", fake, "--json", path, *words),
+                input=game.encode(),
+                capture_output=True,
+                timeout=300,
+                check=False,
+            )
+            want(ran.returncode, 0, ran.stderr.decode())
+            with open(path, encoding="utf-8") as file:
+                data = json.load(file)
+            want((data["depth"], data["slip"], data["marks"]), (*wanted, []), f"{words}")
+    for words, why in [
+        (["--slip", "0"], "--slip is from 1 to 100 percent"),
+        (["--jobs", "65"], "--game counts from 1, and --jobs is from 1 to 64"),
+    ]:
+        told = analysed("7g7f", *words)
+        want((told[0], why in told[2][-1]), (2, True), f"{words}")
+
+
+# A slip of each kind, worked out by hand: the position, the move, and why it was a slip. A rook is worth 1,000, a gold
+# and a promoted pawn 600, a pawn 100.
+SLIPS = [
+    # White's rook attacks the gold on 5e, which nothing guards. Black passes by.
+    ("4k4/4r4/9/9/4G4/9/9/9/K8 b - 1", "9i9h", "overlooked"),
+    # The gold steps into the rook's way.
+    ("4k4/4r4/9/9/3G5/9/9/9/K8 b - 1", "6e5e", "left hanging"),
+    # A rook hangs, and is not taken.
+    ("4k4/9/9/9/4r4/4P4/9/9/K8 b - 1", "9i9h", "missed a gain"),
+    ("4k4/9/4P4/9/9/9/9/9/9 b G 1", "5c5b+", "missed a mate"),
+]
+
+
+def causes_of_slips():
+    client = Client(command=command_of(PROGRAM, 4))
+    if has_exchange():
+        client.set_option("Eval", "Exchange")
+    for sfen, move, cause in SLIPS:
+        [game] = read_games(f"position sfen {sfen} moves {move}\n".encode())
+        analysis = Analysis(game, 4)
+        texts = [game.start, f"{game.start} moves {move}"]
+        analysis.answers = [client.analyse(text, 4) for text in texts]
+        threat = look_at(client, analysis.boards[0], move, "Exchange")
+        analysis.threats[0] = threat
+        want((analysis.slips(), cause_of(analysis, 0)), ([0], cause), sfen)
+        if cause == "overlooked":
+            seen = threat.line[0], threat.gain, threat.remains
+            want(seen, ("5b5e", 1500, True), "a gold that hangs, and a promotion")
+    # In check nobody threatens: the next move would take the king.
+    want(look_at(client, Board.of("sfen 4k4/4r4/9/9/9/9/9/9/4K4 b - 1"), "5i6i", "Exchange"), Threat(True), "a check")
+    # A rook and a promoted pawn against a pawn in hand; in hand Hand counts a tenth more.
+    board = Board.of("sfen 4k4/9/4+P4/9/9/9/9/9/4KR3 b p 1")
+    want([balance_of(board, True, name) for name in ("Exchange", "Hand")], [1500, 1490], "material")
+    client.close()
 
 
 def pages_with_international_pieces():
@@ -303,6 +668,7 @@ def pages_with_international_pieces():
             [game] = read_games(file.read())
     want_page(page, 1)
     want("1. Ply 1: ☗P-5b+ lost 30 %, missed a mate" in page, True, "the mark")
+    want("<strong>Missed a mate in 1 ply</strong>" in page, True, "its cause")
     want("https://lishogi.org/analysis/standard/4k4/9/4P4/9/9/9/9/9/9_b_G_1" in page, True, "the link")
     want((game.start, [move.text for move in game.moves]), (f"sfen {MATE_IN_ONE}", ["5c5b+"]), "the record")
 
@@ -478,6 +844,15 @@ CHECKS = [
     losses_on_which_depths_agree,
     what_is_marked,
     notations_of_moves,
+    accuracy_by_the_formula,
+    phases_of_a_game,
+    names_of_shapes,
+    causes_of_slips,
+    second_opinions,
+    depths_and_jobs_of_their_own,
+    records_written_back,
+    words_that_stay_words,
+    texts_in_both_languages,
     reports_of_a_game,
     pages_with_international_pieces,
     programs_of_other_kinds,

@@ -1,8 +1,9 @@
 #!/usr/bin/env python3
 """What each move of a game was worth, and what it lost: a table, and a report for players.
 
-    analyse.py [--program PATH | --socket PATH] [--depth N] [--jobs N] [--html FILE] [--svg FILE] [--kif FILE]
-               [--json FILE] [--title TEXT] [--pieces japanese|international] [--game N] [GAME] > table.csv
+    analyse.py [--program PATH | --socket PATH] [--depth N] [--slip PERCENT] [--jobs N] [--html FILE] [--svg FILE]
+               [--kif FILE] [--json FILE] [--title TEXT] [--pieces japanese|international] [--language ja|en]
+               [--second COMMAND [--second-go TEXT]] [--game N] [GAME] > table.csv
 
 GAME is a record: moves in USI's words or `position` lines, the log of a front end, KIF, KI2 or CSA, in UTF-8,
 UTF-16, Shift-JIS or EUC-JP. Each row of the table has the ply, who moved, the move that was played, the value of
@@ -31,16 +32,29 @@ import tempfile
 import threading
 import time
 
-from client import Answer, Gone, Refused, add_arguments, client_of, told_evaluation
+from client import DEPTHS, Gone, Refused, add_arguments, client_of, told_evaluation
 from game_report.curve import picture_of
 from game_report.data import data_of
 from game_report.kif import record_of
+from game_report.opinion import GO, Opinion, Unusable
 from game_report.page import page_of
-from game_report.values import SHALLOWEST, Analysis, Row, shown
+from game_report.texts import LANGUAGES, language_here
+from game_report.threats import look_at
+from game_report.values import SHALLOWEST, SLIP, Analysis, Row, shown
 from game_report.words import Made
 from shogi_mates import missed
-from shogi_records import Game, Unreadable, read_games
+from shogi_records import BYTES_MAX, Game, Unreadable, read_games
 from shogi_records.encoding import text_of_name
+
+# How deep a game is searched without a word, and one of so many plies or more; and where moves that are best alone are
+# looked for.
+DEPTH, LONG, LONG_DEPTH, ALONE_DEPTH = 7, 200, 6, 5
+JOBS_MAX = 64
+
+
+def depth_for(game: Game) -> int:
+    """How deep a game is searched where no depth is asked for."""
+    return DEPTH if len(game.moves) < LONG else LONG_DEPTH
 
 
 def text_of_game(game, plies):
@@ -95,38 +109,44 @@ class Table:
 
 
 class Workers:
-    """Clients that answer for the positions of a game, each in a thread of its own."""
+    """Clients that do tasks, each client in a thread of its own. A task is called with the client that does it."""
 
-    def __init__(self, clients: list, game: Game, depth: int):
-        self.clients, self.game, self.depth = clients, game, depth
+    def __init__(self, clients: list, tasks: list):
+        self.tasks = tasks
         self.wanted: queue.Queue = queue.Queue()
         self.found: queue.Queue = queue.Queue()
-        for plies in range(len(game.moves) + 1):
-            self.wanted.put(plies)
+        for number in range(len(tasks)):
+            self.wanted.put(number)
         for client in clients:
             threading.Thread(target=self.work, args=(client,), daemon=True).start()
 
     def work(self, client) -> None:
-        """Answers for positions until none is left."""
+        """Does tasks until none is left."""
         with contextlib.suppress(queue.Empty):
             while True:
-                plies = self.wanted.get_nowait()
+                number = self.wanted.get_nowait()
                 try:
-                    self.found.put((plies, client.analyse(text_of_game(self.game, plies), self.depth)))
-                except Exception as why:  # it is raised where the answers are taken
-                    self.found.put((plies, why))
+                    self.found.put((number, self.tasks[number](client)))
+                except Exception as why:  # it is raised where the results are taken
+                    self.found.put((number, why))
                     return
 
-    def answers(self):
-        """The answers in the order of the game."""
-        early: dict[int, Answer] = {}
-        for plies in range(len(self.game.moves) + 1):
-            while plies not in early:
-                number, answer = self.found.get()
-                if isinstance(answer, Exception):
-                    raise answer
-                early[number] = answer
-            yield early.pop(plies)
+    def results(self):
+        """What the tasks gave, in their order."""
+        early: dict = {}
+        for wanted in range(len(self.tasks)):
+            while wanted not in early:
+                number, result = self.found.get()
+                if isinstance(result, Exception):
+                    raise result
+                early[number] = result
+            yield early.pop(wanted)
+
+
+def answers_of(clients: list, game: Game, depth: int):
+    """The answers for the positions of a game, in its order."""
+    texts = [text_of_game(game, plies) for plies in range(len(game.moves) + 1)]
+    return Workers(clients, [lambda client, text=text: client.analyse(text, depth) for text in texts]).results()
 
 
 def left(began: float, done: int, total: int) -> str:
@@ -138,12 +158,59 @@ def left(began: float, done: int, total: int) -> str:
 def analyse(analysis: Analysis, clients: list, finder: missed.Finder) -> None:
     """Fills the analysis, writes the rows as they come, and tells how far it is."""
     table, began, total = Table(analysis), time.monotonic(), len(analysis.game.moves) + 1
-    for done, answer in enumerate(Workers(clients, analysis.game, analysis.depth).answers(), 1):
+    for done, answer in enumerate(answers_of(clients, analysis.game, analysis.depth), 1):
         analysis.answers.append(answer)
         finder.look(analysis)
         table.write()
         told = f"{done} of {total} positions, {left(began, done, total)} left"
         print(f"\r{told:<40}", end="\n" if done == total else "", file=sys.stderr, flush=True)
+
+
+def alone_at(client, text: str, depth: int) -> str:
+    """The best move at a position where it is better than all others by the session's two lines; else nothing."""
+    lines = [line for line in client.analyse(text, depth).lines if line.depth == depth]
+    if len(lines) < 2 or lines[0][2:4] == lines[1][2:4]:
+        return ""
+    return lines[0].pv[0]
+
+
+def find_alone(analysis: Analysis, clients: list) -> None:
+    """Finds the best moves that are better than all others, at `ALONE_DEPTH` and still at the analysis's depth."""
+    clients = [client for client in clients if 2 in client.offered.get("MultiPV", ())]
+    depth = min(ALONE_DEPTH, analysis.depth - 1)
+    texts = [text_of_game(analysis.game, plies) for plies in range(len(analysis.game.moves))]
+    if not clients:
+        return
+    for client in clients:
+        client.set_option("MultiPV", 2)
+    found = Workers(clients, [lambda client, text=text: alone_at(client, text, depth) for text in texts]).results()
+    for plies, move in enumerate(found):
+        if move and move == analysis.answers[plies].best:
+            analysis.alone[plies] = move
+    for client in clients:
+        client.set_option("MultiPV", 1)
+
+
+def find_threats(analysis: Analysis, clients: list) -> None:
+    """Finds what was threatened before each slip."""
+    slips = analysis.slips()
+
+    def task(plies):
+        board, move = analysis.boards[plies], analysis.game.moves[plies].text
+        return lambda client: look_at(client, board, move, analysis.evaluation)
+
+    analysis.threats.update(zip(slips, Workers(clients, [task(plies) for plies in slips]).results()))
+
+
+def second_opinion(arguments, analysis: Analysis, tell) -> None:
+    """Asks the other engine about the marked moves; tells why where it is of no use."""
+    if not arguments.second:
+        return
+    try:
+        with contextlib.closing(Opinion(arguments.second, arguments.second_go, arguments.timeout)) as other:
+            other.look(analysis, lambda plies: text_of_game(analysis.game, plies))
+    except Unusable as why:
+        tell(f"the second engine: {why}; the report is made without it")
 
 
 def want_place(path: str) -> None:
@@ -195,15 +262,23 @@ def arguments_of():
         description="What each move of a game was worth and lost, as CSV, and as a report for players.",
         epilog="Values are from Black's side, at depth N. A loss is the least on which the last two depths agree.",
     )
-    add_arguments(parser)
+    add_arguments(parser, None, f"{DEPTH}; {LONG_DEPTH} from {LONG} plies on")
     parser.add_argument("--html", metavar="FILE", help="writes a report for players there, a page of its own")
     parser.add_argument("--svg", metavar="FILE", help="draws the game there")
     parser.add_argument("--kif", metavar="FILE", help="writes the record there as KIF, with comments")
     parser.add_argument("--json", metavar="FILE", help="writes all of it there as data")
     parser.add_argument("--title", help="the title of the report (the players' names, or that of the record)")
     parser.add_argument("--pieces", choices=("japanese", "international"), default="japanese", help="japanese")
+    parser.add_argument("--language", choices=LANGUAGES, default=language_here(), help="that of LANG")
+    parser.add_argument(
+        "--slip", type=float, default=100 * SLIP, metavar="PERCENT", help="the chance of winning that a slip loses (16)"
+    )
+    parser.add_argument("--second", metavar="COMMAND", help="another USI engine, asked about the marked moves")
+    parser.add_argument("--second-go", default=GO, metavar="TEXT", help=f"what follows its go ({GO})")
     parser.add_argument("--game", type=int, default=1, metavar="N", help="which game of the record (1)")
-    parser.add_argument("--jobs", type=int, default=1, metavar="N", help="how many positions at a time (1)")
+    parser.add_argument(
+        "--jobs", type=int, metavar="N", help="how many positions at a time (the processors; 1 with --socket)"
+    )
     parser.add_argument(
         "game_file",
         nargs="?",
@@ -211,19 +286,23 @@ def arguments_of():
         help="a record: USI's moves or position lines, KIF, KI2, CSA (standard input)",
     )
     arguments = parser.parse_args()
-    if arguments.depth < SHALLOWEST:
+    if arguments.depth is not None and arguments.depth < SHALLOWEST:
         parser.error(f"the depth is at least {SHALLOWEST}, so that two depths say something of a loss")
-    if arguments.game < 1 or not 1 <= arguments.jobs <= 64:
-        parser.error("--game counts from 1, and --jobs is from 1 to 64")
+    if arguments.jobs is None:
+        arguments.jobs = 1 if arguments.socket else min(os.cpu_count() or 1, JOBS_MAX)
+    if arguments.game < 1 or not 1 <= arguments.jobs <= JOBS_MAX:
+        parser.error(f"--game counts from 1, and --jobs is from 1 to {JOBS_MAX}")
+    if not 1 <= arguments.slip <= 100:
+        parser.error("--slip is from 1 to 100 percent")
     return arguments
 
 
 def record_at(path):
     """The bytes of the record, and its name as text."""
     if path is None:
-        return sys.stdin.buffer.read(), "<stdin>"
+        return sys.stdin.buffer.read(BYTES_MAX + 1), "<stdin>"
     with open(path, "rb") as file:
-        return file.read(), text_of_name(path)
+        return file.read(BYTES_MAX + 1), text_of_name(path)
 
 
 def run(arguments, clients: list) -> int:
@@ -238,7 +317,10 @@ def run(arguments, clients: list) -> int:
 
     try:
         game = chosen_game(data, arguments.game, lambda note: tell(f"{name}:{note}"))
+        asked, arguments.depth = arguments.depth, arguments.depth or SHALLOWEST
         clients.append(client_of(arguments))
+        if asked is None:
+            arguments.depth = min(depth_for(game), clients[0].offered.get("Depth", DEPTHS)[-1])
         check_game(clients[0], game)
     except Unreadable as why:
         tell(f"{name}:{why}")
@@ -248,13 +330,16 @@ def run(arguments, clients: list) -> int:
     arguments.eval = clients[0].options["Eval"]
     while len(clients) < min(arguments.jobs, len(game.moves) + 1):
         clients.append(client_of(arguments))
-    analysis = Analysis(game, arguments.depth)
+    analysis = Analysis(game, arguments.depth, arguments.slip / 100, arguments.eval)
     title = "a game" if arguments.game_file is None else os.path.basename(name)
-    asked = None if arguments.title is None else text_of_name(arguments.title)
-    made = Made(clients[0].title, arguments.eval, title, arguments.pieces, asked)
+    named = None if arguments.title is None else text_of_name(arguments.title)
+    made = Made(clients[0].title, arguments.eval, title, arguments.pieces, named, arguments.language)
     finder = missed.Finder(arguments.program, arguments.timeout, tell)
     try:
         analyse(analysis, clients, finder)
+        find_threats(analysis, clients)
+        find_alone(analysis, clients)
+        second_opinion(arguments, analysis, tell)
     except (Gone, Refused, OSError, KeyboardInterrupt) as why:
         print(file=sys.stderr)
         cause, status = ("Ctrl-C", 130) if isinstance(why, KeyboardInterrupt) else (why, 2)

@@ -381,12 +381,13 @@ def seconds_of(text):
     return seconds
 
 
-def add_arguments(parser):
-    """The arguments by which the scripts choose a host, and what it searches."""
+def add_arguments(parser, depth=6, told="6"):
+    """The arguments by which the scripts choose a host, and what it searches: to this depth, told as this, if no other
+    is asked for."""
     where = parser.add_mutually_exclusive_group()
     where.add_argument("--program", default="usi_host", help="the program to start (usi_host)")
     where.add_argument("--socket", help="the socket of a host that runs already")
-    parser.add_argument("--depth", type=depth_of, default=6, help="in plies, from 1 to 16 (6)")
+    parser.add_argument("--depth", type=depth_of, default=depth, help=f"in plies, from 1 to 16 ({told})")
     parser.add_argument(
         "--eval", choices=EVALUATIONS, help="the evaluation (Exchange where it is offered, else Plain)"
     )

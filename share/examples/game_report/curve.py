@@ -4,11 +4,12 @@ from shogi_records.notation import NOTATIONS
 
 from .svg import COLORS, path, stone, text_at
 from .values import Analysis, chance_for_black
-from .words import Made, lost_words, title_of
+from .words import Made, lost_words, percent_of, title_of
 
 WIDTH, HEIGHT = 720, 300
-LEFT, RIGHT, UP, DOWN = 74, 14, 26, 48
-LIST = 300  # the room for the list of the marked moves beside a picture of its own
+LEFT, RIGHT, UP, DOWN = 74, 24, 26, 48
+TIMES = 70  # the height for the times of the moves, below the curve
+LIST = 340  # the room for the list of the marked moves beside a picture of its own
 
 
 def step_of(length: int, most: int) -> int:
@@ -21,10 +22,13 @@ def step_of(length: int, most: int) -> int:
 class Curve:
     """Where things stand: plies across, Black's chance of winning upwards."""
 
-    def __init__(self, analysis: Analysis):
-        self.analysis = analysis
+    def __init__(self, analysis: Analysis, made: Made):
+        self.analysis, self.made = analysis, made
         self.rows = analysis.rows()
         self.plies = max(len(analysis.game.moves), 1)
+        self.times = [move.seconds for move in analysis.game.moves]
+        self.longest = max((seconds for seconds in self.times if seconds), default=0)
+        self.height = HEIGHT + (TIMES if self.longest else 0)
 
     def across(self, plies: float) -> float:
         """Where a ply stands."""
@@ -52,9 +56,26 @@ class Curve:
             x = self.across(plies)
             out.append(path(f"M{x:.1f} {foot}v5", stroke="var(--soft)"))
             out.append(text_at(x, foot + 20, str(plies), text_anchor="middle"))
-        out.append(text_at((LEFT + end) / 2, HEIGHT - 6, "plies played", text_anchor="middle", class_="soft"))
-        out.append(text_at(LEFT + 8, UP + 16, "☗ Black is ahead", class_="soft"))
-        out.append(text_at(LEFT + 8, foot - 8, "☖ White is ahead", class_="soft"))
+        say = self.made.say
+        out.append(text_at((LEFT + end) / 2, HEIGHT - 6, say("plies played"), text_anchor="middle", class_="soft"))
+        out.append(text_at(LEFT + 8, UP + 16, say("Black ahead"), class_="soft"))
+        out.append(text_at(LEFT + 8, foot - 8, say("White ahead"), class_="soft"))
+        return out
+
+    def bars(self) -> list[str]:
+        """The times of the moves, where the record has them: Black's upwards, and White's downwards."""
+        if not self.longest:
+            return []
+        middle, tall = HEIGHT + TIMES / 2 - 4, TIMES / 2 - 8
+        width = min(max((WIDTH - LEFT - RIGHT) / self.plies - 1, 1), 8)
+        out = [path(f"M{LEFT} {middle:.1f}H{WIDTH - RIGHT}", stroke="var(--soft)")]
+        out.append(text_at(LEFT - 8, middle + 4, self.made.say("time a move"), text_anchor="end"))
+        for plies, seconds in enumerate(self.times):
+            if seconds:
+                high, x = tall * seconds / self.longest, self.across(plies + 1) - width / 2
+                way = -1 if self.analysis.side_at(plies) == "Black" else 1
+                fill = "var(--time-black)" if way < 0 else "var(--time-white)"
+                out.append(path(f"M{x:.1f} {middle:.1f}v{way * high:.1f}h{width:.1f}V{middle:.1f}z", fill=fill))
         return out
 
     def line(self) -> str:
@@ -85,29 +106,43 @@ class Curve:
             out.append(f'<a href="#mark{number}">{stone(x, at, black, number)}</a>')
         return out
 
-    def drawing(self) -> str:
+    def cursor(self) -> str:
+        """The line that a script moves along the curve."""
+        return path(f"M{LEFT} {UP}V{HEIGHT - DOWN}", stroke="var(--played)", stroke_width=1.5, id="now", display="none")
+
+    def drawing(self, cursor: str = "") -> str:
         """All of it."""
-        return "\n".join([*self.axes(), self.line(), *self.marks()])
+        return "\n".join([*self.axes(), *self.bars(), cursor, self.line(), *self.marks()])
+
+
+def list_of(analysis: Analysis, made: Made) -> list[str]:
+    """The marked moves, one below the other."""
+    boards, lasts, write, out = analysis.boards, analysis.ends, NOTATIONS[made.pieces], []
+    marks = analysis.marks()
+    title = made.say("most lost") if marks else made.say("no marks", slip=percent_of(analysis.slip))
+    out.append(text_at(WIDTH + 16, 52, title, font_size=15 if marks else 13))
+    for number, plies in enumerate(marks, 1):
+        row, y = analysis.row(plies), 44 + 44 * number
+        played, best = (write(boards[plies], move, lasts[plies]) for move in (row.move, row.best))
+        words = made.say("picture mark", ply=row.ply, move=played, lost=lost_words(analysis, plies, made))
+        out.append(stone(WIDTH + 28, y - 4, row.side == "Black", number))
+        out.append(text_at(WIDTH + 46, y, words))
+        if analysis.is_dear(plies):
+            out.append(text_at(WIDTH + 46, y + 17, made.say("best", move=best), class_="soft"))
+    return out
 
 
 def picture_of(analysis: Analysis, made: Made) -> str:
     """A picture of its own as SVG, with a list of the marked moves beside the curve."""
-    width, height, title = WIDTH + LIST, HEIGHT + 34, title_of(analysis.game, made)
+    curve = Curve(analysis, made)
+    width, height, title = WIDTH + LIST, curve.height + 34, title_of(analysis.game, made)
+    told = made.say("chance at depth", depth=analysis.depth)
     out = [
         f'<svg xmlns="http://www.w3.org/2000/svg" viewBox="0 0 {width} {height}" '
         'font-family="sans-serif" font-size="13" fill="var(--ink)">',
         f"<style>{COLORS}.soft {{ fill: var(--soft) }}</style>",
         f'<rect width="{width}" height="{height}" fill="var(--paper)"/>',
-        text_at(LEFT, 24, f"{title}: Black's chance of winning, at depth {analysis.depth}", font_size=15),
-        f'<g transform="translate(0 34)">{Curve(analysis).drawing()}</g>',
-        text_at(WIDTH + 16, 52, "The moves that lost most:", font_size=15),
+        text_at(LEFT, 24, f"{title}: {told}", font_size=15),
+        f'<g transform="translate(0 34)">{curve.drawing()}</g>',
     ]
-    boards, lasts = analysis.boards, analysis.ends
-    for number, plies in enumerate(analysis.marks(), 1):
-        row, y = analysis.row(plies), 44 + 44 * number
-        write = NOTATIONS[made.pieces]
-        played, best = (write(boards[plies], move, lasts[plies]) for move in (row.move, row.best))
-        out.append(stone(WIDTH + 28, y - 4, row.side == "Black", number))
-        out.append(text_at(WIDTH + 46, y, f"ply {row.ply}: {played} {lost_words(analysis, plies)}"))
-        out.append(text_at(WIDTH + 46, y + 17, f"best was {best}", class_="soft"))
-    return "\n".join([*out, "</svg>"]) + "\n"
+    return "\n".join([*out, *list_of(analysis, made), "</svg>"]) + "\n"

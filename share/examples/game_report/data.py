@@ -4,8 +4,10 @@ import json
 
 from shogi_mates import missed
 
-from .values import SCALE, SLIP, Analysis, Value, chance_for_black
-from .words import Made, result_of, title_of
+from .shapes import UP_TO, shape_of
+from .threats import cause_of
+from .values import PHASES, SCALE, WORST, Analysis, Value, chance_for_black
+from .words import Made, in_line, result_of, title_of
 
 
 def value_of(value: Value) -> dict:
@@ -35,34 +37,75 @@ def ply_of(analysis: Analysis, plies: int, sfen: str) -> dict:
             "answer": marked.answer,
             "loss": row.loss,
             "lost": round(marked.lost, 4),
+            "alone": analysis.alone.get(plies) == row.best,
             **missed.entry_of(analysis, plies),
         }
+        if analysis.game.moves[plies].seconds is not None:
+            data["seconds"] = analysis.game.moves[plies].seconds
+        if cause := plies in analysis.slips() and cause_of(analysis, plies):
+            data["cause"] = cause
+        data |= threat_data(analysis, plies) | second_data(analysis, plies)
     return data
+
+
+def threat_data(analysis: Analysis, plies: int) -> dict:
+    """What was threatened before a move, where that was looked at."""
+    data, threat = {}, analysis.threats.get(plies)
+    if threat:
+        data["in_check"] = threat.is_check
+        if threat.is_one:
+            worth = {"cp": threat.gain} if threat.mate is None else {"mate": threat.mate}
+            data["threat"] = {"line": threat.line, "gain": worth, "remains": threat.remains}
+    return data
+
+
+def second_data(analysis: Analysis, plies: int) -> dict:
+    """What the other engine says of a position and its move, where it was asked."""
+    second = analysis.second
+    if second is None or plies not in second.views:
+        return {}
+    value, line = second.views[plies]
+    data = {"second": {"value": value_of(value), "line": line}}
+    if second.lost(plies) is not None:
+        data["second"]["lost"] = round(second.lost(plies), 4)
+    return data
+
+
+def side_of(analysis: Analysis, side: str) -> dict:
+    """What is told of a side."""
+    mean, accuracy, (found, there) = analysis.mean_lost(side), analysis.accuracy(side), analysis.found_alone(side)
+    return {
+        "moves": len(analysis.moves_of(side)),
+        "slips": sum(analysis.side_at(plies) == side for plies in analysis.slips()),
+        "mean_lost": round(mean or 0.0, 4),
+        "accuracy": None if accuracy is None else round(accuracy, 2),
+        "best_alone": {"found": found, "of": there},
+        "mean_lost_by_phase": {phase: analysis.mean_lost(side, phase) for phase in PHASES},
+        **{kind: shape.names[0] for kind in UP_TO if (shape := shape_of(analysis, side == "Black", kind))},
+    }
 
 
 def data_of(analysis: Analysis, made: Made) -> str:
     """The report as JSON."""
     game, boards = analysis.game, analysis.boards
-    sides = {}
-    for side in ("Black", "White"):
-        moves, slips, mean = analysis.summary(side)
-        sides[side] = {"moves": moves, "slips": slips, "mean_lost": round(mean, 4)}
     data = {
-        "form": 1,
+        "form": 2,
         "complete": analysis.is_whole,
         "title": title_of(game, made),
-        "record": made.name,
+        "record": in_line(made.name),
         "program": made.program,
         "evaluation": made.evaluation,
         "depth": analysis.depth,
         "scale": SCALE,
-        "slip": SLIP,
+        "slip": analysis.slip,
+        "most_marks": WORST,
+        "second": None if analysis.second is None else {"program": analysis.second.title, "go": analysis.second.go},
         "head": game.head,
         "end": game.end,
-        "result": result_of(analysis),
+        "result": result_of(analysis, made._replace(language="en")),
         "notes": [note._asdict() for note in game.notes],
         "start": game.start,
-        "sides": sides,
+        "sides": {side: side_of(analysis, side) for side in ("Black", "White")},
         "marks": [plies + 1 for plies in analysis.marks()],
         "plies": [ply_of(analysis, plies, boards[plies].sfen()) for plies in range(analysis.count())],
     }

@@ -19,10 +19,11 @@ HAND = "RBGSNLP"
 
 
 class Arrow(NamedTuple):
-    """A move to be shown, and the name of its color."""
+    """A move to be shown, the name of its color, and whether it is the other side's."""
 
     move: str
     color: str
+    is_other: bool = False
 
 
 def center(square: Square) -> tuple[float, float]:
@@ -70,7 +71,7 @@ def hand_of(board: Board, black: bool, pieces: str) -> str:
 def arrow_of(board: Board, arrow: Arrow) -> str:
     """A move from the middle of its square, or from the hand, to the square where it ends."""
     origin, to, role, _ = parts_of(board, arrow.move)
-    x, y = center(origin) if origin else hand_spots(board, board.black)[role]
+    x, y = center(origin) if origin else hand_spots(board, board.black != arrow.is_other)[role]
     end_x, end_y = center(to)
     length = math.hypot(end_x - x, end_y - y)
     right, down = (end_x - x) / length, (end_y - y) / length
@@ -86,13 +87,8 @@ def arrow_of(board: Board, arrow: Arrow) -> str:
     return f'<g opacity="0.85">{shaft}{path(f"M{tip_x:.1f} {tip_y:.1f}{wings}", fill=f"var({arrow.color})")}</g>'
 
 
-def label_of(board: Board, moves: str) -> str:
-    """What a reader hears who does not see the board."""
-    return f"the position {board.sfen()}, {moves}"
-
-
-def diagram_of(board: Board, pieces: str, arrows: list[Arrow], label: str, last: Optional[Square] = None) -> str:
-    """The board, the square where the move before ended shaded."""
+def grid_of(pieces: str, label: str, last: Optional[Square] = None) -> str:
+    """The board without pieces, not yet closed, the square where the move before ended shaded."""
     out = [
         f'<svg class="board" viewBox="0 0 {WIDTH} {HEIGHT}" role="img" aria-label="{label}">',
         f'<rect x="{LEFT}" y="{UP}" width="{SIDE}" height="{SIDE}" fill="var(--board)" stroke="var(--edge)" '
@@ -110,6 +106,12 @@ def diagram_of(board: Board, pieces: str, arrows: list[Arrow], label: str, last:
         rank = RANKS[n - 1] if pieces == "japanese" else "abcdefghi"[n - 1]
         out.append(text_at(x, UP - 7, str(n), font_size=13, text_anchor="middle", fill="var(--soft)"))
         out.append(text_at(LEFT + SIDE + 12, y + 5, rank, font_size=13, text_anchor="middle", fill="var(--soft)"))
+    return "".join(out)
+
+
+def diagram_of(board: Board, pieces: str, arrows: list[Arrow], label: str, last: Optional[Square] = None) -> str:
+    """The board with its pieces and arrows."""
+    out = [grid_of(pieces, label, last)]
     for square, (black, role) in board.squares.items():
         out.append(piece_at(*center(square), black, role, pieces))
     out += [hand_of(board, black, pieces) for black in (True, False)]

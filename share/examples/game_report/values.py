@@ -1,8 +1,8 @@
 """What each move of a game was worth and lost, from the answers for its positions, and which moves are marked."""
 
 import functools
-import itertools
 import math
+import statistics
 from typing import NamedTuple, Optional, Union
 
 from client import Answer, Line
@@ -11,10 +11,14 @@ from shogi_records import Game
 from shogi_records.board import Board, Square
 from shogi_records.notation import parts_of
 
-WORST = 5  # so many moves are marked
-SLIP = 0.1  # a move that loses so much of the chance of winning is a slip
+WORST = 5  # so many moves are marked, at most
+SLIP = 0.16  # a move that loses so much of the chance of winning is a slip
 SCALE = 600  # the chance of winning is 1 / (1 + e^(-value / SCALE))
+PAWN = 200  # a pawn that is won: one side has one more, and the other has one less
 SHALLOWEST = 4  # the least depth of which two depths say something of a loss
+PHASES = ("opening", "middle", "end")
+MIDDLE, END = 3, 10  # after so many captures of pieces other than pawns these begin
+ACCURACY_SOURCE = "https://lichess.org/page/accuracy"
 
 Value = tuple[Optional[int], Optional[int]]  # hundredths of a pawn, or a mate in plies; one of them is None
 Loss = Union[int, str]
@@ -127,15 +131,26 @@ def mean_value(answer: Answer, depth: int) -> Value:
     return (cp, mate) if mate is not None or shallower is None else (round((cp + shallower) / 2), None)
 
 
-class Analysis:
-    """A game with the answers for its positions, as far as they are there: one more than its moves at most."""
+def accuracy_of(lost: float) -> float:
+    """How accurate a move is, from 0 to 100, by the chance of winning that it lost: lichess's formula."""
+    return min(max(103.1668 * math.exp(-4.354 * lost) - 3.1669, 0.0), 100.0)
 
-    def __init__(self, game: Game, depth: int):
-        self.game, self.depth = game, depth
+
+class Analysis:
+    """A game with the answers for its positions, as far as they are there: one more than its moves at most. `alone` has
+    the best moves that are better than all others, `threats` what was threatened before a slip, and `missed` the mates
+    by checks that moves missed; all of these by the plies before. `second` is what another engine says, if one was
+    asked."""
+
+    def __init__(self, game: Game, depth: int, slip: float = SLIP, evaluation: str = "Exchange"):
+        self.game, self.depth, self.slip, self.evaluation = game, depth, slip, evaluation
         self.answers: list[Answer] = []
-        self.missed: dict[int, Mate] = {}  # the mates that moves missed, by the plies before them
+        self.alone: dict[int, str] = {}
+        self.threats: dict = {}
+        self.missed: dict[int, Mate] = {}
+        self.second = None
         self.losses: dict[int, float] = {}  # the chances that moves lost, by the plies before them
-        self.found: tuple[int, list[int]] = (0, [])  # the marked moves among so many rows
+        self.found: tuple[int, list[int]] = (0, [])  # the slips among so many rows
         self.black_begins = game.start == "startpos" or game.start.split()[2] == "b"
 
     def side_at(self, plies: int) -> str:
@@ -200,15 +215,27 @@ class Analysis:
                 return False
         return False
 
-    def marks(self) -> list[int]:
-        """After how many plies the moves were made that lost most, the worst one first. A move after which its mover
-        mates is none of them."""
+    def played(self) -> range:
+        """After how many plies the moves were made that have a row."""
+        return range(min(self.count(), len(self.game.moves)))
+
+    def slips(self) -> list[int]:
+        """After how many plies the slips were made, the worst one first. A move after which its mover mates is none of
+        them."""
         if self.found[0] != self.count():
-            moves = range(min(self.count(), len(self.game.moves)))
-            lost = sorted((-self.lost(plies), plies) for plies in moves)
-            marked = (plies for loss, plies in lost if loss < 0 and not self.mates_after(plies))
-            self.found = self.count(), list(itertools.islice(marked, WORST))
+            lost = sorted((-self.lost(plies), plies) for plies in self.played())
+            slips = [plies for loss, plies in lost if -loss >= self.slip and not self.mates_after(plies)]
+            self.found = self.count(), slips
         return self.found[1]
+
+    def marks(self) -> list[int]:
+        """After how many plies the moves were made that are marked, the worst one first."""
+        return self.slips()[:WORST]
+
+    def is_dear(self, plies: int) -> bool:
+        """Whether the move lost a pawn or more, or has to do with a mate, so that a better one is worth a word."""
+        loss = self.row(plies).loss
+        return isinstance(loss, str) or loss >= PAWN
 
     def marked(self, plies: int) -> Marked:
         """What is told of a marked move."""
@@ -216,11 +243,64 @@ class Analysis:
         answer = line_at(self.answers[plies + 1], self.depth)
         return Marked(self.lost(plies), best.pv if best else [], answer.pv if answer else [])
 
-    def summary(self, side: str) -> tuple[int, int, float]:
-        """For a side: its moves, its slips, and the mean chance of winning that a move lost."""
-        moves = min(self.count(), len(self.game.moves))
-        lost = [self.lost(plies) for plies in range(moves) if self.side_at(plies) == side]
-        return len(lost), sum(loss >= SLIP for loss in lost), sum(lost) / max(len(lost), 1)
+    def mate_line(self, plies: int) -> list[str]:
+        """The mate that a move missed: one by checks that was looked for, or that of the best line."""
+        best = line_at(self.answers[plies], self.depth)
+        if plies in self.missed:
+            return self.missed[plies].line
+        return best.pv[: best.mate] if best and best.mate and best.mate > 0 else []
+
+    def shown(self, plies: int) -> list[str]:
+        """The best line of a position up to its last capture or promotion: nothing hangs on the quiet plies behind it,
+        of which the lowest code decides. A mate is whole."""
+        line = line_at(self.answers[plies], self.depth)
+        if line is None or line.mate is not None:
+            return line.pv if line else []
+        board, end = self.boards[plies].copy(), 0
+        for number, text in enumerate(line.pv, 1):
+            _, to, _, promotes = parts_of(board, text)
+            if promotes or to in board.squares:
+                end = number
+            board.play(text)
+        return line.pv[:end]
+
+    def moves_of(self, side: str) -> list[int]:
+        """After how many plies a side moved."""
+        return [plies for plies in self.played() if self.side_at(plies) == side]
+
+    def mean_lost(self, side: str, phase: Optional[str] = None) -> Optional[float]:
+        """The mean chance of winning that a side's moves lost, in the game or in one phase; None for no moves."""
+        phases = self.phases
+        lost = [self.lost(plies) for plies in self.moves_of(side) if phase in (None, phases[plies])]
+        return sum(lost) / len(lost) if lost else None
+
+    @functools.cached_property
+    def phases(self) -> list[str]:
+        """The phase of each position, by the pieces other than pawns that were captured before it."""
+        taken, phases = 0, [PHASES[0]]
+        for board, end in zip(self.boards, self.ends[1:]):
+            taken += board.squares.get(end, (True, "P"))[1] != "P"
+            phases.append(PHASES[(taken >= MIDDLE) + (taken >= END)])
+        return phases
+
+    def accuracy(self, side: str) -> Optional[float]:
+        """A side's accuracy from 0 to 100, as lichess has it: half of it the mean in which moves count by how much the
+        curve varies around them, half the harmonic mean. None for no moves."""
+        chances = [100 * chance_for_black(row) for row in self.rows()]
+        width = min(max(len(chances) // 10, 2), 8)
+        weighted = weights = inverse = 0.0
+        for plies in self.moves_of(side):
+            begin = max(plies + 2 - width, 0)
+            weight_of = min(max(statistics.pstdev(chances[begin : begin + width]), 0.5), 12.0)
+            accuracy = accuracy_of(self.lost(plies))
+            weighted, weights = weighted + weight_of * accuracy, weights + weight_of
+            inverse += 1 / max(accuracy, 1.0)
+        return (weighted / weights + len(self.moves_of(side)) / inverse) / 2 if weights else None
+
+    def found_alone(self, side: str) -> tuple[int, int]:
+        """How often a side played the move that alone is best, and of how many times."""
+        there = [plies for plies in self.moves_of(side) if plies in self.alone]
+        return sum(self.alone[plies] == self.game.moves[plies].text for plies in there), len(there)
 
 
 def shown(value: Value) -> str:

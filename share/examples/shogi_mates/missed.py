@@ -6,7 +6,7 @@ from typing import Callable, Optional
 
 from client import Gone, Refused, TooSlow
 from game_report.values import Analysis, worth_at
-from game_report.words import Made
+from game_report.words import Made, plies_words
 from shogi_records.notation import NOTATIONS, line_of
 
 from .solver import Mate, Solver, legal_moves, moved
@@ -86,7 +86,7 @@ def words_of(analysis: Analysis, plies: int, made: Made) -> str:
     if mate is None:
         return ""
     line = line_of(analysis.boards[plies], mate.line, made.pieces, analysis.ends[plies])
-    return f"missed a mate in {mate.plies} {'plies' if mate.plies > 1 else 'ply'}: {line}"
+    return made.say("missed mate line", plies=plies_words(mate.plies, made), line=line)
 
 
 def section_of(analysis: Analysis, made: Made) -> list[str]:
@@ -95,9 +95,10 @@ def section_of(analysis: Analysis, made: Made) -> list[str]:
     for plies in sorted(analysis.missed):
         move = analysis.game.moves[plies].text
         played = NOTATIONS[made.pieces](analysis.boards[plies], move, analysis.ends[plies])
-        words = html.escape(f"Ply {plies + 1}: {played} {words_of(analysis, plies, made)}")
+        told = made.say("missed at", ply=plies + 1, move=played, words=words_of(analysis, plies, made))
+        words = html.escape(told)
         out.append(f'<li class="line">{words}</li>')
     if not out:
         return []
-    note = f"Mates by checks up to {PLIES} plies, after which the move that was played no longer mates."
-    return ["<h2>Missed mates</h2>", f'<p class="soft">{note}</p>', "<ul>", *out, "</ul>"]
+    note = html.escape(made.say("missed told", plies=plies_words(PLIES, made)))
+    return [f"<h2>{made.say('missed mates')}</h2>", f'<p class="soft">{note}</p>', "<ul>", *out, "</ul>"]
