@@ -16,7 +16,7 @@ import tempfile
 import xml.etree.ElementTree
 
 from checks import PROGRAM, TOP, Wrong, want
-from records import COMMENTS, PLAYED, UNREADABLE, bytes_of
+from records import COMMENTS, HOSTILE, PLAYED, UNREADABLE, bytes_of
 from written import kif_of
 
 EXAMPLES = os.path.join(TOP, "share", "examples")
@@ -829,6 +829,12 @@ def refusals_leave_no_files():
             want((status, table, told[-1]), (2, "", why), f"depth {depth}")
 
 
+def records_that_are_no_records():
+    for record, why in HOSTILE:
+        seen = analysed(record, "--program", PROGRAM)
+        want(seen, (1, "", [f"analyse.py: <stdin>:{why}"]), repr(record[:40]))
+
+
 def records_that_the_program_refuses():
     for record, why in UNREADABLE:
         if "illegal move" in why or "bad position" in why:
@@ -861,5 +867,6 @@ CHECKS = [
     names_in_other_encodings,
     report_that_cannot_be_written,
     refusals_leave_no_files,
+    records_that_are_no_records,
     records_that_the_program_refuses,
 ]
