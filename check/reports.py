@@ -702,7 +702,7 @@ def what_is_done_is_kept():
         with tempfile.TemporaryDirectory() as folder:
             fake = make_fake(folder, most=4, then=then)
             paths = [os.path.join(folder, name) for name in names]
-            words = ["--program", fake, "--html", paths[0], "--json", paths[1], "--depth", "4", *words]
+            words = ["--program", fake, "--jobs", "1", "--html", paths[0], "--json", paths[1], "--depth", "4", *words]
             with subprocess.Popen(
                 script_of(*words),
                 stdin=subprocess.PIPE,
