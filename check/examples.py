@@ -2,9 +2,11 @@
 """Runs the scripts of `share/examples` against the built program, over its standard input and output and
 as a host on a Unix socket. Its one argument is the program; without it, the program that `make build`
 makes. Its last line is `N passed, M failed`. The checks of records, of reports and of problems stand in records.py,
-reports.py and problems.py."""
+reports.py and problems.py, those of grade.py's jobs in grades.py, those of odd engines and hosts in faults.py."""
 
 import os
+import re
+import shutil
 import socket
 import subprocess
 import sys
@@ -12,6 +14,8 @@ import tempfile
 import threading
 import time
 
+import faults
+import grades
 import problems
 import records
 import reports
@@ -353,13 +357,12 @@ def run(name, *words, depth="3", sent=SFENS):
         timeout=120,
         check=False,
     )
-    return ended.returncode, ended.stdout.decode(), ended.stderr.decode().replace("\r", "\n")
+    return ended.returncode, ended.stdout.decode(), re.sub(grades.RATES, "", ended.stderr.decode())
 
 
 def grades_of_positions():
     words = ["--program", PROGRAM, "--eval", "Plain"]
-    told = "\n1 of 4, 0 refused\n2 of 4, 0 refused\n3 of 4, 1 refused\n4 of 4, 1 refused\n"
-    want(run("grade.py", *words), (1, GRADES, told), "over a process")
+    want(run("grade.py", *words), (1, GRADES, ""), "over a process")
     with tempfile.TemporaryDirectory() as folder:
         with Host(os.path.join(folder, "socket")) as host:
             Client(path=host.path, patience=20).close()
@@ -401,9 +404,8 @@ def host_setups_change_no_output():
                 outputs += [run("grade.py", *asked), run("grade.py", *asked, "--lines", "2", sent=sent)]
                 outputs += [run("compare.py", *asked, *engine), run("compare.py", *asked[:2], *engine, sent=sent)]
                 outputs += [run("grade.py", *asked[:2], sent=sent)]
-                # What is told besides is how long it takes.
-                outputs += [reports.analysed(game, *asked)[:2]]
-                outputs += [reports.analysed(game, *asked[:2], "--jobs", "2", *reported)[:2]]
+                outputs += [reports.analysed(game, *asked)]
+                outputs += [reports.analysed(game, *asked[:2], "--jobs", "2", *reported)]
                 for file in files:
                     with open(file, "rb") as report:
                         outputs.append(report.read())
@@ -458,7 +460,8 @@ def engine_that_is_mated():
 def grades_of_a_program_that_sleeps():
     with tempfile.TemporaryDirectory() as folder:
         fake = reports.make_fake(folder, most=1, then="time.sleep(600)")
-        status, table, told = run("grade.py", "--program", fake, "--timeout", "10", sent="startpos\nstartpos\n")
+        words = ["--program", fake, "--timeout", "10", "--jobs", "1"]
+        status, table, told = run("grade.py", *words, sent="startpos\nstartpos\n")
         want((status, table), (2, "sfen,depth,best,cp,mate,pv,error\nstartpos,3,1g1f,0,,1g1f,\n"), "the rows")
         want(told.splitlines()[-1], f"grade.py: {fake}: no answer within 10 s", "the program is named")
         client = Client(command=[fake], timeout=5)
@@ -484,6 +487,23 @@ def another_engine_that_dies():
         want(told, f"compare.py: the other engine, {fake}: it has ended with status 3\n", "whose fault it is")
 
 
+METRIC = r"# HELP (usi_host_\w+) [A-Z].*\.\n# TYPE \1 (gauge|counter)\n\1(\{.*\})? (\d+)\n"
+
+
+def want_metrics(told, wanted):
+    """Looks whether each metric has its help, its type and a number, counters have their ending, some have these numbers,
+    and Prometheus's own tool has nothing to say, where it is installed."""
+    found = list(re.finditer(METRIC, told.decode()))
+    want("".join(match[0] for match in found), told.decode(), "nothing else")
+    numbers = {match[1].removeprefix("usi_host_"): int(match[4]) for match in found}
+    want((len(found), len(numbers)), (28, 28), "metrics")
+    want([match[1] for match in found if match[1].endswith("_total") != (match[2] == "counter")], [], "endings")
+    want({name: numbers[name] for name in wanted}, wanted, "numbers")
+    if promtool := shutil.which("promtool"):
+        checked = subprocess.run([promtool, "check", "metrics"], input=told, capture_output=True, timeout=120, check=False)
+        want((checked.returncode, checked.stdout, checked.stderr), (0, b"", b""), "promtool check metrics")
+
+
 def table_of_a_status():
     with tempfile.TemporaryDirectory() as folder:
         path = os.path.join(folder, "status")
@@ -498,6 +518,18 @@ def table_of_a_status():
             want((ended.returncode, len(rows)), (0, 30), ended.stderr.decode())
             want([seen["sessions at most"], seen["connections accepted"]], ["7", "1"], "the table")
             want([seen["greatest depth"], seen["evaluation at first"]], ["16", "plain"], "the table")
+            told = subprocess.run([*script, "--prometheus", path], capture_output=True, timeout=120, check=True).stdout
+            want_metrics(told, {"sessions_limit": 7, "connections_total": 1, "bestmoves_total": 1, "depth_limit_plies": 16})
+            output = os.path.join(folder, "usi_host.prom")
+            for _ in range(2):
+                subprocess.run([*script, "--prometheus", "--output", output, path], timeout=120, check=True)
+            with open(output, "rb") as file:
+                want_metrics(file.read(), {"sessions_limit": 7, "connections_total": 1})
+            names = sorted(name for name in os.listdir(folder) if name.startswith("usi_host"))
+            want(names, ["usi_host.prom"], "nothing is left beside the file")
+            nowhere = [*script, "--output", os.path.join(folder, "none", "x"), path]
+            ended = subprocess.run(nowhere, capture_output=True, timeout=120, check=False)
+            want((ended.returncode, b"No such file" in ended.stderr), (1, True), f"no folder: {ended.stderr}")
             watch = [*script, "--watch", path]
             with subprocess.Popen(watch, stdout=subprocess.PIPE) as watching:
                 lines = [watching.stdout.readline() for _ in range(61)]
@@ -532,6 +564,8 @@ if __name__ == "__main__":
                 moves_of_another_engine,
                 another_engine_that_dies,
                 table_of_a_status,
+                *grades.CHECKS,
+                *faults.CHECKS,
                 *records.CHECKS,
                 *reports.CHECKS,
                 *problems.CHECKS,

@@ -11,6 +11,7 @@ from written import csa_of, ki2_of, kif_of
 sys.path.insert(0, os.path.join(TOP, "share", "examples"))
 
 from shogi_records import Unreadable, read_games  # noqa: E402
+from shogi_records.encoding import text_of_name  # noqa: E402
 
 OPENING = "lnsgkgsnl/1r5b1/ppppppppp/9/9/9/PPPPPPPPP/1B5R1/LNSGKGSNL b - 1"
 BELOW = "ppppppppp/9/9/9/PPPPPPPPP/1B5R1/LNSGKGSNL"
@@ -359,6 +360,9 @@ UNREADABLE = [
     (f"{CSA_BEGUN}+7775FU\n", "4:1: illegal move 7g7e"),
     (f"{CSA_BEGUN}+7776KI\n", "4:1: the piece on 7g is P, and no KI"),
     (f"{CSA_BEGUN}+776FU\n", "4:1: no move in CSA's words: +776FU"),
+    ("P+00FU00OU\n+\n", "1:1: no piece for a hand: OU"),
+    ("PI\nP-00TO\n+\n", "2:1: no piece for a hand: TO"),
+    ("P+55AL\n+\n", "1:1: all that are left go to the hand, as 00AL, and not 55AL"),
     ("PI55HI\n+\n", "1:1: no HI stands on 5e that could be taken away"),
     ("V2.2\nPI\n", "3:1: the record ends before it says whose turn it is, + or -"),
 ]
@@ -395,6 +399,25 @@ def heads_of_records():
     first, second = read_games(CSA_TWO.encode())
     want(first.head, {"black": "Kuro", "white": "Shiro", "event": "Spring"}, "CSA")
     want(list(map(str, second.notes)), ["15:1: the game ends by a word that is not known: %UCHIKIRI"], "CSA")
+
+
+def letters_that_are_no_text():
+    """Controls, and ends of lines that are none of a record, are blanks, so that no name brings a line of its own."""
+    for letter in "\x00\x08\x0b\x0c\x1b\x1c\x7f\x85\u2028\u2029\ufffe\uffff":
+        told = f"先手：甲{letter}後手：丙\n後手：乙\n手合割：平手\n   1 ７六歩(77)\n"
+        [game] = read_games(told.encode())
+        names = {"black": "甲 後手：丙", "white": "乙", "handicap": "平手"}
+        want((game.head, len(game.moves)), (names, 1), repr(letter))
+        want(text_of_name(f"a{letter}b"), "a b", repr(letter))
+
+
+def many_games_one_a_line():
+    """Are read in a time that grows with their number alone, and not with its square."""
+    count, began = 40_000, time.process_time()
+    games = read_games(b"7g7f 3c3d\n2g2f 8c8d resign\n" * (count // 2))
+    want((len(games), [move.text for move in games[-1].moves]), (count, ["2g2f", "8c8d"]), "the games")
+    took = time.process_time() - began
+    want(took < 20, True, f"{count} games took {took:.1f} s")
 
 
 def handicaps_of_records():
@@ -471,6 +494,8 @@ def records_that_cannot_be_read():
 CHECKS = [
     each_form_of_record,
     heads_of_records,
+    letters_that_are_no_text,
+    many_games_one_a_line,
     handicaps_of_records,
     ends_of_records,
     ways_of_pieces,

@@ -19,20 +19,17 @@ ply deeper, agree; so N is at least 4.
 
 The status is 1 where the record cannot be read or has an illegal move, with its line and column on standard
 error; 2 where the program cannot be started or the host is gone; 130 after Ctrl-C. What is done by then is written.
-Progress goes to standard error."""
+Progress is shown on a terminal."""
 
 import argparse
-import contextlib
 import csv
 import os
-import queue
 import re
 import sys
 import tempfile
-import threading
 import time
 
-from client import DEPTHS, Gone, Refused, add_arguments, client_of, told_evaluation
+from client import DEPTHS, Gone, Refused, add_arguments, client_of, in_order, show_progress, told_evaluation
 from game_report.curve import picture_of
 from game_report.data import data_of
 from game_report.kif import record_of
@@ -44,7 +41,7 @@ from game_report.values import SHALLOWEST, SLIP, Analysis, Row, shown
 from game_report.words import Made
 from shogi_mates import missed
 from shogi_records import BYTES_MAX, Game, Unreadable, read_games
-from shogi_records.encoding import text_of_name
+from shogi_records.encoding import plain, text_of_name
 
 # How deep a game is searched without a word, and one of so many plies or more; and where moves that are best alone are
 # looked for.
@@ -108,45 +105,10 @@ class Table:
         self.written = self.analysis.count()
 
 
-class Workers:
-    """Clients that do tasks, each client in a thread of its own. A task is called with the client that does it."""
-
-    def __init__(self, clients: list, tasks: list):
-        self.tasks = tasks
-        self.wanted: queue.Queue = queue.Queue()
-        self.found: queue.Queue = queue.Queue()
-        for number in range(len(tasks)):
-            self.wanted.put(number)
-        for client in clients:
-            threading.Thread(target=self.work, args=(client,), daemon=True).start()
-
-    def work(self, client) -> None:
-        """Does tasks until none is left."""
-        with contextlib.suppress(queue.Empty):
-            while True:
-                number = self.wanted.get_nowait()
-                try:
-                    self.found.put((number, self.tasks[number](client)))
-                except Exception as why:  # it is raised where the results are taken
-                    self.found.put((number, why))
-                    return
-
-    def results(self):
-        """What the tasks gave, in their order."""
-        early: dict = {}
-        for wanted in range(len(self.tasks)):
-            while wanted not in early:
-                number, result = self.found.get()
-                if isinstance(result, Exception):
-                    raise result
-                early[number] = result
-            yield early.pop(wanted)
-
-
 def answers_of(clients: list, game: Game, depth: int):
     """The answers for the positions of a game, in its order."""
-    texts = [text_of_game(game, plies) for plies in range(len(game.moves) + 1)]
-    return Workers(clients, [lambda client, text=text: client.analyse(text, depth) for text in texts]).results()
+    plies_of = range(len(game.moves) + 1)
+    return in_order(clients, plies_of, lambda client, plies: client.analyse(text_of_game(game, plies), depth))
 
 
 def left(began: float, done: int, total: int) -> str:
@@ -163,7 +125,7 @@ def analyse(analysis: Analysis, clients: list, finder: missed.Finder) -> None:
         finder.look(analysis)
         table.write()
         told = f"{done} of {total} positions, {left(began, done, total)} left"
-        print(f"\r{told:<40}", end="\n" if done == total else "", file=sys.stderr, flush=True)
+        show_progress(told, "\n" if done == total else "")
 
 
 def alone_at(client, text: str, depth: int) -> str:
@@ -183,8 +145,7 @@ def find_alone(analysis: Analysis, clients: list) -> None:
         return
     for client in clients:
         client.set_option("MultiPV", 2)
-    found = Workers(clients, [lambda client, text=text: alone_at(client, text, depth) for text in texts]).results()
-    for plies, move in enumerate(found):
+    for plies, move in enumerate(in_order(clients, texts, lambda client, text: alone_at(client, text, depth))):
         if move and move == analysis.answers[plies].best:
             analysis.alone[plies] = move
     for client in clients:
@@ -195,11 +156,10 @@ def find_threats(analysis: Analysis, clients: list) -> None:
     """Finds what was threatened before each slip."""
     slips = analysis.slips()
 
-    def task(plies):
-        board, move = analysis.boards[plies], analysis.game.moves[plies].text
-        return lambda client: look_at(client, board, move, analysis.evaluation)
+    def look(client, plies):
+        return look_at(client, analysis.boards[plies], analysis.game.moves[plies].text, analysis.evaluation)
 
-    analysis.threats.update(zip(slips, Workers(clients, [task(plies) for plies in slips]).results()))
+    analysis.threats.update(zip(slips, in_order(clients, slips, look)))
 
 
 def second_opinion(arguments, analysis: Analysis, tell) -> None:
@@ -333,7 +293,7 @@ def run(arguments, clients: list) -> int:
     analysis = Analysis(game, arguments.depth, arguments.slip / 100, arguments.eval)
     title = "a game" if arguments.game_file is None else os.path.basename(name)
     named = None if arguments.title is None else text_of_name(arguments.title)
-    made = Made(clients[0].title, arguments.eval, title, arguments.pieces, named, arguments.language)
+    made = Made(plain(clients[0].title), arguments.eval, title, arguments.pieces, named, arguments.language)
     finder = missed.Finder(arguments.program, arguments.timeout, tell)
     try:
         analyse(analysis, clients, finder)
@@ -341,7 +301,7 @@ def run(arguments, clients: list) -> int:
         find_alone(analysis, clients)
         second_opinion(arguments, analysis, tell)
     except (Gone, Refused, OSError, KeyboardInterrupt) as why:
-        print(file=sys.stderr)
+        show_progress("", "\r")
         cause, status = ("Ctrl-C", 130) if isinstance(why, KeyboardInterrupt) else (why, 2)
         write_reports(arguments, analysis, made, tell)
         moves = min(analysis.count(), len(game.moves))
@@ -361,7 +321,7 @@ def main():
         print(f"analyse.py: {why}", file=sys.stderr)
         return 2
     except KeyboardInterrupt:
-        print("\nanalyse.py: Ctrl-C", file=sys.stderr)
+        print("analyse.py: Ctrl-C", file=sys.stderr)
         return 130
     finally:
         for client in clients:

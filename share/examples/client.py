@@ -1,7 +1,8 @@
 #!/usr/bin/env python3
 """A client of the shogi host: over the program's standard input and output, or over a host's socket.
 
-    client.py [--program PATH | --socket PATH] [--depth N] [--eval NAME] [--timeout SECONDS] [SFEN]
+    client.py [--program PATH | --socket PATH] [--depth N] [--eval NAME] [--timeout SECONDS] [--patience SECONDS]
+              [SFEN]
 
 prints the answer to one `go`. As a module it has the class `Client`; the other scripts beside it are written
 with it. Python's standard library is all that it needs."""
@@ -9,11 +10,13 @@ with it. Python's standard library is all that it needs."""
 import argparse
 import contextlib
 import os
+import queue
 import re
 import select
 import socket
 import subprocess
 import sys
+import threading
 import time
 from typing import NamedTuple, Optional
 
@@ -32,6 +35,10 @@ class TooSlow(Gone):
 
 class Lacking(Gone):
     """The host does not offer what is asked of it: an evaluation, a depth, a number of lines."""
+
+
+class Garbled(Gone):
+    """A reply is none of USI's, as a `bestmove` without a move."""
 
 
 class Refused(Exception):
@@ -68,7 +75,7 @@ DEPTHS = range(1, 17)
 LINE_MAX = 65_535
 
 INFO = re.compile(
-    r"info depth (\d+)(?: multipv (\d+))? score (?:cp (-?\d+)|mate (-?\d+)) pv(.*)"
+    r"info depth (\d+)(?: multipv (\d+))? score (?:cp (-?\d+)|mate (-?\d+)) pv +(\S.*)"
 )
 OPTION = re.compile(r"option name (.+?) type (\w+)(.*)")
 
@@ -88,15 +95,22 @@ def line_of(text):
     )
 
 
+def bounds_of(words):
+    """The numbers behind `min` and `max` in the words of an option; None for one that is no number."""
+    following = dict(zip(words, [*words[1:], ""]))
+    numbers = [following.get(bound, "") for bound in ("min", "max")]
+    return [int(number) if re.fullmatch("-?[0-9]{1,18}", number) else None for number in numbers]
+
+
 def options_of(replies):
-    """The options of the replies to `usi`: the numbers or the names that each one takes."""
+    """The options of the replies to `usi`: the numbers or the names that each one takes. One that takes none of either
+    is left out."""
     options = {}
     for name, kind, rest in (match.groups() for match in map(OPTION.fullmatch, replies) if match):
-        words = rest.split()
-        if kind == "spin" and {"min", "max"} <= set(words):
-            low, high = (int(words[words.index(word) + 1]) for word in ("min", "max"))
+        low, high = bounds_of(rest.split())
+        if kind == "spin" and low is not None and high is not None and low <= high:
             options[name] = range(low, high + 1)
-        elif kind == "combo":
+        elif kind == "combo" and " var " in rest:
             options[name] = tuple(rest.split(" var ")[1:])
     return options
 
@@ -119,7 +133,8 @@ def listed(words):
 
 def is_number(value, numbers):
     """Whether the word of a value is a number of the range."""
-    return str(value).lstrip("0") in map(str, numbers)
+    match = re.fullmatch("(-?)0*([0-9]{1,18})", str(value))
+    return match is not None and int("".join(match.groups())) in numbers
 
 
 def want_depth(depth, depths=DEPTHS):
@@ -148,15 +163,29 @@ def want_option(offered, name, value):
         )
 
 
+def tell(text):
+    """Says something on standard error, under the script's name."""
+    print(f"{os.path.basename(sys.argv[0])}: {text}", file=sys.stderr, flush=True)
+
+
+def show_progress(text, end=""):
+    """Shows how far a script is, on one line of the terminal, if standard error is one."""
+    if sys.stderr.isatty():
+        print(f"\r{text:<40}", end=end, file=sys.stderr, flush=True)
+
+
 class Client:
     """A session. `command` is the program with its arguments; or `path` is a host's socket, where it
-    waits up to `patience` seconds for the host to be there and to have room. Over a socket a session that
-    was cut off is begun anew, with the options and the position that it had; a host that does not offer those
-    raises `Lacking`. The reply to a line may take `timeout` seconds, or as long as it takes where that is None.
+    waits up to `patience` seconds for the host to be there and to have room, and calls `tell` after a second with what
+    it waits for. Over a socket a session that was cut off is begun anew, with the options and the position that it
+    had; a host that does not offer those raises `Lacking`. The reply to a line may take `timeout` seconds, or as long as it takes where that is None.
     A `go` shows `lines` lines a depth, whatever the host's setup says; None leaves it to that."""
 
-    def __init__(self, command=None, path=None, patience=60.0, timeout=None, lines=1):
-        self.command, self.path, self.patience, self.timeout = command, path, patience, timeout
+    # Words of a `go` that the host passes over: it would answer as if they were not there.
+    passed_over = frozenset(("nodes", "searchmoves"))
+
+    def __init__(self, command=None, path=None, patience=60.0, timeout=None, lines=1, tell=None):
+        self.command, self.path, self.patience, self.timeout, self.tell = command, path, patience, timeout, tell
         self.options, self.defaults, self.position = {}, {}, "startpos"
         if lines is not None:
             self.options["MultiPV"] = lines
@@ -173,9 +202,13 @@ class Client:
             self.process = subprocess.Popen(
                 self.command, stdin=subprocess.PIPE, stdout=subprocess.PIPE, bufsize=0, start_new_session=True
             )
-            self.greet()
+            try:
+                self.greet()
+            except BaseException:
+                self.close()
+                raise
             return
-        end = time.monotonic() + self.patience
+        began, is_told = time.monotonic(), False
         while True:
             try:
                 self.socket = socket.socket(socket.AF_UNIX)
@@ -184,10 +217,16 @@ class Client:
                 return
             except (TooSlow, Lacking):
                 raise
-            except (OSError, Gone) as why:
+            except (OSError, Gone) as cause:
                 self.close()
-                if time.monotonic() > end:
-                    raise why if isinstance(why, Gone) else Gone(f"{self.path}: {why}") from why
+                waited = time.monotonic() - began
+                why = cause if isinstance(cause, Gone) else Gone(f"{self.path}: {cause.strerror or cause}")
+                # Without a number it is the path itself that no host can have.
+                if waited > self.patience or isinstance(cause, OSError) and cause.errno is None:
+                    raise why from cause
+                if self.tell is not None and waited >= 1 and not is_told:
+                    self.tell(f"{why}; it is tried again for {self.patience:g} s")
+                    is_told = True
                 time.sleep(0.2)
 
     def greet(self):
@@ -247,7 +286,11 @@ class Client:
         return Gone(f"{self.name}: it has ended with {how}")
 
     def send(self, line):
-        """Sends one line, as it is. Raises `Refused`, and sends nothing, where it is longer than a host takes."""
+        """Sends one line, as it is. Raises `Refused`, and sends nothing, where it is longer than a host takes, and
+        `ValueError` for a `go` with words that the host passes over."""
+        words = line.split() if line.lstrip().startswith("go") else []
+        if words[:1] == ["go"] and not self.passed_over.isdisjoint(words):
+            raise ValueError(f"a go with {listed(sorted(self.passed_over))} is answered as one without")
         data = line.encode(errors="surrogateescape") + b"\n"
         if len(data) > LINE_MAX + 1:
             raise Refused(f"line too long: {len(data) - 1} bytes, and a host takes {LINE_MAX}")
@@ -300,6 +343,14 @@ class Client:
             if line.split(" ", 1)[0] == word:
                 return replies
 
+    def read_bestmove(self):
+        """The replies up to `bestmove`, and the words of that one."""
+        replies = self.read_until("bestmove")
+        words = replies[-1].split()
+        if len(words) < 2:
+            raise Garbled(f"{self.name}: a bestmove without a move")
+        return replies, words
+
     def set_option(self, name, value):
         """Sets an option. Raises `ValueError`, and sends nothing, where the host has no such option or value."""
         want_option(self.offered, name, value)
@@ -327,8 +378,7 @@ class Client:
         where the host does not search to that depth."""
         self.want_depth(depth)
         self.send("go" if depth is None else f"go depth {depth}")
-        replies = self.read_until("bestmove")
-        words = replies[-1].split()
+        replies, words = self.read_bestmove()
         lines = [line for line in map(line_of, replies) if line is not None]
         answer = Answer(words[1], words[3] if len(words) > 3 else None, lines)
         if depth is not None and lines and not all(map(answer.line, range(1, int(depth) + 1))):
@@ -355,6 +405,36 @@ class Client:
             return self.go(depth)
 
 
+def in_order(clients, items, work):
+    """What `work(client, item)` gives for each item, in the order of the items, with each client in a thread of its own.
+    What it raises for one is raised once those before it are given."""
+    wanted, lock, found = iter(enumerate(items)), threading.Lock(), queue.Queue()
+
+    def serve(client):
+        while True:
+            with lock:
+                number, item = next(wanted, (None, None))
+            if number is None:
+                return
+            try:
+                found.put((number, work(client, item), None))
+            except Exception as why:  # it is raised where the results are taken
+                found.put((number, None, why))
+                return
+
+    for client in clients:
+        threading.Thread(target=serve, args=(client,), daemon=True).start()
+    early = {}
+    for number in range(len(items)):
+        while number not in early:
+            at, *result = found.get()
+            early[at] = result
+        result, why = early.pop(number)
+        if why is not None:
+            raise why
+        yield result
+
+
 def text_of(line):
     """What follows `position` for an SFEN, a whole `sfen ..`, `startpos ..`, or a `position` line."""
     text = line.strip().removeprefix("position ").strip()
@@ -368,6 +448,16 @@ def depth_of(text):
     except ValueError as why:
         raise argparse.ArgumentTypeError(str(why)) from why
     return int(text)
+
+
+def evaluation_of(text):
+    """An evaluation on the command line, by its own name or by the program's word for it."""
+    return next((name for name in EVALUATIONS if text in (name, name.lower())), text)
+
+
+def patience_of(text):
+    """A patience on the command line."""
+    return 0.0 if text == "0" else seconds_of(text)
 
 
 def seconds_of(text):
@@ -389,10 +479,17 @@ def add_arguments(parser, depth=6, told="6"):
     where.add_argument("--socket", help="the socket of a host that runs already")
     parser.add_argument("--depth", type=depth_of, default=depth, help=f"in plies, from 1 to 16 ({told})")
     parser.add_argument(
-        "--eval", choices=EVALUATIONS, help="the evaluation (Exchange where it is offered, else Plain)"
+        "--eval", type=evaluation_of, choices=EVALUATIONS, help="the evaluation (Exchange where it is offered, else Plain)"
     )
     parser.add_argument(
         "--timeout", type=seconds_of, metavar="SECONDS", help="the longest that an answer may take (no limit)"
+    )
+    parser.add_argument(
+        "--patience",
+        type=patience_of,
+        default=60.0,
+        metavar="SECONDS",
+        help="how long to wait for the host of --socket to be there and to have room (60)",
     )
 
 
@@ -402,6 +499,9 @@ def command_of(program, depth):
     words = [program, "stdio", "--eval", "exchange", "--depth", str(depth)]
     try:
         tried = subprocess.run(words, stdin=subprocess.DEVNULL, capture_output=True, timeout=120, check=False)
+    except OSError as why:
+        how = "--program PATH names the program to start, --socket PATH a host that runs"
+        raise Gone(f"{program}: {why.strerror}; {how}") from why
     except subprocess.TimeoutExpired as why:
         raise Gone(f"{program}: it does not end where its input ends") from why
     return [program] if tried.returncode == 2 else words
@@ -411,7 +511,8 @@ def client_of(arguments, lines=1):
     """The client that the arguments ask for, with its evaluation set, which stands in `options["Eval"]`. Raises
     `Lacking` where the host has no such evaluation, does not search so deep, or does not show so many lines."""
     command = None if arguments.socket else command_of(arguments.program, arguments.depth)
-    client = Client(command=command, path=arguments.socket, timeout=arguments.timeout, lines=lines)
+    path, patience = arguments.socket, arguments.patience
+    client = Client(command, path, patience, arguments.timeout, lines, tell)
     offered = client.offered.get("Eval", ())
     chosen = arguments.eval or next((name for name in EVALUATIONS if name in offered), "")
     with client.lacking():
@@ -433,6 +534,7 @@ def main():
     add_arguments(parser)
     parser.add_argument("sfen", nargs="?", default="startpos", help="an SFEN or a position line (startpos)")
     arguments = parser.parse_args()
+    sys.stdout.reconfigure(encoding="utf-8")
     client = client_of(arguments)
     print(f"evaluation {client.options['Eval']}")
     answer = client.analyse(text_of(arguments.sfen), arguments.depth)
@@ -447,4 +549,5 @@ if __name__ == "__main__":
     try:
         main()
     except (Gone, Refused, OSError) as why:
-        sys.exit(f"{os.path.basename(sys.argv[0])}: {why}")
+        tell(why)
+        sys.exit(1)

@@ -3,12 +3,12 @@
 move and the best one are worth here.
 
     compare.py --engine "COMMAND .." [--go "depth 5"] [--program PATH | --socket PATH] [--depth N] [--eval NAME]
-               [--timeout SECONDS] [FILE]
+               [--timeout SECONDS] [--patience SECONDS] [FILE]
 
 FILE has SFENs or `position` lines, one a line. The worth of a move at depth N is the negated value of the position
 after it, one ply less deep; so N is at least 2. The output is CSV; at the end a summary goes to standard error: how
 many moves agree, the mean loss, and the ten greatest differences with their positions. The status is 2 where one of
-the two programs is gone or does not answer in time, which is named."""
+the two programs is gone, answers without a move, or does not answer in time, which is named."""
 
 import argparse
 import contextlib
@@ -16,7 +16,7 @@ import csv
 import shlex
 import sys
 
-from client import Client, Gone, Refused, add_arguments, client_of, text_of, told_evaluation
+from client import Client, Gone, Refused, add_arguments, client_of, tell, text_of, told_evaluation
 from game_report.values import loss_of, shown, value_at, weight, worth_at
 from grade import positions_of
 from shogi_records import Unreadable
@@ -28,19 +28,24 @@ GREATEST = 10  # so many differences are in the summary
 class Other(Client):
     """The other engine. It is sent its `go` as it is, and named where it goes away."""
 
+    passed_over = frozenset()
+
     def __init__(self, command, timeout):
         self.title = ""
         super().__init__(command=command, timeout=timeout, lines=None)
 
     def connect(self):
         self.name = f"the other engine, {self.command[0]}"
-        super().connect()
+        try:
+            super().connect()
+        except OSError as why:
+            raise Gone(f"{self.name}: {why.strerror}") from why
 
     def move_at(self, text, go):
         """Its move at a position."""
         self.send(f"position {text}")
         self.send(f"go {go}")
-        return self.read_until("bestmove")[-1].split()[1]
+        return self.read_bestmove()[1][1]
 
 
 def with_move(text, move):
@@ -84,35 +89,45 @@ def summary_of(rows):
     return "\n".join(out)
 
 
+def command_of(text):
+    """The words of the other engine's command line."""
+    try:
+        words = shlex.split(text)
+    except ValueError as why:
+        raise argparse.ArgumentTypeError(f"{str(why)[:1].lower()}{str(why)[1:]}: {text}") from why
+    if not words or not words[0]:
+        raise argparse.ArgumentTypeError("a command has at least the name of a program")
+    return words
+
+
 def main():
     parser = argparse.ArgumentParser(description="Another USI engine's moves, and what they are worth.")
     add_arguments(parser)
-    parser.add_argument("--engine", required=True, help="the command of the other engine")
+    parser.add_argument("--engine", type=command_of, required=True, help="the command of the other engine")
     parser.add_argument("--go", default="depth 5", help="what follows its go (depth 5)")
     parser.add_argument("file", nargs="?", help="SFENs or position lines, one a line (standard input)")
     arguments = parser.parse_args()
     if arguments.depth < 2:
         parser.error("the depth is at least 2")
+    sys.stdout.reconfigure(encoding="utf-8")
     try:
         sfens = positions_of(arguments.file)
     except Unreadable as why:
-        print(f"compare.py: {arguments.file or '<stdin>'}:{why}", file=sys.stderr)
+        tell(f"{arguments.file or '<stdin>'}:{why}")
         return 1
     rows = []
     with contextlib.ExitStack() as stack:
         here = stack.enter_context(contextlib.closing(client_of(arguments)))
-        other = stack.enter_context(
-            contextlib.closing(Other(shlex.split(arguments.engine), arguments.timeout))
-        )
+        other = stack.enter_context(contextlib.closing(Other(arguments.engine, arguments.timeout)))
         if told := told_evaluation(here, arguments):
-            print(f"compare.py: {told}", file=sys.stderr)
+            tell(told)
         out = csv.DictWriter(sys.stdout, COLUMNS, lineterminator="\n")
         out.writeheader()
         for sfen in sfens:
             rows.append(row_of(here, other, sfen, arguments.go, arguments.depth))
             out.writerow(rows[-1])
             sys.stdout.flush()
-    print(f"compare.py: {summary_of(rows)}", file=sys.stderr)
+    tell(summary_of(rows))
     return 0
 
 
@@ -120,8 +135,8 @@ if __name__ == "__main__":
     try:
         sys.exit(main())
     except (Gone, OSError) as why:
-        print(f"compare.py: {why}", file=sys.stderr)
+        tell(why)
         sys.exit(2)
     except KeyboardInterrupt:
-        print("\ncompare.py: Ctrl-C; the rows above are done", file=sys.stderr)
+        tell("Ctrl-C; the rows above are done")
         sys.exit(130)

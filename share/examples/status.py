@@ -1,11 +1,13 @@
 #!/usr/bin/env python3
-"""Prints the status of a host that was started with --status PATH, as a table; with --watch again each
-second. The status is 1 where there is no host, or where it gives no line.
+"""Prints the status of a host that was started with --status PATH, as a table, or with --prometheus as metrics;
+with --watch again each second, and with --output to a file that is always whole: a new one takes its name. The status
+is 1 where there is no host, where it gives no line, or where the file cannot be written.
 
-    status.py [--watch] PATH"""
+    status.py [--prometheus] [--output FILE] [--watch] PATH"""
 
 import argparse
 import json
+import os
 import socket
 import sys
 import time
@@ -47,6 +49,38 @@ LABELS = (
 )
 
 
+# Metrics by the names of Prometheus, in base units: the number of the status, what it is, and what it counts.
+METRICS = (
+    ("start_time_seconds", "started", "gauge", "When the host was started, in seconds since 1970."),
+    ("sessions_limit", "slots", "gauge", "Sessions that may be open at a time."),
+    ("sessions", "used", "gauge", "Sessions that are open."),
+    ("sessions_searching", "searching", "gauge", "Sessions with something to do."),
+    ("sessions_waiting", "waiting", "gauge", "Sessions that wait for their clients."),
+    ("table_entries_limit", "entries", "gauge", "Positions that the transposition table keeps."),
+    ("table_entries", "filled", "gauge", "Entries of the table that are in use."),
+    ("slice_steps", "slice", "gauge", "Steps of search before others have their turn."),
+    ("depth_plies", "depth", "gauge", "The depth of a search that names none."),
+    ("depth_limit_plies", "max_depth", "gauge", "The greatest depth of a search."),
+    ("lines", "lines", "gauge", "Best moves that an answer has at first."),
+    ("turns_total", "turns", "counter", "Turns."),
+    ("connections_total", "accepted", "counter", "Connections that were accepted."),
+    ("connections_refused_full_total", "full", "counter", "Connections turned away because the host was full."),
+    ("connections_refused_memory_total", "unopened", "counter", "Connections turned away for want of memory."),
+    ("sessions_finished_total", "finished", "counter", "Sessions that ended with all their answers."),
+    ("sessions_ended_reading_total", "ended_reading", "counter", "Sessions ended by a read or for want of memory."),
+    ("sessions_ended_writing_total", "ended_writing", "counter", "Sessions ended by a write."),
+    ("bestmoves_total", "bestmoves", "counter", "Lines bestmove that were queued."),
+    ("search_steps_total", "steps", "counter", "Steps of search."),
+    ("table_probes_total", "probes", "counter", "Probes of the table."),
+    ("table_hits_total", "hits", "counter", "Probes of the table that found an entry."),
+    ("work_without_memory_total", "refused_work", "counter", "Works of a session that had no memory."),
+    ("notes_without_memory_total", "refused_notes", "counter", "Entries for which the table had no memory."),
+    ("faults_total", "faults", "counter", "System calls that failed."),
+    ("received_bytes_total", "bytes_in", "counter", "Bytes given to sessions."),
+    ("sent_bytes_total", "bytes_out", "counter", "Bytes written to connections."),
+)
+
+
 def status_of(path):
     """The numbers of the host, by name."""
     with socket.socket(socket.AF_UNIX, socket.SOCK_STREAM) as host:
@@ -63,22 +97,64 @@ def table(status):
     return "\n".join(f"{label:<34}{status.get(name, '-'):>20}" for name, label in LABELS)
 
 
+def label(text):
+    """A text as the value of a label."""
+    escaped = str(text).replace("\\", "\\\\").replace('"', '\\"').replace("\n", "\\n")
+    return f'"{escaped}"'
+
+
+def metrics(status):
+    """The numbers as metrics in the text format of Prometheus."""
+    about = {name: status.get(key, "") for name, key in (("version", "version"), ("evaluation", "eval"))}
+    words = ",".join(f"{name}={label(text)}" for name, text in about.items())
+    out = [
+        "# HELP usi_host_info What the host is, and the evaluation with which sessions begin.",
+        "# TYPE usi_host_info gauge",
+        f"usi_host_info{{{words}}} 1",
+    ]
+    for name, key, kind, told in METRICS:
+        if key in status:
+            out += [f"# HELP usi_host_{name} {told}", f"# TYPE usi_host_{name} {kind}"]
+            out.append(f"usi_host_{name} {int(status[key])}")
+    return "\n".join(out)
+
+
+def write(text, path):
+    """Writes a text to standard output, or to a file that takes the place of the one before as a whole."""
+    if path is None:
+        print(text, flush=True)
+        return
+    partial = f"{path}.{os.getpid()}"
+    try:
+        with open(partial, "w", encoding="utf-8") as file:
+            file.write(f"{text}\n")
+        os.replace(partial, path)
+    except OSError:
+        if os.path.exists(partial):
+            os.unlink(partial)
+        raise
+
+
 def main():
     parser = argparse.ArgumentParser(description="The status of a host.")
+    parser.add_argument("--prometheus", action="store_true", help="as metrics of Prometheus")
+    parser.add_argument("--output", metavar="FILE", help="write it to this file, which is whole at any time")
     parser.add_argument("--watch", action="store_true", help="print it again each second")
     parser.add_argument("path", help="the path of --status")
     arguments = parser.parse_args()
+    shown, between = metrics if arguments.prometheus else table, ""
     try:
-        print(table(status_of(arguments.path)), flush=True)
-        while arguments.watch:
+        while True:
+            write(between + shown(status_of(arguments.path)), arguments.output)
+            if not arguments.watch:
+                return 0
+            between = "" if arguments.output or arguments.prometheus else "\n"
             time.sleep(1)
-            print(f"\n{table(status_of(arguments.path))}", flush=True)
-    except (OSError, ValueError) as fault:
+    except (OSError, ValueError, TypeError, AttributeError) as fault:
         print(f"status.py: {arguments.path}: {fault}", file=sys.stderr)
         return 1
     except KeyboardInterrupt:
         return 0
-    return 0
 
 
 if __name__ == "__main__":

@@ -1,10 +1,8 @@
 """Game records as players have them: USI's words, KIF, KI2 and CSA. What does not fit is told with its line and
 column. Which games are legal is left to the program that is asked."""
 
-import re
-
 from . import csa, kif, usi
-from .encoding import text_of_bytes, want_text
+from .encoding import plain, split_lines, want_text
 from .game import MOVES_MAX, Game, Move, Note, Unreadable
 
 __all__ = ["BYTES_MAX", "Game", "Move", "Note", "Unreadable", "read_games"]
@@ -32,9 +30,9 @@ def read_games(data: bytes) -> list[Game]:
     """The games of a record, one at least."""
     if len(data) > BYTES_MAX:
         raise Unreadable(1, 1, f"a record of more than {BYTES_MAX:,} bytes")
-    lines = re.split(r"\r\n|\n|\r", text_of_bytes(data).rstrip("\x1a"))
+    lines = split_lines(data)
     want_text(lines)
-    games = games_of(lines)
+    games = games_of([plain(line) for line in lines])
     for game in games:
         if len(game.moves) > MOVES_MAX:
             late = game.moves[MOVES_MAX]

@@ -48,6 +48,8 @@ def set_pieces(board: Board, text: str) -> None:
         place, role = text[at : at + 2], text[at + 2 : at + 4]
         if not re.fullmatch(r"00|[1-9][1-9]", place):
             raise ValueError(f"no square of CSA: {place}")
+        if place != "00" and role == "AL":
+            raise ValueError(f"all that are left go to the hand, as 00AL, and not {place}AL")
         if role == "AL":
             used = [held.removeprefix("+") for _, held in board.squares.values()]
             for kind, count in SET.items():
@@ -56,6 +58,8 @@ def set_pieces(board: Board, text: str) -> None:
                 if left > 0:
                     board.hold(black, kind, left)
         elif place == "00":
+            if role_of(role) not in SET:
+                raise ValueError(f"no piece for a hand: {role}")
             board.hold(black, role_of(role))
         else:
             board.squares[int(place[0]), int(place[1])] = black, role_of(role)

@@ -14,9 +14,9 @@ MARKS = [
 # A record may name its encoding in its first line: `#KIF version=2.0 encoding=EUC-JP`, `'CSA encoding=SHIFT_JIS`.
 NAMED = re.compile(rb"[#'].*encoding=([\w-]+)", re.I)
 NAMES = {"utf-8": "utf-8", "shift_jis": "cp932", "shift-jis": "cp932", "euc-jp": "euc_jp", "euc_jp": "euc_jp"}
-# Letters that no text has.
-CONTROLS = re.compile("[\x00-\x08\x0e-\x1f\x7f]")
-LINE_MAX = 100_000  # longer lines are refused, in letters
+LINE_MAX = 100_000  # longer lines of a record are refused, in letters
+# Letters that are no text: controls, ends of lines of other kinds than a record's own, and what XML has no place for.
+UNPRINTED = re.compile("[\x00-\x1f\x7f-\x9f\u2028\u2029\ufffe\uffff]")
 # Letters that a text in EUC-JP has many of if it is read as Shift-JIS.
 HALF_WIDTH = re.compile("[\uff61-\uff9f]")
 
@@ -59,14 +59,29 @@ def text_of_bytes(data: bytes) -> str:
     raise refusal(data, stops[furthest], furthest, "neither UTF-8 nor UTF-16 nor Shift-JIS nor EUC-JP")
 
 
+def plain(text: str) -> str:
+    """A text with a blank in place of each letter that is none."""
+    return UNPRINTED.sub(" ", text)
+
+
+def split_lines(data: bytes) -> list[str]:
+    """The lines of a text, which end with CR, LF or both, without the mark that old systems put at its end."""
+    return re.split(r"\r\n|\n|\r", text_of_bytes(data).rstrip("\x1a"))
+
+
+def lines_of(data: bytes) -> list[str]:
+    """The lines of a text, as plain text."""
+    return [plain(line) for line in split_lines(data)]
+
+
 def text_of_name(name: str) -> str:
-    """The text of a word of the command line, as the name of a file, in one of these encodings. What is in none of them
-    is shown by its bytes."""
+    """The plain text of a word of the command line, as the name of a file, in one of these encodings. What is in none
+    of them is shown by its bytes."""
     data = os.fsencode(name)
     try:
-        return text_of_bytes(data)
+        return plain(text_of_bytes(data))
     except Unreadable:
-        return data.decode(errors="backslashreplace")
+        return plain(data.decode(errors="backslashreplace"))
 
 
 def want_text(lines: list[str]) -> None:
@@ -74,5 +89,5 @@ def want_text(lines: list[str]) -> None:
     for number, line in enumerate(lines, 1):
         if len(line) > LINE_MAX:
             raise Unreadable(number, 1, f"a line of more than {LINE_MAX:,} letters")
-        if found := CONTROLS.search(line):
-            raise Unreadable(number, found.start() + 1, f"no text: the letter U+{ord(found[0]):04X}")
+        if "\0" in line:
+            raise Unreadable(number, line.index("\0") + 1, "no text: the letter U+0000")

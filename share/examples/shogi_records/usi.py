@@ -11,6 +11,7 @@ from .game import MOVES_MAX, Game, Move, Unreadable
 ENDS = ("resign", "win", "draw", "timeout")
 RANKS = r"[1-9PLNSGBRKplnsgbrk+]+"
 BOARD = re.compile(rf"{RANKS}(/{RANKS}){{8}}")
+LOOKED_AT = 20  # so many lines show whether each is a game
 POSITION = re.compile(r"\bposition\s+(?:startpos\b|sfen\s)")
 # Words that front ends and engines send each other, with which no line of a record begins.
 LOGGED = re.compile(
@@ -79,10 +80,11 @@ def is_playable(words: Iterable[Move]) -> bool:
 
 
 def is_split(rows: list[list[Move]]) -> bool:
-    """Whether lines of moves alone are games of their own: all are playable one by one, and not in a row."""
+    """Whether lines of moves alone are games of their own: the first ones are playable one by one, and all of them not
+    in a row."""
     if len(rows) < 2 or not all(USI_MOVE.fullmatch(row[0].text) for row in rows):
         return False
-    return not is_playable(itertools.chain(*rows)) and all(map(is_playable, rows))
+    return not is_playable(itertools.chain(*rows)) and all(map(is_playable, rows[:LOOKED_AT]))
 
 
 def logged_games(lines: list[str]) -> list[Game]:
