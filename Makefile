@@ -3,7 +3,7 @@
 PREFIX ?= /usr/local
 PROGRAM = crates/usi_host/out/usi_host
 
-.PHONY: try run build library install uninstall quick check dist test bench clean help
+.PHONY: try run build library install uninstall quick check check-batch dist test bench clean help
 .DEFAULT_GOAL = help
 
 # Runs the program on standard input: the built one, or one that is compiled without a proof, once.
@@ -46,6 +46,10 @@ check: library
 	check/examples.py
 	check/library.py
 
+# Spreads work over several processes and machines of this one by what is installed: GNU parallel, Dask, HAProxy.
+check-batch:
+	check/batch.py
+
 # Makes a tarball of the program, the library for C and what goes with them, which is used without the toolchain.
 dist: library
 	check/dist.sh
@@ -79,6 +83,7 @@ help:
 	@echo 'make uninstall  takes it away again from PREFIX'
 	@echo 'make quick      tests and scripts on the unproved program, in some five minutes'
 	@echo 'make check      tries the built program as its users run it'
+	@echo 'make check-batch  tries the recipes for several machines, on this one'
 	@echo 'make dist       a tarball of program and library for machines without the toolchain'
 	@echo 'make test       the gate: every proof, each edit, test and program'
 	@echo 'make bench      how fast it is'
