@@ -3,7 +3,7 @@
 PREFIX ?= /usr/local
 PROGRAM = crates/usi_host/out/usi_host
 
-.PHONY: try run build library install uninstall quick check check-batch dist test bench clean help
+.PHONY: try run build library install uninstall quick check check-batch dist deb test bench clean help
 .DEFAULT_GOAL = help
 
 # Runs the program on standard input: the built one, or one that is compiled without a proof, once.
@@ -54,6 +54,11 @@ check-batch:
 dist: library
 	check/dist.sh
 
+# Makes Debian packages of the program and of the library for C, and tries them with lintian and in a root of their own.
+deb: library
+	check/deb.sh
+	check/deb_check.sh
+
 # Proves every crate, tries each edit that must fail, runs each test and program, and then
 # the built program as its users run it.
 test:
@@ -84,6 +89,7 @@ help:
 	@echo 'make quick      tests and scripts on the unproved program, in some five minutes'
 	@echo 'make check      tries the built program as its users run it'
 	@echo 'make check-batch  tries the recipes for several machines, on this one'
+	@echo 'make deb        Debian packages of program and library'
 	@echo 'make dist       a tarball of program and library for machines without the toolchain'
 	@echo 'make test       the gate: every proof, each edit, test and program'
 	@echo 'make bench      how fast it is'

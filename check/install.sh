@@ -1,11 +1,11 @@
 #!/usr/bin/env bash
 # check/install.sh PREFIX [DESTDIR]: puts the built program and what goes with it below a prefix: usi_analyst, man
 # pages, completions, pages, units, example clients; and the library for C, if it is built. USI_HOST names another
-# program to install.
+# program to install, and USI_LIBRARY another folder with libusi.so and libusi.a.
 set -euo pipefail
 cd "$(dirname "$0")/.."
 prefix=$1 root=${2:-}$1
-program=${USI_HOST:-crates/usi_host/out/usi_host} library=crates/usi_library/out
+program=${USI_HOST:-crates/usi_host/out/usi_host} library=${USI_LIBRARY:-crates/usi_library/out}
 [ -x "$program" ] || {
     echo 'Nothing is built yet: call make build first.' >&2
     exit 1
@@ -18,10 +18,13 @@ echo '.so man1/usi_host.1' >"$root/share/man/man1/usi_analyst.1"
 install -D -m 644 share/usi_host.bash "$root/share/bash-completion/completions/usi_host"
 ln -sf usi_host "$root/share/bash-completion/completions/usi_analyst"
 install -D -m 644 share/_usi_host "$root/share/zsh/site-functions/_usi_host"
-install -D -m 644 -t "$doc" LICENSE deploy/usi_host.service deploy/usi_host@.service deploy/haproxy.cfg
+install -D -m 644 -t "$doc" LICENSE deploy/usi_host.service deploy/usi_host@.service deploy/haproxy*.cfg \
+    deploy/Containerfile
+install -D -m 755 -t "$doc" deploy/certificates.sh
 install -D -m 644 -t "$doc/pictures" docs/pictures/*.png docs/pictures/game.svg
 install -D -m 755 -t "$doc/examples" share/examples/*.py
 install -D -m 644 -t "$doc/examples" share/examples/problems.sfen
+install -D -m 755 -t "$doc/examples/batch" share/examples/batch/*
 # The pages lie beside each other there, and the examples below them. What else they link to is no link there.
 for page in SECURITY docs/GUIDE docs/PROTOCOL docs/OPERATING docs/TROUBLESHOOTING share/examples/README; do
     to=$doc/${page##*/}.md up=
