@@ -28,7 +28,7 @@ import threading
 from typing import Iterator
 
 from analyse import want_place, write_file
-from client import Gone, seconds_of
+from client import Gone, seconds_of, show_progress
 from shogi_mates.page import page_of
 from shogi_mates.problems import Examiner, Found, Problem, read_problems
 from shogi_mates.solver import PLIES
@@ -190,15 +190,15 @@ def run(arguments, examiners: list[Examiner]) -> int:
     try:
         for problem, found in zip(problems, in_order(examiners, problems)):
             writer.write(problem, found)
-            print(f"\r{len(writer.rows)} of {len(problems)}", end="", file=sys.stderr, flush=True)
+            show_progress(f"{len(writer.rows)} of {len(problems)}")
             if found.error or is_misstated(problem, found, arguments.plies):
                 faults += 1
                 stated = f"stated is {problem.stated}, found {mate_words(found, arguments.plies)}"
-                print(file=sys.stderr)
+                show_progress("", "\r")
                 tell(f"{problem.place}: {found.error or stated}")
-        print(file=sys.stderr)
+        show_progress("", "\r")
     except (Gone, OSError, KeyboardInterrupt) as why:
-        print(file=sys.stderr)
+        show_progress("", "\r")
         cause, status = ("Ctrl-C", 130) if isinstance(why, KeyboardInterrupt) else (why, 2)
         write_page(arguments, writer.rows, False)
         tell(f"{cause}; written is what is done, {len(writer.rows)} of {len(problems)} problems")
@@ -216,7 +216,7 @@ def main():
         tell(why)
         return 2
     except KeyboardInterrupt:
-        print(file=sys.stderr)
+        show_progress("", "\r")
         tell("Ctrl-C")
         return 130
     finally:

@@ -1,10 +1,9 @@
 """Mates by checks that moves of a game missed."""
 
 import html
-import sys
 from typing import Callable, Optional
 
-from client import Gone, Refused, TooSlow
+from client import Gone, Refused, TooSlow, show_progress
 from game_report.values import Analysis, worth_at
 from game_report.words import Made, plies_words
 from shogi_records.notation import NOTATIONS, line_of
@@ -58,8 +57,8 @@ class Finder:
             self.looked += 1
 
     def say(self, text: str) -> None:
-        """Tells something, on a line of its own behind the progress."""
-        print(file=sys.stderr)
+        """Tells something, in place of the progress."""
+        show_progress("", "\r")
         self.tell(text)
 
     def close(self) -> None:
