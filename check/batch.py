@@ -305,7 +305,9 @@ def kill_and_drain(machines, front):
     turned = {"ONE": machines.addresses["two"], "TWO": machines.addresses["one"]}
     machines.running["front"].kill()
     machines.running["front"].wait()
+    os.unlink(stats)
     machines.start("front", "haproxy", "-f", os.path.join(DEPLOY, "haproxy-front.cfg"), **turned)
+    wait_for(lambda: os.path.exists(stats), "another front")
     for name in ("one", "two"):
         machines.wait_until(name, "DOWN")
     with contextlib.suppress(Gone):
