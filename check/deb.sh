@@ -119,7 +119,7 @@ fi
 END
 chmod 755 "$folder"/usi-host/DEBIAN/post* "$folder"/usi-host/DEBIAN/prerm
 
-packed usi-host games "libc6 (>= $(glibc "$folder/usi-host/usr/bin/usi_host")), systemd | systemd-standalone-sysusers, systemd | systemd-standalone-tmpfiles" \
+packed usi-host utils "libc6 (>= $(glibc "$folder/usi-host/usr/bin/usi_host")), systemd | systemd-standalone-sysusers, systemd | systemd-standalone-tmpfiles" \
     'host for shogi analysis that speaks USI\n usi_host answers front ends on standard input and output, and many clients on\n a Unix socket: minimax at exactly the depth that is asked for, proved.' \
     'Recommends: python3\nSuggests: haproxy, parallel, socat, xboard\n'
 packed libusi0 libs "libc6 (>= $needed)" \
