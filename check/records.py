@@ -316,8 +316,7 @@ HOSTILE = [
     (b"7g7f " * 2_000_000, "1:1: a record of more than 4,000,000 bytes"),
     (b"7" * 3_000_000, "1:1: a line of more than 100,000 letters"),
     (b"7g7f 3c3d\n7g7f\0\n", "2:5: no text: the letter U+0000"),
-    ("手合割：平手\n先手：\x1b[2J\n", "2:4: no text: the letter U+001B"),
-    (b"\x7fELF\x02\x01\xff\xff\0" * 1000, "1:1: no text: the letter U+007F"),
+    (b"\x7fELF\x02\x01\xff\xff\0" * 1000, "1:9: no text: the letter U+0000"),
     ("7g7f 3c3d\n" + (SHUFFLE * 10 + "\n") * 300, "251:191: a game of more than 10,000 moves"),
 ]
 UNREADABLE = [
@@ -403,7 +402,7 @@ def heads_of_records():
 
 def letters_that_are_no_text():
     """Controls, and ends of lines that are none of a record, are blanks, so that no name brings a line of its own."""
-    for letter in "\x00\x08\x0b\x0c\x1b\x1c\x7f\x85\u2028\u2029\ufffe\uffff":
+    for letter in "\x08\x0b\x0c\x1b\x1c\x7f\x85\u2028\u2029\ufffe\uffff":
         told = f"先手：甲{letter}後手：丙\n後手：乙\n手合割：平手\n   1 ７六歩(77)\n"
         [game] = read_games(told.encode())
         names = {"black": "甲 後手：丙", "white": "乙", "handicap": "平手"}

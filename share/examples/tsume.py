@@ -18,17 +18,13 @@ answered in time, or is not as long as it is said to be; 2 where the program can
 Ctrl-C. What is done by then is written. Progress goes to standard error."""
 
 import argparse
-import contextlib
 import csv
 import json
 import os
-import queue
 import sys
-import threading
-from typing import Iterator
 
 from analyse import want_place, write_file
-from client import Gone, seconds_of, show_progress
+from client import Gone, in_order, seconds_of, show_progress
 from shogi_mates.page import page_of
 from shogi_mates.problems import Examiner, Found, Problem, read_problems
 from shogi_mates.solver import PLIES
@@ -92,35 +88,6 @@ class Writer:
             for note in notes_of(problem, found, plies, pieces):
                 print(f"      {note}")
         sys.stdout.flush()
-
-
-def in_order(examiners: list[Examiner], problems: list[Problem]) -> Iterator[Found]:
-    """What each of the examiners, in a thread of its own, finds of the problems, in their order."""
-    wanted: queue.Queue = queue.Queue()
-    found: queue.Queue = queue.Queue()
-    for item in enumerate(problems):
-        wanted.put(item)
-
-    def work(examiner):
-        with contextlib.suppress(queue.Empty):
-            while True:
-                number, problem = wanted.get_nowait()
-                try:
-                    found.put((number, examiner.examine(problem)))
-                except Exception as why:  # it is raised where the answers are taken
-                    found.put((number, why))
-                    return
-
-    for examiner in examiners:
-        threading.Thread(target=work, args=(examiner,), daemon=True).start()
-    early: dict = {}
-    for number in range(len(problems)):
-        while number not in early:
-            at, answer = found.get()
-            if isinstance(answer, Exception):
-                raise answer
-            early[at] = answer
-        yield early.pop(number)
 
 
 def tell(text: object) -> None:
@@ -187,8 +154,9 @@ def run(arguments, examiners: list[Examiner]) -> int:
     while len(examiners) < min(arguments.jobs, max(len(problems), 1)):
         examiners.append(Examiner(arguments.program, arguments.plies, arguments.timeout))
     writer = Writer(arguments)
+    answers = in_order(examiners, problems, lambda examiner, problem: examiner.examine(problem))
     try:
-        for problem, found in zip(problems, in_order(examiners, problems)):
+        for problem, found in zip(problems, answers):
             writer.write(problem, found)
             show_progress(f"{len(writer.rows)} of {len(problems)}")
             if found.error or is_misstated(problem, found, arguments.plies):

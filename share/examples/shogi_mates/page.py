@@ -2,7 +2,7 @@
 
 import html
 
-from game_report.diagram import diagram_of, label_of
+from game_report.diagram import diagram_of
 from game_report.page import PRINT
 from game_report.page import STYLE as REPORT_STYLE
 from game_report.svg import COLORS
@@ -37,7 +37,7 @@ def board_of(row: Row, plies: int, pieces: str) -> str:
     side = "☗ Black" if board.black else "☖ White"
     task = f"{side} mates in {found.mate.plies}" if found.mate else mate_words(found, plies) or f"{side} to move"
     words = html.escape(f"{name_of(number, problem)} {task}")
-    picture = diagram_of(board, pieces, [], html.escape(label_of(board, task)))
+    picture = diagram_of(board, pieces, [], html.escape(f"the position {board.sfen()}, {task}"))
     return f'<figure id="problem{number}"><figcaption>{words}</figcaption>{picture}</figure>'
 
 
