@@ -27,7 +27,7 @@ sys.path.append(os.path.join(TOP, "bench"))
 sys.dont_write_bytecode = True
 
 from client import LINE_MAX, Client, Gone, HostFull, Lacking, Refused, TooSlow, options_of  # noqa: E402
-from marks import engine_chance  # noqa: E402
+from marks import asked  # noqa: E402
 
 MATE_IN_ONE = "4k4/9/4P4/9/9/9/9/9/9 b G 1"
 MATED = "4k4/9/4G4/9/9/9/9/9/9 w G 1"
@@ -447,14 +447,14 @@ def engine_that_is_mated():
         def read_until(self, word):
             return [*self.replies, word]
 
-    for replies, chance in [
-        (["info depth 0 score mate 0"], 0.0),
-        (["info depth 1 score mate 3 pv 1g1f"], 1.0),
-        (["info depth 1 score mate -2 pv 1g1f"], 0.0),
-        (["info depth 1 score cp 600 pv 1g1f", "info depth 2 score cp 0 pv 1g1f"], 0.5),
-        ([], 0.0),
+    for replies, lines in [
+        (["info depth 0 score mate 0"], [("", None, -1)]),
+        (["info depth 1 score mate 3 pv 1g1f"], [("1g1f", None, 1)]),
+        (["info depth 1 score mate -2 pv 1g1f"], [("1g1f", None, -1)]),
+        (["info depth 1 score cp 600 pv 1g1f", "info depth 2 score cp 0 pv 1g1f"], [("1g1f", 0, None)]),
+        ([], []),
     ]:
-        want(engine_chance(Engine(*replies), "startpos", 2), chance, f"{replies}")
+        want(asked(Engine(*replies), "startpos", 2), lines, f"{replies}")
 
 
 def grades_of_a_program_that_sleeps():
