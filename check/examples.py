@@ -431,7 +431,9 @@ def positions_longer_than_a_line():
     want((status, table.splitlines()[1].endswith(",,,,,,line too long")), (0, True), told)
     want(len(table.splitlines()), 3, "the rows")
     status, table, told = reports.analysed(f"{longest}{round_trip}\n", "--program", PROGRAM)
-    want((status, table, told), (1, "", ["analyse.py: <stdin>:1:10: line too long: startpos"]), "a game")
+    column = len(longest) - len(moves) + 10_000 * len("4i4h ") + 1
+    why = f"analyse.py: <stdin>:1:{column}: a game of more than 10,000 moves"
+    want((status, table, told), (1, "", [why]), "a game")
 
 
 def engine_that_is_mated():
