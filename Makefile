@@ -72,7 +72,7 @@ bench:
 	bench/curves.py
 	bench/multipv.py
 	bench/usefulness.py --write
-	bench/mates.py --write
+	bench/mate_times.py --write
 	bench/serve.py
 
 # Takes away what was built and what `rt check` kept.

@@ -176,7 +176,7 @@ def words_that_a_host_passes_over():
 
 
 def other_letters_in_other_locales():
-    sent, row = "# 局面\n局面\n", "局面,2,,,,,bad position 4"
+    sent, row = "# 局面\n局面\n", "局面,2,,,,,bad position 1"
     for locale in ({"LC_ALL": "POSIX"}, {"LC_ALL": "POSIX", "PYTHONCOERCECLOCALE": "0", "PYTHONUTF8": "0"}):
         words = ["--program", PROGRAM, "--depth", "2"]
         status, table, told = run("grade.py", *words, sent=sent, env={**os.environ, **locale})

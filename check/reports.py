@@ -681,7 +681,8 @@ def programs_of_other_kinds():
         status, _, told = analysed(game, "--program", fake)
         why = f"analyse.py: evaluation Plain, as {fake} does not offer Exchange"
         want((status, told[0]), (0, why), "an older one")
-        want(analysed(game, "--program", fake, "--eval", "hand")[2], [], "Hand is chosen")
+        no_mates = f"analyse.py: missed mates are left out: {fake}: it has no command `mate`"
+        want(analysed(game, "--program", fake, "--eval", "hand")[2], [no_mates], "Hand is chosen")
         status, table, told = analysed(game, "--program", fake, "--eval", "Exchange")
         slip = "an option with a value that it does not have: Eval is Plain or Hand, and not 'Exchange'"
         want((status, table, told), (2, "", [f"analyse.py: {fake}: {slip}"]), "Exchange is not there")

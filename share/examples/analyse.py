@@ -22,6 +22,7 @@ error; 2 where the program cannot be started or the host is gone; 130 after Ctrl
 Progress is shown on a terminal."""
 
 import argparse
+import contextlib
 import csv
 import os
 import re

@@ -2,7 +2,7 @@
 """Asks the built program for a mate by checks at each position of the games of bench/games.txt and bench/more_games.txt,
 and times the answers. Writes its table to docs/BENCHMARKS.md with --write.
 
-    bench/mates.py [--program FILE] [--plies N] [--write]
+    bench/mate_times.py [--program FILE] [--plies N] [--write]
 
 FILE is the built program, crates/usi_host/out/usi_host unless it is given. N is the longest mate that is looked for,
 11 if it is left out. A time is from the line that is sent to the line that answers it, the least of three. The status
@@ -53,7 +53,7 @@ def timed(program, plies, sfens):
                 process.stdin.write(f"{sfen}\n")
                 said = process.stdout.readline().strip()
                 if not said:
-                    print(f"bench/mates.py: no answer to {sfen}", file=sys.stderr)
+                    print(f"bench/mate_times.py: no answer to {sfen}", file=sys.stderr)
                     sys.exit(1)
                 answers[at] = said, min(answers[at][1], 1000 * (time.perf_counter() - began))
             process.stdin.close()
