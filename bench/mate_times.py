@@ -25,6 +25,8 @@ from shogi_records.board import Board  # noqa: E402
 
 PROGRAM = os.path.join(TOP, "crates", "usi_host", "out", "usi_host")
 TRIES = 3
+# The shortest mates of the table.
+FIRST = 5
 
 
 def positions():
@@ -75,7 +77,7 @@ def main():
     longest = timed(asked.program, asked.plies, sfens)
     without = [sfen for sfen, (said, _) in zip(sfens, longest) if said.startswith("no mate")]
     rows = []
-    for plies in range(1, asked.plies + 1, 2):
+    for plies in range(FIRST, asked.plies + 1, 2):
         times = [took for said, took in longest if said == f"mate {plies}"]
         mates = [str(len(times)), number(statistics.median(times)), number(max(times))] if times else ["0", "", ""]
         last = longest if plies == asked.plies else timed(asked.program, plies, without)
