@@ -1,20 +1,17 @@
 -- Searches that a memory has the answers for.
 use Rattle.std.proofs.Common.{◌≡◌, ◌∙◌, ◌<◌, ◌+◌, ◌-◌, ◌==◌, ℕ, ℤ, Bool, true, false, List, [], ◌∷◌, ◌++◌, cond, Option, Some, None, refl, sym, ap, subst, arith}
-use Rattle.std.specs.Prelude.{◌||◌, is_some, nat_lt, IfSome, IsSome}
-use Rattle.std.specs.List.{AllByRecursion}
-use Rattle.std.specs.Option.{ForSome}
+use Rattle.std.specs.Prelude.{IfSome, IsSome}
 use Rattle.shogi_core.specs.Position.{Shogi}
 use Rattle.shogi_core.specs.declared.moves.Move.{Move}
 use Rattle.shogi_eval.specs.declared.eval.Eval.{Eval}
 use Rattle.shogi_moves.specs.After.{after}
 use Rattle.minimax.specs.Entries.{IsEnoughBelow, IsExactly}
 use Rattle.minimax.specs.Minimax.{best}
-use Rattle.minimax.specs.declared.bounds.TheConstants.{INFINITY}
 use Rattle.minimax.specs.declared.entry.Entry.{Entry}
 use Rattle.minimax.specs.declared.entry.Entry.TheVariants.{Exact, AtLeast, AtMost}
 use Rattle.shogi_search.specs.Calls.{Call, Probe}
-use Rattle.shogi_search.specs.Progress.{EndsWhereKnown, IsExactlyAnsweredBy, Progress, untouched}
-use Rattle.shogi_search.specs.SearchCalls.{AsksRoot, AsksRootFirst}
+use Rattle.shogi_search.specs.Progress.{IsExactlyAnsweredBy, Progress, untouched}
+use Rattle.shogi_search.specs.SearchCalls.{AsksRoot}
 use Rattle.shogi_search.specs.declared.found.Found.{Found}
 use Rattle.usi_lines.specs.Lines.{Buffer, Line, ahead}
 use Rattle.usi_lines.specs.declared.command.Hold.{Hold}
@@ -23,13 +20,12 @@ use Rattle.usi_session.specs.declared.go_request.GoRequest.{GoRequest}
 use Rattle.usi_session.specs.declared.state.HeldBestmove.{HeldBestmove}
 use Rattle.usi_session.specs.declared.state.State.{State}
 use Rattle.usi_session.specs.Answer.{write_or_hold}
-use Rattle.usi_session.specs.Due.{QueuesAnswer, QueuesEnd, SessionView, is_pending, roots_due, roots_left}
+use Rattle.usi_session.specs.Due.{QueuesAnswer, QueuesEnd, roots_left}
 use Rattle.usi_session.specs.GoTaskView.{GoTaskView, IsNewGo, IsSameButForSearch, bestmove_to, deeper_roots, infos_left, is_searching, lines_roots, rest_of_go, rest_of_go_if, roots_of}
-use Rattle.usi_session.specs.Known.{AreKnown, HasOneLine, IsAllKnown, IsAsked, IsBetweenSearches, IsKnown, KeepsAnswers, PassesSearch, StaysKnown}
+use Rattle.usi_session.specs.Known.{AreKnown, HasOneLine, IsAllKnown, IsAsked, IsBetweenSearches, IsKnown, KeepsAnswers, StaysKnown}
 use Rattle.usi_session.specs.Roots.{Root, pv_roots, root_of, roots_from, then_pv_roots}
-use Rattle.usi_session.specs.Told.{TellsEnded}
 use Rattle.usi_session.specs.Walked.{IsUnder, Walked, first_search, running_go_of}
-use Rattle.usi_session.specs.WholeStream.{answer_line, answer_to, answer_unless}
+use Rattle.usi_session.specs.WholeStream.{answer_to, answer_unless}
 use Rattle.usi_session.proofs.RootLaws.{pv_roots-above}
 use Rattle.usi_session.proofs.Steps.{rest_reported-state, roots-alive}
 
@@ -72,28 +68,21 @@ known_later before after same (x ∷ xs) all = (
 )
 
 -- the root where a walk stands is the first
-known_here : (answers : Shogi → Eval → ℕ → Option Entry) (q : GoRequest) (depths_done lines_done : ℕ)
-    (root_move : Option Move) (walk : Walked) (search : Progress)
-    → root_move ≡ None → walk.eval ≡ q.eval → 0 < walk.plies
-    → AreKnown answers (roots_of (running_go_of q depths_done lines_done root_move walk search))
-    → IsExactly (answers walk.at walk.eval walk.plies)
-known_here answers q depths_done lines_done (Some m) walk search none e some all = absurd (cc)
-known_here answers q depths_done lines_done None walk search none e some all =
+pub known_here : (answers : Shogi → Eval → ℕ → Option Entry) (q : GoRequest) (depths_done lines_done : ℕ) (walk : Walked) (search : Progress)
+    → walk.eval ≡ q.eval → 0 < walk.plies
+    → AreKnown answers (roots_of (running_go_of q depths_done lines_done None walk search))
+    → IsKnown answers (root_of walk.at walk.eval walk.plies)
+known_here answers q depths_done lines_done walk search e some all =
     let roots = pv_roots-above walk.at q.eval walk.plies some in
     let first : AreKnown answers (((root_of walk.at q.eval walk.plies ∷ then_pv_roots (λ next. pv_roots next q.eval (walk.plies - 1)) walk.at (best walk.at q.eval walk.plies)) ++ lines_roots q depths_done (lines_done + 1)) ++ deeper_roots q depths_done) =
     known_as answers _ _ (ap (λ (l : List Root). (l ++ lines_roots q depths_done (lines_done + 1)) ++ deeper_roots q depths_done) roots) all in
     subst (λ (v : Eval). IsExactly (answers walk.at v walk.plies)) (sym e) first.0
 
 -- so the search there is answered
-pub answered_here : (answers : Shogi → Eval → ℕ → Option Entry) (q : GoRequest) (depths_done lines_done : ℕ)
-    (root_move : Option Move) (walk : Walked) (search : Progress) (beta : ℤ)
-    → root_move ≡ None → walk.eval ≡ q.eval → 0 < walk.plies
-    → IsUnder search walk.at walk.eval walk.plies beta
-    → AreKnown answers (roots_of (running_go_of q depths_done lines_done root_move walk search))
+pub answered_here : (answers : Shogi → Eval → ℕ → Option Entry) (walk : Walked) (search : Progress) (beta : ℤ)
+    → IsUnder search walk.at walk.eval walk.plies beta → IsKnown answers (root_of walk.at walk.eval walk.plies)
     → IsExactlyAnsweredBy answers search
-answered_here answers q depths_done lines_done root_move walk search beta none e some under all =
-    rw (under.root, under.eval_is, under.depth_is)
-    (known_here answers q depths_done lines_done root_move walk search none e some all)
+answered_here answers walk search beta under known = rw (under.root, under.eval_is, under.depth_is) known
 
 -- and the memory was asked for its root, and nothing else
 pub asked_here : {M : Type 0} (called : M → Call → M → Type 0) (answers : Shogi → Eval → ℕ → Option Entry) (a b : M)

@@ -1,6 +1,6 @@
 -- A running `go`, from one search or one line to the next.
-use Rattle.std.proofs.Common.{◌≡◌, ◌≢◌, ◌<◌, ◌≤◌, ◌<ℤ◌, ◌≤ℤ◌, ℕ, zero, suc, ℤ, ◌+◌, ◌-◌, ◌*◌, ◌==◌, [], ◌∷◌, Bool, true, false, Option, Some, None, refl, sym, ap, ◌∙◌, arith, drop, length}
-use Rattle.std.specs.Prelude.{cond, ◌||◌, nat_lt, is_some}
+use Rattle.std.proofs.Common.{◌≡◌, ◌≢◌, ◌<◌, ◌≤◌, ◌<ℤ◌, ◌≤ℤ◌, ℕ, zero, suc, ℤ, ◌+◌, ◌-◌, ◌*◌, ◌==◌, [], ◌∷◌, Bool, true, false, Option, Some, None, refl, sym, ap, subst, ◌∙◌, arith, drop, length}
+use Rattle.std.specs.Prelude.{cond, nat_lt}
 use Rattle.std.proofs.lemmas.Bool.{both_ways, eqb-true, ltb-false}
 use Rattle.std.proofs.lemmas.List.{drop_all}
 use Rattle.shogi_core.specs.declared.moves.Move.{Move}
@@ -15,18 +15,24 @@ use Rattle.shogi_moves.proofs.LegalLaws.{after_code_of, legal_above_in, listed_t
 use Rattle.shogi_eval.specs.declared.eval.Eval.{Eval}
 use Rattle.minimax.specs.Minimax.{value, worth, negated, tree_size, pv_cost, sum_of_tree_sizes}
 use Rattle.shogi_search.specs.Progress.{Progress, untouched, untouched_below}
-use Rattle.shogi_search.specs.Ranked.{Ranking, IsTop, child_beta}
+use Rattle.shogi_search.specs.Ranked.{Ranking, child_beta}
 use Rattle.minimax.specs.declared.bounds.TheConstants.{INFINITY}
 use Rattle.minimax.proofs.Lines.{pv_cost-above}
 use Rattle.minimax.proofs.MinimaxLaws.{worth_plain, tree_size-positive, sum_of_tree_sizes-next}
-use Rattle.shogi_search.proofs.RankedLaws.{first_in}
+use Rattle.shogi_search.proofs.RankedLaws.{first_in, top_empty}
 use Rattle.shogi_search.proofs.RankedUse.{IsGoneThrough, gone_all, gone_window}
 use Rattle.usi_session.specs.declared.go_request.GoRequest.{GoRequest}
 use Rattle.usi_session.specs.declared.state.HeldBestmove.{HeldBestmove}
 use Rattle.usi_session.specs.Costs.{pvs_cost}
 use Rattle.usi_session.specs.GoInfos.{listed}
-use Rattle.usi_session.specs.GoTaskView.{listed_at, bestmove_to, cost_of_depths, load_of, load_after_root_move}
-use Rattle.usi_session.specs.Walked.{Walked, walk_from, IsQuestionInRange, IsFirst, IsUnder, IsLine, IsRanked, IsRankedTo, IsRankedUpTo, IsAtDepth, first_root_move, first_search, is_settled, load_at, running_go_of}
+use Rattle.usi_session.specs.GoTaskView.{listed_at, bestmove_to, cost_of_depths, is_searching, load_of, load_after_root_move}
+use Rattle.usi_session.specs.Phases.{IsAtPhase, IsListed, first_phase, go_at, lines_done_in, lines_done_of}
+use Rattle.usi_session.specs.declared.phase.Child.{Child}
+use Rattle.usi_session.specs.declared.phase.Listed.{Listed}
+use Rattle.usi_session.specs.declared.phase.PvLine.{PvLine}
+use Rattle.usi_session.specs.declared.phase.Phase.{Phase}
+use Rattle.usi_session.specs.declared.phase.Phase.TheVariants.{AtMove, AtLine}
+use Rattle.usi_session.specs.Walked.{Walked, walk_from, IsLine, IsQuestionInRange, IsFirst, IsUnder, IsRanked, IsRankedTo, IsRankedUpTo, first_search, is_settled, running_go_of}
 use Rattle.usi_session.proofs.Listed.{IsFirstLine, first_line, first_listed, first_some, one_listed}
 use Rattle.usi_session.proofs.RunningGoLaws.{cost_of_depths-more}
 
@@ -42,20 +48,41 @@ under_start s p eval d beta e =
       left = omega (arith, tree_size-positive p d);
     }
 
--- a pv that is whole
-pub record IsWholeLine (go_request : GoRequest) (depths_done lines_done : ℕ) (root_move : Option Move) (ranks : Ranking) (walk : Walked) (kept : HeldBestmove) : Type 0 where
-  pub line : IsLine go_request depths_done lines_done walk
-  pub ranked : go_request.multi_pv ≢ 1 → IsRanked go_request depths_done ranks
-  pub kept_is : 0 < lines_done → kept ≡ bestmove_to go_request (depths_done + 1)
-  pub none : root_move ≡ None
-  pub plies_is : walk.plies ≡ 0
-
 pub not_above : (n : ℕ) → nat_lt 0 n ≡ false → n ≡ 0
 not_above n e = let l : n ≤ 0 = ltb-false 0 n e in omega arith
 
-pub whole_line : (go_request : GoRequest) (depths_done lines_done : ℕ) (root_move : Option Move) (ranks : Ranking) (walk : Walked) (kept : HeldBestmove) (search : Progress) → IsAtDepth go_request depths_done lines_done root_move ranks walk kept search → (is_some root_move || nat_lt 0 walk.plies) ≡ false → IsWholeLine go_request depths_done lines_done root_move ranks walk kept
-whole_line go_request depths_done lines_done (Some m) ranks walk kept search h e = absurd (cc)
-whole_line go_request depths_done lines_done None ranks walk kept search h e = record { line = h.line; ranked = h.ranked; kept_is = h.kept_is; none = refl; plies_is = not_above walk.plies e }
+none_done_at : (walk : Walked) (child : Child) (one : Bool) → lines_done_in (cond one (AtLine (record { walk = walk; listed = None })) (AtMove child)) ≡ 0
+none_done_at walk child true = refl
+none_done_at walk child false = refl
+
+-- where a depth begins no line of it is done
+pub first_none_done : (go_request : GoRequest) (first : Move) (depths_done : ℕ) → lines_done_in (first_phase go_request first depths_done) ≡ 0
+first_none_done go_request first depths_done = none_done_at _ _ (go_request.multi_pv == 1)
+
+-- a pv that is whole
+pub record IsWholeLine (go_request : GoRequest) (depths_done : ℕ) (line : PvLine) (kept : HeldBestmove) : Type 0 where
+  pub line_is : IsLine go_request depths_done (lines_done_of line.listed) line.walk
+  pub listed_is : IsListed go_request depths_done line.listed
+  pub kept_is : 0 < lines_done_of line.listed → kept ≡ bestmove_to go_request (depths_done + 1)
+  pub plies_is : line.walk.plies ≡ 0
+
+pub whole_line : (go_request : GoRequest) (depths_done : ℕ) (phase : Phase) (line : PvLine) (kept : HeldBestmove) (search : Progress) → phase ≡ AtLine line → IsAtPhase go_request depths_done phase kept search → is_searching (go_at go_request depths_done phase search) ≡ false → IsWholeLine go_request depths_done line kept
+whole_line go_request depths_done (AtMove child) line kept search e h whole = absurd (cc)
+whole_line go_request depths_done (AtLine l) line kept search e h whole =
+    let same : l ≡ line = cc in
+    subst (λ (x : PvLine). IsWholeLine go_request depths_done x kept) same (record { line_is = h.line_is; listed_is = h.listed_is; kept_is = h.kept_is; plies_is = not_above l.walk.plies whole })
+
+-- with several lines all moves are ranked
+pub listed_all : (go_request : GoRequest) (depths_done : ℕ) (listed : Option Listed) (all : Listed) → listed ≡ Some all → IsListed go_request depths_done listed → (go_request.multi_pv ≢ 1) × IsRanked go_request depths_done all.ranks
+listed_all go_request depths_done None all e h = absurd (cc)
+listed_all go_request depths_done (Some l) all e h =
+    let same : l ≡ all = cc in
+    subst (λ (x : Listed). (go_request.multi_pv ≢ 1) × IsRanked go_request depths_done x.ranks) same h
+
+-- with one line nothing is listed
+pub listed_none : (go_request : GoRequest) (depths_done : ℕ) (listed : Option Listed) → listed ≡ None → IsListed go_request depths_done listed → go_request.multi_pv ≡ 1
+listed_none go_request depths_done None e h = h
+listed_none go_request depths_done (Some l) e h = absurd (cc)
 
 -- what was ranked, as the laws of ranks say it, and back
 pub gone : (go_request : GoRequest) (depths_done : ℕ) (passed : Option Move) (ranks : Ranking) → IsRankedUpTo go_request depths_done passed ranks → IsGoneThrough go_request.position (worth go_request.position go_request.eval depths_done) passed ranks
@@ -64,38 +91,41 @@ gone go_request depths_done passed ranks h = record { seen = h.seen; whole = h.w
 pub ranked_up_to : (go_request : GoRequest) (depths_done : ℕ) (passed : Option Move) (ranks : Ranking) → IsGoneThrough go_request.position (worth go_request.position go_request.eval depths_done) passed ranks → ranks.lines ≡ go_request.multi_pv → IsRankedUpTo go_request depths_done passed ranks
 ranked_up_to go_request depths_done passed ranks g most = record { seen = g.seen; whole = g.whole; top = g.top; most = most }
 
+-- before a move is ranked
+abbrev no_ranks : GoRequest → Ranking
+no_ranks go_request = record { lines = go_request.multi_pv; pairs = [] }
+
 -- where a depth begins
-begun_at : (go_request : GoRequest) (first : Move) (depths_done : ℕ) (ranks : Ranking) (kept : HeldBestmove) (one : Bool) → (go_request.multi_pv == 1) ≡ one → IsQuestionInRange go_request → IsFirst go_request.position first → ranks.lines ≡ go_request.multi_pv → IsTop (worth go_request.position go_request.eval depths_done) [] ranks → child_beta ranks ≡ INFINITY
-    → IsAtDepth go_request depths_done 0 (cond one None (Some first)) ranks (walk_from go_request.position go_request.eval (depths_done + 1)) kept (cond one (untouched go_request.position go_request.eval (depths_done + 1)) (untouched (after go_request.position first) go_request.eval depths_done))
-begun_at go_request first depths_done ranks kept true e a f l t b =
+begun_at : (go_request : GoRequest) (first : Move) (depths_done : ℕ) (kept : HeldBestmove) (one : Bool) → (go_request.multi_pv == 1) ≡ one → IsQuestionInRange go_request → IsFirst go_request.position first
+    → IsAtPhase go_request depths_done (cond one (AtLine (record { walk = walk_from go_request.position go_request.eval (depths_done + 1); listed = None })) (AtMove (record { root_move = first; ranks = no_ranks go_request }))) kept (cond one (untouched go_request.position go_request.eval (depths_done + 1)) (untouched (after go_request.position first) go_request.eval depths_done))
+begun_at go_request first depths_done kept true e a f =
     let n : go_request.multi_pv ≡ 1 = eqb-true go_request.multi_pv 1 e in
     let w : IsFirstLine go_request.position go_request.eval (depths_done + 1) = first_line go_request.position go_request.eval (depths_done + 1) (omega arith) (first_some go_request.position first f) in
     let k : depths_done + 1 - 1 ≡ depths_done = omega arith in
     record {
-      line = record {
+      line_is = record {
         code = w.code;
         listed_as = first_listed go_request.position go_request.eval go_request.multi_pv (depths_done + 1) w (omega arith);
         pv_is = w.pv_is;
         value_is = w.value_is ∙ ap (λ (d : ℕ). worth go_request.position go_request.eval d w.code) k;
         eval_is = refl;
       };
-      ranked = λ ne. absurd (ne n);
+      listed_is = n;
       kept_is = λ h. absurd (omega arith);
       searched = λ h. under_start _ go_request.position go_request.eval (depths_done + 1) INFINITY refl;
     }
-begun_at go_request first depths_done ranks kept false e a f l t b = record {
+begun_at go_request first depths_done kept false e a f = record {
   several = λ n. both_ways _ e (ap (λ (k : ℕ). k == 1) n);
-  none_done = refl;
-  ranked = record { passed = None; next = f; ranked = record { seen = []; whole = refl; top = t; most = l } };
-  searched = under_start _ (after go_request.position first) go_request.eval depths_done (child_beta ranks) (ap (untouched_below (after go_request.position first) go_request.eval depths_done) (sym b));
+  ranked = record { passed = None; next = f; ranked = record { seen = []; whole = refl; top = top_empty (worth go_request.position go_request.eval depths_done) go_request.multi_pv; most = refl } };
+  searched = under_start _ (after go_request.position first) go_request.eval depths_done (child_beta (no_ranks go_request)) refl;
 }
 
-pub begun : (go_request : GoRequest) (first : Move) (depths_done : ℕ) (ranks : Ranking) (kept : HeldBestmove) → IsQuestionInRange go_request → IsFirst go_request.position first → ranks.lines ≡ go_request.multi_pv → IsTop (worth go_request.position go_request.eval depths_done) [] ranks → child_beta ranks ≡ INFINITY
-    → IsAtDepth go_request depths_done 0 (first_root_move go_request first) ranks (walk_from go_request.position go_request.eval (depths_done + 1)) kept (first_search go_request first depths_done)
-begun go_request first depths_done ranks kept a f l t b = begun_at go_request first depths_done ranks kept (go_request.multi_pv == 1) refl a f l t b
+pub begun : (go_request : GoRequest) (first : Move) (depths_done : ℕ) (kept : HeldBestmove) → IsQuestionInRange go_request → IsFirst go_request.position first
+    → IsAtPhase go_request depths_done (first_phase go_request first depths_done) kept (first_search go_request first depths_done)
+begun go_request first depths_done kept a f = begun_at go_request first depths_done kept (go_request.multi_pv == 1) refl a f
 
 begun_cost_at : (go_request : GoRequest) (first : Move) (depths_done : ℕ) (above : ℕ) (one : Bool) → (go_request.multi_pv == 1) ≡ one → IsFirst go_request.position first → move_of (code_of first) ≡ Some first → above ≡ cost_of_depths go_request (depths_done + 1) (go_request.depth - (depths_done + 1))
-    → load_at go_request depths_done (cond one None (Some first)) (walk_from go_request.position go_request.eval (depths_done + 1)) (cond one (untouched go_request.position go_request.eval (depths_done + 1)) (untouched (after go_request.position first) go_request.eval depths_done))
+    → load_of (go_at go_request depths_done (cond one (AtLine (record { walk = walk_from go_request.position go_request.eval (depths_done + 1); listed = None })) (AtMove (record { root_move = first; ranks = no_ranks go_request }))) (cond one (untouched go_request.position go_request.eval (depths_done + 1)) (untouched (after go_request.position first) go_request.eval depths_done)))
     ≤ cond one (pv_cost go_request.position go_request.eval (depths_done + 1)) (4 * sum_of_tree_sizes go_request.position (depths_done + 1 - 1) (legal_codes go_request.position) + pvs_cost go_request.position go_request.eval (depths_done + 1 - 1) (listed go_request.position go_request.eval go_request.multi_pv (depths_done + 1))) + above
 begun_cost_at go_request first depths_done above true e f b a =
     let n : go_request.multi_pv ≡ 1 = eqb-true go_request.multi_pv 1 e in
@@ -111,7 +141,7 @@ begun_cost_at go_request first depths_done above false e f b a =
 
 -- a depth that begins costs it and the depths above it
 pub begun_cost : (go_request : GoRequest) (first : Move) (depths_done : ℕ) → depths_done < go_request.depth → IsFirst go_request.position first → move_of (code_of first) ≡ Some first
-    → load_at go_request depths_done (first_root_move go_request first) (walk_from go_request.position go_request.eval (depths_done + 1)) (first_search go_request first depths_done) ≤ cost_of_depths go_request depths_done (go_request.depth - depths_done)
+    → load_of (go_at go_request depths_done (first_phase go_request first depths_done) (first_search go_request first depths_done)) ≤ cost_of_depths go_request depths_done (go_request.depth - depths_done)
 begun_cost go_request first depths_done h f b =
     rw (cost_of_depths-more go_request depths_done h) (begun_cost_at go_request first depths_done (cost_of_depths go_request (depths_done + 1) (go_request.depth - (depths_done + 1))) (go_request.multi_pv == 1) refl f b refl)
 
@@ -142,7 +172,7 @@ ranked_all go_request depths_done root_move new h n = record {
 }
 
 pub next_child_cost : (go_request : GoRequest) (depths_done : ℕ) (root_move m : Move) (w : Walked) (s : Progress) (beta : ℤ) → s ≡ untouched_below (after go_request.position m) go_request.eval depths_done beta → after go_request.position m ≡ after_code go_request.position (code_of m)
-    → legal_above go_request.position (Some root_move) ≡ code_of m ∷ legal_above go_request.position (Some m) → load_at go_request depths_done (Some m) w s ≤ load_after_root_move go_request depths_done root_move
+    → legal_above go_request.position (Some root_move) ≡ code_of m ∷ legal_above go_request.position (Some m) → load_of (running_go_of go_request depths_done 0 (Some m) w s) ≤ load_after_root_move go_request depths_done root_move
 next_child_cost go_request depths_done root_move m w s beta e a n =
     let l : s.left ≡ 4 * tree_size (after go_request.position m) depths_done = ap (λ (x : Progress). x.left) e in
     let c : sum_of_tree_sizes go_request.position depths_done (legal_above go_request.position (Some root_move)) ≡ tree_size (after go_request.position m) depths_done + sum_of_tree_sizes go_request.position depths_done (legal_above go_request.position (Some m)) =
@@ -150,6 +180,6 @@ next_child_cost go_request depths_done root_move m w s beta e a n =
     omega arith
 
 -- the next depth, and those above it, cost no more
-pub next_depth_cost : (go_request : GoRequest) (first : Move) (depths_done lines_done : ℕ) (root_move : Option Move) (w : Walked) (s : Progress) → depths_done + 1 < go_request.depth → IsFirst go_request.position first → move_of (code_of first) ≡ Some first
-    → load_at go_request (depths_done + 1) (first_root_move go_request first) (walk_from go_request.position go_request.eval (depths_done + 1 + 1)) (first_search go_request first (depths_done + 1)) ≤ load_of (running_go_of go_request depths_done lines_done root_move w s)
-next_depth_cost go_request first depths_done lines_done root_move w s h f b = omega (arith, begun_cost go_request first (depths_done + 1) h f b)
+pub next_depth_cost : (go_request : GoRequest) (first : Move) (depths_done : ℕ) (phase : Phase) (s : Progress) → depths_done + 1 < go_request.depth → IsFirst go_request.position first → move_of (code_of first) ≡ Some first
+    → load_of (go_at go_request (depths_done + 1) (first_phase go_request first (depths_done + 1)) (first_search go_request first (depths_done + 1))) ≤ load_of (go_at go_request depths_done phase s)
+next_depth_cost go_request first depths_done phase s h f b = omega (arith, begun_cost go_request first (depths_done + 1) h f b)

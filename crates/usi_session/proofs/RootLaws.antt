@@ -1,7 +1,7 @@
 -- The searches along pvs that a running `go` has still to end.
 use Rattle.std.proofs.Common.{◌≡◌, ◌∙◌, ◌<◌, ℕ, zero, suc, ◌+◌, ◌-◌, ◌==◌, List, [], ◌∷◌, ◌++◌, Bool, true, false, cond, Option, Some, None, refl, sym, ap, arith, append-nil, drop, length}
 use Rattle.std.specs.Prelude.{nat_lt, ◌||◌, is_some, slice_get}
-use Rattle.std.proofs.lemmas.Bool.{eqb-true, and_parts, ltb-true}
+use Rattle.std.proofs.lemmas.Bool.{eqb-true, and_parts}
 use Rattle.std.proofs.lemmas.List.{drop_all}
 use Rattle.shogi_core.specs.Position.{Shogi}
 use Rattle.shogi_core.specs.declared.moves.Move.{Move}
@@ -10,13 +10,15 @@ use Rattle.shogi_moves.specs.LegalMoves.{legal_codes}
 use Rattle.shogi_eval.specs.declared.eval.Eval.{Eval}
 use Rattle.minimax.specs.Minimax.{best}
 use Rattle.shogi_search.specs.Progress.{Progress}
-use Rattle.shogi_search.specs.Ranked.{Ranking}
 use Rattle.usi_session.specs.declared.go_request.GoRequest.{GoRequest}
-use Rattle.usi_session.specs.declared.state.HeldBestmove.{HeldBestmove}
 use Rattle.usi_session.specs.GoInfos.{listed}
 use Rattle.usi_session.specs.Roots.{Root, root_of, pv_roots, pvs_roots, then_pv_roots, depth_roots, roots_of_depths, roots_where}
 use Rattle.usi_session.specs.GoTaskView.{GoTaskView, current_roots, deeper_roots, ends_depth, is_last, is_last_of_depth, is_searching, lines_roots, listed_at, roots_of}
-use Rattle.usi_session.specs.Walked.{IsAtDepth, IsFirst, LeavesRoots, Walked, first_root_move, roots_after, running_go_of, walk_from, walk_roots}
+use Rattle.usi_session.specs.Phases.{first_phase, go_at, lines_done_in, root_move_in, walk_in}
+use Rattle.usi_session.specs.declared.phase.Child.{Child}
+use Rattle.usi_session.specs.declared.phase.Phase.{Phase}
+use Rattle.usi_session.specs.declared.phase.Phase.TheVariants.{AtMove, AtLine}
+use Rattle.usi_session.specs.Walked.{IsFirst, LeavesRoots, running_go_of, walk_from}
 use Rattle.usi_session.proofs.Listed.{drop_at, first_some, one_listed}
 use Rattle.usi_session.proofs.NextSearch.{not_above}
 
@@ -68,7 +70,7 @@ lines_roots-none go_request depths_done lines_done e =
     ap (pvs_roots go_request.position go_request.eval depths_done) (drop_all lines_done (listed_at go_request depths_done) (omega arith))
 
 begun_at : (go_request : GoRequest) (first : Move) (depths_done : ℕ) (search : Progress) (one : Bool) → (go_request.multi_pv == 1) ≡ one → IsFirst go_request.position first
-    → current_roots (cond one None (Some first)) (running_go_of go_request depths_done 0 (cond one None (Some first)) (walk_from go_request.position go_request.eval (depths_done + 1)) search)
+    → current_roots (root_move_in (cond one (AtLine (record { walk = walk_from go_request.position go_request.eval (depths_done + 1); listed = None })) (AtMove (record { root_move = first; ranks = record { lines = go_request.multi_pv; pairs = [] } })))) (go_at go_request depths_done (cond one (AtLine (record { walk = walk_from go_request.position go_request.eval (depths_done + 1); listed = None })) (AtMove (record { root_move = first; ranks = record { lines = go_request.multi_pv; pairs = [] } }))) search)
     ≡ cond one (pv_roots go_request.position go_request.eval (depths_done + 1)) (pvs_roots go_request.position go_request.eval (depths_done + 1 - 1) (listed go_request.position go_request.eval go_request.multi_pv (depths_done + 1)))
 begun_at go_request first depths_done search true e f =
     let len : length (listed_at go_request depths_done) ≡ 1 = one_listed go_request.position go_request.eval go_request.multi_pv (depths_done + 1) (eqb-true go_request.multi_pv 1 e) (omega arith) (first_some go_request.position first f) in
@@ -79,7 +81,7 @@ begun_at go_request first depths_done search false e f =
 
 -- before a depth it and those above it are searched
 pub begun_roots : (go_request : GoRequest) (first : Move) (depths_done : ℕ) (search : Progress) → depths_done < go_request.depth → IsFirst go_request.position first
-    → roots_of (running_go_of go_request depths_done 0 (first_root_move go_request first) (walk_from go_request.position go_request.eval (depths_done + 1)) search)
+    → roots_of (go_at go_request depths_done (first_phase go_request first depths_done) search)
     ≡ roots_of_depths go_request.position go_request.eval go_request.multi_pv depths_done (go_request.depth - depths_done)
 begun_roots go_request first depths_done search h f =
     ap (λ (roots : List Root). roots ++ deeper_roots go_request depths_done) (begun_at go_request first depths_done search (go_request.multi_pv == 1) refl f)
@@ -123,29 +125,10 @@ pub roots_none : (position : Shogi) (eval : Eval) (multi_pv depth : ℕ) → leg
     → [] ≡ roots_where position eval multi_pv depth (legal_codes position)
 roots_none position eval multi_pv depth e = sym (ap (roots_where position eval multi_pv depth) e)
 
--- the search where a walk stands, and those after it
-pub walked_roots : (eval : Eval) (old new : Walked) → old.eval ≡ eval → new.eval ≡ eval → 0 < old.plies → walk_roots new ≡ roots_after old
-    → pv_roots old.at eval old.plies ≡ root_of old.at old.eval old.plies ∷ pv_roots new.at eval new.plies
-walked_roots eval old new h k some e =
-    ap (λ (v : Eval). pv_roots old.at v old.plies) (sym h)
-    ∙ (pv_roots-above old.at old.eval old.plies some
-    ∙ ap (λ (roots : List Root). root_of old.at old.eval old.plies ∷ roots) (sym e ∙ ap (λ (v : Eval). pv_roots new.at v new.plies) k))
-
 -- the search of a root move is none of those along a pv
-pub ranking_roots : (go_request : GoRequest) (depths_done lines_done : ℕ) (was now : Option Move) (m : Move) (ranks : Ranking) (old new : Walked) (kept : HeldBestmove) (before after : Progress)
-    → was ≡ Some m → IsAtDepth go_request depths_done lines_done was ranks old kept before → LeavesRoots go_request depths_done now new after
-    → roots_of (running_go_of go_request depths_done lines_done now new after) ≡ roots_of (running_go_of go_request depths_done lines_done was old before)
-ranking_roots go_request depths_done lines_done None now m ranks old new kept before after e h leaves = absurd (cc)
-ranking_roots go_request depths_done lines_done (Some k) now m ranks old new kept before after e h leaves =
-    ap (λ (l : ℕ). roots_of (running_go_of go_request depths_done l now new after)) h.none_done
+pub ranking_roots : (go_request : GoRequest) (depths_done : ℕ) (child : Child) (now : Phase) (before after : Progress)
+    → lines_done_in now ≡ 0 → LeavesRoots go_request depths_done (root_move_in now) (walk_in go_request now) after
+    → roots_of (go_at go_request depths_done now after) ≡ roots_of (go_at go_request depths_done (AtMove child) before)
+ranking_roots go_request depths_done child now before after none leaves =
+    ap (λ (l : ℕ). roots_of (running_go_of go_request depths_done l (root_move_in now) (walk_in go_request now) after)) none
     ∙ ap (λ (roots : List Root). roots ++ deeper_roots go_request depths_done) leaves
-
--- how far a search is does not matter
-pub same_roots : (go_request : GoRequest) (depths_done lines_done : ℕ) (root_move : Option Move) (walk : Walked) (before after : Progress)
-    → roots_of (running_go_of go_request depths_done lines_done root_move walk after) ≡ roots_of (running_go_of go_request depths_done lines_done root_move walk before)
-same_roots go_request depths_done lines_done None walk before after = refl
-same_roots go_request depths_done lines_done (Some m) walk before after = refl
-
-pub searching_plies : (root_move : Option Move) (n : ℕ) → (is_some root_move || nat_lt 0 n) ≡ true → root_move ≡ None → 0 < n
-searching_plies None n e h = ltb-true 0 n e
-searching_plies (Some m) n e h = absurd (cc)

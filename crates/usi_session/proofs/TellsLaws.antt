@@ -1,5 +1,5 @@
 -- What a memory was told, one search after another.
-use Rattle.std.proofs.Common.{◌≡◌, ◌∙◌, ◌<◌, ◌<ℤ◌, ◌≤ℤ◌, ◌+◌, ℕ, ℤ, List, [], ◌∷◌, ◌++◌, Option, Some, None, refl, sym, ap, subst, inl, inr, arith, append_assoc}
+use Rattle.std.proofs.Common.{◌≡◌, ◌∙◌, ◌<◌, ◌<ℤ◌, ◌≤ℤ◌, ℕ, ℤ, List, [], ◌∷◌, ◌++◌, Option, Some, None, refl, sym, ap, subst, inl, inr, arith, append_assoc}
 use Rattle.std.specs.Option.{ForSome}
 use Rattle.std.proofs.lemmas.Int.{ints}
 use Rattle.shogi_core.specs.Position.{Shogi}
@@ -15,12 +15,9 @@ use Rattle.shogi_search.specs.Progress.{Progress, FindsBest, FindsValue, IsFound
 use Rattle.shogi_search.specs.SearchCalls.{Says, TellsRoot}
 use Rattle.shogi_search.specs.declared.found.Found.{Found}
 use Rattle.shogi_search.proofs.CallLaws.{calls_and_calls, no_calls, one_call}
-use Rattle.usi_session.specs.declared.go_request.GoRequest.{GoRequest}
-use Rattle.usi_session.specs.Roots.{Root, pv_roots, root_of}
-use Rattle.usi_session.specs.GoTaskView.{deeper_roots, lines_roots, roots_of}
-use Rattle.usi_session.specs.Walked.{IsUnder, Walked, roots_after, running_go_of, walk_roots}
+use Rattle.usi_session.specs.Roots.{Root, root_of}
+use Rattle.usi_session.specs.Walked.{IsUnder}
 use Rattle.usi_session.specs.Told.{AreTold, IsCalled, TellsEnded, TellsEndedFor, TellsValue, entry_of_root}
-use Rattle.usi_session.proofs.RootLaws.{walked_roots}
 
 -- no call
 pub none_called : {M : Type 0} (called : M → Call → M → Type 0) (a : M) → IsCalled called a a
@@ -146,21 +143,3 @@ unfolding AreTold
 called_after_told called a b [] told = told
 called_after_told called a b (root ∷ roots) told =
     is_called_then called a told.0 b (called_at called a told.0 root told.1.0) (called_after_told called told.0 b roots told.1.1)
-
--- the search along the pv ended
-pub ended_on : {M : Type 0} (called : M → Call → M → Type 0) (a b : M) (root : Root) (old new behind deeper : List Root)
-    → TellsValue called a b root → old ≡ root ∷ new
-    → TellsEnded called a b ((old ++ behind) ++ deeper) ((new ++ behind) ++ deeper)
-ended_on called a b root old new behind deeper told e =
-    one_ended called a b root _ _ told (ap (λ roots. (roots ++ behind) ++ deeper) e)
-
--- a walk went on by a search that ended
-pub walked_told : {M : Type 0} (called : M → Call → M → Type 0) (a b : M) (go_request : GoRequest) (depths_done lines_done : ℕ) (root_move : Option Move)
-    (old new : Walked) (before after : Progress)
-    → root_move ≡ None → old.eval ≡ go_request.eval → new.eval ≡ go_request.eval → 0 < old.plies → walk_roots new ≡ roots_after old
-    → TellsValue called a b (root_of old.at old.eval old.plies)
-    → TellsEnded called a b (roots_of (running_go_of go_request depths_done lines_done root_move old before)) (roots_of (running_go_of go_request depths_done lines_done root_move new after))
-walked_told called a b go_request depths_done lines_done None old new before after none h k some e told =
-    ended_on called a b (root_of old.at old.eval old.plies) (pv_roots old.at go_request.eval old.plies) (pv_roots new.at go_request.eval new.plies)
-    (lines_roots go_request depths_done (lines_done + 1)) (deeper_roots go_request depths_done) told (walked_roots go_request.eval old new h k some e)
-walked_told called a b go_request depths_done lines_done (Some m) old new before after none h k some e told = absurd (cc)

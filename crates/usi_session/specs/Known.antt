@@ -6,11 +6,13 @@ use Rattle.shogi_eval.specs.declared.eval.Eval.{Eval}
 use Rattle.minimax.specs.Entries.{IsExactly}
 use Rattle.minimax.specs.declared.entry.Entry.{Entry}
 use Rattle.shogi_search.specs.Calls.{Call, Probe}
+use Rattle.shogi_search.specs.Progress.{Progress}
 use Rattle.usi_lines.specs.Lines.{Line, ahead}
 use Rattle.usi_session.specs.declared.state.State.{State}
 use Rattle.usi_session.specs.Due.{SessionView, is_pending, roots_left, turns}
 use Rattle.usi_session.specs.GoTaskView.{GoTaskView, is_searching, rest_of_go_if}
 use Rattle.usi_session.specs.Roots.{Root}
+use Rattle.usi_session.specs.Walked.{Walked}
 use Rattle.usi_session.specs.WholeStream.{answer_line}
 
 -- a memory that gives these answers has the value of the root
@@ -48,6 +50,13 @@ pub record PassesSearch {M : Type 0} (called : M → Call → M → Type 0) (old
   pub made : result ≡ Some 0
   pub asked : IsAsked called old new
   pub between : IsBetweenSearches after
+
+-- a search along a walk took no step and asked one question, and the next one along it has not begun
+pub record PassesRoot {M : Type 0} (called : M → Call → M → Type 0) (old new : M)
+    (result : Option ℕ) (walk : Walked) (search : Progress) : Type 0 where
+  pub made : result ≡ Some 0
+  pub asked : IsAsked called old new
+  pub fresh : 0 < walk.plies → search.started ≡ false
 
 -- MultiPV is 1 before and after each of these lines
 unfoldable pub HasOneLine : State → List Line → Type 0

@@ -7,6 +7,7 @@ pub mod Told
 pub mod GoTaskView
 pub mod Walked
 pub mod GoTask
+pub mod Phases
 pub mod Due
 pub mod Known
 pub mod WholeLines

@@ -1,6 +1,6 @@
 -- A walk along a pv, ply by ply, and what a running `go` knows of the depth that it is at
 -- (own choice).
-use Rattle.std.specs.Prelude.{ℕ, ℤ, List, [], ◌∷◌, Option, None, Some, ◌≡◌, ◌≢◌, ◌+◌, ◌-◌, ◌<◌, ◌≤◌, ◌++◌, ◌==◌, ◌&&◌, Bool, true, cond, is_some, length, slice_get, unwrap_or}
+use Rattle.std.specs.Prelude.{ℕ, ℤ, List, [], ◌∷◌, Option, None, Some, ◌≡◌, ◌+◌, ◌-◌, ◌<◌, ◌≤◌, ◌++◌, ◌==◌, ◌&&◌, Bool, true, cond, is_some, length, slice_get, unwrap_or}
 use Rattle.shogi_core.specs.Codes.{code_of}
 use Rattle.shogi_core.specs.Position.{Shogi}
 use Rattle.shogi_core.specs.declared.moves.Move.{Move}
@@ -16,10 +16,9 @@ use Rattle.shogi_search.specs.declared.found.Found.{Found}
 use Rattle.usi_lines.specs.Options.{IsDepth, IsMultiPv}
 use Rattle.usi_lines.specs.declared.options.TheConstants.{DEPTH_MAX}
 use Rattle.usi_session.specs.declared.go_request.GoRequest.{GoRequest}
-use Rattle.usi_session.specs.declared.state.HeldBestmove.{HeldBestmove}
 use Rattle.usi_session.specs.GoInfos.{pv_by}
 use Rattle.usi_session.specs.Roots.{Root, pv_roots, then_pv_roots}
-use Rattle.usi_session.specs.GoTaskView.{GoTaskView, listed_at, bestmove_to, lines_cost, lines_roots, current_roots, load_of, load_after_root_move}
+use Rattle.usi_session.specs.GoTaskView.{GoTaskView, listed_at, lines_cost, lines_roots, current_roots}
 
 -- the evaluation, the position after the moves so far, the plies that are left, and the whole pv
 -- with its value
@@ -88,10 +87,6 @@ IsNext position passed next =
 abbrev pub IsFirst : Shogi → Move → Type 0
 IsFirst position first = IsNext position None first
 
--- where a depth begins: with one line at the root, with several after the first root move
-abbrev pub first_root_move : GoRequest → Move → Option Move
-first_root_move go_request first = cond (go_request.multi_pv == 1) None (Some first)
-
 -- the search that a depth begins with
 abbrev pub first_search : GoRequest → Move → ℕ → Progress
 first_search go_request first depths_done =
@@ -121,17 +116,6 @@ running_go_of go_request depths_done lines_done root_move walk search = record {
   is_begun = search.started;
   steps_left = search.left;
 }
-
--- the load at a depth of which no line is done
-abbrev pub load_at : GoRequest → ℕ → Option Move → Walked → Progress → ℕ
-load_at go_request depths_done root_move walk search =
-    load_of (running_go_of go_request depths_done 0 root_move walk search)
-
--- where the search of a root move has ended, no more is left than the searches after it cost
-abbrev pub LeavesLoad : GoRequest → ℕ → Move → Option Move → Walked → Progress → Type 0
-LeavesLoad go_request depths_done ended root_move walk search =
-    load_at go_request depths_done root_move walk search
-    ≤ load_after_root_move go_request depths_done ended
 
 -- where the search of a root move has ended, the searches along each pv listed are still to end
 abbrev pub LeavesRoots : GoRequest → ℕ → Option Move → Walked → Progress → Type 0
@@ -198,44 +182,3 @@ pub record BeginsLine (go_request : GoRequest) (depths_done lines_done : ℕ) (w
   pub roots :
       pv_roots walk.at go_request.eval walk.plies ++ lines_roots go_request depths_done (lines_done + 1)
       ≡ lines_roots go_request depths_done lines_done
-
--- the pv of the current line is walked
-pub record IsWalking (go_request : GoRequest) (depths_done lines_done : ℕ) (ranks : Ranking)
-    (walk : Walked) (kept : HeldBestmove) (search : Progress) : Type 0 where
-  pub line : IsLine go_request depths_done lines_done walk
-  pub ranked : go_request.multi_pv ≢ 1 → IsRanked go_request depths_done ranks
-  pub kept_is : 0 < lines_done → kept ≡ bestmove_to go_request (depths_done + 1)
-  pub searched : IsSearchedAlong walk search
-
--- the position after a root move is searched for what the move is worth, below the bound that its
--- place in the list needs
-pub record IsRanking (go_request : GoRequest) (depths_done lines_done : ℕ) (root_move : Move)
-    (ranks : Ranking) (search : Progress) : Type 0 where
-  pub several : go_request.multi_pv ≢ 1
-  pub none_done : lines_done ≡ 0
-  pub ranked : IsRankedTo go_request depths_done root_move ranks
-  pub searched :
-      IsUnder search (after go_request.position root_move) go_request.eval depths_done
-      (child_beta ranks)
-
--- what is known at a depth: while a root move is searched, or while a pv is walked
-abbrev pub IsAtDepth : GoRequest → ℕ → ℕ → Option Move → Ranking → Walked → HeldBestmove
-    → Progress → Type 0
-IsAtDepth go_request depths_done lines_done (Some root_move) ranks walk kept search =
-    IsRanking go_request depths_done lines_done root_move ranks search
-IsAtDepth go_request depths_done lines_done None ranks walk kept search =
-    IsWalking go_request depths_done lines_done ranks walk kept search
-
--- what is known before a line of the depth is done, when no bestmove is kept
-abbrev pub IsAtFirstLine : GoRequest → ℕ → Option Move → Ranking → Walked → Progress → Type 0
-IsAtFirstLine go_request depths_done root_move ranks walk search =
-    (kept : HeldBestmove) → IsAtDepth go_request depths_done 0 root_move ranks walk kept search
-
--- what holds of a running `go`
-pub record IsRunningGo (go_request : GoRequest) (first : Move) (depths_done lines_done : ℕ)
-    (root_move : Option Move) (ranks : Ranking) (walk : Walked) (kept : HeldBestmove)
-    (search : Progress) : Type 0 where
-  pub range : IsQuestionInRange go_request
-  pub first_is : IsFirst go_request.position first
-  pub left : depths_done < go_request.depth
-  pub at_depth : IsAtDepth go_request depths_done lines_done root_move ranks walk kept search

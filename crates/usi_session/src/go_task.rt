@@ -1,19 +1,22 @@
 //! A running `go`: its searches, one after another, depth by depth.
 
-ghost use Rattle.std.specs.Prelude.{◌≡◌, ◌≢◌, ◌≤◌, ◌<◌, ◌+◌, IfOk, IfSome, IfNone, OnSome, OnOk, length, true, false, is_some, ◌==◌, ◌&&◌};
-ghost use Rattle.std.specs.Option.{ForSome};
-ghost use Rattle.minimax.specs.Minimax.{value, best};
-ghost use Rattle.shogi_search.specs.Progress.{EndsWhereKnown, FindsBest, FindsValue, IsFoundBy, KeepsQuestion};
-ghost use Rattle.shogi_search.specs.SearchCalls.{AsksRootFirst, TellsFound};
+ghost use Rattle.std.specs.Prelude.{◌≡◌, ◌≢◌, ◌≤◌, ◌<◌, ◌+◌, IfOk, IfSome, IfNone, OnSome, OnOk, length, true, false, ◌==◌};
+ghost use Rattle.minimax.specs.declared.bounds.TheConstants.{INFINITY};
+ghost use Rattle.shogi_search.specs.Progress.{IsFoundBy, KeepsQuestion};
 ghost use Rattle.usi_session.specs.Answer.{bestmove_of};
+ghost use Rattle.usi_session.specs.declared.state.HeldBestmove.{HeldBestmove};
 ghost use Rattle.usi_session.specs.GoInfos.{move_to_play, move_to_ponder};
-ghost use Rattle.usi_session.specs.GoTaskView.{listed_at, infos_left, infos_after, deeper_infos, is_last, is_last_of_depth, is_searching, bestmove_to, cost_of_depths, load_of, reports_of, deeper_roots, first_roots, roots_of, EndsSearchesOfGo, HasDone, HasDoneLine, IsSameButForSearch, WritesLine};
-ghost use Rattle.usi_session.specs.Known.{AreKnown, IsBetweenSearches, PassesSearch};
-ghost use Rattle.usi_session.specs.Told.{IsCalled};
-ghost use Rattle.usi_session.specs.Walked.{IsQuestionInRange, IsFirst, IsRankedTo, IsRankedUpTo, IsRanked, BeginsLine, IsSearchedAlong, IsFoundOfChild, IsAtFirstLine, first_root_move, first_search, is_settled, child_search, cost_after, walk_cost, walk_roots, roots_after, LeavesLoad, LeavesRoots};
+ghost use Rattle.usi_session.specs.GoTaskView.{listed_at, infos_left, infos_after, deeper_infos, is_last, is_last_of_depth, is_searching, bestmove_to, cost_of_depths, load_after_root_move, load_of, reports_of, deeper_roots, first_roots, roots_of, EndsSearchesOfGo, HasDone, HasDoneLine, IsSameButForSearch, WritesLine};
+ghost use Rattle.usi_session.specs.Known.{AreKnown, IsBetweenSearches, IsKnown, PassesRoot, PassesSearch};
+ghost use Rattle.usi_session.specs.Phases.{IsAtPhase, first_phase, go_at, lines_done_in, lines_done_of, root_move_in, walk_in};
+ghost use Rattle.usi_session.specs.Roots.{root_of};
+ghost use Rattle.usi_session.specs.Told.{IsCalled, TellsEnded};
+ghost use Rattle.usi_session.specs.Walked.{IsQuestionInRange, IsFirst, IsRankedTo, IsRankedUpTo, IsRanked, BeginsLine, IsSearchedAlong, IsFoundOfChild, IsUnder, LeavesRoots, first_search, is_settled, child_search, cost_after, walk_cost, walk_roots};
 ghost use Rattle.usi_session.specs.WholeLines.{GrowsByLines};
 
+use crate::depth::Depth;
 use crate::go_request::GoRequest;
+use crate::phase::{Child, Listed, Phase, PvLine};
 use crate::pv_walk::PvWalk;
 use crate::state::HeldBestmove;
 use last_ply::last_worth;
@@ -22,6 +25,7 @@ use shogi_moves::{apply, next_legal};
 use shogi_search::{Found, INFINITY, Memo, NoMemo, Ranks, Search};
 use std::alloc::{AllocError, Allocator};
 use std::marker::Model;
+use std::mem::replace;
 use usi_lines::Hold;
 use usi_texts::{write_info, write_numbered_info};
 
@@ -31,13 +35,8 @@ use usi_texts::{write_info, write_numbered_info};
 /// stack is large.
 #[derive(Drop)]
 pub struct GoTask<A: Allocator> {
-    go_request: GoRequest,
-    first: Move,
-    depths_done: u8,
-    lines_done: u8,
-    root_move: Option<Move>,
-    ranks: Ranks,
-    walk: PvWalk,
+    depth: Depth,
+    phase: Phase,
     bestmove: HeldBestmove,
     best_moves: [Option<Move>; 2],
     search: Box<Search, A>,
@@ -80,14 +79,20 @@ fn bestmove_of(moves: &[Move], until: Hold) -> HeldBestmove
     }
 }
 
-/// The move that is ranked first at a depth, where there are several lines.
-fn first_root_move(go_request: &GoRequest, first: Move) -> Option<Move>
-    ensures { result ≡ first_root_move go_request.now first }
+/// What a depth begins with.
+fn first_phase(depth: &Depth) -> Phase
+    ensures { result ≡ first_phase depth.now.go_request depth.now.first depth.now.done }
 {
+    let go_request = &depth.go_request;
     if go_request.multi_pv == 1 {
-        return None;
+        let walk = PvWalk::new(&go_request.position, go_request.eval, depth.done + 1);
+        return Phase::AtLine(PvLine { walk, listed: None });
     }
-    Some(first)
+    let ranks = Ranks::new(go_request.multi_pv as usize);
+    Phase::AtMove(Child {
+        root_move: depth.first,
+        ranks,
+    })
 }
 
 /// The second of these moves, and the first move of a pv.
@@ -103,49 +108,39 @@ const ADVISED_FROM: u8 = 5;
 
 /// Begins with the first search of a depth. With one line the root of a deep one visits these moves
 /// first.
-fn start_depth(
-    go_request: &GoRequest,
-    first: Move,
-    depths_done: u8,
-    best_moves: &[Option<Move>; 2],
-    search: &mut Search,
-)
-    requires go_request { IsQuestionInRange go_request.now }
-    requires first { IsFirst go_request.now.position first }
-    requires more { depths_done < go_request.now.depth }
-    ensures { search.new ≡ first_search go_request.now first depths_done }
+fn start_depth(depth: &Depth, best_moves: &[Option<Move>; 2], search: &mut Search)
+    ensures { search.new ≡ first_search depth.now.go_request depth.now.first depth.now.done }
 {
-    if go_request.multi_pv == 1 {
+    if depth.go_request.multi_pv == 1 {
         search.restart_below(
-            &go_request.position,
-            go_request.eval,
-            depths_done + 1,
+            &depth.go_request.position,
+            depth.go_request.eval,
+            depth.done + 1,
             INFINITY,
         );
-        if depths_done + 1 >= ADVISED_FROM {
+        if depth.done + 1 >= ADVISED_FROM {
             search.advise([best_moves[0], best_moves[1]]);
         }
         return;
     }
+    let first = depth.first;
     first.reveal_invariant();
-    let next = apply(&go_request.position, first);
-    search.restart_below(&next, go_request.eval, depths_done, INFINITY);
+    let next = apply(&depth.go_request.position, first);
+    search.restart_below(&next, depth.go_request.eval, depth.done, INFINITY);
 }
 
 /// A walk along the pv of the line of this number, from 0, that has made its first move.
-fn line_of(go_request: &GoRequest, depths_done: u8, ranks: &Ranks, lines_done: u8) -> PvWalk
-    requires go_request { IsQuestionInRange go_request.now }
-    requires more { depths_done < go_request.now.depth }
-    requires ranked { IsRanked go_request.now depths_done ranks.now }
-    requires lines_done { lines_done < length (listed_at go_request.now depths_done) }
-    ensures { BeginsLine go_request.now depths_done lines_done result }
+fn line_of(depth: &Depth, ranks: &Ranks, lines_done: u8) -> PvWalk
+    requires ranked { IsRanked depth.now.go_request depth.now.done ranks.now }
+    requires lines_done { lines_done < length (listed_at depth.now.go_request depth.now.done) }
+    ensures { BeginsLine depth.now.go_request depth.now.done lines_done result }
 {
     let line = ranks.list()[lines_done as usize];
     let (m, worth) = line;
     m.reveal_invariant();
     let played = m;
-    let next = apply(&go_request.position, m);
-    PvWalk::after(played, &next, go_request.eval, depths_done, worth)
+    let next = apply(&depth.go_request.position, m);
+    PvWalk::after(played, &next, depth.go_request.eval, depth.done, worth)
 }
 
 /// Searches the position where a walk stands, where plies are left.
@@ -160,7 +155,8 @@ fn search_pv(walk: &PvWalk, search: &mut Search)
     }
 }
 
-/// Continues a search. A leaf is not worth a place in the memory, and is searched without it.
+/// Continues the search after a root move. A leaf is not worth a place in the memory, and is searched
+/// without it.
 fn continue_search<M: Memo>(
     search: &mut Search,
     memo: &mut M,
@@ -169,20 +165,11 @@ fn continue_search<M: Memo>(
 ) -> Option<Found>
     ensures unchanged { KeepsQuestion search.old search.new }
     ensures below { IfSome result (IsFoundBy search.old) }
-    ensures value { IfSome result (FindsValue search.old) }
-    ensures best { IfSome result (FindsBest search.old) }
     ensures over { OnSome result (search.new.left ≡ 0) }
     ensures most { IfSome result (λ f. f.steps ≤ search.old.steps + budget) }
     ensures made { IfSome result (λ f. f.steps ≤ search.old.steps + search.old.left) }
     ensures spent { IfNone result (budget + search.new.left ≤ search.old.left) }
     ensures unfinished { IfNone result (0 < search.new.left) }
-    ensures again { ForSome search.old.found (λ f. (result ≡ Some f) × (search.new ≡ search.old)) }
-    ensures told { leaf ≡ false → TellsFound M.called memo.old memo.new search.old result }
-    ensures asked { leaf ≡ false
-        → AsksRootFirst M.called (M.answers memo.old) memo.old memo.new search.old }
-    ensures known { leaf ≡ false
-        → EndsWhereKnown (M.answers memo.old) result search.old search.new }
-    ensures counted { IfSome result (λ f. f.steps ≡ search.new.steps) }
     ensures calls { IsCalled M.called memo.old memo.new }
     ensures capacity { M.capacity memo.new ≡ M.capacity memo.old }
 {
@@ -192,62 +179,72 @@ fn continue_search<M: Memo>(
     search.advance(memo, budget)
 }
 
-/// Takes the end of a search along a walk: the next one along it is started, or its pv is whole.
-fn advance_pv(walk: &mut PvWalk, search: &mut Search, found: &Found)
+/// Continues the search where a walk stands. Where it ends in at most so many steps, returns how many
+/// it made, and the next one along the walk is started, or its pv is whole. Otherwise all of the
+/// budget was used.
+fn walk_on<M: Memo>(
+    walk: &mut PvWalk,
+    search: &mut Search,
+    memo: &mut M,
+    budget: u64,
+) -> Option<u64>
     requires some { 0 < walk.old.plies }
-    requires over { search.old.left ≡ 0 }
-    requires value { found.now.value ≡ value walk.old.at walk.old.eval walk.old.plies }
-    requires best { found.now.best ≡ best walk.old.at walk.old.eval walk.old.plies }
+    requires under { IsUnder search.old walk.old.at walk.old.eval walk.old.plies INFINITY }
     ensures unchanged { walk.new ≡ record walk.old { at = walk.new.at; plies = walk.new.plies } }
-    ensures under { IsSearchedAlong walk.new search.new }
-    ensures cost { search.new.left + cost_after walk.new ≤ cost_after walk.old }
-    ensures roots { walk_roots walk.new ≡ roots_after walk.old }
-    ensures fresh { 0 < walk.new.plies → search.new.started ≡ false }
+    ensures stays { IfNone result (walk.new ≡ walk.old) }
+    ensures along { IsSearchedAlong walk.new search.new }
+    ensures unfinished { IfNone result (0 < search.new.left) }
+    ensures spent { IfNone result (budget + search.new.left ≤ search.old.left) }
+    ensures most { IfSome result (λ made. made ≤ budget) }
+    ensures made { IfSome result (λ made. made + (search.new.left + cost_after walk.new)
+        ≤ search.old.left + cost_after walk.old) }
+    ensures fewer { OnSome result (search.new.left + cost_after walk.new
+        < search.old.left + cost_after walk.old) }
+    ensures told { TellsEnded M.called memo.old memo.new
+        (walk_roots walk.old) (walk_roots walk.new) }
+    ensures known { search.old.started ≡ false
+        → IsKnown (M.answers memo.old) (root_of walk.old.at walk.old.eval walk.old.plies)
+        → PassesRoot M.called memo.old memo.new result walk.new search.new }
+    ensures capacity { M.capacity memo.new ≡ M.capacity memo.old }
 {
-    walk.follow(found);
+    let before = search.steps();
+    let found = search.advance(memo, budget)?;
+    let made = found.steps.saturating_sub(before);
+    walk.follow(&found);
     search_pv(walk, search);
+    Some(made)
 }
 
 /// Begins with the search of a child, once all legal moves before its own are ranked.
-fn search_child(
-    go_request: &GoRequest,
-    depths_done: u8,
-    root_move: Move,
-    ranks: &Ranks,
-    search: &mut Search,
-)
-    requires go_request { IsQuestionInRange go_request.now }
-    requires more { depths_done < go_request.now.depth }
-    requires ranked { IsRankedTo go_request.now depths_done root_move ranks.now }
-    ensures { search.new ≡ child_search go_request.now depths_done root_move ranks.now }
+fn search_child(depth: &Depth, root_move: Move, ranks: &Ranks, search: &mut Search)
+    requires ranked { IsRankedTo depth.now.go_request depth.now.done root_move ranks.now }
+    ensures { search.new ≡ child_search depth.now.go_request depth.now.done root_move ranks.now }
 {
     root_move.reveal_invariant();
-    go_request.position.reveal_invariant();
-    let next = apply(&go_request.position, root_move);
-    search.restart_below(&next, go_request.eval, depths_done, ranks.child_beta());
+    depth.go_request.position.reveal_invariant();
+    let next = apply(&depth.go_request.position, root_move);
+    search.restart_below(&next, depth.go_request.eval, depth.done, ranks.child_beta());
 }
 
 /// Whether a move ends a line and is settled, so that it is not worth what the search of its child
 /// finds.
-fn is_settled(go_request: &GoRequest, depths_done: u8) -> bool
-    ensures { result ≡ is_settled go_request.now depths_done }
+fn is_settled(depth: &Depth) -> bool
+    ensures { result ≡ is_settled depth.now.go_request depth.now.done }
 {
-    depths_done == 0 && go_request.eval.resolves_captures()
+    depth.done == 0 && depth.go_request.eval.resolves_captures()
 }
 
 /// Ranks a move by what the search of its child found, or by what it is worth where it is settled. A
 /// value that is not below the bound ranks it behind a full list, and the list stays.
-fn rank(go_request: &GoRequest, depths_done: u8, root_move: Move, found: &Found, ranks: &mut Ranks)
-    requires go_request { IsQuestionInRange go_request.now }
-    requires more { depths_done < go_request.now.depth }
-    requires ranked { IsRankedTo go_request.now depths_done root_move ranks.old }
-    requires below { IsFoundOfChild go_request.now depths_done root_move ranks.old found.now }
-    ensures { IsRankedUpTo go_request.now depths_done (Some root_move) ranks.new }
+fn rank(depth: &Depth, root_move: Move, found: &Found, ranks: &mut Ranks)
+    requires ranked { IsRankedTo depth.now.go_request depth.now.done root_move ranks.old }
+    requires below { IsFoundOfChild depth.now.go_request depth.now.done root_move ranks.old found.now }
+    ensures { IsRankedUpTo depth.now.go_request depth.now.done (Some root_move) ranks.new }
 {
     root_move.reveal_invariant();
-    go_request.position.reveal_invariant();
-    if is_settled(go_request, depths_done) {
-        let worth = last_worth(&go_request.position, go_request.eval, root_move);
+    depth.go_request.position.reveal_invariant();
+    if is_settled(depth) {
+        let worth = last_worth(&depth.go_request.position, depth.go_request.eval, root_move);
         ranks.offer(root_move, worth);
         return;
     }
@@ -257,37 +254,54 @@ fn rank(go_request: &GoRequest, depths_done: u8, root_move: Move, found: &Found,
 }
 
 /// Takes the end of a root move's search: the next one is searched, or the first line is walked.
-fn rank_child(
-    go_request: &GoRequest,
-    depths_done: u8,
-    root_move: Move,
-    found: &Found,
-    ranks: &mut Ranks,
-    walk: &mut PvWalk,
-    search: &mut Search,
-) -> Option<Move>
-    requires go_request { IsQuestionInRange go_request.now }
-    requires several { go_request.now.multi_pv ≢ 1 }
-    requires more { depths_done < go_request.now.depth }
-    requires ranked { IsRankedTo go_request.now depths_done root_move ranks.old }
+fn rank_child(depth: &Depth, child: &mut Child, found: &Found, search: &mut Search) -> Phase
+    requires several { depth.now.go_request.multi_pv ≢ 1 }
+    requires ranked { IsRankedTo depth.now.go_request depth.now.done
+        child.old.root_move child.old.ranks }
     requires over { search.old.left ≡ 0 }
-    requires below { IsFoundOfChild go_request.now depths_done root_move ranks.old found.now }
-    ensures at_depth { IsAtFirstLine go_request.now depths_done
-        result ranks.new walk.new search.new }
-    ensures cost { LeavesLoad go_request.now depths_done root_move result walk.new search.new }
-    ensures roots { LeavesRoots go_request.now depths_done result walk.new search.new }
+    requires below { IsFoundOfChild depth.now.go_request depth.now.done
+        child.old.root_move child.old.ranks found.now }
+    ensures at_phase { (kept : HeldBestmove)
+        → IsAtPhase depth.now.go_request depth.now.done result kept search.new }
+    ensures none_done { lines_done_in result ≡ 0 }
+    ensures cost { load_of (go_at depth.now.go_request depth.now.done result search.new)
+        ≤ load_after_root_move depth.now.go_request depth.now.done child.old.root_move }
+    ensures roots { LeavesRoots depth.now.go_request depth.now.done
+        (root_move_in result) (walk_in depth.now.go_request result) search.new }
 {
+    let root_move = child.root_move;
     let visited = root_move;
-    rank(go_request, depths_done, root_move, found, ranks);
-    if let Some(m) = next_legal(&go_request.position, Some(visited)) {
+    let mut ranks = replace(&mut child.ranks, Ranks::new(1));
+    rank(depth, root_move, found, &mut ranks);
+    if let Some(m) = next_legal(&depth.go_request.position, Some(visited)) {
         let next = m;
         m.reveal_invariant();
-        search_child(go_request, depths_done, m, ranks, search);
-        return Some(next);
+        search_child(depth, m, &ranks, search);
+        return Phase::AtMove(Child {
+            root_move: next,
+            ranks,
+        });
     }
-    *walk = line_of(go_request, depths_done, ranks, 0);
-    search_pv(walk, search);
-    None
+    let walk = line_of(depth, &ranks, 0);
+    search_pv(&walk, search);
+    let listed = Listed {
+        ranks,
+        lines_done: 0,
+    };
+    Phase::AtLine(PvLine {
+        walk,
+        listed: Some(listed),
+    })
+}
+
+/// How many lines of the depth are done.
+fn lines_done(line: &PvLine) -> u8
+    ensures { result ≡ lines_done_of line.now.listed }
+{
+    match &line.listed {
+        None => 0,
+        Some(listed) => listed.lines_done,
+    }
 }
 
 impl<A: Allocator> GoTask<A> {
@@ -302,27 +316,24 @@ impl<A: Allocator> GoTask<A> {
         ensures roots { IfOk result (λ go. roots_of go ≡ first_roots go_request) }
         ensures fresh { IfOk result (λ go. go.is_begun ≡ false) }
     {
-        let asked = go_request;
         first.reveal_invariant();
-        let mut search = Search::start(&asked.position, asked.eval, 0);
-        start_depth(&asked, first, 0, &[None, None], &mut search);
+        let depth = Depth {
+            go_request,
+            first,
+            done: 0,
+        };
+        let mut search = Search::start(&go_request.position, go_request.eval, 0);
+        start_depth(&depth, &[None, None], &mut search);
         let search = Box::new(alloc, search)?;
         let bestmove = HeldBestmove {
             best: None,
             ponder: None,
-            until: asked.hold,
+            until: go_request.hold,
         };
-        let root_move = first_root_move(&asked, first);
-        let ranks = Ranks::new(asked.multi_pv as usize);
-        let walk = PvWalk::new(&asked.position, asked.eval, 1);
+        let phase = first_phase(&depth);
         Ok(GoTask {
-            go_request,
-            first,
-            depths_done: 0,
-            lines_done: 0,
-            root_move,
-            ranks,
-            walk,
+            depth,
+            phase,
             bestmove,
             best_moves: [None, None],
             search,
@@ -346,31 +357,18 @@ impl<A: Allocator> GoTask<A> {
             → PassesSearch M.called memo.old memo.new result self.new }
         ensures capacity { M.capacity memo.new ≡ M.capacity memo.old }
     {
-        let before = self.search.steps();
-        let leaf = self.is_leaf();
-        let found = continue_search(&mut self.search, memo, leaf, budget)?;
-        let made = found.steps.saturating_sub(before);
-        let Some(m) = self.root_move else {
-            advance_pv(&mut self.walk, &mut self.search, &found);
-            return Some(made);
-        };
-        self.root_move = rank_child(
-            &self.go_request,
-            self.depths_done,
-            m,
-            &found,
-            &mut self.ranks,
-            &mut self.walk,
-            &mut self.search,
-        );
-        Some(made)
-    }
-
-    /// Whether the position after a root move is searched and has no plies after it.
-    fn is_leaf(&self) -> bool
-        ensures { result ≡ (self.now.depths_done == 0 && is_some self.now.root_move) }
-    {
-        self.depths_done == 0 && self.root_move.is_some()
+        match &mut self.phase {
+            Phase::AtLine(line) => walk_on(&mut line.walk, &mut self.search, memo, budget),
+            Phase::AtMove(child) => {
+                let before = self.search.steps();
+                let leaf = self.depth.done == 0;
+                let found = continue_search(&mut self.search, memo, leaf, budget)?;
+                let made = found.steps.saturating_sub(before);
+                let next = rank_child(&self.depth, child, &found, &mut self.search);
+                self.phase = next;
+                Some(made)
+            }
+        }
     }
 
     /// Reports the current line, once its pv is whole.
@@ -379,30 +377,26 @@ impl<A: Allocator> GoTask<A> {
         ensures rest { OnOk result (WritesLine self.now out.old.items out.new.items) }
         ensures lines { OnOk result (GrowsByLines out.old.items out.new.items) }
     {
-        let value = self.walk.value();
-        let moves = self.walk.moves();
-        if self.go_request.multi_pv == 1 {
-            return write_info(out, self.depths_done + 1, value, moves);
+        let Phase::AtLine(line) = &self.phase else {
+            return Ok(());
+        };
+        let depth = self.depth.done + 1;
+        let value = line.walk.value();
+        let moves = line.walk.moves();
+        match &line.listed {
+            None => write_info(out, depth, value, moves),
+            Some(listed) => write_numbered_info(out, depth, listed.lines_done + 1, value, moves),
         }
-        write_numbered_info(out, self.depths_done + 1, self.lines_done + 1, value, moves)
     }
 
     /// Whether a search is running.
     pub fn is_searching(&self) -> bool
         ensures { result ≡ is_searching self.now }
     {
-        self.root_move.is_some() || self.walk.plies() > 0
-    }
-
-    /// The number of lines of the current depth.
-    fn lines(&self) -> usize
-        requires whole { is_searching self.now ≡ false }
-        ensures { result ≡ length (listed_at self.now.go_request self.now.depths_done) }
-    {
-        if self.go_request.multi_pv == 1 {
-            return 1;
+        match &self.phase {
+            Phase::AtMove(_) => true,
+            Phase::AtLine(line) => line.walk.plies() > 0,
         }
-        self.ranks.list().len()
     }
 
     /// Whether the current line is the last one of its depth.
@@ -410,7 +404,13 @@ impl<A: Allocator> GoTask<A> {
         requires whole { is_searching self.now ≡ false }
         ensures { result ≡ is_last_of_depth self.now }
     {
-        self.lines_done as usize + 1 == self.lines()
+        let Phase::AtLine(line) = &self.phase else {
+            return false;
+        };
+        match &line.listed {
+            None => true,
+            Some(listed) => listed.lines_done as usize + 1 == listed.ranks.list().len(),
+        }
     }
 
     /// Whether the current line is the last one of the depth that was asked for.
@@ -418,7 +418,7 @@ impl<A: Allocator> GoTask<A> {
         requires whole { is_searching self.now ≡ false }
         ensures { result ≡ is_last self.now }
     {
-        self.ends_depth() && self.depths_done + 1 == self.go_request.depth
+        self.ends_depth() && self.depth.done + 1 == self.depth.go_request.depth
     }
 
     /// The bestmove at the current depth.
@@ -426,8 +426,11 @@ impl<A: Allocator> GoTask<A> {
         requires whole { is_searching self.now ≡ false }
         ensures { result ≡ bestmove_to self.now.go_request (self.now.depths_done + 1) }
     {
-        if self.lines_done == 0 {
-            return bestmove_of(self.walk.moves(), self.go_request.hold);
+        let Phase::AtLine(line) = &self.phase else {
+            return self.bestmove;
+        };
+        if lines_done(line) == 0 {
+            return bestmove_of(line.walk.moves(), self.depth.go_request.hold);
         }
         self.bestmove
     }
@@ -443,12 +446,19 @@ impl<A: Allocator> GoTask<A> {
         ensures fewer { reports_of self.new < reports_of self.old }
     {
         let bestmove = self.current_bestmove();
-        let lines_done = self.lines_done + 1;
-        let walk = line_of(&self.go_request, self.depths_done, &self.ranks, lines_done);
+        let Phase::AtLine(line) = &mut self.phase else {
+            return;
+        };
+        let Some(listed) = &mut line.listed else {
+            return;
+        };
+        let lines_done = listed.lines_done + 1;
+        let ranks = replace(&mut listed.ranks, Ranks::new(1));
+        let walk = line_of(&self.depth, &ranks, lines_done);
         search_pv(&walk, &mut self.search);
-        self.walk = walk;
+        let listed = Some(Listed { ranks, lines_done });
+        self.phase = Phase::AtLine(PvLine { walk, listed });
         self.bestmove = bestmove;
-        self.lines_done = lines_done;
     }
 
     /// Continues with the next depth.
@@ -463,24 +473,24 @@ impl<A: Allocator> GoTask<A> {
         ensures load { load_of self.new ≤ load_of self.old }
         ensures fewer { reports_of self.new < reports_of self.old }
     {
-        let (asked, first, depths_done) = (self.go_request, self.first, self.depths_done + 1);
-        first.reveal_invariant();
-        let root_move = first_root_move(&asked, first);
-        let walk = PvWalk::new(&asked.position, asked.eval, depths_done + 1);
-        let ranks = Ranks::new(asked.multi_pv as usize);
-        self.best_moves = shift_best(&self.best_moves, &self.walk);
-        start_depth(
-            &asked,
+        let Depth {
+            go_request,
             first,
-            depths_done,
-            &self.best_moves,
-            &mut self.search,
-        );
-        self.walk = walk;
-        self.ranks = ranks;
-        self.root_move = root_move;
-        self.lines_done = 0;
-        self.depths_done = depths_done;
+            done,
+        } = self.depth;
+        first.reveal_invariant();
+        let depth = Depth {
+            go_request,
+            first,
+            done: done + 1,
+        };
+        let Phase::AtLine(line) = &self.phase else {
+            return;
+        };
+        self.best_moves = shift_best(&self.best_moves, &line.walk);
+        start_depth(&depth, &self.best_moves, &mut self.search);
+        self.phase = first_phase(&depth);
+        self.depth = depth;
     }
 
     /// Continues with the next line, or the next depth.

@@ -2,10 +2,12 @@
 #![tactic(auto)]
 
 mod answer;
+mod depth;
 mod go_request;
 mod go_task;
 mod laws;
 mod limits;
+mod phase;
 mod pv_walk;
 mod queue;
 mod session;

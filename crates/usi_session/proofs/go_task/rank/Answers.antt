@@ -12,22 +12,22 @@ use Rattle.usi_session.proofs.NextSearch.{child_legal, child_window, child_worth
 use Rattle.usi_session.proofs.go_task.rank.Goals as goal
 
 pub last_worth-worth-requires : goal.last_worth-worth-requires
-last_worth-worth-requires c = child_legal c.args.go_request.now c.args.depths_done c.args.root_move c.args.ranks.now c.reveal_invariant.ensures.back c.requires.ranked
+last_worth-worth-requires c = child_legal c.args.depth.now.go_request c.args.depth.now.done c.args.root_move c.args.ranks.now c.reveal_invariant.ensures.back c.requires.ranked
 
 pub offer-requires : goal.offer-requires
 offer-requires c = gone_fresh _ _ _ _ _ _ (gone _ _ _ _ c.requires.ranked.ranked) c.requires.ranked.next
 
 pub returns-then-is_settled : goal.returns-then-is_settled
 returns-then-is_settled c =
-    let q = c.args.go_request.now in
-    let f = worth q.position q.eval c.args.depths_done in
-    ranked_up_to q c.args.depths_done (Some c.args.root_move) c.offer.new.self
+    let q = c.args.depth.now.go_request in
+    let f = worth q.position q.eval c.args.depth.now.done in
+    ranked_up_to q c.args.depth.now.done (Some c.args.root_move) c.offer.new.self
     (gone_on q.position f c.requires.ranked.passed c.args.ranks.now c.offer.new.self c.args.root_move (gone _ _ _ _ c.requires.ranked.ranked) c.requires.ranked.next (λ codes t i. c.offer.ensures.top f codes t i (search rules)))
     (c.offer.ensures.lines ∙ c.requires.ranked.ranked.most)
 
 pub child_beta-requires : goal.child_beta-requires
 child_beta-requires c =
-    let w = child_window c.args.go_request.now c.args.depths_done c.args.root_move c.args.ranks.now c.reveal_invariant-2.ensures c.requires.go_request c.requires.more c.requires.ranked in
+    let w = child_window c.args.depth.now.go_request c.args.depth.now.done c.args.root_move c.args.ranks.now c.reveal_invariant-2.ensures c.args.depth.now.range c.args.depth.now.left c.requires.ranked in
     record { above = w.0; most = w.1 }
 
 pub offer-requires-then-found-child_beta : goal.offer-requires-then-found-child_beta
@@ -35,24 +35,24 @@ offer-requires-then-found-child_beta c = gone_fresh _ _ _ _ _ _ (gone _ _ _ _ c.
 
 pub returns-then-found-child_beta : goal.returns-then-found-child_beta
 returns-then-found-child_beta c =
-    let q = c.args.go_request.now in
-    let f = worth q.position q.eval c.args.depths_done in
+    let q = c.args.depth.now.go_request in
+    let f = worth q.position q.eval c.args.depth.now.done in
     let at : after q.position c.args.root_move ≡ _ = sym (after_code_of q.position c.args.root_move c.reveal_invariant.ensures.back) in
-    let plain : is_settled q c.args.depths_done ≡ false = search rules in
+    let plain : is_settled q c.args.depth.now.done ≡ false = search rules in
     let low : c.args.found.now.value <ℤ child_beta c.args.ranks.now = search rules in
-    let v : c.args.found.now.value ≡ value (after q.position c.args.root_move) q.eval c.args.depths_done = c.requires.below.value_is low in
+    let v : c.args.found.now.value ≡ value (after q.position c.args.root_move) q.eval c.args.depth.now.done = c.requires.below.value_is low in
     let w : f (code_of c.args.root_move) ≡ negated c.args.found.now.value =
-    child_worth q c.args.depths_done (code_of c.args.root_move) plain ∙ sym (ap negated (v ∙ ap (λ (p : Shogi). value p q.eval c.args.depths_done) at)) in
-    ranked_up_to q c.args.depths_done (Some c.args.root_move) c.offer-then-found-child_beta.new.self
+    child_worth q c.args.depth.now.done (code_of c.args.root_move) plain ∙ sym (ap negated (v ∙ ap (λ (p : Shogi). value p q.eval c.args.depth.now.done) at)) in
+    ranked_up_to q c.args.depth.now.done (Some c.args.root_move) c.offer-then-found-child_beta.new.self
     (gone_on q.position f c.requires.ranked.passed c.args.ranks.now c.offer-then-found-child_beta.new.self c.args.root_move (gone _ _ _ _ c.requires.ranked.ranked) c.requires.ranked.next (λ codes t i. c.offer-then-found-child_beta.ensures.top f codes t i (omega (arith, ints))))
     (c.offer-then-found-child_beta.ensures.lines ∙ c.requires.ranked.ranked.most)
 
 pub returns-else-found-child_beta : goal.returns-else-found-child_beta
 returns-else-found-child_beta c =
-    let q = c.args.go_request.now in
+    let q = c.args.depth.now.go_request in
     let at : after q.position c.args.root_move ≡ _ = sym (after_code_of q.position c.args.root_move c.reveal_invariant.ensures.back) in
-    let plain : is_settled q c.args.depths_done ≡ false = search rules in
+    let plain : is_settled q c.args.depth.now.done ≡ false = search rules in
     let high : child_beta c.args.ranks.now ≤ℤ c.args.found.now.value = search rules in
-    ranked_up_to q c.args.depths_done (Some c.args.root_move) c.args.ranks.now
-    (gone_unlisted q.position q.eval c.args.depths_done c.requires.ranked.passed c.args.ranks.now c.args.root_move (after q.position c.args.root_move) (child_beta c.args.ranks.now) c.args.found.now (child_worth q c.args.depths_done (code_of c.args.root_move) plain) (gone _ _ _ _ c.requires.ranked.ranked) c.requires.ranked.next at c.requires.below refl high)
+    ranked_up_to q c.args.depth.now.done (Some c.args.root_move) c.args.ranks.now
+    (gone_unlisted q.position q.eval c.args.depth.now.done c.requires.ranked.passed c.args.ranks.now c.args.root_move (after q.position c.args.root_move) (child_beta c.args.ranks.now) c.args.found.now (child_worth q c.args.depth.now.done (code_of c.args.root_move) plain) (gone _ _ _ _ c.requires.ranked.ranked) c.requires.ranked.next at c.requires.below refl high)
     c.requires.ranked.ranked.most

@@ -7,11 +7,11 @@ use Rattle.usi_session.proofs.go_task.search_child.Goals as goal
 
 pub child_beta-requires : goal.child_beta-requires
 child_beta-requires c =
-    let w = child_window c.args.go_request.now c.args.depths_done c.args.root_move c.args.ranks.now c.reveal_invariant-2.ensures c.requires.go_request c.requires.more c.requires.ranked in
+    let w = child_window c.args.depth.now.go_request c.args.depth.now.done c.args.root_move c.args.ranks.now c.reveal_invariant-2.ensures c.args.depth.now.range c.args.depth.now.left c.requires.ranked in
     record { above = w.0; most = w.1 }
 
 pub apply-next-requires : goal.apply-next-requires
-apply-next-requires c = child_legal c.args.go_request.now c.args.depths_done c.args.root_move c.args.ranks.now c.reveal_invariant.ensures.back c.requires.ranked
+apply-next-requires c = child_legal c.args.depth.now.go_request c.args.depth.now.done c.args.root_move c.args.ranks.now c.reveal_invariant.ensures.back c.requires.ranked
 
 pub restart_below-requires-clause-beta : goal.restart_below-requires-clause-beta
 restart_below-requires-clause-beta c =
