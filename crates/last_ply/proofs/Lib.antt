@@ -1,3 +1,4 @@
+pub mod AllKinds
 pub mod Answering
 pub mod Composing
 pub mod Squares

@@ -1,6 +1,7 @@
 //! What the legal moves of a node score at most.
 
 ghost use Rattle.std.specs.Prelude.{◌≡◌, ◌≤◌, ◌*◌, ◌≤ℤ◌, ◌<ℤ◌, true, bit_and};
+ghost use Rattle.shogi_moves.specs.CheckInfo.{is_check};
 ghost use Rattle.shogi_moves.specs.Destinations.{IsWithin};
 ghost use Rattle.shogi_eval.specs.declared.gain.TheConstants.{PROMOTION_GAIN_MAX};
 ghost use Rattle.shogi_eval.specs.declared.points.TheConstants.{PIECE_VALUE_MAX};
@@ -133,13 +134,13 @@ impl FrontierNode<'_> {
     /// In check, the side's kings and those of its pieces that may reach a square where it is answered:
     /// no other one has a legal move.
     fn evaders(&self) -> Squares
-        requires { self.now.known.info.checked ≡ true }
+        requires { is_check self.now.known.info ≡ true }
         ensures within { IsWithin result.bits self.now.own.bits }
         ensures others { OthersCannotMove self.now result.bits }
     {
         let p = self.node.as_position();
         p.reveal_invariant();
-        let answers = self.known.info.pinned_or_king.without(self.own);
+        let answers = self.known.info.squares().without(self.own);
         let reaching = self.squares_reaching_some(answers);
         self.own & (p.as_board().kings(p.side()) | reaching)
     }
@@ -149,7 +150,7 @@ impl FrontierNode<'_> {
         ensures within { IsWithin result.bits self.now.own.bits }
         ensures others { OthersCannotMove self.now result.bits }
     {
-        if self.known.info.checked {
+        if self.known.info.is_check() {
             return self.evaders();
         }
         self.own
@@ -163,7 +164,7 @@ impl FrontierNode<'_> {
         ensures others { base_of self.now.node.now ≤ℤ floor
             → OthersScoreAtMost self.now floor result.bits }
     {
-        if self.known.info.checked {
+        if self.known.info.is_check() {
             return self.evaders();
         }
         let p = self.node.as_position();

@@ -402,6 +402,7 @@ impl MateSearch<'_> {
     }
 
     /// Whether a legal drop leaves the other side without a legal move.
+    #[tactic(auto, using(crate::proofs::AllKinds::drops_of_all_kinds))]
     fn has_drop_mate(&self) -> bool
         ensures some { result ≡ true → HasMate self.now.frontier.node.now.position }
         ensures if_none { result ≡ false → AllDropsLeaveSome self.now.frontier.node.now.position }

@@ -221,7 +221,9 @@ impl MovePicker {
     {
         let _ = p;
         match self {
-            MovePicker::Captures(_, sweep) | MovePicker::Quiets(_, sweep) => sweep.info.checked,
+            MovePicker::Captures(_, sweep) | MovePicker::Quiets(_, sweep) => {
+                sweep.info.is_check()
+            }
             _ => false,
         }
     }

@@ -6,6 +6,7 @@ use Rattle.shogi_core.specs.Cell.{is_king}
 use Rattle.shogi_core.specs.Movement.{piece_at}
 use Rattle.shogi_core.specs.Position.{Shogi}
 use Rattle.shogi_moves.specs.declared.check_info.CheckInfo.{CheckInfo}
+use Rattle.shogi_moves.specs.declared.check_info.CheckInfo.TheVariants.{InCheck, Free}
 
 -- whether the side to move is in check, and squares with its king: in check they have those of which a move of another piece has to end on one to answer it, and else the side's own pieces without which there might be one
 pub record IsCheckInfo (p : Shogi) (checked : Bool) (pinned_or_king : ℕ) : Type 0 where
@@ -15,6 +16,16 @@ pub record IsCheckInfo (p : Shogi) (checked : Bool) (pinned_or_king : ℕ) : Typ
   pub stays : checked ≡ true → StaysInCheck pinned_or_king p.cells p.side
   pub free : checked ≡ false → OthersAreUnpinned pinned_or_king p.cells p.side
 
+-- whether it says that the side to move is in check
+abbrev pub is_check : CheckInfo → Bool
+is_check (InCheck squares) = true
+is_check (Free squares) = false
+
+-- its squares, as a mask
+abbrev pub squares_of : CheckInfo → ℕ
+squares_of (InCheck squares) = squares.bits
+squares_of (Free squares) = squares.bits
+
 -- such a test and such squares of the position
 abbrev pub IsCheckInfoOf : CheckInfo → Shogi → Type 0
-IsCheckInfoOf info p = IsCheckInfo p info.checked info.pinned_or_king.bits
+IsCheckInfoOf info p = IsCheckInfo p (is_check info) (squares_of info)

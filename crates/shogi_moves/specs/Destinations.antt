@@ -1,5 +1,6 @@
 -- Where a piece may end.
 use Rattle.std.specs.Prelude.{ℕ, ◌≡◌, ◌≤◌, ◌<◌, ◌+◌, ◌&&◌, ◌||◌, Bool, true, false, not, Option, None, is_none, slice_set}
+use Rattle.shogi_moves.specs.CheckInfo.{is_check, squares_of}
 use Rattle.shogi_core.specs.declared.piece.Color.{Color}
 use Rattle.shogi_core.specs.declared.piece.Kind.{Kind}
 use Rattle.shogi_core.specs.declared.piece.Kind.TheVariants.{Pawn}
@@ -85,7 +86,7 @@ AreEnterable p from squares = (n : ℕ) → n < 81 → has_bit squares n ≡ tru
 -- they are the squares of the zone, those from which a piece may leave its king attacked, and in check all
 abbrev pub AreMarked : CheckInfo → ℕ → ℕ → Type 0
 AreMarked info zone marked =
-    HasBits marked (λ n. info.checked || (has_bit info.pinned_or_king.bits n || has_bit zone n))
+    HasBits marked (λ n. is_check info || (has_bit (squares_of info) n || has_bit zone n))
 
 -- on that board the other side attacks the square just as it does once the king has left its own
 abbrev pub ShowsAttack : Shogi → Cells → ℕ → ℕ → Type 0

@@ -3,17 +3,18 @@
 ghost use Rattle.std.specs.Prelude.{true, ◌≡◌, ◌&&◌, not};
 ghost use Rattle.shogi_core.specs.Attack.{in_check};
 ghost use Rattle.shogi_core.specs.Bits.{has_bit};
-ghost use Rattle.shogi_moves.specs.CheckInfo.{IsCheckInfoOf};
+ghost use Rattle.shogi_moves.specs.CheckInfo.{IsCheckInfoOf, is_check, squares_of};
 
 use crate::attack::in_check;
 use shogi_core::{Position, Square, Squares};
 
-/// Whether the side to move is in check, and squares with its king: in check also those of which a
-/// move of another piece has to end on one to answer it, and else the pieces that may be pinned.
+/// What is known of checks, with the squares of the king of the side to move.
 #[derive(Clone, Copy, Debug)]
-pub struct CheckInfo {
-    pub checked: bool,
-    pub pinned_or_king: Squares,
+pub enum CheckInfo {
+    /// The side to move is in check; a move of another piece has to end on one of the squares.
+    InCheck(Squares),
+    /// It is not; the other pieces that may be pinned are on the squares.
+    Free(Squares),
 }
 
 /// A position with what is known of it.
@@ -31,10 +32,7 @@ pub fn checked_info(p: &Position) -> CheckInfo
     ensures { IsCheckInfoOf result p.now }
 {
     let board = p.as_board();
-    CheckInfo {
-        checked: true,
-        pinned_or_king: board.kings(p.side()) | board.evasion_squares(p.side()),
-    }
+    CheckInfo::InCheck(board.kings(p.side()) | board.evasion_squares(p.side()))
 }
 
 /// What is kept of the position: where there is no check, of the pieces of the side to move, the king
@@ -46,10 +44,7 @@ pub fn check_info_of(p: &Position) -> CheckInfo
     let board = p.as_board();
     match board.pinned(p.side()) {
         None => checked_info(p),
-        Some(pinned) => CheckInfo {
-            checked: false,
-            pinned_or_king: board.kings(p.side()) | pinned,
-        },
+        Some(pinned) => CheckInfo::Free(board.kings(p.side()) | pinned),
     }
 }
 
@@ -58,13 +53,35 @@ pub fn check_info_of(p: &Position) -> CheckInfo
 pub fn rough_check_info(p: &Position) -> CheckInfo
     ensures { IsCheckInfoOf result p.now }
 {
-    CheckInfo {
-        checked: in_check(p),
-        pinned_or_king: Squares::all(),
+    if in_check(p) {
+        CheckInfo::InCheck(Squares::all())
+    } else {
+        CheckInfo::Free(Squares::all())
     }
 }
 
 impl CheckInfo {
+    /// Whether the side to move is in check.
+    #[inline(always)]
+    pub fn is_check(&self) -> bool
+        ensures { result ≡ is_check self.now }
+    {
+        match self {
+            CheckInfo::InCheck(_) => true,
+            CheckInfo::Free(_) => false,
+        }
+    }
+
+    /// The squares, in check or not.
+    #[inline(always)]
+    pub fn squares(&self) -> Squares
+        ensures { result.bits ≡ squares_of self.now }
+    {
+        match self {
+            CheckInfo::InCheck(squares) | CheckInfo::Free(squares) => *squares,
+        }
+    }
+
     /// The position that this is kept of, with it.
     #[inline(always)]
     pub fn at(self, position: &Position) -> KnownPosition<'_>
@@ -83,7 +100,7 @@ impl KnownPosition<'_> {
     pub fn full_info(&self) -> CheckInfo
         ensures { IsCheckInfoOf result self.now.position.now }
     {
-        if self.info.checked {
+        if self.info.is_check() {
             return checked_info(self.position);
         }
         check_info_of(self.position)
@@ -92,7 +109,7 @@ impl KnownPosition<'_> {
 
 /// Whether no move of the piece on the square can leave its king attacked.
 pub fn is_surely_not_pinned(info: &CheckInfo, from: Square) -> bool
-    ensures { result ≡ (not info.now.checked && not (has_bit info.now.pinned_or_king.bits from)) }
+    ensures { result ≡ (not (is_check info.now) && not (has_bit (squares_of info.now) from)) }
 {
-    !info.checked && !info.pinned_or_king.has(from)
+    !info.is_check() && !info.squares().has(from)
 }

@@ -146,10 +146,10 @@ fn enterable(p: &Position) -> Squares
 fn marked_squares(info: &CheckInfo, zone: Squares) -> Squares
     ensures { AreMarked info.now zone.bits result.bits }
 {
-    if info.checked {
+    if info.is_check() {
         return Squares::all();
     }
-    info.pinned_or_king | zone
+    info.squares() | zone
 }
 
 impl OwnPiece<'_> {
@@ -166,7 +166,7 @@ impl OwnPiece<'_> {
         p.reveal_invariant();
         from.reveal_invariant();
         if p.as_board().kings(p.side()).has(from) {
-            if !self.known.info.checked {
+            if !self.known.info.is_check() {
                 let king = SeenKing {
                     position: p,
                     seen: p.as_board(),
@@ -183,8 +183,8 @@ impl OwnPiece<'_> {
             };
             return king.safe_destinations(destinations);
         }
-        if self.known.info.checked {
-            return tried_destinations(p, from, destinations & self.known.info.pinned_or_king);
+        if self.known.info.is_check() {
+            return tried_destinations(p, from, destinations & self.known.info.squares());
         }
         if is_not_pinned(p, from) {
             return destinations;

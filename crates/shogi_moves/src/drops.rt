@@ -66,13 +66,13 @@ pub fn drop_squares(known: &KnownPosition<'_>) -> Squares
     let p = known.position;
     p.reveal_invariant();
     let free = p.as_board().free();
-    if !known.info.checked {
+    if !known.info.is_check() {
         return free;
     }
     if holds_none(p) {
         return Squares::none();
     }
-    tried_drops(p, free & known.info.pinned_or_king)
+    tried_drops(p, free & known.info.squares())
 }
 
 impl<'a> KnownPosition<'a> {

@@ -22,7 +22,7 @@ pub fn has_legal(p: &Position) -> bool
     ensures { IsTrue result ↔ (legal_codes p.now ≢ []) }
 {
     let rough = rough_check_info(p).at(p);
-    if !rough.info.checked && rough.drops().has_piece() {
+    if !rough.info.is_check() && rough.drops().has_piece() {
         return true;
     }
     if has_king_move(p) {

@@ -22,3 +22,6 @@ returns-then-best-beta-clause-some c = λ above base. carried (NodeHasScore c.ar
 
 pub returns-clause-all : goal.returns-clause-all
 returns-clause-all c = λ _. all_most c.args.self.now.node.now.position c.args.self.now.node.now.eval _ c.args.self.now.valid (omega (arith, ints, clamps, c.pieces.invariant.least, c.max-floor.ensures, c.score.ensures.value)) (λ from h own. c.pieces.invariant.all from h own (c.in_default.ensures.none refl from))
+
+pub returns-clause-some : goal.returns-clause-some
+returns-clause-some c = λ above base. c.pieces.invariant.some (omega (arith, ints, clamps, above, base, c.max-floor.ensures, c.score.ensures.value))
