@@ -9,7 +9,8 @@ ghost use Rattle.shogi_moves.specs.Legal.{is_legal, is_safe};
 
 use shogi_core::{Board, Color, Hands, Kind, Move, Piece, Position, Role, Square};
 
-/// What stands on the new square after a move of what stood on the old one.
+/// A piece as it stands after its move: promoted if `promote`, else unchanged. An empty cell stays
+/// empty.
 pub fn piece_moved(cell: Option<Piece>, promote: bool) -> Option<Piece>
     ensures { result ≡ piece_moved promote cell }
 {
@@ -29,7 +30,7 @@ pub fn piece_moved(cell: Option<Piece>, promote: bool) -> Option<Piece>
     }
 }
 
-/// What a drop puts on the board.
+/// The piece that a drop of the kind puts on the board, unpromoted.
 pub fn dropped(color: Color, kind: Kind) -> Option<Piece>
     ensures { result ≡ dropped color kind }
 {
@@ -39,7 +40,7 @@ pub fn dropped(color: Color, kind: Kind) -> Option<Piece>
     })
 }
 
-/// Makes a move of the side where the board stands.
+/// Makes a move of `side` on the board, in place.
 pub fn move_on(board: &mut Board, side: Color, m: &Move)
     ensures { board.new ≡ cells_after board.old side m.now }
 {
@@ -53,7 +54,7 @@ pub fn move_on(board: &mut Board, side: Color, m: &Move)
     }
 }
 
-/// Whether a king of the side is attacked after its move.
+/// Whether a king of `side` is attacked after its move, which is made on a copy.
 pub fn is_checked_after(board: &Board, side: Color, m: &Move) -> bool
     ensures { result ≡ in_check (cells_after board.now side m.now) side }
 {
@@ -62,7 +63,8 @@ pub fn is_checked_after(board: &Board, side: Color, m: &Move) -> bool
     next.in_check(side)
 }
 
-/// The hands with what the side to move captured, as its unpromoted kind.
+/// The hands after the side to move captured `cell`, as its unpromoted kind. A king goes to no
+/// hand, and an empty cell adds nothing.
 fn with_captured(p: &Position, cell: Option<Piece>) -> Hands
     ensures { result ≡ with_captured p.now.hands p.now.side cell }
 {
@@ -75,7 +77,7 @@ fn with_captured(p: &Position, cell: Option<Piece>) -> Hands
     hands.with(p.side(), kind, hands.count(p.side(), kind) + 1)
 }
 
-/// Makes a safe move.
+/// Makes a safe move in place: a legal one, or the drop of a pawn that mates.
 #[tactic(auto, using(crate::proofs::Keeps::keeping))]
 pub fn make_safe(p: &mut Position, m: &Move)
     requires { is_safe p.old m.now ≡ true }
@@ -97,7 +99,7 @@ pub fn make_safe(p: &mut Position, m: &Move)
     }
 }
 
-/// Makes a legal move where the position stands: it is then that of `apply`.
+/// Makes a legal move in place; `p` becomes the position that `apply` returns.
 #[tactic(auto, using(crate::proofs::Keeps::making))]
 pub fn advance(p: &mut Position, m: Move)
     requires { is_legal p.old m ≡ true }
@@ -110,8 +112,8 @@ pub fn advance(p: &mut Position, m: Move)
     m.reveal_invariant();
 }
 
-/// The position after a legal move: a captured piece is in the mover's hand as its unpromoted
-/// kind, a dropped one has left it, and the other side is to move (JSA playing rules).
+/// The position after a legal move: a captured piece is in the mover's hand as its unpromoted kind,
+/// a dropped one has left it, and the opponent is to move (JSA playing rules).
 pub fn apply(p: &Position, m: Move) -> Position
     requires { is_legal p.now m ≡ true }
     ensures after { result ≡ after p.now m }

@@ -1,4 +1,5 @@
-//! What is known of checks in a position, so that most of its moves need no look at them.
+//! What is known of check and pins in a position, so that most of its moves need no test of their
+//! own.
 
 ghost use Rattle.std.specs.Prelude.{true, ◌≡◌, ◌&&◌, not};
 ghost use Rattle.shogi_core.specs.Attack.{in_check};
@@ -8,16 +9,18 @@ ghost use Rattle.shogi_moves.specs.CheckInfo.{IsCheckInfoOf, is_check, squares_o
 use crate::attack::in_check;
 use shogi_core::{Position, Square, Squares};
 
-/// What is known of checks, with the squares of the king of the side to move.
+/// Whether the side to move is in check, with a set of squares that has its king's square.
 #[derive(Clone, Copy, Debug)]
 pub enum CheckInfo {
-    /// The side to move is in check; a move of another piece has to end on one of the squares.
+    /// The side to move is in check; a move of another piece answers it only on one of these
+    /// squares.
     InCheck(Squares),
-    /// It is not; the other pieces that may be pinned are on the squares.
+    /// The side to move is not in check; every pinned piece of that side stands on one of these
+    /// squares.
     Free(Squares),
 }
 
-/// A position with what is known of it.
+/// A position with its check info.
 #[derive(Clone, Copy)]
 pub struct KnownPosition<'a> {
     pub position: &'a Position,
@@ -25,7 +28,7 @@ pub struct KnownPosition<'a> {
     ghost right: { IsCheckInfoOf info position.now },
 }
 
-/// What is kept where there is a check.
+/// The check info of a position in check: the king's square and the evasion squares.
 #[tactic(auto, using(crate::proofs::CheckInfoLaws::check_info_answers))]
 pub fn checked_info(p: &Position) -> CheckInfo
     requires { in_check p.now.cells p.now.side ≡ true }
@@ -35,8 +38,8 @@ pub fn checked_info(p: &Position) -> CheckInfo
     CheckInfo::InCheck(board.kings(p.side()) | board.evasion_squares(p.side()))
 }
 
-/// What is kept of the position: where there is no check, of the pieces of the side to move, the king
-/// and those that may be pinned.
+/// The check info of the position. Out of check, the squares are those of the king and of pieces
+/// that may be pinned.
 #[tactic(auto, using(crate::proofs::CheckInfoLaws::check_info_unpinned))]
 pub fn check_info_of(p: &Position) -> CheckInfo
     ensures { IsCheckInfoOf result p.now }
@@ -48,7 +51,7 @@ pub fn check_info_of(p: &Position) -> CheckInfo
     }
 }
 
-/// What is kept where no piece is looked for that may leave its square: each may be pinned.
+/// Check info without the search for pins: any piece may be pinned.
 #[tactic(auto, using(crate::proofs::ExistenceLaws::check_info_rough))]
 pub fn rough_check_info(p: &Position) -> CheckInfo
     ensures { IsCheckInfoOf result p.now }
@@ -72,7 +75,7 @@ impl CheckInfo {
         }
     }
 
-    /// The squares, in check or not.
+    /// The squares of either variant.
     #[inline(always)]
     pub fn squares(&self) -> Squares
         ensures { result.bits ≡ squares_of self.now }
@@ -82,7 +85,7 @@ impl CheckInfo {
         }
     }
 
-    /// The position that this is kept of, with it.
+    /// The position with this check info, which must be that position's own.
     #[inline(always)]
     pub fn at(self, position: &Position) -> KnownPosition<'_>
         requires { IsCheckInfoOf self position.now }
@@ -96,7 +99,8 @@ impl CheckInfo {
 }
 
 impl KnownPosition<'_> {
-    /// All that is kept of the position, of which it is known whether the side to move is in check.
+    /// The exact check info of a position whose info may mark more squares than needed. If that
+    /// says check, the test for check is not repeated.
     pub fn full_info(&self) -> CheckInfo
         ensures { IsCheckInfoOf result self.now.position.now }
     {
@@ -107,7 +111,7 @@ impl KnownPosition<'_> {
     }
 }
 
-/// Whether no move of the piece on the square can leave its king attacked.
+/// True only if no move of the piece on `from` can leave its king attacked.
 pub fn is_surely_not_pinned(info: &CheckInfo, from: Square) -> bool
     ensures { result ≡ (not (is_check info.now) && not (has_bit (squares_of info.now) from)) }
 {

@@ -1,4 +1,4 @@
-//! Counting sequences of legal moves.
+//! Perft: counting sequences of legal moves.
 
 ghost use Rattle.std.specs.Prelude.{◌≡◌, ◌≤◌, ◌<◌, ◌^◌, ◌+◌, ◌-◌, ◌↔◌, IfSome, IsNone, length, count_ones};
 ghost use Rattle.shogi_core.specs.declared.moves.TheConstants.{MOVE_CODE_COUNT, FIRST_DROP};
@@ -13,15 +13,15 @@ use crate::walk::Walk;
 use shogi_core::bits::{bits_from, low_half, lowest, without_lowest};
 use shogi_core::{Kind, Position, Square, Squares};
 
-/// How many moves lead to the destinations.
+/// The number of moves to the destinations.
 fn count_of(found: Destinations) -> u64
     ensures { result ≡ count_ones found.non_promoting.bits + count_ones found.promoting.bits }
 {
     (found.non_promoting.bits.count_ones() + found.promoting.bits.count_ones()) as u64
 }
 
-/// How many board moves are legal. The lower 64 squares, on which most pieces stand, are gone through
-/// by hand as a number of 64 bits, which measures faster.
+/// The number of legal board moves. Pieces on the lower 64 squares, where most stand, are iterated
+/// as one 64-bit number, which measures faster.
 fn count_board(known: &KnownPosition<'_>) -> u64
     ensures count { CountsLegal known.now.position.now 0 FIRST_DROP result }
     ensures range { result ≤ FIRST_DROP }
@@ -45,7 +45,7 @@ fn count_board(known: &KnownPosition<'_>) -> u64
     total
 }
 
-/// How many drops of the kind are legal.
+/// The number of legal drops of the kind.
 #[inline(always)]
 fn count_kind(drops: &KnownDrops<'_>, kind: Kind) -> u64
     ensures count { CountsLegal drops.now.position.now (first_of_kind kind)
@@ -55,8 +55,8 @@ fn count_kind(drops: &KnownDrops<'_>, kind: Kind) -> u64
     drops.legal(kind).bits.count_ones() as u64
 }
 
-/// How many drops are legal. Each kind is named, so that one that is not held costs no more than a
-/// look at its count.
+/// The number of legal drops. Each kind is named, so that a kind not in hand costs one look at its
+/// count.
 fn count_drops(known: &KnownPosition<'_>) -> u64
     ensures count { result ≡ length (legal_from known.now.position.now FIRST_DROP) }
     ensures range { result ≤ MOVE_CODE_COUNT - FIRST_DROP }
@@ -72,7 +72,7 @@ fn count_drops(known: &KnownPosition<'_>) -> u64
     pawns + lances + knights + silvers + golds + bishops + rooks
 }
 
-/// How many moves are legal.
+/// The number of legal moves.
 #[inline(never)]
 fn count_legal(p: &Position) -> u64
     ensures count { result ≡ perft p.now 1 }
@@ -82,8 +82,8 @@ fn count_legal(p: &Position) -> u64
     count_board(&known) + count_drops(&known)
 }
 
-/// How many sequences of n legal moves there are from the position, with `None` exactly where the
-/// number passes the greatest `u64`.
+/// The number of sequences of n legal moves from the position; `None` exactly if it exceeds the
+/// greatest `u64`.
 #[tactic(auto, using(crate::proofs::PerftLaws::steps))]
 pub fn perft(p: &Position, n: u8) -> Option<u64>
     requires { n ≤ 16 }

@@ -20,7 +20,7 @@ pub struct Destinations {
     pub promoting: Squares,
 }
 
-/// One of the pieces of the side to move.
+/// A piece of the side to move, on `from` in a position with check info.
 #[derive(Clone, Copy)]
 pub struct OwnPiece<'a> {
     pub known: &'a KnownPosition<'a>,
@@ -28,8 +28,8 @@ pub struct OwnPiece<'a> {
     ghost own: { is_own known.now.position.now from ≡ true },
 }
 
-/// The king of the side to move, with a board on which squares are attacked as they are once it has
-/// left its own.
+/// The king of the side to move on `from`, with a board `seen` on which every square is attacked
+/// exactly if it is once the king has left `from`.
 #[derive(Clone, Copy)]
 pub struct SeenKing<'a> {
     pub position: &'a Position,
@@ -39,9 +39,9 @@ pub struct SeenKing<'a> {
     ghost shows: { (n : ℕ) → n < 81 → ShowsAttack position.now seen.now from n },
 }
 
-/// A position with squares that tell of most pieces of the side to move that they keep all of their
-/// destinations and promote on none: the zone in which they promote, the squares from which one may
-/// promote or leave its king attacked, and those on which none of them stands.
+/// A position with squares that settle most pieces at once: the promotion zone of the side to move,
+/// the squares from which a piece may promote or expose its king (`marked`), and those without a
+/// piece of that side (`enterable`).
 #[derive(Clone, Copy)]
 pub struct Markings<'a> {
     pub known: &'a KnownPosition<'a>,
@@ -53,7 +53,8 @@ pub struct Markings<'a> {
     ghost enters: { HasBits enterable.bits (λ n. not (is_own known.now.position.now n)) },
 }
 
-/// The destinations of captures, or of the other moves.
+/// The squares on which a move of the kind may end: those of enemy pieces for captures, else the
+/// empty ones.
 pub fn matching_destinations(p: &Position, capture: bool) -> Squares
     ensures squares { AreMatchingEnds p.now capture result.bits }
 {
@@ -64,7 +65,8 @@ pub fn matching_destinations(p: &Position, capture: bool) -> Squares
     }
 }
 
-/// Those of the destinations that leave the king unattacked, each of them tried.
+/// The `destinations` to which the move leaves the king unattacked; makes each move on a copy of
+/// the board.
 fn tried_destinations(p: &Position, from: Square, destinations: Squares) -> Squares
     ensures squares { AreKingSafeEnds p.now from destinations.bits result.bits }
 {
@@ -78,7 +80,7 @@ fn tried_destinations(p: &Position, from: Square, destinations: Squares) -> Squa
     })
 }
 
-/// Whether the king is unattacked once the piece is lifted off its square: there is no check, and
+/// Whether the king is unattacked once the piece on `from` is lifted: the side is not in check, and
 /// the piece is not pinned.
 fn is_not_pinned(p: &Position, from: Square) -> bool
     ensures { result ≡ not (in_check (slice_set p.now.cells from None) p.now.side) }
@@ -89,7 +91,8 @@ fn is_not_pinned(p: &Position, from: Square) -> bool
 }
 
 impl SeenKing<'_> {
-    /// Whether the king may go to the square: nothing attacks it there.
+    /// Whether the king may go to `to`: no enemy piece attacks `to` once the king has left its
+    /// square.
     pub fn is_safe_at(&self, to: Square) -> bool
         ensures { result ≡ leaves_king_safe self.now.position.now
             (moves.Board self.now.from to false) }
@@ -101,7 +104,7 @@ impl SeenKing<'_> {
         !self.seen.is_attacked(p.side().opponent(), to)
     }
 
-    /// Those of the destinations on which the king is unattacked.
+    /// The `destinations` on which the king is unattacked.
     fn safe_destinations(&self, destinations: Squares) -> Squares
         ensures squares { AreKingSafeEnds self.now.position.now self.now.from
             destinations.bits result.bits }
@@ -110,8 +113,8 @@ impl SeenKing<'_> {
     }
 }
 
-/// The destinations of a piece without and with promotion, by the rules on promotion. Most pieces
-/// neither begin nor end in the zone in which they promote, and have none with promotion.
+/// The destinations `among`, split by the promotion rules. Most pieces neither start nor end in
+/// their promotion zone: hence the early return.
 #[inline(always)]
 #[tactic(auto, using(crate::proofs::DestinationLaws::promoting))]
 fn with_promotions(cell: Option<Piece>, from: Square, among: Squares) -> Destinations
@@ -132,7 +135,7 @@ fn with_promotions(cell: Option<Piece>, from: Square, among: Squares) -> Destina
     }
 }
 
-/// The squares on which no piece of the side to move stands.
+/// The squares without a piece of the side to move.
 #[tactic(auto, using(crate::proofs::DestinationLaws::entering_bits))]
 fn enterable(p: &Position) -> Squares
     ensures { HasBits result.bits (λ n. not (is_own p.now n)) }
@@ -140,8 +143,8 @@ fn enterable(p: &Position) -> Squares
     Squares::all().without(p.as_board().own(p.side()))
 }
 
-/// The squares from which a piece of the side to move may promote, or may leave its king attacked;
-/// `zone` is that in which the side promotes.
+/// The squares from which a piece of the side to move may promote or expose its king; in check, all
+/// squares. `zone` is the promotion zone of that side.
 #[tactic(auto, using(crate::proofs::DestinationLaws::marking))]
 fn marked_squares(info: &CheckInfo, zone: Squares) -> Squares
     ensures { AreMarked info.now zone.bits result.bits }
@@ -153,9 +156,9 @@ fn marked_squares(info: &CheckInfo, zone: Squares) -> Squares
 }
 
 impl OwnPiece<'_> {
-    /// Those of the destinations that leave the king unattacked, for a piece that may leave it
-    /// attacked. A king out of check stands in no piece's way; in check, the board is seen with it
-    /// lifted off its square.
+    /// The `destinations` that leave the king unattacked, for a king, a piece that may be pinned,
+    /// or any piece in check. In check, the king is lifted first, since a slider may attack beyond
+    /// it; out of check no attack passes its square.
     #[inline(never)]
     #[tactic(auto, using(crate::proofs::DestinationLaws::unpinned_destinations))]
     fn may_be_pinned_destinations(&self, destinations: Squares) -> Squares
@@ -192,7 +195,7 @@ impl OwnPiece<'_> {
         tried_destinations(p, from, destinations)
     }
 
-    /// Those of the destinations that leave the king unattacked. Most pieces may end anywhere, and
+    /// The `destinations` that leave the king unattacked. Most pieces are surely not pinned and
     /// keep them all.
     #[tactic(auto, using(crate::proofs::DestinationLaws::unpinned_destinations))]
     fn safe_destinations(&self, destinations: Squares) -> Squares
@@ -207,8 +210,8 @@ impl OwnPiece<'_> {
         self.may_be_pinned_destinations(destinations)
     }
 
-    /// Its legal destinations among squares that it reaches and on which no other one of the side
-    /// stands.
+    /// The legal destinations of the piece among squares that it reaches and that hold no piece of
+    /// its own side.
     #[inline(always)]
     #[tactic(auto, using(crate::proofs::DestinationLaws::legal_sets))]
     pub fn legal_destinations(&self, among: Squares) -> Destinations
@@ -231,7 +234,7 @@ impl OwnPiece<'_> {
 }
 
 impl KnownPosition<'_> {
-    /// The position with what tells most of its pieces' destinations.
+    /// The position with the sets by which most pieces keep all their destinations.
     #[inline(always)]
     pub fn markings(&self) -> Markings<'_>
         ensures { result.known.now ≡ self.now }
@@ -247,8 +250,8 @@ impl KnownPosition<'_> {
 }
 
 impl Markings<'_> {
-    /// All legal destinations of one of the pieces. One on no marked square, none of whose
-    /// destinations lies in the zone, keeps them all and promotes on none, whatever it is.
+    /// All legal destinations of the own piece on `from`. A piece off the marked squares without a
+    /// destination in the zone keeps them all and promotes on none.
     #[inline(always)]
     pub fn all_destinations(&self, from: Square) -> Destinations
         requires { is_own self.now.known.now.position.now from ≡ true }

@@ -1,4 +1,4 @@
-//! Where held pieces may be dropped, apart from mate by a pawn.
+//! Squares for drops, apart from mate by a pawn drop.
 
 ghost use Rattle.std.specs.Prelude.{◌≡◌, true};
 ghost use Rattle.std.proofs.Props.{props};
@@ -15,8 +15,8 @@ use crate::king_safety::leaves_king_safe_on_copy;
 use shogi_core::zones::{dead_squares, pawn_files};
 use shogi_core::{Kind, Move, Position, Square, Squares};
 
-/// A position with the empty squares on which a held piece leaves the king unattacked, whatever its
-/// kind.
+/// A position with the empty squares on which a drop leaves the king unattacked, for every kind in
+/// hand.
 #[derive(Clone, Copy)]
 pub struct KnownDrops<'a> {
     pub position: &'a Position,
@@ -24,14 +24,15 @@ pub struct KnownDrops<'a> {
     ghost right: { AreDropSquares position.now squares.bits } by { Prim.hlevel props },
 }
 
-/// Whether it is the pawn.
+/// Whether the kind is the pawn.
 pub fn is_pawn_kind(kind: Kind) -> bool
     ensures { result ≡ is_pawn_kind kind }
 {
     matches!(kind, Kind::Pawn)
 }
 
-/// Those of the squares on which a dropped pawn leaves the king unattacked, each of them tried.
+/// The `squares` on which a drop leaves the king unattacked; makes each drop on a copy. A dropped
+/// piece can only block, whatever its kind, so a pawn stands for all.
 #[inline(never)]
 fn tried_drops(p: &Position, squares: Squares) -> Squares
     ensures squares { AreKingSafeDrops p.now squares.bits result.bits }
@@ -45,7 +46,7 @@ fn tried_drops(p: &Position, squares: Squares) -> Squares
     })
 }
 
-/// Whether the side to move holds no piece.
+/// Whether the side to move has an empty hand.
 fn holds_none(p: &Position) -> bool
     ensures { result ≡ true → (kind : Kind) → count_in_hand p.now.hands p.now.side kind ≡ 0 }
 {
@@ -59,7 +60,8 @@ fn holds_none(p: &Position) -> bool
         && p.hand(side, Kind::Rook) == 0
 }
 
-/// The empty squares on which a held piece leaves the king unattacked, whatever its kind.
+/// The empty squares on which a drop leaves the king unattacked, for every kind in hand; none with
+/// an empty hand in check, which saves the tests.
 pub fn drop_squares(known: &KnownPosition<'_>) -> Squares
     ensures { AreDropSquares known.now.position.now result.bits }
 {
@@ -76,7 +78,7 @@ pub fn drop_squares(known: &KnownPosition<'_>) -> Squares
 }
 
 impl<'a> KnownPosition<'a> {
-    /// The position with where its held pieces may be dropped.
+    /// The position with the squares for its drops.
     #[inline(always)]
     pub fn drops(&self) -> KnownDrops<'a>
         ensures { result.position.now ≡ self.now.position.now }
@@ -89,7 +91,8 @@ impl<'a> KnownPosition<'a> {
 }
 
 impl KnownDrops<'_> {
-    /// Where one of the held pieces may be dropped, apart from mate by a pawn.
+    /// The squares on which the kind may be dropped, apart from mate by a pawn drop; none if it is
+    /// not in hand.
     #[inline(always)]
     #[tactic(auto, using(crate::proofs::DestinationLaws::safe_dropping))]
     pub fn safe(&self, kind: Kind) -> Squares

@@ -1,4 +1,4 @@
-//! Whether some move is legal.
+//! Whether any move is legal.
 
 ghost use Rattle.std.specs.Prelude.{◌≡◌, ◌≢◌, ◌↔◌, true, false, [], IsTrue};
 ghost use Rattle.shogi_moves.specs.LegalMoves.{legal_codes, HasNoPawnDrop};
@@ -7,7 +7,7 @@ use crate::check_info::{KnownPosition, rough_check_info};
 use crate::safe::{has_king_move, has_other_move};
 use shogi_core::{Kind, Position};
 
-/// Whether a held pawn has a legal drop.
+/// Whether a pawn in hand has a legal drop.
 fn has_pawn_drop(known: &KnownPosition<'_>) -> bool
     ensures some { result ≡ true → legal_codes known.now.position.now ≢ [] }
     ensures if_none { result ≡ false → HasNoPawnDrop known.now.position.now }
@@ -15,9 +15,9 @@ fn has_pawn_drop(known: &KnownPosition<'_>) -> bool
     !known.drops().legal(Kind::Pawn).is_empty()
 }
 
-/// Whether some move is legal. Drops are looked for first where no check is to be answered: their
-/// destinations need no look at the pieces on the board. Then the king, which most often has a way
-/// out.
+/// Whether any move is legal. Out of check, drops come first, since finding them needs no piece on
+/// the board; then the king, which has a move in most positions. Pins are searched for only after
+/// both.
 pub fn has_legal(p: &Position) -> bool
     ensures { IsTrue result ↔ (legal_codes p.now ≢ []) }
 {

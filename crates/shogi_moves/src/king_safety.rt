@@ -1,4 +1,5 @@
-//! Whether a move leaves the mover's king unattacked, without making it where the side has a king.
+//! Whether a move leaves the mover's king unattacked, found without making the move if the side has
+//! a king.
 
 ghost use Rattle.std.specs.Prelude.{◌≡◌, true};
 ghost use Rattle.shogi_moves.specs.Destinations.{leaves_king_safe};
@@ -7,16 +8,16 @@ ghost use Rattle.shogi_moves.specs.Legal.{is_pseudo_legal};
 use crate::after::is_checked_after;
 use shogi_core::{Move, Position};
 
-/// Whether the move, which is made on a board of its own, leaves the mover's king unattacked.
+/// Whether the move leaves the mover's king unattacked; makes it on a copy of the board.
 pub fn leaves_king_safe_on_copy(p: &Position, m: &Move) -> bool
     ensures { result ≡ leaves_king_safe p.now m.now }
 {
     !is_checked_after(p.as_board(), p.side(), m)
 }
 
-/// Whether the pseudo-legal move leaves the king unattacked: the king or its new square is looked at
-/// where the move leaves the squares empty and occupied. It is made on a board of its own where the
-/// side has no king.
+/// Whether the pseudo-legal move leaves the mover's king unattacked: tests attacks on the square on
+/// which the king then stands, with the occupied squares and enemy pieces that the move leaves. A
+/// side without a king, which is never in check, takes the plain way on a copy.
 #[inline(always)]
 pub fn leaves_king_safe(p: &Position, m: &Move) -> bool
     requires { is_pseudo_legal p.now m.now ≡ true }

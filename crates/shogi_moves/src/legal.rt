@@ -14,7 +14,7 @@ use crate::pawn_drop::is_pawn_drop_mate;
 use shogi_core::zones::may_promote;
 use shogi_core::{Kind, Move, Position, Square, is_immobile, is_piece_of};
 
-/// Whether the move of a piece on the board obeys the rules, apart from checks.
+/// Whether the move of a piece on the board obeys the rules, apart from check.
 fn is_pseudo_legal_board_move(p: &Position, from: Square, to: Square, promote: bool) -> bool
     ensures { result ≡ is_pseudo_legal_board_move p.now.cells p.now.side from to promote }
 {
@@ -27,7 +27,7 @@ fn is_pseudo_legal_board_move(p: &Position, from: Square, to: Square, promote: b
         && !is_immobile(piece_moved(piece, promote), to.index())
 }
 
-/// Whether the drop obeys the rules, apart from checks and mate by a pawn.
+/// Whether the drop obeys the rules, apart from check and mate by a pawn drop.
 fn is_pseudo_legal_drop(p: &Position, kind: Kind, to: Square) -> bool
     ensures { result ≡ is_pseudo_legal_drop p.now.cells p.now.hands p.now.side kind to }
 {
@@ -38,7 +38,7 @@ fn is_pseudo_legal_drop(p: &Position, kind: Kind, to: Square) -> bool
         && !(is_pawn_kind(kind) && p.as_board().pawns_on_file(side, to.index() / 9) > 0)
 }
 
-/// Whether the move obeys the rules, apart from checks and mate by the drop of a pawn.
+/// Whether the move obeys the rules, apart from check and mate by a pawn drop.
 fn is_pseudo_legal(p: &Position, m: &Move) -> bool
     ensures { result ≡ is_pseudo_legal p.now m.now }
 {
@@ -48,7 +48,7 @@ fn is_pseudo_legal(p: &Position, m: &Move) -> bool
     }
 }
 
-/// Whether the move obeys the rules, apart from mate by the drop of a pawn.
+/// Whether the move obeys the rules, apart from mate by a pawn drop.
 #[tactic(auto, unfolding(crate::specs::Legal::is_safe))]
 fn is_safe(p: &Position, m: &Move) -> bool
     ensures { result ≡ is_safe p.now m.now }
@@ -56,7 +56,7 @@ fn is_safe(p: &Position, m: &Move) -> bool
     is_pseudo_legal(p, m) && leaves_king_safe(p, m)
 }
 
-/// As `is_legal`, of a move that is lent.
+/// `is_legal` for a borrowed move.
 #[tactic(auto, unfolding(crate::specs::Legal::is_legal))]
 pub fn is_legal_move(p: &Position, m: &Move) -> bool
     ensures { result ≡ is_legal p.now m.now }
@@ -64,9 +64,9 @@ pub fn is_legal_move(p: &Position, m: &Move) -> bool
     is_safe(p, m) && !is_pawn_drop_mate(p, m)
 }
 
-/// Whether the move is legal (JSA playing rules): it is one of the side to move, obeys the rules
-/// on moves, promotion and drops, leaves the mover's king unattacked, and does not mate by the
-/// drop of a pawn.
+/// Whether the move is legal (JSA playing rules): one of the side to move that obeys the rules on
+/// moves, promotion and drops, leaves its king unattacked, and does not mate by a pawn drop.
+/// Repetition is not judged.
 #[tactic(auto, using(crate::proofs::LegalLaws::listing))]
 pub fn is_legal(p: &Position, m: Move) -> bool
     ensures value { result ≡ is_legal p.now m }
@@ -77,7 +77,7 @@ pub fn is_legal(p: &Position, m: Move) -> bool
     legal
 }
 
-/// The position after the move, or `None` where the move is not legal.
+/// The position after the move; `None` if it is not legal.
 pub fn play(p: &Position, m: Move) -> Option<Position>
     ensures { result ≡ (if is_legal p.now m then Some (after p.now m) else None) }
 {
@@ -88,8 +88,8 @@ pub fn play(p: &Position, m: Move) -> Option<Position>
     }
 }
 
-/// Makes the move where the position stands, if it is legal, and returns whether it is. Where it is
-/// not, the position stays.
+/// Makes the move in place if it is legal, and returns whether it is; an illegal move leaves the
+/// position as it was.
 pub fn play_in_place(p: &mut Position, m: Move) -> bool
     ensures legal { result ≡ is_legal p.old m }
     ensures played { result ≡ true → p.new ≡ after p.old m }

@@ -1,14 +1,14 @@
-//! Attacks, legal moves, the position after a move, and counting sequences of legal moves.
+//! Attacks, legal moves, making moves, and perft.
 //!
-//! Moves are found as sets of squares: `destinations` has the legal ends of a piece, `drops` and
-//! `pawn_drop` the squares for a held kind. `sweep` yields captures, other board moves and drops
-//! apart, for the nodes of a search. `walk`, over `next`, yields all in order: for `perft`, for
-//! nodes with one ply left, and for any other caller. `count` counts the last ply without looking
-//! at each move, and `existence` stops at the first. `movers` leaves out, before their destinations
-//! are looked for, pieces that surely take nothing. A move is tested in `legal`, by the rules one
-//! after another, that on checks in `king_safety`, and made in `after`. `check_info` keeps whether
-//! there is a check and which pieces may be pinned, so that few moves need another look; `safe` and
-//! `pawn_escape` tell whether the drop of a pawn mates.
+//! Move generation works on sets of squares: `destinations` finds the legal destinations of a
+//! piece, `drops` and `pawn_drop` the squares for a kind in hand. `sweep` yields captures, quiet
+//! board moves and drops apart, for the nodes of a search. `walk`, over `next`, yields all legal
+//! moves in order: for `perft`, for nodes with one ply left, and for any other caller. `count`
+//! counts the last ply without generating its moves, and `existence` stops at the first legal move.
+//! `movers` drops pieces that surely capture nothing before their destinations are computed.
+//! `legal` tests one move rule by rule, `king_safety` the rule on checks; `after` makes a move.
+//! `check_info` holds whether the side to move is in check and which pieces may be pinned, so that
+//! few moves need another test; `safe` and `pawn_escape` tell whether a pawn drop mates.
 #![tactic(auto)]
 
 mod after;

@@ -1,4 +1,4 @@
-//! The pieces that may have a move of a kind, found all at once.
+//! The pieces that may have a move of a kind, found for all pieces at once.
 
 ghost use Rattle.std.specs.Prelude.{◌≡◌, ◌<◌, ◌^◌, true};
 ghost use Rattle.shogi_core.specs.Lines.{is_near};
@@ -6,7 +6,7 @@ ghost use Rattle.shogi_moves.specs.Destinations.{HasMovers, Spreads, IsWithin, S
 
 use shogi_core::{Position, Squares};
 
-/// The squares, and the places up to four above each.
+/// The squares and the next four indices above each.
 fn five_places(squares: Squares) -> u128
     ensures bits { SpreadsUp squares.bits result }
     ensures fits { result < 2 ^ 85 }
@@ -16,8 +16,9 @@ fn five_places(squares: Squares) -> u128
     two | two << 2 | one << 4
 }
 
-/// The squares next to one of these or a knight's jump away, and some more at the edges of the board
-/// and past them: those 1 place away, and those 7 to 11 places away, which are found five at once.
+/// The squares next to one of `squares` or a knight's jump away: 1 index apart, or 7 to 11, which
+/// `five_places` finds five at once. Squares across a board edge, and bits past the board, come
+/// along.
 fn squares_near(squares: Squares) -> u128
     ensures { Spreads (λ b a. is_near b a ≡ true) squares.bits result }
 {
@@ -25,8 +26,8 @@ fn squares_near(squares: Squares) -> u128
     squares.bits >> 1 | squares.bits << 1 | five << 7 | five >> 11
 }
 
-/// Those of the pieces that may reach a square where such a move ends; to capture, a piece slides
-/// or stands near one of the other side's.
+/// The `pieces` that may reach a square on which a move of the kind ends. Only sliders and pieces
+/// near an enemy piece can capture; for quiet moves all pieces stay.
 pub fn matching_movers(p: &Position, capture: bool, pieces: Squares) -> Squares
     ensures within { IsWithin result.bits pieces.bits }
     ensures if_none { HasMovers p.now capture pieces.bits result.bits }
@@ -41,7 +42,7 @@ pub fn matching_movers(p: &Position, capture: bool, pieces: Squares) -> Squares
     }
 }
 
-/// Those of the pieces that may take something.
+/// The `pieces` that may capture.
 pub fn takers(p: &Position, pieces: Squares) -> Squares
     ensures within { IsWithin result.bits pieces.bits }
     ensures if_none { HasMovers p.now true pieces.bits result.bits }

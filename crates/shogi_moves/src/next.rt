@@ -14,14 +14,15 @@ use crate::destinations::Destinations;
 use shogi_core::bits::{bits_from, lowest};
 use shogi_core::{FIRST_DROP, Move, Position, SQUARE_CODES, Square, Squares, is_piece_of};
 
-/// The legal destinations of what stands on a square, kept from one move of it to the next.
+/// The legal destinations from a square, held between two moves of the piece there so that they are
+/// computed once.
 #[derive(Clone, Copy, Debug)]
 pub struct KeptDestinations {
     pub from: Square,
     pub destinations: Destinations,
 }
 
-/// Those of what stands on the square: none, where that is no piece of the side to move.
+/// The legal destinations from the square; none if no piece of the side to move stands there.
 pub fn kept_at(known: &KnownPosition<'_>, from: Square) -> KeptDestinations
     ensures from { result.from ≡ from }
     ensures consistent { AreKept known.now.position.now result }
@@ -43,7 +44,8 @@ pub fn kept_at(known: &KnownPosition<'_>, from: Square) -> KeptDestinations
     }
 }
 
-/// The legal move of least code from the given one on, of what stands on the square.
+/// The legal move from `from` of least code at or above `code`. A destination's codes are even
+/// without promotion and odd with it, hence the two roundings.
 #[inline(always)]
 fn least_destination(
     known: &KnownPosition<'_>,
@@ -85,7 +87,7 @@ fn least_destination(
     })
 }
 
-/// The legal move of least code from the given one on, of a piece on the board.
+/// The legal board move of least code at or above `first`.
 pub fn least_board(
     known: &KnownPosition<'_>,
     first: u16,

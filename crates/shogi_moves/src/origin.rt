@@ -1,4 +1,4 @@
-//! What a move begins with: a piece on the board, or a held one.
+//! Where a move comes from: a piece on the board, or one in hand.
 
 ghost use Rattle.std.specs.Prelude.{◌≡◌};
 ghost use Rattle.shogi_moves.specs.Origins.{move_to, origin_of, put_from};
@@ -6,8 +6,8 @@ ghost use Rattle.shogi_moves.specs.Origins.{move_to, origin_of, put_from};
 use crate::after::{dropped, piece_moved};
 use shogi_core::{Kind, Move, Piece, Position, Square};
 
-/// Where a move comes from: a square, with or without promotion, or the hand. It need not be legal
-/// anywhere.
+/// A move without its destination: a square and whether to promote, or a kind in hand. It need not
+/// be legal in any position.
 #[derive(Clone, Copy, Debug)]
 pub enum Origin {
     Board { from: Square, promote: bool },
@@ -15,7 +15,7 @@ pub enum Origin {
 }
 
 impl Origin {
-    /// What the move begins with.
+    /// The origin of the move.
     #[inline(always)]
     pub fn of(m: &Move) -> Origin
         ensures { result ≡ origin_of m.now }
@@ -29,7 +29,7 @@ impl Origin {
         }
     }
 
-    /// The move from there to the square.
+    /// The move from this origin to `to`.
     #[inline(always)]
     pub fn to(&self, to: Square) -> Move
         ensures { result ≡ move_to self.now to }
@@ -44,7 +44,8 @@ impl Origin {
         }
     }
 
-    /// What such a move puts on its square.
+    /// The piece that a move from this origin leaves on its destination in `p`; `None` if nothing
+    /// stands on the origin's square.
     #[inline(always)]
     pub fn put(&self, p: &Position) -> Option<Piece>
         ensures { result ≡ put_from p.now self.now }

@@ -1,4 +1,4 @@
-//! Mate by the drop of a pawn, and where held pieces may legally be dropped.
+//! Mate by a pawn drop, and the squares for legal drops.
 
 ghost use Rattle.std.specs.Prelude.{◌≡◌, ◌<◌, ◌&&◌, ℕ, not, true, false};
 ghost use Rattle.std.proofs.Props.{props};
@@ -14,7 +14,7 @@ use crate::pawn_escape::leaves_pawn_escape;
 use crate::safe::is_mated_by_drop;
 use shogi_core::{Kind, Move, Piece, Position, Role, Square, Squares, step_squares};
 
-/// A position with the squares on which the side to move may drop a pawn, apart from mate by it.
+/// A position with the squares on which the side to move may drop a pawn, mate included.
 #[derive(Clone, Copy)]
 struct SafePawnDrops<'a> {
     position: &'a Position,
@@ -22,7 +22,7 @@ struct SafePawnDrops<'a> {
     ghost safe: { HasBits squares.bits (λ n. is_safe position.now (moves.Drop kinds.Pawn n)) } by { Prim.hlevel props },
 }
 
-/// Whether the move is the drop of a pawn.
+/// Whether the move is a pawn drop.
 fn is_pawn_drop(m: &Move) -> bool
     ensures { result ≡ is_pawn_drop m.now }
 {
@@ -32,7 +32,7 @@ fn is_pawn_drop(m: &Move) -> bool
     }
 }
 
-/// Whether the safe move mates by the drop of a pawn.
+/// Whether the safe move mates by a pawn drop.
 pub fn is_pawn_drop_mate(p: &Position, m: &Move) -> bool
     requires { is_safe p.now m.now ≡ true }
     ensures { result ≡ is_pawn_drop_mate p.now m.now }
@@ -45,7 +45,8 @@ pub fn is_pawn_drop_mate(p: &Position, m: &Move) -> bool
     is_mated_by_drop(&next)
 }
 
-/// The square from which a pawn of the side to move would attack the king of the other side.
+/// The square from which a pawn of the side to move would attack the enemy king; a pawn of the
+/// other side on the king's square steps onto it. No other pawn drop mates.
 #[tactic(auto, using(crate::proofs::DropChecks::facing))]
 fn facing_squares(p: &Position) -> Squares
     ensures { (n : ℕ) → n < 81 → has_bit result.bits n ≡ false
@@ -64,8 +65,8 @@ fn facing_squares(p: &Position) -> Squares
 }
 
 impl SafePawnDrops<'_> {
-    /// Those of the drops that do not mate. Those that face the king are tried, but where a square is
-    /// surely left to it, as most often.
+    /// The squares on which a pawn drop does not mate. A drop in front of the king is played out
+    /// only if no escape square is known at once, which is rare.
     #[tactic(auto, using(crate::proofs::DestinationLaws::sifting))]
     fn non_mating(&self) -> Squares
         ensures squares { HasThose result.bits self.now.squares.bits
@@ -90,7 +91,7 @@ impl SafePawnDrops<'_> {
 }
 
 impl KnownDrops<'_> {
-    /// Where one of the held pieces may legally be dropped.
+    /// The squares on which the kind may legally be dropped; none if it is not in hand.
     #[inline(always)]
     #[tactic(auto, using(crate::proofs::DestinationLaws::legal_dropping))]
     pub fn legal(&self, kind: Kind) -> Squares

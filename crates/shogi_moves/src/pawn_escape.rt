@@ -1,4 +1,4 @@
-//! Whether a king that is given check by the drop of a pawn surely has a square to go to.
+//! Whether a king in check by a pawn drop surely has an escape square.
 
 ghost use Rattle.std.specs.Prelude.{◌≡◌, true, false};
 ghost use Rattle.std.proofs.Props.{props};
@@ -7,8 +7,8 @@ ghost use Rattle.shogi_moves.specs.Escapes.{AreSafeFrom, AreKingSteps, AreEscape
 
 use shogi_core::{Board, Color, Piece, Position, Role, Square, Squares, step_squares};
 
-/// A position with squares to which the king of the side that is not to move may go, should a move
-/// give it check.
+/// A position with squares to which the king of the side not to move may go if a move gives it
+/// check.
 #[derive(Clone, Copy)]
 pub struct KnownEscapes<'a> {
     pub position: &'a Position,
@@ -16,7 +16,7 @@ pub struct KnownEscapes<'a> {
     ghost right: { AreEscapes position.now squares.bits } by { Prim.hlevel props },
 }
 
-/// One of the squares that the side does not attack, if there is one.
+/// One of the `squares` that `by` does not attack; none if all are attacked.
 fn first_unattacked(board: &Board, by: Color, squares: Squares) -> Squares
     ensures squares { IsWithin result.bits squares.bits }
     ensures safe { AreSafeFrom board.now by result.bits }
@@ -27,8 +27,8 @@ fn first_unattacked(board: &Board, by: Color, squares: Squares) -> Squares
     }
 }
 
-/// Squares next to the king of the side that is not to move, where it has just one and none of its
-/// own pieces stands.
+/// The squares to which the king of the side not to move steps, without those of its own pieces;
+/// none if it has no king.
 pub fn king_steps(p: &Position) -> Squares
     ensures { AreKingSteps p.now result.bits }
 {
@@ -40,7 +40,7 @@ pub fn king_steps(p: &Position) -> Squares
     board.targets(king).without(board.own(side))
 }
 
-/// The position with one of those squares that is not closed, if there is one.
+/// The position with one escape square of the king outside `closed`, if there is one.
 fn first_escape(position: &Position, closed: Squares) -> KnownEscapes<'_>
     ensures { result.position.now ≡ position.now }
 {
@@ -53,7 +53,8 @@ fn first_escape(position: &Position, closed: Squares) -> KnownEscapes<'_>
 }
 
 impl KnownEscapes<'_> {
-    /// Whether the king has one of the squares left that is not closed and not where a move ends.
+    /// True only if the king keeps one of the squares outside `closed` and other than `to`, and a
+    /// move to `to` does not capture it.
     #[inline(always)]
     pub fn has_open(&self, closed: Squares, to: Square) -> bool
         ensures { result ≡ true → HasOpenEscape self.now.position.now closed.bits to }
@@ -68,8 +69,8 @@ impl KnownEscapes<'_> {
     }
 }
 
-/// Whether one of the squares is surely left to the king after the drop of a pawn, which then does
-/// not mate.
+/// True only if the king surely has an escape square after a pawn drop on `to`, which then does not
+/// mate.
 pub fn leaves_pawn_escape(p: &Position, to: Square) -> bool
     ensures { result ≡ true → is_mating_square p.now to ≡ false }
 {

@@ -1,4 +1,4 @@
-//! Whether some move is safe: legal but for mate by the drop of a pawn.
+//! Whether any move is safe: legal apart from mate by a pawn drop.
 
 ghost use Rattle.std.specs.Prelude.{◌≡◌, ◌≢◌, true, false, []};
 ghost use Rattle.shogi_moves.specs.Legal.{is_mated_by_drop};
@@ -53,7 +53,7 @@ fn has_board_move(known: &KnownPosition<'_>) -> bool
 }
 
 impl KnownDrops<'_> {
-    /// Whether a held piece other than a pawn has a legal drop.
+    /// Whether a piece in hand other than a pawn has a legal drop.
     pub fn has_piece(&self) -> bool
         ensures some { result ≡ true → legal_codes self.now.position.now ≢ [] }
         ensures if_none { result ≡ false → HasNoPieceDrop self.now.position.now }
@@ -69,7 +69,7 @@ impl KnownDrops<'_> {
     }
 }
 
-/// Whether some move is legal other than the drop of a pawn.
+/// Whether any move other than a pawn drop is legal.
 pub fn has_other_move(known: &KnownPosition<'_>) -> bool
     ensures some { result ≡ true → legal_codes known.now.position.now ≢ [] }
     ensures board { result ≡ false → HasNoBoardMove known.now.position.now }
@@ -78,8 +78,8 @@ pub fn has_other_move(known: &KnownPosition<'_>) -> bool
     has_board_move(known) || known.drops().has_piece()
 }
 
-/// Whether the side to move is in check and has no safe move. The king, which most often has a way
-/// out, is asked first.
+/// Whether the side to move is in check and has no safe move. The king, which most often has a
+/// move, comes first.
 pub fn is_mated_by_drop(p: &Position) -> bool
     ensures { result ≡ is_mated_by_drop p.now }
 {

@@ -1,4 +1,4 @@
-//! Ways through the legal moves of a kind, which keep the destinations of the present piece.
+//! Iterators over the legal moves of a kind, which hold the destinations left of the present piece.
 
 ghost use Rattle.std.specs.Prelude.{◌≡◌, ◌≢◌, ◌<◌, ◌≤◌, ◌+◌, ◌*◌, ◌∷◌, [], true, false, IfSome, IsNone};
 ghost use Rattle.shogi_core.specs.declared.moves.TheConstants.{FIRST_DROP};
@@ -16,8 +16,8 @@ use crate::movers::matching_movers;
 use shogi_core::bits::{bits_above, bits_from, lowest, without_lowest};
 use shogi_core::{FIRST_DROP, Kind, Move, Position, SQUARE_CODES, Square, Squares, is_piece_of};
 
-/// What is still to come of the board moves of a kind, in the order of codes: the legal
-/// destinations of the piece on one square, and all of those above it.
+/// The board moves of a kind still to come, in the order of codes: from `from` to `destinations`,
+/// then from higher squares.
 #[derive(Clone, Copy, Debug)]
 pub struct BoardSweep {
     pub info: CheckInfo,
@@ -26,7 +26,8 @@ pub struct BoardSweep {
     pub from: Square,
 }
 
-/// What is still to come of the drops, in the order of codes.
+/// The drops still to come, in the order of codes: of `kind` on `destinations`, then of later
+/// kinds.
 #[derive(Clone, Copy, Debug)]
 pub struct DropSweep {
     pub squares: Squares,
@@ -35,8 +36,8 @@ pub struct DropSweep {
     pub code: u16,
 }
 
-/// The legal destinations of what stands on the square; none where that is no piece of the side to
-/// move.
+/// The legal destinations for moves of the kind; none if no piece of the side to move stands on
+/// `from`.
 #[tactic(auto, using(crate::proofs::SweepLaws::no_piece))]
 fn destinations_on(known: &KnownPosition<'_>, capture: bool, from: Square) -> Destinations
     ensures { AreMatchingDestinations known.now.position.now capture from result }
@@ -55,7 +56,7 @@ fn destinations_on(known: &KnownPosition<'_>, capture: bool, from: Square) -> De
 }
 
 impl BoardSweep {
-    /// Through all board moves of the kind.
+    /// All board moves of the kind.
     #[tactic(auto, using(crate::proofs::SweepLaws::sweeping))]
     pub fn new(known: &KnownPosition<'_>, capture: bool) -> BoardSweep
         ensures consistent { IsBoardSweep known.now.position.now capture result }
@@ -70,7 +71,7 @@ impl BoardSweep {
         }
     }
 
-    /// Continues with the next piece that has a move of the kind, if there is one.
+    /// Goes on to the next piece that has a move of the kind, if there is one.
     #[inline(never)]
     #[tactic(auto, using(crate::proofs::SweepLaws::sweeping))]
     fn refill(&mut self, p: &Position, capture: bool) -> bool
@@ -108,8 +109,8 @@ impl BoardSweep {
         false
     }
 
-    /// Continues with the next piece that has a move of the kind, where the present one has none
-    /// left; whether there is one.
+    /// Goes on to the next piece with a move of the kind if the present one has none left; false if
+    /// no move is left.
     #[inline(always)]
     pub fn fill(&mut self, p: &Position, capture: bool) -> bool
         requires consistent { IsBoardSweep p.now capture self.old }
@@ -124,7 +125,7 @@ impl BoardSweep {
         self.refill(p, capture)
     }
 
-    /// The next of the moves, or `None` where no board move of the kind is left.
+    /// Takes the next move; `None` if no board move of the kind is left.
     #[inline(always)]
     #[tactic(auto, using(crate::proofs::SweepLaws::sweeping))]
     pub fn next(&mut self, p: &Position, capture: bool) -> Option<Move>
@@ -159,7 +160,8 @@ impl BoardSweep {
         Some(m)
     }
 
-    /// Passes the moves of the present piece to squares below this one, and all where it is 81.
+    /// Skips the present piece's moves to squares below `to`; 81 skips all of them. `p` and
+    /// `capture` serve the contract alone.
     #[inline(always)]
     pub fn skip_destinations(&mut self, p: &Position, capture: bool, to: usize)
         requires consistent { IsBoardSweep p.now capture self.old }
@@ -180,7 +182,8 @@ impl BoardSweep {
         self.code = self.from.index() as u16 * SQUARE_CODES + 2 * to as u16;
     }
 
-    /// Passes the moves of the pieces on squares below this one, and all where it is 81.
+    /// Skips the moves of all pieces on squares below `square`; 81 skips all board moves. `p` and
+    /// `capture` serve the contract alone.
     #[inline(always)]
     pub fn skip_pieces(&mut self, p: &Position, capture: bool, square: usize)
         requires consistent { IsBoardSweep p.now capture self.old }
@@ -201,7 +204,7 @@ impl BoardSweep {
 }
 
 impl DropSweep {
-    /// Through all drops.
+    /// All drops.
     #[tactic(auto, using(crate::proofs::SweepLaws::keeps_kind))]
     pub fn new(known: &KnownPosition<'_>) -> DropSweep
         ensures consistent { IsDropSweep known.now.position.now result }
@@ -216,7 +219,7 @@ impl DropSweep {
         }
     }
 
-    /// Through the drops above one.
+    /// The drops with a code above that of `kind` on `to`.
     pub fn above(known: &KnownPosition<'_>, kind: Kind, to: Square) -> DropSweep
         ensures consistent { IsDropSweep known.now.position.now result }
         ensures code { result.code ≡ code_of (moves.Drop kind to) + 1 }
@@ -233,7 +236,7 @@ impl DropSweep {
         }
     }
 
-    /// Continues with the next kind that has a legal drop, if there is one.
+    /// Goes on to the next kind that has a legal drop, if there is one.
     #[inline(never)]
     fn refill(&mut self, p: &Position) -> bool
         requires consistent { IsDropSweep p.now self.old }
@@ -261,8 +264,8 @@ impl DropSweep {
         false
     }
 
-    /// Continues with the next kind that has a legal drop, where the present one has none left;
-    /// whether there is one.
+    /// Goes on to the next kind with a legal drop if the present one has none left; false if no
+    /// drop is left.
     #[inline(always)]
     pub fn fill(&mut self, p: &Position) -> bool
         requires consistent { IsDropSweep p.now self.old }
@@ -277,7 +280,7 @@ impl DropSweep {
         self.refill(p)
     }
 
-    /// The next of the drops, or `None` where none is left.
+    /// Takes the next drop; `None` if none is left.
     #[inline(always)]
     pub fn next(&mut self, p: &Position) -> Option<Move>
         requires consistent { IsDropSweep p.now self.old }
@@ -301,7 +304,8 @@ impl DropSweep {
         Some(m)
     }
 
-    /// Passes the drops of the present kind on squares below this one, and all where it is 81.
+    /// Skips the drops of the present kind on squares below `to`; 81 skips all of them. `p` serves
+    /// the contract alone.
     #[inline(always)]
     pub fn skip_destinations(&mut self, p: &Position, to: usize)
         requires consistent { IsDropSweep p.now self.old }

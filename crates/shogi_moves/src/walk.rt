@@ -14,16 +14,16 @@ use crate::sweep::DropSweep;
 use shogi_core::{Move, Position, Square};
 use std::marker::Model;
 
-/// Where a walk stands: at the board moves from a code on, with the destinations of a piece, or at
-/// the drops, which are looked for only then.
+/// The state of a walk: at the board moves from a code on, with the destinations of a piece; or at
+/// the drops, whose squares are found only once no board move is left.
 #[derive(Clone, Copy)]
 pub enum Place {
     Board(CheckInfo, u16, KeptDestinations),
     Drops(DropSweep),
 }
 
-/// The legal moves of a position that are still to come, in the order of codes; seen as the
-/// position and the list of their codes.
+/// The legal moves of a position still to come, in the order of codes. Contracts see the position
+/// and the list of those codes.
 #[derive(Drop)]
 pub struct Walk {
     position: Position,
@@ -44,7 +44,7 @@ impl Model for Walk {
     ghost invariant = { λ w. IsPlace w.position w.place };
 }
 
-/// The place behind a move, or at the first move.
+/// The place after a move, or at the first move if there is none.
 #[inline(always)]
 fn place_behind(p: &Position, passed: Option<Move>) -> Place
     ensures place { IsPlace p.now result }
@@ -62,7 +62,7 @@ fn place_behind(p: &Position, passed: Option<Move>) -> Place
 }
 
 impl Place {
-    /// The next legal move from the place on, which moves behind it.
+    /// Takes the next legal move at or after the place, which goes on past it.
     #[inline(always)]
     fn next(&mut self, p: &Position) -> Option<Move>
         requires { IsPlace p.now self.old }
@@ -100,7 +100,7 @@ impl Walk {
         }
     }
 
-    /// The next legal move, or `None` where none is left.
+    /// Takes the next legal move; `None` if none is left.
     #[inline(always)]
     pub fn next(&mut self) -> Option<Move>
         ensures position { self.new.position ≡ self.old.position }
@@ -111,9 +111,9 @@ impl Walk {
     }
 }
 
-/// The legal move of least code above that of `after`, or of least code where that is `None`;
-/// `None` where no further move is legal. Beginning with `None` and passing each result on gives
-/// each legal move once, in the order of codes (own choice).
+/// The legal move of least code above that of `after`, or the first one if `after` is `None`;
+/// `None` if no further move is legal. Starting with `None` and passing each result on gives each
+/// legal move once, in the order of codes (own choice).
 #[tactic(auto, using(crate::proofs::LegalLaws::legal_rising))]
 pub fn next_legal(p: &Position, after: Option<Move>) -> Option<Move>
     ensures next { IsNextAbove p.now after result }
