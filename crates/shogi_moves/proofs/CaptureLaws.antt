@@ -14,7 +14,7 @@ use Rattle.shogi_moves.specs.Legal.{is_legal_code}
 use Rattle.shogi_moves.specs.LegalMoves.{legal_from}
 use Rattle.shogi_moves.proofs.LegalLaws.{drop_code, legal_from_found, legal_from_skips, legal_from_end, no_piece}
 
--- the moves of the kind from a code on are of pieces on squares of the set, or drops
+-- the moves of the kind at or above the code are drops, or start from squares of the set
 pub record HasMatchingOn (p : Shogi) (capture : Bool) (code mask : ℕ) : Type 0 where
   pub on : (c : ℕ) → code ≤ c → c < FIRST_DROP → is_matching p capture c ≡ true
       → has_bit mask (c / SQUARE_CODES) ≡ true
@@ -23,7 +23,7 @@ pub record HasMatchingOn (p : Shogi) (capture : Bool) (code mask : ℕ) : Type 0
 pub record HasNoneMatching (p : Shogi) (capture : Bool) (first end : ℕ) : Type 0 where
   pub none : (code : ℕ) → first ≤ code → code < end → is_matching p capture code ≡ false
 
--- one test that fails, of two
+-- a conjunction fails if its left test fails
 left_fails : (a b : Bool) → a ≡ false → (a && b) ≡ false
 left_fails a b e = grind arith
 
@@ -42,11 +42,11 @@ none_drop p capture code end low high e = record {
   none = λ c above below. and_right _ _ (ap (matches capture) (matches_kind_of p c _ (drop_code c (omega arith) (omega arith))) ∙ e);
 }
 
--- such runs join
+-- two adjoining runs join
 pub none_join : (p : Shogi) (capture : Bool) (first middle end : ℕ) → HasNoneMatching p capture first middle → HasNoneMatching p capture middle end → HasNoneMatching p capture first end
 none_join p capture first middle end h k = record { none = λ code low high. elim (cases_lt code middle) [ inl below ↦ h.none code low below | inr above ↦ k.none code above high ] }
 
--- a step over a code
+-- a run of one code
 pub skip_one : (p : Shogi) (capture : Bool) (code : ℕ) → code < MOVE_CODE_COUNT → is_matching p capture code ≡ false → filter (matches_kind p capture) (legal_from p code) ≡ filter (matches_kind p capture) (legal_from p (code + 1))
 skip_one p capture code h e = grind (arith, legal_from_found p code h, legal_from_skips p code h)
 
@@ -63,12 +63,12 @@ matching_jumps p capture first end low high none =
     let there : first + (end - first) ≡ end = omega arith in
     subst (λ (k : ℕ). filter (matches_kind p capture) (legal_from p first) ≡ filter (matches_kind p capture) (legal_from p k)) there (jump p capture (end - first) first (omega arith) (subst (λ (k : ℕ). HasNoneMatching p capture first k) (sym there) none))
 
--- one of them comes first, and then those above it
+-- a code that matches comes first, followed by those above it
 pub matching_found : (p : Shogi) (capture : Bool) (code : ℕ) → code < MOVE_CODE_COUNT → is_matching p capture code ≡ true → filter (matches_kind p capture) (legal_from p code) ≡ code ∷ filter (matches_kind p capture) (legal_from p (code + 1))
 matching_found p capture code h e =
     let both : (is_legal_code p code ≡ true) × (matches_kind p capture code ≡ true) = and_parts _ _ e in
     ap (filter (matches_kind p capture)) (legal_from_found p code h both.0) ∙ cond-true (matches_kind p capture code) _ _ both.1
 
--- above the last code there is none
+-- no move of the kind lies above the last code
 pub matching_end : (p : Shogi) (capture : Bool) (code : ℕ) → MOVE_CODE_COUNT ≤ code → filter (matches_kind p capture) (legal_from p code) ≡ []
 matching_end p capture code h = ap (filter (matches_kind p capture)) (legal_from_end p code h)

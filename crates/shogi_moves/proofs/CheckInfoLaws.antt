@@ -33,7 +33,7 @@ own_some side cell e = grind arith
 
 -- ---- a piece more on the board
 
--- a piece of the side on a square opens no line, beside a board that is the same but for that square
+-- a piece put on a square opens no line on a board that differs only there
 pub filled : (old cells : Cells) (side : Color) (to : ℕ) (v : Option Piece) → length cells ≡ 81 → to < 81 → ((x : ℕ) → x ≢ to → piece_at cells x ≡ piece_at old x) → is_piece_of side v ≡ true → is_king side v ≡ false → in_check old side ≡ false → in_check (set cells to v) side ≡ false
 filled old cells side to v len ht beside own non_promoting safe =
     check_was old (set cells to v) (λ x. ⊥)
@@ -47,12 +47,12 @@ filled old cells side to v len ht beside own non_promoting safe =
     look : (x : ℕ) → (piece_at (set cells to v) x ≡ v) ⊎ (piece_at (set cells to v) x ≡ piece_at old x)
     look x = grind (arith, cases_eq x to, beside x, get_or-set_same, get_or-set_other)
 
--- ---- where there is a check
+-- ---- in check
 
 apart : (both some more n : ℕ) → both ≡ bit_or some more → has_bit both n ≡ false → (has_bit some n ≡ false) × (has_bit more n ≡ false)
 apart both some more n is out = or_parts _ _ (sym (has_bit-or some more n) ∙ rw is at out)
 
--- the kings, and the squares of answers
+-- the info of kings and evasion squares is right
 pub check_info_answers : (p : Shogi) (kings answers both : ℕ) → in_check p.cells p.side ≡ true → both ≡ bit_or kings answers → ((n : ℕ) → n < 81 → has_bit kings n ≡ is_king p.side (piece_at p.cells n)) → StaysInCheck answers p.cells p.side
     → IsCheckInfo p true both
 check_info_answers p kings answers both e is k stays = record {
@@ -62,9 +62,9 @@ check_info_answers p kings answers both e is k stays = record {
   free = λ c. absurd (cc);
 }
 
--- ---- where there is no check
+-- ---- out of check
 
--- the kings, and pieces without which there might be one
+-- the info of kings and pieces that may be pinned is right
 pub check_info_unpinned : (p : Shogi) (kings pinned both : ℕ) → in_check p.cells p.side ≡ false → both ≡ bit_or kings pinned → ((n : ℕ) → n < 81 → has_bit kings n ≡ is_king p.side (piece_at p.cells n))
     → ((n : ℕ) → n < 81 → has_bit pinned n ≡ false → is_piece_of p.side (piece_at p.cells n) ≡ true → in_check (set p.cells n None) p.side ≡ false)
     → IsCheckInfo p false both
@@ -89,7 +89,7 @@ module _ (cells : Cells) (side : Color) (from to : ℕ) (v : Option Piece) (len 
       (λ x left. subst (λ (y : ℕ). is_lined_with_king cells side y ≡ false) (sym left) free)
       safe
 
-  -- a move of no king that ends on none of the squares leaves the check
+  -- a move of another piece than a king to a square outside the mask leaves the check
   pub stays_set : (m : ℕ) → StaysInCheck m cells side → has_bit m to ≡ false → is_piece_of side (piece_at cells from) ≡ true → is_king side (piece_at cells from) ≡ false → is_king side (piece_at cells to) ≡ false → in_check (set (set cells from None) to v) side ≡ true
   stays_set m stays out own non_promoting bare =
       stays (set (set cells from None) to v) to ht out
@@ -99,7 +99,7 @@ module _ (cells : Cells) (side : Color) (from to : ℕ) (v : Option Piece) (len 
       })
       (λ k e. grind (arith, look k))
 
-  -- a king that is the only one is attacked after its move only where it would be with its square left empty
+  -- the only king is attacked after its move only if it would be with its square left empty
   pub king_set : is_piece_of side v ≡ true → ((x : ℕ) → x < 81 → x ≢ from → is_king side (piece_at cells x) ≡ false) → is_attacked (set cells from None) (opponent_of side) to ≡ false → in_check (set (set cells from None) to v) side ≡ false
   unfolding in_check
   king_set own lone safe = some_below_no 81 (is_open_king (set (set cells from None) to v) side) (λ k l. false_from_ne_true (is_open_king (set (set cells from None) to v) side k) (λ e.
@@ -135,14 +135,14 @@ dropped_plain side kind = grind arith
 pub quiet_drop : (cells : Cells) (side : Color) (kind : Kind) (to : ℕ) → length cells ≡ 81 → to < 81 → in_check cells side ≡ false → in_check (cells_after cells side (Drop kind to)) side ≡ false
 quiet_drop cells side kind to len ht safe = filled cells cells side to (dropped side kind) len ht (λ x other. refl) (dropped_of side kind) (dropped_plain side kind) safe
 
--- whether a drop leaves a check does not depend on its kind
+-- a drop leaves a check for one kind exactly if it does for another
 pub same_drop : (cells : Cells) (side : Color) (a b : Kind) (to : ℕ) → length cells ≡ 81 → to < 81 → in_check (cells_after cells side (Drop a to)) side ≡ in_check (cells_after cells side (Drop b to)) side
 same_drop cells side a b to len ht = grind (arith, over a b, over b a)
   where
     over : (a b : Kind) → in_check (cells_after cells side (Drop a to)) side ≡ false → in_check (cells_after cells side (Drop b to)) side ≡ false
     over a b safe = filled (set cells to (dropped side a)) cells side to (dropped side b) len ht (λ x other. sym (get_or-set_other cells to x (dropped side a) None other)) (dropped_of side b) (dropped_plain side b) safe
 
--- nor does a drop that ends on none answer it
+-- a drop outside the mask does not answer a check
 pub stays_drop : (m : ℕ) (cells : Cells) (side : Color) (kind : Kind) (to : ℕ) → StaysInCheck m cells side → has_bit m to ≡ false → to < 81 → is_none (piece_at cells to) ≡ true → in_check (cells_after cells side (Drop kind to)) side ≡ true
 stays_drop m cells side kind to stays out ht free =
     stays (set cells to (dropped side kind)) to ht out
@@ -152,9 +152,9 @@ stays_drop m cells side kind to stays out ht free =
     })
     (λ k e. grind (arith, cases_eq k to, get_or-set_other cells to k (dropped side kind) None))
 
--- ---- what follows from check info for a move
+-- ---- consequences of check info for a move
 
--- an unpinned piece leaves no check, wherever it goes
+-- a piece that is not pinned leaves no check, wherever it goes
 pub unpinned_safe : (p : Shogi) (checked : Bool) (pinned_or_king from to : ℕ) (promote : Bool) → IsCheckInfo p checked pinned_or_king → length p.cells ≡ 81 → from < 81 → to < 81 → is_piece_of p.side (piece_at p.cells from) ≡ true → checked ≡ false → has_bit pinned_or_king from ≡ false
     → in_check (cells_after p.cells p.side (Board from to promote)) p.side ≡ false
 unpinned_safe p checked pinned_or_king from to promote g len hf ht own unpinned off =

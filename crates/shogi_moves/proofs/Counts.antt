@@ -7,31 +7,31 @@ use Rattle.std.proofs.lemmas.Bool.{cases_eq, cases_lt, eq-eqb, ne_eqb}
 use Rattle.std.proofs.lemmas.Bool.Decides.{nat_tests}
 use Rattle.std.proofs.lemmas.List.{get_or-take, get_or-drop, take-set-le, drop-set-lt, drop-set-add}
 
--- 1 where the test passed
+-- 1 if the test passed, else 0
 abbrev pub tally : Bool → ℕ
 tally b = cond b 1 0
 
--- what a count is after a write
+-- a count after a write
 pub count_by-set : {X : Type 0} (p : X → Bool) (xs : List X) (i : ℕ) (y d : X) → i < length xs → count_by p (set xs i y) + tally (p (get_or xs i d)) ≡ count_by p xs + tally (p y)
 count_by-set p xs i y d h = sum_by-set (λ x. cond (p x) 1 0) xs i y d h
 
--- what a count is after a move from a to b
+-- a count after a move from a to b
 pub count_moved : {X : Type 0} (p : Option X → Bool) (xs : List (Option X)) (a b : ℕ) (v : Option X) → p None ≡ false → a < length xs → b < length xs → b ≢ a
     → count_by p (set (set xs a None) b v) + tally (p (get_or xs a None)) + tally (p (get_or xs b None)) ≡ count_by p xs + tally (p v)
 count_moved p xs a b v none ha hb other = grind (arith, count_by-set p xs a None None ha, count_by-set p (set xs a None) b v None (rw length-set hb), get_or-set_other xs a b None None other)
 
--- the nine places of a file
+-- the nine cells of a file
 abbrev pub on_file' : {X : Type 0} → ℕ → List X → List X
 on_file' f xs = take 9 (drop (9 * f) xs)
 
--- a write among the first n
+-- a write among the first n stays within them
 pub take-set_within : {X : Type 0} (n : ℕ) (xs : List X) (i : ℕ) (v : X) → i < n → take n (set xs i v) ≡ set (take n xs) i v
 take-set_within zero xs i v h = absurd (omega arith)
 take-set_within (suc n) [] i v h = refl
 take-set_within (suc n) (x ∷ xs) zero v h = refl
 take-set_within (suc n) (x ∷ xs) (suc i) v h = ap (λ t. x ∷ t) (take-set_within n xs i v (omega arith))
 
--- a file is nine places in a row
+-- a write on the file is a write among its nine cells
 pub on_file-set_here : {X : Type 0} (f i : ℕ) (xs : List X) (v : X) → 9 * f ≤ i → i < 9 * f + 9 → on_file' f (set xs i v) ≡ set (on_file' f xs) (i - 9 * f) v
 on_file-set_here f i xs v low high =
     let there : 9 * f + (i - 9 * f) ≡ i = omega arith in
@@ -48,7 +48,7 @@ on_file-set_elsewhere f i xs v (inr above) =
     let dropped' : drop (9 * f) (set xs i v) ≡ set (drop (9 * f) xs) (i - 9 * f) v = subst (λ (k : ℕ). drop (9 * f) (set xs k v) ≡ set (drop (9 * f) xs) (i - 9 * f) v) there dropped in
     ap (take 9) dropped' ∙ take-set-le 9 (drop (9 * f) xs) (i - 9 * f) v (omega arith)
 
--- 1 where the square is on the file and the test passed
+-- 1 if the square is on the file and the test passed, else 0
 abbrev pub here : ℕ → ℕ → Bool → ℕ
 here f i b = cond (i / 9 == f) (tally b) 0
 
@@ -65,7 +65,7 @@ nothing_here f i b e = grind arith
 not_there : (f i : ℕ) → i / 9 ≢ f → (i < 9 * f) ⊎ (9 * f + 9 ≤ i)
 not_there f i e = elim (cases_lt i (9 * f)) [ inl low ↦ inl low | inr high ↦ inr (omega arith) ]
 
--- what a file's count is after a write
+-- a file's count after a write
 pub count_on_file-set : {X : Type 0} (p : X → Bool) (f i : ℕ) (xs : List X) (y d : X) → i < length xs → count_by p (on_file' f (set xs i y)) + here f i (p (get_or xs i d)) ≡ count_by p (on_file' f xs) + here f i (p y)
 count_on_file-set {X} p f i xs y d h = elim (cases_eq (i / 9) f) [
   | inl same ↦
@@ -80,7 +80,7 @@ count_on_file-set {X} p f i xs y d h = elim (cases_eq (i / 9) f) [
   | inr other ↦ rw (on_file-set_elsewhere f i xs y (not_there f i other), here_off f i (p (get_or xs i d)) other, here_off f i (p y) other) refl
 ]
 
--- what a file's count is after a move from a to b
+-- a file's count after a move from a to b
 pub count_on_file_moved : {X : Type 0} (p : Option X → Bool) (f : ℕ) (xs : List (Option X)) (a b : ℕ) (v : Option X) → p None ≡ false → a < length xs → b < length xs → b ≢ a
     → count_by p (on_file' f (set (set xs a None) b v)) + here f a (p (get_or xs a None)) + here f b (p (get_or xs b None)) ≡ count_by p (on_file' f xs) + here f b (p v)
 count_on_file_moved p f xs a b v none ha hb other = grind (arith, count_on_file-set p f a xs None None ha, count_on_file-set p f b (set xs a None) v None (rw length-set hb), get_or-set_other xs a b None None other, nothing_here f a (p None) none)

@@ -1,4 +1,4 @@
--- Where a piece may legally end.
+-- Legal destinations of a piece.
 use Rattle.std.proofs.Common.{◌≡◌, ◌≢◌, ℕ, ◌-◌, ◌^◌, ◌<◌, Bool, true, false, not, subst, Option, Some, None, refl, sym, ap, ◌∙◌, arith, inl, inr, bit_and, bit_or, length, set, get_or-set_other, length-set}
 use Rattle.std.specs.Prelude.{◌&&◌, ◌||◌, ◌==◌, is_none, is_some, ◌/◌, nat_lt}
 use Rattle.std.proofs.lemmas.Nat.{and_le_r}
@@ -34,7 +34,7 @@ use Rattle.shogi_moves.proofs.LegalLaws.{is_legal_code_of}
 use Rattle.shogi_moves.proofs.MovedPieces.{is_king-piece_moved}
 use Rattle.shogi_core.proofs.ZoneLaws.{all_squares}
 
--- of the first squares, those are kept that pass or are still to be tried
+-- `kept` has the squares of `first` that pass the test or are still to be tried
 pub record Sifts (first left kept : ℕ) (test : ℕ → Bool) : Type 0 where
   pub within : (n : ℕ) → has_bit left n ≡ true → has_bit first n ≡ true
   pub bits : (n : ℕ) → n < 81 → has_bit kept n ≡ (has_bit first n && (test n || has_bit left n))
@@ -50,7 +50,7 @@ sift_end m left kept test none s n h = grind (arith, none n, s.bits n h)
 pub sift_done : (m kept : ℕ) (test : ℕ → Bool) → Sifts m 0 kept test → (n : ℕ) → n < 81 → has_bit kept n ≡ (has_bit m n && test n)
 sift_done m kept test s n h = sift_end m 0 kept test has_bit-none s n h
 
--- the next square is among those kept
+-- the next square to try is still kept
 pub sift_there : (m left kept to : ℕ) (test : ℕ → Bool) → Sifts m left kept test → to < 81 → has_bit left to ≡ true → has_bit kept to ≡ true
 sift_there m left kept to test s h e = grind (arith, s.bits to h, s.within to e)
 
@@ -75,7 +75,7 @@ sift_some m faces test far = record {
 
 pub ruleset sifting = (sift_first, sift_done, sift_there, sift_kept, sift_dropped)
 
--- ---- whether there is one of some squares
+-- ---- emptiness of a set of squares
 
 pub none_there : (squares : ℕ) (empty : Bool) → empty ≡ (squares == 0) → empty ≡ true → squares ≡ 0
 none_there squares empty is e = eqb-true squares 0 (sym is ∙ e)
@@ -100,7 +100,7 @@ free_kept p destinations from n len hf hn own non_promoting free =
 
 -- ---- the king, and answers to a check
 
--- what no answer can be is left out
+-- squares outside the info's answer no check and are left out
 pub narrowed : (destinations pinned_or_king n : ℕ) (u : Bool) → (has_bit destinations n ≡ true → has_bit pinned_or_king n ≡ false → u ≡ false) → (has_bit (bit_and destinations pinned_or_king) n && u) ≡ (has_bit destinations n && u)
 narrowed destinations pinned_or_king n u cut = grind (arith, has_bit-and destinations pinned_or_king n)
 
@@ -123,7 +123,7 @@ legal_board p from to promote = grind arith
 matching_destination : (capture : Bool) (side : Color) (cell : Option Piece) → (not (is_piece_of side cell) && matches capture (is_some cell)) ≡ is_destination capture side cell
 matching_destination capture side cell = grind arith
 
--- what moves with the one choice or the other differs in its role alone, and not where it is a king
+-- promotion changes a moved piece's role alone, and leaves a king a king
 king_same : (side : Color) (a b : Bool) (cell : Option Piece) → is_king side (piece_moved b cell) ≡ true → piece_moved a cell ≡ piece_moved b cell
 king_same side a b cell e = grind arith
 
@@ -156,7 +156,7 @@ promoting_apart destinations promoting n b d = has_bit-and destinations promotin
 mobile : (from n : ℕ) (cell : Option Piece) → may_promote cell from n ≡ false → is_immobile n cell ≡ false
 mobile from n cell e = grind arith
 
--- a piece that promotes on none of its destinations
+-- a piece with no destination in the zone promotes on none
 pub promoting_none : (destinations zone n : ℕ) (b : Bool) → has_bit zone n ≡ b → bit_and destinations zone ≡ 0 → has_bit 0 n ≡ (has_bit destinations n && b)
 promoting_none destinations zone n b z none = ap (λ (m : ℕ). has_bit m n) (sym none) ∙ (has_bit-and destinations zone n ∙ (rw z refl))
 
@@ -166,7 +166,7 @@ plain_all destinations zone from n cell z none = grind (arith, promoting_none de
 same_color : (a b : Color) → is_same_color a b ≡ true → a ≡ b
 same_color a b e = grind arith
 
--- a piece that neither begins nor ends in the zone of its side
+-- a piece that neither starts nor ends in the zone of its side cannot promote
 outside_zone : (side : Color) (destinations zone from n : ℕ) (cell : Option Piece) → is_piece_of side cell ≡ true → has_bit zone from ≡ in_promotion_zone side from → has_bit zone n ≡ in_promotion_zone side n
     → has_bit zone from ≡ false → bit_and destinations zone ≡ 0 → has_bit destinations n ≡ true → may_promote cell from n ≡ false
 outside_zone side destinations zone from n cell own f t b none set = grind (arith, same_color side, promoting_none destinations zone n (in_promotion_zone side n) t none, has_bit-none n)
@@ -181,7 +181,7 @@ promoting_outside side destinations zone from n cell own f t b none = grind (ari
 
 pub ruleset promoting = (plain_apart, promoting_apart)
 
--- the marked squares, in check and else
+-- the marked squares, in check and out of check
 pub marked_all : (n : ℕ) (checked rest : Bool) → n < 81 → checked ≡ true → has_bit ALL_SQUARES n ≡ (checked || rest)
 marked_all n checked rest h e = all_squares n h ∙ (rw e refl)
 
@@ -193,11 +193,11 @@ unmarked checked a b h = grind arith
 
 pub ruleset marking = (marked_all, marked_some)
 
--- the squares of a kind that a piece reaches
+-- the squares that a piece reaches by moves of the kind
 pub among_bits : (targets matching n : ℕ) (r e : Bool) → has_bit targets n ≡ r → has_bit matching n ≡ e → has_bit (bit_and targets matching) n ≡ (r && e)
 among_bits targets matching n r e t s = has_bit-and targets matching n ∙ (rw (t, s) refl)
 
--- ---- the legal destinations of a piece on squares where none of its side stands
+-- ---- the legal destinations of a piece on squares without a piece of its side
 
 legal_board_code : (p : Shogi) (promote : Bool) (from to : ℕ) → length p.cells ≡ 81 → from < 81 → to < 81 → is_piece_of p.side (piece_at p.cells from) ≡ true
     → is_legal_code p (code_of (Board from to promote)) ≡ (((reaches p.cells from to && not (is_piece_of p.side (piece_at p.cells to))) && leaves_king_safe p (Board from to false)) && ((not promote || may_promote (piece_at p.cells from) from to) && not (is_immobile to (piece_moved promote (piece_at p.cells from)))))
@@ -218,7 +218,7 @@ pub promoting_destinations : (p : Shogi) (from n among destinations promoting : 
     → has_bit promoting n ≡ (has_bit among n && is_legal_code p (code_of (Board from n true)))
 promoting_destinations p from n among destinations promoting len hf hn own way e m = m ∙ (rw e (sym (legal_within p true from n among len hf hn own way ∙ (rw (alive from n (piece_at p.cells from)) refl))))
 
--- a piece that goes nowhere
+-- a piece that reaches nothing has no destination
 pub nowhere : (among n : ℕ) (b : Bool) → among ≡ 0 → has_bit 0 n ≡ (has_bit among n && b)
 nowhere among n b none = rw (none, has_bit-none n) refl
 
@@ -234,7 +234,7 @@ entering_all all own n b whole fits h e = has_bit-and all (2 ^ 128 - 1 - own) n 
 
 pub ruleset entering_bits = (entering_all)
 
--- a legal move is one to a square that the piece reaches, and where none of its side stands
+-- a legal board move goes to a square that the piece reaches and that has no piece of its side
 legal_way : (p : Shogi) (promote : Bool) (from to : ℕ) → from < 81 → to < 81 → is_legal_code p (code_of (Board from to promote)) ≡ true → (reaches p.cells from to ≡ true) × (is_piece_of p.side (piece_at p.cells to) ≡ false)
 legal_way p promote from to hf ht e = grind (arith, is_legal_code_of p (code_of (Board from to promote)) (Board from to promote) (move_of-board from to promote hf ht), legal_board p from to promote)
 
@@ -257,7 +257,7 @@ pub matching_among : (p : Shogi) (capture promote : Bool) (from targets matching
 matching_among p capture promote from targets matching destinations hf t s e n h =
     grind (arith, e n h, among_bits targets matching n _ _ (t n h) (s n h), matches_kind_of p (code_of (Board from n promote)) (Board from n promote) (move_of-board from n promote hf h), legal_way p promote from n hf h, matching_destination capture p.side (piece_at p.cells n))
 
--- the legal destinations with a choice on promotion
+-- the legal destinations for one choice of promotion
 pub matching_board : (p : Shogi) (capture promote : Bool) (from to : ℕ) → length p.cells ≡ 81 → from < 81 → to < 81 → is_piece_of p.side (piece_at p.cells from) ≡ true
     → is_matching p capture (code_of (Board from to promote)) ≡ (((reaches p.cells from to && is_destination capture p.side (piece_at p.cells to)) && leaves_king_safe p (Board from to false)) && ((not promote || may_promote (piece_at p.cells from) from to) && not (is_immobile to (piece_moved promote (piece_at p.cells from)))))
 matching_board p capture promote from to len hf ht own =
@@ -304,12 +304,12 @@ legal_pawn p destinations kept n h s e = e ∙ (rw s (sym (legal_drop p kinds.Pa
 pub legal_other : (p : Shogi) (kind : Kind) (destinations n : ℕ) → n < 81 → is_pawn_kind kind ≡ false → has_bit destinations n ≡ is_safe p (Drop kind n) → has_bit destinations n ≡ is_matching p false (code_of (Drop kind n))
 legal_other p kind destinations n h other s = grind (arith, legal_drop p kind n h)
 
--- a kind that may be dropped nowhere
+-- a kind without squares has no legal drop
 pub legal_nowhere : (p : Shogi) (kind : Kind) (destinations n : ℕ) → n < 81 → destinations ≡ 0 → has_bit destinations n ≡ is_safe p (Drop kind n) → has_bit 0 n ≡ is_matching p false (code_of (Drop kind n))
 legal_nowhere p kind destinations n h none s = grind (arith, has_bit-none n, legal_drop p kind n h)
 
 pub ruleset legal_dropping = (legal_pawn, legal_other, legal_nowhere)
 
--- a drop takes nothing, so it matches where it is legal
+-- a drop takes nothing, hence matches exactly if it is legal
 pub drop_matching : (p : Shogi) (kind : Kind) (n : ℕ) → n < 81 → is_matching p false (code_of (Drop kind n)) ≡ is_legal_code p (code_of (Drop kind n))
 drop_matching p kind n h = grind (arith, matching_move p false (Drop kind n) (move_of-drop kind n h), is_legal_code_of p (code_of (Drop kind n)) (Drop kind n) (move_of-drop kind n h))

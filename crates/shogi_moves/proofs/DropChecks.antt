@@ -1,4 +1,4 @@
--- A drop discovers nothing: the other king is attacked after it by the dropped piece or not at all.
+-- A drop discovers nothing: it attacks the other king with the dropped piece or not at all.
 use Rattle.std.proofs.Common.{◌≡◌, ℕ, ◌<◌, ◌⊎◌, Bool, true, false, None, refl, sym, ◌∙◌, arith, inl, inr, length, subst, get_or-set_same, get_or-set_other}
 use Rattle.std.specs.Prelude.{◌||◌}
 use Rattle.std.proofs.lemmas.Bool.{cases_eq, both_ways, false_from_ne_true}
@@ -41,7 +41,7 @@ module _ (cells : Cells) (side : Color) (kind : Kind) (to : ℕ) (len : length c
       (λ x left. absurd left)
       safe
 
--- a dropped pawn that reaches no king mates none
+-- a dropped pawn that attacks no king does not mate
 pub non_mating_pawn : (p : Shogi) (to : ℕ) → length p.cells ≡ 81 → to < 81 → in_check p.cells (opponent_of p.side) ≡ false
     → ((k : ℕ) → k < 81 → is_king (opponent_of p.side) (piece_at (cells_after p.cells p.side (Drop kinds.Pawn to)) k) ≡ true → reaches (cells_after p.cells p.side (Drop kinds.Pawn to)) to k ≡ false)
     → is_pawn_drop_mate p (Drop kinds.Pawn to) ≡ false
@@ -57,7 +57,7 @@ pawn_reaches cells side to k len ht = rw (get_or-set_same cells to (dropped side
 step_back : (o : Offset) (n k : ℕ) → n < 81 → (leads 1 o n k || false) ≡ true → (leads 1 (back o) k n || false) ≡ true
 step_back o n k h e = step_alone (leads 1 (back o) k n) ∙ leads_back o n k h (sym (step_alone (leads 1 o n k)) ∙ e)
 
--- a pawn of the other side on the king's square would step to where a pawn attacks it from
+-- a pawn of the other side on the king's square would step to the square from which a pawn attacks the king
 pub pawn_back : (side : Color) (n k : ℕ) → n < 81 → has_step (record { color = side; role = Pawn }) n k ≡ true → has_step (record { color = opponent_of side; role = Pawn }) k n ≡ true
 pawn_back Black n k h e = step_back up n k h e
 pawn_back White n k h e = step_back down n k h e
@@ -66,7 +66,7 @@ pawn_back White n k h e = step_back down n k h e
 old_king : (p : Shogi) (to : ℕ) → length p.cells ≡ 81 → to < 81 → (k : ℕ) → is_king (opponent_of p.side) (piece_at (cells_after p.cells p.side (Drop kinds.Pawn to)) k) ≡ true → is_king (opponent_of p.side) (piece_at p.cells k) ≡ true
 old_king p to len ht k e = grind (arith, look p.cells p.side kinds.Pawn to len ht k, no_king p.side kinds.Pawn)
 
--- a pawn mates the king alone from the square to which a pawn on the king's square would step
+-- a pawn mates a king only from the square to which a pawn on the king's square would step
 pub far_pawn : (p : Shogi) (to king faces : ℕ) → IsValid p → to < 81 → HasNoOtherKing p.cells (opponent_of p.side) king → ((n : ℕ) → n < 81 → has_bit faces n ≡ has_step (record { color = opponent_of p.side; role = Pawn }) king n) → has_bit faces to ≡ false → is_pawn_drop_mate p (Drop kinds.Pawn to) ≡ false
 far_pawn p to king faces v ht lone bits out = non_mating_pawn p to v.cells_fit ht (faultless_from p v.no_fault).shut (λ k h crown.
     pawn_reaches p.cells p.side to k v.cells_fit ht

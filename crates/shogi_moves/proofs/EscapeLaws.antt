@@ -1,4 +1,4 @@
--- A king that is given check may go to a square that stays out of reach.
+-- A king in check may go to a square that the enemy does not attack.
 use Rattle.std.proofs.Common.{◌≡◌, ◌≢◌, ◌⊎◌, ℕ, ◌-◌, ◌^◌, ◌<◌, Bool, true, false, not, Option, None, [], refl, sym, ap, subst, ◌∙◌, arith, inl, inr, set, length, length-set, get_or-set_same, get_or-set_other, bit_and}
 use Rattle.std.specs.Prelude.{◌&&◌, ◌||◌, ◌==◌, is_none}
 use Rattle.std.specs.List.{list_any}
@@ -46,7 +46,7 @@ king_reach old new side cell a b k e = grind (arith, no_slide)
 
 -- ---- the king steps out of the check
 
--- a king that is the only one of the side to move goes where it is not attacked
+-- the only king of the side to move may go to a square that is not attacked
 pub escape_legal : (q : Shogi) (k e : ℕ) → length q.cells ≡ 81 → k < 81 → e < 81 → is_king q.side (piece_at q.cells k) ≡ true → IsEscape q.cells q.side k e → legal_codes q ≢ []
 escape_legal q k e len hk he crown way =
     king_move q k e hk he crown (way.step.reached, way.step.open_end)
@@ -61,7 +61,7 @@ module _ (p : Shogi) (new : Cells) (hands : HandCounts) (Left : ℕ → Type 0) 
   pub opened : (x : ℕ) → is_none (piece_at (set new k None) x) ≡ true → (is_none (piece_at (set p.cells k None) x) ≡ true) ⊎ Left x
   opened x n = grind (arith, see x, cases_eq x k, own_some p.side cell mine, get_or-set_same p.cells k None None, get_or-set_other p.cells k x None None, get_or-set_other new k x None None)
 
-  -- nothing stands where the king stood
+  -- the king's old square is empty
   lifted : (a : ℕ) → a ≡ k → piece_at (set new k None) a ≡ None
   lifted a here = ap (piece_at (set new k None)) here ∙ get_or-set_same new k None None (omega (arith, len))
 
@@ -90,7 +90,7 @@ module _ (p : Shogi) (new : Cells) (hands : HandCounts) (Left : ℕ → Type 0) 
       escape_legal (record { cells = new; hands = hands; side = opponent_of p.side }) k e len hk he (ap (is_king (opponent_of p.side)) there ∙ crown)
       (record { step = record { lone = still_lone; reached = still_reached; open_end = still_open }; safe = safe })
 
-  -- what was left is on no open line with the square to which the king goes
+  -- the moved piece does not reach the escape, and no square left empty is on a line with it
   module _ (short : cell_reaches (set p.cells k None) cell to e ≡ false) (free : (x : ℕ) → Left x → are_lined (set p.cells k None) x e ≡ false) where
     out_of_reach : is_attacked (set new k None) (opponent_of (opponent_of p.side)) e ≡ false
     out_of_reach = attacked_was_but (set p.cells k None) (set new k None) Left opened (opponent_of (opponent_of p.side)) e
@@ -112,7 +112,7 @@ escaped_drop p kind to closed v ht h short =
     h.king_on h.end h.on_board.0 h.on_board.1 h.king (λ left. absurd left)
     h.elsewhere h.escape short (λ x left. absurd left)
 
--- ---- such squares as bits
+-- ---- escapes as sets of squares
 
 pub found_open : (p : Shogi) (escapes closed kings free to : ℕ) → AreEscapes p escapes → closed < 2 ^ 81 → kings < 2 ^ 81 → free < 2 ^ 81 → ((n : ℕ) → n < 81 → has_bit kings n ≡ is_king (opponent_of p.side) (piece_at p.cells n)) → kings ≢ 0 → has_bit kings to ≡ false
     → ((n : ℕ) → has_bit free n ≡ (has_bit (bit_and escapes (2 ^ 128 - 1 - closed)) n && not (n == to))) → free ≢ 0 → HasOpenEscape p closed to
@@ -132,14 +132,14 @@ found_open p escapes closed kings free to h fits kings_fit free_fits bits some o
       elsewhere = (λ at. both_ways (has_bit kings to) off (subst (λ (x : ℕ). has_bit kings x ≡ true) at low.1), λ at. both_ways _ (ap not (eq-eqb _ to at)) apart.1);
     }
 
--- the squares to which the only king steps, and where none of its side stands
+-- the squares to which the only king steps without those of its own pieces
 pub found_steps : (p : Shogi) (king squares : ℕ) → ((x : ℕ) → x < 81 → x ≢ king → is_king (opponent_of p.side) (piece_at p.cells x) ≡ false)
     → ((n : ℕ) → n < 81 → has_bit squares n ≡ true → (reaches p.cells king n ≡ true) × (is_piece_of (opponent_of p.side) (piece_at p.cells n) ≡ false)) → AreKingSteps p squares
 found_steps p king squares lone ways = λ k e hk crown he set.
     let same : k ≡ king = grind (arith, cases_eq k king, lone k hk) in
     record { lone = rw same lone; reached = rw same (ways e he set).0; open_end = (ways e he set).1 }
 
--- those of them that are not attacked: the king is in no check, and so stands in no piece's way
+-- unattacked steps are escapes: out of check, the king blocks no attack on them
 pub found_escapes : (p : Shogi) (steps squares : ℕ) → IsValid p → AreKingSteps p steps → ((n : ℕ) → n < 81 → has_bit squares n ≡ true → (has_bit steps n ≡ true) × (is_attacked p.cells p.side n ≡ false)) → AreEscapes p squares
 found_escapes p steps squares v s found = λ k e hk crown he set.
     let here = found e he set in
@@ -152,7 +152,7 @@ found_escapes p steps squares v s found = λ k e hk crown he set.
 pub one_square : (bit square n : ℕ) → ((i : ℕ) → has_bit bit i ≡ (has_bit 0 i || (i == square))) → has_bit bit n ≡ true → n ≡ square
 one_square bit square n bits e = grind (arith, bits n, has_bit-none n)
 
--- a pawn after whose drop such a square is left does not mate
+-- a pawn drop that leaves an escape does not mate
 pub escaped_pawn : (p : Shogi) (to steps : ℕ) → IsValid p → to < 81 → HasOpenEscape p steps to → ((n : ℕ) → n < 81 → has_bit steps n ≡ has_step (record { color = p.side; role = roles.Pawn }) to n) → is_mating_square p to ≡ false
 escaped_pawn p to steps v ht h bits =
     let short : cell_reaches (set p.cells h.king_on None) (dropped p.side kinds.Pawn) to h.end ≡ false = stepping (sym (bits h.end h.on_board.1) ∙ h.open_end) in

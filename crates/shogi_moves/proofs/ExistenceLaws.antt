@@ -1,4 +1,4 @@
--- Some move is legal, or none.
+-- Whether any move is legal.
 use Rattle.std.proofs.Common.{◌≡◌, ◌≢◌, ℕ, ◌+◌, ◌-◌, ◌*◌, ◌/◌, ◌%◌, ◌^◌, ◌<◌, ◌≤◌, Bool, true, false, List, [], ◌∷◌, Option, refl, sym, ap, ◌∙◌, arith, inl, inr, subst, bit_and, bit_or}
 use Rattle.std.specs.Prelude.{◌==◌}
 use Rattle.std.specs.Int.{trailing_zeros, w128}
@@ -36,7 +36,7 @@ use Rattle.shogi_moves.proofs.LegalLaws.{in_legal, legal_in, legal_in_above, leg
 use Rattle.shogi_moves.proofs.SweepLaws.{either, at_code}
 use Rattle.shogi_core.proofs.ZoneLaws.{all_squares}
 
--- where every piece may be pinned, nothing is claimed of any
+-- info that marks every square claims nothing of pins
 pub check_info_rough : (p : Shogi) (checked : Bool) → checked ≡ in_check p.cells p.side → IsCheckInfo p checked ALL_SQUARES
 check_info_rough p checked e = record {
   check = e;
@@ -45,7 +45,7 @@ check_info_rough p checked e = record {
   free = λ _ n h out own. absurd (both_ways (has_bit ALL_SQUARES n) out (all_squares n h));
 }
 
--- a piece without an end has no move
+-- a piece without a destination has no move
 pub piece_without : (p : Shogi) (from : ℕ) (d : Destinations) → from < 81 → AreAllDestinations p from d → bit_or d.non_promoting.bits d.promoting.bits ≡ 0 → legal_from p (from * SQUARE_CODES) ≡ legal_from p ((from + 1) * SQUARE_CODES)
 piece_without p from d hf all none = run_without p (from * SQUARE_CODES) ((from + 1) * SQUARE_CODES) (omega arith) (omega arith) (λ c low high. (
     let out = either d.non_promoting.bits d.promoting.bits (c / 2 % 81) none in
@@ -54,7 +54,7 @@ piece_without p from d hf all none = run_without p (from * SQUARE_CODES) ((from 
       | inr at ↦ ap (is_legal_code p) at ∙ (sym (all.promoting (c / 2 % 81) (omega arith)) ∙ out.1)
     ]))
 
--- a kind without an end has no drop
+-- a kind without a destination has no drop
 pub kind_without : (p : Shogi) (kind : Kind) (destinations : ℕ) → ((n : ℕ) → n < 81 → has_bit destinations n ≡ is_matching p false (code_of (Drop kind n))) → destinations ≡ 0
     → legal_from p (FIRST_DROP + kind_number kind * 81) ≡ legal_from p (FIRST_DROP + 81 + kind_number kind * 81)
 kind_without p kind destinations bits none =
@@ -70,7 +70,7 @@ kind_without p kind destinations bits none =
 pub some_legal : (p : Shogi) (code : ℕ) → is_legal_code p code ≡ true → legal_codes p ≢ []
 some_legal p code e none = let clash : false ≡ true = ap (λ codes. is_in code codes) (sym none) ∙ in_legal p 0 code (omega arith) e in cc
 
--- a piece with an end has a move
+-- a piece with a destination has a move
 pub piece_with : (p : Shogi) (from : ℕ) (d : Destinations) → AreAllDestinations p from d → bit_or d.non_promoting.bits d.promoting.bits ≢ 0 → legal_codes p ≢ []
 piece_with p from d all some =
     let to : ℕ = trailing_zeros w128 (bit_or d.non_promoting.bits d.promoting.bits) in
@@ -80,17 +80,17 @@ piece_with p from d all some =
       | inr here ↦ some_legal p (code_of (Board from to true)) (sym (all.promoting to low.0) ∙ here)
     ]
 
--- a kind with an end has a drop
+-- a kind with a destination has a drop
 pub kind_with : (p : Shogi) (kind : Kind) (destinations : ℕ) → destinations < 2 ^ 81 → ((n : ℕ) → n < 81 → has_bit destinations n ≡ is_matching p false (code_of (Drop kind n))) → destinations ≢ 0 → legal_codes p ≢ []
 kind_with p kind destinations fits bits some =
     let low = lowest_set destinations some fits in
     some_legal p (code_of (Drop kind (trailing_zeros w128 destinations))) (sym (drop_matching p kind (trailing_zeros w128 destinations) low.0) ∙ (sym (bits (trailing_zeros w128 destinations) low.0) ∙ low.1))
 
--- a king moves on from everywhere
+-- a king can move on from any square
 pub king_lives : (side : Color) (cell : Option Piece) (t : ℕ) → is_king side cell ≡ true → is_immobile t cell ≡ false
 king_lives side cell t e = grind arith
 
--- a king that is not attacked on the square to which it goes has a legal move
+-- a king move to an unattacked square is legal
 pub king_move : (p : Shogi) (from to : ℕ) → from < 81 → to < 81 → is_king p.side (piece_at p.cells from) ≡ true → (reaches p.cells from to ≡ true) × (is_piece_of p.side (piece_at p.cells to) ≡ false) → leaves_king_safe p (Board from to false) ≡ true → legal_codes p ≢ []
 king_move p from to hf ht king way safe =
     let own : is_piece_of p.side (piece_at p.cells from) ≡ true = king_own p.side (piece_at p.cells from) king in
@@ -98,14 +98,14 @@ king_move p from to hf ht king way safe =
     let allowed : is_pseudo_legal_board_move p.cells p.side from to false ≡ true = rw (own, way.1, way.0, still to (piece_at p.cells from), alive) refl in
     some_legal p (code_of (Board from to false)) (is_legal_code_of p (code_of (Board from to false)) (Board from to false) (move_of-board from to false hf ht) ∙ (legal_board p from to false ∙ and_from _ _ allowed safe))
 
--- where it may go: squares that it reaches, and on which no piece of its own stands
+-- the squares that the king reaches, without those of its own pieces
 pub king_ways : (p : Shogi) (from targets own : ℕ) → own < 2 ^ 81 → ((n : ℕ) → n < 81 → has_bit targets n ≡ reaches p.cells from n) → ((n : ℕ) → n < 81 → has_bit own n ≡ is_piece_of p.side (piece_at p.cells n))
     → (n : ℕ) → n < 81 → has_bit (bit_and targets (2 ^ 128 - 1 - own)) n ≡ true → (reaches p.cells from n ≡ true) × (is_piece_of p.side (piece_at p.cells n) ≡ false)
 king_ways p from targets own fits t o n h e = all_ways targets (2 ^ 128 - 1 - own) n (reaches p.cells from n) (is_piece_of p.side (piece_at p.cells n)) (t n h) (entering own n _ fits h (o n h)) e
 
 -- ---- safe moves
 
--- another kind than the pawn
+-- a kind other than the pawn
 pub not_pawn : (kind : Kind) → 1 ≤ kind_number kind → is_pawn_kind kind ≡ false
 not_pawn kind h = grind arith
 
@@ -120,7 +120,7 @@ safe_piece : (p : Shogi) (kind : Kind) (to : ℕ) → is_pawn_kind kind ≡ fals
 unfolding is_legal
 safe_piece p kind to other e = rw (e, other) refl
 
--- a safe move is legal, but for the drop of a pawn
+-- a safe move that is no pawn drop is legal
 legal_if_board : (p : Shogi) (code : ℕ) → code < FIRST_DROP → is_safe_code p code ≡ true → is_legal_code p code ≡ true
 legal_if_board p code h e =
     is_legal_code_of p code (Board (code / 2 / 81) (code / 2 % 81) (code % 2 == 1)) (board_code code h)
@@ -144,7 +144,7 @@ safe_from_legal p some = go (legal_codes p) (λ code h. legal_in p 0 code h) som
     go [] all some = absurd (some refl)
     go (code ∷ codes) all some = safe_code p code (all code (or_left (code == code) (is_in code codes) (eq-eqb code code refl)))
 
--- a pawn with a safe end, and none where no other move is legal
+-- a pawn with a safe drop makes some move safe; without one, and without another legal move, none is safe
 pub pawn_safe : (p : Shogi) (destinations : ℕ) → destinations < 2 ^ 81 → ((n : ℕ) → n < 81 → has_bit destinations n ≡ is_safe p (Drop kinds.Pawn n)) → destinations ≢ 0 → some_below MOVE_CODE_COUNT (is_safe_code p) ≡ true
 pawn_safe p destinations fits bits some =
     let low = lowest_set destinations some fits in

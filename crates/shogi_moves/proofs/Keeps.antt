@@ -18,15 +18,15 @@ use Rattle.shogi_moves.proofs.LegalLaws.{after_code_of}
 set_size_fits : (kind : Kind) → set_size kind ≤ 18
 set_size_fits kind = grind arith
 
--- a count in hand is at most a set
+-- a count in hand fits a byte, as a set has fewer pieces of the kind
 pub held_fits : (p : Shogi) (side : Color) (kind : Kind) → IsValid p → count_in_hand p.hands side kind < 255
 held_fits p side kind valid = grind (arith, (faultless_from p valid.no_fault).counts kind, set_size_fits kind)
 
--- a dropped piece was held
+-- a dropped piece was in hand
 pub held_some : (p : Shogi) (kind : Kind) (to : ℕ) → is_safe p (Drop kind to) ≡ true → 1 ≤ count_in_hand p.hands p.side kind
 held_some p kind to safe = omega (arith, (safe_drop p kind to safe).held_one)
 
--- what a safe move leaves has no fault
+-- the position after a safe move has no fault
 pub no_fault_after_board : (p : Shogi) (from to : ℕ) (promote : Bool) → is_safe p (Board from to promote) ≡ true → IsValid p → from < 81 → to < 81 → fault_of (after p (Board from to promote)) ≡ None
 no_fault_after_board p from to promote safe valid hfrom hto = faultless_to (after p (Board from to promote)) (faultless_after_board p from to promote valid hfrom hto safe)
 

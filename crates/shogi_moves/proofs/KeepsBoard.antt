@@ -1,4 +1,4 @@
--- A safe move on the board leaves a position without a fault.
+-- A safe board move leaves a position without a fault.
 use Rattle.std.proofs.Common.{◌≡◌, ◌≢◌, ℕ, ◌/◌, ◌<◌, ◌≤◌, Bool, true, false, length, set, refl, sym, subst, arith, inl, inr, Option, None, length-set, get_or-set_same, get_or-set_other, le_trans}
 use Rattle.std.specs.Prelude.{count_by}
 use Rattle.std.proofs.lemmas.Bool.{cases_Bool, cases_eq}
@@ -19,7 +19,7 @@ use Rattle.shogi_moves.specs.After.{piece_moved, with_captured, after}
 use Rattle.shogi_moves.proofs.Counts.{count_moved, count_on_file_moved, nothing_here, here}
 use Rattle.shogi_moves.proofs.MovedPieces.{is_of_kind-piece_moved, is_king-piece_moved, is_pawn-piece_moved, hands-with_captured, pawn_stays_on_file, opponent_twice}
 
--- what a safe board move keeps to
+-- what the rules say of a safe board move
 pub record IsSafeBoardMove (p : Shogi) (from to : ℕ) (promote : Bool) : Type 0 where
   pub own : is_piece_of p.side (piece_at p.cells from) ≡ true
   pub free : is_piece_of p.side (piece_at p.cells to) ≡ false
@@ -27,12 +27,12 @@ pub record IsSafeBoardMove (p : Shogi) (from to : ℕ) (promote : Bool) : Type 0
   pub alive : is_immobile to (piece_moved promote (piece_at p.cells from)) ≡ false
   pub shut : in_check (after p (Board from to promote)).cells p.side ≡ false
 
--- its parts, from the one test
+-- a safe board move obeys each of its rules
 pub safe_board_move : (p : Shogi) (from to : ℕ) (promote : Bool) → is_safe p (Board from to promote) ≡ true → IsSafeBoardMove p from to promote
 unfolding is_safe
 safe_board_move p from to promote e = grind arith
 
--- the new square is another one
+-- origin and destination differ
 apart : (cells : Cells) (side : Color) (from to : ℕ) → is_piece_of side (piece_at cells from) ≡ true → is_piece_of side (piece_at cells to) ≡ false → to ≢ from
 apart cells side from to own free same = grind arith
 
@@ -74,7 +74,7 @@ alive_after_board : (cells : Cells) (from to : ℕ) (v : Option Piece) (square :
     → is_immobile_on (set (set cells from None) to v) square ≡ false
 alive_after_board cells from to v square lc hf ht alive before = grind (arith, cases_eq square to, cases_eq square from, length-set cells from None, get_or-set_same (set cells from None) to v None, get_or-set_same cells from None None, get_or-set_other (set cells from None) to square v None, get_or-set_other cells from square None None)
 
--- so there is no fault
+-- a safe board move leaves no fault
 pub faultless_after_board : (p : Shogi) (from to : ℕ) (promote : Bool) → IsValid p → from < 81 → to < 81 → is_safe p (Board from to promote) ≡ true → IsFaultless (after p (Board from to promote))
 faultless_after_board p from to promote valid hfrom hto safe =
     let fine = faultless_from p valid.no_fault in

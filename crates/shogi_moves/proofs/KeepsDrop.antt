@@ -20,7 +20,7 @@ use Rattle.shogi_moves.specs.After.{after, dropped}
 use Rattle.shogi_moves.proofs.Counts.{count_by-set, count_on_file-set, here_on, here_off, hand_less, tally}
 use Rattle.shogi_moves.proofs.MovedPieces.{opponent_twice}
 
--- a dropped piece is of its kind, no king, and a pawn where the kind is
+-- a dropped piece is of its kind, no king, and a pawn exactly if the kind is
 kind_of-role_of : (kind : Kind) → kind_of (role_of kind) ≡ Some kind
 kind_of-role_of kind = grind arith
 
@@ -30,14 +30,14 @@ is_king_role-role_of kind = grind arith
 is_pawn_role-role_of : (kind : Kind) → is_pawn_role (role_of kind) ≡ is_pawn_kind kind
 is_pawn_role-role_of kind = grind arith
 
--- colours that compare as the same are one
+-- equal colours by the test are equal
 same_color : (a b : Color) → is_same_color a b ≡ true → a ≡ b
 same_color a b e = grind arith
 
 is_none-true : {X : Type 0} (cell : Option X) → is_none cell ≡ true → cell ≡ None
 is_none-true cell e = grind arith
 
--- what a safe drop keeps to
+-- what the rules say of a safe drop
 pub record IsSafeDrop (p : Shogi) (kind : Kind) (to : ℕ) : Type 0 where
   pub held_one : 0 < count_in_hand p.hands p.side kind
   pub free : piece_at p.cells to ≡ None
@@ -45,7 +45,7 @@ pub record IsSafeDrop (p : Shogi) (kind : Kind) (to : ℕ) : Type 0 where
   pub pawns : is_pawn_kind kind ≡ true → pawns_on_file p.side (to / 9) p.cells ≤ 0
   pub shut : in_check (after p (Drop kind to)).cells p.side ≡ false
 
--- its parts, from the one test
+-- a safe drop obeys each of its rules
 pub safe_drop : (p : Shogi) (kind : Kind) (to : ℕ) → is_safe p (Drop kind to) ≡ true → IsSafeDrop p kind to
 unfolding is_safe
 safe_drop p kind to e = record {
@@ -56,7 +56,7 @@ safe_drop p kind to e = record {
   shut = grind arith;
 }
 
--- the hand has one less
+-- the hand has one less of the kind
 hands_after_drop : (hands : HandCounts) (side : Color) (kind other : Kind) → length hands ≡ 14 → 0 < count_in_hand hands side kind
     → count_in_hand (set hands (place_of side kind) (count_in_hand hands side kind - 1)) Black other + count_in_hand (set hands (place_of side kind) (count_in_hand hands side kind - 1)) White other + tally (kind_number kind == kind_number other) ≡ count_in_hand hands Black other + count_in_hand hands White other
 hands_after_drop hands Black kind other len some = hand_less hands (kind_number kind) (kind_number kind) (kind_number other) len (number_below kind) (number_below other) (inl refl) some
@@ -88,7 +88,7 @@ pawns_after_drop cells side kind to color file lc ht ban before = grind (arith, 
 alive_after_drop : (cells : Cells) (to : ℕ) (v : Option Piece) (square : ℕ) → length cells ≡ 81 → to < 81 → is_immobile to v ≡ false → is_immobile_on cells square ≡ false → is_immobile_on (set cells to v) square ≡ false
 alive_after_drop cells to v square lc ht alive before = grind (arith, cases_eq square to, get_or-set_same cells to v None, get_or-set_other cells to square v None)
 
--- so there is no fault
+-- a safe drop leaves no fault
 pub faultless_after_drop : (p : Shogi) (kind : Kind) (to : ℕ) → IsValid p → to < 81 → is_safe p (Drop kind to) ≡ true → IsFaultless (after p (Drop kind to))
 faultless_after_drop p kind to valid hto safe =
     let fine = faultless_from p valid.no_fault in

@@ -1,4 +1,4 @@
--- The only king of a side goes to a square: it is attacked there exactly where it would be with its square left empty.
+-- A side's only king is attacked on its destination exactly if it would be with its old square left empty.
 use Rattle.std.proofs.Common.{◌≡◌, ◌≢◌, ◌⊎◌, ℕ, ◌<◌, Bool, true, false, refl, sym, ap, subst, ◌∙◌, arith, inl, inr, Option, Some, None, set, length, get_or-set_same, get_or-set_other, length-set}
 use Rattle.std.specs.Prelude.{◌&&◌, not, is_none}
 use Rattle.std.proofs.lemmas.Bool.{agree_below_at, cases_Bool, cases_eq, or_cases, or_left, or_right, false_from_ne_true, true_from_ne_false, both_ways, and_parts, and_from, not-true}
@@ -46,7 +46,7 @@ module _ (cells : Cells) (side : Color) (from to : ℕ) (v : Option Piece) (len 
   filled_at : piece_at (set (set cells from None) to v) to ≡ v
   filled_at = get_or-set_same (set cells from None) to v None (omega (arith, length-set cells from None))
 
-  -- what attacks the square attacks what comes to stand there
+  -- an attacker of a square attacks any piece put there
   still_attacked : is_attacked (set cells from None) (opponent_of side) to ≡ true → is_attacked (set (set cells from None) to v) (opponent_of side) to ≡ true
   still_attacked e = true_from_ne_false (is_attacked (set (set cells from None) to v) (opponent_of side) to) (λ safe.
       both_ways (is_attacked (set cells from None) (opponent_of side) to)
@@ -75,13 +75,13 @@ king_steps p from to found len hf ht king lone is =
     let moved : is_king p.side (piece_moved false (piece_at p.cells from)) ≡ true = is_king-piece_moved p.side false (piece_at p.cells from) ∙ king in
     grind (arith, king_lost p.cells p.side from to (piece_moved false (piece_at p.cells from)) len ht moved, king_set p.cells p.side from to (piece_moved false (piece_at p.cells from)) len hf ht (king_own p.side _ moved) lone)
 
--- ---- a king out of check stands in no piece's way
+-- ---- a king out of check blocks no attack
 
 module _ (cells : Cells) (side : Color) (from : ℕ) (len : length cells ≡ 81) (hf : from < 81) (king : is_king side (piece_at cells from) ≡ true) (safe : in_check cells side ≡ false) where
   lifted_at : piece_at (set cells from None) from ≡ None
   lifted_at = get_or-set_same cells from None None (omega arith)
 
-  -- a piece of the other side stands where it stood
+  -- an enemy piece on the board without the king stood there with it
   foe_there : (a : ℕ) → is_piece_of (opponent_of side) (piece_at (set cells from None) a) ≡ true → piece_at (set cells from None) a ≡ piece_at cells a
   foe_there a own = grind (arith, cases_eq a from, lifted_at, get_or-set_other cells from a None None)
 

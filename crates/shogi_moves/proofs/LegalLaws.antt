@@ -17,17 +17,17 @@ use Rattle.shogi_moves.specs.LegalMoves.{legal_from, legal_codes, legal_above}
 use Rattle.shogi_moves.specs.Rising.{is_in, IsRising}
 use Rattle.shogi_moves.proofs.Rising.{kept_rising, kept_passes, kept_low, passes_kept}
 
--- a legal code comes first, and then those above it
+-- a legal code comes first, followed by those above it
 pub legal_from_found : (p : Shogi) (code : ℕ) → code < MOVE_CODE_COUNT → is_legal_code p code ≡ true → legal_from p code ≡ code ∷ legal_from p (code + 1)
 unfolding legal_from codes_from
 legal_from_found p code h e = let n : MOVE_CODE_COUNT - code ≡ suc (MOVE_CODE_COUNT - (code + 1)) = omega arith in rw n (cond-true (is_legal_code p code) _ _ e)
 
--- a code that is not legal is left out
+-- a code without a legal move is left out
 pub legal_from_skips : (p : Shogi) (code : ℕ) → code < MOVE_CODE_COUNT → is_legal_code p code ≡ false → legal_from p code ≡ legal_from p (code + 1)
 unfolding legal_from codes_from
 legal_from_skips p code h e = let n : MOVE_CODE_COUNT - code ≡ suc (MOVE_CODE_COUNT - (code + 1)) = omega arith in rw n (cond-false (is_legal_code p code) _ _ e)
 
--- above the last code there is none
+-- no legal move lies above the last code
 pub legal_from_end : (p : Shogi) (code : ℕ) → MOVE_CODE_COUNT ≤ code → legal_from p code ≡ []
 unfolding legal_from codes_from
 legal_from_end p code h = let n : MOVE_CODE_COUNT - code ≡ 0 = omega arith in rw n refl
@@ -45,7 +45,7 @@ run_without p first end low high none =
     let there : first + (end - first) ≡ end = omega arith in
     jump p (end - first) first (omega arith) (λ c l h. none c l (omega arith)) ∙ ap (legal_from p) there
 
--- the legal moves are in rising order of codes
+-- the codes of the legal moves rise
 pub legal_rising : (p : Shogi) (first : ℕ) → IsRising (legal_from p first)
 unfolding legal_from codes_from
 legal_rising p first = kept_rising (is_legal_code p) (MOVE_CODE_COUNT - first) first
@@ -55,12 +55,12 @@ pub legal_in : (p : Shogi) (first code : ℕ) → is_in code (legal_from p first
 unfolding legal_from codes_from
 legal_in p first code h = kept_passes (is_legal_code p) (MOVE_CODE_COUNT - first) first code h
 
--- and none is below the first
+-- no code of the list is below the first
 pub legal_in_above : (p : Shogi) (first code : ℕ) → is_in code (legal_from p first) ≡ true → first ≤ code
 unfolding legal_from codes_from
 legal_in_above p first code h = kept_low (is_legal_code p) (MOVE_CODE_COUNT - first) first code h
 
--- above the last code there is no move
+-- no code at or above the number of codes has a move
 pub none_beyond : (code : ℕ) → MOVE_CODE_COUNT ≤ code → move_of code ≡ None
 none_beyond code h = cond-false (nat_lt code FIRST_DROP) _ _ (le-ltb code FIRST_DROP (omega arith)) ∙ cond-false (nat_lt code MOVE_CODE_COUNT) _ _ (le-ltb code MOVE_CODE_COUNT h)
 
@@ -69,14 +69,14 @@ pub legal_code_below : (p : Shogi) (code : ℕ) → is_legal_code p code ≡ tru
 unfolding is_legal_code
 legal_code_below p code e = grind (arith, cases_lt code MOVE_CODE_COUNT, none_beyond code)
 
--- what a code is the code of
+-- the move of a code, by its quotients and remainders
 pub board_code : (code : ℕ) → code < FIRST_DROP → move_of code ≡ Some (Board (code / 2 / 81) (code / 2 % 81) (code % 2 == 1))
 board_code code h = cond-true (nat_lt code FIRST_DROP) _ _ (lt-ltb code FIRST_DROP h)
 
 pub drop_code : (code : ℕ) → FIRST_DROP ≤ code → code < MOVE_CODE_COUNT → move_of code ≡ Some (Drop (kind_at ((code - FIRST_DROP) / 81)) ((code - FIRST_DROP) % 81))
 drop_code code low high = cond-false (nat_lt code FIRST_DROP) _ _ (le-ltb code FIRST_DROP low) ∙ cond-true (nat_lt code MOVE_CODE_COUNT) _ _ (lt-ltb code MOVE_CODE_COUNT high)
 
--- what is not safe is not legal
+-- an unsafe move is not legal
 legal_unsafe : (p : Shogi) (m : Option Move) → is_some_and_safe p m ≡ false → is_some_and_legal p m ≡ false
 unfolding is_legal
 legal_unsafe p m e = grind arith
@@ -99,7 +99,7 @@ no_piece p from code hf e low high =
 pub run_squares : (p : Shogi) (from next : ℕ) → from ≤ next → next ≤ 81 → ((n : ℕ) → from ≤ n → n < next → is_piece_of p.side (piece_at p.cells n) ≡ false) → legal_from p (from * SQUARE_CODES) ≡ legal_from p (next * SQUARE_CODES)
 run_squares p from next up h none = run_without p (from * SQUARE_CODES) (next * SQUARE_CODES) (omega arith) (omega arith) (λ c low high. no_piece p (c / SQUARE_CODES) c (omega arith) (none (c / SQUARE_CODES) (omega arith) (omega arith)) (omega arith) (omega arith))
 
--- the squares of a set are those of the side's pieces from a square on
+-- the set has the squares of the side's pieces at or above a square
 pub record HasPiecesFrom (p : Shogi) (left first : ℕ) : Type 0 where
   pub within : first ≤ 81
   pub below : (n : ℕ) → n < first → has_bit left n ≡ false
@@ -108,7 +108,7 @@ pub record HasPiecesFrom (p : Shogi) (left first : ℕ) : Type 0 where
 pub pieces_first : (p : Shogi) (own : ℕ) → ((n : ℕ) → n < 81 → has_bit own n ≡ is_piece_of p.side (piece_at p.cells n)) → HasPiecesFrom p own 0
 pieces_first p own bits = record { within = omega arith; below = λ n low. absurd (omega arith); above = λ n low high. bits n high }
 
--- the lowest of them is the next piece, and the legal moves from its square on are the same
+-- the lowest of the set is the next piece, and no legal move starts before it
 pub next_piece : (p : Shogi) (left first square : ℕ) → HasPiecesFrom p left first → square < 81 → has_bit left square ≡ true → ((n : ℕ) → has_bit left n ≡ true → square ≤ n)
     → (first ≤ square) × (is_piece_of p.side (piece_at p.cells square) ≡ true) × (legal_from p (first * SQUARE_CODES) ≡ legal_from p (square * SQUARE_CODES))
 next_piece p left first square h range on least =
@@ -130,7 +130,7 @@ pub in_legal : (p : Shogi) (first code : ℕ) → first ≤ code → is_legal_co
 unfolding legal_from codes_from
 in_legal p first code low e = let high : code < MOVE_CODE_COUNT = legal_code_below p code e in passes_kept (is_legal_code p) (MOVE_CODE_COUNT - first) first code low (omega arith) e
 
--- a legal move above another one is among the legal moves
+-- a legal move above a given one is among the legal moves above it
 pub legal_above_in : (p : Shogi) (passed : Option Move) (code : ℕ) → is_in code (legal_above p passed) ≡ true → is_in code (legal_codes p) ≡ true
 legal_above_in p None code h = h
 legal_above_in p (Some m) code h = in_legal p 0 code (omega arith) (legal_in p (code_of m + 1) code h)
@@ -140,7 +140,7 @@ pub is_legal_code_of : (p : Shogi) (code : ℕ) (m : Move) → move_of code ≡ 
 unfolding is_legal_code
 is_legal_code_of p code m e = ap (is_some_and_legal p) e
 
--- what the move of a code leaves
+-- the position after a code is that after its move
 pub after_code_at : (p : Shogi) (code : ℕ) (m : Move) → move_of code ≡ Some m → after_code p code ≡ after p m
 unfolding after_code
 after_code_at p code m e = ap (after_some p) e
@@ -149,7 +149,7 @@ after_code_at p code m e = ap (after_some p) e
 pub after_code_of : (p : Shogi) (m : Move) → move_of (code_of m) ≡ Some m → after_code p (code_of m) ≡ after p m
 after_code_of p m e = after_code_at p (code_of m) m e
 
--- a move is legal exactly where its code is in the list
+-- a move is legal exactly if its code is in the list
 pub legal_to_listed : (p : Shogi) (m : Move) → move_of (code_of m) ≡ Some m → is_legal p m ≡ true → is_in (code_of m) (legal_codes p) ≡ true
 legal_to_listed p m back e = in_legal p 0 (code_of m) (omega arith) (is_legal_code_of p (code_of m) m back ∙ e)
 

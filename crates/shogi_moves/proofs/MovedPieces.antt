@@ -16,7 +16,7 @@ use Rattle.shogi_core.specs.Cell.{is_king_role, is_pawn_role, is_king, is_pawn}
 use Rattle.shogi_moves.specs.After.{piece_moved, with_captured, with_one_more}
 use Rattle.shogi_moves.proofs.Counts.{tally, hand_added}
 
--- promotion keeps the kind and the kingship, and ends a pawn
+-- promotion keeps the kind, keeps a king a king, and ends a pawn
 pub kind_of-promoted : (role : Role) → kind_of (promoted role) ≡ kind_of role
 kind_of-promoted role = grind arith
 
@@ -26,14 +26,14 @@ is_king_role-promoted role = grind arith
 pub is_pawn_role-promoted : (role : Role) → is_pawn_role (promoted role) ≡ false
 is_pawn_role-promoted role = grind arith
 
--- a move keeps the kind and the kingship of a piece
+-- a move keeps a piece's kind and keeps a king a king
 pub is_of_kind-piece_moved : (kind : Kind) (promote : Bool) (cell : Option Piece) → is_of_kind kind (piece_moved promote cell) ≡ is_of_kind kind cell
 is_of_kind-piece_moved kind promote cell = grind (arith, kind_of-promoted)
 
 pub is_king-piece_moved : (color : Color) (promote : Bool) (cell : Option Piece) → is_king color (piece_moved promote cell) ≡ is_king color cell
 is_king-piece_moved color promote cell = grind (arith, is_king_role-promoted)
 
--- what has promoted is no pawn
+-- a promoted piece is no pawn
 pub is_pawn-promoted : (color : Color) (cell : Option Piece) → is_pawn color (piece_moved true cell) ≡ false
 is_pawn-promoted color cell = grind (arith, is_pawn_role-promoted)
 
@@ -41,7 +41,7 @@ is_pawn-promoted color cell = grind (arith, is_pawn_role-promoted)
 pub is_pawn-piece_moved : (color : Color) (promote : Bool) (cell : Option Piece) → is_pawn color (piece_moved promote cell) ≡ true → is_pawn color cell ≡ true
 is_pawn-piece_moved color promote cell e = grind (arith, is_pawn-promoted)
 
--- one more in either hand is one more in both
+-- one more in either hand is one more in both together
 one_more : (hands : HandCounts) (side : Color) (taken : Option Kind) (kind : Kind) → length hands ≡ 14
     → count_in_hand (with_one_more hands side taken) Black kind + count_in_hand (with_one_more hands side taken) White kind ≡ count_in_hand hands Black kind + count_in_hand hands White kind + tally (is_role_of_kind kind taken)
 one_more hands side None kind len = omega arith
@@ -54,7 +54,7 @@ pub hands-with_captured : (hands : HandCounts) (side : Color) (cell : Option Pie
 hands-with_captured hands side None kind len = omega arith
 hands-with_captured hands side (Some piece) kind len = one_more hands side (kind_of piece.role) kind len
 
--- where the file stays, so does the square's
+-- a square made of a file and a rank is on that file
 square_at_file : (m : ℕ) (r : ℤ) (b : ℕ) → is_same_square (square_at (pos m) r) b ≡ true → b / 9 ≡ m
 square_at_file m r b e = grind arith
 
@@ -77,6 +77,6 @@ pub pawn_stays_on_file : (cells : Cells) (color : Color) (a b : ℕ) → is_pawn
 unfolding reaches
 pawn_stays_on_file cells color a b pawn e = cell_stays cells color (piece_at cells a) a b pawn e
 
--- the other side of the other side
+-- the opponent's opponent is the side itself
 pub opponent_twice : (side : Color) → opponent_of (opponent_of side) ≡ side
 opponent_twice side = grind arith

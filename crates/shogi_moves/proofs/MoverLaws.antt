@@ -23,7 +23,7 @@ use Rattle.shogi_moves.proofs.CaptureLaws.{HasMatchingOn}
 use Rattle.shogi_moves.proofs.DestinationLaws.{matching_board}
 use Rattle.shogi_moves.proofs.SweepLaws.{at_code}
 
--- ---- squares near one another lie some places apart
+-- ---- index distances of near squares
 
 abbrev lie_apart : ℕ → ℕ → ℕ → Bool
 lie_apart d a b = b == a + d || a == b + d
@@ -41,7 +41,7 @@ right a b h l =
     let two : (a * 81 + b) % 81 ≡ b = omega arith in
     subst (λ (x : ℕ). is_right x b ≡ true) one (subst (λ (y : ℕ). is_right ((a * 81 + b) / 81) y ≡ true) two (right_at (a * 81 + b) (omega arith)))
 
--- ---- bits that are moved
+-- ---- shifted bits
 
 pub moved_down : (mask places a b : ℕ) → b ≡ a + places → has_bit mask b ≡ true → has_bit (mask / 2 ^ places) a ≡ true
 moved_down mask places a b at set = has_bit-shr mask places a ∙ subst (λ (x : ℕ). has_bit mask x ≡ true) (let same : b ≡ places + a = omega (arith, at) in same) set
@@ -58,7 +58,7 @@ moved_up mask places a b low few at set =
 pub moved_either : (down up a : ℕ) → (has_bit down a ≡ true) ⊎ (has_bit up a ≡ true) → has_bit (bit_or down up) a ≡ true
 moved_either down up a e = grind (arith, has_bit-or down up a)
 
--- ---- the squares near some
+-- ---- the squares near a set
 
 pub near_bits : (a b next behind before : ℕ) → a < 81 → b < 81 → is_near b a ≡ true → ((b ≡ a + 1) ⊎ (a ≡ b + 1) → has_bit next a ≡ true)
     → ((k : ℕ) → k ≤ 4 → a ≡ b + k + 7 → has_bit behind a ≡ true) → ((k : ℕ) → k ≤ 4 → b + k ≡ a + 11 → has_bit before a ≡ true)
@@ -94,7 +94,7 @@ near_bits a b next behind before ha hb near one up down =
       | inr at ↦ or_left _ _ (or_right (has_bit next a) _ (up (d - 7) (omega arith) (omega (arith, at))))
     ]
 
--- some bits, raised by up to four places in three turns
+-- bits spread up to four places up by three shifts
 pub five_bits : (mask one two four n k : ℕ) → k ≤ 4 → ((i : ℕ) → has_bit mask i ≡ true → has_bit one (i + 1) ≡ true) → ((i : ℕ) → has_bit (bit_or mask one) i ≡ true → has_bit two (i + 2) ≡ true) → ((i : ℕ) → has_bit mask i ≡ true → has_bit four (i + 4) ≡ true)
     → has_bit mask n ≡ true → has_bit (bit_or (bit_or (bit_or mask one) two) four) (n + k) ≡ true
 five_bits mask one two four n k few by_one by_two by_four set =
@@ -114,7 +114,7 @@ reaches_none p pieces sliders near n t hn ht set out slides close = false_from_n
 not_matching : (p : Shogi) (capture promote : Bool) (from n : ℕ) → length p.cells ≡ 81 → from < 81 → n < 81 → is_piece_of p.side (piece_at p.cells from) ≡ true → (reaches p.cells from n && is_destination capture p.side (piece_at p.cells n)) ≡ false → is_matching p capture (code_of (Board from n promote)) ≡ false
 not_matching p capture promote from n len hf hn own none = matching_board p capture promote from n len hf hn own ∙ (rw none refl)
 
--- so the moves to come are of the others
+-- the moves to come are those of the movers
 pub on_movers : (p : Shogi) (capture : Bool) (pieces left code : ℕ) → length p.cells ≡ 81 → HasMatchingOn p capture code pieces → ((n : ℕ) → n < 81 → has_bit pieces n ≡ true → is_piece_of p.side (piece_at p.cells n) ≡ true)
     → ((n t : ℕ) → n < 81 → t < 81 → has_bit pieces n ≡ true → has_bit left n ≡ false → (reaches p.cells n t && is_destination capture p.side (piece_at p.cells t)) ≡ false) → HasMatchingOn p capture code left
 on_movers p capture pieces left code len w mine none = record {

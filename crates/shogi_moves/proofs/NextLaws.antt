@@ -1,4 +1,4 @@
--- The least legal move from a code on, by the destinations of a piece or of a held kind.
+-- The least legal move at or above a code, by the destinations of a piece or of a kind in hand.
 use Rattle.std.proofs.Common.{◌≡◌, ℕ, ◌+◌, ◌*◌, ◌<◌, ◌≤◌, Bool, true, false, not, List, [], ◌∷◌, Option, None, Some, sym, ◌∙◌, arith, inl, inr, bit_or, ap}
 use Rattle.std.specs.Prelude.{IsNone, IfSome}
 use Rattle.std.proofs.lemmas.Bool.{cases_Bool, or_cases, both_ways}
@@ -19,7 +19,7 @@ use Rattle.shogi_moves.specs.Walks.{IsNextOf, TakesNext}
 use Rattle.shogi_moves.proofs.LegalLaws.{is_legal_code_of, legal_from_found, no_piece, run_without}
 use Rattle.shogi_moves.proofs.SweepLaws.{keeps_first, keeps_from, fails_all, fails_to_plain, fails_to_promoting, all_drops}
 
--- the first legal move from a code on
+-- the first legal move at or above a code
 pub record IsLeast (p : Shogi) (code : ℕ) (m : Move) : Type 0 where
   pub next : legal_from p code ≡ code_of m ∷ legal_from p (code_of m + 1)
   pub legal : is_legal p m ≡ true
@@ -34,11 +34,11 @@ least_at p code m back small low legal none = record {
 pub nobody : (p : Shogi) (from code : ℕ) → from < 81 → from * SQUARE_CODES ≤ code → code ≤ from * SQUARE_CODES + SQUARE_CODES → is_piece_of p.side (piece_at p.cells from) ≡ false → legal_from p code ≡ legal_from p (from * SQUARE_CODES + SQUARE_CODES)
 nobody p from code hf low high e = run_without p code (from * SQUARE_CODES + SQUARE_CODES) high (omega arith) (λ c above under. no_piece p from c hf e (omega arith) under)
 
--- it has no destination
+-- a square without an own piece has no destination
 pub nowhere : (p : Shogi) (promote : Bool) (from n : ℕ) → from < 81 → n < 81 → is_piece_of p.side (piece_at p.cells from) ≡ false → has_bit 0 n ≡ is_legal_code p (code_of (Board from n promote))
 nowhere p promote from n hf h e = grind (arith, has_bit-none n, no_piece p from (code_of (Board from n promote)) hf e)
 
--- the destinations from a code on, of all destinations
+-- the destinations at or above a code, among all
 pub destinations_from : (p : Shogi) (promote : Bool) (from code destinations less to : ℕ) → ((n : ℕ) → n < 81 → has_bit destinations n ≡ is_legal_code p (code_of (Board from n promote))) → from * SQUARE_CODES ≤ code
     → ((n : ℕ) → n < to → code_of (Board from n promote) < code) → ((n : ℕ) → to ≤ n → code ≤ code_of (Board from n promote)) → ((i : ℕ) → i < 81 → to ≤ i → has_bit less i ≡ has_bit destinations i) → ((i : ℕ) → i < to → has_bit less i ≡ false)
     → Keeps (is_legal_code p) (λ n. code_of (Board from n promote)) code less
@@ -53,7 +53,7 @@ module _ (p : Shogi) (from code non_promoting promoting : ℕ) (hf : from < 81) 
   pub no_destination : code ≤ from * SQUARE_CODES + SQUARE_CODES → bit_or non_promoting promoting ≡ 0 → legal_from p code ≡ legal_from p (from * SQUARE_CODES + SQUARE_CODES)
   no_destination high none = run_without p code (from * SQUARE_CODES + SQUARE_CODES) high (omega arith) (fails_all (is_legal_code p) from code non_promoting promoting low a b none)
 
-  -- without promotion first
+  -- the least move is the one without promotion if both are legal
   pub least_destination : (to : ℕ) → to < 81 → ((n : ℕ) → has_bit (bit_or non_promoting promoting) n ≡ true → to ≤ n) → has_bit (bit_or non_promoting promoting) to ≡ true → IsLeast p code (Board from to (not (has_bit non_promoting to)))
   least_destination to ht least set = elim (cases_Bool (has_bit non_promoting to)) [
     | inl here ↦ (
@@ -71,7 +71,7 @@ on_board from to promote hf ht = grind arith
 pub takes_drop : (codes old new : List ℕ) (found : Option Move) → codes ≡ old → IsNextOf found old new [] → (IsNone found → new ≡ []) → TakesNext found codes new
 takes_drop codes old new found same next end = grind arith
 
--- and the moves above it are left
+-- the drops above the next one are left
 pub above_drop : (p : Shogi) (new : ℕ) (found : Option Move) → FIRST_DROP ≤ new → IfSome found (λ m. new ≡ code_of m + 1) → IfSome found (λ m. matching_from p false new ≡ legal_from p (code_of m + 1))
 above_drop p new None low at = at
 above_drop p new (Some m) low at = all_drops p new low ∙ ap (legal_from p) at

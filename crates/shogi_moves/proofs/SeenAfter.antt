@@ -1,4 +1,4 @@
--- The board after a move, by sets of squares of the board before it.
+-- The board after a move, by sets of squares of the board before.
 use Rattle.std.proofs.Common.{◌≡◌, ◌≢◌, ℕ, ◌<◌, ◌⊎◌, Bool, true, false, refl, sym, ap, ◌∙◌, arith, Option, None, set, length, get_or-set_same, get_or-set_other, length-set}
 use Rattle.std.specs.Prelude.{◌==◌, ◌&&◌, ◌||◌, not, is_none}
 use Rattle.std.proofs.lemmas.Bool.{cases_eq, both_ways, ne_eqb, eq-eqb}
@@ -20,12 +20,12 @@ use Rattle.shogi_moves.proofs.KingLaws.{king_own}
 use Rattle.shogi_moves.proofs.MovedPieces.{is_king-piece_moved}
 use Rattle.shogi_core.proofs.Discovered.{some_below_which}
 
--- a side is in check where its only king is attacked
+-- a side is in check exactly if its only king is attacked
 pub lone_attacked : (cells : Cells) (side : Color) (k : ℕ) → k < 81 → is_king side (piece_at cells k) ≡ true → HasNoOtherKing cells side k → is_attacked cells (opponent_of side) k ≡ in_check cells side
 unfolding in_check
 lone_attacked cells side k h king lone = grind (arith, some_below_at 81 (is_open_king cells side) k h, some_below_which 81 (is_open_king cells side), lone)
 
--- this stands on `to`, nothing on the squares that are left, and all else as before
+-- on the new board `to` holds the piece, the squares left are empty, and all else is as before
 abbrev Stands : Cells → Cells → ℕ → Option Piece → (ℕ → Bool) → ℕ → Type 0
 Stands cells new to v gone x = ((x ≡ to) × (piece_at new x ≡ v)) ⊎ ((x ≢ to) × (((gone x ≡ true) × (piece_at new x ≡ None)) ⊎ ((gone x ≡ false) × (piece_at new x ≡ piece_at cells x))))
 
@@ -45,11 +45,11 @@ module _ (cells new : Cells) (side : Color) (to : ℕ) (v : Option Piece) (gone 
     seen_after : IsSeenAs cells among occupied (opponent_of side) new
     seen_after = record { attackers = attackers_after; pieces = pieces_after; same = same_after }
 
-  -- the only king has gone to the square
+  -- the only king has gone to `to`
   lone_moved : (k : ℕ) → gone k ≡ true → HasNoOtherKing cells side k → HasNoOtherKing new side to
   lone_moved k away lone x h other = grind (arith, stands x, lone x h)
 
-  -- another piece moved or was dropped
+  -- another piece moved or was dropped, and the king stays
   king_kept : (k : ℕ) → gone k ≡ false → k ≢ to → piece_at new k ≡ piece_at cells k
   king_kept k stays off = grind (arith, stands k)
 
@@ -58,7 +58,7 @@ module _ (cells new : Cells) (side : Color) (to : ℕ) (v : Option Piece) (gone 
 
 -- ---- a piece on the board moves
 
--- what comes to stand, and the cells then
+-- the piece that comes to stand on `to`, and the cells then
 abbrev mover : Shogi → ℕ → Bool → Option Piece
 mover p from promote = piece_moved promote (piece_at p.cells from)
 

@@ -1,4 +1,4 @@
--- Ways through the legal moves of a kind.
+-- Sweeps through the legal moves of a kind.
 use Rattle.std.proofs.Common.{◌≡◌, ◌≢◌, ℕ, ◌+◌, ◌-◌, ◌*◌, ◌/◌, ◌%◌, ◌<◌, ◌≤◌, ◌⊎◌, Bool, true, false, not, Some, List, [], filter, bit_and, ◌∷◌, refl, sym, ap, ◌∙◌, arith, inl, inr, subst, bit_or}
 use Rattle.std.specs.Prelude.{◌&&◌, ◌==◌}
 use Rattle.std.proofs.lemmas.Bool.{cases_Bool, cases_eq, eq-eqb, and_parts, both_ways, cases_lt, or_left, or_right, or_parts, false_from_ne_true, true_from_ne_false, cond-true}
@@ -40,7 +40,7 @@ least_plain non_promoting promoting to least n e = least n (has_bit-or non_promo
 pub least_promoting : (non_promoting promoting to : ℕ) → ((n : ℕ) → has_bit (bit_or non_promoting promoting) n ≡ true → to ≤ n) → (n : ℕ) → has_bit promoting n ≡ true → to ≤ n
 least_promoting non_promoting promoting to least n e = least n (has_bit-or non_promoting promoting n ∙ or_right (has_bit non_promoting n) (has_bit promoting n) e)
 
--- ---- what is kept of some squares
+-- ---- a held set of squares
 
 pub keeps_first : (test : ℕ → Bool) (place : ℕ → ℕ) (code mask : ℕ) → ((n : ℕ) → n < 81 → has_bit mask n ≡ test (place n)) → ((n : ℕ) → code ≤ place n) → Keeps test place code mask
 keeps_first test place code mask bits low = record {
@@ -48,7 +48,7 @@ keeps_first test place code mask bits low = record {
   clear = λ n h e _. sym (bits n h) ∙ e;
 }
 
--- the codes below those of the first square that is left
+-- no code passes below that of the first square left
 keeps_later : (test : ℕ → Bool) (place : ℕ → ℕ) (code next mask : ℕ) → Keeps test place code mask → code ≤ next → ((n : ℕ) → n < 81 → has_bit mask n ≡ true → next ≤ place n) → Keeps test place next mask
 keeps_later test place code next mask k up above = record {
   set = λ n h e. (above n h e, (k.set n h e).1);
@@ -62,7 +62,7 @@ keeps_less test place code next mask less to k up bits above gone = record {
   clear = λ n h e l. grind (arith, cases_eq n to, bits n, k.clear n h);
 }
 
--- what is left from a square on
+-- the squares left at or above a square
 pub keeps_from : (test : ℕ → Bool) (place : ℕ → ℕ) (code next mask less to : ℕ) → Keeps test place code mask → code ≤ next → ((n : ℕ) → n < to → place n < next) → ((n : ℕ) → to ≤ n → next ≤ place n) → ((i : ℕ) → i < 81 → to ≤ i → has_bit less i ≡ has_bit mask i) → ((i : ℕ) → i < to → has_bit less i ≡ false) → Keeps test place next less
 keeps_from test place code next mask less to k up falls rises same none = record {
   set = λ n h e. grind (arith, cases_lt n to, none n, rises n, same n h, k.set n h);
@@ -74,26 +74,26 @@ keeps_from test place code next mask less to k up falls rises same none = record
 pub either : (non_promoting promoting n : ℕ) → bit_or non_promoting promoting ≡ 0 → (has_bit non_promoting n ≡ false) × (has_bit promoting n ≡ false)
 either non_promoting promoting n none = or_parts (has_bit non_promoting n) (has_bit promoting n) (sym (has_bit-or non_promoting promoting n) ∙ (ap (λ m. has_bit m n) none ∙ has_bit-none n))
 
--- neither end below the first is one
+-- no destination lies below the first
 below : (non_promoting promoting to : ℕ) → ((n : ℕ) → has_bit (bit_or non_promoting promoting) n ≡ true → to ≤ n) → (n : ℕ) → n < to → (has_bit non_promoting n ≡ false) × (has_bit promoting n ≡ false)
 below non_promoting promoting to least n h = or_parts (has_bit non_promoting n) (has_bit promoting n) (sym (has_bit-or non_promoting promoting n) ∙ false_from_ne_true (has_bit (bit_or non_promoting promoting) n) (λ e. (let le : to ≤ n = least n e in omega arith)))
 
--- a code of the piece is that of an end, without or with promotion
+-- a code of the piece is that of a destination, without or with promotion
 pub at_code : (from c : ℕ) → from * SQUARE_CODES ≤ c → c < from * SQUARE_CODES + SQUARE_CODES → (c ≡ code_of (Board from (c / 2 % 81) false)) ⊎ (c ≡ code_of (Board from (c / 2 % 81) true))
 at_code from c low high = elim (cases_eq (c % 2) 0) [ inl even ↦ inl (omega arith) | inr odd ↦ inr (omega arith) ]
 
--- the destinations of a piece from a code on, whose codes pass a test
+-- the destinations of a piece whose codes are at or above `code` and pass a test
 module _ (test : ℕ → Bool) (from code non_promoting promoting : ℕ) (low : from * SQUARE_CODES ≤ code) (a : Keeps test (λ n. code_of (Board from n false)) code non_promoting) (b : Keeps test (λ n. code_of (Board from n true)) code promoting) where
   fails_at : (c : ℕ) → code ≤ c → c < from * SQUARE_CODES + SQUARE_CODES → (c ≡ code_of (Board from (c / 2 % 81) false) → has_bit non_promoting (c / 2 % 81) ≡ false) → (c ≡ code_of (Board from (c / 2 % 81) true) → has_bit promoting (c / 2 % 81) ≡ false) → test c ≡ false
   fails_at c above under x y = grind (arith, at_code from c, a.clear (c / 2 % 81), b.clear (c / 2 % 81))
 
-  -- there is none
+  -- without destinations no code passes
   pub fails_all : bit_or non_promoting promoting ≡ 0 → (c : ℕ) → code ≤ c → c < from * SQUARE_CODES + SQUARE_CODES → test c ≡ false
   fails_all none c above under =
       let out = either non_promoting promoting (c / 2 % 81) none in
       fails_at c above under (λ _. out.0) (λ _. out.1)
 
-  -- none comes before the lowest
+  -- no code passes below that of the lowest destination
   pub fails_to_plain : (to : ℕ) → to < 81 → ((n : ℕ) → has_bit (bit_or non_promoting promoting) n ≡ true → to ≤ n) → (c : ℕ) → code ≤ c → c < code_of (Board from to false) → test c ≡ false
   fails_to_plain to ht least c above under =
       let out = below non_promoting promoting to least (c / 2 % 81) (omega arith) in
@@ -165,7 +165,7 @@ module _ (p : Shogi) (capture : Bool) (from code non_promoting promoting to : �
       let here : (code ≤ code_of (Board from to true)) × (is_matching p capture (code_of (Board from to true)) ≡ true) = k.promotings.set to ht e in
       taken_from p capture code (Board from to true) (move_of-board from to true hf ht) (omega arith) here.0 here.1 (record { none = fails_to_promoting (is_matching p capture) from code non_promoting promoting low k.plains k.promotings to ht least out })
 
-  -- it is the lowest, without promotion first
+  -- the first code is that of the lowest destination, without promotion first
   pub least_taken : has_bit (bit_or non_promoting promoting) to ≡ true → IsTaken p capture code (Board from to (not (has_bit non_promoting to)))
   least_taken e = elim (cases_Bool (has_bit non_promoting to)) [
     | inl here ↦ rw here (plain_taken here)
@@ -201,14 +201,14 @@ pub mine_first : (p : Shogi) (own left from : ℕ) → ((n : ℕ) → n < 81 →
     → (n : ℕ) → n < 81 → has_bit left n ≡ true → (from < n) × (is_piece_of p.side (piece_at p.cells n) ≡ true)
 mine_first p own left from bits above below n h set = grind (arith, cases_lt from n, bits n h, above n h, below n h)
 
--- one more piece that has none
+-- one more piece without a move
 pub on_less : (p : Shogi) (capture : Bool) (left less from code non_promoting promoting : ℕ) → HasMatchingOn p capture code left → KeepsBoard p capture from (from * SQUARE_CODES) non_promoting promoting → bit_or non_promoting promoting ≡ 0
     → ((i : ℕ) → has_bit less i ≡ (has_bit left i && not (i == from))) → HasMatchingOn p capture code less
 on_less p capture left less from code non_promoting promoting w k none bits = record {
   on = λ c low high matching. grind (arith, (none_left p capture from (from * SQUARE_CODES) non_promoting promoting k none).none c, bits (c / SQUARE_CODES), w.on c low high matching);
 }
 
--- up to the next piece, and to the end of the board
+-- no move up to the next piece, and none up to the end of the board
 pub on_none : (p : Shogi) (capture : Bool) (left next code : ℕ) → HasMatchingOn p capture code left → next < 81 → ((n : ℕ) → has_bit left n ≡ true → next ≤ n) → HasNoneMatching p capture code (next * SQUARE_CODES)
 on_none p capture left next code w h least = record {
   none = λ c low high. false_from_ne_true (is_matching p capture c) (λ matching. (let le : next ≤ c / SQUARE_CODES = least (c / SQUARE_CODES) (w.on c low (omega arith) matching) in omega arith));
@@ -223,18 +223,18 @@ keeps_kind p kind destinations bits = record {
   drops = keeps_first (is_matching p false) (λ n. code_of (Drop kind n)) (FIRST_DROP + kind_number kind * 81) destinations bits (λ n. omega arith);
 }
 
--- the destinations of a kind from a code on, whose codes pass a test
+-- the squares of a kind whose codes are at or above `code` and pass a test
 module _ (test : ℕ → Bool) (kind : Kind) (code destinations : ℕ) (low : FIRST_DROP + kind_number kind * 81 ≤ code) (a : Keeps test (λ n. code_of (Drop kind n)) code destinations) where
   fails_drop : (c : ℕ) → code ≤ c → c < FIRST_DROP + 81 + kind_number kind * 81 → has_bit destinations (c - FIRST_DROP - kind_number kind * 81) ≡ false → test c ≡ false
   fails_drop c above under out =
       let at : c ≡ code_of (Drop kind (c - FIRST_DROP - kind_number kind * 81)) = omega arith in
       ap test at ∙ a.clear (c - FIRST_DROP - kind_number kind * 81) (omega arith) out (omega arith)
 
-  -- there is none
+  -- without squares no code passes
   pub fails_drops : destinations ≡ 0 → (c : ℕ) → code ≤ c → c < FIRST_DROP + 81 + kind_number kind * 81 → test c ≡ false
   fails_drops none c above under = fails_drop c above under (ap (λ (m : ℕ). has_bit m (c - FIRST_DROP - kind_number kind * 81)) none ∙ has_bit-none (c - FIRST_DROP - kind_number kind * 81))
 
-  -- none comes before the lowest
+  -- no code passes below that of the lowest square
   pub fails_to_drop : (to : ℕ) → to < 81 → ((n : ℕ) → has_bit destinations n ≡ true → to ≤ n) → (c : ℕ) → code ≤ c → c < code_of (Drop kind to) → test c ≡ false
   fails_to_drop to ht least c above under =
       fails_drop c above (omega arith)
@@ -243,7 +243,7 @@ module _ (test : ℕ → Bool) (kind : Kind) (code destinations : ℕ) (low : FI
 pub no_drop_left : (p : Shogi) (kind : Kind) (code : ℕ) → KeepsDrop p kind code 0 → HasNoneMatching p false code (FIRST_DROP + 81 + kind_number kind * 81)
 no_drop_left p kind code k = record { none = fails_drops (is_matching p false) kind code 0 k.low k.drops refl }
 
--- one more kind that has none
+-- one more kind without a drop
 pub no_drop_more : (p : Shogi) (kind next : Kind) (code : ℕ) → HasNoneMatching p false code (FIRST_DROP + 81 + kind_number kind * 81) → kind_number next ≡ kind_number kind + 1 → KeepsDrop p next (FIRST_DROP + kind_number next * 81) 0 → HasNoneMatching p false code (FIRST_DROP + 81 + kind_number next * 81)
 no_drop_more p kind next code before e k =
     let here : FIRST_DROP + 81 + kind_number kind * 81 ≡ FIRST_DROP + kind_number next * 81 = omega arith in
@@ -282,7 +282,7 @@ all_drops p code low = filter_all (matches_kind p false) (legal_from p code) (λ
     let under : n < MOVE_CODE_COUNT = legal_code_below p n (legal_in p code n h) in
     ap not (matches_kind_of p n _ (drop_code n (omega arith) under)))
 
--- ---- what is kept of some squares whose first are passed
+-- ---- a held set without its first squares
 
 keeps_nothing : (test : ℕ → Bool) (place : ℕ → ℕ) (code squares : ℕ) → squares ≡ 0 → ((n : ℕ) → n < 81 → place n < code) → Keeps test place code squares
 keeps_nothing test place code squares none over = record {

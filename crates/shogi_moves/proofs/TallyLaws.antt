@@ -1,4 +1,4 @@
--- The legal moves are counted by the bits of their destinations.
+-- The number of legal moves is that of the bits of their destinations.
 use Rattle.std.proofs.Common.{◌≡◌, ℕ, ◌+◌, ◌*◌, ◌/◌, ◌%◌, ◌^◌, ◌<◌, ◌≤◌, Bool, true, false, not, cond, refl, sym, ap, ◌∙◌, arith, length}
 use Rattle.std.specs.Prelude.{zero, suc, ◌==◌, ◌&&◌, bit_or, count_ones}
 use Rattle.std.specs.Int.{bit_at}
@@ -27,7 +27,7 @@ use Rattle.shogi_moves.proofs.LegalLaws.{legal_from_found, legal_from_skips, Has
 abbrev digit : Bool → ℕ
 digit b = cond b 1 0
 
--- how many of the numbers below k pass
+-- how many of the numbers below k pass the test
 unfoldable pub tally : ℕ → (ℕ → Bool) → ℕ
 tally zero test = 0
 tally (suc k) test = cond (test 0) 1 0 + tally k (λ i. test (i + 1))
@@ -50,7 +50,7 @@ higher_digit : (m i : ℕ) → has_bit (m / 2) i ≡ has_bit m (i + 1)
 unfolding has_bit
 higher_digit m i = let same : i + 1 ≡ suc i = omega arith in ap (λ x. x == 1) (sym (bit_at-suc m i) ∙ ap (bit_at m) (sym same))
 
--- the bits of a number of k bits
+-- the number of bits set of a number below 2 ^ k
 pub ones_tally : (k m : ℕ) → m < 2 ^ k → count_ones m ≡ tally k (has_bit m)
 unfolding tally
 ones_tally zero m h = omega (arith, ones_le_self m)
@@ -58,7 +58,7 @@ ones_tally (suc k) m h =
     let half : m / 2 < 2 ^ k = omega (arith, pow-suc 2 k) in
     ones_step m ∙ (rw (lowest_digit m, ones_tally k (m / 2) half) (ap (λ x. cond (has_bit m 0) 1 0 + x) (tally_same k (has_bit (m / 2)) (λ i. has_bit m (i + 1)) (λ i l. higher_digit m i))))
 
--- ---- a code more
+-- ---- one code more
 
 code_more : (p : Shogi) (code : ℕ) → code < MOVE_CODE_COUNT → length (legal_from p code) ≡ cond (is_legal_code p code) 1 0 + length (legal_from p (code + 1))
 code_more p code h = grind (arith, legal_from_found p code h, legal_from_skips p code h)
@@ -88,7 +88,7 @@ pairs p from (suc k) s h l =
     let qt = tally_same k (λ i. is_legal_code p (code_of (Board from (i + (s + 1)) true))) (λ i. is_legal_code p (code_of (Board from (i + 1 + s) true))) (λ i l. ap (λ (n : ℕ). is_legal_code p (code_of (Board from n true))) (omega arith)) in
     omega (arith, first, second, rest, onw, endw, pw, qw, pt, qt)
 
--- the moves of a piece are as many as the bits of its destinations
+-- a piece has one legal move for each bit of its destinations
 pub counted_board : (p : Shogi) (from non_promoting promoting : ℕ) → from < 81 → non_promoting < 2 ^ 81 → promoting < 2 ^ 81
     → ((n : ℕ) → n < 81 → has_bit non_promoting n ≡ is_legal_code p (code_of (Board from n false))) → ((n : ℕ) → n < 81 → has_bit promoting n ≡ is_legal_code p (code_of (Board from n true)))
     → length (legal_from p (from * SQUARE_CODES)) ≡ (count_ones non_promoting + count_ones promoting) + length (legal_from p (from * SQUARE_CODES + SQUARE_CODES))
@@ -138,11 +138,11 @@ counted_drop p kind destinations fits bits =
     let b = tally_same 81 (has_bit destinations) (λ i. is_legal_code p (code_of (Drop kind (i + 0)))) (λ i l. bits i l ∙ ap (λ (n : ℕ). is_legal_code p (code_of (Drop kind n))) (omega arith)) in
     omega (arith, all, startw, endw, a, b)
 
--- a set of squares has 81 bits at most
+-- a set of squares has at most 81 bits
 pub ones_most : (m : ℕ) → m < 2 ^ 81 → count_ones m ≤ 81
 ones_most m h = omega (arith, ones_tally 81 m h, tally_most 81 (has_bit m))
 
--- the legal moves from some square on are still to be counted, those of the pieces on squares of the set
+-- the moves counted and those of the pieces of the set make all legal board moves
 pub record IsCounted (p : Shogi) (left total : ℕ) : Type 0 where
   pub first : ℕ
   pub pieces : HasPiecesFrom p left first
@@ -168,7 +168,7 @@ piece_counted p left next total square non_promoting promoting h range on least 
       range = omega (arith, h.range, reached.0, a, b);
     }
 
--- ---- first the pieces on the lower 64 squares
+-- ---- the lower 64 squares come first
 
 -- no square of the set is one of the lower 64
 abbrev IsAbove : ℕ → Type 0
@@ -184,26 +184,26 @@ all_left p own low high fits bits lows above highs = record {
   range = omega arith;
 }
 
--- the bits of both once the lowest of the lower ones is gone
+-- the bits of both halves without the lowest of the lower half
 both_less : (low high next square i : ℕ) → square < 64 → IsAbove high → has_bit next i ≡ (has_bit low i && not (i == square))
     → has_bit (bit_or next high) i ≡ (has_bit (bit_or low high) i && not (i == square))
 both_less low high next square i h above less = grind (arith, has_bit-or next high i, has_bit-or low high i, above i)
 
--- the lowest of the lower ones is the lowest of both
+-- the lowest bit of the lower half is the lowest of both
 low_next : (low high square : ℕ) → low < 2 ^ 64 → IsAbove high → has_bit low square ≡ true → ((n : ℕ) → has_bit low n ≡ true → square ≤ n)
     → (square < 64) × (has_bit (bit_or low high) square ≡ true) × ((n : ℕ) → has_bit (bit_or low high) n ≡ true → square ≤ n)
 low_next low high square fits above on least =
     let under : square < 64 = grind (arith, cases_lt square 64, has_bit-above low 64 square fits) in
     (under, grind (arith, has_bit-or low high square), λ n there. grind (arith, has_bit-or low high n, least n, cases_lt n 64, above n))
 
--- it is a piece of the side to move
+-- the lowest bit of the lower half is a piece of the side to move
 pub low_own : (p : Shogi) (low high total square : ℕ) → low < 2 ^ 64 → IsAbove high → IsCounted p (bit_or low high) total → square < 81 → has_bit low square ≡ true → ((n : ℕ) → has_bit low n ≡ true → square ≤ n)
     → is_piece_of p.side (piece_at p.cells square) ≡ true
 low_own p low high total square fits above h range on least =
     let next = low_next low high square fits above on least in
     (next_piece p (bit_or low high) h.first square h.pieces range next.1 next.2).1
 
--- and is counted next
+-- the lowest bit of the lower half is counted next
 pub low_counted : (p : Shogi) (low high next total square non_promoting promoting : ℕ) → low < 2 ^ 64 → IsAbove high → IsCounted p (bit_or low high) total → square < 81 → has_bit low square ≡ true → ((n : ℕ) → has_bit low n ≡ true → square ≤ n) → ((i : ℕ) → has_bit next i ≡ (has_bit low i && not (i == square)))
     → non_promoting < 2 ^ 81 → promoting < 2 ^ 81 → ((n : ℕ) → n < 81 → has_bit non_promoting n ≡ is_legal_code p (code_of (Board square n false))) → ((n : ℕ) → n < 81 → has_bit promoting n ≡ is_legal_code p (code_of (Board square n true)))
     → IsCounted p (bit_or next high) (total + (count_ones non_promoting + count_ones promoting))

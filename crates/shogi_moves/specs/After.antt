@@ -1,4 +1,4 @@
--- What a move leaves (JSA playing rules: moves, captures, promotion, drops).
+-- The position after a move (JSA playing rules: moves, captures, promotion, drops).
 use Rattle.std.specs.Prelude.{ℕ, ◌+◌, ◌-◌, Bool, Option, Some, None, cond, slice_set}
 use Rattle.shogi_core.specs.declared.piece.Color.{Color}
 use Rattle.shogi_core.specs.declared.piece.Kind.{Kind}
@@ -10,23 +10,23 @@ use Rattle.shogi_core.specs.Movement.{Cells, piece_at}
 use Rattle.shogi_core.specs.Pieces.{opponent_of, kind_of, role_of, promoted}
 use Rattle.shogi_core.specs.Position.{Shogi, HandCounts, count_in_hand, place_of}
 
--- what stood on a square, as it stands after its move
+-- a cell's piece as it stands after its move, promoted or not
 abbrev pub piece_moved : Bool → Option Piece → Option Piece
 piece_moved promote None = None
 piece_moved promote (Some piece) =
     Some (record { color = piece.color; role = cond promote (promoted piece.role) piece.role })
 
--- a held piece as the side drops it, unpromoted
+-- the unpromoted piece that a drop of the kind puts on the board
 abbrev pub dropped : Color → Kind → Option Piece
 dropped color kind = Some (record { color = color; role = role_of kind })
 
--- one more of a kind in the side's hand; a king goes to no hand
+-- the hands with one more of the kind for the side; no kind, which is a king's, adds nothing
 abbrev pub with_one_more : HandCounts → Color → Option Kind → HandCounts
 with_one_more hands color None = hands
 with_one_more hands color (Some kind) =
     slice_set hands (place_of color kind) (count_in_hand hands color kind + 1)
 
--- a captured piece goes to the captor's hand as its unpromoted kind
+-- the hands after a capture: the captor gets the piece as its unpromoted kind
 abbrev pub with_captured : HandCounts → Color → Option Piece → HandCounts
 with_captured hands color None = hands
 with_captured hands color (Some piece) = with_one_more hands color (kind_of piece.role)
@@ -43,7 +43,7 @@ hands_after hands cells side (Board from to promote) = with_captured hands side 
 hands_after hands cells side (Drop kind to) =
     slice_set hands (place_of side kind) (count_in_hand hands side kind - 1)
 
--- the position after the move; the other side is to move
+-- the position after the move, with the other side to move
 abbrev pub after : Shogi → Move → Shogi
 after p m = record {
   cells = cells_after p.cells p.side m;
@@ -51,7 +51,7 @@ after p m = record {
   side = opponent_of p.side;
 }
 
--- the position after the move, and the same position where there is none
+-- the position after the move, unchanged if there is no move
 abbrev pub after_some : Shogi → Option Move → Shogi
 after_some p None = p
 after_some p (Some m) = after p m

@@ -4,7 +4,7 @@ use Rattle.shogi_core.specs.declared.moves.TheConstants.{FIRST_DROP, SQUARE_CODE
 use Rattle.shogi_core.specs.declared.piece.Kind.{Kind}
 use Rattle.shogi_core.specs.Pieces.{kind_number}
 
--- the code is not below those of the moves from the square, and not past the first above them
+-- the code lies among those of the moves from the square, or is the first above them
 abbrev pub IsAtSquare : ℕ → ℕ → Type 0
 IsAtSquare from code = (from * SQUARE_CODES ≤ code) × (code ≤ from * SQUARE_CODES + SQUARE_CODES)
 

@@ -39,9 +39,9 @@ pub struct SeenKing<'a> {
     ghost shows: { (n : ℕ) → n < 81 → ShowsAttack position.now seen.now from n },
 }
 
-/// A position with squares that settle most pieces at once: the promotion zone of the side to move,
-/// the squares from which a piece may promote or expose its king (`marked`), and those without a
-/// piece of that side (`enterable`).
+/// A position with squares that settle most pieces at once: `zone` in which the side to move
+/// promotes, `marked` from which a piece may promote or expose its king, and `enterable` without a
+/// piece of that side.
 #[derive(Clone, Copy)]
 pub struct Markings<'a> {
     pub known: &'a KnownPosition<'a>,

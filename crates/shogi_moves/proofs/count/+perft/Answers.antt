@@ -30,7 +30,7 @@ moves-init t c = record {
 pub moves-smaller : goal.moves-smaller
 moves-smaller t c = fewer_left c.moves.walk.codes c.next.new.self.codes _ c.in-Some.ensures.next
 
--- the move's share joins what is counted
+-- the move's share joins the count
 pub moves-preserved : goal.moves-preserved
 moves-preserved t c =
     let step = perft_by-left c.args.p.now (c.args.n - 1) (code_of c.in-Some.m) c.moves.walk.codes c.next.new.self.codes c.advance.new.p c.in-Some.ensures.next c.advance.ensures.by_code in
@@ -44,7 +44,7 @@ moves-preserved t c =
       fits = omega (arith, c.in_ok-total.ensures);
     }
 
--- where one move's share passes the greatest number, the whole does
+-- a single share beyond the greatest number makes the sum exceed it
 pub returns-in_err-count-clause-if_none : goal.returns-in_err-count-clause-if_none
 returns-in_err-count-clause-if_none t c =
     let step = perft_by-left c.args.p.now (c.args.n - 1) (code_of c.in-Some.m) c.moves.walk.codes c.next.new.self.codes c.advance.new.p c.in-Some.ensures.next c.advance.ensures.by_code in

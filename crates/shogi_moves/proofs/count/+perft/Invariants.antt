@@ -6,7 +6,7 @@ use Rattle.shogi_moves.proofs.count.+perft.Given as goal
 abbrev pub decreases-perft : goal.decreases-perft
 decreases-perft l = l.n
 
--- what is counted and what is left make the whole
+-- the count and what is left make the whole
 abbrev pub invariant-moves : goal.invariant-moves
 invariant-moves l = record {
   whole : l.total + perft_by l.p (l.n - 1) l.walk.codes ≡ perft l.p l.n;
