@@ -1,4 +1,4 @@
--- From where a piece attacks a king: where it would go from there, were it of the other colour.
+-- The squares from which a piece attacks a king are those that it would reach from the king's square in the other colour.
 use Rattle.std.proofs.Common.{◌≡◌, ℕ, ◌<◌, Bool, true, false, not, sym, ap, subst, ◌∙◌, inl, inr, Option, Some, List, [], ◌∷◌, bit_and, bit_or, arith}
 use Rattle.std.specs.Prelude.{◌&&◌, ◌==◌}
 use Rattle.std.specs.List.{list_any, list_all}
@@ -18,7 +18,7 @@ use Rattle.shogi_core.proofs.SeenLaws.{leads_back, slides_back}
 use Rattle.shogi_replies.specs.ReplyInfo.{IsHarmless, Sees}
 use Rattle.shogi_replies.proofs.ReplyLaws.{harmless_far}
 
--- from a square that is not in the set the piece attacks none of the kings of the side that are not left
+-- from squares outside the set the piece attacks none of the side's kings that are not left to look at
 pub record ChecksWithin (cells : Cells) (side : Color) (cell : Option Piece)
     (left checks : ℕ) : Type 0 where
   pub harmless : (k n : ℕ) → k < 81 → n < 81 → is_king side (piece_at cells k) ≡ true
@@ -26,7 +26,7 @@ pub record ChecksWithin (cells : Cells) (side : Color) (cell : Option Piece)
 
 -- ---- moves run both ways
 
--- a test that holds of some of the ways of a list holds of some of those of another that has them all
+-- a test that holds for one of some offsets holds for one of a list that includes them
 among_ways : (test : Offset → Bool) (g h : Offset → Offset) (os ds : List Offset) → list_all (λ o. list_any (λ d. same_way (g o) (h d)) ds) os ≡ true → list_any (λ o. test (g o)) os ≡ true → list_any (λ d. test (h d)) ds ≡ true
 among_ways test g h [] ds each e = absurd (cc)
 among_ways test g h (o ∷ os) ds each e =
@@ -72,13 +72,13 @@ checks_more cells side piece left next checks king squares c bits s = record {
       ];
 }
 
--- ---- squares on which a piece may give check
+-- ---- squares on which a piece gives check
 
--- those of some squares that are not seen
+-- destinations outside the king view
 pub unseen_squares : (destinations king_view n : ℕ) → has_bit destinations n ≡ true → has_bit (bit_and destinations king_view) n ≡ false → has_bit king_view n ≡ false
 unseen_squares destinations king_view n set out = false_from_ne_true (has_bit king_view n) (λ seen. both_ways (has_bit (bit_and destinations king_view) n) out (has_bit-and destinations king_view n ∙ and_from _ _ set seen))
 
--- seen or not, there it gives none
+-- outside the set the piece gives no check, whether in the king view or not
 pub not_checking : (cells : Cells) (side : Color) (cell : Option Piece) (destinations king_view checks n : ℕ) → Sees cells side 0 king_view → ((i : ℕ) → i < 81 → has_bit checks i ≡ false → IsHarmless cells side cell i) → n < 81 → has_bit destinations n ≡ true → has_bit (bit_and (bit_and destinations king_view) checks) n ≡ false → IsHarmless cells side cell n
 not_checking cells side cell destinations king_view checks n s c h set out = elim (cases_Bool (has_bit king_view n)) [
   | inl seen ↦ c n h (grind (arith, has_bit-and (bit_and destinations king_view) checks n, has_bit-and destinations king_view n))

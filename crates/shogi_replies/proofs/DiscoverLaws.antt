@@ -28,13 +28,13 @@ use Rattle.shogi_replies.specs.ReplyInfo.{IsHarmless, IsReplyInfo, DiscoversNoCh
 use Rattle.shogi_replies.proofs.ReplyLaws.{crown_board, lands_board, legal_own, moved_own, opened_board, see_board, shut_board}
 use Rattle.shogi_moves.proofs.MovedPieces.{opponent_twice}
 
--- ---- what slides after it moved
+-- ---- sliders after their move
 
 either : (f g h : Offset → Bool) (os : List Offset) → ((o : Offset) → f o ≡ true → (g o ≡ true) ⊎ (h o ≡ true)) → list_any f os ≡ true → (list_any g os ≡ true) ⊎ (list_any h os ≡ true)
 either f g h [] k e = absurd (cc)
 either f g h (o ∷ os) k e = grind (arith, k o, either f g h os k)
 
--- what slides once it is promoted slid so before
+-- a piece that slides after promotion slides before it
 slid_before : (role : Role) (test : Offset → Bool) → list_any test (slides_of (promoted role)) ≡ true → list_any test (slides_of role) ≡ true
 slid_before role test e = grind arith
 
@@ -45,7 +45,7 @@ module _ (old new : Cells) (from : ℕ) (opened : (x : ℕ) → is_none (piece_a
     | inr was ↦ inl was
   ]
 
-  -- what moved reaches a king only where it would have reached it before, or did from where it stood
+  -- the moved piece reaches a king only if it would have from its destination before, or did from its origin
   reach_from : (promote : Bool) (cell : Option Piece) (to k : ℕ) → cell_reaches new (piece_moved promote cell) to k ≡ true → (cell_reaches old (piece_moved promote cell) to k ≡ true) ⊎ (cell_reaches old cell from k ≡ true)
   reach_from promote None to k e = absurd (cc)
   reach_from false (Some piece) to k e = elim (or_cases (has_step piece to k) (has_slide new piece to k) e) [
@@ -65,9 +65,9 @@ module _ (old new : Cells) (from : ℕ) (opened : (x : ℕ) → is_none (piece_a
         ]
       ]
 
--- ---- a board that shows the others
+-- ---- a board that shows the other pieces
 
--- what stands there is one of the other side
+-- a piece of the other side as a stand-in
 abbrev foe : Color → Option Piece
 foe side = Some (record { color = opponent_of side; role = Pawn })
 
@@ -101,13 +101,13 @@ module _ (p : Shogi) (from to : ℕ) (len : length p.cells ≡ 81) (hf : from < 
     pub seen_shown : IsSeenAs p.cells others occupied p.side (shown p from to)
     seen_shown = record { attackers = others_shown; pieces = occupied_shown; same = same_shown }
 
--- ---- no check
+-- ---- moves without check
 
--- where the move ends none of the side's own stands
+-- the destination has no piece of the mover's side
 legal_bare : (p : Shogi) (from to : ℕ) (promote : Bool) → is_legal p (Board from to promote) ≡ true → is_piece_of p.side (piece_at p.cells to) ≡ false
 legal_bare p from to promote e = grind (arith, legal_board p from to promote)
 
--- without a king there is none
+-- without a king there is no check
 pub no_king_checked : (p : Shogi) (from to : ℕ) → IsValid p → from < 81 → to < 81 → HasNoKing p.cells (opponent_of p.side) → DiscoversNoCheck p from to
 unfolding in_check
 no_king_checked p from to v hf ht none promote off legal =
@@ -126,11 +126,11 @@ module _ (p : Shogi) (from to : ℕ) (v : IsValid p) (hf : from < 81) (ht : to <
   pub apart_from : from ≢ to
   apart_from same = both_ways (is_piece_of p.side (piece_at p.cells to)) bare_to (subst (λ (x : ℕ). is_piece_of p.side (piece_at p.cells x) ≡ true) same own_from)
 
-  -- the squares that are empty after the move are so on the board that shows the others
+  -- squares empty after the move are empty on the stand-in board
   shown_bare : (x : ℕ) → is_none (piece_at (after p (Board from to promote)).cells x) ≡ true → (is_none (piece_at (shown p from to) x) ≡ true) ⊎ ⊥
   shown_bare x e = grind (arith, see_board p from to promote v hf ht own_from x, own_some p.side _ (moved_own p from to promote v hf ht own_from), cases_eq x to, cases_eq x from, lands_board p from to promote v hf ht own_from, shown_from p from to v.cells_fit hf ht bare_to apart_from, shown_other p from to v.cells_fit hf ht bare_to x)
 
-  -- the piece that moved gives no check where it attacks no king from where it ends
+  -- the moved piece gives no check unless it attacks a king from its destination
   moved_safe : IsHarmless p.cells (opponent_of p.side) (piece_moved promote (piece_at p.cells from)) to → (k : ℕ) → k < 81 → is_king (opponent_of p.side) (piece_at p.cells k) ≡ true → cell_reaches (after p (Board from to promote)).cells (piece_moved promote (piece_at p.cells from)) to k ≡ false
   unfolding in_check reaches
   moved_safe off k h king = false_from_ne_true _ (λ e. elim (reach_from p.cells (after p (Board from to promote)).cells from (opened_board p from to promote v hf ht own_from) promote (piece_at p.cells from) to k e) [
@@ -139,7 +139,7 @@ module _ (p : Shogi) (from to : ℕ) (v : IsValid p) (hf : from < 81) (ht : to <
         (some_below_at 81 (is_open_king p.cells (opponent_of p.side)) k h (and_from _ _ king (some_below_at 81 (is_attacked_from p.cells (opponent_of (opponent_of p.side)) k) from hf (and_from _ _ (ap (λ color. is_piece_of color (piece_at p.cells from)) (opponent_twice p.side) ∙ own_from) before))))
   ])
 
-  -- nor do the others where they do not reach the only king
+  -- the other pieces give no check unless they reach the only king
   pub others_safe : (king : ℕ) → king < 81 → is_king (opponent_of p.side) (piece_at p.cells king) ≡ true → HasNoOtherKing p.cells (opponent_of p.side) king → is_attacked (shown p from to) p.side king ≡ false
       → IsHarmless p.cells (opponent_of p.side) (piece_moved promote (piece_at p.cells from)) to → in_check (after p (Board from to promote)).cells (opponent_of p.side) ≡ false
   unfolding in_check reaches
@@ -171,7 +171,7 @@ module _ (p : Shogi) (from to : ℕ) (v : IsValid p) (hf : from < 81) (ht : to <
         ]
       ])))
 
--- so it is told by the look at the king's square
+-- the test on the king's square shows that there is no check
 pub told_safe : (p : Shogi) (from to king : ℕ) (found : Bool) (own others occ lifted occupied : ℕ) → IsValid p → from < 81 → to < 81 → king < 81 → is_king (opponent_of p.side) (piece_at p.cells king) ≡ true → HasNoOtherKing p.cells (opponent_of p.side) king
     → ((n : ℕ) → n < 81 → has_bit own n ≡ is_piece_of p.side (piece_at p.cells n)) → ((n : ℕ) → has_bit others n ≡ (has_bit own n && not (n == from)))
     → ((n : ℕ) → n < 81 → has_bit occ n ≡ not (is_none (piece_at p.cells n))) → ((n : ℕ) → has_bit lifted n ≡ (has_bit occ n && not (n == from))) → ((n : ℕ) → has_bit occupied n ≡ (has_bit lifted n || n == to))
@@ -180,7 +180,7 @@ told_safe p from to king found own others occ lifted occupied v hf ht hk crown l
     others_safe p from to v hf ht promote legal king hk crown lone
     (sym (tells p.side (shown p from to) (seen_shown p from to v.cells_fit hf ht (bare_to p from to v hf ht promote legal) (apart_from p from to v hf ht promote legal) own others occ lifted occupied o a t l f)) ∙ unfound) off
 
--- and off the squares that may discover one
+-- a move outside the discovering squares gives no check
 pub stays_safe : (p : Shogi) (from to king_view free_movers mask : ℕ) → IsValid p → from < 81 → to < 81 → IsReplyInfo p king_view free_movers → DiscoversWithin p.cells (opponent_of p.side) king_view from mask → has_bit mask to ≡ false → DiscoversNoCheck p from to
 stays_safe p from to king_view free_movers mask v hf ht r within out promote off legal =
     shut_board p from to promote v hf ht (legal_own p from to promote legal) king_view free_movers r (within promote to ht out off) off

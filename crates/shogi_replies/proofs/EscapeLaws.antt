@@ -1,4 +1,4 @@
--- A king that is given check may go to a square that stays out of reach.
+-- A king in check may go to an escape that stays out of reach.
 use Rattle.std.proofs.Common.{◌≡◌, ◌≢◌, ◌⊎◌, ℕ, ◌+◌, ◌<◌, Bool, true, false, not, Option, Some, None, List, [], ◌∷◌, refl, sym, ap, subst, ◌∙◌, arith, inl, inr, set, length, length-set, get_or-set_same, get_or-set_other, bit_and, bit_or}
 use Rattle.std.specs.Prelude.{◌==◌, ◌||◌, is_none}
 use Rattle.std.specs.List.{list_any, list_all}
@@ -44,13 +44,13 @@ use Rattle.shogi_replies.proofs.KingGoes.{king_goes}
 use Rattle.shogi_replies.proofs.ReplyLaws.{left_board, left_drop, legal_own, reply_by, some_quiet}
 use Rattle.shogi_replies.proofs.SlideOrigins.{attacked_from_origin}
 
--- ---- what was left is on no line with a piece that slides
+-- ---- the squares left empty are on no line with a slider
 
 module _ (p : Shogi) (new : Cells) (hands : HandCounts) (Left : ℕ → Type 0) (to : ℕ) (cell : Option Piece) (old_len : length p.cells ≡ 81) (len : length new ≡ 81) (mine : is_piece_of p.side cell ≡ true)
     (see : (x : ℕ) → ((x ≡ to) × (piece_at new x ≡ cell)) ⊎ ((Left x × (piece_at new x ≡ None)) ⊎ (piece_at new x ≡ piece_at p.cells x)))
     (k e : ℕ) (hk : k < 81) (he : e < 81) (crown : is_king (opponent_of p.side) (piece_at p.cells k) ≡ true) (stays : Left k → ⊥) (elsewhere : (k ≢ to) × (e ≢ to)) (escape : IsEscape p.cells (opponent_of p.side) k e)
     (still : is_slider cell ≡ false) (short : cell_reaches (set new k None) cell to e ≡ false) (gone : (x : ℕ) → Left x → (x < 81) × (is_slider (piece_at new x) ≡ false)) (bare : (x a : ℕ) → Left x → a < 81 → is_sniper p.cells p.side x a ≡ false) where
-  -- nothing stands where the king stood
+  -- the king's old square is empty
   lifted : (a : ℕ) → a ≡ k → piece_at (set new k None) a ≡ None
   lifted a here = ap (piece_at (set new k None)) here ∙ get_or-set_same new k None None (omega (arith, len))
 
@@ -117,7 +117,7 @@ pub escaped_drop : (p : Shogi) (kind : Kind) (to reach : ℕ) → IsValid p → 
     → ReachesWithin p (dropped p.side kind) to reach → legal_codes (after p (Drop kind to)) ≢ []
 escaped_drop p kind to reach v ht h far = reply_by (after p (Drop kind to)) h.king_on h.end h.on_board.0 h.on_board.1 (step_drop p kind to reach reach v ht h h.open_end far)
 
--- the king's step takes nothing where all squares are closed on which something stands
+-- the king's step takes nothing if all occupied squares are closed
 
 bare_end : (cells : Cells) (occupied n : ℕ) → n < 81 → ((x : ℕ) → x < 81 → has_bit occupied x ≡ not (is_none (piece_at cells x))) → has_bit occupied n ≡ false → is_none (piece_at cells n) ≡ true
 bare_end cells occupied n h bits out = true_from_ne_false (is_none (piece_at cells n)) (λ stands. both_ways (has_bit occupied n) out (bits n h ∙ ap not stands))
@@ -141,9 +141,9 @@ escaped_quietly p (Drop kind to) closed reach lines beyond occupied v ht legal h
     (step_drop p kind to closed reach v ht h off.0 far)
     ((left_drop p kind to v ht).empty h.end (bare_end p.cells occupied h.end h.on_board.1 stands ends.1) h.elsewhere.1)
 
--- ---- such squares as bits
+-- ---- escapes as sets of squares
 
--- a square that the piece does not reach, and that is not behind one that was left
+-- the piece does not reach a square that it did not reach before and that is not behind the square left empty
 pub beyond_reach : (cells : Cells) (piece : Piece) (to k n behind : ℕ) → n < 81 → ((d : ℕ) → d < 8 → HasRaysBehind d to k behind) → cell_reaches cells (Some piece) to n ≡ false → has_bit behind n ≡ false → cell_reaches (set cells k None) (Some piece) to n ≡ false
 beyond_reach cells piece to k n behind hn has short out =
     false_from_ne_true (cell_reaches (set cells k None) (Some piece) to n) (λ r. both_ways (cell_reaches cells (Some piece) to n) short (elim (or_cases (has_step piece to n) (has_slide (set cells k None) piece to n) r) [
@@ -154,7 +154,7 @@ beyond_reach cells piece to k n behind hn has short out =
     opened : (x : ℕ) → is_none (piece_at (set cells k None) x) ≡ true → (is_none (piece_at cells x) ≡ true) ⊎ (x ≡ k)
     opened x e = elim (cases_eq x k) [ inl here ↦ inr here | inr other ↦ inl (ap is_none (sym (get_or-set_other cells k x None None other)) ∙ e) ]
 
-    -- no slide goes on over the square that was left
+    -- no slide goes on over the square left empty
     not_over : (o : Offset) → list_any (same_way o) around ≡ true → slides (set cells k None) o to n ≡ true → slides cells o k n ≡ true → ⊥
     not_over o among e over =
         let d = direction_of o among in
@@ -175,7 +175,7 @@ beyond_reach cells piece to k n behind hn has short out =
           | inr later ↦ or_right (slides cells (for_side piece.color o) to n) _ (slide_was os parts.1 later)
         ]
 
--- a square out of the reach of steps and of lines
+-- a square off the steps and the lines is out of reach
 pub beyond_lines : (piece : Piece) (to steps lines : ℕ) → to < 81 → ((n : ℕ) → n < 81 → has_bit steps n ≡ has_step piece to n) → ((n : ℕ) → n < 81 → has_bit lines n ≡ are_aligned to n) → (cells : Cells) (n : ℕ) → n < 81 → has_bit (bit_or steps lines) n ≡ false → cell_reaches cells (Some piece) to n ≡ false
 beyond_lines piece to steps lines ht s l cells n hn out =
     let off : (has_bit steps n ≡ false) × (has_bit lines n ≡ false) = or_parts (has_bit steps n) (has_bit lines n) (sym (has_bit-or steps lines n) ∙ out) in
@@ -184,19 +184,19 @@ beyond_lines piece to steps lines ht s l cells n hn out =
       | inr slide ↦ both_ways (are_aligned to n) (sym (l n hn) ∙ off.1) (lined_aligned cells to n (lined_back cells n to hn (slide_seen cells piece to n ht slide)))
     ])
 
--- the only king stands where one of them does
+-- the set of kings has no square but that of the only king
 pub only_king : (p : Shogi) (kings king k : ℕ) → ((n : ℕ) → n < 81 → has_bit kings n ≡ is_king (opponent_of p.side) (piece_at p.cells n)) → king < 81 → has_bit kings king ≡ true → HasNoOtherKing p.cells (opponent_of p.side) k → king ≡ k
 only_king p kings king k bits h set lone = grind (arith, cases_eq king k, lone king h, bits king h)
 
--- what the directions up to one lead to from both squares
+-- the set has what one more direction leads to from both squares
 pub more_rays : (from over limit behind : ℕ) → ((d : ℕ) → d < limit → HasRaysBehind d from over behind)
     → (d : ℕ) → d < limit + 1 → HasRaysBehind d from over (bit_or behind (bit_and (ray_of (direction_at limit) from) (ray_of (direction_at limit) over)))
 more_rays from over limit behind before d h n hn one other =
     grind (arith, has_bit-or behind (bit_and (ray_of (direction_at limit) from) (ray_of (direction_at limit) over)) n, has_bit-and (ray_of (direction_at limit) from) (ray_of (direction_at limit) over) n, has_bit-ray (direction_at limit) from n hn, has_bit-ray (direction_at limit) over n hn, cases_eq d limit, before d)
 
--- ---- squares are gathered one by one
+-- ---- gathering squares one by one
 
--- what is left and what was found are some of the squares, and the fact holds of each that was found
+-- the squares left and found are some of the squares, and the fact holds of each one found
 pub record Gathers (squares left found : ℕ) (fact : ℕ → Type 0) : Type 0 where
   pub within : (n : ℕ) → has_bit left n ≡ true → has_bit squares n ≡ true
   pub among : (n : ℕ) → has_bit found n ≡ true → has_bit squares n ≡ true
@@ -209,7 +209,7 @@ gathers_first squares fact = record {
   facts = λ n h e. absurd (both_ways (has_bit 0 n) (has_bit-none n) e);
 }
 
--- the next one is passed
+-- the next square is passed over
 pub gathers_less : (squares left next found to : ℕ) (fact : ℕ → Type 0) → Gathers squares left found fact → TakesLowest to left next → Gathers squares next found fact
 gathers_less squares left next found to fact g took = record {
   within = λ n e. g.within n (and_parts (has_bit left n) (not (n == to)) (sym (took.rest n) ∙ e)).0;
@@ -217,7 +217,7 @@ gathers_less squares left next found to fact g took = record {
   facts = g.facts;
 }
 
--- or it is found
+-- the next square is found
 pub gathers_more : (squares left next found more to : ℕ) (fact : ℕ → Type 0) → Gathers squares left found fact → TakesLowest to left next → ((n : ℕ) → has_bit more n ≡ (has_bit found n || n == to)) → fact to → Gathers squares next more fact
 gathers_more squares left next found more to fact g took bits holds = record {
   within = (gathers_less squares left next found to fact g took).within;

@@ -18,7 +18,7 @@ use Rattle.shogi_core.specs.Zones.{in_promotion_zone, is_promotable, may_promote
 use Rattle.shogi_moves.specs.After.{piece_moved}
 use Rattle.shogi_replies.specs.ReplyInfo.{HasAroundKings, IsFarMove}
 
--- what does not slide goes to a square near by
+-- a piece that does not slide ends near its origin
 near_step : (cells : Cells) (cell : Option Piece) (a b : ℕ) → a < 81 → is_slider cell ≡ false → cell_reaches cells cell a b ≡ true → is_near b a ≡ true
 near_step cells None a b h still e = absurd (cc)
 near_step cells (Some piece) a b h still e = elim (or_cases (has_step piece a b) (has_slide cells piece a b) e) [
@@ -55,15 +55,15 @@ near_close a b h l near =
     let at : is_close a b ≡ true = subst (λ (x : ℕ). is_close x b ≡ true) one (subst (λ (y : ℕ). is_close ((a * 81 + b) / 81) y ≡ true) two (close_at (a * 81 + b) (omega arith))) in
     record { below = grind arith; above = grind arith; left = grind arith; right = grind arith }
 
--- two such steps stay around the square
+-- two close steps stay around the square
 close_twice : (k n a : ℕ) → IsClose a n → IsClose n k → is_around k a ≡ true
 close_twice k n a one two = grind arith
 
--- from before the last ranks to the zone no such step leads into it
+-- a close step from outside the squares near the zone does not lead into it
 off_zone_near : (side : Color) (a n : ℕ) → is_near_zone side a ≡ false → a % 9 < n % 9 + 3 → n % 9 < a % 9 + 3 → in_promotion_zone side n ≡ false
 off_zone_near side a n far x y = grind arith
 
--- what does not slide does not slide once it is promoted
+-- a piece that does not slide does not after promotion
 stays_still : (role : Role) → is_sliding_role role ≡ false → is_sliding_role (promoted role) ≡ false
 stays_still role e = grind arith
 
@@ -83,13 +83,13 @@ far_move p king_view around promotes a n ha hn kings own still unseen apart zone
       non_promoting = λ never. stays_plain p.side (piece_at p.cells a) a n own (off_zone_near p.side a a (zone never) (omega arith) (omega arith)) (off_zone_near p.side a n (zone never) close.above close.below);
     }
 
--- what does not slide and is far from the zone cannot promote
+-- a piece that does not slide and is far from the zone cannot promote
 pub far_plain : (p : Shogi) (a n : ℕ) → a < 81 → n < 81 → is_piece_of p.side (piece_at p.cells a) ≡ true → is_slider (piece_at p.cells a) ≡ false → is_near_zone p.side a ≡ false → reaches p.cells a n ≡ true → may_promote (piece_at p.cells a) a n ≡ false
 far_plain p a n ha hn own still far r =
     let close : IsClose a n = near_close a n ha hn (grind (arith, reaches_near p.cells a n ha r)) in
     stays_plain p.side (piece_at p.cells a) a n own (off_zone_near p.side a a far (omega arith) (omega arith)) (off_zone_near p.side a n far close.above close.below)
 
--- one of the squares that is in none of three sets
+-- a square of the set that is in none of three others
 pub out_of_all : (own x y z a : ℕ) → a < 81 → bit_or (bit_or x y) z < 2 ^ 128 → has_bit (bit_and own (2 ^ 128 - 1 - bit_or (bit_or x y) z)) a ≡ true
     → (has_bit own a ≡ true) × (has_bit x a ≡ false) × (has_bit y a ≡ false) × (has_bit z a ≡ false)
 out_of_all own x y z a h fits set =

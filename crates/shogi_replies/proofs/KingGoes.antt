@@ -1,4 +1,4 @@
--- A king goes to a square that was its escape, also where it takes what has just come there.
+-- A king goes to its escape, even if it captures a piece that has just come there.
 use Rattle.std.proofs.Common.{◌≡◌, ◌≢◌, ◌⊎◌, ℕ, zero, suc, ◌<◌, true, false, not, [], ◌∷◌, Option, None, refl, sym, ap, subst, ◌∙◌, inl, inr, set, length, get_or-set_other, arith}
 use Rattle.std.specs.Prelude.{is_none}
 use Rattle.std.proofs.lemmas.Bool.{and_from, both_ways, cases_eq, false_from_ne_true}
@@ -22,13 +22,13 @@ use Rattle.shogi_moves.proofs.KingLaws.{king_own}
 use Rattle.shogi_replies.proofs.ReplyLaws.{right_step}
 use Rattle.shogi_moves.proofs.ExistenceLaws.{king_lives}
 
--- nothing stands on a square that is cleared
+-- a cleared square is empty
 pub cleared_none : (cells : Cells) (a : ℕ) → piece_at (set cells a None) a ≡ None
 cleared_none [] a = refl
 cleared_none (cell ∷ cells) zero = refl
 cleared_none (cell ∷ cells) (suc a) = cleared_none cells a
 
--- what a side puts on a square, and what it leaves
+-- a side puts a piece on one square and leaves some others
 module _ (old new : Cells) (hands : HandCounts) (side : Color) (Left : ℕ → Type 0) (to : ℕ) (cell : Option Piece) (len : length new ≡ 81) (mine : is_piece_of side cell ≡ true)
     (see : (x : ℕ) → ((x ≡ to) × (piece_at new x ≡ cell)) ⊎ ((Left x × (piece_at new x ≡ None)) ⊎ (piece_at new x ≡ piece_at old x)))
     (k e : ℕ) (hk : k < 81) (he : e < 81) (crown : is_king (opponent_of side) (piece_at old k) ≡ true) (stays : Left k → ⊥) (apart : k ≢ to) (escape : IsEscape old (opponent_of side) k e)
@@ -58,7 +58,7 @@ module _ (old new : Cells) (hands : HandCounts) (side : Color) (Left : ℕ → T
   short_there : cell_reaches (set new k None) cell to e ≡ false
   short_there = false_from_ne_true _ (λ r. both_ways (cell_reaches (set old k None) cell to e) short (reach_was (set old k None) (set new k None) Left opened cell to e free r))
 
-  -- another piece that stands there stood there
+  -- a piece on any other square stood there before
   kept : (color : Color) (a : ℕ) → is_piece_of color (piece_at (set new k None) a) ≡ true → (piece_at (set old k None) a ≡ piece_at (set new k None) a) ⊎ (reaches (set new k None) a e ≡ false)
   unfolding reaches
   kept color a own = elim (cases_eq a k) [

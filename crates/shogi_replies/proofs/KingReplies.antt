@@ -1,4 +1,4 @@
--- A king that is given check goes away where what moves discovers nothing, or takes what moved.
+-- A king in check goes away if the moved piece discovers nothing, or captures it.
 use Rattle.std.proofs.Common.{◌≡◌, ◌≢◌, ◌^◌, ℕ, ◌<◌, Bool, true, false, not, Option, Some, None, [], sym, ap, subst, ◌∙◌, arith, inl, inr, set, length, length-set, get_or-set_same, get_or-set_other, bit_and}
 use Rattle.std.specs.Int.{trailing_zeros, w128}
 use Rattle.std.proofs.lemmas.Bool.{cases_eq, both_ways, and_from}
@@ -43,17 +43,17 @@ pub no_sniper_on : (cells : Cells) (side : Color) (square own sliders line : ℕ
 no_sniper_on cells side square own sliders line o s l none a ha =
     sym (sniper_bits cells side square own sliders line a (o a ha) (s a ha) (l a ha)) ∙ (ap (λ (m : ℕ). has_bit m a) none ∙ has_bit-none a)
 
--- a king of the other side stands where no piece of the mover's does
+-- the square of the opponent's king has no piece of the mover
 king_off : (p : Shogi) (from k : ℕ) → is_piece_of p.side (piece_at p.cells from) ≡ true → is_king (opponent_of p.side) (piece_at p.cells k) ≡ true → k ≢ from
 king_off p from k own crown at =
     both_ways (is_piece_of (opponent_of p.side) (piece_at p.cells from)) (other_side p.side (piece_at p.cells from) own)
     (subst (λ (x : ℕ). is_piece_of (opponent_of p.side) (piece_at p.cells x) ≡ true) at (king_own (opponent_of p.side) (piece_at p.cells k) crown))
 
--- a piece that does not slide reaches by its steps alone
+-- a piece that does not slide reaches exactly its steps
 stepping : (piece : Piece) (to n : ℕ) → is_sliding_role piece.role ≡ false → has_step piece to n ≡ false → (cells : Cells) → cell_reaches cells (Some piece) to n ≡ false
 stepping piece to n still short cells = grind (arith, slides_role piece.role (λ o. slides cells (for_side piece.color o) to n))
 
--- what moves does not slide on, and no piece of its side slides from the lines of the square that it leaves
+-- the moved piece does not slide, and no slider of its side is on a line with the square left
 pub covered_board : (p : Shogi) (from to steps : ℕ) (promote : Bool) (piece : Piece) → IsValid p → from < 81 → to < 81 → is_legal p (Board from to promote) ≡ true
     → piece_moved promote (piece_at p.cells from) ≡ Some piece → is_sliding_role piece.role ≡ false → HasNoSniper p.cells p.side from
     → ((n : ℕ) → n < 81 → has_bit steps n ≡ has_step piece to n) → HasOpenEscape p steps to → legal_codes (after p (Board from to promote)) ≢ []
@@ -79,7 +79,7 @@ covered_board p from to steps promote piece v hf ht legal moved still none bits 
       | inr off ↦ ap is_slider (get_or-set_other (set p.cells from None) to from (piece_moved promote (piece_at p.cells from)) None off ∙ get_or-set_same p.cells from None None (omega (arith, v.cells_fit)))
     ]
 
--- ---- the king takes
+-- ---- the king captures
 
 pub taken_reply : (p : Shogi) (m : Move) → IsTaken p m → legal_codes (after p m) ≢ []
 taken_reply p m taken = reply_by (after p m) taken.taker (end_of m) taken.on_board.0 taken.on_board.1 taken.takes.legal
@@ -104,7 +104,7 @@ module _ (cells : Cells) (side : Color) (k to : ℕ) (v : Option Piece) (len : l
   not_own : is_piece_of side v ≡ false
   not_own = ap (λ (color : Color). is_piece_of color v) (sym (opponent_twice side)) ∙ other_side (opponent_of side) v foe
 
-  -- what comes to stand on the square attacks it not, and opens no line to it
+  -- the piece on the square does not attack it, and opens no line to it
   safe_there : is_attacked (set (set cells to v) k None) (opponent_of side) to ≡ false
   safe_there =
       attacked_was_but (set cells k None) (set (set cells to v) k None) (λ x. ⊥)
@@ -136,7 +136,7 @@ module _ (cells : Cells) (side : Color) (k to : ℕ) (v : Option Piece) (len : l
       ∙ and_from _ _ (right_step (set cells to v) side k to own_there (ap (is_piece_of side) at_end ∙ not_own) still_reached (king_lives side (piece_at (set cells to v) k) to crown_there))
       (ap not (king_set (set cells to v) side k to (piece_moved false (piece_at (set cells to v) k)) (length-set cells to v ∙ len) hk ht (is_piece_of-piece_moved side false (piece_at (set cells to v) k) ∙ own_there) still_lone safe_there))
 
--- the king takes what was dropped on a square to which it may go
+-- the king captures a piece dropped on one of its escapes
 pub taken_drop : (p : Shogi) (kind : Kind) (escapes kings to : ℕ) → IsValid p → to < 81 → AreEscapes p escapes → kings < 2 ^ 81 → ((n : ℕ) → n < 81 → has_bit kings n ≡ is_king (opponent_of p.side) (piece_at p.cells n)) → kings ≢ 0 → has_bit escapes to ≡ true
     → legal_codes (after p (Drop kind to)) ≢ []
 taken_drop p kind escapes kings to v ht h fits bits some among =
@@ -147,7 +147,7 @@ taken_drop p kind escapes kings to v ht h fits bits some among =
     (takes p.cells (opponent_of p.side) (trailing_zeros w128 kings) to (dropped p.side kind) v.cells_fit low.0 ht crown way.step.lone way.step.reached
     (ap (λ (color : Color). is_piece_of color (dropped p.side kind)) (opponent_twice p.side) ∙ dropped_of p.side kind) way.safe (after p (Drop kind to)).hands)
 
--- the king takes what came next to it, where no other piece of the mover's attacks the square
+-- the king captures a piece next to it if no other piece of the mover attacks that square
 module _ (p : Shogi) (from k to : ℕ) (put : Option Piece) (v : IsValid p) (hk : k < 81) (ht : to < 81) (off : k ≢ from) (crown : is_king (opponent_of p.side) (piece_at p.cells k) ≡ true) (lone : HasNoOtherKing p.cells (opponent_of p.side) k)
     (reached : reaches p.cells k to ≡ true) (mine : is_piece_of p.side put ≡ true) (safe : is_attacked (set (set p.cells from None) k None) p.side to ≡ false) where
   king_stays : piece_at (set p.cells from None) k ≡ piece_at p.cells k

@@ -1,4 +1,4 @@
--- Moves that are passed in a row.
+-- Runs of moves that a sweep skips.
 use Rattle.std.proofs.Common.{◌≡◌, ◌≢◌, ℕ, zero, suc, ◌+◌, ◌-◌, ◌*◌, ◌/◌, ◌%◌, ◌^◌, ◌<◌, ◌≤◌, List, [], ◌∷◌, ◌⊎◌, Bool, true, false, bit_and, bit_or, length, inl, inr, sym, ap, ◌∙◌, arith, subst, not, Some}
 use Rattle.std.proofs.lemmas.Nat.{and_le_l}
 use Rattle.std.proofs.lemmas.Bool.{cases_Bool, both_ways, and_parts, and_from, or_parts, true_from_ne_false, false_from_ne_true}
@@ -30,12 +30,12 @@ use Rattle.shogi_moves.proofs.DestinationLaws.{matching_board}
 use Rattle.shogi_moves.proofs.LegalLaws.{is_legal_code_of, after_code_of}
 use Rattle.shogi_moves.proofs.SweepLaws.{at_code}
 
--- none is passed
+-- nothing is skipped
 pub passed_none : (fact : ℕ → Type 0) (codes left : List ℕ) → codes ≡ left → IsSkipped fact codes left
 passed_none fact [] left e = e
 passed_none fact (c ∷ codes) left e = inl e
 
--- first some are passed, then others
+-- two runs of skipped moves join
 pub passed_on : (fact : ℕ → Type 0) (codes middle left : List ℕ) → IsSkipped fact codes middle → IsSkipped fact middle left → IsSkipped fact codes left
 passed_on fact [] middle left h k = subst (λ (xs : List ℕ). IsSkipped fact xs left) (sym h) k
 passed_on fact (c ∷ codes) middle left h k = elim h [
@@ -43,11 +43,11 @@ passed_on fact (c ∷ codes) middle left h k = elim h [
   | inr more ↦ inr (more.0, passed_on fact codes middle left more.1 k)
 ]
 
--- one more is passed before them
+-- one more move is skipped before the others
 passed_first : (fact : ℕ → Type 0) (codes : List ℕ) (c : ℕ) (rest left : List ℕ) → codes ≡ c ∷ rest → fact c → IsSkipped fact rest left → IsSkipped fact codes left
 passed_first fact codes c rest left e f h = subst (λ (xs : List ℕ). IsSkipped fact xs left) (sym e) (inr (f, h))
 
--- all moves of the kind from a code up to another are passed
+-- all moves of the kind from a code up to another are skipped
 pub passed_range : (p : Shogi) (capture : Bool) (fact : ℕ → Type 0) (n code : ℕ) → code + n ≤ MOVE_CODE_COUNT → ((c : ℕ) → code ≤ c → c < code + n → is_matching p capture c ≡ true → fact c) → IsSkipped fact (matching_from p capture code) (matching_from p capture (code + n))
 passed_range p capture fact zero code fits all = passed_none fact _ _ (ap (matching_from p capture) (omega arith))
 passed_range p capture fact (suc n) code fits all =
@@ -75,7 +75,7 @@ destination_of p capture from code non_promoting promoting c k up below matching
       | inr at ↦ inr (at, true_from_ne_false (has_bit promoting (c / 2 % 81)) (λ out. both_ways (is_matching p capture c) (ap (is_matching p capture) at ∙ k.promotings.clear (c / 2 % 81) (omega arith) out (omega arith)) matching))
     ]
 
--- after a certain move that is legal the other side has such a move
+-- a legal move that guarantees a reply leaves one
 leaves_reply : (p : Shogi) (escapes c : ℕ) (m : Move) → c ≡ code_of m → move_of (code_of m) ≡ Some m → is_legal_code p c ≡ true → GuaranteesReply p escapes m → LeavesReply p escapes c
 leaves_reply p escapes c m at back listed guaranteed =
     let legal : is_legal p m ≡ true = sym (is_legal_code_of p c m (ap move_of at ∙ back)) ∙ listed in
@@ -85,7 +85,7 @@ leaves_reply p escapes c m at back listed guaranteed =
       unchecked = λ none. ap (λ (q : Shogi). in_check q.cells (opponent_of p.side)) made ∙ guaranteed.1 none legal;
     }
 
--- a matching move on the board that is certain
+-- a matching board move to a guaranteed destination of the filter is guaranteed
 guaranteed_move : (p : Shogi) (capture promote : Bool) (move_filter : MoveFilter) (escapes first c from n : ℕ) → from < 81 → n < 81 → first ≤ c → c ≡ code_of (Board from n promote) → is_matching p capture c ≡ true → has_bit move_filter.pieces.bits from ≡ true → has_bit move_filter.squares.bits n ≡ true → (promote ≡ true → move_filter.promotes ≡ true) → GuaranteesReply p escapes (Board from n promote) → IsGuaranteedMove p capture move_filter escapes first c
 guaranteed_move p capture promote move_filter escapes first c from n hf hn above at matching piece set lets guaranteed = record {
   above = above;
@@ -97,7 +97,7 @@ guaranteed_move p capture promote move_filter escapes first c from n hf hn above
   leaves = leaves_reply p escapes c (Board from n promote) at (move_of-board from n promote hf hn) (and_parts _ _ matching).0 guaranteed;
 }
 
--- those below another code are passed, where each of them is certain
+-- the moves of a piece below a code are skipped if each of them is guaranteed
 pub destinations_passed : (p : Shogi) (capture : Bool) (move_filter : MoveFilter) (escapes from code next non_promoting promoting first : ℕ) → from < 81 → has_bit move_filter.pieces.bits from ≡ true → KeepsBoard p capture from code non_promoting promoting → first ≤ code → code ≤ next → next ≤ from * SQUARE_CODES + SQUARE_CODES
     → ((n : ℕ) → n < 81 → has_bit non_promoting n ≡ true → code_of (Board from n false) < next → (has_bit move_filter.squares.bits n ≡ true) × GuaranteesReply p escapes (Board from n false))
     → ((n : ℕ) → n < 81 → has_bit promoting n ≡ true → code_of (Board from n true) < next → (has_bit move_filter.squares.bits n ≡ true) × (move_filter.promotes ≡ true) × GuaranteesReply p escapes (Board from n true))
@@ -110,7 +110,7 @@ destinations_passed p capture move_filter escapes from code next non_promoting p
       | inr at ↦ (let it : _ = by_promotion (c / 2 % 81) hn at.1 (omega (arith, at.0)) in guaranteed_move p capture true move_filter escapes first c from (c / 2 % 81) hf hn (omega arith) at.0 matching piece it.0 (λ _. it.1) it.2)
     ])
 
--- what is not uncertain is certain
+-- a destination that is not uncertain is guaranteed
 pub not_uncertain : (destinations guaranteed n : ℕ) → guaranteed < 2 ^ 128 → n < 81 → has_bit (bit_and destinations (2 ^ 128 - 1 - guaranteed)) n ≡ false → has_bit destinations n ≡ true → has_bit guaranteed n ≡ true
 not_uncertain destinations guaranteed n fits h out set = true_from_ne_false (has_bit guaranteed n) (λ out_of.
     both_ways (has_bit (bit_and destinations (2 ^ 128 - 1 - guaranteed)) n) out (has_bit-and destinations (2 ^ 128 - 1 - guaranteed) n ∙ and_from _ _ set (has_bit-not guaranteed n fits (omega arith) ∙ ap not out_of)))
@@ -118,15 +118,15 @@ not_uncertain destinations guaranteed n fits h out set = true_from_ne_false (has
 pub none_uncertain : (destinations guaranteed n : ℕ) → guaranteed < 2 ^ 128 → n < 81 → bit_and destinations (2 ^ 128 - 1 - guaranteed) ≡ 0 → has_bit destinations n ≡ true → has_bit guaranteed n ≡ true
 none_uncertain destinations guaranteed n fits h none set = not_uncertain destinations guaranteed n fits h (ap (λ m. has_bit m n) none ∙ has_bit-none n) set
 
--- the first that is uncertain is an end
+-- an uncertain square is a destination
 pub uncertain_destination : (destinations guaranteed to : ℕ) → has_bit (bit_and destinations (2 ^ 128 - 1 - guaranteed)) to ≡ true → has_bit destinations to ≡ true
 uncertain_destination destinations guaranteed to set = (and_parts (has_bit destinations to) _ (sym (has_bit-and destinations (2 ^ 128 - 1 - guaranteed) to) ∙ set)).0
 
--- and those below it are certain
+-- the destinations below the lowest uncertain one are guaranteed
 pub below_uncertain : (destinations guaranteed to n : ℕ) → guaranteed < 2 ^ 128 → n < 81 → n < to → ((i : ℕ) → has_bit (bit_and destinations (2 ^ 128 - 1 - guaranteed)) i ≡ true → to ≤ i) → has_bit destinations n ≡ true → has_bit guaranteed n ≡ true
 below_uncertain destinations guaranteed to n fits h down least set = not_uncertain destinations guaranteed n fits h (false_from_ne_true (has_bit (bit_and destinations (2 ^ 128 - 1 - guaranteed)) n) (λ there. (let le : to ≤ n = least n there in omega arith))) set
 
--- what is uncertain of neither sort is among the squares and certain
+-- a destination uncertain in neither set is in the filter and guaranteed
 pub of_both : (non_promoting among guaranteed promoting among_promoting promoted n : ℕ) → among < 2 ^ 128 → among_promoting < 2 ^ 128 → n < 81
     → has_bit (bit_or (bit_and non_promoting (2 ^ 128 - 1 - bit_and among guaranteed)) (bit_and promoting (2 ^ 128 - 1 - bit_and among_promoting promoted))) n ≡ false
     → (has_bit non_promoting n ≡ true → (has_bit among n ≡ true) × (has_bit guaranteed n ≡ true)) × (has_bit promoting n ≡ true → (has_bit among_promoting n ≡ true) × (has_bit promoted n ≡ true))
@@ -138,7 +138,7 @@ of_both non_promoting among guaranteed promoting among_promoting promoted n f g 
 
 -- ---- all moves of a piece
 
--- a matching move ends where the piece reaches, and by promotion only where it may promote
+-- a matching move ends on a square that the piece reaches, with promotion only if it may promote
 plain_among : (p : Shogi) (capture : Bool) (from n : ℕ) → length p.cells ≡ 81 → from < 81 → n < 81 → is_piece_of p.side (piece_at p.cells from) ≡ true → is_matching p capture (code_of (Board from n false)) ≡ true → is_reached p capture from n ≡ true
 plain_among p capture from n len hf hn own matching = grind (arith, matching_board p capture false from n len hf hn own)
 
@@ -146,7 +146,7 @@ promoting_among : (p : Shogi) (capture : Bool) (from n : ℕ) → length p.cells
     → (is_reached p capture from n ≡ true) × (may_promote (piece_at p.cells from) from n ≡ true)
 promoting_among p capture from n len hf hn own matching = grind (arith, matching_board p capture true from n len hf hn own)
 
--- no move of a piece but certain ones
+-- each move of the piece is guaranteed
 pub guaranteed_moves : (p : Shogi) (capture : Bool) (move_filter : MoveFilter) (escapes from ends zone guaranteed promotions promoted : ℕ) → ((n : ℕ) → n < 81 → has_bit ends n ≡ is_reached p capture from n) → ((n : ℕ) → n < 81 → has_bit zone n ≡ may_promote (piece_at p.cells from) from n)
     → has_bit move_filter.pieces.bits from ≡ true → move_filter.squares.bits < 2 ^ 128 → promotions < 2 ^ 128 → ((n : ℕ) → has_bit promotions n ≡ true → move_filter.promotes ≡ true) → ((n : ℕ) → n < 81 → has_bit guaranteed n ≡ true → GuaranteesReply p escapes (Board from n false)) → ((n : ℕ) → n < 81 → has_bit promoted n ≡ true → GuaranteesReply p escapes (Board from n true))
     → bit_or (bit_and ends (2 ^ 128 - 1 - bit_and move_filter.squares.bits guaranteed)) (bit_and (bit_and ends zone) (2 ^ 128 - 1 - bit_and promotions promoted)) ≡ 0 → GuaranteesReplies p capture move_filter escapes from
@@ -158,7 +158,7 @@ guaranteed_moves p capture move_filter escapes from ends zone guaranteed promoti
       promoting = λ n h e may. (let it : _ = (at n h).1 (has_bit-and ends zone n ∙ and_from _ _ (ends_bits n h ∙ e) (zone_bits n h ∙ may)) in (lets n it.0, by_promotion n h it.1));
     }
 
--- the moves of all pieces below a square are passed, where each of them is certain
+-- the moves of all pieces below a square are skipped if each of them is guaranteed
 row_passed : (p : Shogi) (capture : Bool) (move_filter : MoveFilter) (escapes first code moving end : ℕ) → length p.cells ≡ 81 → end ≤ 81 → HasMatchingOn p capture code moving
     → ((n : ℕ) → n < 81 → has_bit moving n ≡ true → is_piece_of p.side (piece_at p.cells n) ≡ true) → ((n : ℕ) → n < 81 → n < end → has_bit moving n ≡ true → GuaranteesReplies p capture move_filter escapes n)
     → first ≤ code → code ≤ end * SQUARE_CODES → IsSkipped (IsGuaranteedMove p capture move_filter escapes first) (matching_from p capture code) (matching_from p capture (end * SQUARE_CODES))

@@ -1,4 +1,4 @@
--- A piece is pinned only where it lies between its king and one of the other side that slides.
+-- A piece is pinned only between its king and an enemy slider.
 use Rattle.std.proofs.Common.{◌≡◌, ◌⊎◌, ℕ, ◌+◌, ◌%◌, ◌<◌, true, false, not, sym, ap, subst, ◌∙◌, arith, inl, inr, Option, Some, None, bit_and, bit_or, []}
 use Rattle.std.specs.Prelude.{◌==◌, ◌&&◌, is_none}
 use Rattle.std.proofs.lemmas.Bool.{cases_eq, false_from_ne_true, both_ways, and_parts, and_from, or_cases, or_left, or_right}
@@ -28,7 +28,7 @@ use Rattle.shogi_replies.specs.Threats.{HasBetween, HasBeforeSnipers, IsOffPins}
 opposite : (d : ℕ) → d < 8 → direction_at ((d + 4) % 8) ≡ back (direction_at d)
 opposite d h = grind (arith, cases_eq d 0, cases_eq d 1, cases_eq d 2, cases_eq d 3, cases_eq d 4, cases_eq d 5, cases_eq d 6, cases_eq d 7)
 
--- the set has those of the first directions
+-- the set has the squares between for the first directions
 abbrev pub HasBetweenBelow : ℕ → ℕ → ℕ → ℕ → Type 0
 HasBetweenBelow from to count mask = (d n : ℕ) → d < count → n < 81 → is_on_ray (direction_at d) from n ≡ true
     → is_on_ray (direction_at d) n to ≡ true → has_bit mask n ≡ true
@@ -53,7 +53,7 @@ pub before_more : (cells : Cells) (side : Color) (king left next squares sniper 
 before_more cells side king left next squares sniper between h bits new = λ x hx is out d n hd hn on beyond.
     grind (arith, has_bit-or squares between n, cases_eq x sniper, new d n hd hn on, bits x, h x hx is)
 
--- off those of the only king no piece of the side can be pinned
+-- no piece of the side can be pinned off the squares before its only king
 pub off_pins : (cells : Cells) (side : Color) (king squares : ℕ) → HasNoOtherKing cells side king → HasBeforeSnipers cells side king 0 squares → (a : ℕ) → a < 81 → has_bit squares a ≡ false → IsOffPins cells side a
 off_pins cells side king squares lone h = λ a ha out k x d hk hx hd e on. false_from_ne_true (is_on_ray (direction_at d) a x) (λ beyond. (
     let parts : (is_king side (piece_at cells k) ≡ true) × (is_sniper cells (opponent_of side) k x ≡ true) = and_parts _ _ e in
@@ -67,10 +67,10 @@ before_all cells side king left squares none h = λ x hx is _. h x hx is (none x
 
 pub ruleset before_snipers = (before_first, before_all)
 
--- ---- one square is left
+-- ---- one square is left empty
 
 module _ (old new : Cells) (n : ℕ) (low : n < 81) (opened : (x : ℕ) → is_none (piece_at new x) ≡ true → (is_none (piece_at old x) ≡ true) ⊎ (x ≡ n)) where
-  -- a slide to a king was there before, or leads over the square that was left
+  -- a slide to a king was there before, or leads over the square left empty
   slide_over : (piece : Piece) (a k : ℕ) → a < 81 → k < 81 → has_slide new piece a k ≡ true
       → (has_slide old piece a k ≡ true) ⊎ ((d : ℕ) × (d < 8) × (is_on_ray (direction_at d) k n ≡ true) × (is_on_ray (direction_at d) n a ≡ true))
   slide_over piece a k ha hk e =
@@ -99,7 +99,7 @@ module _ (old new : Cells) (n : ℕ) (low : n < 81) (opened : (x : ℕ) → is_n
     ]
   ]
 
-  -- that gives no check where the square lies between no king and a sniper
+  -- an emptied square between no king and a sniper opens no check
   pub left_off_pins : (color : Color) → ((x : ℕ) → is_piece_of (opponent_of color) (piece_at new x) ≡ true → piece_at old x ≡ piece_at new x)
       → ((k : ℕ) → is_king color (piece_at new k) ≡ true → piece_at old k ≡ piece_at new k) → in_check old color ≡ false
       → ((k x d : ℕ) → k < 81 → x < 81 → d < 8 → is_sniper_of_king old color x k ≡ true → is_on_ray (direction_at d) k n ≡ true → is_on_ray (direction_at d) n x ≡ false) → in_check new color ≡ false

@@ -1,4 +1,4 @@
--- After most moves the other side has a legal move.
+-- After most moves the opponent has a legal reply.
 use Rattle.std.proofs.Common.{◌≡◌, ◌≢◌, ℕ, ◌-◌, ◌^◌, ◌<◌, ◌⊎◌, Bool, true, false, not, Option, Some, None, List, [], ◌∷◌, refl, sym, ap, subst, ◌∙◌, arith, inl, inr, filter, set, length, length-set, get_or-set_same, get_or-set_other, bit_and, bit_or}
 use Rattle.std.specs.Prelude.{◌==◌, ◌&&◌, ◌||◌, nat_lt, is_none}
 use Rattle.std.specs.Int.{trailing_zeros, w128}
@@ -52,32 +52,32 @@ is_free_kind kinds.Bishop = true
 is_free_kind kinds.Rook = true
 is_free_kind _ = false
 
--- ---- moves that take nothing and do not promote
+-- ---- quiet moves
 
 kept_in : (t : ℕ → Bool) (c : ℕ) (codes : List ℕ) → is_in c codes ≡ true → t c ≡ true → is_in c (filter t codes) ≡ true
 kept_in t c [] i skips = absurd (cc)
 kept_in t c (code ∷ codes) i skips = grind (arith, kept_in t c codes)
 
--- a legal one is among them
+-- a quiet legal move is among the quiet codes
 pub some_quiet : (q : Shogi) (m : Move) → move_of (code_of m) ≡ Some m → is_legal q m ≡ true → is_quiet q (Some m) ≡ true → quiet_codes q ≢ []
 some_quiet q m back legal quiet none =
     let among : is_in (code_of m) (quiet_codes q) ≡ true = kept_in (is_quiet_code q) (code_of m) (legal_codes q) (legal_to_listed q m back legal) (ap (is_quiet q) back ∙ quiet) in
     let clash : false ≡ true = ap (is_in (code_of m)) (sym none) ∙ among in
     cc
 
--- and where there is one, some move is legal
+-- if there is a quiet legal move, some move is legal
 pub quiet_legal : (q : Shogi) → quiet_codes q ≢ [] → legal_codes q ≢ []
 quiet_legal q some none = some (ap (filter (is_quiet_code q)) none)
 
--- so it is where a piece may go somewhere without promotion
+-- a legal board move without promotion is a legal reply
 pub reply_by : (q : Shogi) (k to : ℕ) → k < 81 → to < 81 → is_legal q (Board k to false) ≡ true → legal_codes q ≢ []
 reply_by q k to hk ht legal = some_legal q (code_of (Board k to false)) (is_legal_code_of q (code_of (Board k to false)) (Board k to false) (move_of-board k to false hk ht) ∙ legal)
 
--- where nothing stands, no piece of a side does
+-- an empty square has no piece of either side
 pub unowned : (color : Color) (cell : Option Piece) → is_none cell ≡ true → is_piece_of color cell ≡ false
 unowned color cell bare = grind arith
 
--- ---- what a king sees, and its lines
+-- ---- the view of a king, and its lines
 
 pub kings_first : (holds : ℕ → ℕ → Bool) (cells : Cells) (side : Color) (m : ℕ) → ((n : ℕ) → n < 81 → has_bit m n ≡ is_king side (piece_at cells n)) → HasFromKings holds cells side m m
 kings_first holds cells side m bits = record {
@@ -104,7 +104,7 @@ unaligned cells side lines n s h out = some_below_no 81 (is_line_of_king cells s
     let parts : (is_king side (piece_at cells k) ≡ true) × (are_aligned k n ≡ true) = and_parts _ _ e in
     both_ways (has_bit lines n) out (s.squares k n l h parts.0 (has_bit-none k) parts.1))))
 
--- is on no open line with it, wherever the other pieces stand
+-- a square on no line with a king is on no open line with it, wherever the other pieces stand
 pub stays_unlined : (old new : Cells) (color : Color) (a : ℕ) → a < 81 → ((k : ℕ) → is_king color (piece_at new k) ≡ true → piece_at old k ≡ piece_at new k) → is_aligned_with_king old color a ≡ false → is_lined_with_king new color a ≡ false
 unfolding is_lined_with_king is_aligned_with_king
 stays_unlined old new color a h kings off = some_below_no 81 (is_line_to_king new color a) (λ k l. false_from_ne_true (is_line_to_king new color a k) (λ e. (
@@ -118,12 +118,12 @@ pub covered : (cells : Cells) (side : Color) (n open_lines snipers lines : ℕ) 
 covered cells side n open_lines snipers lines o s l none a h sniping =
     grind (arith, has_bit-and open_lines (bit_and snipers lines) a, has_bit-and snipers lines a, o a h, s a h, l a h, lined_aligned cells n a, ap (λ m. has_bit m a) none, has_bit-none a)
 
--- the snipers that are on a line with the square, whatever stands between
+-- no sniper is on a line with the square, whatever stands between
 pub covered_by_none : (cells : Cells) (side : Color) (n snipers lines : ℕ) → ((a : ℕ) → a < 81 → has_bit snipers a ≡ is_sniping cells side a) → ((a : ℕ) → a < 81 → has_bit lines a ≡ are_aligned n a) → bit_and snipers lines ≡ 0 → StaysCovered cells side n
 covered_by_none cells side n snipers lines s l none a h sniping = false_from_ne_true (are_lined cells n a) (λ lined. both_ways (has_bit (bit_and snipers lines) a) (ap (λ m. has_bit m a) none ∙ has_bit-none a)
     (has_bit-and snipers lines a ∙ and_from _ _ (s a h ∙ sniping) (l a h ∙ lined_aligned cells n a lined)))
 
--- off the sight of the kings: on no open line with one
+-- a square out of the king view is on no open line with a king
 unlined : (cells : Cells) (side : Color) (king_view n : ℕ) → Sees cells side 0 king_view → n < 81 → has_bit king_view n ≡ false → is_lined_with_king cells side n ≡ false
 unfolding is_lined_with_king is_seen
 unlined cells side king_view n s h out = some_below_no 81 (is_line_to_king cells side n) (λ k l. false_from_ne_true (is_line_to_king cells side n k) (λ e. (
@@ -133,18 +133,18 @@ unlined cells side king_view n s h out = some_below_no 81 (is_line_to_king cells
 unseen : (cells : Cells) (side : Color) (king_view n : ℕ) → Sees cells side 0 king_view → n < 81 → has_bit king_view n ≡ false → (k : ℕ) → k < 81 → is_king side (piece_at cells k) ≡ true → is_seen cells k n ≡ false
 unseen cells side king_view n s h out k l king = false_from_ne_true (is_seen cells k n) (λ e. both_ways (has_bit king_view n) out (s.squares k n l h king (has_bit-none k) e))
 
--- off the sight of the kings nothing does
+-- no piece attacks a king from outside the king view
 pub harmless_far : (cells : Cells) (side : Color) (king_view : ℕ) (cell : Option Piece) (to : ℕ) → Sees cells side 0 king_view → to < 81 → has_bit king_view to ≡ false → IsHarmless cells side cell to
 harmless_far cells side king_view cell to s h out k l king = false_from_ne_true (cell_reaches cells cell to k) (λ r. both_ways (is_seen cells k to) (unseen cells side king_view to s h out k l king) (cell_seen cells cell to k h r))
 
--- nor does a piece that reaches none of them
+-- a piece that reaches none of the kings attacks none
 pub harmless_here : (cells : Cells) (side : Color) (piece : Piece) (to squares kings : ℕ) → ((n : ℕ) → n < 81 → has_bit squares n ≡ cell_reaches cells (Some piece) to n) → ((n : ℕ) → n < 81 → has_bit kings n ≡ is_king side (piece_at cells n)) → bit_and squares kings ≡ 0 → IsHarmless cells side (Some piece) to
 harmless_here cells side piece to squares kings s b none k l king =
     false_from_ne_true (cell_reaches cells (Some piece) to k) (λ e. both_ways (has_bit (bit_and squares kings) k) (ap (λ m. has_bit m k) none ∙ has_bit-none k) (has_bit-and squares kings k ∙ and_from _ _ (s k l ∙ e) (b k l ∙ king)))
 
--- ---- a king moves on from everywhere
+-- ---- a king can move on from any square
 
--- ---- a piece that may be dropped on any empty square
+-- ---- a piece in hand for any empty square
 
 held_kind : (hands : HandCounts) (side : Color) → holds_free hands side ≡ true → (kind : Kind) × (is_free_kind kind ≡ true) × (nat_lt 0 (count_in_hand hands side kind) ≡ true)
 held_kind hands side e = elim (or_cases (nat_lt 0 (count_in_hand hands side kinds.Silver) || nat_lt 0 (count_in_hand hands side kinds.Gold) || nat_lt 0 (count_in_hand hands side kinds.Bishop)) (nat_lt 0 (count_in_hand hands side kinds.Rook)) e) [
@@ -176,7 +176,7 @@ free_drop cells hands color kind a len ha kin held empty shut =
     (sym (is_legal_code_of q (code_of (Drop kind a)) (Drop kind a) (move_of-drop kind a ha)) ∙ (sym (drop_matching q kind a ha) ∙ (legal_drop q kind a ha ∙ and_from _ _ safe (ap (λ b. not (b && is_mated_by_drop (after q (Drop kind a)))) non_promoting))))
     refl
 
--- a move changes nothing in the other side's hand
+-- a move changes nothing in the opponent's hand
 other_place : (side : Color) (kind other : Kind) → place_of (opponent_of side) other ≢ place_of side kind
 other_place side kind other e = grind (arith, number_below kind, number_below other)
 
@@ -204,7 +204,7 @@ steps_reach cells cell a t e = grind arith
 pub right_step : (new : Cells) (color : Color) (a t : ℕ) → is_piece_of color (piece_at new a) ≡ true → is_piece_of color (piece_at new t) ≡ false → reaches new a t ≡ true → is_immobile t (piece_at new a) ≡ false → is_pseudo_legal_board_move new color a t false ≡ true
 right_step new color a t own free reach alive = rw (own, free, reach, still t (piece_at new a), alive) refl
 
--- what a move that ends on a square leaves to the other side: its pieces and its kings stand, and each empty square but that one is still empty
+-- a move that ends on `to` leaves the other side's pieces and kings in place, and each empty square but `to` empty
 pub record LeavesStanding (old new : Cells) (color : Color) (to : ℕ) : Type 0 where
   pub len : length new ≡ 81
   pub kings : (k : ℕ) → is_king color (piece_at new k) ≡ true → piece_at old k ≡ piece_at new k
@@ -212,7 +212,7 @@ pub record LeavesStanding (old new : Cells) (color : Color) (to : ℕ) : Type 0 
   pub clear : (t : ℕ) → is_piece_of color (piece_at old t) ≡ false → is_piece_of color (piece_at new t) ≡ false
   pub empty : (x : ℕ) → is_none (piece_at old x) ≡ true → x ≢ to → is_none (piece_at new x) ≡ true
 
--- what a quiet step is
+-- the parts of a quiet step
 pub step_parts : (cells : Cells) (a t : ℕ) → is_quiet_step cells a t ≡ true → (cell_steps (piece_at cells a) a t ≡ true) × (is_none (piece_at cells t) ≡ true) × (is_immobile t (piece_at cells a) ≡ false)
 step_parts cells a t e =
     let two = and_parts (cell_steps (piece_at cells a) a t && is_none (piece_at cells t)) (not (is_immobile t (piece_at cells a))) e in
@@ -220,7 +220,7 @@ step_parts cells a t e =
     (one.0, one.1, not-true _ two.1)
 
 module _ (old new : Cells) (hands : HandCounts) (color : Color) where
-  -- a move that ends elsewhere and gives no check leaves such a step legal
+  -- a move that ends elsewhere and gives no check leaves a quiet step legal
   pub legal_step : (to a t : ℕ) → LeavesStanding old new color to → in_check new color ≡ false → a < 81 → t < 81 → a ≢ to → t ≢ to → is_unbound old color a ≡ true → is_quiet_step old a t ≡ true → is_legal (record { cells = new; hands = hands; side = color }) (Board a t false) ≡ true
   unfolding reaches
   legal_step to a t k shut ha ht stays beside loose step =
@@ -257,7 +257,7 @@ module _ (old new : Cells) (hands : HandCounts) (color : Color) where
         free_drop new hands color held.0 a k.len ha held.1 held.2 (k.empty a e.1 e.0) shut)
   ]
 
--- ---- what moves attacks no king from where it ends, once it is gone
+-- ---- the moved piece attacks no king from its destination once its origin is empty
 
 harmless_unaligned : (cells : Cells) (side : Color) (lines from : ℕ) (cell : Option Piece) (n : ℕ) → Aligns cells side 0 lines → n < 81 → has_bit lines n ≡ false → IsHarmless cells side cell n → IsHarmlessFrom cells side from cell n
 harmless_unaligned cells side lines from None n a h out off k l e = refl
@@ -299,7 +299,7 @@ module _ (p : Shogi) (from to : ℕ) (promote : Bool) (v : IsValid p) (hf : from
   pub stays_bare : (x : ℕ) → is_none (piece_at (set (set p.cells from None) to (piece_moved promote (piece_at p.cells from))) x) ≡ true → (is_none (piece_at (set p.cells from None) x) ≡ true) ⊎ ⊥
   stays_bare x e = grind (arith, cases_eq x to, lands_board, own_some p.side what_moved moved_own, get_or-set_other (set p.cells from None) to x what_moved None)
 
-  -- a move that discovers nothing and attacks no king from where it ends gives no check
+  -- a move that discovers nothing and attacks no king from its destination gives no check
   pub shut_board : (king_view free_movers : ℕ) → IsReplyInfo p king_view free_movers → DiscoversNothing p.cells (opponent_of p.side) king_view from (piece_moved promote (piece_at p.cells from)) to → IsHarmless p.cells (opponent_of p.side) (piece_moved promote (piece_at p.cells from)) to
       → in_check (cells_after p.cells p.side (Board from to promote)) (opponent_of p.side) ≡ false
   shut_board king_view free_movers r (inl unseen_from) off =
@@ -323,7 +323,7 @@ module _ (p : Shogi) (from to : ℕ) (promote : Bool) (v : IsValid p) (hf : from
     empty = λ x e ne. grind (arith, see_board x);
   }
 
--- ---- the board without what moves
+-- ---- the board without the moved piece
 
 module _ (p : Shogi) (from to : ℕ) (v : IsValid p) (hf : from < 81) (own : is_piece_of p.side (piece_at p.cells from) ≡ true) where
   bare : piece_at (set p.cells from None) from ≡ None
@@ -350,7 +350,7 @@ module _ (p : Shogi) (from to : ℕ) (v : IsValid p) (hf : from < 81) (own : is_
     empty = λ x e ne. elim (see_lifted x) [ inl here ↦ ap is_none here.1 | inr same ↦ ap is_none same ∙ e ];
   }
 
-  -- it has no check where no king sees the square, or what stands there covers none
+  -- the board without the piece has no check if its square is out of the king view or it blocks no slider
   pub shut_lifted : (king_view : ℕ) → Sees p.cells (opponent_of p.side) 0 king_view → (has_bit king_view from ≡ false) ⊎ StaysCovered p.cells (opponent_of p.side) from → in_check (set p.cells from None) (opponent_of p.side) ≡ false
   shut_lifted king_view sees (inl unseen_from) =
       no_check p.cells (set p.cells from None) (λ x. x ≡ from) opened_lifted (opponent_of p.side) from hf theirs_lifted crown_lifted
@@ -406,14 +406,14 @@ replied_drop p kind to king_view free_movers a v r ht off ha some other =
     replied p.cells (cells_after p.cells p.side (Drop kind to)) (after p (Drop kind to)).hands (opponent_of p.side)
     to (left_drop p kind to v ht) (shut_drop p kind to v ht off) which.0 which.1 (way_after p (Drop kind to) to which.0 which.2)
 
--- ---- spare pieces are found one by one
+-- ---- finding spare pieces one by one
 
--- a piece of the side that is no king and on no line with one, and has a step to an empty square
+-- a piece of the side, no king and off the lines of its kings, with a quiet step
 pub record IsMover (cells : Cells) (side : Color) (a : ℕ) : Type 0 where
   pub unbound : is_unbound cells side a ≡ true
   pub steps : some_below 81 (is_quiet_step cells a) ≡ true
 
--- what is left are pieces of the side off the lines of its kings; what is kept has such a step, and each of the ends is one of such a piece
+-- `left` has pieces of the side off the lines of its kings; each one kept has a quiet step, and each of the ends is an end of a kept piece's step
 pub record IsSifted (cells : Cells) (side : Color) (lines left kept ends : ℕ) : Type 0 where
   pub own : (a : ℕ) → a < 81 → has_bit left a ≡ true → (is_piece_of side (piece_at cells a) ≡ true) × (has_bit lines a ≡ false)
   pub free_movers : (a : ℕ) → a < 81 → has_bit kept a ≡ true → IsMover cells side a
@@ -429,7 +429,7 @@ sifted_first cells side lines own fits bits = record {
 unbound_if : (cells : Cells) (side : Color) (lines a : ℕ) → Aligns cells side 0 lines → a < 81 → is_piece_of side (piece_at cells a) ≡ true → has_bit lines a ≡ false → is_unbound cells side a ≡ true
 unbound_if cells side lines a s h own off = grind (arith, unaligned cells side lines a s h off, s.kings a h)
 
--- a piece without such a step is passed
+-- a piece without a quiet step is passed over
 pub sifted_passed : (cells : Cells) (side : Color) (lines left kept ends next from : ℕ) → IsSifted cells side lines left kept ends → TakesLowest from left next → IsSifted cells side lines next kept ends
 sifted_passed cells side lines left kept ends next from f took = record {
   own = λ a h e. f.own a h ((and_parts (has_bit left a) (not (a == from)) (sym (took.rest a) ∙ e)).0);
@@ -437,7 +437,7 @@ sifted_passed cells side lines left kept ends next from f took = record {
   end = f.end;
 }
 
--- some step of it is one
+-- a piece with a set of steps that is not empty has a quiet step
 some_step : (cells : Cells) (a steps : ℕ) → steps < 2 ^ 81 → AreQuietSteps cells a steps → steps ≢ 0 → some_below 81 (is_quiet_step cells a) ≡ true
 some_step cells a steps fits are some =
     let low = lowest_set steps some fits in
@@ -460,7 +460,7 @@ sifted_found cells side lines left kept ends next more from steps s f took fits 
       ];
     }
 
--- a piece with a step to another square than the one where a move ends, if it does not end on the piece
+-- a piece with a quiet step to a square other than `to` is spare if it does not stand on `to`
 spare_at : (cells : Cells) (side : Color) (to a t : ℕ) → a < 81 → t < 81 → a ≢ to → t ≢ to → is_unbound cells side a ≡ true → is_quiet_step cells a t ≡ true → some_below 81 (is_spare cells side to) ≡ true
 unfolding is_spare
 spare_at cells side to a t ha ht stays beside unbound step =
@@ -468,14 +468,14 @@ spare_at cells side to a t ha ht stays beside unbound step =
     (and_from _ _ (and_from _ _ (not_from_false _ (ne_eqb a to stays)) unbound)
     (some_below_at 81 (is_step_beside cells to a) t ht (and_from _ _ step (not_from_false _ (ne_eqb t to beside)))))
 
--- where a move ends on a piece, a step to an empty square ends elsewhere
+-- no quiet step ends on the square of an unbound piece
 steps_beside : (cells : Cells) (side : Color) (to a t : ℕ) → is_unbound cells side to ≡ true → is_quiet_step cells a t ≡ true → t ≢ to
 steps_beside cells side to a t unbound step same =
     let own : is_piece_of side (piece_at cells to) ≡ true = (and_parts _ _ (and_parts _ _ unbound).0).0 in
     let bare : is_none (piece_at cells t) ≡ true = (and_parts _ _ (and_parts _ _ step).0).1 in
     both_ways (is_piece_of side (piece_at cells to)) (unowned side (piece_at cells to) (subst (λ (n : ℕ). is_none (piece_at cells n) ≡ true) same bare)) own
 
--- with two ends, each piece leaves a step: its own or that of another one
+-- with two ends, each piece leaves a step: its own or that of another piece
 pub sifted_done : (cells : Cells) (side : Color) (lines left kept ends : ℕ) → HasOthers ends → IsSifted cells side lines left kept ends → LeaveFreeMovers cells side kept
 sifted_done cells side lines left kept ends two f a to h set stays =
     let end = some_below_which 81 (λ t. has_bit ends t && not (t == to)) (two to) in
@@ -489,13 +489,13 @@ sifted_done cells side lines left kept ends two f a to h set stays =
           spare_at cells side to a step.0 h step.1 stays (steps_beside cells side to a step.0 (subst (λ (n : ℕ). is_unbound cells side n ≡ true) at by.2) step.2) mover.unbound step.2)
     ]
 
--- steps to empty squares, as bits
+-- quiet steps as a set of squares
 pub steps_found : (cells : Cells) (piece : Piece) (a steps free dead : ℕ) → piece_at cells a ≡ Some piece → dead < 2 ^ 81 → ((n : ℕ) → n < 81 → has_bit steps n ≡ has_step piece a n) → ((n : ℕ) → n < 81 → has_bit free n ≡ is_none (piece_at cells n)) → ((n : ℕ) → n < 81 → has_bit dead n ≡ is_immobile n (piece_at cells a))
     → AreQuietSteps cells a (bit_and (bit_and steps free) (2 ^ 128 - 1 - dead))
 steps_found cells piece a steps free dead stands fits s f d t h e =
     grind (arith, has_bit-and (bit_and steps free) (2 ^ 128 - 1 - dead) t, has_bit-and steps free t, s t h, f t h, d t h, has_bit-not dead t (omega (arith, fits)) (omega arith))
 
--- an empty square is one on which a held piece may be dropped, and of a spare piece there is a way
+-- each empty square is a way if such a piece is in hand, and each spare piece is one
 pub ways_free : (p : Shogi) (side : Color) (free : ℕ) → holds_free p.hands side ≡ true → ((n : ℕ) → n < 81 → has_bit free n ≡ is_none (piece_at p.cells n)) → (a to : ℕ) → a < 81 → has_bit free a ≡ true → a ≢ to → some_below 81 (is_way p side to) ≡ true
 ways_free p side free held bits a to h set other =
     some_below_at 81 (is_way p side to) a h (or_right (is_spare p.cells side to a) _ (and_from _ _ (and_from _ _ (not_from_false _ (ne_eqb a to other)) (sym (bits a h) ∙ set)) held))
@@ -508,11 +508,11 @@ ways_spare p side squares leave a to h set other =
 pub unknown_sees : (cells : Cells) (side : Color) (all : ℕ) → ((n : ℕ) → n < 81 → has_bit all n ≡ true) → Sees cells side 0 all
 unknown_sees cells side all every = record { kings = λ n h e. every n h; squares = λ k n h l e out seen. every n l }
 
--- the legal board move is one of one's own piece
+-- a legal board move moves a piece of the side to move
 pub legal_own : (p : Shogi) (from to : ℕ) (promote : Bool) → is_legal p (Board from to promote) ≡ true → is_piece_of p.side (piece_at p.cells from) ≡ true
 legal_own p from to promote e = grind (arith, legal_board p from to promote)
 
--- one of the squares that give a move is another than that where the move ends
+-- some square of the free movers is not the one on which the move ends
 another_than : (free_movers free to : ℕ) → free < 2 ^ 81 → ((i : ℕ) → has_bit free i ≡ (has_bit free_movers i && not (i == to))) → free ≢ 0 → (a : ℕ) × (a < 81) × (has_bit free_movers a ≡ true) × (a ≢ to)
 another_than free_movers free to fits bits some =
     let low = lowest_set free some fits in
@@ -531,13 +531,13 @@ guaranteed_drop p kind to king_view free_movers free v r fits ht off bits some =
     let a = another_than free_movers free to fits bits some in
     replied_drop p kind to king_view free_movers a.0 v r ht off a.1 a.2 a.3
 
--- what is answered quietly is answered
+-- a quiet legal reply is a legal reply
 pub answered : (p : Shogi) (m : Move) → IsQuietlyAnswered p m → IsAnswered p m
 answered p m quietly legal = quiet_legal (after p m) (quietly legal)
 
--- ---- squares in a row
+-- ---- single squares and pairs
 
--- of two squares that give a move one is another
+-- one of two free movers differs from any given square
 pub one_of_two : (free_movers one rest n : ℕ) → free_movers < 2 ^ 81 → one < 81 → has_bit free_movers one ≡ true → ((i : ℕ) → has_bit rest i ≡ (has_bit free_movers i && not (i == one))) → rest ≢ 0 → rest < free_movers → (a : ℕ) × (a < 81) × (has_bit free_movers a ≡ true) × (a ≢ n)
 one_of_two free_movers one rest n fits h set bits some less = elim (cases_eq n one) [
   | inl same ↦ (
@@ -547,7 +547,7 @@ one_of_two free_movers one rest n fits h set bits some less = elim (cases_eq n o
   | inr other ↦ (one, h, set, λ e. other (sym e))
 ]
 
--- so of two squares one is beside each square
+-- a set of two squares has another one for each square
 pub others_of_two : (squares one rest : ℕ) → squares < 2 ^ 81 → one < 81 → has_bit squares one ≡ true → ((i : ℕ) → has_bit rest i ≡ (has_bit squares i && not (i == one))) → rest ≢ 0 → rest < squares → HasOthers squares
 others_of_two squares one rest fits h set bits some less n =
     let other = one_of_two squares one rest n fits h set bits some less in
@@ -562,11 +562,11 @@ unseen_bit king_view n fits h e = false_from_ne_true (has_bit king_view n) (λ s
 pub not_closed : (all closed n : ℕ) → closed < 2 ^ 128 → n < 81 → has_bit (bit_and all (2 ^ 128 - 1 - closed)) n ≡ true → has_bit closed n ≡ false
 not_closed all closed n fits h e = unseen_bit closed n fits h (and_parts _ _ (sym (has_bit-and all (2 ^ 128 - 1 - closed) n) ∙ e)).1
 
--- a piece that does not promote stays what it is
+-- a piece that does not promote stays the same
 pub unmoved : (cell : Option Piece) → piece_moved false cell ≡ cell
 unmoved cell = grind arith
 
--- what moves to an open square without a check, or is dropped there, is answered
+-- a move or drop to an open square without check has a reply
 pub open_far : (p : Shogi) (escapes from n : ℕ) (promote : Bool) (king_view closed free_movers : ℕ) → IsValid p → IsReplyInfo p king_view free_movers → from < 81 → n < 81 → has_bit king_view from ≡ false → IsHarmless p.cells (opponent_of p.side) (piece_moved promote (piece_at p.cells from)) n → IsOpen closed free_movers n → GuaranteesReply p escapes (Board from n promote)
 open_far p escapes from n promote king_view closed free_movers v r hf hn unseen_from far o = (
   λ legal. replied_board p from n promote king_view free_movers o.way.0 v r hf hn (legal_own p from n promote legal) (inl unseen_from) far o.way.1 o.way.2 o.way.3,

@@ -1,4 +1,4 @@
--- A slide that is new goes over a square that was left, on a line with the piece that slides.
+-- A new slide leads over a square left empty, on a line with the slider.
 use Rattle.std.proofs.Common.{◌≡◌, ◌≢◌, ◌⊎◌, ℕ, ◌+◌, ◌-◌, ◌<◌, true, false, refl, sym, ap, ◌∙◌, arith, inl, inr, Option, Some, None, List, [], ◌∷◌}
 use Rattle.std.specs.Prelude.{is_none}
 use Rattle.std.specs.List.{list_any, list_all}
@@ -30,7 +30,7 @@ leads_between o far near s m n hn small less past led =
     some_below_at 8 (slides_across [] o far near) (m - n - 1) (omega arith)
     (and_from _ _ (is_leads _ near (ap (λ (k : ℕ). away k o far) less_one ∙ at)) (all_below_yes (m - n - 1) (is_step_empty [] o far) (λ i l. all_below_at m (is_step_empty [] o far) i parts.1 (omega arith))))
 
--- so they lie on a line
+-- two squares that lead to a third in one direction lie on a line
 pub aligned_from : (o : Offset) (a x s : ℕ) → list_any (same_way o) around ≡ true → a < 81 → x < 81 → a ≢ x → is_on_ray o a s ≡ true → is_on_ray o x s ≡ true → are_aligned x a ≡ true
 unfolding are_lined
 aligned_from o a x s among ha hx apart one other =
@@ -50,9 +50,9 @@ aligned_from o a x s among ha hx apart one other =
       ]
     ]
 
--- ---- what is attacked after a move
+-- ---- attacks after a move
 
--- no piece of the color that slides is on a line with a square that was left
+-- no slider of the color is on a line with a square left empty
 module _ (old new : Cells) (Left : ℕ → Type 0) (opened : (x : ℕ) → is_none (piece_at new x) ≡ true → (is_none (piece_at old x) ≡ true) ⊎ Left x) (color : Color)
     (bare : (x a : ℕ) → Left x → a < 81 → is_piece_of color (piece_at new a) ≡ true → is_slider (piece_at new a) ≡ true → (x < 81) × (a ≢ x) × (are_aligned x a ≡ false)) where
   -- a slide of such a piece was there before
@@ -86,7 +86,7 @@ module _ (old new : Cells) (Left : ℕ → Type 0) (opened : (x : ℕ) → is_no
     | inr slide ↦ or_right (has_step piece a s) (has_slide old piece a s) (origin_slide piece a s ha at own slide)
   ]
 
-  -- a square that is attacked was attacked before, where the pieces that are new do not reach it
+  -- an attacked square was attacked before unless a new piece reaches it
   pub attacked_from_origin : (s : ℕ) → ((a : ℕ) → is_piece_of color (piece_at new a) ≡ true → (piece_at old a ≡ piece_at new a) ⊎ (reaches new a s ≡ false)) → is_attacked old color s ≡ false → is_attacked new color s ≡ false
   unfolding reaches
   attacked_from_origin s kept safe = some_below_no 81 (is_attacked_from new color s) (λ a l. false_from_ne_true (is_attacked_from new color s a) (λ e.

@@ -1,4 +1,4 @@
--- A capture by a piece that no move can pin stands after the moves that let it be.
+-- A capture by an unpinnable piece stays possible after the moves that leave it.
 use Rattle.std.proofs.Common.{◌≡◌, ◌≢◌, ℕ, zero, suc, ◌+◌, ◌-◌, ◌^◌, ◌<◌, ◌≤◌, ◌⊎◌, Bool, true, false, not, Option, Some, None, List, [], ◌∷◌, refl, sym, ap, subst, ◌∙◌, arith, inl, inr, set, length, length-set, get_or-set_same, get_or-set_other, bit_and}
 use Rattle.std.specs.Prelude.{is_none, ◌==◌, ◌&&◌, ◌||◌}
 use Rattle.std.specs.List.{list_any, list_all}
@@ -41,7 +41,7 @@ use Rattle.std.proofs.lemmas.List.{set_comm, set-set}
 use Rattle.shogi_replies.proofs.PinLaws.{left_off_pins}
 use Rattle.shogi_moves.proofs.DropChecks as drops
 
--- ---- what a piece reaches over other squares than the end of the move, it reaches after it
+-- ---- a piece still reaches squares if the move does not end on the way
 
 -- the squares of a free slide lie between its ends
 between_ends : (cells : Cells) (o : Offset) (a t x m i : ℕ) → m < 8 → i < m → slides_across cells o a t m ≡ true → away (i + 1) o a ≡ Some x → (is_on_ray o a x ≡ true) × (is_on_ray o x t ≡ true)
@@ -55,7 +55,7 @@ between_ends cells o a t x m i small less e at =
     ap (is_empty cells) (away_on (i + 1) (j + 1) o a x at ∙ ap (λ (k : ℕ). away k o a) further) ∙ all_below_at m (is_step_empty cells o a) (i + 1 + j) parts.1 (omega arith))))) in
     (slides_bare cells o a x near, slides_bare cells o x t far)
 
--- a free slide is still free where the one square that may be filled is not between its ends
+-- a free slide stays free if the only square that may be filled is not on its way
 slide_kept : (old new : Cells) (to : ℕ) → ((x : ℕ) → is_none (piece_at old x) ≡ true → x ≢ to → is_none (piece_at new x) ≡ true) → (o : Offset) (a t : ℕ) → (is_on_ray o a to ≡ true → is_on_ray o to t ≡ false) → slides old o a t ≡ true → slides new o a t ≡ true
 slide_kept old new to clear o a t off e =
     let which = some_below_which 8 (slides_across old o a t) e in
@@ -70,7 +70,7 @@ slide_kept old new to clear o a t off e =
       | inr other ↦ ap (is_empty new) at ∙ clear x (ap (is_empty old) (sym at) ∙ e) other
     ]
 
--- some slide of a piece has one of the eight directions
+-- each slide of a piece has one of the eight directions
 slides_kept : (old new : Cells) (color : Color) (a t : ℕ) → ((d : ℕ) → d < 8 → slides old (direction_at d) a t ≡ true → slides new (direction_at d) a t ≡ true) → (os : List Offset) → list_all (λ o. list_any (same_way (for_side color o)) around) os ≡ true → is_slide old color os a t ≡ true → is_slide new color os a t ≡ true
 slides_kept old new color a t kept [] all e = e
 slides_kept old new color a t kept (o ∷ os) all e =
@@ -82,7 +82,7 @@ slides_kept old new color a t kept (o ∷ os) all e =
       | inr later ↦ or_right (slides new (for_side color o) a t) _ (slides_kept old new color a t kept os parts.1 later)
     ]
 
--- so a piece reaches what it reached where that square is not between the two
+-- a piece still reaches a square if the move does not end between the two
 pub reach_kept : (old new : Cells) (to : ℕ) → ((x : ℕ) → is_none (piece_at old x) ≡ true → x ≢ to → is_none (piece_at new x) ≡ true) → (cell : Option Piece) (a t : ℕ) → cell_reaches old cell a t ≡ true → ((d : ℕ) → d < 8 → is_on_ray (direction_at d) a to ≡ true → is_on_ray (direction_at d) to t ≡ false) → cell_reaches new cell a t ≡ true
 reach_kept old new to clear None a t e off = absurd (cc)
 reach_kept old new to clear (Some piece) a t e off = elim (or_cases (has_step piece a t) (has_slide old piece a t) e) [
@@ -90,7 +90,7 @@ reach_kept old new to clear (Some piece) a t e off = elim (or_cases (has_step pi
   | inr slide ↦ or_right (has_step piece a t) (has_slide new piece a t) (slides_kept old new piece.color a t (λ d range. slide_kept old new to clear (direction_at d) a t (off d range)) (slides_of piece.role) (slides_around piece.color piece.role) slide)
 ]
 
--- the end of the move itself too, which is none of the squares on the way there
+-- a test holds for all numbers below n, or fails for one of them
 unbroken : (n : ℕ) (f : ℕ → Bool) → (all_below n f ≡ true) ⊎ ((i : ℕ) × (i < n) × (f i ≡ false))
 unbroken n f = elim (cases_Bool (some_below n (λ i. not (f i)))) [
   | inl some ↦ (let which = some_below_which n (λ i. not (f i)) some in inr (which.0, which.1, not-true _ which.2))
@@ -116,7 +116,7 @@ slide_to : (old new : Cells) (to : ℕ) → ((x : ℕ) → is_none (piece_at old
 slide_to old new to clear o a zero n deep small e = step_to old new to clear o a n small (λ i l f. absurd (omega (arith, l, deep))) e
 slide_to old new to clear o a (suc d) n deep small e = step_to old new to clear o a n small (λ i l f. slide_to old new to clear o a d i (omega (arith, l, deep)) (omega (arith, l, small)) f) e
 
--- so a piece that reached that square still does
+-- a piece that reached the destination of the move still does, since the way there ends before it
 reach_to : (old new : Cells) (to : ℕ) → ((x : ℕ) → is_none (piece_at old x) ≡ true → x ≢ to → is_none (piece_at new x) ≡ true) → (cell : Option Piece) (a : ℕ) → cell_reaches old cell a to ≡ true → cell_reaches new cell a to ≡ true
 reach_to old new to clear None a e = absurd (cc)
 reach_to old new to clear (Some piece) a e = elim (or_cases (has_step piece a to) (has_slide old piece a to) e) [
@@ -126,9 +126,9 @@ reach_to old new to clear (Some piece) a e = elim (or_cases (has_step piece a to
       slide_to old new to clear (for_side piece.color o) a which.0 which.0 (omega arith) which.1 which.2)) slide)
 ]
 
--- ---- a capture by a piece that is not pinned
+-- ---- a capture by an unpinned piece
 
--- a piece between its king and no piece that slides, but that on the square where it takes, leaves the king in no check
+-- the king is not in check after a capture by a piece that is between it and no slider, other than one that is captured
 unpinned_take : (cells : Cells) (side : Color) (a t : ℕ) (v : Option Piece) → length cells ≡ 81 → a < 81 → t < 81 → a ≢ t → is_piece_of side v ≡ true → is_king side v ≡ false → is_king side (piece_at cells a) ≡ false → is_piece_of side (piece_at cells a) ≡ true → in_check cells side ≡ false
     → ((k x d : ℕ) → k < 81 → x < 81 → d < 8 → x ≢ t → is_sniper_of_king cells side x k ≡ true → is_on_ray (direction_at d) k a ≡ true → is_on_ray (direction_at d) a x ≡ false) → in_check (set (set cells a None) t v) side ≡ false
 unpinned_take cells side a t v len ha ht other own non_promoting bare mine safe apart =
@@ -166,13 +166,13 @@ unpinned_take cells side a t v len ha ht other own non_promoting bare mine safe 
         let slides : is_sniper cells (opponent_of side) k x ≡ true = and_from _ _ (and_from _ _ (ap (is_piece_of (opponent_of side)) (sym (before x off)) ∙ foe.0) (ap is_slider (sym (before x off)) ∙ foe.1)) inner.1 in
         apart k x d hk hx hd off (and_from _ _ king slides) on
 
--- ---- the capture stands
+-- ---- the capture stays possible
 
--- what a move that ends on a square lets stand of its own side's pieces: no other is new
+-- a move adds at most one piece of its side, on its destination
 abbrev pub AddsOne : Cells → Cells → Color → ℕ → Type 0
 AddsOne old new side to = (x : ℕ) → is_piece_of (opponent_of side) (piece_at new x) ≡ true → x ≢ to → piece_at old x ≡ piece_at new x
 
--- a piece that sniped not before is that which came to the square
+-- a new sniper is the piece on the destination of the move
 sniper_before : (old new : Cells) (side : Color) (to k x : ℕ) → AddsOne old new side to → ((k : ℕ) → is_king side (piece_at new k) ≡ true → piece_at old k ≡ piece_at new k) → k < 81 → is_sniper_of_king new side x k ≡ true
     → (is_sniper_of_king old side x k ≡ true) ⊎ ((x ≡ to) × (is_slider (piece_at new x) ≡ true) × (is_aligned_with_king old side x ≡ true))
 unfolding is_aligned_with_king
@@ -186,12 +186,12 @@ sniper_before old new side to k x adds kings h e =
       | inr off ↦ (let same = adds x foe.0 off in inl (and_from _ _ king (and_from _ _ (and_from _ _ (ap (is_piece_of (opponent_of side)) same ∙ foe.0) (ap is_slider same ∙ foe.1)) inner.1)))
     ]
 
--- what is on no line with the square is in no direction from it
+-- squares on no line are in no direction from one another
 off_ray : (a x d : ℕ) → d < 8 → are_aligned a x ≡ false → is_on_ray (direction_at d) a x ≡ false
 unfolding are_lined
 off_ray a x d hd off = false_from_ne_true (is_on_ray (direction_at d) a x) (λ on. both_ways (are_aligned a x) off (one_of (λ q. slides [] q a x) (direction_at d) around (direction_around d hd) on))
 
--- a capture by an unpinnable piece leaves its king in no check, if what came to the square is taken or pins nothing
+-- a capture by an unpinnable piece leaves its king in no check if the piece on the destination is captured or pins nothing
 takes_safely : (p : Shogi) (new : Cells) (a t to : ℕ) (promote : Bool) → LeavesStanding p.cells new (opponent_of p.side) to → in_check new (opponent_of p.side) ≡ false → AddsOne p.cells new (opponent_of p.side) to → IsUnpinnable p a → t < 81 → a ≢ t → a ≢ to
     → ((to ≡ t) ⊎ (is_slider (piece_at new to) ≡ true → is_aligned_with_king p.cells (opponent_of p.side) a ≡ true → is_aligned_with_king p.cells (opponent_of p.side) to ≡ true → are_aligned a to ≡ false))
     → in_check (cells_after new (opponent_of p.side) (Board a t promote)) (opponent_of p.side) ≡ false
@@ -212,7 +212,7 @@ takes_safely p new a t to promote k shut adds free ht other away pins =
       | inr off ↦ quiet_board new color a t promote k.len free.on_board ht own non_promoting (stays_unlined p.cells new color a free.on_board k.kings off) shut
     ]
 
--- so it is legal where the piece still reaches the square
+-- a capture that leaves no check is legal if the piece still reaches its target
 takes_legally : (p : Shogi) (new : Cells) (hands : HandCounts) (a t to : ℕ) (promote : Bool) → LeavesStanding p.cells new (opponent_of p.side) to → IsAttack p a t promote → a ≢ to
     → is_piece_of (opponent_of p.side) (piece_at new t) ≡ false → cell_reaches new (piece_at p.cells a) a t ≡ true → in_check (cells_after new (opponent_of p.side) (Board a t promote)) (opponent_of p.side) ≡ false
     → is_legal (record { cells = new; hands = hands; side = opponent_of p.side }) (Board a t promote) ≡ true
@@ -234,7 +234,7 @@ takes_legally p new hands a t to promote k attack away open_end reach safe =
     pseudo : is_piece_of (opponent_of p.side) (piece_at new a) ≡ true → is_piece_of (opponent_of p.side) (piece_at new t) ≡ false → reaches new a t ≡ true → (not promote || may_promote (piece_at new a) a t) ≡ true → is_immobile t (piece_moved promote (piece_at new a)) ≡ false → is_pseudo_legal_board_move new (opponent_of p.side) a t promote ≡ true
     pseudo own free reach promotes mobile = rw (own, free, reach, promotes, mobile) refl
 
--- by a threat that the move leaves
+-- a threat that the move leaves is still possible
 still_takes : (p : Shogi) (m : Move) (a t : ℕ) (promote : Bool) → LeavesStanding p.cells (after p m).cells (opponent_of p.side) (end_of m) → in_check (after p m).cells (opponent_of p.side) ≡ false → AddsOne p.cells (after p m).cells (opponent_of p.side) (end_of m) → piece_at (after p m).cells (end_of m) ≡ put_by p m → IsThreat p a t promote → EndsNonInterfering p a t m
     → is_legal (record { cells = (after p m).cells; hands = (after p m).hands; side = opponent_of p.side }) (Board a t promote) ≡ true
 unfolding reaches
@@ -246,14 +246,14 @@ still_takes p m a t promote k shut adds put threat aside =
     (takes_safely p (after p m).cells a t (end_of m) promote k shut adds threat.attack.attacker threat.attack.on_board threat.attack.apart away
     (inr (λ slides lined met. aside.unpinned (ap is_slider (sym put) ∙ slides) lined met)))
 
--- what is taken where it came to stand might as well not have come
+-- capturing a piece leaves the same board as if it had not come
 taken_again : (lifted : Cells) (side : Color) (a to : ℕ) (promote : Bool) (put : Option Piece) → a ≢ to → cells_after (set lifted to put) side (Board a to promote) ≡ cells_after lifted side (Board a to promote)
 taken_again lifted side a to promote put apart =
     ap (λ (cell : Option Piece). set (set (set lifted to put) a None) to (piece_moved promote cell)) (get_or-set_other lifted to a put None apart)
     ∙ (ap (λ (cells : Cells). set cells to (piece_moved promote (piece_at lifted a))) (set_comm lifted to a put None (λ same. apart (sym same)))
     ∙ set-set (set lifted a None) to put (piece_moved promote (piece_at lifted a)))
 
--- by an attack on the square where it ends, if the board without what moves has no check
+-- an attack on the destination captures there if the board without the moved piece has no check
 retakes : (p : Shogi) (m : Move) (lifted : Cells) (a : ℕ) (promote : Bool) → LeavesStanding p.cells lifted (opponent_of p.side) (end_of m) → in_check lifted (opponent_of p.side) ≡ false → AddsOne p.cells lifted (opponent_of p.side) (end_of m) → (after p m).cells ≡ set lifted (end_of m) (put_by p m)
     → LeavesStanding p.cells (after p m).cells (opponent_of p.side) (end_of m) → piece_at (after p m).cells (end_of m) ≡ put_by p m → is_piece_of p.side (put_by p m) ≡ true → IsAttack p a (end_of m) promote
     → is_legal (record { cells = (after p m).cells; hands = (after p m).hands; side = opponent_of p.side }) (Board a (end_of m) promote) ≡ true
@@ -291,7 +291,7 @@ module _ (p : Shogi) (from to : ℕ) (promote : Bool) (v : IsValid p) (hf : from
     stands = put_board;
   }
 
-  -- the same where the move gives no check
+  -- after a move without check, an attack on the destination captures there
   pub retake_unchecked : in_check (after p (Board from to promote)).cells (opponent_of p.side) ≡ false → (a : ℕ) (promoted : Bool) → IsAttack p a to promoted → MayTake (after p (Board from to promote)) a to promoted (piece_moved promote (piece_at p.cells from))
   unfolding reaches
   retake_unchecked shut a promoted attack =
@@ -329,7 +329,7 @@ module _ (p : Shogi) (kind : Kind) (to : ℕ) (v : IsValid p) (ht : to < 81) whe
     stands = put_drop;
   }
 
--- ---- such captures are found as sets of squares
+-- ---- captures as sets of squares
 
 pub found_unpinnable : (p : Shogi) (own kings pinnable a : ℕ) → kings < 2 ^ 128 → pinnable < 2 ^ 128 → ((n : ℕ) → n < 81 → has_bit own n ≡ is_piece_of (opponent_of p.side) (piece_at p.cells n)) → ((n : ℕ) → n < 81 → has_bit kings n ≡ is_king (opponent_of p.side) (piece_at p.cells n))
     → ((n : ℕ) → n < 81 → has_bit pinnable n ≡ false → IsOffPins p.cells (opponent_of p.side) n) → a < 81 → has_bit (bit_and (bit_and own (2 ^ 128 - 1 - kings)) (2 ^ 128 - 1 - pinnable)) a ≡ true → IsUnpinnable p a
@@ -343,7 +343,7 @@ found_unpinnable p own kings pinnable a low fits bits crown off h e =
       unpinned = off a h (not-true _ (sym (has_bit-not pinnable a fits (omega arith)) ∙ two.1));
     }
 
--- where such a piece may go without promotion
+-- the destinations of an unpinnable piece without promotion
 pub found_plain : (p : Shogi) (a t targets reach dead : ℕ) → IsUnpinnable p a → dead < 2 ^ 128 → ((n : ℕ) → n < 81 → has_bit targets n ≡ reaches p.cells a n) → ((i : ℕ) → has_bit reach i ≡ (has_bit targets i && not (i == a))) → ((n : ℕ) → n < 81 → has_bit dead n ≡ is_immobile n (piece_at p.cells a))
     → t < 81 → has_bit (bit_and reach (2 ^ 128 - 1 - dead)) t ≡ true → IsAttack p a t false
 found_plain p a t targets reach dead free fits on_targets bits on_dead h e =
@@ -358,7 +358,7 @@ found_plain p a t targets reach dead free fits on_targets bits on_dead h e =
       mobile = still t (piece_at p.cells a) ∙ (sym (on_dead t h) ∙ not-true _ (sym (has_bit-not dead t fits (omega arith)) ∙ two.1));
     }
 
--- and with it
+-- the destinations of an unpinnable piece with promotion
 pub found_promoting : (p : Shogi) (a t targets reach zone : ℕ) → IsUnpinnable p a → ((n : ℕ) → n < 81 → has_bit targets n ≡ reaches p.cells a n) → ((i : ℕ) → has_bit reach i ≡ (has_bit targets i && not (i == a))) → ((n : ℕ) → n < 81 → has_bit zone n ≡ may_promote (piece_at p.cells a) a n)
     → t < 81 → has_bit (bit_and reach zone) t ≡ true → IsAttack p a t true
 found_promoting p a t targets reach zone free on_targets bits on_zone h e =

@@ -1,4 +1,4 @@
--- Moves that are skipped together: the first ones that are to come of a sweep, of each of which something is certain (own choice).
+-- Moves that a sweep skips together: its first moves, of each of which something is certain (own choice).
 use Rattle.std.specs.Prelude.{ℕ, ◌≡◌, ◌≢◌, ◌≤◌, ◌<◌, ◌+◌, ◌-◌, ◌*◌, ◌/◌, ◌%◌, ◌⊎◌, Bool, true, false, List, [], ◌∷◌}
 use Rattle.shogi_core.specs.declared.moves.TheConstants.{FIRST_DROP, SQUARE_CODES}
 use Rattle.shogi_core.specs.declared.piece.Kind.{Kind}
@@ -15,12 +15,12 @@ use Rattle.shogi_moves.specs.Sweeps.{matching_from, board_left, drops_left}
 use Rattle.shogi_replies.specs.declared.move_filter.MoveFilter.{MoveFilter}
 use Rattle.shogi_replies.specs.ReplyInfo.{quiet_codes}
 
--- after the move of the code the other side has a legal move that takes nothing and does not promote and, where no escapes are given, is in no check
+-- after the code's move the opponent has a quiet legal reply and, if no escapes are given, is in no check
 pub record LeavesReply (p : Shogi) (escapes code : ℕ) : Type 0 where
   pub replied : quiet_codes (after_code p code) ≢ []
   pub unchecked : escapes ≡ 0 → in_check (after_code p code).cells (opponent_of p.side) ≡ false
 
--- the code is that of a legal move of the kind on the board, from a code on, which the filter has, and after which the other side has such a move
+-- the code, at or above `first`, is that of a legal board move of the kind that the filter has and that leaves a reply
 pub record IsGuaranteedMove (p : Shogi) (capture : Bool) (move_filter : MoveFilter) (escapes first code : ℕ) : Type 0 where
   pub above : first ≤ code
   pub on_board : code < FIRST_DROP
@@ -30,7 +30,7 @@ pub record IsGuaranteedMove (p : Shogi) (capture : Bool) (move_filter : MoveFilt
   pub matching : is_matching p capture code ≡ true
   pub leaves : LeavesReply p escapes code
 
--- the code is that of a legal drop of the kind, from a code on, on one of the squares, after which the other side has such a move
+-- the code, at or above `first`, is that of a legal drop of the kind on one of the squares that leaves a reply
 pub record IsGuaranteedDrop (p : Shogi) (kind : Kind) (squares escapes first code : ℕ) : Type 0 where
   pub above : first ≤ code
   pub low : FIRST_DROP + kind_number kind * 81 ≤ code
@@ -39,12 +39,12 @@ pub record IsGuaranteedDrop (p : Shogi) (kind : Kind) (squares escapes first cod
   pub legal : is_legal_code p code ≡ true
   pub leaves : LeavesReply p escapes code
 
--- the first codes of a list are skipped, of each of which a fact holds, and these are left
+-- `left` is the list without some first codes, of each of which the fact holds
 abbrev pub IsSkipped : (ℕ → Type 0) → List ℕ → List ℕ → Type 0
 IsSkipped fact [] left = [] ≡ left
 IsSkipped fact (code ∷ codes) left = (code ∷ codes ≡ left) ⊎ (fact code × IsSkipped fact codes left)
 
--- the moves of the kind below another code are skipped, each of which guarantees a reply
+-- the moves of the kind from `code` up to `next` are skipped, each of which guarantees a reply
 pub record IsPassedTo (p : Shogi) (capture : Bool) (move_filter : MoveFilter) (escapes code next : ℕ) : Type 0 where
   pub up : code ≤ next
   pub passed : (first : ℕ) → first ≤ code
@@ -56,7 +56,7 @@ abbrev pub HasNoEnds : BoardSweep → Type 0
 HasNoEnds sweep =
     (sweep.destinations.non_promoting.bits ≡ 0) × (sweep.destinations.promoting.bits ≡ 0)
 
--- moves that guarantee a reply are skipped, and the others are left
+-- the sweep skipped only moves that guarantee a reply
 abbrev pub SkipsBoard :
     Shogi → Bool → MoveFilter → ℕ → BoardSweep → BoardSweep → Type 0
 SkipsBoard p capture move_filter escapes old new =

@@ -1,4 +1,4 @@
-//! Squares to which the king of the side that is not to move may go, should a move give it check.
+//! Squares to which the opponent's king may go if a move gives it check.
 
 ghost use Rattle.std.specs.Prelude.{◌≡◌, ◌<◌, ℕ, true, Some};
 ghost use Rattle.shogi_core.specs.Movement.{reaches};
@@ -16,14 +16,14 @@ use shogi_core::{
 };
 use shogi_moves::{KnownEscapes, Origin, king_steps, piece_moved};
 
-/// Those of the squares that the side does not attack.
+/// The `squares` that `by` does not attack.
 fn unattacked(board: &Board, by: Color, squares: Squares) -> Squares
     ensures squares { AreAllUnattacked board.now by squares.bits result.bits }
 {
     squares.sift(|to| !board.is_attacked(by, to))
 }
 
-/// Three of the squares that the side does not attack, or fewer where there are no more.
+/// The first three of the `squares` that `by` does not attack, or fewer if there are no more.
 #[tactic(auto, using(crate::proofs::EscapeLaws::gathering))]
 fn some_unattacked(board: &Board, by: Color, squares: Squares) -> Squares
     ensures { AreUnattacked board.now by squares.bits result.bits }
@@ -43,9 +43,8 @@ fn some_unattacked(board: &Board, by: Color, squares: Squares) -> Squares
     kept
 }
 
-/// Squares next to the king of the side that is not to move, where it has just one, to which it may
-/// go as far as the pieces of the other side stand that are there now. That king is in no check, so
-/// it stands in no piece's way.
+/// The squares next to the opponent's king to which it may go as the pieces now stand; none if it
+/// has no king. The king is not in check, so it blocks no attack on them and need not be lifted.
 pub fn escape_squares(p: &Position) -> Squares
     ensures { AreEscapes p.now result.bits }
 {
@@ -53,7 +52,7 @@ pub fn escape_squares(p: &Position) -> Squares
     unattacked(p.as_board(), p.side(), king_steps(p))
 }
 
-/// Three of those squares, or fewer where there are no more.
+/// The first three of `escape_squares`, or fewer if there are no more.
 pub fn some_escapes(p: &Position) -> Squares
     ensures { AreEscapes p.now result.bits }
 {
@@ -61,7 +60,7 @@ pub fn some_escapes(p: &Position) -> Squares
     some_unattacked(p.as_board(), p.side(), king_steps(p))
 }
 
-/// The squares that one direction leads to from both squares, whatever stands between.
+/// The squares to which one direction leads from both squares, whatever stands between.
 fn squares_behind(over: Square, from: Square) -> Squares
     ensures { (d : ℕ) → d < 8 → HasRaysBehind d from over result.bits }
 {
@@ -73,8 +72,7 @@ fn squares_behind(over: Square, from: Square) -> Squares
     behind
 }
 
-/// The squares behind the king of the side that is not to move, where it has just one, as seen from
-/// the square.
+/// The squares behind the opponent's king as seen from `from`; none if it has no king.
 fn behind_king(p: &Position, from: Square) -> Squares
     ensures { HasKingsRays p.now from result.bits }
 {
@@ -85,9 +83,9 @@ fn behind_king(p: &Position, from: Square) -> Squares
     squares_behind(Square::of_index(lowest(kings.bits)), from)
 }
 
-/// The squares that the piece, which slides, reaches from the square, should the only king of the
-/// side that is not to move leave its own; or all on lines with it, where these tell as much of
-/// whether it leaves some of the given squares.
+/// A superset of the squares that the slider reaches from `to` once the opponent's only king has
+/// left its square. The slide is computed only if it matters: some square of `among` lies beyond
+/// its steps, and none off its lines.
 fn slider_reach(p: &Position, piece: Piece, to: Square, among: Squares) -> Squares
     ensures { ReachesWithin p.now (Some piece) to result.bits }
 {
@@ -101,9 +99,8 @@ fn slider_reach(p: &Position, piece: Piece, to: Square, among: Squares) -> Squar
     p.as_board().targets_of(piece, to) | behind_king(p, to)
 }
 
-/// The squares that the piece reaches from the square, should the only king of the side that is not
-/// to move leave its own; or more, where these tell as much of whether it leaves some of the given
-/// squares.
+/// A superset of the squares that the piece reaches from `to` once the opponent's only king has
+/// left its square, narrow enough to tell whether it covers all of `among`.
 fn within_reach(p: &Position, cell: Option<Piece>, to: Square, among: Squares) -> Squares
     ensures { ReachesWithin p.now cell to result.bits }
 {
@@ -117,8 +114,7 @@ fn within_reach(p: &Position, cell: Option<Piece>, to: Square, among: Squares) -
     }
 }
 
-/// Whether no piece of the side to move that slides is on a line with the square, whatever stands
-/// between.
+/// Whether no slider of the side to move is on a line with the square, whatever stands between.
 fn has_no_sniper(p: &Position, square: Square) -> bool
     ensures { result ≡ true → HasNoSniper p.now.cells p.now.side square }
 {
@@ -127,8 +123,8 @@ fn has_no_sniper(p: &Position, square: Square) -> bool
     snipers.is_empty()
 }
 
-/// Whether the king on the square steps to another one, `to`, which no piece of the side to move
-/// attacks once the king and what stands on `from` have left theirs.
+/// Whether the king steps from `king` to `to`, which no piece of the side to move attacks once the
+/// king and the piece on `from` have left.
 fn is_unprotected(p: &Position, king: Square, from: Square, to: Square) -> bool
     ensures reached { result ≡ true → reaches p.now.cells king to ≡ true }
     ensures safe { result ≡ true → IsSafeWithoutBoth p.now from king to }
@@ -144,8 +140,7 @@ fn is_unprotected(p: &Position, king: Square, from: Square, to: Square) -> bool
     !next.is_attacked(p.side(), to)
 }
 
-/// Whether the king of the side that is not to move, where it has just one, surely may take what
-/// comes to a square next to it, if the move is legal.
+/// True only if the opponent's king may capture the piece that a legal move puts next to it.
 pub fn king_takes(p: &Position, m: &Move) -> bool
     ensures answered { result ≡ true → IsAnswered p.now m.now }
     ensures taken { result ≡ true → is_legal p.now m.now ≡ true → IsTaken p.now m.now }
@@ -168,7 +163,7 @@ pub fn king_takes(p: &Position, m: &Move) -> bool
     }
 }
 
-/// The lines that a move opens: those of the square that it leaves.
+/// The lines that a move may open: those of the square that it leaves; none for a drop.
 fn opened_lines(origin: &Origin) -> Squares
     ensures { OpensWithin origin.now result.bits }
 {
@@ -182,9 +177,9 @@ fn opened_lines(origin: &Origin) -> Squares
 }
 
 impl KnownReplies<'_> {
-    /// Whether one of the escapes on which nothing stands is surely left to the king after the legal
-    /// move, should that give it check: the move does not end there, what moves does not reach it, and
-    /// it is on no line with the square that it leaves.
+    /// True only if the king keeps an empty escape after the legal move, even in check. The move
+    /// does not end there, the moved piece does not reach it, and it is on no line with the square
+    /// left.
     pub fn leaves_escape(&self, m: &Move) -> bool
         ensures { result ≡ true → IsQuietlyAnswered self.now.position.now m.now }
     {
@@ -206,10 +201,9 @@ impl KnownReplies<'_> {
         .has_open(closed, to)
     }
 
-    /// Whether one of the escapes is surely left to the king after the legal move, should that give it
-    /// check, as `leaves_escape` does not see it: on the board what moves does not slide on, and leaves
-    /// a square on no line with a piece of its side that slides, so that it discovers nothing; what is
-    /// dropped on such a square, the king takes.
+    /// True only if the king keeps an escape after the legal move, in cases that `leaves_escape`
+    /// misses. A board move must end as a non-slider and leave a square on no line with its side's
+    /// sliders, so it discovers nothing. A piece dropped on an escape is captured by the king.
     pub fn leaves_king_move(&self, m: &Move) -> bool
         ensures { result ≡ true → IsAnswered self.now.position.now m.now }
     {
@@ -241,8 +235,8 @@ impl KnownReplies<'_> {
         }
     }
 
-    /// Those of the squares at which a move ends so that one of the escapes is surely left to the king:
-    /// up to the first after which none is.
+    /// The first `destinations` at which a move surely leaves an escape, up to the first that may
+    /// not.
     #[tactic(auto, using(crate::proofs::EscapeLaws::gathering))]
     pub(crate) fn escaped_destinations(&self, origin: &Origin, destinations: Squares) -> Squares
         ensures among { IsWithin result.bits destinations.bits }

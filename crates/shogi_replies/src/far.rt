@@ -1,5 +1,5 @@
-//! The pieces whose moves give the other side no check and, where promotions are not allowed,
-//! cannot promote, found all at once.
+//! The pieces whose moves give no check and, if promotions are excluded, cannot promote, found for
+//! all pieces at once.
 
 ghost use Rattle.shogi_replies.specs.ReplyInfo.{AreNonChecking, HasAroundKings};
 
@@ -7,7 +7,7 @@ use shogi_core::bits::{cleared, lowest};
 use shogi_core::zones::{squares_around, squares_near_zone};
 use shogi_core::{Board, Color, Position, Square, Squares};
 
-/// All squares around the kings of the side.
+/// The squares around the kings of the side; all squares for several kings.
 #[inline(always)]
 fn around_kings(board: &Board, side: Color) -> Squares
     ensures { HasAroundKings board.now side result.bits }
@@ -23,9 +23,9 @@ fn around_kings(board: &Board, side: Color) -> Squares
     squares_around(Square::of_index(king))
 }
 
-/// Those of the pieces of the side to move that do not slide and are not in sight, whose moves end
-/// too far from the kings of the other side to attack them; those alone that are far
-/// from the zone, too, where none may promote.
+/// Pieces of the side to move, no sliders and out of `king_view`, whose moves end too far from the
+/// opponent's kings to attack them. Without `promotes`, pieces near the promotion zone are left
+/// out.
 #[inline(always)]
 pub fn non_checking_pieces(p: &Position, king_view: Squares, promotes: bool) -> Squares
     ensures { AreNonChecking p.now king_view.bits promotes result.bits }

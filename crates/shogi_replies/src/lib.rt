@@ -1,10 +1,11 @@
-//! What is certain after a legal move, before it is made: that the other side has a legal move, or
-//! may take something.
+//! What is certain after a legal move before it is made: that the opponent has a legal reply, or
+//! may capture something.
 //!
-//! `ReplyInfo` keeps what shows that most moves give no check and leave a piece that can move, and
-//! `KnownReplies` is that with its position; `far` finds pieces of which each move does. `escapes` are squares to which a king may go that is given
-//! check. `skips` moves a sweep on past moves of a `move_filter` of which that is certain. `threats` are
-//! captures that stand after most moves.
+//! `ReplyInfo` holds what shows of most moves that they give no check and leave a reply, and
+//! `KnownReplies` joins it with its position; `far` finds pieces of which every move does.
+//! `escapes` finds squares to which a king in check may go. `skips` moves a sweep past moves of a
+//! `move_filter` that surely leave a reply. `threats` are captures that stay possible after most
+//! moves.
 #![tactic(auto)]
 
 mod escapes;

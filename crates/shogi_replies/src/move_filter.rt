@@ -1,11 +1,11 @@
-//! Which moves on the board may be skipped together.
+//! Which board moves may be skipped together.
 
 ghost use Rattle.shogi_moves.specs.Destinations.{IsWithin};
 ghost use Rattle.shogi_replies.specs.ReplyInfo.{LetPromote};
 
 use shogi_core::Squares;
 
-/// Moves of the pieces on some squares to some squares, with promotion or without it alone.
+/// Moves of the pieces on `pieces` to `squares`, with promotion only if `promotes`.
 #[derive(Clone, Copy, Debug)]
 pub struct MoveFilter {
     pub pieces: Squares,
@@ -14,7 +14,7 @@ pub struct MoveFilter {
 }
 
 impl MoveFilter {
-    /// The squares for moves with promotion.
+    /// The destinations for promotions.
     #[inline(always)]
     pub fn promotions(&self) -> Squares
         ensures squares { IsWithin result.bits self.now.squares.bits }

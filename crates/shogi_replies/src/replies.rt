@@ -1,4 +1,4 @@
-//! Whether the other side surely has a legal move after a move, without making it.
+//! Whether the opponent surely has a legal reply after a move, found without making it.
 
 ghost use Rattle.std.specs.Prelude.{◌≡◌, ◌≢◌, [], true, false, bit_and};
 ghost use Rattle.std.proofs.Props.{props};
@@ -19,19 +19,18 @@ use shogi_core::zones::{dead_squares, promoting_squares};
 use shogi_core::{Color, Kind, Move, Piece, Position, Square, Squares, line_mask, step_squares};
 use shogi_moves::{Origin, dropped, matching_destinations, piece_moved};
 
-/// What is kept of a position to decide that after most of its moves the other side is in no check
-/// and has a legal move that takes nothing and does not promote: what its king sees, and pieces of it
-/// that step to empty squares, or the empty squares where it holds a piece that may be dropped on
-/// each of them. Wherever a move ends that leaves one of these squares, the side has such a step or
-/// drop to another square than that.
+/// What shows, after most moves, that the opponent is in no check and has a legal quiet reply: no
+/// capture, no promotion. `free_movers` holds pieces with steps to empty squares, or all empty
+/// squares if a piece in hand may be dropped on each. Any move that does not end on one of them
+/// leaves such a step or drop elsewhere.
 #[derive(Clone, Copy, Debug)]
 pub struct ReplyInfo {
     pub king_view: Squares,
     pub free_movers: Squares,
 }
 
-/// A position with what is kept of it, and squares to which the king of the side that is not to move may
-/// go, should a move give it check; there may be more.
+/// A position with its reply info and some squares to which the opponent's king may go if a move
+/// gives it check.
 #[derive(Clone, Copy)]
 pub struct KnownReplies<'a> {
     pub position: &'a Position,
@@ -41,7 +40,7 @@ pub struct KnownReplies<'a> {
     ghost escaping: { AreEscapes position.now escapes.bits } by { Prim.hlevel props },
 }
 
-/// The squares of kings of the side, of open lines with them, and a knight's jump away.
+/// The squares of the side's kings, of open lines with them, and a knight's jump away.
 #[tactic(auto, using(crate::proofs::ReplyLaws::seeing))]
 fn king_view_squares(p: &Position, side: Color) -> Squares
     ensures { Sees p.now.cells side 0 result.bits }
@@ -56,7 +55,7 @@ fn king_view_squares(p: &Position, side: Color) -> Squares
     king_view
 }
 
-/// The squares of kings of the side, and of lines with them, whatever stands between.
+/// The squares of the side's kings and of all lines with them, whatever stands between.
 #[tactic(auto, using(crate::proofs::ReplyLaws::seeing))]
 pub fn king_line_mask(p: &Position, side: Color) -> Squares
     ensures { Aligns p.now.cells side 0 result.bits }
@@ -70,8 +69,8 @@ pub fn king_line_mask(p: &Position, side: Color) -> Squares
     lines
 }
 
-/// Whether what stands on the square may stand in the way of a piece that slides to a king of the
-/// side: such a piece is on a line with the king and on an open line with the square.
+/// Whether the piece on `from` may block a slider from a king of `side`: such a slider is on a line
+/// with the king and on an open line with `from`.
 fn may_discover_check(p: &Position, side: Color, from: Square) -> bool
     ensures { result ≡ false → StaysCovered p.now.cells side from }
 {
@@ -79,8 +78,8 @@ fn may_discover_check(p: &Position, side: Color, from: Square) -> bool
     !snipers.is_empty() && !(p.as_board().open_lines(from) & snipers).is_empty()
 }
 
-/// Whether another piece of the side to move reaches the other side's king once what stands on the
-/// one square has gone to the other.
+/// Whether another piece of the side to move attacks the opponent's king once the piece on `from`
+/// has gone to `to`.
 #[inline(never)]
 fn discovers_check(p: &Position, from: Square, to: Square) -> bool
     ensures { result ≡ false → DiscoversNoCheck p.now from to }
@@ -100,8 +99,8 @@ fn discovers_check(p: &Position, from: Square, to: Square) -> bool
     }
 }
 
-/// The empty squares to which what stands on the square may step, and from where it can move again
-/// without promotion.
+/// The empty squares to which the piece on `from` steps and from which it can move again without
+/// promotion.
 pub fn quiet_steps(p: &Position, from: Square) -> Squares
     ensures { AreQuietSteps p.now.cells from result.bits }
 {
@@ -115,7 +114,7 @@ pub fn quiet_steps(p: &Position, from: Square) -> Squares
     }
 }
 
-/// Whether there are two squares.
+/// Whether the set has two squares or more.
 pub fn has_two(squares: Squares) -> bool
     ensures { result ≡ true → HasOthers squares.bits }
 {
@@ -125,9 +124,9 @@ pub fn has_two(squares: Squares) -> bool
     without_lowest(squares.bits, lowest(squares.bits)) != 0
 }
 
-/// Pieces of the side that are on no line with a king of their own and have a step to an empty
-/// square, two at least with two such squares between them; none where there are not that many
-/// squares, and one where there is no second piece.
+/// Pieces of the side that have a quiet step and are off all lines with its own king, which they
+/// therefore never expose. It stops at two pieces with two end squares, as one move can end on only
+/// one of each. With a single end square the result is empty.
 fn free_moving_pieces(p: &Position, side: Color, lines: Squares) -> Squares
     requires { Aligns p.now.cells side 0 lines.bits }
     ensures { LeaveFreeMovers p.now.cells side result.bits }
@@ -148,7 +147,7 @@ fn free_moving_pieces(p: &Position, side: Color, lines: Squares) -> Squares
     if has_two(ends) { kept } else { Squares::none() }
 }
 
-/// Whether what would stand on the square attacks a king of the side.
+/// Whether the piece, put on `to`, attacks a king of `side`.
 #[inline(never)]
 fn attacks_king(p: &Position, side: Color, cell: Option<Piece>, to: Square) -> bool
     ensures { result ≡ false → IsHarmless p.now.cells side cell to }
@@ -162,8 +161,8 @@ fn attacks_king(p: &Position, side: Color, cell: Option<Piece>, to: Square) -> b
     }
 }
 
-/// The squares from which the piece would attack a king of the side: those that it would reach from
-/// there if it were of the other colour.
+/// The squares from which the piece would attack a king of `side`: those that it would reach from
+/// the king's square in the other colour.
 fn check_squares(p: &Position, side: Color, cell: Option<Piece>) -> Squares
     ensures { ChecksWithin p.now.cells side cell result.bits }
 {
@@ -183,8 +182,8 @@ fn check_squares(p: &Position, side: Color, cell: Option<Piece>) -> Squares
     checks
 }
 
-/// Whether the side holds a piece that it may drop on each empty square where it is in no check:
-/// one that is no pawn and has a move from everywhere.
+/// Whether the side has a piece in hand that it may drop on every empty square when it is in no
+/// check: a pawn, a lance or a knight cannot stand on each.
 fn holds_free(p: &Position, side: Color) -> bool
     ensures { result ≡ holds_free p.now.hands side }
 {
@@ -194,8 +193,8 @@ fn holds_free(p: &Position, side: Color) -> bool
         || p.hand(side, Kind::Rook) > 0
 }
 
-/// Whether each of the ends of moves from the square is among the squares for moves without
-/// promotion, and each at which such a move may promote among those for moves with it.
+/// Whether `non_promoting` has all of `ends`, and `promoting` all at which a move from `from` may
+/// promote.
 #[inline(always)]
 fn are_among(
     p: &Position,
@@ -218,7 +217,7 @@ fn are_among(
 }
 
 impl ReplyInfo {
-    /// What is kept of the position.
+    /// The reply info of the position.
     pub fn of(p: &Position) -> ReplyInfo
         ensures { IsReplyInfoOf result p.now }
     {
@@ -235,7 +234,7 @@ impl ReplyInfo {
         }
     }
 
-    /// Nothing is known: each square is held to be seen.
+    /// Reply info that claims nothing: every square counts as seen, and no mover is known.
     pub fn unknown(p: &Position) -> ReplyInfo
         ensures { IsReplyInfoOf result p.now }
     {
@@ -246,8 +245,7 @@ impl ReplyInfo {
         }
     }
 
-    /// The position that this is kept of, with it and with squares to which the king of the side that
-    /// is not to move may go.
+    /// The position with its own reply info and with escapes of the opponent's king.
     #[inline(always)]
     pub fn at(self, position: &Position, escapes: Squares) -> KnownReplies<'_>
         requires replies { IsReplyInfoOf self position.now }
@@ -263,7 +261,7 @@ impl ReplyInfo {
         }
     }
 
-    /// Whether no king sees the square, nor any of the others.
+    /// Whether neither `from` nor any of the `squares` is in the king view.
     #[inline(always)]
     pub fn is_unseen(&self, from: Square, squares: Squares) -> bool
         ensures { result ≡ true → IsUnseen self.now from squares.bits }
@@ -271,7 +269,7 @@ impl ReplyInfo {
         (squares & self.king_view).is_empty() && !self.king_view.has(from)
     }
 
-    /// The squares that are not closed and leave the other side one that gives it a move.
+    /// The squares outside `closed` on which a move may end and leave a free mover elsewhere.
     fn open_squares(&self, closed: Squares) -> Squares
         ensures { AreOpen closed.bits self.now.free_movers.bits result.bits }
     {
@@ -288,7 +286,7 @@ impl ReplyInfo {
 }
 
 impl KnownReplies<'_> {
-    /// Whether what comes to stand on the square surely gives no check to the other side.
+    /// True only if the piece, put on `to`, attacks no king of the opponent.
     #[inline(always)]
     fn is_harmless(&self, cell: Option<Piece>, to: Square) -> bool
         ensures { result ≡ true → IsHarmless self.now.position.now.cells
@@ -302,9 +300,9 @@ impl KnownReplies<'_> {
         true
     }
 
-    /// The squares to which a move of what stands on the square may discover a check: none where no
-    /// king sees it, all where it may cover one, and else the lines of the king for a piece that
-    /// slides.
+    /// The squares to which a move from `from` may discover a check. There are none if `from` is
+    /// off the king view, and all if the piece may block a slider. A slider else has the king's
+    /// lines, on which its own square may have blocked it.
     #[inline(always)]
     fn discovering_squares(&self, from: Square) -> Squares
         ensures { DiscoversChecksWithin self.now.position.now
@@ -326,7 +324,7 @@ impl KnownReplies<'_> {
         }
     }
 
-    /// Whether what stands on the one square may discover a check on its way to the other.
+    /// Whether the piece on `from` may discover a check by its move to `to`.
     #[inline(always)]
     fn discovers(&self, from: Square, to: Square) -> bool
         ensures { result ≡ false → DiscoversNoCheck self.now.position.now from to }
@@ -340,9 +338,9 @@ impl KnownReplies<'_> {
         false
     }
 
-    /// Whether it is certain that after the legal move the other side is in no check and has a
-    /// legal move that takes nothing and does not promote. Then it may carry out each of its threats
-    /// that the move leaves, and take what the move puts on its square.
+    /// True only if after the legal move the opponent is in no check and has a quiet legal reply.
+    /// It may then also carry out each threat that the move leaves, and retake on the square where
+    /// the move ends.
     #[inline(always)]
     pub fn guarantees_reply(&self, m: &Move) -> bool
         requires legal { is_legal self.now.position.now m.now ≡ true }
@@ -374,8 +372,8 @@ impl KnownReplies<'_> {
         }
     }
 
-    /// Whether the legal move surely discovers no check: what it puts on its square may then be taken
-    /// by each such attack, also where that gives check.
+    /// True only if the legal move discovers no check. Every attack of the opponent on the square
+    /// where the move ends may then retake there, even if the move gives check.
     pub fn discovers_no_check(&self, m: &Move) -> bool
         requires legal { is_legal self.now.position.now m.now ≡ true }
         ensures { result ≡ true → MayRetake self.now.position.now m.now }
@@ -396,7 +394,7 @@ impl KnownReplies<'_> {
         }
     }
 
-    /// Those of the squares on which what comes to stand there may give check.
+    /// The `destinations` on which the piece of the origin may give check.
     #[inline(always)]
     fn checking_squares(&self, origin: &Origin, destinations: Squares) -> Squares
         ensures { ChecksAmong self.now.position.now
@@ -410,9 +408,9 @@ impl KnownReplies<'_> {
         seen & check_squares(p, p.side().opponent(), origin.put(p))
     }
 
-    /// Pieces of the side to move of which the filter has each move of the kind, and each leaves the
-    /// other side a legal move and gives no check, since they are far from its kings; none where the
-    /// filter has not all squares for moves without promotion.
+    /// Pieces of the side to move far from the opponent's kings, whose every move of the kind is in
+    /// the filter, leaves a legal reply and gives no check. The result is empty unless the filter
+    /// has all destinations of the kind.
     pub fn non_checking_pieces(&self, capture: bool, move_filter: &MoveFilter) -> Squares
         ensures { GuaranteeReplies self.now.position.now capture
             move_filter.now self.now.escapes.bits result.bits }
@@ -430,8 +428,8 @@ impl KnownReplies<'_> {
         non_checking_pieces(p, self.info.king_view, move_filter.promotes) & move_filter.pieces
     }
 
-    /// Pieces of the side to move of which each move, promoting or not, leaves the other side a legal
-    /// move, since they are far from its kings.
+    /// Pieces of the side to move far from the opponent's kings, whose every move, promoting or
+    /// not, leaves a legal reply.
     pub fn distant_pieces(&self) -> Squares
         ensures { AreDistant self.now.position.now result.bits }
     {
@@ -443,9 +441,8 @@ impl KnownReplies<'_> {
         non_checking_pieces(self.position, self.info.king_view, true)
     }
 
-    /// Whether the filter has each move of the kind of what stands on the square, and each surely leaves
-    /// the other side a legal move and, where there are no escapes, gives no check. Which of the moves
-    /// are legal need not be known.
+    /// True only if the filter has each move of the kind from `from`, and each leaves a legal reply
+    /// and, without escapes, gives no check. Legality of the moves themselves is not tested.
     #[inline(always)]
     pub fn guarantees_replies(&self, capture: bool, move_filter: &MoveFilter, from: Square) -> bool
         ensures { result ≡ true → GuaranteesReplies self.now.position.now capture
@@ -485,8 +482,8 @@ impl KnownReplies<'_> {
         uncertain.is_empty()
     }
 
-    /// Those of the squares to which what stands on a square may move so that the other side surely
-    /// has a legal move after it and is in no check, where no king sees that square or one of these.
+    /// The `destinations` to which the piece on `from` surely leaves a legal reply and gives no
+    /// check, given that neither `from` nor these are in the king view.
     #[inline(always)]
     fn unseen_destinations(&self, from: Square, destinations: Squares) -> Squares
         requires { IsUnseen self.now.info from destinations.bits }
@@ -498,7 +495,7 @@ impl KnownReplies<'_> {
         destinations & self.info.open_squares(Squares::none())
     }
 
-    /// The squares to which a move may discover a check; a drop discovers none.
+    /// The squares to which a move of the origin may discover a check; none for a drop.
     #[inline(always)]
     fn discovering_from(&self, origin: &Origin) -> Squares
         ensures { OpensChecksWithin self.now.position.now
@@ -513,8 +510,8 @@ impl KnownReplies<'_> {
         }
     }
 
-    /// Those of the squares at which a move ends so that the other side surely has a legal move after
-    /// it and is in no check.
+    /// The `destinations` at which a move of the origin surely leaves a legal reply and gives no
+    /// check.
     #[inline(always)]
     pub fn non_checking_destinations(&self, origin: &Origin, destinations: Squares) -> Squares
         ensures among { IsWithin result.bits destinations.bits }
@@ -528,8 +525,8 @@ impl KnownReplies<'_> {
         destinations & self.info.open_squares(closed)
     }
 
-    /// Those of the squares at which a move ends so that the other side surely has a legal move after
-    /// it: it is in no check, or its king has one of the escapes left, where there are some.
+    /// The `destinations` at which a move of the origin surely leaves a legal reply: the opponent
+    /// is in no check, or its king keeps one of the escapes.
     #[inline(always)]
     pub fn guaranteed_destinations(&self, origin: &Origin, destinations: Squares) -> Squares
         ensures among { IsWithin result.bits destinations.bits }

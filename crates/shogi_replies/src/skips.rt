@@ -1,4 +1,4 @@
-//! Moves that are skipped together.
+//! Skipping moves of a sweep that surely leave a reply.
 
 ghost use Rattle.shogi_moves.specs.Sweeps.{IsBoardSweep, IsDropSweep};
 ghost use Rattle.shogi_replies.specs.Passes.{HasNoEnds, IsPassedTo, SkipsBoard, SkipsDrops};
@@ -10,8 +10,8 @@ use shogi_core::{SQUARE_CODES, Squares};
 use shogi_moves::{BoardSweep, Destinations, DropSweep, Origin, matching_movers};
 
 impl KnownReplies<'_> {
-    /// Skips the destinations of the present piece, up to the first one that the filter does not
-    /// have, or that guarantees no reply.
+    /// Skips destinations of the present piece, up to the first that the filter lacks or that
+    /// guarantees no reply.
     fn skip_destinations(&self, capture: bool, move_filter: &MoveFilter, sweep: &mut BoardSweep)
         requires consistent { IsBoardSweep self.now.position.now capture sweep.old }
         ensures consistent { IsBoardSweep self.now.position.now capture sweep.new }
@@ -47,8 +47,8 @@ impl KnownReplies<'_> {
         }
     }
 
-    /// Skips all moves of the next pieces, as long as the filter has each and it guarantees a reply. Pieces
-    /// that are far are not looked at one by one.
+    /// Skips all moves of the next pieces while the filter has each and it guarantees a reply.
+    /// Pieces far from the kings are found as a set, not one by one.
     fn skip_pieces(&self, capture: bool, move_filter: &MoveFilter, sweep: &mut BoardSweep)
         requires consistent { IsBoardSweep self.now.position.now capture sweep.old }
         requires if_none { HasNoEnds sweep.old }
@@ -73,9 +73,8 @@ impl KnownReplies<'_> {
         sweep.skip_pieces(p, capture, 81);
     }
 
-    /// Skips the next moves of the sweep, as long as the filter has them and it is certain by a look
-    /// at squares alone that the other side has a legal move after them and, where the filter has no
-    /// escapes, that they give no check.
+    /// Skips the next moves of the sweep while the filter has them and a look at sets of squares
+    /// shows that each leaves a legal reply and, without escapes, gives no check.
     pub fn skip_moves(&self, capture: bool, move_filter: &MoveFilter, sweep: &mut BoardSweep)
         requires consistent { IsBoardSweep self.now.position.now capture sweep.old }
         ensures consistent { IsBoardSweep self.now.position.now capture sweep.new }
@@ -90,9 +89,8 @@ impl KnownReplies<'_> {
         }
     }
 
-    /// Skips the drops of the kind that the sweep is at, up to the first that is on none of the
-    /// squares, or after which it is not certain by a look at squares alone that the other side has a
-    /// legal move and, where there are no escapes, is in no check.
+    /// Skips drops of the sweep's present kind, up to the first off `squares`, or the first not
+    /// shown to leave a legal reply and, without escapes, to give no check.
     pub fn skip_drops(&self, squares: Squares, sweep: &mut DropSweep)
         requires consistent { IsDropSweep self.now.position.now sweep.old }
         ensures consistent { IsDropSweep self.now.position.now sweep.new }

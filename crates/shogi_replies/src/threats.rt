@@ -1,4 +1,4 @@
-//! Moves that the side that is not to move may make after most moves as well.
+//! Moves of the opponent that stay possible after most moves.
 
 ghost use Rattle.std.specs.Prelude.{◌≡◌, ◌<◌, ℕ, true, false};
 ghost use Rattle.shogi_core.specs.Bits.{has_bit};
@@ -9,7 +9,7 @@ use shogi_core::zones::{dead_squares, promoting_squares};
 use shogi_core::{Color, Direction, Position, Square, Squares, line_mask, ray};
 use shogi_moves::Destinations;
 
-/// The squares between the two on a line, whatever stands there.
+/// The squares between the two if they share a line, whatever stands there; else none.
 pub fn squares_between(from: Square, to: Square) -> Squares
     ensures { HasBetween from to result.bits }
 {
@@ -21,8 +21,7 @@ pub fn squares_between(from: Square, to: Square) -> Squares
     between
 }
 
-/// The squares between the king of the side and the pieces of the other one that slide and are on a
-/// line with it, whatever stands there.
+/// The squares between the king and enemy sliders on a line with it, whatever stands there.
 #[tactic(auto, using(crate::proofs::PinLaws::before_snipers, shogi_core::proofs::SeenLaws::snipers))]
 fn squares_before_king(p: &Position, side: Color, king: Square) -> Squares
     ensures { HasBeforeSnipers p.now.cells side king 0 result.bits }
@@ -37,8 +36,8 @@ fn squares_before_king(p: &Position, side: Color, king: Square) -> Squares
     squares
 }
 
-/// The squares on which a piece of the side may be pinned, whatever leaves its square: those between
-/// its king and a piece of the other side that slides.
+/// The squares on which a piece of the side may be pinned after any move off its square: those
+/// between its king and enemy sliders.
 fn pinnable_squares(p: &Position, side: Color) -> Squares
     ensures { (a : ℕ) → a < 81 → has_bit result.bits a ≡ false → IsOffPins p.now.cells side a }
 {
@@ -48,8 +47,8 @@ fn pinnable_squares(p: &Position, side: Color) -> Squares
     }
 }
 
-/// The pieces of the side that is not to move, without its kings, that no piece pins which stands
-/// where it does now, whatever leaves its square.
+/// The opponent's pieces other than kings that no piece now on the board can pin, whatever leaves
+/// its square.
 pub fn unpinnable_pieces(p: &Position) -> Squares
     ensures unpinnable { (a : ℕ) → a < 81 → has_bit result.bits a ≡ true
         → IsUnpinnable p.now a }
@@ -60,8 +59,8 @@ pub fn unpinnable_pieces(p: &Position) -> Squares
     others.without(pinnable_squares(p, side))
 }
 
-/// Where the piece on the square may go without promotion and with it, of the squares that it
-/// reaches, whatever stands there, as far as its role goes, where that is such a piece.
+/// The squares that the unpinnable piece on `from` attacks, without promotion and with it, as its
+/// role allows and whatever stands there. `reach` has exactly the squares that it reaches.
 pub fn attacks_of(p: &Position, from: Square, reach: Squares) -> Destinations
     requires from { IsUnpinnable p.now from }
     requires reach { (n : ℕ) → n < 81 → has_bit reach.bits n ≡ reaches p.now.cells from n }

@@ -15,7 +15,7 @@ use Rattle.shogi_replies.specs.Threats.{IsTaken}
 use Rattle.shogi_replies.proofs.KingReplies.{taken_by_king, drop_taken_by_king, taken_reply}
 use Rattle.shogi_replies.proofs.escapes.king_takes.Goals as goal
 
--- the king on k steps to the square, which no piece of the mover's attacks once the king and what stands on another one have left theirs
+-- the king on k steps to `to`, which no piece of the mover attacks once k and `from` are empty
 record IsUnprotected (p : Shogi) (side : Color) (from k to : ℕ) : Type 0 where
   is_side : side ≡ opponent_of p.side
   valid : IsValid p
