@@ -1,4 +1,4 @@
--- A key is had again from its words.
+-- A key can be unpacked from its words.
 use Rattle.std.proofs.Common.{◌≡◌, ◌∙◌, ◌≤◌, ◌<◌, ◌+◌, ◌-◌, ◌*◌, ◌/◌, ◌%◌, ℕ, List, [], ◌∷◌, ◌++◌, Option, Some, None, refl, sym, ap, ap₂, arith, length, map, drop, slice_index}
 use Rattle.std.specs.Bool.{Decides}
 use Rattle.std.specs.Cmp.Lexicographic.{pointwise}
@@ -39,7 +39,7 @@ white_back : (r : Role) → cell_of_number (role_number r + 15) ≡ Some (record
 white_back role.King = refl
 white_back _ = refl
 
--- what stands on a square is had again from its number
+-- a square's content can be unpacked from its number
 pub cell_back : (cell : Option Piece) → cell_of_number (cell_number cell) ≡ cell
 cell_back None = refl
 cell_back (Some piece) = go piece.color refl
@@ -48,7 +48,7 @@ cell_back (Some piece) = go piece.color refl
     go Black e = black_back piece.role ∙ ap (λ (c : Color). Some (record { color = c; role = piece.role })) (sym e)
     go White e = white_back piece.role ∙ ap (λ (c : Color). Some (record { color = c; role = piece.role })) (sym e)
 
--- digits are had again from their number
+-- digits can be unpacked from their number
 pub digits_back : (ds : List ℕ) → AreDigits ds → digits_in_base_32 (length ds) (number_in_base_32 ds) ≡ ds
 unfolding digits_in_base_32 number_in_base_32
 digits_back [] fits = refl
@@ -61,7 +61,7 @@ all_back : (cells : Cells) → map cell_of_number (map cell_number cells) ≡ ce
 all_back [] = refl
 all_back (cell ∷ cells) = ap₂ (λ (c : Option Piece) (cs : Cells). c ∷ cs) (cell_back cell) (all_back cells)
 
--- the squares of a word are had again
+-- the squares of a word can be unpacked
 pub cells_back : (cells : Cells) (n : ℕ) → length cells ≡ n → cells_in n (number_in_base_32 (map cell_number cells)) ≡ cells
 cells_back cells n len =
     let digits = digits_back (map cell_number cells) (cells_are_digits cells) in
@@ -98,18 +98,18 @@ counts_are_digits p side valid = (
   ),
 )
 
--- what a side holds is had again
+-- the counts of a side can be unpacked
 counts_back : (p : Shogi) (side : Color) → IsValid p → digits_in_base_32 7 (number_in_base_32 (counts_of p.hands side)) ≡ counts_of p.hands side
 counts_back p side valid = digits_back (counts_of p.hands side) (counts_are_digits p side valid)
 
--- a list is made of what stands at each place
+-- a list is that of its items in order
 listed : (xs : List ℕ) (n : ℕ) → length xs ≡ n → map (slice_index xs) (range_with_len 0 n) ≡ xs
 listed xs n len =
     let same : length (map (slice_index xs) (range_with_len 0 n)) ≡ n = length-map-range_with_len (slice_index xs) 0 n in
     ext_get_or 0 (map (slice_index xs) (range_with_len 0 n)) xs (same ∙ sym len) (λ i below.
     get_or-map-range_with_len (slice_index xs) 0 n i i 0 (omega (arith, same, below)) (omega arith))
 
--- the counts of both sides are the whole list
+-- the counts of both sides make the whole list
 hands_back : (hands : HandCounts) → length hands ≡ 14 → counts_of hands Black ++ counts_of hands White ≡ hands
 hands_back hands len = listed hands 14 len
 
@@ -137,7 +137,7 @@ eval_back side eval depth = go eval refl
 depth_back : (side : Color) (eval : Eval) (depth : ℕ) → (color_number side + 2 * (eval_number eval + 3 * depth)) / 6 ≡ depth
 depth_back side eval depth = omega (arith, side_fits side, eval_fits eval)
 
--- the parts of a board are the board
+-- the parts of a board make the whole board
 parts_back : (cells : Cells) → length cells ≡ 81
     → slice_range cells 0 12 ++ (slice_range cells 12 24 ++ (slice_range cells 24 36 ++ (slice_range cells 36 48
     ++ (slice_range cells 48 60 ++ (slice_range cells 60 72 ++ slice_range cells 72 81))))) ≡ cells
@@ -150,11 +150,11 @@ parts_back cells len = sym (
     drop_split cells 60 72 (omega arith) ∙ ap (λ rest. slice_range cells 60 72 ++ rest) (
     sym (take_all 9 (drop 72 cells) (omega (arith, length-drop 72 cells))))))))))
 
--- a part has so many squares
+-- the length of a part of the board
 part_length : (cells : Cells) (from to : ℕ) → length cells ≡ 81 → from ≤ to → to ≤ 81 → length (slice_range cells from to) ≡ to - from
 part_length cells from to len order fits = length-take-le (to - from) (drop from cells) (omega (arith, length-drop from cells))
 
--- the squares are had again
+-- the board can be unpacked
 board_back : (cells : Cells) → length cells ≡ 81
     → cells_in 12 (cells_word cells 0 12) ++ (cells_in 12 (cells_word cells 12 24) ++ (cells_in 12 (cells_word cells 24 36)
     ++ (cells_in 12 (cells_word cells 36 48) ++ (cells_in 12 (cells_word cells 48 60) ++ (cells_in 12 (cells_word cells 60 72)
@@ -178,7 +178,7 @@ pub same_parts : {c d : Cells} {h k : HandCounts} {s t : Color} → c ≡ d → 
 same_parts {c} {d} {h} {k} {s} {t} a b e =
     ap (λ (x : Cells). position_of x h s) a ∙ (ap (λ (x : HandCounts). position_of d x s) b ∙ ap (position_of d k) e)
 
--- the position is had again
+-- the position can be unpacked
 pub position_back : (p : Shogi) (eval : Eval) (depth : ℕ) → IsValid p → position_in (words_of (key_of p eval depth)) ≡ p
 unfolding position_in words_of
 position_back p eval depth valid = same_parts (board_back p.cells valid.cells_fit)
@@ -197,11 +197,11 @@ same_key : {p q : Shogi} {e f : Eval} {d n : ℕ} → p ≡ q → e ≡ f → d 
 same_key {p} {q} {e} {f} {d} {n} a b k =
     ap (λ (x : Shogi). key_of x e d) a ∙ (ap (λ (x : Eval). key_of q x d) b ∙ ap (key_of q f) k)
 
--- the key is had again
+-- the key can be unpacked
 pub key_back : (p : Shogi) (eval : Eval) (depth : ℕ) → IsValid p → key_in (words_of (key_of p eval depth)) ≡ key_of p eval depth
 key_back p eval depth valid = same_key (position_back p eval depth valid) (eval_in_back p eval depth) (depth_in_back p eval depth)
 
--- so the words of a valid position under an evaluation at a depth are a key
+-- the words of a valid position, an evaluation and a depth are words of a key
 pub words_are : (p : Shogi) (eval : Eval) (depth : ℕ) → IsValid p → depth < 256 → AreWords (words_of (key_of p eval depth))
 words_are p eval depth valid fits = record {
   valid = rw (position_back p eval depth valid) valid;
@@ -209,17 +209,17 @@ words_are p eval depth valid fits = record {
   depth_fits = rw (depth_in_back p eval depth) fits;
 }
 
--- words are the same exactly where their keys are
+-- words are equal exactly if their keys are
 pub words_decide : (a b : List ℕ) → AreWords a → AreWords b → Decides (pointwise nat_eq a b) (key_in a ≡ key_in b)
 words_decide a b v w =
     let same = slice_eq-Decides Decides-eqb a b _ refl in
     ((λ e. ap key_in (same.0 e)), (λ e. same.1 (sym v.same ∙ (ap words_of e ∙ w.same))))
 
--- so the test of words is that of keys
+-- the test of words is the test of keys
 pub words_test : (a b : List ℕ) → AreWords a → AreWords b → pointwise nat_eq a b ≡ is_same_key (key_in a) (key_in b)
 words_test a b v w = same_from_decides _ _ (words_decide a b v w) (key_same (key_in a) (key_in b))
 
--- the words, one by one
+-- the ten words, one by one
 pub words_made : (p : Shogi) (eval : Eval) (depth : ℕ) (board : List ℕ) (hands : HandCounts) (side : Color) → board ≡ board_words p.cells → hands ≡ p.hands → side ≡ p.side
     → (a b c : ℕ) → a ≡ number_in_base_32 (counts_of hands Black) → b ≡ number_in_base_32 (counts_of hands White)
     → c ≡ color_number side + 2 * (eval_number eval + 3 * depth)

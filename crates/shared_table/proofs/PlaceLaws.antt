@@ -1,4 +1,4 @@
--- Words are put back place by place.
+-- Unpacking words place by place.
 use Rattle.std.proofs.Common.{◌≡◌, ◌∙◌, ◌<◌, ◌+◌, ◌-◌, ◌/◌, ◌%◌, ℕ, zero, suc, List, ◌∷◌, ◌++◌, append_assoc, refl, sym, ap, arith, get_or, length, set, take, slice_index}
 use Rattle.std.proofs.lemmas.List.{append-nil, take_all, take_more_set}
 use Rattle.shogi_core.specs.declared.piece.Color.{Color}
@@ -20,7 +20,7 @@ cells_step cells at end rest made before below is =
     let more : cells_in (end - at) rest ≡ cell_of_number (rest % 32) ∷ cells_in (end - (at + 1)) (rest / 32) = rw left refl in
     rw (take_more_set cells at (cell_of_number (rest % 32)) below, append_assoc) (ap (λ (r : Cells). take at cells ++ r) (sym more) ∙ is)
 
--- the last one
+-- the last square
 pub cells_end : (cells : Cells) (end rest : ℕ) → take end cells ++ cells_in (end - end) rest ≡ take end cells
 unfolding digits_in_base_32
 cells_end cells end rest = let none : end - end ≡ 0 = omega arith in rw (none, append-nil (take end cells)) refl
@@ -36,7 +36,7 @@ counts_step hands first number rest made before below is =
     let more : digits_in_base_32 (7 - number) rest ≡ (rest % 32) ∷ digits_in_base_32 (7 - (number + 1)) (rest / 32) = rw left refl in
     rw (next, take_more_set hands (first + number) (rest % 32) below, append_assoc) (ap (λ (r : List ℕ). take (first + number) hands ++ r) (sym more) ∙ is)
 
--- the last one
+-- the last count
 pub counts_end : (hands : List ℕ) (n rest : ℕ) → take n hands ++ digits_in_base_32 0 rest ≡ take n hands
 unfolding digits_in_base_32
 counts_end hands n rest = append-nil (take n hands)
@@ -60,7 +60,7 @@ pub place_fits : (color : Color) (k : ℕ) → k < 7 → place_of color Pawn + k
 place_fits Black k h = omega arith
 place_fits White k h = omega arith
 
--- what was put together is the position
+-- the unpacked parts make the position
 pub position_made : (words : List ℕ) (start a b c d e f g : Cells) (none black hands : List ℕ) (side : Color)
     → take 12 a ≡ take 0 start ++ cells_in 12 (slice_index words 0)
     → take 24 b ≡ take 12 a ++ cells_in 12 (slice_index words 1)

@@ -1,4 +1,4 @@
--- The list of the most recently used pairs, as `lru` keeps it and as the table means it.
+-- The list of most recently used pairs as `lru` keeps it is that of the table.
 use Rattle.std.proofs.Common.{◌≡◌, ◌∙◌, ◌≤◌, ◌+◌, ◌-◌, ◌⊎◌, ℕ, zero, suc, Bool, true, false, cond, List, [], ◌∷◌, Option, Some, None, Contains, IfSome, OnOk, Result, Ok, Err, ◌<◌, refl, sym, ap, subst, inl, inr, arith, length, take, option_map}
 use Rattle.std.specs.Result.{is_err}
 use Rattle.std.specs.Map.{lookup, lookup_entry, remove_entry}
@@ -12,7 +12,7 @@ use Rattle.shared_table.specs.KeyLaws.{key_same}
 use Rattle.shared_table.specs.Keys.{Key, is_same_key}
 use Rattle.shared_table.specs.Recent.{AreTrue, IsNoted, IsTable, Pair, Table, entry_of, table_of, noted, probed, without}
 
--- keys that pass the test are one
+-- keys that pass the test are equal
 one_key : (a b : Key) → is_same_key a b ≡ true → b ≡ a
 one_key a b e = sym ((key_same a b).0 e)
 
@@ -30,7 +30,7 @@ lookup-entry test (pair ∷ pairs) = go (test pair.0) (lookup-entry test pairs)
     go true rest = refl
     go false rest = rest
 
--- where no pair is found, none is taken out
+-- if no pair is found, none is removed
 nothing_without : (test : Key → Bool) (pairs : List Pair) → lookup_entry test pairs ≡ None → remove_entry test pairs ≡ pairs
 nothing_without test [] none = refl
 nothing_without test (pair ∷ pairs) none = go (test pair.0) none (nothing_without test pairs)
@@ -41,7 +41,7 @@ nothing_without test (pair ∷ pairs) none = go (test pair.0) none (nothing_with
     go true e rest = cc
     go false e rest = ap (λ (l : List Pair). pair ∷ l) (rest e)
 
--- where a pair is found, one less is left without it
+-- if a pair is found, removing it leaves one less
 length-without : (test : Key → Bool) (pairs : List Pair) (found : Pair) → lookup_entry test pairs ≡ Some found
     → length (remove_entry test pairs) + 1 ≡ length pairs
 length-without test [] found e = cc
@@ -53,7 +53,7 @@ length-without test (pair ∷ pairs) found e = go (test pair.0) e (length-withou
     go true h rest = omega arith
     go false h rest = let shorter = rest h in omega arith
 
--- what `lru` makes of a probe is what the table means by it
+-- a probe of `lru` gives the table's list after a probe
 pub promoted_is : (key : Key) (pairs : List Pair) → promoted (is_same_key key) pairs ≡ probed key pairs
 promoted_is key pairs = go (lookup_entry (is_same_key key) pairs) refl
   where
@@ -63,7 +63,7 @@ promoted_is key pairs = go (lookup_entry (is_same_key key) pairs) refl
         let same : found.0 ≡ key = one_key key found.0 (Contains-lookup_entry (is_same_key key) pairs found e).1 in
         rw (lookup-entry (is_same_key key) pairs, e) (ap (λ (p : Pair). p ∷ without key pairs) (pair_is found key same))
 
--- what `lru` makes of a note is what the table means by it
+-- a note of `lru` gives the table's list after a note
 pub put_is : (key : Key) (entry : Entry) (pairs : List Pair) (capacity : ℕ) → 1 ≤ capacity → length pairs ≤ capacity
     → put_entries is_same_key (lru_cache pairs capacity) key entry ≡ noted capacity key entry pairs
 put_is key entry pairs zero room fits = absurd (omega arith)
@@ -88,7 +88,7 @@ found_true pairs key (Some entry) all is =
     let at = Contains-lookup (is_same_key key) pairs entry (sym is) in
     subst (λ (k : Key). IsTrueEntry k.position k.eval k.depth entry) (one_key key at.0 at.2) (all at.0 entry at.1)
 
--- a probe keeps what holds of the table
+-- a probe keeps entries true and the capacity in range
 pub table_probed : (key : Key) (pairs : List Pair) (capacity : ℕ) → IsTable pairs capacity
     → IsTable (promoted (is_same_key key) pairs) capacity
 table_probed key pairs capacity t = record {
@@ -97,7 +97,7 @@ table_probed key pairs capacity t = record {
   most = t.most;
 }
 
--- what `lru` makes of a put that succeeds is what the table means by a note
+-- a put of `lru` that succeeds gives the table after a note
 pub put_noted : {T E : Type 0} (key : Key) (entry : Entry) (old new : LruCache Key Entry) (count probes hits : ℕ) (r : Result T E)
     → 0 < old.cap → length old.entries ≤ old.cap → is_err r ≡ false
     → OnOk r (new ≡ lru_cache (put_entries is_same_key old key entry) old.cap)
@@ -107,7 +107,7 @@ put_noted key entry old new count probes hits (Ok x) room fits succeeds ok =
     inl (ap (λ (cache : LruCache Key Entry). table_of cache count probes hits) same)
 put_noted key entry old new count probes hits (Err x) room fits succeeds ok = cc
 
--- a pair of the list after a note is the noted one or was there
+-- a pair after a note is the noted one or was there before
 noted_pair : (capacity : ℕ) (key : Key) (entry : Entry) (pairs : List Pair) (pair : Pair)
     → Contains (noted capacity key entry pairs) pair → (pair ≡ (key, entry)) ⊎ Contains pairs pair
 noted_pair capacity key entry pairs pair at =
@@ -116,7 +116,7 @@ noted_pair capacity key entry pairs pair at =
       | inr there ↦ inr (Contains-remove_entry (is_same_key key) pairs pair there)
     ]
 
--- a note of a true entry keeps what holds of the table
+-- a note of a true entry keeps entries true and the capacity in range
 pub table_noted : (key : Key) (entry : Entry) (old new : LruCache Key Entry) (before after probes hits : ℕ)
     → IsTable old.entries old.cap → IsTrueEntry key.position key.eval key.depth entry
     → IsNoted (table_of old before probes hits) key entry (table_of new after probes hits)

@@ -1,4 +1,4 @@
--- What a table still answers after further calls.
+-- The entries that a table still answers after further calls.
 use Rattle.std.proofs.Common.{◌≡◌, ◌≢◌, ◌∙◌, ◌<◌, ◌⊎◌, ℕ, zero, suc, Bool, true, false, cond, ◌||◌, List, [], ◌∷◌, Option, Some, None, Contains, refl, sym, ap, subst, inl, inr, arith, length, take}
 use Rattle.std.specs.List.{AllByRecursion}
 use Rattle.std.specs.Set.{is_member, remove_key}
@@ -16,7 +16,7 @@ use Rattle.shogi_eval.specs.declared.eval.Eval.{Eval}
 both_bools : {b : Bool} → b ≡ true → b ≡ false → ⊥
 both_bools e f = let bad : true ≡ false = sym e ∙ f in cc
 
--- the test of keys says no where they differ
+-- the test of keys fails for different keys
 apart : (a b : Key) → a ≢ b → is_same_key a b ≡ false
 apart a b n = go (is_same_key a b) refl
   where
@@ -48,7 +48,7 @@ has_still a b (k ∷ keys) n h = go (is_same_key a k) refl (is_same_key b k) ref
     go false e true f h rest = rw f refl
     go false e false f h rest = rw f (rest h)
 
--- two different keys are taken out in either order
+-- two different keys are removed in either order
 taken_in_turn : (a b : Key) (keys : List Key) → a ≢ b
     → without_key a (without_key b keys) ≡ without_key b (without_key a keys)
 unfolding without_key
@@ -65,14 +65,14 @@ taken_in_turn a b (k ∷ keys) n = go (is_same_key a k) refl (is_same_key b k) r
     go false e true f rest = rw f refl
     go false e false f rest = rw (e, f) (ap (λ (l : List Key). k ∷ l) rest)
 
--- the key stands there with the entry, and before it pairs of so many others, each of them once
+-- the key's pair with the entry is in the list, and the pairs before it have distinct keys, each one of `others`
 Stands : Key → Entry → List Key → List Pair → Type 0
 Stands key entry others [] = ⊥
 Stands key entry others (pair ∷ pairs) =
     (pair ≡ (key, entry))
     ⊎ ((pair.0 ≢ key) × ((has others pair.0 ≡ true) × Stands key entry (without_key pair.0 others) pairs))
 
--- so it is answered
+-- a key that stands in the list is answered
 answered : (key : Key) (entry : Entry) (others : List Key) (pairs : List Pair)
     → Stands key entry others pairs → entry_of pairs key ≡ Some entry
 unfolding Stands
@@ -82,7 +82,7 @@ answered key entry others (pair ∷ pairs) (inr there) =
     rw (apart key pair.0 (λ e. there.0 (sym e)))
     (answered key entry (without_key pair.0 others) pairs there.1.1)
 
--- and so it is among the first pairs, where those are more than the others
+-- the key stands among the first n pairs if n exceeds the number of others
 among_first : (n : ℕ) (key : Key) (entry : Entry) (others : List Key) (pairs : List Pair)
     → length others < n → Stands key entry others pairs → Stands key entry others (take n pairs)
 unfolding Stands without_key has
@@ -99,7 +99,7 @@ among_first (suc n) key entry others (pair ∷ pairs) room (inr there) =
       ),
     )
 
--- where another key is taken out, it is one of the others no more
+-- the key still stands when another key is removed from the list and from the others
 stands_without : (key : Key) (entry : Entry) (other : Key) (others : List Key) (pairs : List Pair)
     → other ≢ key → has others other ≡ true → Stands key entry others pairs
     → Stands key entry (without_key other others) (without other pairs)
@@ -127,7 +127,7 @@ stands_without key entry other others (pair ∷ pairs) n h (inr there) =
           ),
         )
 
--- a pair of another key goes first
+-- the key still stands when another key's pair moves to the front
 stands_behind : (key : Key) (entry : Entry) (other : Key) (of_other : Entry) (others : List Key) (pairs : List Pair)
     → other ≢ key → has others other ≡ true → Stands key entry others pairs
     → Stands key entry others ((other, of_other) ∷ without other pairs)
@@ -158,7 +158,7 @@ is_among : (key : Key) (keys : List Key) → Contains keys key → has keys key 
 unfolding has
 is_among key keys at = list_any-from_Contains key_equivalence key keys at
 
--- it stands there after a call for another key, or a probe, and the capacity stays
+-- the key still stands after a call for another key or a probe, and the capacity stays
 stands_called : (key : Key) (entry : Entry) (others : List Key) (old : Table) (call : Call) (new : Table)
     → length others < old.capacity → IsOfOthers key others call → IsUsed old call new
     → Stands key entry others old.pairs → Stands key entry others new.pairs × (new.capacity ≡ old.capacity)
@@ -181,7 +181,7 @@ stands_after key entry others old (call ∷ rest) new room all called at =
     let one = stands_called key entry others old call called.0 room all.0 called.1.0 at in
     stands_after key entry others called.0 rest new (rw one.1 room) all.1 called.1.1 one.0
 
--- it stands first where it was noted or answered
+-- the key stands after its entry was noted or answered
 stands_fresh : (old fresh : Table) (key : Key) (entry : Entry) (others : List Key)
     → length others < old.capacity → IsFresh old key entry fresh
     → Stands key entry others fresh.pairs × (fresh.capacity ≡ old.capacity)
@@ -200,7 +200,7 @@ remembers old fresh new key entry calls others is_fresh called all room =
     answered key entry others new.pairs
     (stands_after key entry others fresh calls new (rw first.1 room) all called first.0)
 
--- what is taken out under one key is answered under no other
+-- removing one key changes no other key's answer
 lookup_without : (key other : Key) (pairs : List Pair) → is_same_key other key ≡ false
     → entry_of (without key pairs) other ≡ entry_of pairs other
 lookup_without key other [] n = refl
@@ -226,7 +226,7 @@ probe_keeps key other pairs = go (entry_of pairs key) refl (is_same_key other ke
         rw (e, f) (sym (ap (λ (k : Key). entry_of pairs k) ((key_same other key).0 f) ∙ e))
     go (Some found) e false f = rw (e, f) (lookup_without key other pairs f)
 
--- a question changes no answer
+-- a probe changes no answer
 pub question_keeps : (old new : Table) (p : Shogi) (e : Eval) (d : ℕ) (answer : Option Entry)
     → IsUsed old (Probe p e d answer) new
     → (q : Shogi) (f : Eval) (n : ℕ) → answers_of new q f n ≡ answers_of old q f n

@@ -9,7 +9,7 @@ use Rattle.shogi_eval.specs.declared.eval.Eval.{Eval}
 use Rattle.shogi_eval.specs.declared.eval.Eval.TheVariants.{Plain, Hand, Exchange}
 use Rattle.shared_table.specs.Keys.{Key, eval_number, is_same_key, key_of}
 
--- evaluations are equal where their numbers are
+-- evaluations are equal exactly if their numbers are
 eval_same : (a b : Eval) → Decides (eval_number a == eval_number b) (a ≡ b)
 eval_same Plain Plain = ((λ _. refl), (λ _. refl))
 eval_same Plain Hand = ((λ e. cc), (λ e. cc))
@@ -37,7 +37,7 @@ key_same a b =
       (ap (λ (x : Key). x.eval) e, ap (λ (x : Key). x.position) e),
     ))
 
--- so it is an equality
+-- the test of keys is an equivalence
 pub key_equivalence : IsEquivalence is_same_key
 key_equivalence = decided is_same_key key_same
 

@@ -1,17 +1,17 @@
--- Which keys are the same: those with the same position, the same evaluation and the same depth (own choice: the key is the whole position).
+-- Keys of the table, the same exactly if position, evaluation and depth are (own choice: the key is the whole position).
 use Rattle.std.specs.Prelude.{◌==◌, ◌&&◌, ℕ, Bool}
 use Rattle.shogi_core.specs.Position.{Shogi}
 use Rattle.shogi_core.specs.Same.{is_same_position}
 use Rattle.shogi_eval.specs.declared.eval.Eval.{Eval}
 use Rattle.shogi_eval.specs.declared.eval.Eval.TheVariants.{Plain, Hand, Exchange}
 
--- what a key says: the position, the evaluation and the depth
+-- a key: a position, an evaluation and a depth
 pub record Key : Type 0 where
   pub position : Shogi
   pub eval : Eval
   pub depth : ℕ
 
--- 0 for the plain evaluation, 1 for the one of hands and 2 for that which settles captures
+-- 0 for `Plain`, 1 for `Hand`, 2 for `Exchange`
 abbrev pub eval_number : Eval → ℕ
 eval_number Plain = 0
 eval_number Hand = 1

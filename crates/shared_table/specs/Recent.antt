@@ -1,4 +1,4 @@
--- The entries of a table as a list, the most recently used first (own choice).
+-- The entries of a table as a list, most recently used first (own choice).
 use Rattle.std.specs.Prelude.{◌≡◌, ◌≤◌, ◌+◌, ◌-◌, ◌^◌, ◌⊎◌, [], ◌∷◌, ℕ, List, Option, Some, None, Contains, min, take}
 use Rattle.std.specs.Map.{lookup, remove_entry}
 use Rattle.std.specs.Option.{option_map_or}
@@ -12,7 +12,7 @@ use Rattle.minimax.specs.declared.entry.Entry.{Entry}
 abbrev pub Pair : Type 0
 Pair = Key × Entry
 
--- the pairs, the most recently used first, how many there may be, and counts: of notes that found no memory, of probes, and of those that were hits
+-- the pairs, most recently used first; the capacity; the counts of notes that found no memory, of probes and of hits
 pub record Table : Type 0 where
   pub pairs : List Pair
   pub capacity : ℕ
@@ -20,11 +20,11 @@ pub record Table : Type 0 where
   pub probes : ℕ
   pub hits : ℕ
 
--- an empty table for so many pairs
+-- an empty table of the capacity
 abbrev pub new_table : ℕ → Table
 new_table capacity = record { pairs = []; capacity = capacity; refused = 0; probes = 0; hits = 0 }
 
--- a cache as the table that it holds, after so many refused notes, probes and hits
+-- the table of a cache and its counts
 abbrev pub table_of : LruCache Key Entry → ℕ → ℕ → ℕ → Table
 table_of cache refused probes hits = record {
   pairs = cache.entries;
@@ -34,11 +34,11 @@ table_of cache refused probes hits = record {
   hits = hits;
 }
 
--- so many more; a count stays at the greatest number once it is there
+-- the count with more added; it saturates at the greatest `u64`
 abbrev pub plus : ℕ → ℕ → ℕ
 plus count more = min (count + more) (2 ^ 64 - 1)
 
--- one for a probe that found an entry
+-- 1 for a probe that found an entry, else 0
 abbrev pub hit_of : Option Entry → ℕ
 hit_of (Some entry) = 1
 hit_of None = 0
@@ -47,16 +47,16 @@ hit_of None = 0
 abbrev pub entry_of : List Pair → Key → Option Entry
 entry_of pairs key = lookup (is_same_key key) pairs
 
--- the pairs without that of the key
+-- the pairs without the key's
 abbrev pub without : Key → List Pair → List Pair
 without key pairs = remove_entry (is_same_key key) pairs
 
--- after a probe the key's pair is the first; where there is none, all stays
+-- the pairs after a probe: the key's pair comes first; without one, all stay
 abbrev pub probed : Key → List Pair → List Pair
 probed key pairs =
     option_map_or (λ entry. (key, entry) ∷ without key pairs) (entry_of pairs key) pairs
 
--- after a note the key has this entry and is the first, and what is past the capacity is dropped
+-- the pairs after a note: the key with this entry comes first, and pairs past the capacity are dropped
 abbrev pub noted : ℕ → Key → Entry → List Pair → List Pair
 noted capacity key entry pairs = take capacity ((key, entry) ∷ without key pairs)
 
@@ -68,7 +68,7 @@ with_probe table key = record table {
   hits = plus table.hits (hit_of (entry_of table.pairs key));
 }
 
--- the same, as the cache does it
+-- the cache after a probe, as `lru` does it
 abbrev pub recalled : Key → LruCache Key Entry → LruCache Key Entry
 recalled key cache = lru_cache (promoted (is_same_key key) cache.entries) cache.cap
 
@@ -76,7 +76,7 @@ recalled key cache = lru_cache (promoted (is_same_key key) cache.entries) cache.
 abbrev pub with_note : Table → Key → Entry → Table
 with_note table key entry = record table { pairs = noted table.capacity key entry table.pairs }
 
--- the table after a note that found no memory: that is counted, and all else stays
+-- the table after a note that found no memory, which is counted; all else stays
 abbrev pub with_refusal : Table → Table
 with_refusal table = record table { refused = plus table.refused 1 }
 
@@ -86,12 +86,12 @@ IsNoted old key entry new =
     (new ≡ with_note old key entry)
     ⊎ ((entry_of old.pairs key ≡ None) × (new ≡ with_refusal old))
 
--- each entry is true of its position under its evaluation at its depth
+-- each entry is true for its position, evaluation and depth
 abbrev pub AreTrue : List Pair → Type 0
 AreTrue pairs = (key : Key) (entry : Entry) → Contains pairs (key, entry)
     → IsTrueEntry key.position key.eval key.depth entry
 
--- what holds of a table
+-- a table has true entries and a capacity in its range
 pub record IsTable (pairs : List Pair) (capacity : ℕ) : Type 0 where
   pub truth : AreTrue pairs
   pub least : 1 ≤ capacity

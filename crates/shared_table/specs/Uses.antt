@@ -1,4 +1,4 @@
--- What a call leaves of a table, and what it still answers after further ones (own choice).
+-- The table after a call, and the entries that it still answers after further ones (own choice).
 use Rattle.std.specs.Prelude.{◌≡◌, ◌≢◌, ◌<◌, ◌⊎◌, ℕ, List, Option, Some, Contains, length}
 use Rattle.std.specs.List.{AllByRecursion}
 use Rattle.shogi_core.specs.Position.{Shogi}
@@ -8,30 +8,30 @@ use Rattle.shared_table.specs.Recent.{IsNoted, Table, entry_of, with_note, with_
 use Rattle.minimax.specs.declared.entry.Entry.{Entry}
 use Rattle.shogi_search.specs.Calls.{Call, Probe, Note, AreCalled}
 
--- what a table answers
+-- the entry that a table answers
 abbrev pub answers_of : Table → Shogi → Eval → ℕ → Option Entry
 answers_of table p e d = entry_of table.pairs (key_of p e d)
 
--- the table before and after a call: it answers with the entry under the key, which is used, or the entry is noted under it
+-- the call is a probe that answers the key's entry and makes it the most recently used, or a note of the entry
 abbrev pub IsUsed : Table → Call → Table → Type 0
 IsUsed old (Probe p e d answer) new =
     (answer ≡ entry_of old.pairs (key_of p e d)) × (new ≡ with_probe old (key_of p e d))
 IsUsed old (Note p e d entry) new = IsNoted old (key_of p e d) entry new
 
--- the call is for one of these other keys, or a probe for the key
+-- the call is for one of the other keys, or a probe for the key
 abbrev pub IsOfOthers : Key → List Key → Call → Type 0
 IsOfOthers key others (Probe p e d answer) =
     (key_of p e d ≡ key) ⊎ Contains others (key_of p e d)
 IsOfOthers key others (Note p e d entry) =
     (key_of p e d ≢ key) × Contains others (key_of p e d)
 
--- the entry was noted under the key, or a probe for the key answered it
+-- the entry was noted under the key, or answered by a probe for it
 abbrev pub IsFresh : Table → Key → Entry → Table → Type 0
 IsFresh old key entry new =
     (new ≡ with_note old key entry)
     ⊎ ((entry_of old.pairs key ≡ Some entry) × (new ≡ with_probe old key))
 
--- what was noted or answered is answered after any further calls for fewer other keys than the capacity, until another entry is noted under its key
+-- an entry noted or answered is still answered after any further calls for fewer other keys than the capacity, until another entry is noted under its key
 abbrev pub RemembersRecent : Type 0
 RemembersRecent =
     (old fresh new : Table) (key : Key) (entry : Entry) (calls : List Call) (others : List Key)

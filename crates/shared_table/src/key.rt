@@ -10,8 +10,8 @@ use shogi_eval::Eval;
 use std::hash::{Hash, Hasher};
 use std::marker::Model;
 
-/// The key of an entry, seen as the position, the evaluation and the depth. It holds them packed into
-/// ten words, from which all can be had again, so that no hash can lie.
+/// The key of an entry: ten words that hold the whole position, the evaluation and the depth, so a
+/// hash collision cannot give a wrong entry. Contracts see the three values.
 #[derive(Clone, Copy, Debug)]
 pub struct TableKey {
     words: [u64; 10],
@@ -59,7 +59,7 @@ impl TableKey {
         }
     }
 
-    /// The position.
+    /// The position, unpacked from the words.
     pub fn position(&self) -> Position
         ensures { result ≡ self.now.position }
     {
@@ -76,7 +76,7 @@ impl TableKey {
         Position::of_valid(Board::of(cells), hands, side_of(self.words[9]))
     }
 
-    /// The evaluation.
+    /// The evaluation, unpacked from the last word.
     pub fn eval(&self) -> Eval
         ensures { result ≡ self.now.eval }
     {
@@ -90,7 +90,7 @@ impl TableKey {
         }
     }
 
-    /// The ten words, from which the position, the evaluation and the depth can be had again.
+    /// The ten words, from which position, evaluation and depth can be unpacked.
     pub fn words(&self) -> [u64; 10]
         ensures words { result ≡ words_of self.now }
         ensures key { key_in result ≡ self.now }
@@ -99,7 +99,7 @@ impl TableKey {
         words
     }
 
-    /// Whether the position, the evaluation and the depth are the same: exactly where the words are.
+    /// Whether position, evaluation and depth are equal: exactly if the words are.
     pub fn is_same(&self, other: &TableKey) -> bool
         ensures equal { IsTrue result ↔ (self.now ≡ other.now) }
         ensures words { IsTrue result ↔ (words_of self.now ≡ words_of other.now) }

@@ -1,4 +1,4 @@
-//! The words of a key: how a position is packed, and had again.
+//! The words of a key: packing a position, and unpacking it.
 
 ghost use Rattle.std.specs.Prelude.{◌≡◌, ◌≤◌, ◌<◌, ◌+◌, ◌-◌, ◌*◌, ◌%◌, ◌^◌, ◌++◌, length, take};
 ghost use Rattle.shogi_core.specs.Steps.{color_number};
@@ -9,7 +9,7 @@ ghost use Rattle.shared_table.specs.Packed.{SetsCounts, cell_of_number, cells_in
 use shogi_core::{Color, Hands, KINDS, Kind, Piece, Role};
 use shogi_eval::Eval;
 
-/// What each number stands for.
+/// The content of a square for each number from 0 to 28.
 pub const CELLS: [Option<Piece>; 29] = [
     None,
     Some(Piece {
@@ -126,14 +126,14 @@ pub const CELLS: [Option<Piece>; 29] = [
     }),
 ];
 
-/// Two words as one number, which hashers take in one go.
+/// Two words as one number, which hashers take in one write.
 pub fn pair(low: u64, high: u64) -> u128
     ensures { result ≡ low + 2 ^ 64 * high }
 {
     low as u128 + 0x1_0000_0000_0000_0000 * high as u128
 }
 
-/// The word of what a side holds.
+/// The word of a side's hand: its counts as digits in base 32.
 #[tactic(auto, unfolding(shogi_core::specs::Words::number_in_base_32))]
 pub fn hand_word(hands: Hands, color: Color) -> u64
     ensures { result ≡ number_in_base_32 (counts_of hands color) }
@@ -166,7 +166,7 @@ pub fn last_word(side: Color, eval: Eval, depth: u8) -> u64
     side + 2 * (eval + 3 * depth as u64)
 }
 
-/// What the number stands for.
+/// The content of a square for the number; none from 29 up.
 pub fn cell_of_number(number: u64) -> Option<Piece>
     requires { number < 32 }
     ensures { result ≡ cell_of_number number }
@@ -178,7 +178,7 @@ pub fn cell_of_number(number: u64) -> Option<Piece>
     }
 }
 
-/// Puts what a word says on the squares from the one up to the other.
+/// Unpacks a word onto the squares from `from` up to, not including, `end`.
 pub fn place_cells(cells: &mut [Option<Piece>; 81], from: usize, end: usize, word: u64)
     requires order { from ≤ end }
     requires fits { end ≤ 81 }
@@ -191,7 +191,7 @@ pub fn place_cells(cells: &mut [Option<Piece>; 81], from: usize, end: usize, wor
     }
 }
 
-/// The hands with the counts of a side that the word says.
+/// The hands with the counts of a side unpacked from the word.
 pub fn with_counts(hands: Hands, color: Color, word: u64) -> Hands
     requires { length hands ≡ 14 }
     ensures counts { SetsCounts hands color word result }
@@ -206,7 +206,7 @@ pub fn with_counts(hands: Hands, color: Color, word: u64) -> Hands
     counted
 }
 
-/// The side that the last word says.
+/// The side to move, unpacked from the last word.
 pub fn side_of(word: u64) -> Color
     ensures { result ≡ side_of_number (word % 2) }
 {

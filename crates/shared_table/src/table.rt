@@ -1,4 +1,4 @@
-//! The table: a bounded map whose entries are ordered by their last use.
+//! The transposition table: a bounded map, with the least recently used entry replaced first.
 
 ghost use Rattle.std.specs.Prelude.{◌≡◌, ◌≤◌, ◌↔◌, ℕ, IsTrue, length, IfOk};
 ghost use Rattle.std.specs.List.{IsDistinct};
@@ -20,7 +20,7 @@ use std::hash::BuildHasher;
 use std::marker::Model;
 use std::num::NonZeroUsize;
 
-/// How many entries a table may hold at most (own choice).
+/// The greatest capacity of a table, in entries (own choice).
 pub const CAPACITY_MAX: usize = 1_000_000;
 
 /// Why a table could not be made.
@@ -38,9 +38,8 @@ impl From<AllocError> for TableFault {
     }
 }
 
-/// Transposition table of bounded size, seen as its pairs, the most recently used first, its
-/// capacity, how many notes found no memory, and how many probes and hits there were. Each entry is
-/// true.
+/// A bounded transposition table of true entries. Contracts see its pairs, most recently used
+/// first, its capacity, and its counts of probes, hits and notes that found no memory.
 #[derive(Drop)]
 pub struct SharedTable<S: BuildHasher, A: Allocator> {
     cache: LruCache<TableKey, Entry, S, A>,
@@ -60,7 +59,8 @@ impl<S: BuildHasher, A: Allocator> Model for SharedTable<S, A> {
 }
 
 impl<S: BuildHasher + Drop, A: Allocator + Clone> SharedTable<S, A> {
-    /// An empty table for `capacity` entries, from 1 to 1,000,000.
+    /// An empty table for `capacity` entries, from 1 to 1,000,000. `OutOfMemory` comes if its
+    /// memory cannot be allocated.
     pub fn new(alloc: A, capacity: usize, hasher: S) -> Result<SharedTable<S, A>, TableFault>
         requires least { 1 ≤ capacity }
         requires most { capacity ≤ CAPACITY_MAX }
@@ -78,8 +78,8 @@ impl<S: BuildHasher + Drop, A: Allocator + Clone> SharedTable<S, A> {
 }
 
 impl<S: BuildHasher, A: Allocator> SharedTable<S, A> {
-    /// Gives proofs that no key is held twice, that there are at most as many entries as the
-    /// capacity, which is from 1 to 1,000,000, and that each entry is true.
+    /// Gives proofs that keys are distinct, that there are at most as many entries as the capacity,
+    /// which is from 1 to 1,000,000, and that each entry is true.
     pub fn reveal_invariant(&self)
         ensures keys { IsDistinct is_same_key (keys_of self.now.pairs) }
         ensures fits { length self.now.pairs ≤ self.now.capacity }
@@ -91,7 +91,8 @@ impl<S: BuildHasher, A: Allocator> SharedTable<S, A> {
         self.len();
     }
 
-    /// The entry of the position under the evaluation at the depth. The order stays.
+    /// The entry of the position under the evaluation at the depth, without a change of the order
+    /// or the counts.
     pub fn peek(&self, p: &Position, e: Eval, d: u8) -> Option<Entry>
         ensures { result ≡ entry_of self.now.pairs (key_of p.now e d) }
     {
@@ -99,7 +100,7 @@ impl<S: BuildHasher, A: Allocator> SharedTable<S, A> {
         self.cache.peek(&key).copied()
     }
 
-    /// How many entries there are.
+    /// The number of entries.
     pub fn len(&self) -> usize
         ensures len { result ≡ length self.now.pairs }
         ensures fits { result ≤ self.now.capacity }
@@ -108,29 +109,29 @@ impl<S: BuildHasher, A: Allocator> SharedTable<S, A> {
         self.cache.len()
     }
 
-    /// How many notes of new keys found no memory and stored nothing. The count stays at the greatest
-    /// number once it is there.
+    /// The number of notes of new keys that found no memory and stored nothing. The count
+    /// saturates.
     pub fn refused(&self) -> u64
         ensures { result ≡ self.now.refused }
     {
         self.refused
     }
 
-    /// How many probes there were. The count stays at the greatest number once it is there.
+    /// The number of probes. The count saturates.
     pub fn probes(&self) -> u64
         ensures { result ≡ self.now.probes }
     {
         self.probes
     }
 
-    /// How many of the probes found an entry. The count stays at the greatest number once it is there.
+    /// The number of probes that found an entry. The count saturates.
     pub fn hits(&self) -> u64
         ensures { result ≡ self.now.hits }
     {
         self.hits
     }
 
-    /// The keys with their entries, the most recently used first.
+    /// The keys with their entries, most recently used first.
     pub fn entries(&self) -> Iter<'_, TableKey, Entry>
         ensures rest { result ≡ self.now.pairs }
         ensures runs { ShowsInOrder (deref_pair {K = TableKey} {X = Entry}) }
@@ -151,7 +152,7 @@ impl<S: BuildHasher, A: Allocator + Clone> Memo for SharedTable<S, A> {
 
     ghost called = { IsUsed };
 
-    /// From depth 3 on: a node of depth 2 is searched about as fast as it is looked up.
+    /// True from depth 3 on: a node of depth 2 is searched about as fast as it is looked up.
     fn serves(&self, d: u8) -> bool
         ensures { IsTrue result ↔ (3 ≤ d) }
     {
@@ -182,14 +183,14 @@ impl<S: BuildHasher, A: Allocator + Clone> Memo for SharedTable<S, A> {
     }
 }
 
-// Counts so many more.
+// Adds to a count, which saturates.
 fn count(count: &mut u64, more: u64)
     ensures { count.new ≡ plus count.old more }
 {
     *count = count.saturating_add(more);
 }
 
-// One where an entry was found, and else none.
+// 1 if an entry was found, else 0.
 fn hit_of(answer: &Option<Entry>) -> u64
     ensures { result ≡ hit_of answer.now }
 {
@@ -210,7 +211,7 @@ fn recall<S: BuildHasher, A: Allocator>(
     cache.get(key).copied()
 }
 
-// Puts the entry under the key, or counts a refusal where a new key finds no memory.
+// Puts the entry under the key, or counts a refusal if a new key finds no memory.
 fn remember<S: BuildHasher, A: Allocator + Clone>(
     cache: &mut LruCache<TableKey, Entry, S, A>,
     refused: &mut u64,

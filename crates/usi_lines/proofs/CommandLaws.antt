@@ -23,7 +23,7 @@ command_of-some line name rest e r =
     ap (λ (t : List ℕ). named_by name (words rest) (after_word t)) r
     ∙ sym (ap (λ (ws : List (List ℕ)). by_words ws (after_word (after_word line))) e)
 
--- what holds of each clamped number holds of one that is read
+-- a property of each clamped number holds of a number that is read
 clamped_read_fits : (least most : ℕ) (word : List ℕ) (P : ℕ → Type 0) → ((n : ℕ) → P (max least (min most n))) → IfSome (clamped_read least most word) P
 clamped_read_fits least most word P h = cond_both (is_number word) (Some (min most (number_written word))) None (λ (o : Option ℕ). IfSome (option_map (max least) o) P) (λ e. h (number_written word)) (λ e. tt)
 
@@ -47,7 +47,7 @@ depth_of_fits : (ws : List (List ℕ)) → IfSome (depth_of ws) IsDepth
 depth_of_fits [] = tt
 depth_of_fits (word ∷ more) = cond_both (bytes_eq word (codes "depth")) (depth_in_first more) (depth_of more) (λ (o : Option ℕ). IfSome o IsDepth) (λ e. depth_in_first_fits more) (λ e. depth_of_fits more)
 
--- each number in a command is in its range
+-- each number in the command is in its range
 record Fits (command : Command) : Type 0 where
   in_range : IsInRange command
 

@@ -1,4 +1,4 @@
--- The first line of a stream that is all there.
+-- The first line of a stream that arrived whole.
 use Rattle.std.proofs.Common.{◌≡◌, ℕ, ◌+◌, ◌-◌, ◌≤◌, ◌<◌, refl, sym, ◌∙◌, ap, arith, List, [], ◌∷◌, ◌++◌, length, take, drop, append-nil}
 use Rattle.std.specs.List.{position_or_len}
 use Rattle.std.specs.Str.Lines.{strip_carriage_return}

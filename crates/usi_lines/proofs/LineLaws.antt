@@ -10,7 +10,7 @@ use Rattle.shogi_sfen.proofs.WordLaws.{position_or_len-yes, position_or_len-no, 
 use Rattle.usi_lines.specs.Lines.{Text, TooLong, is_line_feed, is_too_long, lines_of_parts, lines}
 use Rattle.usi_lines.specs.declared.line.TheConstants.{LINE_MAX}
 
--- the first part, and some others
+-- a list of parts has a first one
 record Parts (xs : List ℕ) : Type 0 where
   more : List (List ℕ)
   parts : slice_split is_line_feed xs ≡ before_first is_line_feed xs ∷ more
@@ -47,7 +47,7 @@ ended : (xs ys : List ℕ) → position_or_len is_line_feed xs < length xs → s
 ended [] ys h = absurd (omega arith)
 ended (x ∷ xs) ys h = ended-cons x xs ys (ended xs ys) (is_line_feed x) refl h
 
--- with no LF there is one part
+-- without an LF there is one part
 open-cons : (x : ℕ) (xs : List ℕ) → (position_or_len is_line_feed xs ≡ length xs → slice_split is_line_feed xs ≡ xs ∷ []) → (t : Bool) → is_line_feed x ≡ t → position_or_len is_line_feed (x ∷ xs) ≡ length (x ∷ xs) → slice_split is_line_feed (x ∷ xs) ≡ (x ∷ xs) ∷ []
 open-cons x xs ih true e h = let n : position_or_len is_line_feed (x ∷ xs) ≡ 0 = position_or_len-yes is_line_feed x xs e in absurd (omega arith)
 open-cons x xs ih false e h =
@@ -89,7 +89,7 @@ lines-text xs ys below fits =
     ∙ (whole_part (before_first is_line_feed xs) (before_first is_line_feed after) p.more (omega arith)
     ∙ ap (λ (q : List (List ℕ)). Text (strip_carriage_return (before_first is_line_feed xs)) ∷ lines_of_parts q) (sym p.parts)))
 
--- what stands before the first LF only grows
+-- the bytes before the first LF only grow as bytes follow
 pub longer : (xs ys : List ℕ) → position_or_len is_line_feed xs ≤ position_or_len is_line_feed (xs ++ ys)
 longer xs ys =
     let within : position_or_len is_line_feed xs ≤ length xs = position_or_len-le is_line_feed xs in

@@ -12,7 +12,7 @@ use Rattle.usi_lines.specs.OneLine.{one_line, IsOneLine}
 pub one_line-feed : (x : ℕ) (xs : List ℕ) → is_line_feed x ≡ true → one_line (x ∷ xs) ≡ x ∷ []
 one_line-feed x xs e = ap (λ (k : ℕ). take (k + 1) (x ∷ xs)) (position_or_len-yes is_line_feed x xs e)
 
--- and any other byte is followed by what is left of it
+-- a byte other than LF precedes the line of the bytes after it
 pub one_line-other : (x : ℕ) (xs : List ℕ) → is_line_feed x ≡ false → one_line (x ∷ xs) ≡ x ∷ one_line xs
 one_line-other x xs e =
     let n : position_or_len is_line_feed (x ∷ xs) ≡ suc (position_or_len is_line_feed xs) = position_or_len-no is_line_feed x xs e in
@@ -29,6 +29,6 @@ one_line_front xs zero = refl
 one_line_front [] (suc n) = refl
 one_line_front (x ∷ xs) (suc n) = one_line-cons x xs n (one_line_front xs n) (is_line_feed x) refl
 
--- so has the line
+-- a line has no LF except at its end
 pub one_line_once : (xs : List ℕ) → IsOneLine (one_line xs)
 one_line_once xs = let whole : take (length (one_line xs)) (one_line xs) ≡ one_line xs = take_all (length (one_line xs)) (one_line xs) (omega arith) in rw whole at (one_line_front xs (length (one_line xs)))

@@ -21,7 +21,7 @@ first_feed xs (Some i) h =
     sym (position_or_len_is is_line_feed xs i 0 (omega arith) (λ k below. false_from_ne_true (is_line_feed (get_or xs k 0)) (λ e. h.0.before k (omega arith) below e)) (λ lt. h.1))
 
 module _ (bytes : List ℕ) (start end : ℕ) (s : IsSearched bytes start end) where
-  -- how long the unread bytes are, and what stands before their first LF
+  -- the length of the unread bytes, and of those before their first LF
   unread_len : length (drop start bytes) ≡ length bytes - start
   unread_len = length-drop start bytes
 
@@ -62,7 +62,7 @@ module _ (bytes : List ℕ) (start end : ℕ) (s : IsSearched bytes start end) w
       let w : start ≤ length bytes = s.within in
       ap lines (append-nil (drop start bytes)) ∙ lines-open (drop start bytes) (omega arith) (omega arith)
 
-  -- a chunk behind the bytes, where no LF was found yet
+  -- a chunk after bytes without an LF: only the chunk is searched
   pub searched_on : (chunk : List ℕ) → end ≡ length bytes → IsSearched (bytes ++ chunk) start (end + position_or_len is_line_feed chunk)
   searched_on chunk here =
       let u : length (drop start bytes) ≡ length bytes - start = unread_len in
@@ -75,7 +75,7 @@ module _ (bytes : List ℕ) (start end : ℕ) (s : IsSearched bytes start end) w
       let d : position_or_len is_line_feed (drop start (bytes ++ chunk)) ≡ position_or_len is_line_feed (drop start bytes ++ chunk) = ap (position_or_len is_line_feed) (drop-append-le start bytes chunk s.within) in
       record { within = omega arith; searched = omega arith }
 
-  -- and where one was
+  -- a chunk after bytes with an LF: its place stays
   pub searched_before : (chunk : List ℕ) → (end ≡ length bytes → ⊥) → IsSearched (bytes ++ chunk) start end
   searched_before chunk other =
       let u : length (drop start bytes) ≡ length bytes - start = unread_len in
@@ -88,14 +88,14 @@ module _ (bytes : List ℕ) (start end : ℕ) (s : IsSearched bytes start end) w
       let d : position_or_len is_line_feed (drop start (bytes ++ chunk)) ≡ position_or_len is_line_feed (drop start bytes ++ chunk) = ap (position_or_len is_line_feed) (drop-append-le start bytes chunk s.within) in
       record { within = omega arith; searched = omega arith }
 
-  -- the buffer of these bytes
+  -- the buffer with these unread bytes
   abbrev pub open_buffer : Bool → Buffer
   open_buffer closed = record { unread = drop start bytes; closed = closed }
 
   cons_some : (l : List Line) (a : Line) (rest : List Line) → l ≡ a ∷ rest → l ≡ [] → ⊥
   cons_some l a rest e f = let h : a ∷ rest ≡ [] = sym e ∙ f in cc
 
-  -- a line waits where an LF was found or too many bytes have come
+  -- a line waits if an LF was found or too many bytes have come
   pub waits : (closed : Bool) → closed ≡ false → (end < length bytes) ⊎ (LINE_MAX < end - start) → ahead (open_buffer closed) [] ≡ [] → ⊥
   waits closed e which none = elim (cases_lt LINE_MAX (end - start)) [
     | inl over ↦ cons_some (ahead (open_buffer closed) []) TooLong [] (cond-false closed _ _ e ∙ ahead_long over []) none
@@ -105,7 +105,7 @@ module _ (bytes : List ℕ) (start end : ℕ) (s : IsSearched bytes start end) w
     ]
   ]
 
-  -- else none does
+  -- no line waits if no LF was found and the bytes are not too many
   pub waits_not : (closed : Bool) → length bytes ≤ end → end - start ≤ LINE_MAX → ahead (open_buffer closed) [] ≡ []
   waits_not true over fits = refl
   waits_not false over fits = ahead_none over fits

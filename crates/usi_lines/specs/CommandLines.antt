@@ -8,38 +8,38 @@ use Rattle.usi_lines.specs.declared.command.Hold.TheVariants.{Nothing, UntilStop
 use Rattle.usi_lines.specs.Commands.{Command, Usi, IsReady, NewGame, Startpos, Sfen, BadPosition, Go, GoMate, Stop, PonderHit, GameOver, Quit, Other}
 use Rattle.usi_lines.specs.Options.{depth_read, option_of}
 
--- the word is among these
+-- the word is among the words
 abbrev pub has_word : List ℕ → List (List ℕ) → Bool
 has_word name ws = list_any (λ word. bytes_eq word name) ws
 
--- what a position is given by, and the bytes after that word
+-- the command of a `position` line, by the words after that word and the bytes after the first of them
 abbrev pub position_of : List (List ℕ) → List ℕ → Command
 position_of [] rest = BadPosition
 position_of (word ∷ more) rest =
     cond (bytes_eq word (codes "startpos")) (Startpos rest)
     (cond (bytes_eq word (codes "sfen")) (Sfen rest) BadPosition)
 
--- the depth in the first of these words
+-- the depth that the first of the words writes
 abbrev pub depth_in_first : List (List ℕ) → Option ℕ
 depth_in_first [] = None
 depth_in_first (word ∷ more) = depth_read word
 
--- the depth in the word right after the first word depth
+-- the depth in the word right after the first word `depth`
 abbrev pub depth_of : List (List ℕ) → Option ℕ
 depth_of [] = None
 depth_of (word ∷ more) = cond (bytes_eq word (codes "depth")) (depth_in_first more) (depth_of more)
 
--- the word infinite wins over ponder
+-- `infinite` takes precedence over `ponder`
 abbrev pub hold_of : List (List ℕ) → Hold
 hold_of ws =
     cond (has_word (codes "infinite") ws) UntilStop
     (cond (has_word (codes "ponder") ws) UntilHit Nothing)
 
--- the word mate wins over all others
+-- `mate` takes precedence over all other words
 abbrev pub go_of : List (List ℕ) → Command
 go_of ws = cond (has_word (codes "mate") ws) GoMate (Go (depth_of ws) (hold_of ws))
 
--- a command by its name, the words after it, and the bytes after the first of those
+-- a command by its name, the words after that, and the bytes after the first of those words
 abbrev pub named_by : List ℕ → List (List ℕ) → List ℕ → Command
 named_by name ws rest =
     cond (bytes_eq name (codes "usi")) Usi

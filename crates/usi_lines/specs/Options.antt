@@ -1,4 +1,4 @@
--- The options of a session: their ranges, and the values that a line may set (USI, setoption; that numbers are clamped is an own choice).
+-- The options of a session: their ranges, and the values that a line may set (USI, setoption; clamping numbers is an own choice).
 use Rattle.std.specs.Prelude.{ℕ, ◌≤◌, ◌&&◌, List, [], ◌∷◌, Option, Some, None, cond, max, codes}
 use Rattle.std.specs.Option.{option_map, option_map_or}
 use Rattle.std.specs.Str.{bytes_eq}
@@ -8,36 +8,36 @@ use Rattle.shogi_sfen.specs.Numbers.{capped_number}
 use Rattle.usi_lines.specs.declared.options.TheConstants.{DEPTH_MIN, DEPTH_MAX, MULTI_PV_MIN, MULTI_PV_MAX}
 use Rattle.usi_lines.specs.Commands.{Command, SetDepth, SetEval, SetLines, Go, Other}
 
--- the range of a depth
+-- the depth is in its range
 pub record IsDepth (depth : ℕ) : Type 0 where
   pub least : DEPTH_MIN ≤ depth
   pub most : depth ≤ DEPTH_MAX
 
--- the range of a number of best lines
+-- the number of best lines is in its range
 pub record IsMultiPv (lines : ℕ) : Type 0 where
   pub least : MULTI_PV_MIN ≤ lines
   pub most : lines ≤ MULTI_PV_MAX
 
--- a number, clamped to a range, where the word is one
+-- the number that the word writes, clamped to a range; none if the word is no number
 abbrev pub clamped_read : ℕ → ℕ → List ℕ → Option ℕ
 clamped_read least most word = option_map (max least) (capped_number most word)
 
--- a depth, clamped to its range, where the word is a number
+-- the depth that the word writes, clamped to its range; none if the word is no number
 abbrev pub depth_read : List ℕ → Option ℕ
 depth_read word = clamped_read DEPTH_MIN DEPTH_MAX word
 
--- a number of best lines, clamped to its range, where the word is a number
+-- the number of best lines that the word writes, clamped to its range; none if the word is no number
 abbrev pub multi_pv_read : List ℕ → Option ℕ
 multi_pv_read word = clamped_read MULTI_PV_MIN MULTI_PV_MAX word
 
--- an evaluation, where the word is its name, letter for letter
+-- the evaluation of that name, letter for letter; none for any other word
 abbrev pub eval_read : List ℕ → Option Eval
 eval_read word =
     cond (bytes_eq word (codes "Plain")) (Some Plain)
     (cond (bytes_eq word (codes "Hand")) (Some Hand)
     (cond (bytes_eq word (codes "Exchange")) (Some Exchange) None))
 
--- the option of a name is set to a value: a row for each option
+-- the command that sets an option to a value, with a row for each option
 abbrev pub command_for : List ℕ → List ℕ → Command
 command_for name value =
     cond (bytes_eq name (codes "Depth")) (option_map_or SetDepth (depth_read value) Other)
@@ -45,14 +45,14 @@ command_for name value =
     (cond (bytes_eq name (codes "MultiPV")) (option_map_or SetLines (multi_pv_read value) Other)
     Other))
 
--- exactly the words `name NAME value VALUE`
+-- the command of the words after `setoption`: exactly `name NAME value VALUE`
 abbrev pub option_of : List (List ℕ) → Command
 option_of (before_name ∷ name ∷ before_value ∷ value ∷ []) =
     cond (bytes_eq before_name (codes "name") && bytes_eq before_value (codes "value"))
     (command_for name value) Other
 option_of _ = Other
 
--- each number in a command lies in its range: a row for each option that is a number
+-- each number in the command is in its range, with a row for each numeric option
 abbrev pub IsInRange : Command → Type 0
 IsInRange (SetDepth depth) = IsDepth depth
 IsInRange (SetLines lines) = IsMultiPv lines

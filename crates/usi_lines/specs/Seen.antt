@@ -6,12 +6,12 @@ use Rattle.usi_lines.specs.declared.command.Command.TheVariants as code
 use Rattle.usi_lines.specs.Lines as lines
 use Rattle.usi_lines.specs.Commands as commands
 
--- a line, with its bytes
+-- the line, with its bytes as a list
 abbrev pub line_of : code_line.Line → lines.Line
 line_of (code_lines.Text text) = lines.Text text.now
 line_of code_lines.TooLong = lines.TooLong
 
--- a command, with its bytes
+-- the command, with its bytes as a list
 abbrev pub meaning_of : code_command.Command → commands.Command
 meaning_of code.Usi = commands.Usi
 meaning_of code.IsReady = commands.IsReady

@@ -1,4 +1,4 @@
-//! A byte stream that comes in chunks, cut into lines.
+//! A byte stream that arrives in chunks, cut into lines.
 
 ghost use Rattle.std.specs.Prelude.{◌≡◌, ◌≢◌, ◌↔◌, ◌≤◌, ℕ, false, true, List, [], ◌∷◌, IsTrue, IsNone, IsOk, IfSome, OnOk, OnErr, drop, vec_len, ◌<◌};
 ghost use Rattle.usi_lines.specs.Lines.{Buffer, ahead, IsAheadAfter, IsFirstAhead, TooLong};
@@ -11,10 +11,10 @@ use crate::room::give_back_room;
 use std::alloc::{AllocError, Allocator};
 use std::marker::Model;
 
-/// Why a chunk was not taken.
+/// Why a chunk was not accepted.
 #[derive(Clone, Copy, Debug, PartialEq, Eq)]
 pub enum LineFault {
-    /// No memory for the chunk.
+    /// Memory for the chunk ran out.
     OutOfMemory,
 }
 
@@ -24,12 +24,12 @@ impl From<AllocError> for LineFault {
     }
 }
 
-/// The most room that is kept while nothing is unread, in bytes: a chunk of 4,096 bytes behind a
-/// line that has begun fits in it.
+/// The most capacity kept while no byte is unread, in bytes: a line that has begun and a chunk of
+/// 4,096 bytes fit in it.
 const ROOM_KEPT: usize = 8_192;
 
-/// The bytes of a stream that were not read as lines yet, in one buffer of the given allocator.
-/// While none are unread, it keeps at most `ROOM_KEPT` bytes of room.
+/// The bytes of a stream not yet read as lines, in one buffer of the given allocator. While none
+/// are unread, its capacity is at most `ROOM_KEPT` bytes.
 #[derive(Drop)]
 pub struct LineBuffer<A: Allocator> {
     bytes: Vec<u8, A>,
@@ -50,8 +50,9 @@ impl<A: Allocator> Model for LineBuffer<A> {
     ghost invariant = { λ b. IsLineBuffer ROOM_KEPT b.bytes b.start b.end };
 }
 
-/// Gives up the read bytes where they are more than half of the buffer, and room with them, and
-/// returns where the unread ones begin: fewer bytes are moved than were read.
+/// Removes the read bytes once they are more than half of the buffer, and shrinks it; returns the
+/// start of the unread bytes. Each removal moves fewer bytes than were read, so the cost stays
+/// linear.
 fn compact<A: Allocator>(bytes: &mut Vec<u8, A>, start: usize) -> usize
     requires { start ≤ vec_len bytes.old }
     ensures kept { drop result bytes.new.items ≡ drop start bytes.old.items }
@@ -79,9 +80,9 @@ impl<A: Allocator> LineBuffer<A> {
         }
     }
 
-    /// Takes the next chunk of the stream. After a line that is too long was dropped, chunks are
-    /// accepted and forgotten. `OutOfMemory` comes only where the allocation for the chunk fails,
-    /// and leaves all as it was.
+    /// Appends the next chunk of the stream. After `TooLong` was dropped, chunks are accepted and
+    /// ignored. `OutOfMemory` comes only if the allocation for the chunk fails, and leaves the
+    /// buffer as it was.
     pub fn feed(&mut self, chunk: &[u8]) -> Result<(), LineFault>
         ensures ok { OnOk result (IsAheadAfter chunk.now self.old self.new) }
         ensures closed { self.old.closed ≡ true → IsOk result × (self.new ≡ self.old) }
@@ -106,7 +107,7 @@ impl<A: Allocator> LineBuffer<A> {
         !self.closed && (self.end < self.bytes.len() || self.end - self.start > LINE_MAX)
     }
 
-    /// The first unread line, which stays unread; `None` where no line has ended yet.
+    /// The first unread line, which stays unread; `None` if no line has ended yet.
     pub fn next_line(&self) -> Option<Line<'_>>
         ensures if_none { IsNone result ↔ (ahead self.now [] ≡ []) }
         ensures first { IfSome result (λ line. IsFirstAhead self.now (line_of line)) }

@@ -2,7 +2,7 @@
 
 use shogi_eval::Eval;
 
-/// When a `bestmove` may be written (USI, go).
+/// When a `bestmove` may be sent (USI, go).
 #[derive(Clone, Copy, Debug, PartialEq, Eq)]
 pub enum Hold {
     /// At once.
@@ -34,7 +34,7 @@ pub enum Command<'a> {
     Sfen(&'a [u8]),
     /// Any other `position` line
     BadPosition,
-    /// `go`; the depth, in its range, is the number right after the first word `depth`
+    /// `go`; the depth, clamped to its range, is the number right after the first word `depth`
     Go { depth: Option<u8>, hold: Hold },
     /// `go` with the word `mate` after it
     GoMate,
@@ -46,6 +46,6 @@ pub enum Command<'a> {
     GameOver,
     /// `quit`
     Quit,
-    /// A line without words or with another first word, and any other `setoption` line
+    /// A line without words or with an unknown first word, and any other `setoption` line
     Other,
 }

@@ -1,4 +1,4 @@
-//! The first line of bytes that are all there.
+//! The first line of a complete stream.
 
 ghost use Rattle.std.specs.Prelude.{◌≡◌, ◌<◌, ◌∷◌, [], IfNone, IfSome, length};
 ghost use Rattle.usi_lines.specs.Lines.{lines};
@@ -13,8 +13,8 @@ pub struct FirstLine<'a> {
     pub rest: &'a [u8],
 }
 
-/// The first line of a stream that is all there; `None` where none has ended. After a line that is
-/// too long no bytes are left.
+/// The first line of a stream that arrived whole; `None` if no line has ended. After `TooLong` no
+/// bytes are left.
 pub fn first_line(bytes: &[u8]) -> Option<FirstLine<'_>>
     ensures if_none { IfNone result (lines bytes.now ≡ []) }
     ensures first { IfSome result (λ f. lines bytes.now ≡ line_of f.line ∷ lines f.rest.now) }

@@ -1,4 +1,4 @@
-//! Keywords of a line.
+//! Comparing words of a line with keywords.
 
 ghost use Rattle.std.specs.Prelude.{◌≡◌};
 ghost use Rattle.std.specs.Str.{bytes_eq};
@@ -7,14 +7,14 @@ ghost use Rattle.usi_lines.specs.CommandLines.{has_word};
 
 use shogi_sfen::words;
 
-/// Whether the word is this one.
+/// Whether the word is `name`, byte for byte.
 pub fn is(word: &[u8], name: &[u8]) -> bool
     ensures { result ≡ bytes_eq word.now name.now }
 {
     word == name
 }
 
-/// Whether the word is among those of the text.
+/// Whether the text has the word `name`.
 pub fn has_word(text: &[u8], name: &[u8]) -> bool
     ensures { result ≡ has_word name.now (words text.now) }
 {

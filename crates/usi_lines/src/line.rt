@@ -11,18 +11,18 @@ use memchr::memchr;
 /// The byte that ends a line (USI).
 pub const LINE_FEED: u8 = b'\n';
 
-/// How many bytes a line may have before its LF, a CR right before it counted (own choice).
+/// The most bytes of a line before its LF, including a CR right before it (own choice).
 pub const LINE_MAX: usize = 65_535;
 
-/// A line, without its LF and without the one CR right before it; or the end of all lines, where
-/// more than `LINE_MAX` bytes came without an LF.
+/// A line without its LF and one CR right before it; or the end of all lines, if more than
+/// `LINE_MAX` bytes came without an LF.
 #[derive(Clone, Copy, Debug, PartialEq, Eq)]
 pub enum Line<'a> {
     Text(&'a [u8]),
     TooLong,
 }
 
-/// How many bytes stand before the first LF.
+/// The number of bytes before the first LF, or of all bytes if there is none.
 pub fn line_len(bytes: &[u8]) -> usize
     ensures value { result ≡ position_or_len is_line_feed bytes.now }
     ensures most { result ≤ length bytes.now }
@@ -30,7 +30,7 @@ pub fn line_len(bytes: &[u8]) -> usize
     memchr(LINE_FEED, bytes).unwrap_or(bytes.len())
 }
 
-/// Cuts the bytes behind their first LF; where there is none, all of them are before the cut.
+/// Cuts the bytes right after their first LF; without an LF all bytes come before the cut.
 pub fn cut_line(bytes: &[u8]) -> (&[u8], &[u8])
     ensures line { result.0.now ≡ one_line bytes.now }
     ensures one { IsOneLine result.0.now }
@@ -44,7 +44,7 @@ pub fn cut_line(bytes: &[u8]) -> (&[u8], &[u8])
     bytes.split_at(end + 1)
 }
 
-/// The bytes without the one CR at their end.
+/// The bytes without one CR at their end.
 pub fn without_return(line: &[u8]) -> &[u8]
     ensures { result.now ≡ strip_carriage_return line.now }
 {

@@ -1,4 +1,4 @@
-//! The options of a session: their ranges, and how their values are read.
+//! The options of a session: their ranges, and reading their values.
 
 ghost use Rattle.std.specs.Prelude.{◌≡◌};
 ghost use Rattle.shogi_sfen.specs.Words.{words};
@@ -10,10 +10,10 @@ use crate::keywords::is;
 use shogi_eval::Eval;
 use shogi_sfen::{read_number, words};
 
-/// The least depth of a `go` (own choice, as is the greatest).
+/// The least depth of a `go`, in plies (own choice, as is the greatest).
 pub const DEPTH_MIN: u8 = 1;
 
-/// The greatest depth of a `go`.
+/// The greatest depth of a `go`, in plies.
 pub const DEPTH_MAX: u8 = 16;
 
 /// The least number of best lines of a `go` (own choice, as is the greatest).
@@ -22,7 +22,7 @@ pub const MULTI_PV_MIN: u8 = 1;
 /// The greatest number of best lines of a `go`.
 pub const MULTI_PV_MAX: u8 = 8;
 
-/// A number, clamped to a range, where the word is one.
+/// The number that the word writes, clamped to a range; `None` if the word is no number.
 fn read_clamped(word: &[u8], least: u8, most: u8) -> Option<u8>
     ensures { result ≡ clamped_read least most word.now }
 {
@@ -30,21 +30,22 @@ fn read_clamped(word: &[u8], least: u8, most: u8) -> Option<u8>
     Some(number.max(least as u32) as u8)
 }
 
-/// A depth, clamped to its range, where the word is a number.
+/// The depth that the word writes, clamped to its range; `None` if the word is no number.
 pub fn read_depth(word: &[u8]) -> Option<u8>
     ensures { result ≡ depth_read word.now }
 {
     read_clamped(word, DEPTH_MIN, DEPTH_MAX)
 }
 
-/// A number of best lines, clamped to its range, where the word is a number.
+/// The number of best lines that the word writes, clamped to its range; `None` if the word is no
+/// number.
 fn read_multi_pv(word: &[u8]) -> Option<u8>
     ensures { result ≡ multi_pv_read word.now }
 {
     read_clamped(word, MULTI_PV_MIN, MULTI_PV_MAX)
 }
 
-/// An evaluation, where the word is its name.
+/// The evaluation of that name; `None` for any other word.
 fn read_eval(word: &[u8]) -> Option<Eval>
     ensures { result ≡ eval_read word.now }
 {
@@ -56,8 +57,8 @@ fn read_eval(word: &[u8]) -> Option<Eval>
     }
 }
 
-/// The command that sets the option of a name to a value, with a row for each option; `Other` where
-/// there is no such option, or where it has no such value.
+/// The command that sets an option to a value, with a row for each option; `Other` for an unknown
+/// option or value.
 fn command_for<'a>(name: &[u8], value: &[u8]) -> Command<'a>
     ensures { meaning_of result ≡ command_for name.now value.now }
 {
@@ -81,7 +82,8 @@ fn command_for<'a>(name: &[u8], value: &[u8]) -> Command<'a>
     }
 }
 
-/// What follows `setoption`: the words `name NAME value VALUE`, and no others.
+/// The command of a `setoption` line, by the text after that word: exactly `name NAME value VALUE`,
+/// else `Other`.
 pub fn read_option<'a>(text: &[u8]) -> Command<'a>
     ensures { meaning_of result ≡ option_of (words text.now) }
 {

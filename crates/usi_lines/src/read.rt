@@ -11,7 +11,7 @@ use crate::keywords::{has_word, is};
 use crate::options::{read_depth, read_option};
 use shogi_sfen::words;
 
-/// What follows `position`.
+/// The command of a `position` line, by the text after that word.
 fn position(text: &[u8]) -> Command<'_>
     ensures { meaning_of result ≡ position_of (words text.now) (after_word text.now) }
 {
@@ -36,7 +36,7 @@ fn find_depth(text: &[u8]) -> Option<u8>
     None
 }
 
-/// What the `bestmove` of a `go` waits for.
+/// The event for which the `bestmove` of a `go` waits.
 fn hold(text: &[u8]) -> Hold
     ensures { result ≡ hold_of (words text.now) }
 {
@@ -49,7 +49,7 @@ fn hold(text: &[u8]) -> Hold
     }
 }
 
-/// What follows `go`.
+/// The command of a `go` line, by the text after that word.
 fn go(text: &[u8]) -> Command<'_>
     ensures { meaning_of result ≡ go_of (words text.now) }
 {
@@ -62,7 +62,7 @@ fn go(text: &[u8]) -> Command<'_>
     }
 }
 
-/// The command of a first word and the text after it.
+/// The command of a line, by its first word and the text after it.
 fn named<'a>(name: &[u8], text: &'a [u8]) -> Command<'a>
     ensures { meaning_of result ≡ named_by name.now (words text.now) (after_word text.now) }
 {
@@ -81,8 +81,8 @@ fn named<'a>(name: &[u8], text: &'a [u8]) -> Command<'a>
     }
 }
 
-/// The command of a line, for any bytes. The first word names it; words that mean nothing there
-/// have no effect (USI, commands of a front end; the clamping of depths is an own choice).
+/// The command of a line of any bytes. The first word names it; words without a meaning there are
+/// ignored (USI, commands of a front end; clamping depths is an own choice).
 pub fn read_command(line: &[u8]) -> Command<'_>
     ensures command { meaning_of result ≡ command_of line.now }
     ensures range { IsInRange (command_of line.now) }

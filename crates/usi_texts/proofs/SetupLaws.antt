@@ -18,7 +18,7 @@ lines_in_range multi_pv e =
     let parts = and_parts (nat_le MULTI_PV_MIN multi_pv) (nat_le multi_pv MULTI_PV_MAX) e in
     record { least = leb-true MULTI_PV_MIN multi_pv parts.0; most = leb-true multi_pv MULTI_PV_MAX parts.1 }
 
--- what a setup keeps
+-- the ranges and the order of a setup's numbers
 pub record IsInOrder (setup : Setup) : Type 0 where
   pub depth_fits : IsDepth setup.depth
   pub max_depth_fits : IsDepth setup.max_depth
@@ -37,7 +37,7 @@ in_order setup =
       within = leb-true setup.depth setup.max_depth c.1;
     }
 
--- each option lies in its range as a setup has it
+-- each initial option under a setup is in its range
 pub setup_in_range : (setup : Setup) → AreInRange (options_under setup)
 setup_in_range setup =
     record { depth_fits = (in_order setup).depth_fits; multi_pv_fits = (in_order setup).multi_pv_fits }

@@ -9,43 +9,43 @@ use Rattle.shogi_sfen.specs.MoveTexts.{text_of}
 use Rattle.usi_texts.specs.Options.{option_lines}
 use Rattle.usi_texts.specs.declared.setup.Setup.{Setup}
 
--- where it succeeds, the text was appended
+-- if the call succeeds, it appended the text; a failure may leave anything
 abbrev pub Writes : {A E : Type 0} → Result (Unit {0}) E → Vec ℕ A → Vec ℕ A → List ℕ → Type 0
 Writes result before after text = OnOk result (after.items ≡ before.items ++ text)
 
--- what `usi` is answered with
+-- the answer to `usi`
 abbrev pub usi_reply : Setup → List ℕ
 usi_reply setup =
     codes "id name Shared Shogi Host\nid author Shared Shogi Host Team\n"
     ++ (option_lines setup ++ codes "usiok\n")
 
--- what `isready` is answered with
+-- the answer to `isready`
 abbrev pub ready_reply : List ℕ
 ready_reply = codes "readyok\n"
 
--- what `go mate` is answered with
+-- the answer to `go mate`
 abbrev pub mate_not_implemented_reply : List ℕ
 mate_not_implemented_reply = codes "checkmate notimplemented\n"
 
--- a `position` line that names no position: 0 for its form, 1 to 8 for the first fault of its SFEN
+-- the answer to a `position` line that sets no position: 0 for its form, 1 to 8 for the first fault of its SFEN
 abbrev pub bad_position_line : ℕ → List ℕ
 bad_position_line fault = codes "info string bad position " ++ (decimal fault ++ codes "\n")
 
--- the word of this number after `moves` is no legal move
+-- the answer if the word of this number after `moves` is no legal move
 abbrev pub illegal_move_line : ℕ → List ℕ
 illegal_move_line number = codes "info string illegal move " ++ (decimal number ++ codes "\n")
 
--- what a line of 65,536 bytes or more is answered with
+-- the answer to a line of 65,536 bytes or more
 abbrev pub too_long_reply : List ℕ
 too_long_reply = codes "info string line too long\n"
 
--- hundredths of a pawn, or from `MATE` up a mate in plies (plies are an own choice)
+-- a score after its sign: centipawns, or from `MATE` up a mate in plies (plies are an own choice)
 abbrev pub size_text : List ℕ → ℕ → ℕ → List ℕ
 size_text sign depth size =
     cond (nat_lt size (nat_abs MATE)) (codes "cp " ++ (sign ++ decimal size))
     (codes "mate " ++ (sign ++ decimal (depth - (size - nat_abs MATE))))
 
--- a score at a depth, negative where the side to move stands worse
+-- a score at a depth, negative if the side to move is worse
 abbrev pub score_text : ℕ → ℤ → List ℕ
 score_text depth (pos size) = size_text [] depth size
 score_text depth (negsuc size) = size_text (codes "-") depth (size + 1)
@@ -54,7 +54,7 @@ score_text depth (negsuc size) = size_text (codes "-") depth (size + 1)
 abbrev pub moves_text : List Move → List ℕ
 moves_text moves = flat_map (λ played. codes " " ++ text_of played) moves
 
--- the head of an info line: its depth, and the words for which pv
+-- the start of an info line: its depth, and the words that say which pv
 abbrev pub head_text : ℕ → List ℕ → List ℕ
 head_text depth which = codes "info depth " ++ (decimal depth ++ (which ++ codes " score "))
 
@@ -62,29 +62,29 @@ head_text depth which = codes "info depth " ++ (decimal depth ++ (which ++ codes
 abbrev pub pv_text : List Move → List ℕ
 pv_text moves = codes " pv" ++ (moves_text moves ++ codes "\n")
 
--- a value and a pv at a depth, after the words for which
+-- an info line with a score and a pv at a depth, and the words that say which pv
 abbrev pub info_for : List ℕ → ℕ → ℤ → List Move → List ℕ
 info_for which depth value moves =
     head_text depth which ++ (score_text depth value ++ pv_text moves)
 
--- the same, where the words for which are a word and its number
+-- `info_for` with the words that say which pv given as a word and its number
 abbrev pub info_with : List ℕ → List ℕ → ℕ → ℤ → List Move → List ℕ
 info_with word number depth value moves = info_for (word ++ number) depth value moves
 
--- a value and a pv at a depth
+-- an info line with a score and a pv at a depth
 abbrev pub info_text : ℕ → ℤ → List Move → List ℕ
 info_text depth value moves = info_for [] depth value moves
 
--- a value and a pv at a depth, for the pv of this number among several
+-- an info line with a score at a depth and the pv of this number among several
 abbrev pub numbered_info_text : ℕ → ℕ → ℤ → List Move → List ℕ
 numbered_info_text depth number value moves =
     info_for (codes " multipv " ++ decimal number) depth value moves
 
--- what is said of a position at a depth: its value and its pv
+-- the info line of a position at a depth: its value and its pv
 abbrev pub info_line : Shogi → Eval → ℕ → List ℕ
 info_line position eval depth = info_text depth (value position eval depth) (pv position eval depth)
 
--- the move to play, with the reply to ponder on; none where no move is legal
+-- the move to play, with the reply to ponder on; `resign` if no move is legal
 abbrev pub bestmove_line : Option Move → Option Move → List ℕ
 bestmove_line None ponder = codes "bestmove resign\n"
 bestmove_line (Some best) None = codes "bestmove " ++ (text_of best ++ codes "\n")

@@ -1,4 +1,4 @@
-//! The options of a session: what they are set to, and how they are offered.
+//! The options of a session: their values, and the lines that offer them.
 
 ghost use Rattle.std.specs.Prelude.{◌≡◌, ◌++◌, decimal};
 ghost use Rattle.usi_texts.specs.Texts.{Writes};
@@ -11,19 +11,19 @@ use shogi_eval::Eval;
 use std::alloc::{AllocError, Allocator};
 use usi_lines::{DEPTH_MIN, MULTI_PV_MAX, MULTI_PV_MIN};
 
-/// What the options are set to.
+/// The values of the options of a session.
 #[derive(Clone, Copy, Debug)]
 pub struct Options {
-    /// `Depth`: the depth of a `go` that names none, in its range.
+    /// `Depth`: the depth of a `go` that names none, in plies, in its range.
     pub depth: u8,
-    /// `Eval`: by which evaluation a `go` searches.
+    /// `Eval`: the evaluation of a `go`.
     pub eval: Eval,
-    /// `MultiPV`: how many best lines a `go` shows at most, in its range.
+    /// `MultiPV`: the most best lines of a `go`, in its range.
     pub multi_pv: u8,
 }
 
 impl Options {
-    /// Each option as the setup has it.
+    /// The initial options under the setup.
     pub fn under(setup: Setup) -> Options
         ensures { result ≡ options_under setup }
     {
@@ -35,7 +35,7 @@ impl Options {
     }
 }
 
-/// A word of an option's line, and its number.
+/// Appends a word of an option line and its number.
 fn write_number<A: Allocator>(
     out: &mut Vec<u8, A>,
     word: &[u8],
@@ -48,14 +48,14 @@ fn write_number<A: Allocator>(
     write_parts(out, &[word, digits])
 }
 
-/// The name of an option that is a number.
+/// Appends the name of a numeric option.
 fn write_name<A: Allocator>(out: &mut Vec<u8, A>, name: &[u8]) -> Result<(), AllocError>
     ensures { Writes result out.old out.new (spin_name name.now) }
 {
     write_parts(out, &[b"option name ", name, b" type spin"])
 }
 
-/// The range of an option that is a number, to the end of its line.
+/// Appends the range of a numeric option, to the end of its line.
 fn write_range<A: Allocator>(out: &mut Vec<u8, A>, least: u8, most: u8) -> Result<(), AllocError>
     ensures { Writes result out.old out.new (spin_range least most) }
 {
@@ -65,7 +65,7 @@ fn write_range<A: Allocator>(out: &mut Vec<u8, A>, least: u8, most: u8) -> Resul
     Ok(())
 }
 
-/// Offers an option that is a number (USI, option).
+/// Appends the line of a numeric option (USI, option).
 fn write_spin<A: Allocator>(
     out: &mut Vec<u8, A>,
     name: &[u8],
@@ -92,7 +92,7 @@ fn eval_name(eval: Eval) -> &'static [u8]
     }
 }
 
-/// The evaluations of a setup, to the end of the line.
+/// The evaluations that the setup offers, to the end of the line.
 fn eval_names(setup: &Setup) -> &'static [u8]
     ensures { result.now ≡ eval_names setup.now }
 {
@@ -103,7 +103,7 @@ fn eval_names(setup: &Setup) -> &'static [u8]
     }
 }
 
-/// Offers the evaluations (USI, option).
+/// Appends the line of the evaluation option (USI, option).
 fn write_eval<A: Allocator>(out: &mut Vec<u8, A>, setup: &Setup) -> Result<(), AllocError>
     ensures { Writes result out.old out.new (eval_line setup.now) }
 {
@@ -111,7 +111,7 @@ fn write_eval<A: Allocator>(out: &mut Vec<u8, A>, setup: &Setup) -> Result<(), A
     write_parts(out, &[head, eval_name(setup.eval), eval_names(setup)])
 }
 
-/// Offers the options: a row for each.
+/// Appends the lines of all options, with a row for each.
 pub fn write_options<A: Allocator>(out: &mut Vec<u8, A>, setup: &Setup) -> Result<(), AllocError>
     ensures { Writes result out.old out.new (option_lines setup.now) }
 {

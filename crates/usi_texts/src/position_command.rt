@@ -1,4 +1,4 @@
-//! What a `position` command leaves.
+//! The position that a `position` command sets.
 
 ghost use Rattle.std.specs.Prelude.{◌≡◌, ◌+◌, ◌≤◌, ◌<◌, ◌^◌, true, false, Some, None, length};
 ghost use Rattle.shogi_sfen.specs.Words.{words};
@@ -9,17 +9,17 @@ use shogi_core::Position;
 use shogi_moves::play_in_place;
 use shogi_sfen::{read_move, read_position, words};
 
-/// Why a `position` line leaves the position as it was.
+/// Why a `position` line leaves the position unchanged.
 #[derive(Clone, Copy, Debug, PartialEq, Eq)]
 pub enum Refusal {
-    /// 0 where the line has another form, 1 to 8 for the first fault of its SFEN.
+    /// 0 if the line has another form, 1 to 8 for the first fault of its SFEN.
     BadPosition(u8),
-    /// The number of the first word after `moves`, from 1, that is no legal move where it stands.
+    /// The number, from 1, of the first word after `moves` that is no legal move there.
     IllegalMove(usize),
 }
 
-/// Makes the move of a text where the position stands, if it is one and legal, and returns whether
-/// it is. Where it is not, the position stays.
+/// Makes the move that the word writes in place if it is one and legal, and returns whether it is;
+/// otherwise the position stays the same.
 #[tactic(auto, unfolding(crate::specs::PositionCommand::after_legal))]
 fn make_legal(p: &mut Position, word: &[u8]) -> bool
     ensures made { result ≡ true → after_legal p.old (move_of_text word.now) ≡ Some p.new }
@@ -32,11 +32,11 @@ fn make_legal(p: &mut Position, word: &[u8]) -> bool
     play_in_place(p, m)
 }
 
-/// The position after the words of the text, each a legal move where it stands.
+/// The position after the moves that the text writes, each legal in turn, or the first that is not.
 fn after_moves(p: &Position, text: &[u8]) -> Result<Position, Refusal>
     ensures { result ≡ after_moves 1 p.now (words text.now) }
 {
-    // There are fewer words than bytes, so their numbers fit.
+    // A text has no more words than bytes, so their numbers fit.
     prove!(text.len() < usize::MAX - 1);
     let mut reached = *p;
     let mut number = 1;
@@ -50,7 +50,7 @@ fn after_moves(p: &Position, text: &[u8]) -> Result<Position, Refusal>
     Ok(reached)
 }
 
-/// The position after what follows it on its line: nothing, or the word `moves` and then moves.
+/// The position after the rest of its line: nothing, or the word `moves` followed by moves.
 fn after_words(p: &Position, text: &[u8]) -> Result<Position, Refusal>
     ensures { result ≡ after_words p.now (words text.now) }
 {
@@ -62,15 +62,16 @@ fn after_words(p: &Position, text: &[u8]) -> Result<Position, Refusal>
     }
 }
 
-/// The position of `position startpos ..`, by the bytes after that word.
+/// The position of `position startpos ..`, by the bytes after that word. `BadPosition(0)` comes if
+/// another word than `moves` follows, `IllegalMove` at the first word that is no legal move.
 pub fn position_of_startpos(text: &[u8]) -> Result<Position, Refusal>
     ensures { result ≡ position_of_startpos text.now }
 {
     after_words(&Position::start(), text)
 }
 
-/// The position of `position sfen ..`, by the bytes after that word. A fault of the SFEN comes
-/// before one of what follows it.
+/// The position of `position sfen ..`, by the bytes after that word. A fault of the SFEN is
+/// reported before one of the words after it.
 pub fn position_of_sfen(text: &[u8]) -> Result<Position, Refusal>
     ensures { result ≡ position_of_sfen text.now }
 {

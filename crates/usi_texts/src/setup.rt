@@ -1,4 +1,4 @@
-//! What an operator decides for all sessions.
+//! The settings of an operator for all sessions.
 
 ghost use Rattle.std.specs.Prelude.{◌≡◌, true};
 ghost use Rattle.usi_texts.specs.SetupRange.{is_depth, is_multi_pv, is_setup};
@@ -6,13 +6,13 @@ ghost use Rattle.usi_texts.specs.SetupRange.{is_depth, is_multi_pv, is_setup};
 use shogi_eval::Eval;
 use usi_lines::{DEPTH_MAX, DEPTH_MIN, MULTI_PV_MAX, MULTI_PV_MIN};
 
-/// The depth of a session whose `Depth` was never set (own choice).
+/// The initial `Depth` of a session, in plies (own choice).
 pub const DEPTH_DEFAULT: u8 = 3;
 
-/// The number of best lines of a session whose `MultiPV` was never set (USI, option).
+/// The initial `MultiPV` of a session (USI, option).
 pub const MULTI_PV_DEFAULT: u8 = 1;
 
-/// Why there is no setup of some numbers, in the order of refusal (own choice).
+/// Why numbers make no setup, in the order of checks (own choice).
 #[derive(Clone, Copy, Debug, PartialEq, Eq)]
 pub enum SetupFault {
     /// The depth is below 1 or above 16 plies.
@@ -25,30 +25,30 @@ pub enum SetupFault {
     DepthAboveMax,
 }
 
-/// What an operator decides for all sessions: what each option is set to at first, the greatest
-/// depth, and the evaluations that are offered. `Exchange` is offered where sessions begin with it,
-/// and the others always (own choice).
+/// The settings of an operator for all sessions: the initial value of each option, the greatest
+/// depth, and the evaluations on offer. `Exchange` is offered only if sessions start with it,
+/// `Plain` and `Hand` always (own choice).
 #[derive(Clone, Copy, Debug)]
 pub struct Setup {
-    /// `Depth` at first, in plies: from 1 to the greatest depth.
+    /// The initial `Depth`, in plies: from 1 to the greatest depth.
     pub depth: u8,
-    /// The greatest depth, in plies, from 1 to 16: `Depth` and `go depth` are held to it.
+    /// The greatest depth, in plies, from 1 to 16: `Depth` and `go depth` are clamped to it.
     pub max_depth: u8,
-    /// `MultiPV` at first: from 1 to 8 lines.
+    /// The initial `MultiPV`, from 1 to 8 lines.
     pub multi_pv: u8,
-    /// `Eval` at first.
+    /// The initial `Eval`.
     pub eval: Eval,
     pub ghost fits: { is_setup depth max_depth multi_pv ≡ true },
 }
 
-/// Whether a depth lies in its range.
+/// Whether a depth is in its range.
 fn is_depth(depth: u8) -> bool
     ensures { result ≡ is_depth depth }
 {
     DEPTH_MIN <= depth && depth <= DEPTH_MAX
 }
 
-/// Whether a number of best lines lies in its range.
+/// Whether a number of best lines is in its range.
 fn is_multi_pv(multi_pv: u8) -> bool
     ensures { result ≡ is_multi_pv multi_pv }
 {
@@ -60,7 +60,7 @@ impl Setup {
     ghost use Rattle.std.specs.Result.{result_err};
     ghost use Rattle.usi_texts.specs.Setup.{default_setup, setup_fault, offers, IsSetupOf};
 
-    /// Depth 3, the greatest depth 16, one line, `Plain`.
+    /// The default setup: depth 3, greatest depth 16, one line, `Plain`.
     pub fn new() -> Setup
         ensures { result ≡ default_setup }
     {
@@ -72,7 +72,7 @@ impl Setup {
         }
     }
 
-    /// The setup of these, or the first fault of the numbers.
+    /// The setup of these values, or the first fault of the numbers.
     pub fn of(depth: u8, max_depth: u8, multi_pv: u8, eval: Eval) -> Result<Setup, SetupFault>
         ensures ok { IfOk result (IsSetupOf depth max_depth multi_pv eval) }
         ensures fault { result_err result ≡ setup_fault depth max_depth multi_pv }
@@ -97,7 +97,8 @@ impl Setup {
         })
     }
 
-    /// Whether an evaluation is offered: `Exchange` where sessions begin with it, the others always.
+    /// Whether an evaluation is offered: `Exchange` only if sessions start with it, the others
+    /// always.
     pub fn offers(&self, eval: Eval) -> bool
         ensures { result ≡ offers self.now eval }
     {

@@ -1,4 +1,5 @@
-//! The lines that a session writes.
+//! The lines that a session writes. Each call appends to `out`; `AllocError` comes if memory runs
+//! out, and may leave part of the text appended.
 
 ghost use Rattle.std.specs.Prelude.{◌++◌};
 ghost use Rattle.usi_texts.specs.Texts.{Writes, usi_reply, mate_not_implemented_reply, bad_position_line, illegal_move_line, size_text, score_text, moves_text, head_text, pv_text, info_with, info_text, numbered_info_text, bestmove_line};
@@ -12,10 +13,11 @@ use shogi_core::Move;
 use shogi_sfen::write_move;
 use std::alloc::{AllocError, Allocator};
 
-/// From which size on a value is a mate.
+/// The least absolute value of a mate score.
 const MATE_MIN: u32 = MATE as u32;
 
-/// Names the program and its options under a setup (USI, usi).
+/// Appends the answer to `usi`: the program's name, its options under the setup, and `usiok` (USI,
+/// usi).
 pub fn write_usi<A: Allocator>(out: &mut Vec<u8, A>, setup: &Setup) -> Result<(), AllocError>
     ensures { Writes result out.old out.new (usi_reply setup.now) }
 {
@@ -25,14 +27,15 @@ pub fn write_usi<A: Allocator>(out: &mut Vec<u8, A>, setup: &Setup) -> Result<()
     Ok(())
 }
 
-/// Says that there is no mate solver (USI, checkmate).
+/// Appends the answer to `go mate`: there is no mate solver (USI, checkmate).
 pub fn write_mate_not_implemented<A: Allocator>(out: &mut Vec<u8, A>) -> Result<(), AllocError>
     ensures { Writes result out.old out.new mate_not_implemented_reply }
 {
     out.extend_from_slice(b"checkmate notimplemented\n")
 }
 
-/// Says that a `position` line names no position: 0 for its form, 1 to 8 for its first fault.
+/// Appends that a `position` line sets no position: 0 for its form, 1 to 8 for the first fault of
+/// its SFEN.
 pub fn write_bad_position<A: Allocator>(out: &mut Vec<u8, A>, fault: u8) -> Result<(), AllocError>
     ensures { Writes result out.old out.new (bad_position_line fault) }
 {
@@ -41,7 +44,7 @@ pub fn write_bad_position<A: Allocator>(out: &mut Vec<u8, A>, fault: u8) -> Resu
     write_parts(out, &[b"info string bad position ", digits, b"\n"])
 }
 
-/// Says that the word of this number after `moves` is no legal move.
+/// Appends that the word of this number after `moves`, from 1, is no legal move.
 pub fn write_illegal_move<A: Allocator>(
     out: &mut Vec<u8, A>,
     number: usize,
@@ -53,7 +56,8 @@ pub fn write_illegal_move<A: Allocator>(
     write_parts(out, &[b"info string illegal move ", digits, b"\n"])
 }
 
-/// A value after its sign: hundredths of a pawn, or from `MATE_MIN` up the plies to a mate.
+/// Appends a score after its sign: centipawns, or from `MATE_MIN` up the plies to mate, `depth`
+/// less the excess of `size`.
 fn write_size<A: Allocator>(
     out: &mut Vec<u8, A>,
     sign: &[u8],
@@ -72,7 +76,7 @@ fn write_size<A: Allocator>(
     write_parts(out, &[b"mate ", sign, digits])
 }
 
-/// A value of a depth, with its sign (USI, info, score).
+/// Appends a score at a depth, with its sign (USI, info, score).
 fn write_score<A: Allocator>(out: &mut Vec<u8, A>, depth: u8, value: i32) -> Result<(), AllocError>
     ensures { Writes result out.old out.new (score_text depth value) }
 {
@@ -80,7 +84,7 @@ fn write_score<A: Allocator>(out: &mut Vec<u8, A>, depth: u8, value: i32) -> Res
     write_size(out, sign, depth, value.unsigned_abs())
 }
 
-/// Each move after a space.
+/// Appends each move after a space.
 fn write_moves<A: Allocator>(out: &mut Vec<u8, A>, moves: &[Move]) -> Result<(), AllocError>
     ensures { Writes result out.old out.new (moves_text moves.now) }
 {
@@ -91,7 +95,7 @@ fn write_moves<A: Allocator>(out: &mut Vec<u8, A>, moves: &[Move]) -> Result<(),
     Ok(())
 }
 
-/// The depth of an info line, from its start, and the word and the digits after it.
+/// Appends the start of an info line: its depth, and a word with its digits.
 fn write_head<A: Allocator>(
     out: &mut Vec<u8, A>,
     depth: u8,
@@ -105,7 +109,7 @@ fn write_head<A: Allocator>(
     write_parts(out, &[b"info depth ", digits, word, number, b" score "])
 }
 
-/// The pv of an info line, to its end.
+/// Appends the pv of an info line, to its end.
 fn write_pv<A: Allocator>(out: &mut Vec<u8, A>, moves: &[Move]) -> Result<(), AllocError>
     ensures { Writes result out.old out.new (pv_text moves.now) }
 {
@@ -115,7 +119,8 @@ fn write_pv<A: Allocator>(out: &mut Vec<u8, A>, moves: &[Move]) -> Result<(), Al
     Ok(())
 }
 
-/// Says a value and a pv at a depth, after a word and digits for which.
+/// Appends an info line with a score and a pv at a depth, after a word and digits that say which
+/// pv.
 #[tactic(auto, using(crate::proofs::Appends::after_three))]
 fn write_info_for<A: Allocator>(
     out: &mut Vec<u8, A>,
@@ -133,7 +138,7 @@ fn write_info_for<A: Allocator>(
     Ok(())
 }
 
-/// Says a value and a pv at a depth (USI, info).
+/// Appends an info line with a score and a pv at a depth (USI, info).
 pub fn write_info<A: Allocator>(
     out: &mut Vec<u8, A>,
     depth: u8,
@@ -145,8 +150,8 @@ pub fn write_info<A: Allocator>(
     write_info_for(out, b"", b"", depth, value, moves)
 }
 
-/// A value and a pv at a depth, for the pv of this number among several, from 1 (USI, info,
-/// multipv).
+/// Appends an info line with a score at a depth and the pv of this number among several, from 1
+/// (USI, info, multipv).
 pub fn write_numbered_info<A: Allocator>(
     out: &mut Vec<u8, A>,
     depth: u8,
@@ -161,7 +166,8 @@ pub fn write_numbered_info<A: Allocator>(
     write_info_for(out, b" multipv ", digits, depth, value, moves)
 }
 
-/// Names the move to play, with the reply to ponder on (USI, bestmove).
+/// Appends the move to play and the reply to ponder on, or `resign` if no move is legal (USI,
+/// bestmove).
 pub fn write_bestmove<A: Allocator>(
     out: &mut Vec<u8, A>,
     best: &Option<Move>,

@@ -5,7 +5,7 @@ use Rattle.shared_table.specs.Packed.{key_in, words_of}
 use Rattle.shared_table.proofs.PackedLaws.{key_back, words_are, words_made}
 use Rattle.shared_table.proofs.key.TableKey.of.Goals as goal
 
--- the words are those of the position and the depth
+-- the words are those of the position, the evaluation and the depth
 words_are_those : (c : goal.After-last_word) → slice_index c.words-board.result.now 0 ∷ slice_index c.words-board.result.now 1 ∷ slice_index c.words-board.result.now 2
     ∷ slice_index c.words-board.result.now 3 ∷ slice_index c.words-board.result.now 4 ∷ slice_index c.words-board.result.now 5 ∷ slice_index c.words-board.result.now 6
     ∷ c.hand_word.result ∷ c.hand_word-2.result ∷ c.last_word.result ∷ []

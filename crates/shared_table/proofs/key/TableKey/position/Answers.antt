@@ -7,7 +7,7 @@ use Rattle.shared_table.proofs.PlaceLaws.{position_made}
 use Rattle.shared_table.proofs.PackedLaws.{position_of}
 use Rattle.shared_table.proofs.key.TableKey.position.Goals as goal
 
--- what was put together is the position that the words say
+-- the unpacked parts make the position of the words
 made : (c : goal.After-side_of) → position_of c.of.result c.with_counts-hands.result c.side_of.result ≡ position_in c.self.inside.words
 made c =
     ap (λ (cells : Cells). position_of cells c.with_counts-hands.result c.side_of.result) c.of.ensures

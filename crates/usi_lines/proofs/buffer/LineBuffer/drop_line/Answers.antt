@@ -32,7 +32,7 @@ returns-clause-rest g c =
     subst (λ (b : Buffer). (x : List ℕ) → ahead (record { unread = drop c.compact-self-inside.result c.compact-self-inside.new.bytes.items; closed = i.closed }) x ≡ drop 1 (ahead b x)) c.self.view_is
     (dropped_text i.bytes.items i.start i.end c.self.invariant.0 i.closed (drop c.compact-self-inside.result c.compact-self-inside.new.bytes.items) c.compact-self-inside.ensures.kept below fits)
 
--- the first line is a text, since the buffer is open and its first LF stands within the bound
+-- the first line is a text, since the buffer is open and its first LF lies within the bound
 pub returns-clause-too_long : goal.returns-clause-too_long
 returns-clause-too_long g c = λ long.
     let i = c.self.inside in
