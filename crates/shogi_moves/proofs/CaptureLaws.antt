@@ -57,7 +57,7 @@ jump p capture (suc n) first h none =
     ∙ jump p capture n (first + 1) (omega arith) (record { none = λ code low high. none.none code (omega arith) (omega arith) })
     ∙ ap (λ (k : ℕ). filter (matches_kind p capture) (legal_from p k)) (omega arith)
 
--- the legal moves of the kind are the same from either end of such a run
+-- the legal moves of the kind are the same from either end of a run without one
 pub matching_jumps : (p : Shogi) (capture : Bool) (first end : ℕ) → first ≤ end → end ≤ MOVE_CODE_COUNT → HasNoneMatching p capture first end → filter (matches_kind p capture) (legal_from p first) ≡ filter (matches_kind p capture) (legal_from p end)
 matching_jumps p capture first end low high none =
     let there : first + (end - first) ≡ end = omega arith in

@@ -82,8 +82,8 @@ fn count_legal(p: &Position) -> u64
     count_board(&known) + count_drops(&known)
 }
 
-/// The number of sequences of n legal moves from the position; `None` exactly if it exceeds the
-/// greatest `u64`.
+/// The number of sequences of n legal moves from the position, n from 0 to 16; `None` exactly if it
+/// exceeds the greatest `u64`.
 #[tactic(auto, using(crate::proofs::PerftLaws::steps))]
 pub fn perft(p: &Position, n: u8) -> Option<u64>
     requires { n ≤ 16 }

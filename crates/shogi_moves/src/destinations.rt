@@ -40,8 +40,8 @@ pub struct SeenKing<'a> {
 }
 
 /// A position with squares that settle most pieces at once: `zone` in which the side to move
-/// promotes, `marked` from which a piece may promote or expose its king, and `enterable` without a
-/// piece of that side.
+/// promotes, `marked` from which a piece may promote or expose its king, and `enterable` without
+/// its own pieces.
 #[derive(Clone, Copy)]
 pub struct Markings<'a> {
     pub known: &'a KnownPosition<'a>,

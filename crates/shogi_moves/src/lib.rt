@@ -5,7 +5,7 @@
 //! board moves and drops apart, for the nodes of a search. `walk`, over `next`, yields all legal
 //! moves in order: for `perft`, for nodes with one ply left, and for any other caller. `count`
 //! counts the last ply without generating its moves, and `existence` stops at the first legal move.
-//! `movers` drops pieces that surely capture nothing before their destinations are computed.
+//! `movers` leaves out pieces that surely capture nothing before their destinations are found.
 //! `legal` tests one move rule by rule, `king_safety` the rule on checks; `after` makes a move.
 //! `check_info` holds whether the side to move is in check and which pieces may be pinned, so that
 //! few moves need another test; `safe` and `pawn_escape` tell whether a pawn drop mates.

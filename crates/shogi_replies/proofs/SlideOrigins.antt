@@ -55,7 +55,7 @@ aligned_from o a x s among ha hx apart one other =
 -- no slider of the color is on a line with a square left empty
 module _ (old new : Cells) (Left : ℕ → Type 0) (opened : (x : ℕ) → is_none (piece_at new x) ≡ true → (is_none (piece_at old x) ≡ true) ⊎ Left x) (color : Color)
     (bare : (x a : ℕ) → Left x → a < 81 → is_piece_of color (piece_at new a) ≡ true → is_slider (piece_at new a) ≡ true → (x < 81) × (a ≢ x) × (are_aligned x a ≡ false)) where
-  -- a slide of such a piece was there before
+  -- a slide of a piece of the color was there before
   origin_slide : (piece : Piece) (a s : ℕ) → a < 81 → piece_at new a ≡ Some piece → is_piece_of color (piece_at new a) ≡ true → has_slide new piece a s ≡ true → has_slide old piece a s ≡ true
   origin_slide piece a s ha at own e = each (slides_of piece.role) (slides_around piece.color piece.role) e
     where

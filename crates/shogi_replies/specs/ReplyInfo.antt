@@ -93,7 +93,7 @@ abbrev pub AreQuietSteps : Cells → ℕ → ℕ → Type 0
 AreQuietSteps cells a squares =
     (t : ℕ) → t < 81 → has_bit squares t ≡ true → is_quiet_step cells a t ≡ true
 
--- any move that does not end on some square of the set leaves the side a spare piece
+-- if some square of the set is not the move's destination, the side keeps a spare piece
 abbrev pub LeaveFreeMovers : Cells → Color → ℕ → Type 0
 LeaveFreeMovers cells side squares = (a to : ℕ) → a < 81 → has_bit squares a ≡ true → a ≢ to
     → some_below 81 (is_spare cells side to) ≡ true
@@ -155,7 +155,7 @@ OpensChecksWithin p king_view (origins.Board from promote) set =
     (from < 81) × DiscoversChecksWithin p king_view from set
 OpensChecksWithin p king_view (origins.Drop kind) set = ⊤
 
--- `king_view` has what the opponent's kings see, and any move that does not end on some square of `free_movers` leaves the opponent a step or a drop
+-- `king_view` has the squares in view of the opponent's kings; if some square of `free_movers` is not the move's destination, the opponent keeps a step or a drop
 pub record IsReplyInfo (p : Shogi) (king_view free_movers : ℕ) : Type 0 where
   pub sees : Sees p.cells (opponent_of p.side) 0 king_view
   pub spares : (a to : ℕ) → a < 81 → has_bit free_movers a ≡ true → a ≢ to

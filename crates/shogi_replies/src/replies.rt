@@ -21,8 +21,8 @@ use shogi_moves::{Origin, dropped, matching_destinations, piece_moved};
 
 /// What shows, after most moves, that the opponent is in no check and has a legal quiet reply: no
 /// capture, no promotion. `free_movers` holds pieces with steps to empty squares, or all empty
-/// squares if a piece in hand may be dropped on each. Any move that does not end on one of them
-/// leaves such a step or drop elsewhere.
+/// squares if a piece in hand may be dropped on each. While one of them is not the move's
+/// destination, such a step or drop remains.
 #[derive(Clone, Copy, Debug)]
 pub struct ReplyInfo {
     pub king_view: Squares,
@@ -339,8 +339,8 @@ impl KnownReplies<'_> {
     }
 
     /// True only if after the legal move the opponent is in no check and has a quiet legal reply.
-    /// It may then also carry out each threat that the move leaves, and retake on the square where
-    /// the move ends.
+    /// It may then also carry out each threat that the move leaves, and capture on the move's
+    /// destination.
     #[inline(always)]
     pub fn guarantees_reply(&self, m: &Move) -> bool
         requires legal { is_legal self.now.position.now m.now ≡ true }
@@ -372,8 +372,8 @@ impl KnownReplies<'_> {
         }
     }
 
-    /// True only if the legal move discovers no check. Every attack of the opponent on the square
-    /// where the move ends may then retake there, even if the move gives check.
+    /// True only if the legal move discovers no check. Every attack of the opponent on its
+    /// destination may then capture there, even if the move gives check.
     pub fn discovers_no_check(&self, m: &Move) -> bool
         requires legal { is_legal self.now.position.now m.now ≡ true }
         ensures { result ≡ true → MayRetake self.now.position.now m.now }

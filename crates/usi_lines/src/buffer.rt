@@ -24,8 +24,8 @@ impl From<AllocError> for LineFault {
     }
 }
 
-/// The most capacity kept while no byte is unread, in bytes: a line that has begun and a chunk of
-/// 4,096 bytes fit in it.
+/// The most capacity kept while no byte is unread, in bytes: a chunk of 4,096 bytes fits in it
+/// behind the first 4,096 bytes of a line.
 const ROOM_KEPT: usize = 8_192;
 
 /// The bytes of a stream not yet read as lines, in one buffer of the given allocator. While none

@@ -57,7 +57,7 @@ pub fn write_illegal_move<A: Allocator>(
 }
 
 /// Appends a score after its sign: centipawns, or from `MATE_MIN` up the plies to mate, `depth`
-/// less the excess of `size`.
+/// less the excess of `size` over it.
 fn write_size<A: Allocator>(
     out: &mut Vec<u8, A>,
     sign: &[u8],
